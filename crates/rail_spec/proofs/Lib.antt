@@ -1,0 +1,27 @@
+pub mod Stations
+pub mod Counting
+pub mod Closing
+pub mod RouteLaws
+pub mod BadClosing
+pub mod Told
+pub mod Exclusion
+pub mod UnderWay
+pub mod Deciding
+pub mod Standing
+pub mod Sums
+pub mod Given
+pub mod Admits
+pub mod Keeping
+pub mod Moving
+pub mod Progress
+pub mod Lively
+pub mod Verdicts
+pub mod Arrivals
+pub mod Small
+mod RoutesRows
+pub mod MotionLaws
+mod MeetsRows
+mod AdmittedRows
+mod StationRows
+mod RunRows
+mod MotionRows

@@ -1,0 +1,103 @@
+-- Runs: the state after each tick, under whatever says which command waits for which.
+use Rattle.std.specs.Prelude.{ℕ, zero, suc, ◌+◌, Bool, ◌&&◌, if◌then◌else◌, List, map, flat_map, length, take, slice_get, nat_le, nat_lt, Option, None, Some, sum_by}
+use Rattle.std.specs.List.{list_any, list_all}
+use Rattle.rail_base.specs.declared.station.Station.{Station}
+use Rattle.rail_base.specs.declared.station.EdgeNo.{EdgeNo}
+use Rattle.rail_base.specs.declared.station.SectionNo.{SectionNo}
+use Rattle.rail_base.specs.declared.station.TrainNo.{TrainNo}
+use Rattle.rail_base.specs.declared.route.Route.{Route}
+use Rattle.rail_base.specs.declared.route.RouteNo.{RouteNo}
+use Rattle.rail_base.specs.declared.plan.Command.{Command}
+use Rattle.rail_base.specs.declared.state.TrainState.{TrainState}
+use Rattle.rail_base.specs.Numbering.{entry, before_first}
+use Rattle.rail_base.specs.Stations.{edge_of, train_length, vehicle_of, trains, per_tick_speed, per_tick_accel}
+use Rattle.rail_spec.specs.Track.{edge_ends}
+use Rattle.rail_spec.specs.Plans.{route_at, shared, release_offset, length_mm, exits, is_route}
+use Rattle.rail_spec.specs.Motion.{Rates, Stretch, next_speed}
+
+-- how a train begins: nothing is granted, and it stands at the start of its path
+abbrev pub idle : TrainState
+idle = record { granted = 0; x = 0; v = 0 }
+
+-- the state of a train, in the list of all trains' states
+abbrev pub state_of : List TrainState → TrainNo → TrainState
+state_of s t = entry idle s t.0
+
+-- what a train's vehicle can do in a tick
+abbrev pub rates : Station → TrainNo → Rates
+rates d t = record {
+  accel = per_tick_accel d (vehicle_of d t).accel_mm_s2;
+  brake = per_tick_accel d (vehicle_of d t).brake_mm_s2;
+  top = per_tick_speed d (vehicle_of d t).speed_mm_s;
+}
+
+-- an edge that ends there, with its limit
+abbrev pub stretch : Station → EdgeNo × ℕ → Stretch
+stretch d e = record { end = e.1; limit = per_tick_speed d (edge_of d e.0).speed_mm_s }
+
+-- the edges of routes in a row, each with its end and its limit
+abbrev pub stretches : Station → List Route → List Stretch
+stretches d rs = map (stretch d) (edge_ends d 0 (flat_map (λ r. r.edges) rs))
+
+-- how far routes in a row let a train go: their length, or no end where one exits
+abbrev pub authority : List Route → Option ℕ
+authority rs = if list_any exits rs then None else Some (sum_by length_mm rs)
+
+-- the routes that each train may be granted, in order; the commands that each command waits for; and which trains a tick concerns
+pub record Dispatch : Type 0 where
+  pub path : TrainNo → List RouteNo
+  pub before : Command → List Command
+  pub concerns : ℕ → TrainNo → Bool
+
+-- ---- one tick
+
+module _ (d : Station) (routes : List Route) (p : Dispatch) where
+  -- the routes of a command's train before the command's own
+  abbrev pub routes_before : Command → List Route
+  routes_before c = map (route_at routes) (before_first (λ r. is_route r c.route) (p.path c.train))
+
+  -- as many commands of its train are granted as there are up to it
+  abbrev pub is_granted : List TrainState → Command → Bool
+  is_granted s c = nat_lt (length (routes_before c)) (state_of s c.train).granted
+
+  -- the command is granted, and the train's tail has reached the section's release offset
+  abbrev pub has_released : List TrainState → Command → SectionNo → Bool
+  has_released s c z = is_granted s c
+      && nat_le (sum_by length_mm (routes_before c) + release_offset (route_at routes c.route) z + train_length d c.train) (state_of s c.train).x
+
+  -- the second command has released every section that the two share
+  abbrev pub has_cleared : List TrainState → Command → Command → Bool
+  has_cleared s c e = list_all (has_released s e) (shared (route_at routes e.route) (route_at routes c.route))
+
+  -- so has every command that this one waits for
+  abbrev pub is_ready : List TrainState → Command → Bool
+  is_ready s c = list_all (has_cleared s c) (p.before c)
+
+  -- how many commands of the train are granted after the tick, where this one is its next
+  abbrev pub granted_with : List TrainState → TrainNo → Option RouteNo → ℕ
+  granted_with s t None = (state_of s t).granted
+  granted_with s t (Some r) = if is_ready s (record { train = t; route = r }) then (state_of s t).granted + 1 else (state_of s t).granted
+
+  -- how many commands of the train are granted after the tick
+  abbrev pub granted_after : List TrainState → TrainNo → ℕ
+  granted_after s t = granted_with s t (slice_get (p.path t) (state_of s t).granted)
+
+  -- the speed of a train whose first commands are granted
+  abbrev pub speed_with : ℕ → TrainNo → TrainState → ℕ
+  speed_with granted t old =
+      let given = take granted (map (route_at routes) (p.path t)) in
+      next_speed (rates d t) (stretches d given) (authority given) old.x old.v
+
+  -- a train with a granted command moves, and another stays
+  abbrev pub moved : TrainNo → TrainState → ℕ → TrainState
+  moved t old zero = old
+  moved t old (suc n) = let u = speed_with (suc n) t old in record { granted = suc n; x = old.x + u; v = u }
+
+  -- a tick: all grants are seen against the old state, and then all trains that it concerns move
+  abbrev pub tick : ℕ → List TrainState → List TrainState
+  tick k s = map (λ t. if p.concerns k t then moved t (state_of s t) (granted_after s t) else state_of s t) (trains d)
+
+  -- the state after so many ticks
+  abbrev pub state_at : ℕ → List TrainState
+  state_at zero = map (λ t. idle) (trains d)
+  state_at (suc k) = tick (suc k) (state_at k)

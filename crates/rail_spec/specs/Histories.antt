@@ -1,0 +1,62 @@
+-- What has happened in the run of a plan by a tick, and what the run shows of the plan.
+use Rattle.std.specs.Prelude.{ℕ, nat_lt, if◌then◌else◌, List, [], map, flat_map, Option, None, Some, option_and_then, option_map}
+use Rattle.std.specs.List.{enumerate_from}
+use Rattle.rail_base.specs.declared.station.Station.{Station}
+use Rattle.rail_base.specs.declared.station.NodeNo.{NodeNo}
+use Rattle.rail_base.specs.declared.station.SectionNo.{SectionNo}
+use Rattle.rail_base.specs.declared.station.TrainNo.{TrainNo}
+use Rattle.rail_base.specs.declared.route.Route.{Route}
+use Rattle.rail_base.specs.declared.route.RouteNo.{RouteNo}
+use Rattle.rail_base.specs.declared.plan.Command.{Command}
+use Rattle.rail_base.specs.declared.plan.Violation.{Violation}
+use Rattle.rail_base.specs.declared.history.TrainHistory.{TrainHistory}
+use Rattle.rail_base.specs.declared.history.Verdict.{Verdict}
+use Rattle.rail_base.specs.declared.history.Verdict.TheVariants.{Met, Failed, Undecided}
+use Rattle.rail_base.specs.Numbering.{least}
+use Rattle.rail_base.specs.Stations.{trains}
+use Rattle.rail_base.specs.Routes.{route_at, sections}
+use Rattle.rail_spec.specs.Plans.{path}
+use Rattle.rail_spec.specs.Visits.{Stop}
+use Rattle.rail_spec.specs.Run.{state_at, has_released, pass_tick, passed, visits_of_train}
+use Rattle.rail_spec.specs.Requirements.{granted_by, violation_at, path_violation, cost}
+
+module _ (d : Station) (routes : List Route) (plan : List (List Command)) where
+  -- the tick, up to k, at which the train's command of this number is granted
+  abbrev pub grant_tick : ℕ → TrainNo → ℕ → Option ℕ
+  grant_tick k t j = least (λ i. granted_by d routes plan i t j) k
+
+  -- the tick, up to k, at which a command has released a section
+  abbrev pub release_tick : ℕ → Command → SectionNo → Option ℕ
+  release_tick k c z = least (λ i. has_released d routes plan (state_at d routes plan i) c z) k
+
+  -- the commands of the train's path with the ticks, up to k, at which they are granted
+  abbrev pub granted : ℕ → TrainNo → List (RouteNo × Option ℕ)
+  granted k t = map (λ p. (p.1, grant_tick k t p.0)) (enumerate_from 1 (path plan t))
+
+  -- the sections of each route of the path with the ticks, up to k, at which they are released
+  abbrev pub released : ℕ → TrainNo → List (RouteNo × SectionNo × Option ℕ)
+  released k t = flat_map (λ r. map (λ z. (r, z, release_tick k (record { train = t; route = r }) z)) (sections (route_at routes r))) (path plan t)
+
+  -- where a visit is made, with the tick, up to k
+  abbrev pub visit_made : ℕ → TrainNo → Option Stop → Option (NodeNo × ℕ)
+  visit_made k t place = option_and_then (λ stop. option_map (λ i. (stop.node, i)) (pass_tick d routes plan k t stop)) place
+
+  -- what has happened to the train by tick k
+  abbrev pub train_history : ℕ → TrainNo → TrainHistory
+  train_history k t = record { grants = granted k t; passes = passed d routes plan k t; releases = released k t; visits = map (visit_made k t) (visits_of_train d routes plan t) }
+
+  -- what has happened to each train by tick k
+  abbrev pub history_at : ℕ → List TrainHistory
+  history_at k = map (train_history k) (trains d)
+
+  -- what is said of the plan at its deciding tick: a path that fails, or else what is certain then, or else that all is met
+  abbrev pub decided : Option Violation → Option Violation → Verdict
+  decided (Some v) w = Failed [] 1 v
+  decided None (Some v) = Failed (history_at (cost d routes plan)) (cost d routes plan) v
+  decided None None = Met (history_at (cost d routes plan)) (cost d routes plan)
+
+  -- what so many ticks show of the plan
+  abbrev pub verdict_of : ℕ → Verdict
+  verdict_of ticks =
+      let told = decided (path_violation d routes plan) (violation_at d routes plan (cost d routes plan)) in
+      if nat_lt ticks (cost d routes plan) then Undecided else told

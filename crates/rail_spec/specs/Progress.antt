@@ -1,0 +1,18 @@
+-- By when every command is granted.
+use Rattle.std.specs.Prelude.{ℕ, ◌+◌, ◌<◌, List, filter, length, Option, None, Some, sum_by}
+use Rattle.std.specs.List.{list_any}
+use Rattle.rail_base.specs.declared.station.Station.{Station}
+use Rattle.rail_base.specs.declared.route.Route.{Route}
+use Rattle.rail_base.specs.declared.plan.Command.{Command}
+use Rattle.rail_spec.specs.Plans.{commands, path_routes, length_mm, exits}
+use Rattle.rail_base.specs.Stations.{trains, train_length}
+
+-- the end of authority is ahead, or there is none
+abbrev pub MayMove : Option ℕ → ℕ → Type 0
+MayMove None x = Unit {0}
+MayMove (Some end) x = x < end
+
+-- the number of commands, plus the lengths of all trains' paths, plus the lengths of the trains whose path exits
+abbrev pub last_grant : Station → List Route → List (List Command) → ℕ
+last_grant d routes plan =
+    length (commands plan) + sum_by (λ t. sum_by length_mm (path_routes routes plan t)) (trains d) + sum_by (train_length d) (filter (λ t. list_any exits (path_routes routes plan t)) (trains d))

@@ -1,0 +1,37 @@
+-- No two trains in one section.
+use Rattle.std.specs.Prelude.{ℕ, ◌+◌, Bool, not, ◌&&◌, ◌||◌, ◌==◌, List, flat_map, nat_lt, IsTrue}
+use Rattle.std.specs.List.{list_any}
+use Rattle.rail_base.specs.declared.station.Station.{Station}
+use Rattle.rail_base.specs.declared.station.EdgeNo.{EdgeNo}
+use Rattle.rail_base.specs.declared.station.SectionNo.{SectionNo}
+use Rattle.rail_base.specs.declared.station.TrainNo.{TrainNo}
+use Rattle.rail_base.specs.declared.route.Route.{Route}
+use Rattle.rail_base.specs.declared.plan.Command.{Command}
+use Rattle.rail_spec.specs.Track.{edge_ends}
+use Rattle.rail_base.specs.Stations.{section_of, length_of, train_length}
+use Rattle.rail_spec.specs.Plans.{route_at, has_section, commands, is_train, path_routes}
+use Rattle.rail_base.specs.declared.state.TrainState.{TrainState}
+use Rattle.rail_spec.specs.Dispatches.{state_of}
+use Rattle.rail_spec.specs.Run.{state_at, is_granted, has_released}
+
+module _ (d : Station) (routes : List Route) (plan : List (List Command)) where
+  -- some command of the train on the section is granted and hasn't released it
+  abbrev pub holds : ℕ → TrainNo → SectionNo → Bool
+  holds k t z = let s = state_at d routes plan k in
+      list_any (λ c. is_train c.train t && has_section (route_at routes c.route) z && is_granted d routes plan s c && not (has_released d routes plan s c z)) (commands plan)
+
+  -- an edge of the section on the train's path begins before the head and ends past the tail
+  abbrev pub covers : TrainState → TrainNo → SectionNo → EdgeNo × ℕ → Bool
+  covers s t z e = ((section_of d e.0).0 == z.0) && nat_lt e.1 (s.x + length_of d e.0) && nat_lt s.x (e.1 + train_length d t)
+
+  -- the train stands on the section
+  abbrev pub stands_on : ℕ → TrainNo → SectionNo → Bool
+  stands_on k t z = list_any (covers (state_of (state_at d routes plan k) t) t z) (edge_ends d 0 (flat_map (λ r. r.edges) (path_routes routes plan t)))
+
+  -- two trains hold one section, or two stand on one
+  pub record Clash (k : ℕ) : Type 0 where
+    pub one : TrainNo
+    pub other : TrainNo
+    pub section : SectionNo
+    pub differ : IsTrue (not (is_train one other))
+    pub at_once : IsTrue (holds k one section && holds k other section || stands_on k one section && stands_on k other section)
