@@ -17,7 +17,8 @@ use Rattle.rail_spec.specs.Plans.{route_at, length_mm, exits, path, path_routes,
 use Rattle.rail_base.specs.Stations.{trains, train_of, train_length, horizon, IsTrain}
 use Rattle.rail_spec.specs.Dispatches.{state_of}
 use Rattle.rail_spec.specs.Run.{state_at, has_passed, pass_tick, stops_of_train, visits_of_train}
-use Rattle.rail_spec.specs.Visits.{Stop, stops_of, stops_after, stops, visits_at, visits_on}
+use Rattle.rail_base.specs.declared.state.Stop.{Stop}
+use Rattle.rail_spec.specs.Visits.{stops_of, stops_after, stops, visits_at, visits_on}
 use Rattle.rail_spec.specs.Requirements.{visit_numbers, command_numbers, granted_by, visited_by, is_done, is_certain, path_failures, path_violation, violation_at, ways_to_fail, cost}
 use Rattle.rail_base.specs.Admitted.{IsAdmitted}
 use Rattle.rail_spec.specs.Feasible.{IsRunnable}

@@ -5,7 +5,7 @@ use Rattle.rail_base.specs.declared.station.TrainNo.{TrainNo}
 use Rattle.rail_base.specs.declared.route.Route.{Route}
 use Rattle.rail_base.specs.declared.plan.Command.{Command}
 use Rattle.rail_base.specs.Numbering.{entry, least, or_this}
-use Rattle.rail_spec.specs.Visits.{Stop}
+use Rattle.rail_base.specs.declared.state.Stop.{Stop}
 use Rattle.rail_spec.specs.Run.{visits_of_train, visit_tick, pass_tick, has_passed}
 use Rattle.rail_base.specs.declared.plan.Violation.TheVariants as violation
 use Rattle.rail_spec.specs.Requirements.{both, most_ticks, visited_by, keeps_order, keeps_within, is_certain, is_after}

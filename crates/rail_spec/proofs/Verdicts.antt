@@ -15,7 +15,7 @@ use Rattle.rail_base.specs.Numbering.{entry, one_to, least, or_this}
 use Rattle.rail_base.specs.Stations.{train_of, trains, horizon, order_of, within_of, IsTrain, HasVisit}
 use Rattle.rail_spec.specs.Dispatches.{state_of}
 use Rattle.rail_spec.specs.Run.{state_at, visits_of_train, visit_tick, pass_tick}
-use Rattle.rail_spec.specs.Visits.{Stop}
+use Rattle.rail_base.specs.declared.state.Stop.{Stop}
 use Rattle.rail_spec.specs.Requirements.{both, visit_numbers, most_ticks, is_after, command_numbers, granted_by, visited_by, is_done, keeps_order, keeps_within, meets, is_certain, ways_to_fail, path_failures, violation_at, path_violation, is_decided, cost}
 use Rattle.rail_base.specs.Admitted.{IsAdmitted}
 use Rattle.rail_spec.specs.Verdict.{or_else, failure, IsVerdict}

@@ -16,7 +16,7 @@ use Rattle.rail_base.specs.Numbering.{least}
 use Rattle.rail_base.specs.Stations.{trains}
 use Rattle.rail_base.specs.Routes.{route_at, sections}
 use Rattle.rail_spec.specs.Plans.{path}
-use Rattle.rail_spec.specs.Visits.{Stop}
+use Rattle.rail_base.specs.declared.state.Stop.{Stop}
 use Rattle.rail_spec.specs.Run.{state_at, has_released, pass_tick, passed, visits_of_train}
 use Rattle.rail_spec.specs.Requirements.{granted_by, violation_at, path_violation, cost}
 

@@ -11,7 +11,7 @@ use Rattle.rail_base.specs.declared.state.TrainState.{TrainState}
 use Rattle.rail_spec.specs.Plans.{path, preceding}
 use Rattle.rail_spec.specs.Dispatches.{Dispatch}
 use Rattle.rail_spec.specs.Dispatches as any
-use Rattle.rail_spec.specs.Visits.{Stop}
+use Rattle.rail_base.specs.declared.state.Stop.{Stop}
 use Rattle.rail_spec.specs.Visits as visits
 
 -- each train goes its path, a command waits for those that precede it, and every tick concerns every train

@@ -8,14 +8,9 @@ use Rattle.rail_base.specs.declared.route.Route.{Route}
 use Rattle.rail_base.specs.Numbering.{entry, least, from_first, first_of_list, after_first}
 use Rattle.rail_spec.specs.Plans.{route_at, length_mm, has_node}
 use Rattle.rail_base.specs.Stations.{train_of}
+use Rattle.rail_base.specs.declared.state.Stop.{Stop}
 use Rattle.rail_base.specs.declared.state.TrainState.{TrainState}
 use Rattle.rail_spec.specs.Dispatches.{Dispatch, state_of, state_at}
-
--- a node of a path, with its offset and the number of the command that leads to it
-pub record Stop : Type 0 where
-  pub node : NodeNo
-  pub offset : ℕ
-  pub command : ℕ
 
 -- the nodes of a route that begins there and has that number in the path
 abbrev pub stops_of : ℕ → ℕ → Route → List Stop
