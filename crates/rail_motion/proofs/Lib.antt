@@ -1,0 +1,4 @@
+pub mod Ways
+pub mod Points
+pub mod Rising
+pub mod Moves

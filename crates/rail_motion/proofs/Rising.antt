@@ -1,0 +1,70 @@
+-- Of spans that rise, those that end past a place are the rest from some index on.
+use Rattle.std.proofs.Common.{◌≡◌, ℕ, zero, suc, ◌+◌, ◌≤◌, ◌<◌, ◌⊎◌, inl, inr, nat_abs, ◌<ℤ◌, Bool, true, false, ◌&&◌, if◌then◌else◌, min, max, List, [], ◌∷◌, filter, drop, length, slice_index_or, nat_le, nat_lt, Option, None, refl, sym, ◌∙◌, ap, arith, ltb-false, eq-or-lt_of_le}
+use Rattle.std.specs.List.{AllWithin}
+use Rattle.std.specs.List.Sorted.{IsNonDecreasingBy}
+use Rattle.std.proofs.lemmas.Int.{ints}
+use Rattle.std.proofs.lemmas.Bool.{le-leb}
+use Rattle.std.proofs.lemmas.Grind.{common_steps}
+use Rattle.rail_spec.specs.Motion.{can_brake, may_stop, braking_way}
+use Rattle.rail_motion.specs.declared.Span.{Span}
+use Rattle.rail_motion.specs.Track.{stretches_of, IsRising}
+use Rattle.rail_motion.specs.Braking.{faster_way}
+use Rattle.rail_motion.proofs.Points.{keeps_spans, can_brake_by_spans, can_brake_and_stop}
+
+-- the ends of rising spans do not fall
+pub ends_rise : (spans : List Span) → IsRising spans → IsNonDecreasingBy (λ s. nat_abs s.end) spans
+ends_rise spans rising i j d less within = go (eq-or-lt_of_le less)
+  where
+    go : (i ≡ j) ⊎ (i < j) → nat_abs (slice_index_or spans i d).end ≤ nat_abs (slice_index_or spans j d).end
+    go (inl same) = rw same (omega arith)
+    go (inr before) =
+        let below : (slice_index_or spans i d).end <ℤ (slice_index_or spans j d).end = rising i j d before within in
+        let first = (slice_index_or spans i d).end_range in
+        omega (arith, ints)
+
+-- a filter that none passes before an index, and each from there on
+pub filter_from : {X : Type 0} (p : X → Bool) (xs : List X) (i : ℕ) → AllWithin (λ x. p x ≡ false) xs 0 i → AllWithin (λ x. p x ≡ true) xs i (length xs) → filter p xs ≡ drop i xs
+filter_from p [] i before after = grind (arith, common_steps)
+filter_from p (x ∷ xs) zero before after =
+    rw (after zero x (omega arith) (omega arith))
+    (ap (λ rest. x ∷ rest) (filter_from p xs zero (λ k d l m. absurd (omega arith)) (λ k d l m. after (suc k) d (omega arith) (omega arith))))
+filter_from p (x ∷ xs) (suc i) before after =
+    rw (before zero x (omega arith) (omega arith))
+    (filter_from p xs i (λ k d l m. before (suc k) d (omega arith) (omega arith)) (λ k d l m. after (suc k) d (omega arith) (omega arith)))
+
+-- the spans that end before a place do not matter there
+pub can_brake_past : (n b : ℕ) (spans : List Span) (x u : ℕ) → 1 ≤ b → u ≤ n → can_brake n b (stretches_of (filter (λ s. nat_lt x (nat_abs s.end)) spans)) None x u ≡ can_brake n b (stretches_of spans) None x u
+can_brake_past n b spans x u slows bound =
+    can_brake_by_spans n b _ x u slows bound ∙ keeps_past spans x (omega arith) ∙ sym (can_brake_by_spans n b (stretches_of spans) x u slows bound)
+  where
+    keeps_past : (spans : List Span) (start : ℕ) → x ≤ start → keeps_spans n b (stretches_of (filter (λ s. nat_lt x (nat_abs s.end)) spans)) start x u ≡ keeps_spans n b (stretches_of spans) start x u
+    keeps_past [] start begun = refl
+    keeps_past (s ∷ rest) start begun = go (nat_lt x (nat_abs s.end)) refl (keeps_past rest start begun) (keeps_past rest (max start (nat_abs s.end)) (omega arith))
+      where
+        go : (t : Bool) → nat_lt x (nat_abs s.end) ≡ t
+            → keeps_spans n b (stretches_of (filter (λ s. nat_lt x (nat_abs s.end)) rest)) start x u ≡ keeps_spans n b (stretches_of rest) start x u
+            → keeps_spans n b (stretches_of (filter (λ s. nat_lt x (nat_abs s.end)) rest)) (max start (nat_abs s.end)) x u ≡ keeps_spans n b (stretches_of rest) (max start (nat_abs s.end)) x u
+            → keeps_spans n b (stretches_of (if t then s ∷ filter (λ s. nat_lt x (nat_abs s.end)) rest else filter (λ s. nat_lt x (nat_abs s.end)) rest)) start x u
+            ≡ (nat_le (min (x + faster_way n b (nat_abs s.limit) u) (nat_abs s.end)) start && keeps_spans n b (stretches_of rest) (max start (nat_abs s.end)) x u)
+        go true e here next = ap (λ t. nat_le (min (x + faster_way n b (nat_abs s.limit) u) (nat_abs s.end)) start && t) next
+        go false e here next =
+            let before = ltb-false x (nat_abs s.end) e in
+            let same : max start (nat_abs s.end) ≡ start = omega arith in
+            rw (le-leb (min (x + faster_way n b (nat_abs s.limit) u) (nat_abs s.end)) start (omega arith), same) here
+
+-- so full braking is decided by those past it, and by where it stops
+pub can_brake_is : (n b : ℕ) (spans past : List Span) (end : Option ℕ) (x u way : ℕ) (stops keeps : Bool) → 1 ≤ b → u ≤ n → past ≡ filter (λ s. nat_lt x (nat_abs s.end)) spans → way ≡ braking_way n b u
+    → stops ≡ may_stop end (x + u + way) → keeps ≡ can_brake n b (stretches_of past) None x u → can_brake n b (stretches_of spans) end x u ≡ (stops && keeps)
+can_brake_is n b spans past end x u way stops keeps slows bound ahead braked stopped kept =
+    can_brake_and_stop n b (stretches_of spans) end x u ∙ turned stops keeps (can_brake n b (stretches_of spans) None x u) (may_stop end (x + u + braking_way n b u))
+    (kept ∙ ap (λ ss. can_brake n b (stretches_of ss) None x u) ahead ∙ can_brake_past n b spans x u slows bound)
+    (stopped ∙ ap (λ w. may_stop end (x + u + w)) braked)
+  where
+    and_turned : (s k : Bool) → (k && s) ≡ (s && k)
+    and_turned true true = refl
+    and_turned true false = refl
+    and_turned false true = refl
+    and_turned false false = refl
+
+    turned : (s k k' s' : Bool) → k ≡ k' → s ≡ s' → (k' && s') ≡ (s && k)
+    turned s k k' s' a b = cc (and_turned s k)

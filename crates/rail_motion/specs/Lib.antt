@@ -1,0 +1,5 @@
+-- What a motor and the track ahead mean, in natural numbers, and the way of full braking.
+pub mod Ranges
+pub mod Motor
+pub mod Track
+pub mod Braking

@@ -1,0 +1,57 @@
+//! The track ahead of a train.
+
+ghost use Rattle.std.specs.Prelude.{◌≡◌, nat_abs, nat_lt, filter};
+ghost use Rattle.std.specs.Option.{ForSome};
+ghost use Rattle.rail_motion.specs.Ranges.{IsPlace};
+ghost use Rattle.rail_motion.specs.Track.{end_of, IsRising};
+
+use crate::Span;
+
+/// The track ahead of a train, and the place (mm) where its authority ends, if it does.
+///
+/// Each span ends before those after it. Spans that end at or before the train's head do not matter, and past the last
+/// one only the vehicle's top speed limits.
+#[derive(Clone, Copy, Debug)]
+pub struct Ahead<'a> {
+    pub spans: &'a [Span],
+    pub end: Option<i64>,
+    ghost rising: { IsRising spans.now },
+    ghost end_range: { ForSome end IsPlace },
+}
+
+impl Ahead<'_> {
+    /// Where the authority ends, if it does.
+    pub(crate) fn limit_of_authority(&self) -> Option<u64>
+        ensures { result ≡ end_of self.now.end }
+    {
+        match self.end {
+            None => None,
+            Some(end) => Some(end as u64),
+        }
+    }
+}
+
+impl Span {
+    /// Where the span ends.
+    pub(crate) fn end(&self) -> u64
+        ensures { result ≡ nat_abs self.now.end }
+    {
+        self.end as u64
+    }
+
+    /// Its limit.
+    pub(crate) fn limit(&self) -> u64
+        ensures { result ≡ nat_abs self.now.limit }
+    {
+        self.limit as u64
+    }
+}
+
+/// The spans that end past a place, by a binary search over their ends.
+pub(crate) fn spans_past(spans: &[Span], place: u64) -> &[Span]
+    requires { IsRising spans.now }
+    ensures { result.now ≡ filter (λ s. nat_lt place (nat_abs s.end)) spans.now }
+{
+    let first = spans.partition_point(|span| span.end() <= place);
+    &spans[first..]
+}

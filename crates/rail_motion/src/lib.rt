@@ -1,0 +1,39 @@
+//! Motion of one train in one tick.
+//!
+//! Places and lengths are in mm along the train's path, and speeds in mm per tick.
+#![tactic(auto)]
+
+ghost use Rattle.rail_motion.specs.Ranges.{IsPerTick, IsPlace};
+
+mod ahead;
+mod braking;
+mod limits;
+mod speeds;
+
+/// What a vehicle can do in a tick: how much speed it gains, how much it loses by full braking, and its top speed,
+/// each in mm per tick.
+#[derive(Clone, Copy, Debug)]
+pub struct Motor {
+    pub accel: i64,
+    pub brake: i64,
+    pub top: i64,
+    ghost accel_range: { IsPerTick accel },
+    ghost brake_range: { IsPerTick brake },
+    ghost top_range: { IsPerTick top },
+}
+
+/// A span of track up to a place (mm), with its speed limit (mm per tick). It begins where the one before ends.
+#[derive(Clone, Copy, Debug)]
+pub struct Span {
+    pub end: i64,
+    pub limit: i64,
+    ghost end_range: { IsPlace end },
+    ghost limit_range: { IsPerTick limit },
+}
+
+pub use ahead::Ahead;
+pub use braking::brakes;
+pub use speeds::{advance, next_speed, permitted, step};
+
+#[cfg(test)]
+mod tests;
