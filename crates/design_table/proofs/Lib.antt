@@ -1,0 +1,4 @@
+pub mod Documents
+pub mod EntryLists
+pub mod KeyLists
+pub mod Walks

@@ -1,0 +1,75 @@
+//! The entries of an array, of any kind.
+
+ghost use Rattle.std.specs.Prelude.{◌≡◌, ℕ, List, map};
+ghost use Rattle.toml.specs.Data.{Members};
+ghost use Rattle.toml.specs.View.{view, table_view, items_view};
+ghost use Rattle.design_table.specs.declared.place.EntryKind.{EntryKind};
+ghost use Rattle.design_table.specs.Forms.{listed, found};
+ghost use Rattle.design_table.specs.Reads.{Reads, in_each};
+ghost use Rattle.design_table.specs.Sheet.{wrong_fields, wrong_entry, wrong_array, entries_of, members_of};
+
+use crate::fault::{Code, DesignFault};
+use crate::field::{misspelled, value_at};
+use crate::place::{EntryKind, Place};
+use std::alloc::Global;
+use toml::{Table, Value};
+
+/// A kind of entry, read from its table.
+pub trait Entry<'a>: Drop {
+    /// What an entry stands for.
+    ghost Spelled: { Type 0 };
+
+    /// What an entry is seen as.
+    ghost seen: { Self → Spelled };
+
+    /// What a table spells.
+    ghost spelled: { Members → Spelled };
+
+    ghost kind: { EntryKind };
+
+    /// The kind.
+    fn kind() -> EntryKind
+        ensures { result ≡ kind };
+
+    /// The entry of this number, counted from 1.
+    fn read(alloc: Global, number: u64, table: &'a Table) -> Result<Self, DesignFault>
+        ensures { Reads seen result Code.D02 (wrong_fields kind number (table_view table.now)) (spelled (table_view table.now)) };
+}
+
+/// The entry that a value of an array spells.
+fn read_entry<'a, E: Entry<'a>>(
+    alloc: Global,
+    number: u64,
+    value: &'a Value,
+) -> Result<E, DesignFault>
+    ensures { Reads E.seen result Code.D02 (wrong_entry E.kind number (view value.now)) (E.spelled (members_of (view value.now))) }
+{
+    match value {
+        Value::Table(table) => E::read(alloc, number, table),
+        _ => Err(misspelled(Place::Entry(E::kind(), number))),
+    }
+}
+
+/// The entries of an array, in order.
+fn read_entries<'a, E: Entry<'a>>(alloc: Global, values: &'a [Value]) -> Result<Vec<E>, DesignFault>
+    ensures { Reads (λ v. map E.seen v.items) result Code.D02 (in_each (wrong_entry E.kind) (listed (items_view values.now))) (map (λ entry. E.spelled (members_of entry)) (listed (items_view values.now))) }
+{
+    let mut entries = Vec::new(alloc);
+    let mut number = 1;
+    for value in values {
+        entries.push(read_entry(alloc, number, value)?)?;
+        number += 1;
+    }
+    Ok(entries)
+}
+
+/// The entries of the array of this kind, in the order of the document. An absent array has none.
+pub fn read_array<'a, E: Entry<'a>>(alloc: Global, table: &'a Table) -> Result<Vec<E>, DesignFault>
+    ensures { Reads (λ v. map E.seen v.items) result Code.D02 (wrong_array E.kind (table_view table.now)) (entries_of E.spelled E.kind (table_view table.now)) }
+{
+    match value_at(table, E::kind().key()) {
+        None => Ok(Vec::new(alloc)),
+        Some(Value::Array(values)) => read_entries(alloc, values.as_slice()),
+        _ => Err(misspelled(Place::Top(E::kind().key()))),
+    }
+}

@@ -1,0 +1,137 @@
+//! One key of a table.
+
+ghost use Rattle.std.specs.Prelude.{◌≡◌, ◌<◌, ◌&&◌, nat_le, map, not, length, string_bytes, option_map, bytes_eq};
+ghost use Rattle.std.specs.List.{list_all, list_any};
+ghost use Rattle.std.specs.BTreeMap.{keys};
+ghost use Rattle.toml.specs.View.{view, table_view, items_view};
+ghost use Rattle.design_table.specs.Keys.{key_text};
+ghost use Rattle.design_table.specs.Forms.{found, is_name_byte, is_name_text, is_name, name_of, is_side, side_of, is_whole, whole_of, is_flag, flag_of, has_unknown};
+ghost use Rattle.design_table.specs.Reads.{Reads, at};
+ghost use Rattle.design_table.specs.declared.fault.DesignFault.TheVariants.{Refused};
+
+use crate::fault::{Code, DesignFault};
+use crate::key::Key;
+use crate::place::Place;
+use crate::sheet::Side;
+use toml::{Table, Value};
+
+/// The refusal of a key or an entry of the wrong form.
+pub fn misspelled(place: Place) -> DesignFault
+    ensures { result ≡ Refused Code.D02 place }
+{
+    DesignFault::Refused {
+        code: Code::D02,
+        place,
+    }
+}
+
+/// The value at a key.
+pub fn value_at<'a>(table: &'a Table, key: Key) -> Option<&'a Value>
+    ensures { option_map (λ v. view v.now) result ≡ found key (table_view table.now) }
+{
+    table.get(key.text())
+}
+
+fn is_name_letter(byte: u8) -> bool
+    ensures { result ≡ is_name_byte byte }
+{
+    byte.is_ascii_lowercase()
+        || byte.is_ascii_uppercase()
+        || byte.is_ascii_digit()
+        || byte == b'_'
+        || byte == b'-'
+}
+
+fn has_name_letters(text: &[u8]) -> bool
+    ensures { result ≡ list_all is_name_byte text.now }
+{
+    text.iter().all(|byte| is_name_letter(*byte))
+}
+
+fn has_name_length(text: &str) -> bool
+    ensures { result ≡ (nat_le 1 (length text.now) && nat_le (length text.now) 32) }
+{
+    1 <= text.len() && text.len() <= 32
+}
+
+/// Whether a text is a name: 1 to 32 ASCII letters, digits, `_` or `-`.
+pub fn is_name_of(text: &str) -> bool
+    ensures { result ≡ is_name_text text.now }
+{
+    has_name_length(text) && has_name_letters(text.as_bytes())
+}
+
+/// The name at a key.
+pub fn name_at<'a>(table: &'a Table, key: Key, place: Place) -> Result<&'a str, DesignFault>
+    ensures { let value = found key (table_view table.now) in Reads (λ x. x.now) result Code.D02 (at (not (is_name value)) place) (name_of value) }
+{
+    match value_at(table, key) {
+        Some(Value::String(text)) => {
+            if is_name_of(text.as_str()) {
+                Ok(text.as_str())
+            } else {
+                Err(misspelled(place))
+            }
+        }
+        _ => Err(misspelled(place)),
+    }
+}
+
+/// The side at a key.
+pub fn side_at(table: &Table, key: Key, place: Place) -> Result<Side, DesignFault>
+    ensures { let value = found key (table_view table.now) in Reads (λ x. x) result Code.D02 (at (not (is_side value)) place) (side_of value) }
+{
+    match value_at(table, key) {
+        Some(Value::String(text)) => {
+            if text.as_str() == "a" {
+                Ok(Side::A)
+            } else if text.as_str() == "b" {
+                Ok(Side::B)
+            } else {
+                Err(misspelled(place))
+            }
+        }
+        _ => Err(misspelled(place)),
+    }
+}
+
+/// The whole number at a key.
+pub fn whole_at(table: &Table, key: Key, place: Place) -> Result<i64, DesignFault>
+    ensures { let value = found key (table_view table.now) in Reads (λ x. x) result Code.D02 (at (not (is_whole value)) place) (whole_of value) }
+{
+    match value_at(table, key) {
+        Some(Value::Integer(number)) => Ok(*number),
+        _ => Err(misspelled(place)),
+    }
+}
+
+/// The truth value at a key, which may be absent.
+pub fn flag_at(table: &Table, key: Key, place: Place) -> Result<bool, DesignFault>
+    ensures { let value = found key (table_view table.now) in Reads (λ x. x) result Code.D02 (at (not (is_flag value)) place) (flag_of value) }
+{
+    match value_at(table, key) {
+        None => Ok(false),
+        Some(Value::Boolean(flag)) => Ok(*flag),
+        _ => Err(misspelled(place)),
+    }
+}
+
+fn is_known(known: &[Key], text: &str) -> bool
+    ensures { result ≡ list_any (λ key. bytes_eq (key_text key) text.now) known.now }
+{
+    known.iter().any(|key| key.text() == text)
+}
+
+fn is_any_unknown(table: &Table, known: &[Key]) -> bool
+    ensures { result ≡ list_any (λ text. not (list_any (λ key. bytes_eq (key_text key) (string_bytes text)) known.now)) (keys table.now) }
+{
+    table.keys().any(|text| !is_known(known, text.as_str()))
+}
+
+/// Whether the table has a key that is none of these.
+#[tactic(auto, using(crate::proofs::KeyLists::has_unknown_view))]
+pub fn has_unknown_key(table: &Table, known: &[Key]) -> bool
+    ensures { result ≡ has_unknown known.now (table_view table.now) }
+{
+    is_any_unknown(table, known)
+}

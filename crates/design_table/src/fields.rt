@@ -1,0 +1,77 @@
+//! The fields of one entry.
+
+ghost use Rattle.std.specs.Prelude.{◌≡◌, map, not};
+ghost use Rattle.toml.specs.View.{table_view};
+ghost use Rattle.design_table.specs.Forms.{found, is_name, name_of, is_side, side_of, is_whole, whole_of, is_flag, flag_of, is_visits, visits_of, has_unknown};
+ghost use Rattle.design_table.specs.declared.place.Place.TheVariants.{Field, UnknownField};
+ghost use Rattle.design_table.specs.Reads.{Reads, at};
+
+use crate::fault::{Code, DesignFault};
+use crate::field::{flag_at, has_unknown_key, misspelled, name_at, side_at, whole_at};
+use crate::key::Key;
+use crate::place::{EntryKind, Place};
+use crate::sheet::Side;
+use crate::visits::visits_at;
+use std::alloc::Global;
+use toml::Table;
+
+/// The table of one entry, and which entry it is, counted from 1.
+#[derive(Clone, Copy)]
+pub struct Fields<'a> {
+    pub table: &'a Table,
+    pub kind: EntryKind,
+    pub number: u64,
+}
+
+impl<'a> Fields<'a> {
+    /// The name at a key.
+    pub fn name(self, key: Key) -> Result<&'a str, DesignFault>
+        ensures { let value = found key (table_view self.entry.table.now) in Reads (λ x. x.now) result Code.D02 (at (not (is_name value)) (Field self.entry.kind self.entry.number key)) (name_of value) }
+    {
+        name_at(self.table, key, Place::Field(self.kind, self.number, key))
+    }
+
+    /// The side at a key.
+    pub fn side(self, key: Key) -> Result<Side, DesignFault>
+        ensures { let value = found key (table_view self.entry.table.now) in Reads (λ x. x) result Code.D02 (at (not (is_side value)) (Field self.entry.kind self.entry.number key)) (side_of value) }
+    {
+        side_at(self.table, key, Place::Field(self.kind, self.number, key))
+    }
+
+    /// The whole number at a key.
+    pub fn whole(self, key: Key) -> Result<i64, DesignFault>
+        ensures { let value = found key (table_view self.entry.table.now) in Reads (λ x. x) result Code.D02 (at (not (is_whole value)) (Field self.entry.kind self.entry.number key)) (whole_of value) }
+    {
+        whole_at(self.table, key, Place::Field(self.kind, self.number, key))
+    }
+
+    /// The truth value at a key, which may be absent.
+    pub fn flag(self, key: Key) -> Result<bool, DesignFault>
+        ensures { let value = found key (table_view self.entry.table.now) in Reads (λ x. x) result Code.D02 (at (not (is_flag value)) (Field self.entry.kind self.entry.number key)) (flag_of value) }
+    {
+        flag_at(self.table, key, Place::Field(self.kind, self.number, key))
+    }
+
+    /// The visits at a key.
+    pub fn visits(self, alloc: Global, key: Key) -> Result<Vec<Vec<&'a str>>, DesignFault>
+        ensures { let value = found key (table_view self.entry.table.now) in Reads (λ v. map (λ visit. map (λ node. node.now) visit.items) v.items) result Code.D02 (at (not (is_visits value)) (Field self.entry.kind self.entry.number key)) (visits_of value) }
+    {
+        visits_at(
+            alloc,
+            self.table,
+            key,
+            Place::Field(self.kind, self.number, key),
+        )
+    }
+
+    /// Refuses a key that is none of these.
+    pub fn only(self, known: &[Key]) -> Result<(), DesignFault>
+        ensures { Reads (λ x. x) result Code.D02 (at (has_unknown known.now (table_view self.entry.table.now)) (UnknownField self.entry.kind self.entry.number)) tt }
+    {
+        if has_unknown_key(self.table, known) {
+            Err(misspelled(Place::UnknownField(self.kind, self.number)))
+        } else {
+            Ok(())
+        }
+    }
+}
