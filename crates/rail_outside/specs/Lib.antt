@@ -1,0 +1,11 @@
+pub mod Growth
+pub mod Files
+pub mod Asks
+pub mod Fetching
+pub mod Storing
+pub mod Putting
+pub mod Folders
+pub mod MemoryShelves
+pub mod MemorySinks
+pub mod Lines
+pub mod Sure

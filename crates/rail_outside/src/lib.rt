@@ -1,0 +1,22 @@
+//! The outside of a program: a shelf of files by their names, and a sink for printed text.
+//!
+//! `MemoryShelf` and `MemorySink` keep what was asked of them and can be told to fail; `SureShelf` and
+//! `SureSink` never fail.
+#![tactic(auto)]
+
+mod folder;
+mod memory_shelf;
+mod memory_sink;
+mod print;
+mod shelf;
+mod sink;
+mod sure;
+#[cfg(test)]
+mod tests;
+
+pub use memory_shelf::{Call, MemoryShelf};
+pub use memory_sink::{Failure, MemorySink};
+pub use print::put_lines;
+pub use shelf::{FetchFault, Shelf, StoreFault};
+pub use sink::{Sink, SinkFault};
+pub use sure::{SureShelf, SureSink};

@@ -1,0 +1,6 @@
+pub mod Finding
+mod Missing
+mod Telling
+mod Agreeing
+mod Doing
+pub mod Numbered

@@ -1,0 +1,3 @@
+-- What a history tells of the requirements.
+pub mod Ticks
+pub mod Violations

@@ -1,0 +1,43 @@
+-- The ticks that a history has of grants and visits.
+use Rattle.std.specs.Prelude.{ℕ, ◌<◌, ◌^◌, Bool, false, List, [], map, length, nat_le, nat_lt, Option, None, Some, option_map, All}
+use Rattle.rail_base.specs.declared.station.TrainNo.{TrainNo}
+use Rattle.rail_base.specs.declared.history.TrainHistory.{TrainHistory}
+use Rattle.rail_base.specs.Numbering.{entry, one_to}
+
+-- what happened to the train of this number
+abbrev pub history_of : List TrainHistory → TrainNo → TrainHistory
+history_of history t = entry (record { grants = []; passes = []; releases = []; visits = [] }) history t.0
+
+-- the numbers of the trains
+abbrev pub trains : List TrainHistory → List TrainNo
+trains history = map (λ n. record { 0 = n }) (one_to (length history))
+
+-- the numbers of the train's commands
+abbrev pub command_numbers : List TrainHistory → TrainNo → List ℕ
+command_numbers history t = one_to (length (history_of history t).grants)
+
+-- the numbers of its visits
+abbrev pub visit_numbers : List TrainHistory → TrainNo → List ℕ
+visit_numbers history t = one_to (length (history_of history t).visits)
+
+-- the tick at which the train's command of this number is granted
+abbrev pub grant_tick : List TrainHistory → TrainNo → ℕ → Option ℕ
+grant_tick history t j = (entry (record { 0 = 0 }, None) (history_of history t).grants j).1
+
+-- the tick at which the visit is made
+abbrev pub visit_tick : List TrainHistory → TrainNo → ℕ → Option ℕ
+visit_tick history t j = option_map (λ v. v.1) (entry None (history_of history t).visits j)
+
+-- the tick has come by the end of tick k
+abbrev pub is_by : ℕ → Option ℕ → Bool
+is_by k (Some a) = nat_le a k
+is_by k None = false
+
+-- the tick has come before tick k
+abbrev pub is_before : ℕ → Option ℕ → Bool
+is_before k (Some a) = nat_lt a k
+is_before k None = false
+
+-- trains, commands and visits have numbers of 32 bits
+abbrev pub HasNumbers : List TrainHistory → Type 0
+HasNumbers history = (length history < 2 ^ 32) × All (λ t. (length t.grants < 2 ^ 32) × (length t.visits < 2 ^ 32)) history

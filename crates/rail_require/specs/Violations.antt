@@ -1,0 +1,62 @@
+-- Which violations are certain at a tick, as a history tells it, and whether all is done.
+use Rattle.std.specs.Prelude.{ℕ, Bool, false, not, ◌&&◌, ◌==◌, List, ◌++◌, map, flat_map, length, nat_le, Option, is_some, find}
+use Rattle.std.specs.List.{list_all}
+use Rattle.rail_base.specs.declared.station.Station.{Station}
+use Rattle.rail_base.specs.declared.station.Order.{Order}
+use Rattle.rail_base.specs.declared.station.Within.{Within}
+use Rattle.rail_base.specs.declared.plan.Violation.{Violation}
+use Rattle.rail_base.specs.declared.plan.Violation.TheVariants as violation
+use Rattle.rail_base.specs.declared.history.TrainHistory.{TrainHistory}
+use Rattle.rail_base.specs.Numbering.{one_to}
+use Rattle.rail_base.specs.Stations.{horizon, order_of, within_of}
+use Rattle.rail_spec.specs.Requirements.{is_after, most_ticks}
+use Rattle.rail_require.specs.Ticks.{trains, command_numbers, visit_numbers, grant_tick, visit_tick, is_by, is_before}
+
+-- the greatest time ends at tick k, up to the horizon, and the other visit isn't made by then
+abbrev pub is_late : Station → List TrainHistory → ℕ → Within → Bool
+is_late d history k w = nat_le k (horizon d) && is_after (most_ticks d w) (visit_tick history w.from_train w.from_visit) k
+    && not (is_by k (visit_tick history w.to_train w.to_visit))
+
+-- the later-named visit is made at tick k, and the first isn't made before it
+abbrev pub is_broken : List TrainHistory → ℕ → Order → Bool
+is_broken history k o = is_after 0 (visit_tick history o.then_train o.then_visit) k && not (is_before k (visit_tick history o.first_train o.first_visit))
+
+-- k is the horizon, and the tick hasn't come by then
+abbrev pub is_missing : Station → ℕ → Option ℕ → Bool
+is_missing d k tick = (k == horizon d) && not (is_by k tick)
+
+-- the violation is certain at tick k; a path's is not looked for in a history
+abbrev pub is_certain : Station → List TrainHistory → ℕ → Violation → Bool
+is_certain d history k (violation.Path t j) = false
+is_certain d history k (violation.Within w) = is_late d history k (within_of d w)
+is_certain d history k (violation.Order o) = is_broken history k (order_of d o)
+is_certain d history k (violation.Grant t j) = is_missing d k (grant_tick history t j)
+is_certain d history k (violation.Visit t j) = is_missing d k (visit_tick history t j)
+
+-- the withins, in file order
+abbrev pub within_ways : Station → List Violation
+within_ways d = map violation.Within (one_to (length d.withins))
+
+-- the orders, in file order
+abbrev pub order_ways : Station → List Violation
+order_ways d = map violation.Order (one_to (length d.orders))
+
+-- the grants, by train and command
+abbrev pub grant_ways : List TrainHistory → List Violation
+grant_ways history = flat_map (λ t. map (violation.Grant t) (command_numbers history t)) (trains history)
+
+-- the visits, by train and visit
+abbrev pub visit_ways : List TrainHistory → List Violation
+visit_ways history = flat_map (λ t. map (violation.Visit t) (visit_numbers history t)) (trains history)
+
+-- the violations that may be certain, in the order in which they are looked for
+abbrev pub ways_to_fail : Station → List TrainHistory → List Violation
+ways_to_fail d history = within_ways d ++ order_ways d ++ grant_ways history ++ visit_ways history
+
+-- the first that is certain at tick k
+abbrev pub violation_in : Station → List TrainHistory → ℕ → Option Violation
+violation_in d history k = find (is_certain d history k) (ways_to_fail d history)
+
+-- each command of each train is granted, and each visit made
+abbrev pub is_done_in : List TrainHistory → Bool
+is_done_in history = list_all (λ t. list_all (λ g. is_some g.1) t.grants && list_all is_some t.visits) history

@@ -1,0 +1,79 @@
+//! What the history of a run tells of the requirements: the first violation that is certain at a tick, and whether all
+//! is done. Ticks are those of the run; nothing here takes memory.
+#![tactic(auto)]
+
+ghost use Rattle.std.specs.Prelude.{◌≡◌, ◌≤◌, ◌++◌, ◌&&◌, ℕ, List, find, is_some};
+ghost use Rattle.std.specs.List.{list_all};
+ghost use Rattle.rail_base.specs.declared.station.Station.{Station};
+ghost use Rattle.rail_base.specs.declared.route.Route.{Route};
+ghost use Rattle.rail_base.specs.declared.plan.Command.{Command};
+ghost use Rattle.rail_spec.specs.Histories.{history_at};
+ghost use Rattle.rail_spec.specs.Requirements.{is_done, violation_at};
+ghost use Rattle.rail_require.specs.Ticks.{HasNumbers};
+ghost use Rattle.rail_require.specs.Violations.{violation_in, is_done_in, is_certain, grant_ways, visit_ways};
+
+pub mod laws;
+mod ticks;
+mod ways;
+
+use crate::ways::{broken_order, late_within, missing_grant, missing_visit};
+use rail_base::design::Design;
+pub use rail_base::history::{History, TrainHistory, Verdict};
+pub use rail_base::plan::Violation;
+
+/// At the horizon, the first command that isn't granted, or else the first visit that isn't made.
+fn first_missing(design: &Design, history: &History, tick: u64) -> Option<Violation>
+    requires { HasNumbers history.now }
+    ensures { result ≡ find (is_certain design.now.station history.now tick) (grant_ways history.now ++ visit_ways history.now) }
+{
+    if tick != design.horizon() {
+        return None;
+    }
+    missing_grant(history, tick).or_else(|| missing_visit(history, tick))
+}
+
+/// The first violation that is certain at the tick: withins in file order, orders in file order, and at the horizon
+/// grants by train and command, then visits by train and visit. A path's is not looked for here.
+pub fn first_violation(design: &Design, history: &History, tick: u64) -> Option<Violation>
+    requires { HasNumbers history.now }
+    ensures value { result ≡ violation_in design.now.station history.now tick }
+    ensures run { (routes : List Route) (plan : List (List Command)) → 1 ≤ tick
+        → history.now ≡ history_at design.now.station routes plan tick → result ≡ violation_at design.now.station routes plan tick }
+{
+    late_within(design, history, tick)
+        .or_else(|| broken_order(design, history, tick))
+        .or_else(|| first_missing(design, history, tick))
+}
+
+/// Whether each command of the train is granted.
+fn is_granted(train: &TrainHistory) -> bool
+    ensures { result ≡ list_all (λ g. is_some g.1) train.now.grants }
+{
+    train
+        .grants
+        .as_slice()
+        .iter()
+        .all(|grant| grant.1.is_some())
+}
+
+/// Whether each visit of the train is made.
+fn is_visited(train: &TrainHistory) -> bool
+    ensures { result ≡ list_all is_some train.now.visits }
+{
+    train.visits.as_slice().iter().all(|visit| visit.is_some())
+}
+
+/// Whether each command of each train is granted, and each visit made.
+pub fn is_done(history: &History) -> bool
+    ensures value { result ≡ is_done_in history.now }
+    ensures run { (d : Station) (routes : List Route) (plan : List (List Command)) (k : ℕ) → 1 ≤ k
+        → history.now ≡ history_at d routes plan k → result ≡ is_done d routes plan k }
+{
+    history
+        .as_slice()
+        .iter()
+        .all(|train| is_granted(train) && is_visited(train))
+}
+
+#[cfg(test)]
+mod tests;

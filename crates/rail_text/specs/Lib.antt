@@ -1,0 +1,5 @@
+pub mod Numbers
+pub mod Pieces
+pub mod Lines
+pub mod Cursors
+pub mod Laws

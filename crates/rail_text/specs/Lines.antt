@@ -1,0 +1,6 @@
+-- A piece by its bytes.
+use Rattle.rail_text.specs.declared.cursor.Piece.{Piece}
+use Rattle.rail_text.specs.Pieces.{Line}
+
+abbrev pub line_of : Piece → Line
+line_of piece = record { line = piece.line; ended = piece.ended; bytes = piece.bytes.now }

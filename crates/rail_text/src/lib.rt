@@ -1,0 +1,12 @@
+//! Numbers and lines as bytes, both ways.
+#![tactic(auto)]
+
+mod cursor;
+mod laws;
+mod numbers;
+#[cfg(test)]
+mod tests;
+
+pub use cursor::{Cursor, Piece};
+pub use laws::{numbers_read_back, pieces_join_back};
+pub use numbers::{number, put_number};

@@ -1,0 +1,21 @@
+-- The fixed command: `rcv` with one required subcommand for each line of the usage.
+use Rattle.std.specs.Prelude.{◌==◌, Bool, true, List, length, codes}
+use Rattle.clap.specs.Words.{App, Rule, Text, new_app, new_rule, with_rule, with_subcommand, fault_of}
+
+-- a required value read as text, by its place
+abbrev pub positional_rule : Text → Rule
+positional_rule name = record (new_rule name) { required = true }
+
+-- `simulate DESIGN PLAN`
+abbrev pub simulate_app : App
+simulate_app = with_rule (with_rule (new_app (codes "simulate")) (positional_rule (codes "DESIGN"))) (positional_rule (codes "PLAN"))
+
+abbrev pub top_app : App
+top_app = record (new_app (codes "rcv")) { top = record (new_app (codes "rcv")).top { subcommand_required = true } }
+
+abbrev pub rcv_app : App
+rcv_app = with_subcommand top_app simulate_app.top
+
+-- the fixed command takes the words, the first of which is the program's name
+abbrev pub is_taken : List Text → Bool
+is_taken words = length (fault_of rcv_app words) == 0

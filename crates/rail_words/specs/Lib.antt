@@ -1,0 +1,4 @@
+pub mod FixedCommand
+pub mod Requests
+pub mod Words
+pub mod Laws

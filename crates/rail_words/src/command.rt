@@ -1,0 +1,35 @@
+//! The fixed command.
+
+ghost use Rattle.std.specs.Prelude.{◌≡◌, IfOk, false};
+ghost use Rattle.clap.specs.Words.{app_of, rule_of};
+ghost use Rattle.clap.specs.declared.builder.command.Command.TheViews.{out-Command as fields_of};
+ghost use Rattle.rail_words.specs.FixedCommand.{positional_rule, simulate_app, rcv_app};
+
+use clap::{Arg, Command};
+use std::alloc::{AllocError, Global};
+
+/// A required value, by its place.
+fn positional<'a>(alloc: Global, name: &'a str) -> Arg<'a>
+    ensures rule { rule_of result ≡ positional_rule name.entry.now }
+    ensures local { result.global ≡ false }
+{
+    Arg::new(alloc, name).required(true)
+}
+
+fn simulate_command<'a>(alloc: Global) -> Result<Command<'a>, AllocError>
+    ensures shape { IfOk result (λ command. app_of command ≡ simulate_app) }
+    ensures local { IfOk result (λ command. (fields_of command).has_globals ≡ false) }
+{
+    Command::new(alloc, "simulate")
+        .arg(positional(alloc, "DESIGN"))?
+        .arg(positional(alloc, "PLAN"))
+}
+
+/// The fixed command.
+pub(crate) fn command<'a>(alloc: Global) -> Result<Command<'a>, AllocError>
+    ensures shape { IfOk result (λ command. app_of command ≡ rcv_app) }
+{
+    Command::new(alloc, "rcv")
+        .subcommand_required(true)
+        .subcommand(simulate_command(alloc)?)
+}

@@ -1,0 +1,11 @@
+//! The words of the command line, read by a fixed `clap` command.
+#![tactic(auto)]
+
+mod command;
+mod laws;
+mod request;
+#[cfg(test)]
+mod tests;
+
+pub use laws::simulate_is_read;
+pub use request::{Request, WordsFault, read_words};

@@ -1,0 +1,112 @@
+//! What the words of a command line ask for.
+
+ghost use Rattle.std.specs.Prelude.{◌≡◌, ◌≢◌, IfOk, OnOk, Err, Some, None, true, false, option_map, option_and_then, codes};
+ghost use Rattle.clap.specs.Words.{first_of, rows_of, found_of, subcommand_of, subcommand_rows_of};
+ghost use Rattle.rail_words.specs.FixedCommand.{rcv_app, is_taken};
+ghost use Rattle.rail_words.specs.Requests.{asked_by, request_of, simulate_with};
+ghost use Rattle.rail_words.specs.Words.{asked_of, texts_of};
+ghost use Rattle.rail_words.specs.declared.request.WordsFault.TheVariants as fault;
+
+use crate::command::command;
+use clap::ArgMatches;
+use clap::error::ErrorKind;
+use std::alloc::{AllocError, Global};
+use thiserror::Error;
+
+/// What is asked of the program.
+#[derive(Clone, Copy, Debug, PartialEq, Eq)]
+pub enum Request<'a> {
+    /// Simulate a plan over a design, each by its file's name.
+    Simulate { design: &'a str, plan: &'a str },
+}
+
+/// Why words ask for nothing.
+#[derive(Clone, Copy, Debug, PartialEq, Eq, Error)]
+pub enum WordsFault {
+    /// The fixed command does not take the words; a call for help is one of these.
+    #[error("the words are no command")]
+    Usage,
+    /// Want of memory.
+    #[error("out of memory")]
+    Memory,
+}
+
+impl From<AllocError> for WordsFault {
+    ghost from_gives = { λ _ given. given ≡ fault.Memory };
+
+    fn from(_error: AllocError) -> WordsFault {
+        WordsFault::Memory
+    }
+}
+
+fn fault_of_kind(kind: ErrorKind) -> WordsFault
+    ensures { result ≡ WordsFault.Usage → kind ≢ ErrorKind.OutOfMemory }
+{
+    match kind {
+        ErrorKind::OutOfMemory => WordsFault::Memory,
+        _ => WordsFault::Usage,
+    }
+}
+
+/// The matches of the words.
+fn matches_of<'a>(alloc: Global, words: &'a [String]) -> Result<ArgMatches<'a>, WordsFault>
+    ensures taken { OnOk result (is_taken (texts_of words.entry.now) ≡ true) }
+    ensures subcommand { IfOk result (λ matches. subcommand_rows_of matches ≡ subcommand_of rcv_app (texts_of words.entry.now)) }
+    ensures usage { result ≡ Err WordsFault.Usage → is_taken (texts_of words.entry.now) ≡ false }
+{
+    match command(alloc)?.try_get_matches_from(words) {
+        Ok(matches) => Ok(matches),
+        Err(error) => Err(fault_of_kind(error.kind())),
+    }
+}
+
+/// The subcommand that the words name, and its matches.
+fn entered<'a, 'm>(matches: &'m ArgMatches<'a>) -> Option<(&'a str, &'m ArgMatches<'a>)>
+    ensures { option_map (λ found. (found.0.now, rows_of (found_of found.1.now))) result ≡ subcommand_rows_of matches.now }
+{
+    matches.subcommand()
+}
+
+/// The value of an argument.
+fn value<'a>(values: &ArgMatches<'a>, name: &str) -> Option<&'a str>
+    ensures { option_map (λ text. text.now) result ≡ first_of name.now (rows_of (found_of values.now)) }
+{
+    values.get_str(name)
+}
+
+/// What the values of `simulate` ask for.
+fn simulate<'a>(values: &ArgMatches<'a>) -> Option<Request<'a>>
+    ensures { option_map asked_of result ≡ simulate_with (first_of (codes "DESIGN") (rows_of (found_of values.now))) (first_of (codes "PLAN") (rows_of (found_of values.now))) }
+{
+    let Some(design) = value(values, "DESIGN") else {
+        return None;
+    };
+    let Some(plan) = value(values, "PLAN") else {
+        return None;
+    };
+    Some(Request::Simulate { design, plan })
+}
+
+/// What the matches ask for.
+fn request_in<'a>(matches: &ArgMatches<'a>) -> Option<Request<'a>>
+    ensures { option_map asked_of result ≡ option_and_then asked_by (subcommand_rows_of matches.now) }
+{
+    let Some((name, values)) = entered(matches) else {
+        return None;
+    };
+    if name == "simulate" {
+        return simulate(values);
+    }
+    None
+}
+
+/// What the words ask for, the first of which is the program's name.
+pub fn read_words<'a>(alloc: Global, words: &'a [String]) -> Result<Request<'a>, WordsFault>
+    ensures ok { IfOk result (λ request. request_of (texts_of words.entry.now) ≡ Some (asked_of request)) }
+    ensures usage { result ≡ Err WordsFault.Usage → request_of (texts_of words.entry.now) ≡ None }
+{
+    match matches_of(alloc, words) {
+        Ok(matches) => request_in(&matches).ok_or(WordsFault::Usage),
+        Err(fault) => Err(fault),
+    }
+}

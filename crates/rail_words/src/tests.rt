@@ -1,0 +1,54 @@
+//! The words of each line, and words that are refused.
+
+use crate::{Request, WordsFault, read_words};
+use std::alloc::{AllocError, Global};
+
+/// The words of a line of text, cut at its spaces.
+fn words_of(alloc: Global, line: &str) -> Result<Vec<String>, AllocError> {
+    let mut words = Vec::new(alloc);
+    for word in line.split(' ') {
+        words.push(String::from_str(alloc, word)?)?;
+    }
+    Ok(words)
+}
+
+#[test]
+fn simulate_names_its_files(rt: HostRuntime) -> Result<(), AllocError> {
+    let alloc = rt.alloc();
+    let want = Request::Simulate {
+        design: "halt.toml",
+        plan: "plan.json",
+    };
+    for line in [
+        "rcv simulate halt.toml plan.json",
+        "rcv simulate -- halt.toml plan.json",
+    ] {
+        let words = words_of(alloc, line)?;
+        assert!(rt;
+            read_words(alloc, words.as_slice()) == Ok(want),
+            "at {line}"
+        );
+    }
+    Ok(())
+}
+
+#[test]
+fn other_words_are_refused(rt: HostRuntime) -> Result<(), AllocError> {
+    let alloc = rt.alloc();
+    for line in [
+        "rcv",
+        "rcv simulate",
+        "rcv simulate halt.toml",
+        "rcv simulate halt.toml plan.json more",
+        "rcv simulate --steps halt.toml plan.json",
+        "rcv dispatch halt.toml plan.json",
+        "rcv help",
+        "rcv --help",
+        "rcv simulate --help",
+    ] {
+        let words = words_of(alloc, line)?;
+        let answer = read_words(alloc, words.as_slice());
+        assert!(rt; matches!(answer, Err(WordsFault::Usage)), "at {line}");
+    }
+    Ok(())
+}
