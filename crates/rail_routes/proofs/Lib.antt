@@ -1,0 +1,7 @@
+pub mod Numbered
+pub mod Places
+pub mod Marks
+pub mod Searching
+pub mod Walking
+pub mod Faults
+pub mod Tables

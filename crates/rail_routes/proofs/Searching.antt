@@ -1,0 +1,254 @@
+-- What a step of the search leaves of the closed paths that are still to come.
+use Rattle.std.proofs.Common.{◌≡◌, ℕ, zero, suc, ◌+◌, ◌-◌, ◌≤◌, ◌<◌, ◌⊎◌, inl, inr, Bool, true, false, if◌then◌else◌, List, [], ◌∷◌, ◌++◌, flat_map, reverse, take, drop, length, get_or, Option, Some, None, refl, sym, ap, ap₂, subst, ◌∙◌, arith, append_assoc, append-nil, le_refl, add-one, length-append, drop-cons}
+use Rattle.std.proofs.lemmas.List.{take-append-le, reverse-append, length-take-le}
+use Rattle.std.proofs.lemmas.Grind.{flat_map-append}
+use Rattle.std.proofs.Math.Seq.{take-length}
+use Rattle.std.proofs.Math.ListN.{drop_of_length-le}
+use Rattle.rail_base.specs.declared.station.Station.{Station}
+use Rattle.rail_base.specs.declared.station.End.{End}
+use Rattle.rail_base.specs.declared.station.EdgeNo.{EdgeNo}
+use Rattle.rail_base.specs.declared.station.SignalNo.{SignalNo}
+use Rattle.rail_base.specs.declared.route.Finish.{Finish}
+use Rattle.rail_base.specs.declared.route.Finish.TheVariants as finish
+use Rattle.rail_base.specs.Members.{In, Pairs}
+use Rattle.rail_base.specs.Stations.{is_end, through, edge_of, node_of, leave, far_end, IsEdge, IsNode}
+use Rattle.rail_base.specs.Admitted.{IsAdmitted}
+use Rattle.rail_base.proofs.Contained.{in_at}
+use Rattle.rail_base.proofs.Lists.{in_append, in_append_left, in_append_right, pairs_append, pairs_across, pairs_left}
+use Rattle.rail_spec.specs.Track.{signals_at, is_empty, ends_by_signal, finish_at, has_edge, Closing, Whole, Again, closed_or, closings}
+use Rattle.rail_spec.proofs.Closing.{at_from_leave}
+use Rattle.rail_spec.proofs.RouteLaws.{few_edges}
+use Rattle.rail_routes.specs.declared.search.Level.{Level}
+use Rattle.rail_routes.specs.declared.search.Search.{Search}
+use Rattle.rail_routes.specs.declared.path.Path.{Path}
+use Rattle.rail_routes.specs.Paths.{AreMarked, IsMarked}
+use Rattle.rail_routes.specs.Pending.{over, at_level, pending, IsOpen, IsSearch}
+use Rattle.rail_routes.specs.Walks.{AreEdges}
+
+-- ---- lists from their end
+
+-- what each gives, the last first
+backward : {X Y : Type 0} → (X → List Y) → List X → List Y
+backward f [] = []
+backward f (x ∷ xs) = backward f xs ++ f x
+
+backward-is : {X Y : Type 0} (f : X → List Y) (xs : List X) → flat_map f (reverse xs) ≡ backward f xs
+unfolding backward
+backward-is f [] = refl
+backward-is f (x ∷ xs) = ap (flat_map f) (reverse-append (x ∷ []) xs) ∙ flat_map-append f (reverse xs) (x ∷ []) ∙ ap₂ (λ a b. a ++ b) (backward-is f xs) (append-nil (f x))
+
+backward-same : {X Y : Type 0} (f g : X → List Y) (xs : List X) → ((x : X) → In x xs → f x ≡ g x) → backward f xs ≡ backward g xs
+unfolding backward
+backward-same f g [] h = refl
+backward-same f g (x ∷ xs) h = ap₂ (λ a b. a ++ b) (backward-same f g xs (λ y m. h y (inr m))) (h x (inl refl))
+
+same-backward : {X Y : Type 0} (f g : X → List Y) (xs : List X) → ((x : X) → In x xs → f x ≡ g x) → flat_map f (reverse xs) ≡ flat_map g (reverse xs)
+same-backward f g xs h = backward-is f xs ∙ backward-same f g xs h ∙ sym (backward-is g xs)
+
+take-shorter : {X : Type 0} (j k : ℕ) (xs : List X) → j ≤ k → take j (take k xs) ≡ take j xs
+take-shorter zero k xs h = refl
+take-shorter (suc j) zero xs h = absurd (omega arith)
+take-shorter (suc j) (suc k) [] h = refl
+take-shorter (suc j) (suc k) (x ∷ xs) h = ap (λ ys. x ∷ ys) (take-shorter j k xs (omega arith))
+
+some-rest : {X : Type 0} (xs : List X) (k : ℕ) (x : X) → k < length xs → x ≡ get_or xs k x → drop k xs ≡ x ∷ drop (k + 1) xs
+some-rest xs k x h e = drop-cons xs k x h ∙ ap₂ (λ y n. y ∷ drop n xs) (sym e) (sym (add-one k))
+
+-- within the list no other value is needed
+pub some-place : {X : Type 0} (xs : List X) (k : ℕ) (a b : X) → k < length xs → get_or xs k a ≡ get_or xs k b
+some-place [] k a b h = absurd (omega arith)
+some-place (x ∷ xs) zero a b h = refl
+some-place (x ∷ xs) (suc k) a b h = some-place xs k a b (omega arith)
+
+module _ (d : Station) where
+  -- ---- the edges at an end
+
+  pub far_node : IsAdmitted d → (e : EdgeNo) (end : End) → IsEdge d e → IsNode d (far_end (edge_of d e) end).node
+  far_node adm e end h = go (is_end (edge_of d e).from end)
+    where
+      go : (b : Bool) → IsNode d (if b then (edge_of d e).to else (edge_of d e).from).node
+      go true = (adm.edge e h).to
+      go false = (adm.edge e h).from
+
+  -- how a route ends at a node with these signals and edges for trains that go on
+  abbrev ends_with : End → List SignalNo → List EdgeNo → Option Finish
+  ends_with there (s ∷ ss) es = Some (finish.Signal s)
+  ends_with there [] es = if is_empty es then Some (finish.Dead there.node) else None
+
+  ends-with-is : (there : End) (ss : List SignalNo) → ends_by_signal d there ss ≡ ends_with there ss (leave d (through there))
+  ends-with-is there [] = refl
+  ends-with-is there (s ∷ ss) = refl
+
+  pub some_leaves : (there : End) → finish_at d there ≡ None → 1 ≤ length (leave d (through there))
+  some_leaves there h = go (node_of d there.node).boundary (signals_at d (through there)) (leave d (through there)) (ap (λ o. if (node_of d there.node).boundary then Some (finish.Exit there.node) else o) (sym (ends-with-is there (signals_at d (through there)))) ∙ h)
+    where
+      go : (b : Bool) (ss : List SignalNo) (es : List EdgeNo) → (if b then Some (finish.Exit there.node) else ends_with there ss es) ≡ None → 1 ≤ length es
+      go true ss es e = cc
+      go false (s ∷ ss) es e = cc
+      go false [] [] e = cc
+      go false [] (g ∷ gs) e = omega arith
+
+  pub at_leave : (end : End) (k : ℕ) (x : EdgeNo) → k < length (leave d end) → x ≡ get_or (leave d end) k x → IsEdge d x
+  at_leave end k x h e = (at_from_leave d end x (subst (λ y. In y (leave d end)) (sym e) (in_at (leave d end) k x h))).0
+
+  pub few : (es : List EdgeNo) (ms : List Bool) → AreMarked es ms → length ms ≡ length d.edges → length es ≤ length d.edges
+  few es ms are many = few_edges d es are.once (λ e m. let h = are.numbered e m in (h.0, let u = h.1 in omega arith))
+
+  -- ---- what is over an edge
+
+  abbrev over_with : Bool → Option Finish → EdgeNo → List EdgeNo → List Closing → List Closing
+  over_with b o e longer further = if b then Again e ∷ [] else closed_or o longer further
+
+  pub over_open : (n : ℕ) (path : List EdgeNo) (end : End) (e : EdgeNo) (o : Option Finish) → has_edge path e ≡ false → finish_at d (far_end (edge_of d e) end) ≡ o
+      → over d n path end e ≡ closed_or o (path ++ e ∷ []) (closings n d (path ++ e ∷ []) (through (far_end (edge_of d e) end)))
+  over_open n path end e o h f = ap₂ (λ b p. over_with b p e (path ++ e ∷ []) (closings n d (path ++ e ∷ []) (through (far_end (edge_of d e) end)))) h f
+
+  -- ---- levels
+
+  pub open_longer : (m n : ℕ) (l : Level) → m ≤ n → IsOpen d m l → IsOpen d n l
+  open_longer m n l h o = record { on_path = let k = o.on_path in omega arith; node = o.node; some = o.some }
+
+  same_front : (path other : List EdgeNo) (l : Level) → take l.after path ≡ take l.after other → at_level d path l ≡ at_level d other l
+  same_front path other l h = ap (λ front. flat_map (over d (length d.edges - l.after) front l.from) (drop l.tried (leave d l.from))) h
+
+  pub pending_longer : (path more : List EdgeNo) (levels : List Level) → ((l : Level) → In l levels → l.after ≤ length path) → pending d (path ++ more) levels ≡ pending d path levels
+  pending_longer path more levels h = same-backward (at_level d (path ++ more)) (at_level d path) levels (λ l m. same_front (path ++ more) path l (take-append-le l.after path more (h l m)))
+
+  pub pending_shorter : (path : List EdgeNo) (k : ℕ) (levels : List Level) → ((l : Level) → In l levels → l.after ≤ k) → pending d (take k path) levels ≡ pending d path levels
+  pending_shorter path k levels h = same-backward (at_level d (take k path)) (at_level d path) levels (λ l m. same_front (take k path) path l (take-shorter l.after k path (h l m)))
+
+  pub pending_push : (path : List EdgeNo) (levels : List Level) (l : Level) → pending d path (levels ++ l ∷ []) ≡ at_level d path l ++ pending d path levels
+  pending_push path levels l = ap (flat_map (at_level d path)) (reverse-append levels (l ∷ []))
+
+  -- a level at which nothing was tried has all closed paths from there
+  pub level_closings : (path : List EdgeNo) (end : End) → length path ≤ length d.edges → at_level d path (record { after = length path; from = end; tried = 0 }) ≡ closings (length d.edges + 1 - length path) d path end
+  level_closings path end h =
+      let fuel : length d.edges + 1 - length path ≡ suc (length d.edges - length path) = omega arith in
+      ap (λ front. flat_map (over d (length d.edges - length path) front end) (leave d end)) (take-length path) ∙ ap (λ n. closings n d path end) (sym fuel)
+
+  -- a level without its next edge
+  pub level_next : (path : List EdgeNo) (l : Level) (e : EdgeNo) → l.after ≡ length path → l.tried < length (leave d l.from) → e ≡ get_or (leave d l.from) l.tried e
+      → at_level d path l ≡ over d (length d.edges - length path) path l.from e ++ at_level d path (record l { tried = l.tried + 1 })
+  level_next path l e here some is =
+      let front : take l.after path ≡ path = ap (λ n. take n path) here ∙ take-length path in
+      ap (flat_map (over d (length d.edges - l.after) (take l.after path) l.from)) (some-rest (leave d l.from) l.tried e some is)
+      ∙ ap₂ (λ n p. over d (length d.edges - n) p l.from e ++ at_level d path (record l { tried = l.tried + 1 })) here front
+
+  -- a level whose edges were all tried
+  pub level_done : (path : List EdgeNo) (l : Level) → length (leave d l.from) ≤ l.tried → at_level d path l ≡ []
+  level_done path l h = ap (flat_map (over d (length d.edges - l.after) (take l.after path) l.from)) (drop_of_length-le (leave d l.from) h)
+
+  -- ---- a search begins
+
+  pub started : (path : List EdgeNo) (levels : List Level) (from : End) → path ≡ [] → levels ≡ record { after = 0; from = from; tried = 0 } ∷ [] → pending d path levels ≡ closings (length d.edges + 1) d [] from
+  started path levels from p l =
+      let fuel : length d.edges + 1 - 0 ≡ length d.edges + 1 = omega arith in
+      ap₂ (pending d) p l ∙ append-nil (at_level d [] (record { after = 0; from = from; tried = 0 })) ∙ level_closings [] from (omega arith) ∙ ap (λ n. closings n d [] from) fuel
+
+  pub started_nowhere : (path : List EdgeNo) (levels : List Level) (from : End) → path ≡ [] → levels ≡ [] → leave d from ≡ [] → pending d path levels ≡ closings (length d.edges + 1) d [] from
+  started_nowhere path levels from p l none =
+      let nothing : [] ≡ flat_map (over d (length d.edges) [] from) (leave d from) = ap (flat_map (over d (length d.edges) [] from)) (sym none) in
+      ap₂ (pending d) p l ∙ nothing ∙ ap (λ n. closings n d [] from) (sym (add-one (length d.edges)))
+
+  -- ---- an edge of a level is taken
+
+  pub search_push : (s t : Search) (l : Level) → IsSearch d s → t.path ≡ s.path → t.levels.items ≡ s.levels.items ++ l ∷ [] → l.after ≡ length s.path.edges.items → IsOpen d (length s.path.edges.items) l → IsSearch d t
+  search_push s t l is p e here some = record {
+    marked = subst IsMarked (sym p) is.marked;
+    marks = ap (λ (q : Path). length q.marks.items) p ∙ is.marks;
+    levels = λ k m. subst (λ (q : Path). IsOpen d (length q.edges.items) k) (sym p) (each k (in_append k s.levels.items (l ∷ []) (subst (In k) e m)));
+    nested = subst (Pairs (λ (j k : Level). j.after ≤ k.after)) (sym e) (pairs_append (λ (j k : Level). j.after ≤ k.after) s.levels.items (l ∷ []) is.nested (λ y m. absurd m, tt) across);
+  }
+    where
+      each : (k : Level) → In k s.levels.items ⊎ In k (l ∷ []) → IsOpen d (length s.path.edges.items) k
+      each k (inl m) = is.levels k m
+      each k (inr (inl same)) = subst (IsOpen d (length s.path.edges.items)) same some
+      each k (inr (inr m)) = absurd m
+
+      across : (j k : Level) → In j s.levels.items → In k (l ∷ []) → j.after ≤ k.after
+      across j k m (inl same) = let o = (is.levels j m).on_path in let a = ap (λ (x : Level). x.after) same in omega arith
+      across j k m (inr n) = absurd n
+
+  pub taken_some : (s t : Search) (l : Level) (e : EdgeNo) → t.path ≡ s.path → t.levels.items ≡ s.levels.items ++ record l { tried = l.tried + 1 } ∷ [] → l.after ≡ length s.path.edges.items → l.tried < length (leave d l.from) → e ≡ get_or (leave d l.from) l.tried e
+      → over d (length d.edges - length s.path.edges.items) s.path.edges.items l.from e ++ pending d t.path.edges.items t.levels.items ≡ at_level d s.path.edges.items l ++ pending d s.path.edges.items s.levels.items
+  taken_some s t l e p h here some is =
+      let first = over d (length d.edges - length s.path.edges.items) s.path.edges.items l.from e in
+      let rest = at_level d s.path.edges.items (record l { tried = l.tried + 1 }) in
+      ap (λ cs. first ++ cs) (ap₂ (λ (q : Path) ls. pending d q.edges.items ls) p h ∙ pending_push s.path.edges.items s.levels.items (record l { tried = l.tried + 1 }))
+      ∙ sym (append_assoc first rest (pending d s.path.edges.items s.levels.items))
+      ∙ ap (λ cs. cs ++ pending d s.path.edges.items s.levels.items) (sym (level_next s.path.edges.items l e here some is))
+
+  pub taken_last : (s t : Search) (l : Level) (e : EdgeNo) → t ≡ s → l.after ≡ length s.path.edges.items → l.tried < length (leave d l.from) → length (leave d l.from) ≤ l.tried + 1 → e ≡ get_or (leave d l.from) l.tried e
+      → over d (length d.edges - length s.path.edges.items) s.path.edges.items l.from e ++ pending d t.path.edges.items t.levels.items ≡ at_level d s.path.edges.items l ++ pending d s.path.edges.items s.levels.items
+  taken_last s t l e same here some last is =
+      let first = over d (length d.edges - length s.path.edges.items) s.path.edges.items l.from e in
+      ap (λ (q : Search). first ++ pending d q.path.edges.items q.levels.items) same
+      ∙ ap (λ cs. cs ++ pending d s.path.edges.items s.levels.items) (sym (level_next s.path.edges.items l e here some is ∙ ap (λ cs. first ++ cs) (level_done s.path.edges.items (record l { tried = l.tried + 1 }) last) ∙ append-nil first))
+
+  -- ---- the path goes over an edge
+
+  pub closed_over : (n : ℕ) (path longer : List EdgeNo) (levels : List Level) (end : End) (e : EdgeNo) (f : Finish) → has_edge path e ≡ false → finish_at d (far_end (edge_of d e) end) ≡ Some f → longer ≡ path ++ e ∷ [] → ((l : Level) → In l levels → IsOpen d (length path) l)
+      → Whole longer f ∷ pending d longer levels ≡ over d n path end e ++ pending d path levels
+  closed_over n path longer levels end e f h fin is open_ =
+      ap₂ (λ p cs. Whole p f ∷ cs) is (ap (λ p. pending d p levels) is ∙ pending_longer path (e ∷ []) levels (λ l m. (open_ l m).on_path))
+      ∙ ap (λ cs. cs ++ pending d path levels) (sym (over_open n path end e (Some f) h fin))
+
+  pub further_over : (path longer : List EdgeNo) (levels : List Level) (end on : End) (e : EdgeNo) → has_edge path e ≡ false → finish_at d (far_end (edge_of d e) end) ≡ None → longer ≡ path ++ e ∷ [] → on ≡ through (far_end (edge_of d e) end) → ((l : Level) → In l levels → IsOpen d (length path) l)
+      → closings (length d.edges + 1 - length longer) d longer on ++ pending d longer levels ≡ over d (length d.edges - length path) path end e ++ pending d path levels
+  further_over path longer levels end on e h fin is there open_ =
+      let k = ap length is in
+      let a = length-append path (e ∷ []) in
+      let fuel : length d.edges + 1 - length longer ≡ length d.edges - length path = omega arith in
+      ap₂ (λ cs ds. cs ++ ds)
+      (ap₂ (λ n p. closings n d p on) fuel is ∙ ap (closings (length d.edges - length path) d (path ++ e ∷ [])) there)
+      (ap (λ p. pending d p levels) is ∙ pending_longer path (e ∷ []) levels (λ l m. (open_ l m).on_path))
+      ∙ ap (λ cs. cs ++ pending d path levels) (sym (over_open (length d.edges - length path) path end e None h fin))
+
+  -- ---- the innermost level is taken off
+
+  last_open : (s : Search) (rest : List Level) (l : Level) → IsSearch d s → s.levels.items ≡ rest ++ l ∷ [] → IsOpen d (length s.path.edges.items) l
+  last_open s rest l is e = is.levels l (subst (In l) (sym e) (in_append_right l rest (l ∷ []) (inl refl)))
+
+  rest_before : (s : Search) (rest : List Level) (l : Level) → IsSearch d s → s.levels.items ≡ rest ++ l ∷ [] → (k : Level) → In k rest → k.after ≤ l.after
+  rest_before s rest l is e k m = pairs_across (λ (j k : Level). j.after ≤ k.after) rest (l ∷ []) (subst (Pairs (λ (j k : Level). j.after ≤ k.after)) e is.nested) k l m (inl refl)
+
+  pub popped_fewer : (s : Search) (rest : List Level) (l : Level) → IsSearch d s → s.levels.items ≡ rest ++ l ∷ [] → l.after ≤ length s.path.edges.items
+  popped_fewer s rest l is e = (last_open s rest l is e).on_path
+
+  pub popped_here : (s : Search) (short : List EdgeNo) (rest : List Level) (l : Level) → IsSearch d s → s.levels.items ≡ rest ++ l ∷ [] → short ≡ take l.after s.path.edges.items → l.after ≡ length short
+  popped_here s short rest l is e cut = sym (ap length cut ∙ length-take-le l.after s.path.edges.items (popped_fewer s rest l is e))
+
+  pub popped_some : (s : Search) (short : List EdgeNo) (rest : List Level) (l : Level) → IsSearch d s → s.levels.items ≡ rest ++ l ∷ [] → short ≡ take l.after s.path.edges.items → IsOpen d (length short) l
+  popped_some s short rest l is e cut =
+      let here = popped_here s short rest l is e cut in
+      record { on_path = omega arith; node = (last_open s rest l is e).node; some = (last_open s rest l is e).some }
+
+  pub popped_search : (s t : Search) (l : Level) → IsSearch d s → s.levels.items ≡ t.levels.items ++ l ∷ [] → t.path.edges.items ≡ take l.after s.path.edges.items → IsMarked t.path → length t.path.marks.items ≡ length s.path.marks.items → IsSearch d t
+  popped_search s t l is e cut marked marks = record {
+    marked = marked;
+    marks = marks ∙ is.marks;
+    levels = λ k m. each k m (is.levels k (subst (In k) (sym e) (in_append_left k t.levels.items (l ∷ []) m)));
+    nested = pairs_left (λ (j k : Level). j.after ≤ k.after) t.levels.items (l ∷ []) (subst (Pairs (λ (j k : Level). j.after ≤ k.after)) e is.nested);
+  }
+    where
+      each : (k : Level) → In k t.levels.items → IsOpen d (length s.path.edges.items) k → IsOpen d (length t.path.edges.items) k
+      each k m o =
+          let here = popped_here s t.path.edges.items t.levels.items l is e cut in
+          let before = rest_before s t.levels.items l is e k m in
+          record { on_path = omega arith; node = o.node; some = o.some }
+
+  pub popped_same : (s : Search) (short : List EdgeNo) (rest : List Level) (l : Level) → IsSearch d s → s.levels.items ≡ rest ++ l ∷ [] → short ≡ take l.after s.path.edges.items
+      → at_level d short l ++ pending d short rest ≡ pending d s.path.edges.items s.levels.items
+  popped_same s short rest l is e cut =
+      let path = s.path.edges.items in
+      ap (λ p. at_level d p l ++ pending d p rest) cut
+      ∙ ap₂ (λ a b. a ++ b) (same_front (take l.after path) path l (take-shorter l.after l.after path (le_refl l.after))) (pending_shorter path l.after rest (rest_before s rest l is e))
+      ∙ sym (pending_push path rest l) ∙ ap (pending d path) (sym e)
+
+  -- ---- the edges of the path
+
+  pub are_edges : (s : Search) (path : List EdgeNo) → IsSearch d s → path ≡ s.path.edges.items → AreEdges d path
+  are_edges s path is same = subst (AreEdges d) (sym same) (record {
+    numbered = λ e m. let h = is.marked.numbered e m in (h.0, let u = h.1 in let k = is.marks in omega arith);
+    few = few s.path.edges.items s.path.marks.items is.marked is.marks;
+  })

@@ -1,0 +1,9 @@
+use Rattle.rail_spec.proofs.Small.{short_route}
+use Rattle.rail_routes.proofs.Tables.{route_edge}
+use Rattle.rail_routes.proofs.laws.routes_go_over_edges.Goals as goal
+
+pub returns-clause-edges : goal.returns-clause-edges
+returns-clause-edges c = route_edge
+
+pub returns-clause-short : goal.returns-clause-short
+returns-clause-short c = short_route

@@ -1,0 +1,6 @@
+-- What the search for routes keeps while it works.
+pub mod Ends
+pub mod Paths
+pub mod Pending
+pub mod Walks
+pub mod Refusals
