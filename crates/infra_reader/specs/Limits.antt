@@ -1,0 +1,79 @@
+-- Numbers and counts that are out of range. Visit numbers are excepted.
+use Rattle.std.specs.Prelude.{ℕ, ℤ, pos, nat_abs, ◌/◌, Bool, not, ◌&&◌, nat_le, int_le, List, ◌++◌, length}
+use Rattle.std.specs.List.{list_all}
+use Rattle.design_table.specs.declared.key.Key.{Key}
+use Rattle.design_table.specs.declared.key.Key.TheVariants as keys
+use Rattle.design_table.specs.declared.place.EntryKind.TheVariants as kinds
+use Rattle.design_table.specs.declared.place.Place.{Place}
+use Rattle.design_table.specs.declared.place.Place.TheVariants.{Top, Field}
+use Rattle.design_table.specs.Reads.{at, in_each}
+use Rattle.design_table.specs.Spelled.{SpelledEdge, SpelledVehicle, SpelledTrain, SpelledWithin, SpelledSheet}
+use Rattle.rail_base.specs.Admission.{is_from}
+
+-- the place, where the number is not from the one to the other
+unfoldable pub unless_from : ℕ → ℕ → ℤ → Place → List Place
+unless_from low high n place = at (not (int_le (pos low) n && int_le n (pos high))) place
+
+-- an array that has not so many entries
+unfoldable pub count_outside : {X : Type 0} → ℕ → ℕ → Key → List X → List Place
+count_outside least most key entries = at (not (is_from least most (length entries))) (Top key)
+
+-- an array that has not so many entries, and then the numbers in its entries
+unfoldable pub array_outside : {X : Type 0} → (ℕ → X → List Place) → ℕ → ℕ → Key → List X → List Place
+array_outside outside least most key entries = count_outside least most key entries ++ in_each outside entries
+
+-- an edge's length in mm and speed in mm/s
+abbrev pub edge_outside : ℕ → SpelledEdge → List Place
+edge_outside i e =
+    unless_from 1 10000000 e.length_mm (Field kinds.Edge i keys.LengthMm)
+    ++ unless_from 1 100000 e.speed_mm_s (Field kinds.Edge i keys.SpeedMmS)
+
+-- a vehicle's length in mm, acceleration and braking in mm/s2, and speed in mm/s
+abbrev pub vehicle_outside : ℕ → SpelledVehicle → List Place
+vehicle_outside i v =
+    unless_from 1 2000000 v.length_mm (Field kinds.Vehicle i keys.LengthMm)
+    ++ (unless_from 1 100000 v.accel_mm_s2 (Field kinds.Vehicle i keys.AccelMmS2)
+    ++ (unless_from 1 100000 v.brake_mm_s2 (Field kinds.Vehicle i keys.BrakeMmS2)
+    ++ unless_from 1 100000 v.speed_mm_s (Field kinds.Vehicle i keys.SpeedMmS)))
+
+-- 1 to 16 visits of 1 to 64 nodes
+abbrev pub are_few_visits : List (List (List ℕ)) → Bool
+are_few_visits visits = is_from 1 16 (length visits) && list_all (λ visit. is_from 1 64 (length visit)) visits
+
+-- a train's visits
+abbrev pub train_outside : ℕ → SpelledTrain → List Place
+train_outside i t = at (not (are_few_visits t.visits)) (Field kinds.Train i keys.Visits)
+
+-- the greatest time of a within in ms
+abbrev pub within_outside : ℕ → SpelledWithin → List Place
+within_outside i w = unless_from 0 86400000 w.max_ms (Field kinds.Within i keys.MaxMs)
+
+-- a horizon of 1 ms or more, and of 86,400 ticks at most
+abbrev pub is_horizon : ℤ → ℤ → Bool
+is_horizon horizon_ms tick_ms = int_le (pos 1) horizon_ms && nat_le (nat_abs horizon_ms / nat_abs tick_ms) 86400
+
+-- the version, the tick in ms and the horizon
+unfoldable pub times_outside : SpelledSheet → List Place
+times_outside s =
+    unless_from 1 1 s.version (Top keys.Version)
+    ++ (unless_from 100 1000 s.tick_ms (Top keys.TickMs)
+    ++ at (not (is_horizon s.horizon_ms s.tick_ms)) (Top keys.HorizonMs))
+
+-- nodes, edges and signals
+unfoldable pub track_outside : SpelledSheet → List Place
+track_outside s =
+    count_outside 0 2000 keys.Node s.nodes
+    ++ (array_outside edge_outside 0 4000 keys.Edge s.edges
+    ++ count_outside 0 1000 keys.Signal s.signals)
+
+-- vehicles and trains, and then orders and withins
+unfoldable pub traffic_outside : SpelledSheet → List Place
+traffic_outside s =
+    array_outside vehicle_outside 0 64 keys.Vehicle s.vehicles
+    ++ (array_outside train_outside 1 32 keys.Train s.trains
+    ++ (count_outside 0 256 keys.Order s.orders
+    ++ array_outside within_outside 0 256 keys.Within s.withins))
+
+-- D05: numbers and counts that are out of range
+unfoldable pub out_of_range : SpelledSheet → List Place
+out_of_range s = times_outside s ++ (track_outside s ++ traffic_outside s)

@@ -1,0 +1,76 @@
+-- Names: which of them stand twice, and which numbers they have.
+use Rattle.std.specs.Prelude.{ℕ, ◌+◌, ◌-◌, List, [], ◌∷◌, ◌++◌, Bool, map, fold, take, bytes_eq, if◌then◌else◌}
+use Rattle.std.specs.List.{list_any, position_or_len}
+use Rattle.design_table.specs.declared.key.Key.TheVariants as keys
+use Rattle.design_table.specs.declared.place.EntryKind.{EntryKind}
+use Rattle.design_table.specs.declared.place.EntryKind.TheVariants as kinds
+use Rattle.design_table.specs.declared.place.Place.{Place}
+use Rattle.design_table.specs.declared.place.Place.TheVariants.{Field}
+use Rattle.design_table.specs.Reads.{at, in_each}
+use Rattle.design_table.specs.Spelled.{SpelledNode, SpelledEdge, SpelledSignal, SpelledVehicle, SpelledTrain, SpelledSheet}
+
+-- the name is one of these
+abbrev pub is_among : List (List ℕ) → List ℕ → Bool
+is_among names name = list_any (bytes_eq name) names
+
+-- the number of a name: its place among the names, counted from 1
+abbrev pub number_in : List (List ℕ) → List ℕ → ℕ
+number_in names name = position_or_len (bytes_eq name) names + 1
+
+-- the names, and one more where it is new
+abbrev pub with_name : List (List ℕ) → List ℕ → List (List ℕ)
+with_name names name = if is_among names name then names else names ++ name ∷ []
+
+-- each name once, in order of first occurrence
+abbrev pub each_once : List (List ℕ) → List (List ℕ)
+each_once names = fold with_name [] names
+
+-- ---- the names of a sheet, in the order of their numbers
+
+pub record Names : Type 0 where
+  pub nodes : List (List ℕ)
+  pub sections : List (List ℕ)
+  pub vehicles : List (List ℕ)
+  pub trains : List (List ℕ)
+
+abbrev pub node_names : SpelledSheet → List (List ℕ)
+node_names s = map (λ (n : SpelledNode). n.name) s.nodes
+
+abbrev pub edge_names : SpelledSheet → List (List ℕ)
+edge_names s = map (λ (e : SpelledEdge). e.name) s.edges
+
+abbrev pub section_names : SpelledSheet → List (List ℕ)
+section_names s = map (λ (e : SpelledEdge). e.section) s.edges
+
+abbrev pub signal_names : SpelledSheet → List (List ℕ)
+signal_names s = map (λ (q : SpelledSignal). q.name) s.signals
+
+abbrev pub vehicle_names : SpelledSheet → List (List ℕ)
+vehicle_names s = map (λ (v : SpelledVehicle). v.name) s.vehicles
+
+abbrev pub train_names : SpelledSheet → List (List ℕ)
+train_names s = map (λ (t : SpelledTrain). t.name) s.trains
+
+-- sections are named by edges alone, and numbered by the first of these
+abbrev pub names_of : SpelledSheet → Names
+names_of s = record {
+  nodes = node_names s;
+  sections = each_once (section_names s);
+  vehicles = vehicle_names s;
+  trains = train_names s;
+}
+
+-- ---- D03
+
+-- the later entries of an array whose name stands already in an earlier one
+unfoldable pub repeated : EntryKind → List (List ℕ) → List Place
+repeated kind names = in_each (λ i name. at (is_among (take (i - 1) names) name) (Field kind i keys.Name)) names
+
+-- names that stand twice in their array
+unfoldable pub repeated_names : SpelledSheet → List Place
+repeated_names s =
+    repeated kinds.Node (node_names s)
+    ++ (repeated kinds.Edge (edge_names s)
+    ++ (repeated kinds.Signal (signal_names s)
+    ++ (repeated kinds.Vehicle (vehicle_names s)
+    ++ repeated kinds.Train (train_names s))))

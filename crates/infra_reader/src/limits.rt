@@ -1,0 +1,264 @@
+//! Numbers and counts that are out of range: D05.
+
+ghost use Rattle.std.specs.Prelude.{◌≡◌, ◌≤◌, ◌<◌, ◌&&◌, ◌/◌, pos, nat_abs, nat_le, int_le, not, length, map, IfOk};
+ghost use Rattle.std.specs.List.{list_all};
+ghost use Rattle.design_table.specs.Reads.{Reads, at};
+ghost use Rattle.design_table.specs.Spelled.{SpelledEdge, SpelledVehicle, SpelledTrain, SpelledWithin};
+ghost use Rattle.design_table.specs.Views.{edge_seen, vehicle_seen, train_seen, within_seen, sheet_seen};
+ghost use Rattle.rail_base.specs.Admission.{is_from};
+ghost use Rattle.infra_reader.specs.Limits.{unless_from, edge_outside, vehicle_outside, train_outside, within_outside, are_few_visits, is_horizon, times_outside, track_outside, traffic_outside, out_of_range, count_outside, array_outside};
+ghost use Rattle.infra_reader.specs.Seen.{visits_seen};
+
+use crate::walk::{Limited, refuse_array, refuse_count};
+use design_table::{
+    Code, DesignFault, EdgeEntry, EntryKind, Key, Place, Sheet, TrainEntry, VehicleEntry,
+    WithinEntry,
+};
+
+/// Refuses a place where a number or a count is out of range.
+fn refuse_unless(is_good: bool, place: Place) -> Result<(), DesignFault>
+    ensures { Reads (λ x. x) result Code.D05 (at (not is_good) place) tt }
+{
+    if is_good {
+        Ok(())
+    } else {
+        Err(DesignFault::Refused {
+            code: Code::D05,
+            place,
+        })
+    }
+}
+
+/// Refuses a number that is not from `low` to `high`.
+#[tactic(auto, unfolding(crate::specs::Limits::unless_from))]
+fn refuse_unless_from(low: u32, high: u32, number: i64, place: Place) -> Result<(), DesignFault>
+    ensures { Reads (λ x. x) result Code.D05 (unless_from low high number place) tt }
+{
+    refuse_unless(i64::from(low) <= number && number <= i64::from(high), place)
+}
+
+#[tactic(auto, using(crate::proofs::Places::walk))]
+impl<'a> Limited for EdgeEntry<'a> {
+    ghost Spelled = { SpelledEdge };
+
+    ghost seen = { λ e. edge_seen e };
+
+    ghost outside = { λ i e. edge_outside i e };
+
+    fn refuse_outside(&self, number: u64) -> Result<(), DesignFault> {
+        let kind = EntryKind::Edge;
+        refuse_unless_from(
+            1,
+            10_000_000,
+            self.length_mm,
+            Place::Field(kind, number, Key::LengthMm),
+        )?;
+        refuse_unless_from(
+            1,
+            100_000,
+            self.speed_mm_s,
+            Place::Field(kind, number, Key::SpeedMmS),
+        )
+    }
+}
+
+#[tactic(auto, using(crate::proofs::Places::walk))]
+impl<'a> Limited for VehicleEntry<'a> {
+    ghost Spelled = { SpelledVehicle };
+
+    ghost seen = { λ v. vehicle_seen v };
+
+    ghost outside = { λ i v. vehicle_outside i v };
+
+    fn refuse_outside(&self, number: u64) -> Result<(), DesignFault> {
+        let kind = EntryKind::Vehicle;
+        refuse_unless_from(
+            1,
+            2_000_000,
+            self.length_mm,
+            Place::Field(kind, number, Key::LengthMm),
+        )?;
+        refuse_unless_from(
+            1,
+            100_000,
+            self.accel_mm_s2,
+            Place::Field(kind, number, Key::AccelMmS2),
+        )?;
+        refuse_unless_from(
+            1,
+            100_000,
+            self.brake_mm_s2,
+            Place::Field(kind, number, Key::BrakeMmS2),
+        )?;
+        refuse_unless_from(
+            1,
+            100_000,
+            self.speed_mm_s,
+            Place::Field(kind, number, Key::SpeedMmS),
+        )
+    }
+}
+
+/// Whether a count is from the one to the other.
+fn is_count(low: usize, high: usize, count: usize) -> bool
+    ensures { result ≡ is_from low high count }
+{
+    low <= count && count <= high
+}
+
+/// Whether each visit has 1 to 64 nodes.
+fn are_few_nodes(visits: &[Vec<&str>]) -> bool
+    ensures { result ≡ list_all (λ visit. is_from 1 64 (length visit.items)) visits.now }
+{
+    visits.iter().all(|visit| is_count(1, 64, visit.len()))
+}
+
+/// Whether there are 1 to 16 visits of 1 to 64 nodes.
+#[tactic(auto, using(crate::proofs::Visits::few_visits))]
+fn are_few_visits(visits: &[Vec<&str>]) -> bool
+    ensures { result ≡ are_few_visits (visits_seen visits.now) }
+{
+    is_count(1, 16, visits.len()) && are_few_nodes(visits)
+}
+
+#[tactic(auto, using(crate::proofs::Places::walk))]
+impl<'a> Limited for TrainEntry<'a> {
+    ghost Spelled = { SpelledTrain };
+
+    ghost seen = { λ t. train_seen t };
+
+    ghost outside = { λ i t. train_outside i t };
+
+    fn refuse_outside(&self, number: u64) -> Result<(), DesignFault> {
+        let place = Place::Field(EntryKind::Train, number, Key::Visits);
+        refuse_unless(are_few_visits(self.visits.as_slice()), place)
+    }
+}
+
+#[tactic(auto, using(crate::proofs::Places::walk))]
+impl<'a> Limited for WithinEntry<'a> {
+    ghost Spelled = { SpelledWithin };
+
+    ghost seen = { λ w. within_seen w };
+
+    ghost outside = { λ i w. within_outside i w };
+
+    fn refuse_outside(&self, number: u64) -> Result<(), DesignFault> {
+        let place = Place::Field(EntryKind::Within, number, Key::MaxMs);
+        refuse_unless_from(0, 86_400_000, self.max_ms, place)
+    }
+}
+
+/// How many ticks a horizon gives; 0 where a tick has no length.
+fn ticks_of(horizon_ms: i64, tick_ms: i64) -> u64
+    ensures { result ≡ nat_abs horizon_ms / nat_abs tick_ms }
+{
+    match horizon_ms
+        .unsigned_abs()
+        .checked_div(tick_ms.unsigned_abs())
+    {
+        Some(ticks) => ticks,
+        None => 0,
+    }
+}
+
+/// Whether a horizon is 1 ms or more, and at most 86,400 ticks.
+fn is_horizon(horizon_ms: i64, tick_ms: i64) -> bool
+    ensures { result ≡ is_horizon horizon_ms tick_ms }
+{
+    1 <= horizon_ms && ticks_of(horizon_ms, tick_ms) <= 86_400
+}
+
+/// The version, the tick and the horizon.
+#[tactic(auto, using(crate::proofs::Places::walk), unfolding(crate::specs::Limits::times_outside))]
+fn refuse_times(sheet: &Sheet) -> Result<(), DesignFault>
+    ensures { Reads (λ x. x) result Code.D05 (times_outside (sheet_seen sheet.now)) tt }
+{
+    refuse_unless_from(1, 1, sheet.version, Place::Top(Key::Version))?;
+    refuse_unless_from(100, 1000, sheet.tick_ms, Place::Top(Key::TickMs))?;
+    let is_good = is_horizon(sheet.horizon_ms, sheet.tick_ms);
+    refuse_unless(is_good, Place::Top(Key::HorizonMs))
+}
+
+/// Refuses too many nodes.
+#[tactic(auto, using(crate::proofs::Visits::count_seen))]
+fn refuse_nodes(sheet: &Sheet) -> Result<(), DesignFault>
+    ensures { Reads (λ x. x) result Code.D05 (count_outside 0 2000 Key.Node (sheet_seen sheet.now).nodes) tt }
+{
+    refuse_count(0, 2000, Key::Node, sheet.nodes.as_slice())
+}
+
+/// Refuses too many edges, and edges with numbers out of range.
+fn refuse_edges(sheet: &Sheet) -> Result<(), DesignFault>
+    ensures { Reads (λ x. x) result Code.D05 (array_outside edge_outside 0 4000 Key.Edge (sheet_seen sheet.now).edges) tt }
+{
+    refuse_array(0, 4000, Key::Edge, sheet.edges.as_slice())
+}
+
+/// Refuses too many signals.
+#[tactic(auto, using(crate::proofs::Visits::count_seen))]
+fn refuse_signals(sheet: &Sheet) -> Result<(), DesignFault>
+    ensures { Reads (λ x. x) result Code.D05 (count_outside 0 1000 Key.Signal (sheet_seen sheet.now).signals) tt }
+{
+    refuse_count(0, 1000, Key::Signal, sheet.signals.as_slice())
+}
+
+/// Refuses too many vehicles, and vehicles with numbers out of range.
+fn refuse_vehicles(sheet: &Sheet) -> Result<(), DesignFault>
+    ensures { Reads (λ x. x) result Code.D05 (array_outside vehicle_outside 0 64 Key.Vehicle (sheet_seen sheet.now).vehicles) tt }
+{
+    refuse_array(0, 64, Key::Vehicle, sheet.vehicles.as_slice())
+}
+
+/// Refuses no train or too many, and trains with too few or too many visits.
+fn refuse_trains(sheet: &Sheet) -> Result<(), DesignFault>
+    ensures { Reads (λ x. x) result Code.D05 (array_outside train_outside 1 32 Key.Train (sheet_seen sheet.now).trains) tt }
+{
+    refuse_array(1, 32, Key::Train, sheet.trains.as_slice())
+}
+
+/// Refuses too many orders.
+#[tactic(auto, using(crate::proofs::Visits::count_seen))]
+fn refuse_orders(sheet: &Sheet) -> Result<(), DesignFault>
+    ensures { Reads (λ x. x) result Code.D05 (count_outside 0 256 Key.Order (sheet_seen sheet.now).orders) tt }
+{
+    refuse_count(0, 256, Key::Order, sheet.orders.as_slice())
+}
+
+/// Refuses too many withins, and withins with numbers out of range.
+fn refuse_withins(sheet: &Sheet) -> Result<(), DesignFault>
+    ensures { Reads (λ x. x) result Code.D05 (array_outside within_outside 0 256 Key.Within (sheet_seen sheet.now).withins) tt }
+{
+    refuse_array(0, 256, Key::Within, sheet.withins.as_slice())
+}
+
+/// Refuses nodes, edges and signals.
+#[tactic(auto, using(crate::proofs::Places::walk), unfolding(crate::specs::Limits::track_outside))]
+fn refuse_track(sheet: &Sheet) -> Result<(), DesignFault>
+    ensures { Reads (λ x. x) result Code.D05 (track_outside (sheet_seen sheet.now)) tt }
+{
+    refuse_nodes(sheet)?;
+    refuse_edges(sheet)?;
+    refuse_signals(sheet)
+}
+
+/// Refuses vehicles and trains, orders and withins.
+#[tactic(auto, using(crate::proofs::Places::walk), unfolding(crate::specs::Limits::traffic_outside))]
+fn refuse_traffic(sheet: &Sheet) -> Result<(), DesignFault>
+    ensures { Reads (λ x. x) result Code.D05 (traffic_outside (sheet_seen sheet.now)) tt }
+{
+    refuse_vehicles(sheet)?;
+    refuse_trains(sheet)?;
+    refuse_orders(sheet)?;
+    refuse_withins(sheet)
+}
+
+/// Refuses numbers and counts that are out of range. Visit numbers are excepted.
+#[tactic(auto, using(crate::proofs::Places::walk), unfolding(crate::specs::Limits::out_of_range))]
+pub fn refuse_outside(sheet: &Sheet) -> Result<(), DesignFault>
+    ensures { Reads (λ x. x) result Code.D05 (out_of_range (sheet_seen sheet.now)) tt }
+{
+    refuse_times(sheet)?;
+    refuse_track(sheet)?;
+    refuse_traffic(sheet)
+}

@@ -1,0 +1,405 @@
+//! The station of a sheet, by the numbers of its names: D04.
+
+ghost use Rattle.std.specs.Prelude.{◌≡◌, ◌+◌, map, not, IfOk, IfErr, [], ◌++◌};
+ghost use Rattle.std.specs.List.{list_all};
+ghost use Rattle.design_table.specs.Reads.{Reads, at, in_each};
+ghost use Rattle.design_table.specs.Spelled.{SpelledNode, SpelledEdge, SpelledSignal, SpelledVehicle, SpelledTrain, SpelledOrder, SpelledWithin};
+ghost use Rattle.design_table.specs.Views.{node_seen, edge_seen, signal_seen, vehicle_seen, train_seen, order_seen, within_seen, sheet_seen};
+ghost use Rattle.infra_reader.specs.Names.{is_among, number_in};
+ghost use Rattle.infra_reader.specs.Unknown.{unless_among, edge_unknown, signal_unknown, train_unknown, order_unknown, within_unknown, track_unknown, traffic_unknown};
+ghost use Rattle.infra_reader.specs.Stations.{number_32, nodes_in, side_of, node_in, edge_in, signal_in, vehicle_in, train_in, order_in, within_in, station_in};
+ghost use Rattle.design_table.specs.declared.fault.DesignFault.TheVariants.{Memory};
+ghost use Rattle.infra_reader.specs.Parts.{track_in, traffic_in};
+ghost use Rattle.infra_reader.specs.Seen.{texts, visits_seen, names_seen};
+
+use crate::names::{Names, number_at, number_of};
+use crate::walk::{Resolve, resolve_each};
+use design_table::{
+    Code, DesignFault, EdgeEntry, EntryKind, Key, NodeEntry, OrderEntry, Place, Sheet, SignalEntry,
+    TrainEntry, VehicleEntry, WithinEntry,
+};
+use indexmap::IndexSet;
+use rail_base::list::{List, Name};
+use rail_base::station::{
+    Edge, End, Node, NodeNo, Order, SectionNo, Side, Signal, Station, Train, TrainNo, Vehicle,
+    VehicleNo, Within,
+};
+use std::alloc::{AllocError, Global};
+
+/// The number, or 0 where it is none of 32 bits.
+fn number_32(whole: i64) -> u32
+    ensures { result ≡ number_32 whole }
+{
+    u32::try_from(whole).unwrap_or(0)
+}
+
+/// The side of a node.
+fn side_of(side: design_table::Side) -> Side
+    ensures { result ≡ side_of side }
+{
+    match side {
+        design_table::Side::A => Side::A,
+        design_table::Side::B => Side::B,
+    }
+}
+
+/// A name of its own.
+fn owned(alloc: Global, text: &str) -> Result<Name, AllocError>
+    ensures { IfOk result (λ name. name ≡ text.now) }
+{
+    Ok(Name::from_vec(Vec::from_slice(alloc, text.as_bytes())?))
+}
+
+impl<'a> Resolve for NodeEntry<'a> {
+    type Resolved = Node;
+
+    ghost Spelled = { SpelledNode };
+
+    ghost seen = { λ n. node_seen n };
+
+    ghost unknown = { λ names i n. [] };
+
+    ghost resolved = { λ names n. node_in names n };
+
+    fn resolve(&self, alloc: Global, _names: &Names, _number: u64) -> Result<Node, DesignFault> {
+        Ok(Node {
+            name: owned(alloc, self.name)?,
+            boundary: self.boundary,
+        })
+    }
+}
+
+impl<'a> Resolve for EdgeEntry<'a> {
+    type Resolved = Edge;
+
+    ghost Spelled = { SpelledEdge };
+
+    ghost seen = { λ e. edge_seen e };
+
+    ghost unknown = { λ names i e. edge_unknown names i e };
+
+    ghost resolved = { λ names e. edge_in names e };
+
+    fn resolve(&self, alloc: Global, names: &Names, number: u64) -> Result<Edge, DesignFault> {
+        let kind = EntryKind::Edge;
+        let from = number_at(
+            &names.nodes,
+            self.from,
+            Place::Field(kind, number, Key::From),
+        )?;
+        let to = number_at(&names.nodes, self.to, Place::Field(kind, number, Key::To))?;
+        let section = number_of(&names.sections, self.section)?;
+        let name = owned(alloc, self.name)?;
+        Ok(Edge {
+            name,
+            from: End {
+                node: NodeNo(from),
+                side: side_of(self.from_side),
+            },
+            to: End {
+                node: NodeNo(to),
+                side: side_of(self.to_side),
+            },
+            length_mm: number_32(self.length_mm),
+            speed_mm_s: number_32(self.speed_mm_s),
+            section: SectionNo(section),
+        })
+    }
+}
+
+impl<'a> Resolve for SignalEntry<'a> {
+    type Resolved = Signal;
+
+    ghost Spelled = { SpelledSignal };
+
+    ghost seen = { λ s. signal_seen s };
+
+    ghost unknown = { λ names i s. signal_unknown names i s };
+
+    ghost resolved = { λ names s. signal_in names s };
+
+    fn resolve(&self, alloc: Global, names: &Names, number: u64) -> Result<Signal, DesignFault> {
+        let place = Place::Field(EntryKind::Signal, number, Key::Node);
+        let node = number_at(&names.nodes, self.node, place)?;
+        let name = owned(alloc, self.name)?;
+        Ok(Signal {
+            name,
+            node: NodeNo(node),
+            toward: side_of(self.toward),
+        })
+    }
+}
+
+impl<'a> Resolve for VehicleEntry<'a> {
+    type Resolved = Vehicle;
+
+    ghost Spelled = { SpelledVehicle };
+
+    ghost seen = { λ v. vehicle_seen v };
+
+    ghost unknown = { λ names i v. [] };
+
+    ghost resolved = { λ names v. vehicle_in names v };
+
+    fn resolve(&self, alloc: Global, _names: &Names, _number: u64) -> Result<Vehicle, DesignFault> {
+        let name = owned(alloc, self.name)?;
+        Ok(Vehicle {
+            name,
+            length_mm: number_32(self.length_mm),
+            accel_mm_s2: number_32(self.accel_mm_s2),
+            brake_mm_s2: number_32(self.brake_mm_s2),
+            speed_mm_s: number_32(self.speed_mm_s),
+        })
+    }
+}
+
+/// The nodes of a visit, or the refusal of the place where one of them is not there.
+fn visit_nodes(
+    alloc: Global,
+    nodes: &IndexSet<&str>,
+    visit: &[&str],
+    place: Place,
+) -> Result<List<NodeNo>, DesignFault>
+    ensures { let names = texts nodes.now.keys in Reads (λ x. x) result Code.D04 (at (not (list_all (is_among names) (texts visit.now))) place) (nodes_in names (texts visit.now)) }
+{
+    let mut numbers = Vec::new(alloc);
+    for name in visit {
+        numbers.push(NodeNo(number_at(nodes, name, place)?))?;
+    }
+    Ok(List::from_vec(numbers))
+}
+
+/// The nodes of each visit, or the refusal of the place where one of them is not there.
+fn visits_nodes(
+    alloc: Global,
+    nodes: &IndexSet<&str>,
+    visits: &[Vec<&str>],
+    place: Place,
+) -> Result<List<List<NodeNo>>, DesignFault>
+    ensures { let names = texts nodes.now.keys in Reads (λ x. x) result Code.D04 (at (not (list_all (list_all (is_among names)) (visits_seen visits.now))) place) (map (nodes_in names) (visits_seen visits.now)) }
+{
+    let mut numbers = Vec::new(alloc);
+    for visit in visits {
+        numbers.push(visit_nodes(alloc, nodes, visit.as_slice(), place)?)?;
+    }
+    Ok(List::from_vec(numbers))
+}
+
+impl<'a> Resolve for TrainEntry<'a> {
+    type Resolved = Train;
+
+    ghost Spelled = { SpelledTrain };
+
+    ghost seen = { λ t. train_seen t };
+
+    ghost unknown = { λ names i t. train_unknown names i t };
+
+    ghost resolved = { λ names t. train_in names t };
+
+    fn resolve(&self, alloc: Global, names: &Names, number: u64) -> Result<Train, DesignFault> {
+        let kind = EntryKind::Train;
+        let vehicle_place = Place::Field(kind, number, Key::Vehicle);
+        let visits_place = Place::Field(kind, number, Key::Visits);
+        let vehicle = number_at(&names.vehicles, self.vehicle, vehicle_place)?;
+        let visits = visits_nodes(alloc, &names.nodes, self.visits.as_slice(), visits_place)?;
+        let name = owned(alloc, self.name)?;
+        Ok(Train {
+            name,
+            vehicle: VehicleNo(vehicle),
+            visits,
+        })
+    }
+}
+
+impl<'a> Resolve for OrderEntry<'a> {
+    type Resolved = Order;
+
+    ghost Spelled = { SpelledOrder };
+
+    ghost seen = { λ o. order_seen o };
+
+    ghost unknown = { λ names i o. order_unknown names i o };
+
+    ghost resolved = { λ names o. order_in names o };
+
+    fn resolve(&self, _alloc: Global, names: &Names, number: u64) -> Result<Order, DesignFault> {
+        let kind = EntryKind::Order;
+        let first_place = Place::Field(kind, number, Key::FirstTrain);
+        let then_place = Place::Field(kind, number, Key::ThenTrain);
+        let first = number_at(&names.trains, self.first_train, first_place)?;
+        let then = number_at(&names.trains, self.then_train, then_place)?;
+        Ok(Order {
+            first_train: TrainNo(first),
+            first_visit: number_32(self.first_visit),
+            then_train: TrainNo(then),
+            then_visit: number_32(self.then_visit),
+        })
+    }
+}
+
+impl<'a> Resolve for WithinEntry<'a> {
+    type Resolved = Within;
+
+    ghost Spelled = { SpelledWithin };
+
+    ghost seen = { λ w. within_seen w };
+
+    ghost unknown = { λ names i w. within_unknown names i w };
+
+    ghost resolved = { λ names w. within_in names w };
+
+    fn resolve(&self, _alloc: Global, names: &Names, number: u64) -> Result<Within, DesignFault> {
+        let kind = EntryKind::Within;
+        let from_place = Place::Field(kind, number, Key::FromTrain);
+        let to_place = Place::Field(kind, number, Key::ToTrain);
+        let from = number_at(&names.trains, self.from_train, from_place)?;
+        let to = number_at(&names.trains, self.to_train, to_place)?;
+        Ok(Within {
+            from_train: TrainNo(from),
+            from_visit: number_32(self.from_visit),
+            to_train: TrainNo(to),
+            to_visit: number_32(self.to_visit),
+            max_ms: number_32(self.max_ms),
+        })
+    }
+}
+
+/// Names of their own.
+fn owned_each(alloc: Global, names: &[&str]) -> Result<List<Name>, AllocError>
+    ensures { IfOk result (λ owned. owned ≡ texts names.now) }
+{
+    let mut copies = Vec::new(alloc);
+    for name in names {
+        copies.push(owned(alloc, name)?)?;
+    }
+    Ok(List::from_vec(copies))
+}
+
+/// The nodes of the station.
+fn resolve_nodes(alloc: Global, names: &Names, sheet: &Sheet) -> Result<List<Node>, DesignFault>
+    ensures ok { IfOk result (λ nodes. nodes ≡ map (node_in (names_seen names.now)) (sheet_seen sheet.now).nodes) }
+    ensures err { IfErr result (λ fault. fault ≡ Memory) }
+{
+    resolve_each(alloc, names, sheet.nodes.as_slice())
+}
+
+/// The edges of the station.
+fn resolve_edges(alloc: Global, names: &Names, sheet: &Sheet) -> Result<List<Edge>, DesignFault>
+    ensures { let known = names_seen names.now in let edges = (sheet_seen sheet.now).edges in Reads (λ x. x) result Code.D04 (in_each (edge_unknown known) edges) (map (edge_in known) edges) }
+{
+    resolve_each(alloc, names, sheet.edges.as_slice())
+}
+
+/// The signals of the station.
+fn resolve_signals(alloc: Global, names: &Names, sheet: &Sheet) -> Result<List<Signal>, DesignFault>
+    ensures { let known = names_seen names.now in let signals = (sheet_seen sheet.now).signals in Reads (λ x. x) result Code.D04 (in_each (signal_unknown known) signals) (map (signal_in known) signals) }
+{
+    resolve_each(alloc, names, sheet.signals.as_slice())
+}
+
+/// The vehicles of the station.
+fn resolve_vehicles(
+    alloc: Global,
+    names: &Names,
+    sheet: &Sheet,
+) -> Result<List<Vehicle>, DesignFault>
+    ensures ok { IfOk result (λ vehicles. vehicles ≡ map (vehicle_in (names_seen names.now)) (sheet_seen sheet.now).vehicles) }
+    ensures err { IfErr result (λ fault. fault ≡ Memory) }
+{
+    resolve_each(alloc, names, sheet.vehicles.as_slice())
+}
+
+/// The trains of the station.
+fn resolve_trains(alloc: Global, names: &Names, sheet: &Sheet) -> Result<List<Train>, DesignFault>
+    ensures { let known = names_seen names.now in let trains = (sheet_seen sheet.now).trains in Reads (λ x. x) result Code.D04 (in_each (train_unknown known) trains) (map (train_in known) trains) }
+{
+    resolve_each(alloc, names, sheet.trains.as_slice())
+}
+
+/// The orders of the station.
+fn resolve_orders(alloc: Global, names: &Names, sheet: &Sheet) -> Result<List<Order>, DesignFault>
+    ensures { let known = names_seen names.now in let orders = (sheet_seen sheet.now).orders in Reads (λ x. x) result Code.D04 (in_each (order_unknown known) orders) (map (order_in known) orders) }
+{
+    resolve_each(alloc, names, sheet.orders.as_slice())
+}
+
+/// The withins of the station.
+fn resolve_withins(alloc: Global, names: &Names, sheet: &Sheet) -> Result<List<Within>, DesignFault>
+    ensures { let known = names_seen names.now in let withins = (sheet_seen sheet.now).withins in Reads (λ x. x) result Code.D04 (in_each (within_unknown known) withins) (map (within_in known) withins) }
+{
+    resolve_each(alloc, names, sheet.withins.as_slice())
+}
+
+/// The track of a station.
+#[derive(Drop)]
+struct Track {
+    nodes: List<Node>,
+    edges: List<Edge>,
+    sections: List<Name>,
+    signals: List<Signal>,
+}
+
+/// The traffic of a station.
+#[derive(Drop)]
+struct Traffic {
+    vehicles: List<Vehicle>,
+    trains: List<Train>,
+    orders: List<Order>,
+    withins: List<Within>,
+}
+
+/// The track, or the refusal of a name that is not there.
+#[tactic(auto, using(crate::proofs::Places::walk), unfolding(crate::specs::Unknown::track_unknown))]
+fn resolve_track(alloc: Global, names: &Names, sheet: &Sheet) -> Result<Track, DesignFault>
+    ensures { let known = names_seen names.now in Reads (λ x. x) result Code.D04 (track_unknown known (sheet_seen sheet.now)) (track_in known (sheet_seen sheet.now)) }
+{
+    let nodes = resolve_nodes(alloc, names, sheet)?;
+    let edges = resolve_edges(alloc, names, sheet)?;
+    let signals = resolve_signals(alloc, names, sheet)?;
+    let sections = owned_each(alloc, names.sections.as_slice())?;
+    Ok(Track {
+        nodes,
+        edges,
+        sections,
+        signals,
+    })
+}
+
+/// The traffic, or the refusal of a name that is not there.
+#[tactic(auto, using(crate::proofs::Places::walk), unfolding(crate::specs::Unknown::traffic_unknown))]
+fn resolve_traffic(alloc: Global, names: &Names, sheet: &Sheet) -> Result<Traffic, DesignFault>
+    ensures { let known = names_seen names.now in Reads (λ x. x) result Code.D04 (traffic_unknown known (sheet_seen sheet.now)) (traffic_in known (sheet_seen sheet.now)) }
+{
+    let vehicles = resolve_vehicles(alloc, names, sheet)?;
+    let trains = resolve_trains(alloc, names, sheet)?;
+    let orders = resolve_orders(alloc, names, sheet)?;
+    let withins = resolve_withins(alloc, names, sheet)?;
+    Ok(Traffic {
+        vehicles,
+        trains,
+        orders,
+        withins,
+    })
+}
+
+/// The station, or the refusal of a name that is not there.
+#[tactic(auto, using(crate::proofs::Places::walk))]
+pub fn resolve(alloc: Global, names: &Names, sheet: &Sheet) -> Result<Station, DesignFault>
+    ensures { let known = names_seen names.now in let spelled = sheet_seen sheet.now in Reads (λ x. x) result Code.D04 (track_unknown known spelled ++ traffic_unknown known spelled) (station_in known spelled) }
+{
+    let track = resolve_track(alloc, names, sheet)?;
+    let traffic = resolve_traffic(alloc, names, sheet)?;
+    Ok(Station {
+        version: number_32(sheet.version),
+        tick_ms: number_32(sheet.tick_ms),
+        horizon_ms: number_32(sheet.horizon_ms),
+        nodes: track.nodes,
+        edges: track.edges,
+        sections: track.sections,
+        signals: track.signals,
+        vehicles: traffic.vehicles,
+        trains: traffic.trains,
+        orders: traffic.orders,
+        withins: traffic.withins,
+    })
+}
