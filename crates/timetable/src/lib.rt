@@ -1,0 +1,12 @@
+//! The text of what a run shows: how it ends, and what happened to each train with the ticks.
+#![tactic(auto)]
+
+mod ending;
+mod events;
+mod names;
+#[cfg(test)]
+mod tests;
+mod text;
+mod trains;
+
+pub use text::{timetable, timetable_lines};
