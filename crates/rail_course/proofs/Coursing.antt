@@ -1,0 +1,208 @@
+-- The courses of all trains, by their numbers, and what stands before a command on its path.
+use Rattle.std.proofs.Common.{◌≡◌, ℕ, zero, suc, ◌+◌, ◌-◌, ◌<◌, ◌≤◌, Bool, true, false, ◌||◌, if◌then◌else◌, List, [], ◌∷◌, ◌++◌, map, flat_map, length, take, fold, max, get_or, drop, sum_by, refl, sym, ap, ◌∙◌, append_assoc, arith, length-append}
+use Rattle.std.specs.List.{list_any}
+use Rattle.std.proofs.lemmas.List.{map-append, drop_more}
+use Rattle.std.proofs.lemmas.List.Sums.{sum_by-cons}
+use Rattle.rail_base.specs.declared.station.Station.{Station}
+use Rattle.rail_base.specs.declared.station.SectionNo.{SectionNo}
+use Rattle.rail_base.specs.declared.station.TrainNo.{TrainNo}
+use Rattle.rail_base.specs.declared.route.Route.{Route}
+use Rattle.rail_base.specs.declared.route.RouteNo.{RouteNo}
+use Rattle.rail_base.specs.declared.plan.Command.{Command}
+use Rattle.rail_base.specs.Numbering.{count_from, before_first}
+use Rattle.rail_base.specs.Stations.{IsTrain}
+use Rattle.rail_spec.specs.Plans.{path, path_routes, is_route}
+use Rattle.rail_spec.specs.Run.{routes_before}
+use Rattle.rail_base.specs.Routes.{route_at, length_mm, exits, release_offset}
+use Rattle.rail_base.proofs.Members.{get_or-counted}
+use Rattle.rail_base.proofs.Lists.{length-map}
+use Rattle.rail_course.specs.declared.course.Course.{Course}
+use Rattle.rail_course.specs.declared.fronts.Front.{Front}
+use Rattle.rail_course.specs.declared.waits.Wait.{Wait}
+use Rattle.rail_course.specs.Fronts.{front_of, longer, fronts_from, no_front}
+use Rattle.rail_course.specs.Tracks.{routes_at, way}
+use Rattle.rail_course.specs.Courses.{IsCourse, AreCourses}
+
+-- ---- numbers in a row
+
+pub count_step : (n many : ℕ) → n < many + 1 → count_from n (many + 1 - n) ≡ n ∷ count_from (n + 1) (many + 1 - (n + 1))
+count_step n many h = let e : many + 1 - n ≡ suc (many + 1 - (n + 1)) = omega arith in ap (count_from n) e
+
+length-count : (a n : ℕ) → length (count_from a n) ≡ n
+length-count a zero = refl
+length-count a (suc n) = ap suc (length-count (a + 1) n)
+
+-- ---- courses by the numbers of their trains
+
+module _ (d : Station) (routes : List Route) (plan : List (List Command)) (cs : List Course) (h : AreCourses d routes plan cs) where
+  pub many_courses : length cs ≡ length d.trains
+  many_courses = sym (length-map (λ (c : Course). c.train) cs) ∙ ap length h.all ∙ length-map (λ (n : ℕ). record { 0 = n }) (count_from 1 (length d.trains)) ∙ length-count 1 (length d.trains)
+
+  at_map : (xs : List Course) (k : ℕ) (c : Course) (t : TrainNo) → k < length xs → (get_or xs k c).train ≡ get_or (map (λ (c : Course). c.train) xs) k t
+  at_map [] k c t l = absurd (omega arith)
+  at_map (x ∷ xs) zero c t l = refl
+  at_map (x ∷ xs) (suc k) c t l = at_map xs k c t (omega arith)
+
+  -- the course at a train's place is its course
+  pub train_at : (t : TrainNo) (c : Course) → IsTrain d t → (get_or cs (t.0 - 1) c).train ≡ t
+  train_at t c there =
+      let many = many_courses in
+      let low = there.0 in
+      let high = there.1 in
+      let one : 1 + (t.0 - 1) ≡ t.0 = omega arith in
+      at_map cs (t.0 - 1) c t (omega arith) ∙ ap (λ ts. get_or ts (t.0 - 1) t) h.all ∙ get_or-counted (λ (n : ℕ). record { 0 = n }) 1 (length d.trains) (t.0 - 1) t (omega arith) ∙ ap (λ (n : ℕ). record { 0 = n }) one
+
+  pub course_at : (t : TrainNo) (c : Course) → IsTrain d t → IsCourse d routes plan (get_or cs (t.0 - 1) c)
+  course_at t c there =
+      let many = many_courses in
+      let low = there.0 in
+      let high = there.1 in
+      h.each (t.0 - 1) c (omega arith)
+
+-- ---- fronts
+
+length-fronts : (f : Front) (rs : List Route) → length (fronts_from f rs) ≡ length rs + 1
+length-fronts f [] = refl
+length-fronts f (r ∷ rs) = let e = length-fronts (longer f r) rs in omega arith
+
+pub many_fronts : (rs : List Route) → length (fronts_from no_front rs) ≡ length rs + 1
+many_fronts rs = length-fronts no_front rs
+
+-- two fronts behind one another
+abbrev joined : Front → Front → Front
+joined f g = record { spans = f.spans + g.spans; length = f.length + g.length; exits = f.exits || g.exits }
+
+abbrev front : ℕ → ℕ → Bool → Front
+front a m c = record { spans = a; length = m; exits = c }
+
+front_same : (a b m n : ℕ) (c e : Bool) → a ≡ b → m ≡ n → c ≡ e → front a m c ≡ front b n e
+front_same a b m n c e p q r = cc
+
+or-none : (b : Bool) → b ≡ (b || false)
+or-none true = refl
+or-none false = refl
+
+or-assoc : (a b c : Bool) → ((a || b) || c) ≡ (a || (b || c))
+or-assoc true b c = refl
+or-assoc false b c = refl
+
+joined-none : (f : Front) → f ≡ joined f (front_of [])
+joined-none f = front_same f.spans (f.spans + 0) f.length (f.length + 0) f.exits (f.exits || false) (omega arith) (omega arith) (or-none f.exits)
+
+joined-more : (f : Front) (r : Route) (rs : List Route) → joined (longer f r) (front_of rs) ≡ joined f (front_of (r ∷ rs))
+joined-more f r rs =
+    let more = length-append r.edges (flat_map (λ (q : Route). q.edges) rs) in
+    let way_more = sum_by-cons length_mm r rs in
+    front_same (f.spans + length r.edges + length (flat_map (λ (q : Route). q.edges) rs)) (f.spans + length (flat_map (λ (q : Route). q.edges) (r ∷ rs))) (f.length + length_mm r + sum_by length_mm rs) (f.length + sum_by length_mm (r ∷ rs)) _ _
+    (omega (arith, more)) (omega (arith, way_more)) (or-assoc f.exits (exits r) (list_any exits rs))
+
+front_after : (f : Front) (rs : List Route) (g : ℕ) (other : Front) → g ≤ length rs → get_or (fronts_from f rs) g other ≡ joined f (front_of (take g rs))
+front_after f [] zero other l = joined-none f
+front_after f [] (suc g) other l = absurd (omega arith)
+front_after f (r ∷ rs) zero other l = joined-none f
+front_after f (r ∷ rs) (suc g) other l = front_after (longer f r) rs g other (omega arith) ∙ joined-more f r (take g rs)
+
+-- the front of so many routes
+pub front_at : (rs : List Route) (g : ℕ) (other : Front) → g ≤ length rs → get_or (fronts_from no_front rs) g other ≡ front_of (take g rs)
+front_at rs g other l =
+    let f = front_of (take g rs) in
+    front_after no_front rs g other l ∙ front_same (0 + f.spans) f.spans (0 + f.length) f.length f.exits f.exits (omega arith) (omega arith) refl
+
+-- ---- what stands before a route
+
+pub before_take : {X : Type 0} (test : X → Bool) (xs : List X) → take (length (before_first test xs)) xs ≡ before_first test xs
+before_take test [] = refl
+before_take test (x ∷ xs) = go (test x) (before_take test xs)
+  where
+    go : (b : Bool) → take (length (before_first test xs)) xs ≡ before_first test xs
+        → take (length (if b then [] else x ∷ before_first test xs)) (x ∷ xs) ≡ (if b then [] else x ∷ before_first test xs)
+    go true e = refl
+    go false e = ap (λ ys. x ∷ ys) e
+
+pub take-map : {X Y : Type 0} (f : X → Y) (g : ℕ) (xs : List X) → take g (map f xs) ≡ map f (take g xs)
+take-map f zero xs = refl
+take-map f (suc g) [] = refl
+take-map f (suc g) (x ∷ xs) = ap (λ ys. f x ∷ ys) (take-map f g xs)
+
+-- ---- release offsets and waits
+
+abbrev wait : TrainNo → ℕ → ℕ → Wait
+wait t n p = record { train = t; number = n; place = p }
+
+pub fold_within : {X : Type 0} (off : X → ℕ) (m a : ℕ) (zs : List X) → a ≤ m → ((z : X) → off z ≤ m) → fold max a (map off zs) ≤ m
+fold_within off m a [] low h = low
+fold_within off m a (z ∷ zs) low h = let k = h z in fold_within off m (max a (off z)) zs (omega arith) h
+
+pub way_within : (routes : List Route) (g : ℕ) (path : List RouteNo) → sum_by length_mm (take g (routes_at routes path)) ≤ way routes path
+way_within routes zero path = omega arith
+way_within routes (suc g) [] = omega arith
+way_within routes (suc g) (r ∷ rs) =
+    let a = sum_by-cons length_mm (route_at routes r) (take g (routes_at routes rs)) in
+    let b = sum_by-cons length_mm (route_at routes r) (routes_at routes rs) in
+    let l = way_within routes g rs in
+    omega arith
+
+-- ---- the course of a command's train
+
+before_within : {X : Type 0} (test : X → Bool) (xs : List X) → length (before_first test xs) ≤ length xs
+before_within test [] = omega arith
+before_within test (x ∷ xs) = go (test x) (before_within test xs)
+  where
+    go : (b : Bool) → length (before_first test xs) ≤ length xs → length (if b then [] else x ∷ before_first test xs) ≤ suc (length xs)
+    go true l = omega arith
+    go false l = omega arith
+
+module _ (d : Station) (routes : List Route) (plan : List (List Command)) (course : Course) (is : IsCourse d routes plan course) (e : Command) (same : course.train ≡ e.train) where
+  abbrev test : RouteNo → Bool
+  test = λ r. is_route r e.route
+
+  abbrev number : ℕ
+  number = length (before_first test course.path.items)
+
+  path_is : course.path.items ≡ path plan e.train
+  path_is = is.given ∙ ap (path plan) same
+
+  pub number_is : number ≡ length (routes_before d routes plan e)
+  number_is = ap (λ p. length (before_first test p)) path_is ∙ sym (length-map (route_at routes) (before_first test (path plan e.train)))
+
+  number_within : number ≤ length (path_routes routes plan course.train)
+  number_within =
+      let l = before_within test course.path.items in
+      let a = ap length is.given in
+      let b = length-map (route_at routes) (path plan course.train) in
+      omega arith
+
+  pub number_fits : number < length course.fronts.items
+  number_fits = let l = number_within in let a = ap length is.parts in let b = many_fronts (path_routes routes plan course.train) in omega arith
+
+  routes_before_is : take number (path_routes routes plan course.train) ≡ routes_before d routes plan e
+  routes_before_is =
+      ap (λ t. take number (path_routes routes plan t)) same ∙ take-map (route_at routes) number (path plan e.train)
+      ∙ ap (λ p. map (route_at routes) (take (length (before_first test p)) (path plan e.train))) path_is
+      ∙ ap (map (route_at routes)) (before_take test (path plan e.train))
+
+  pub front_is : (other : Front) → (get_or course.fronts.items number other).length ≡ sum_by length_mm (routes_before d routes plan e)
+  front_is other =
+      let there : get_or course.fronts.items number other ≡ front_of (take number (path_routes routes plan course.train)) = ap (λ fs. get_or fs number other) is.parts ∙ front_at (path_routes routes plan course.train) number other number_within in
+      ap (λ (g : Front). g.length) there ∙ ap (sum_by length_mm) routes_before_is
+
+  pub before_short : sum_by length_mm (routes_before d routes plan e) ≤ way routes (path plan e.train)
+  before_short =
+      let l = way_within routes number (path plan e.train) in
+      let s = ap (sum_by length_mm) (ap (λ t. take number (path_routes routes plan t)) (sym same) ∙ routes_before_is) in
+      omega arith
+
+pub wait_same : (t : TrainNo) (a b m n : ℕ) → a ≡ b → m ≡ n → wait t a m ≡ wait t b n
+wait_same t a b m n p q = cc
+
+-- ---- lists made one by one
+
+pub map_step : {X Y T : Type 0} (f : X → T) (g : Y → T) (old new : List X) (x : X) (ys : List Y) (k : ℕ) (y : Y) (all : List T) → k < length ys → y ≡ get_or ys k y → new ≡ old ++ x ∷ [] → f x ≡ g y
+    → map f old ++ map g (drop k ys) ≡ all → map f new ++ map g (drop (k + 1) ys) ≡ all
+map_step f g old new x ys k y all lt is made same before =
+    let rest = map g (drop (k + 1) ys) in
+    ap (λ xs. map f xs ++ rest) made ∙ ap (λ ts. ts ++ rest) (map-append f old (x ∷ [])) ∙ append_assoc (map f old) (f x ∷ []) rest
+    ∙ ap (λ t. map f old ++ (t ∷ rest)) same ∙ ap (λ zs. map f old ++ map g zs) (ap (λ z. z ∷ drop (k + 1) ys) is ∙ sym (drop_more ys k y lt)) ∙ before
+
+pub release_small : (a m : ℕ) (r q : Route) (z : SectionNo) → a ≡ release_offset r z → r ≡ q → ((y : SectionNo) → release_offset q y ≤ m) → a ≤ m
+release_small a m r q z e s h = let k = h z in let f = e ∙ ap (λ p. release_offset p z) s in omega arith

@@ -1,0 +1,75 @@
+-- A command may be granted exactly where all its waits are over.
+use Rattle.std.proofs.Common.{◌≡◌, ℕ, ◌+◌, ◌≤◌, inl, inr, Bool, true, false, ◌&&◌, nat_le, nat_lt, List, [], ◌∷◌, map, fold, max, sum_by, refl, sym, ap, ◌∙◌, arith, leb-true, le-leb}
+use Rattle.std.specs.List.{list_all}
+use Rattle.std.proofs.lemmas.List.Folds.{list_all-map}
+use Rattle.rail_base.specs.declared.station.Station.{Station}
+use Rattle.rail_base.specs.declared.station.SectionNo.{SectionNo}
+use Rattle.rail_base.specs.declared.route.Route.{Route}
+use Rattle.rail_base.specs.declared.plan.Command.{Command}
+use Rattle.rail_base.specs.declared.state.TrainState.{TrainState}
+use Rattle.rail_base.specs.Members.{In}
+use Rattle.rail_base.specs.Stations.{train_length}
+use Rattle.rail_base.specs.Routes.{route_at, shared, share, has_section, sections, release_offset, length_mm}
+use Rattle.rail_base.proofs.Members.{and_left, and_right, and_both, list_any_gives, in_filter, same_bool, in_filter}
+use Rattle.rail_base.proofs.Lists.{in_map, in_filter_back}
+use Rattle.rail_spec.specs.Plans.{contend, step_of, precedes, preceding, commands}
+use Rattle.rail_spec.specs.Dispatches.{state_of}
+use Rattle.rail_spec.specs.Run.{routes_before, is_granted, has_released, has_cleared, is_ready}
+use Rattle.rail_course.specs.Waits.{is_over, wait_for, waits_of}
+
+pub list_all-same : {X : Type 0} (p q : X → Bool) (xs : List X) → ((x : X) → In x xs → p x ≡ q x) → list_all p xs ≡ list_all q xs
+list_all-same p q [] h = refl
+list_all-same p q (x ∷ xs) h = ap (λ b. b && list_all p xs) (h x (inl refl)) ∙ ap (λ b. q x && b) (list_all-same p q xs (λ y m. h y (inr m)))
+
+-- the head is past the greatest of some places exactly where it is past each of them
+module _ {X : Type 0} (off : X → ℕ) (B L x : ℕ) where
+  greatest_is : (a m : ℕ) (zs : List X) → a ≤ m → B + m + L ≤ x → list_all (λ z. nat_le (B + off z + L) x) zs ≡ true → B + fold max a (map off zs) + L ≤ x
+  greatest_is a m [] low high h = omega arith
+  greatest_is a m (z ∷ zs) low high h =
+      let here = leb-true (B + off z + L) x (and_left (nat_le (B + off z + L) x) (list_all (λ z. nat_le (B + off z + L) x) zs) h) in
+      greatest_is (max a (off z)) (max m (off z)) zs (omega arith) (omega arith) (and_right (nat_le (B + off z + L) x) (list_all (λ z. nat_le (B + off z + L) x) zs) h)
+
+  fold_above : (a : ℕ) (zs : List X) → a ≤ fold max a (map off zs)
+  fold_above a [] = omega arith
+  fold_above a (z ∷ zs) = let l = fold_above (max a (off z)) zs in omega arith
+
+  each_is : (a : ℕ) (zs : List X) → B + fold max a (map off zs) + L ≤ x → list_all (λ z. nat_le (B + off z + L) x) zs ≡ true
+  each_is a [] h = refl
+  each_is a (z ∷ zs) h =
+      let l = fold_above (max a (off z)) zs in
+      and_both (nat_le (B + off z + L) x) _ (le-leb (B + off z + L) x (omega arith)) (each_is (max a (off z)) zs h)
+
+  pub past_greatest : (z : X) (zs : List X) → list_all (λ z. nat_le (B + off z + L) x) (z ∷ zs) ≡ nat_le (B + fold max 0 (map off (z ∷ zs)) + L) x
+  past_greatest z zs = same_bool _ _
+      (λ h. le-leb (B + fold max 0 (map off (z ∷ zs)) + L) x (greatest_is 0 0 (z ∷ zs) (omega arith) (let here = leb-true (B + off z + L) x (and_left (nat_le (B + off z + L) x) (list_all (λ z. nat_le (B + off z + L) x) zs) h) in omega arith) h))
+      (λ h. each_is 0 (z ∷ zs) (leb-true (B + fold max 0 (map off (z ∷ zs)) + L) x h))
+
+-- a test that all have in common comes once
+all_and : {X : Type 0} (g : Bool) (p : X → Bool) (z : X) (zs : List X) → list_all (λ y. g && p y) (z ∷ zs) ≡ (g && list_all p (z ∷ zs))
+all_and false p z zs = refl
+all_and true p z zs = refl
+
+module _ (d : Station) (routes : List Route) (plan : List (List Command)) (s : List TrainState) where
+  some_shared : (r q : Route) → share r q ≡ true → (z : SectionNo) × In z (shared r q)
+  some_shared r q h = let f = list_any_gives (λ p. has_section q p.0) r.sections h in (f.0.0, in_filter (has_section q) (sections r) f.0.0 (in_map (λ p. p.0) r.sections f.0 f.1) f.2)
+
+  over_when_cleared : (c e : Command) → share (route_at routes e.route) (route_at routes c.route) ≡ true → has_cleared d routes plan s c e ≡ is_over s (wait_for d routes plan c e)
+  over_when_cleared c e h = go (shared (route_at routes e.route) (route_at routes c.route)) (some_shared (route_at routes e.route) (route_at routes c.route) h).1
+    where
+      go : (zs : List SectionNo) → In (some_shared (route_at routes e.route) (route_at routes c.route) h).0 zs
+          → list_all (has_released d routes plan s e) zs ≡ (is_granted d routes plan s e && nat_le (sum_by length_mm (routes_before d routes plan e) + fold max 0 (map (release_offset (route_at routes e.route)) zs) + train_length d e.train) (state_of s e.train).x)
+      go [] m = absurd m
+      go (z ∷ zs) m =
+          all_and (is_granted d routes plan s e) (λ y. nat_le (sum_by length_mm (routes_before d routes plan e) + release_offset (route_at routes e.route) y + train_length d e.train) (state_of s e.train).x) z zs
+          ∙ ap (λ b. is_granted d routes plan s e && b) (past_greatest (release_offset (route_at routes e.route)) (sum_by length_mm (routes_before d routes plan e)) (train_length d e.train) (state_of s e.train).x z zs)
+
+  pub ready_when_over : (c : Command) → is_ready d routes plan s c ≡ list_all (is_over s) (waits_of d routes plan c)
+  ready_when_over c =
+      list_all-same (has_cleared d routes plan s c) (λ e. is_over s (wait_for d routes plan c e)) (preceding routes plan c) one
+      ∙ sym (list_all-map (is_over s) (wait_for d routes plan c) (preceding routes plan c))
+    where
+      one : (e : Command) → In e (preceding routes plan c) → has_cleared d routes plan s c e ≡ is_over s (wait_for d routes plan c e)
+      one e m =
+          let before = (in_filter_back (λ e. precedes routes plan e c) (commands plan) e m).1 in
+          let both = and_left (contend routes e c) (nat_lt (step_of plan e) (step_of plan c)) before in
+          over_when_cleared c e (and_right _ (share (route_at routes e.route) (route_at routes c.route)) both)

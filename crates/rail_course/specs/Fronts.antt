@@ -1,0 +1,23 @@
+-- The fronts of a path: its first routes, so many at a time.
+use Rattle.std.specs.Prelude.{◌+◌, false, ◌||◌, List, [], ◌∷◌, length, flat_map, sum_by}
+use Rattle.std.specs.List.{list_any}
+use Rattle.rail_base.specs.declared.route.Route.{Route}
+use Rattle.rail_base.specs.Routes.{length_mm, exits}
+use Rattle.rail_course.specs.declared.fronts.Front.{Front}
+
+-- how many edges these routes have, how long they are, and whether one exits
+abbrev pub front_of : List Route → Front
+front_of rs = record { spans = length (flat_map (λ r. r.edges) rs); length = sum_by length_mm rs; exits = list_any exits rs }
+
+-- a front with one more route
+abbrev pub longer : Front → Route → Front
+longer f r = record { spans = f.spans + length r.edges; length = f.length + length_mm r; exits = f.exits || exits r }
+
+-- a front, and those with one, two and more of these routes behind it
+abbrev pub fronts_from : Front → List Route → List Front
+fronts_from f [] = f ∷ []
+fronts_from f (r ∷ rs) = f ∷ fronts_from (longer f r) rs
+
+-- the front of no route
+abbrev pub no_front : Front
+no_front = record { spans = 0; length = 0; exits = false }

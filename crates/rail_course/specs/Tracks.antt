@@ -1,0 +1,55 @@
+-- Routes whose numbers name something and whose offsets are in range.
+use Rattle.std.specs.Prelude.{◌≡◌, ℕ, ◌≤◌, ◌<◌, ◌^◌, List, All, map, flat_map, length, nat_abs, sum_by}
+use Rattle.rail_base.specs.declared.station.Station.{Station}
+use Rattle.rail_base.specs.declared.station.EdgeNo.{EdgeNo}
+use Rattle.rail_base.specs.declared.station.SectionNo.{SectionNo}
+use Rattle.rail_base.specs.declared.station.TrainNo.{TrainNo}
+use Rattle.rail_base.specs.declared.route.Route.{Route}
+use Rattle.rail_base.specs.declared.route.RouteNo.{RouteNo}
+use Rattle.rail_base.specs.declared.plan.Command.{Command}
+use Rattle.rail_base.specs.Stations.{IsEdge, IsTrain, edge_of, length_of, per_tick_speed}
+use Rattle.rail_base.specs.Routes.{IsRoute, route_at, length_mm, release_offset}
+use Rattle.rail_spec.specs.Plans.{path}
+
+-- the edge is there, has a length, and has a limit of 1 to 100,000 mm per tick
+pub record HasLimit (d : Station) (e : EdgeNo) : Type 0 where
+  pub there : IsEdge d e
+  pub long : 1 ≤ length_of d e
+  pub moves : 1 ≤ per_tick_speed d (edge_of d e).speed_mm_s
+  pub slow : per_tick_speed d (edge_of d e).speed_mm_s ≤ 100000
+
+-- a route is as long as its edges, and its nodes and release offsets are within it
+pub record IsLaid (d : Station) (r : Route) : Type 0 where
+  pub edges : All (HasLimit d) r.edges
+  pub whole : sum_by (length_of d) r.edges ≡ length_mm r
+  pub nodes : All (λ p. nat_abs p.1 ≤ length_mm r) r.nodes
+  pub releases : (z : SectionNo) → release_offset r z ≤ length_mm r
+
+-- so is every route of the table
+pub record AreLaid (d : Station) (routes : List Route) : Type 0 where
+  pub each : (r : RouteNo) → IsLaid d (route_at routes r)
+
+-- the command names a train and a route
+abbrev pub IsCommand : Station → List Route → Command → Type 0
+IsCommand d routes c = IsTrain d c.train × IsRoute routes c.route
+
+-- the routes of these numbers in a row
+abbrev pub routes_at : List Route → List RouteNo → List Route
+routes_at routes path = map (route_at routes) path
+
+-- their edges
+abbrev pub edges_of : List Route → List RouteNo → List EdgeNo
+edges_of routes path = flat_map (λ r. r.edges) (routes_at routes path)
+
+-- how long they are together
+abbrev pub way : List Route → List RouteNo → ℕ
+way routes path = sum_by length_mm (routes_at routes path)
+
+-- what the run of a plan takes for granted: its commands name trains and routes, and its paths are short enough
+pub record IsInRange (d : Station) (routes : List Route) (plan : List (List Command)) : Type 0 where
+  pub laid : AreLaid d routes
+  pub commands : All (λ step. All (IsCommand d routes) step) plan
+  pub named : (t : TrainNo) → All (IsRoute routes) (path plan t)
+  pub short : (t : TrainNo) → way routes (path plan t) < 2 ^ 47
+  pub brief : (r : RouteNo) → length_mm (route_at routes r) < 2 ^ 47
+  pub few : (t : TrainNo) → length (edges_of routes (path plan t)) < 2 ^ 47

@@ -1,0 +1,38 @@
+-- What a command waits for: other trains that are to clear the sections that it shares with them.
+use Rattle.std.specs.Prelude.{ℕ, ◌+◌, Bool, ◌&&◌, List, map, fold, max, length, nat_le, nat_lt, sum_by}
+use Rattle.rail_base.specs.declared.station.Station.{Station}
+use Rattle.rail_base.specs.declared.station.TrainNo.{TrainNo}
+use Rattle.rail_base.specs.declared.route.Route.{Route}
+use Rattle.rail_base.specs.declared.plan.Command.{Command}
+use Rattle.rail_base.specs.declared.state.TrainState.{TrainState}
+use Rattle.rail_base.specs.Stations.{train_length}
+use Rattle.rail_base.specs.Routes.{route_at, shared, release_offset, length_mm}
+use Rattle.rail_spec.specs.Plans.{path, preceding}
+use Rattle.rail_spec.specs.Dispatches.{state_of}
+use Rattle.rail_spec.specs.Run.{routes_before}
+use Rattle.rail_course.specs.declared.waits.Wait.{Wait}
+
+-- where the first route has released all sections that the second has too
+abbrev pub last_release : Route → Route → ℕ
+last_release r q = fold max 0 (map (release_offset r) (shared r q))
+
+-- the wait is over: the command is granted, and the head of its train is far enough
+abbrev pub is_over : List TrainState → Wait → Bool
+is_over s w = nat_lt w.number (state_of s w.train).granted && nat_le w.place (state_of s w.train).x
+
+module _ (d : Station) (routes : List Route) (plan : List (List Command)) where
+  -- c's wait for e: until e is granted and its train's tail has left all that the two share
+  abbrev pub wait_for : Command → Command → Wait
+  wait_for c e = record {
+    train = e.train;
+    number = length (routes_before d routes plan e);
+    place = sum_by length_mm (routes_before d routes plan e) + last_release (route_at routes e.route) (route_at routes c.route) + train_length d e.train;
+  }
+
+  -- c's waits: for each command that precedes it
+  abbrev pub waits_of : Command → List Wait
+  waits_of c = map (wait_for c) (preceding routes plan c)
+
+  -- the waits of each command of a train's path
+  abbrev pub waits_of_train : TrainNo → List (List Wait)
+  waits_of_train t = map (λ r. waits_of (record { train = t; route = r })) (path plan t)

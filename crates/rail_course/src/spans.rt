@@ -1,0 +1,69 @@
+//! The spans of a path, each an edge's.
+
+ghost use Rattle.std.specs.Prelude.{◌≡◌, ◌<◌, ◌≤◌, ◌+◌, ◌^◌, ◌++◌, All, IfOk, OnOk, map, sum_by};
+ghost use Rattle.rail_motion.specs.Track.{stretches_of, IsRising};
+ghost use Rattle.rail_base.specs.Stations.{IsEdge, edge_of, length_of, per_tick_speed};
+ghost use Rattle.rail_base.specs.Routes.{IsRoute};
+ghost use Rattle.rail_spec.specs.Track.{edge_ends};
+ghost use Rattle.rail_spec.specs.Dispatches.{stretch, stretches};
+ghost use Rattle.rail_course.specs.Tracks.{HasLimit, AreLaid, routes_at, way};
+
+use rail_base::design::Design;
+use rail_base::list::List;
+use rail_base::route::{RouteNo, RouteTable, route_at};
+use rail_base::station::EdgeNo;
+use rail_motion::Span;
+use std::alloc::{AllocError, Global};
+
+/// The limit of an edge, in mm per tick.
+fn limit_of(design: &Design, edge: EdgeNo) -> u64
+    requires { HasLimit design.now.station edge }
+    ensures { result ≡ per_tick_speed design.now.station (edge_of design.now.station edge).speed_mm_s }
+{
+    u64::from(design.edge(edge).speed_mm_s) * u64::from(design.station.tick_ms) / 1000
+}
+
+/// Adds the spans of edges in a row, of which the first begins at an offset in mm.
+fn push_spans(
+    spans: &mut Vec<Span>,
+    design: &Design,
+    edges: &List<EdgeNo>,
+    begin: u64,
+) -> Result<(), AllocError>
+    requires edges { All (HasLimit design.now.station) edges.now }
+    requires short { begin + sum_by (length_of design.now.station) edges.now < 2 ^ 47 }
+    ensures { OnOk result (stretches_of spans.new.items ≡ stretches_of spans.old.items ++ map (stretch design.now.station) (edge_ends design.now.station begin edges.now)) }
+{
+    let mut offset = begin;
+    for edge in edges.as_slice() {
+        offset += u64::from(design.edge(*edge).length_mm);
+        spans.push(Span {
+            end: offset as i64,
+            limit: limit_of(design, *edge) as i64,
+        })?;
+    }
+    Ok(())
+}
+
+/// The spans of routes in a row.
+pub fn spans_of(
+    alloc: Global,
+    design: &Design,
+    routes: &RouteTable,
+    path: &[RouteNo],
+) -> Result<Vec<Span>, AllocError>
+    requires named { All (IsRoute routes.now) path.now }
+    requires laid { AreLaid design.now.station routes.now }
+    requires short { way routes.now path.now < 2 ^ 47 }
+    ensures track { IfOk result (λ spans. stretches_of spans.items ≡ stretches design.now.station (routes_at routes.now path.now)) }
+    ensures rising { IfOk result (λ spans. IsRising spans.items) }
+{
+    let mut spans = Vec::new(alloc);
+    let mut offset: u64 = 0;
+    for number in path {
+        let route = route_at(routes, *number);
+        push_spans(&mut spans, design, &route.edges, offset)?;
+        offset += route.length_mm();
+    }
+    Ok(spans)
+}

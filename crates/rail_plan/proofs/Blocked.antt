@@ -1,0 +1,205 @@
+-- A command is blocked exactly where the steps up to its own stop it, and a plan is executable where none is.
+use Rattle.std.proofs.Common.{◌≡◌, ℕ, suc, ◌+◌, ◌≤◌, ◌<◌, inl, inr, Bool, true, false, not, cond, ◌&&◌, ◌||◌, ◌==◌, nat_le, nat_lt, List, [], ◌∷◌, ◌++◌, map, filter, flat_map, length, take, drop, get_or, sum_by, refl, sym, ap, subst, ◌∙◌, arith, leb-true, le-leb, eqb-true, eq-eqb, true≢false}
+use Rattle.std.specs.List.{list_any, list_all}
+use Rattle.std.proofs.lemmas.List.{append_assoc, append-nil, length-append, length-take-le, take-append-drop, drop_more}
+use Rattle.std.proofs.lemmas.List.Folds.{list_any-append}
+use Rattle.std.proofs.lemmas.List.Concat.{flat_map-append}
+use Rattle.rail_base.specs.declared.station.Station.{Station}
+use Rattle.rail_base.specs.declared.station.SectionNo.{SectionNo}
+use Rattle.rail_base.specs.declared.station.TrainNo.{TrainNo}
+use Rattle.rail_base.specs.declared.route.Route.{Route}
+use Rattle.rail_base.specs.declared.plan.Command.{Command}
+use Rattle.rail_base.specs.Members.{In}
+use Rattle.rail_base.specs.Stations.{trains, train_of, train_length, IsTrain}
+use Rattle.rail_spec.specs.Plans.{is_train, is_path, commands, route_at, length_mm, sections, has_section, release_offset, exits, path_routes, step_of, given_between, can_clear}
+use Rattle.rail_spec.specs.Feasible.{is_of, names_only}
+use Rattle.rail_plan.specs.declared.place.PlanPlace.TheVariants as place
+use Rattle.rail_plan.specs.Ahead.{clears, stops, is_stopped, stopped_sections, stopped_in, stopped}
+use Rattle.rail_plan.specs.Executable.{keeps_from, blocked_sections, blocked_in}
+use Rattle.rail_base.proofs.Members.{and_both, list_all_at, list_any_gives, filter-append, map-map, false_unless, not_less}
+use Rattle.rail_base.proofs.Lists.{in_append_right, in_filter_back, in_flat_map}
+use Rattle.rail_spec.proofs.Given.{path_is}
+use Rattle.rail_plan.proofs.Named.{its_train}
+use Rattle.rail_plan.proofs.Firsts.{entry_read}
+use Rattle.rail_plan.proofs.Steps.{step_is, step_within}
+use Rattle.rail_plan.proofs.Empties.{none_in}
+
+-- ---- lists under tests that agree
+
+pub kept_same : {X : Type 0} (p q : X → Bool) (xs : List X) → ((x : X) → In x xs → p x ≡ q x) → filter p xs ≡ filter q xs
+kept_same p q [] same = refl
+kept_same p q (x ∷ xs) same = ap (λ b. cond b (x ∷ filter p xs) (filter p xs)) (same x (inl refl)) ∙ ap (λ ys. cond (q x) (x ∷ ys) ys) (kept_same p q xs (λ y m. same y (inr m)))
+
+kept_none : {X : Type 0} (p : X → Bool) (xs : List X) → ((x : X) → In x xs → p x ≡ false) → filter p xs ≡ []
+kept_none p xs none = none_in (filter p xs) (λ x m. let l = in_filter_back p xs x m in true≢false (sym l.1 ∙ none x l.0))
+
+any_same : {X : Type 0} (p q : X → Bool) (xs : List X) → ((x : X) → In x xs → p x ≡ q x) → list_any p xs ≡ list_any q xs
+any_same p q [] same = refl
+any_same p q (x ∷ xs) same = ap (λ b. b || list_any p xs) (same x (inl refl)) ∙ ap (λ b. q x || b) (any_same p q xs (λ y m. same y (inr m)))
+
+any_none : {X : Type 0} (p : X → Bool) (xs : List X) → ((x : X) → In x xs → p x ≡ false) → list_any p xs ≡ false
+any_none {X} p xs none = false_unless (list_any p xs) (λ h. go (list_any_gives p xs h))
+  where
+    go : (x : X) × In x xs × (p x ≡ true) → ⊥
+    go (x, m, e) = true≢false (sym e ∙ none x m)
+
+pub joined_same : {X Y : Type 0} (f g : X → List Y) (xs : List X) → ((x : X) → In x xs → f x ≡ g x) → flat_map f xs ≡ flat_map g xs
+joined_same f g [] same = refl
+joined_same f g (x ∷ xs) same = ap (λ ys. ys ++ flat_map f xs) (same x (inl refl)) ∙ ap (λ ys. g x ++ ys) (joined_same f g xs (λ y m. same y (inr m)))
+
+not_le : (a b : ℕ) → b < a → nat_le a b ≡ false
+not_le a b h = false_unless (nat_le a b) (λ e. let l = leb-true a b e in absurd (omega arith))
+
+not_eq : (a b : ℕ) → a < b → (a == b) ≡ false
+not_eq a b h = false_unless (a == b) (λ e. let l : a ≡ b = eqb-true a b e in absurd (omega arith))
+
+module _ (d : Station) (routes : List Route) (plan : List (List Command)) (named : names_only d routes plan ≡ true) (paths : list_all (λ t. is_path (train_of d t) (path_routes routes plan t)) (trains d) ≡ true) where
+  -- ---- one earlier step
+
+  module _ (front mid : List (List Command)) (s : List Command) (step : List Command) (after : List (List Command)) (split : plan ≡ front ++ ((s ∷ mid) ++ step ∷ after)) (e c : Command) (m : In e s) (n : In c step) where
+    first_step : step_of plan e ≡ length front + 1
+    first_step = step_is d routes plan named paths front s (mid ++ step ∷ after) e split m
+
+    last_step : step_of plan c ≡ length front + suc (length mid) + 1
+    last_step =
+        step_is d routes plan named paths (front ++ s ∷ mid) step after c (split ∙ sym (append_assoc front (s ∷ mid) (step ∷ after))) n
+        ∙ ap (λ k. k + 1) (length-append front (s ∷ mid))
+
+    abbrev own : Command → Bool
+    own g = is_train g.train e.train
+
+    abbrev test : Command → Bool
+    test g = is_train g.train e.train && nat_le (step_of plan e) (step_of plan g) && nat_lt (step_of plan g) (step_of plan c)
+
+    -- e's train is given between the two just what the steps from e's on give it
+    given_there : given_between plan e c ≡ filter own (commands (s ∷ mid))
+    given_there =
+        ap (λ p. filter test (commands p)) split
+        ∙ ap (filter test) (flat_map-append (λ (z : List Command). z) front ((s ∷ mid) ++ step ∷ after))
+        ∙ filter-append test (commands front) (commands ((s ∷ mid) ++ step ∷ after))
+        ∙ ap (λ xs. xs ++ filter test (commands ((s ∷ mid) ++ step ∷ after))) (kept_none test (commands front) too_early)
+        ∙ ap (filter test) (flat_map-append (λ (z : List Command). z) (s ∷ mid) (step ∷ after))
+        ∙ filter-append test (commands (s ∷ mid)) (commands (step ∷ after))
+        ∙ ap (λ xs. filter test (commands (s ∷ mid)) ++ xs) (kept_none test (commands (step ∷ after)) too_late)
+        ∙ append-nil (filter test (commands (s ∷ mid)))
+        ∙ kept_same test own (commands (s ∷ mid)) between
+      where
+        part : (a b f : Bool) → b ≡ false → ((a && b) && f) ≡ false
+        part true b f e = ap (λ x. x && f) e
+        part false b f e = refl
+
+        last : (a f : Bool) → f ≡ false → (a && f) ≡ false
+        last true f e = e
+        last false f e = refl
+
+        too_early : (g : Command) → In g (commands front) → test g ≡ false
+        too_early g k =
+            let w = step_within d routes plan named paths [] front ((s ∷ mid) ++ step ∷ after) g split k in
+            let high = w.1 in
+            let here = first_step in
+            part (own g) (nat_le (step_of plan e) (step_of plan g)) (nat_lt (step_of plan g) (step_of plan c)) (not_le (step_of plan e) (step_of plan g) (omega arith))
+
+        too_late : (g : Command) → In g (commands (step ∷ after)) → test g ≡ false
+        too_late g k =
+            let whole : plan ≡ (front ++ s ∷ mid) ++ ((step ∷ after) ++ []) = split ∙ sym (append_assoc front (s ∷ mid) (step ∷ after)) ∙ ap (λ p. (front ++ s ∷ mid) ++ p) (sym (append-nil (step ∷ after))) in
+            let w = step_within d routes plan named paths (front ++ s ∷ mid) (step ∷ after) [] g whole k in
+            let low = w.0 in
+            let size = length-append front (s ∷ mid) in
+            let there = last_step in
+            last (own g && nat_le (step_of plan e) (step_of plan g)) (nat_lt (step_of plan g) (step_of plan c)) (not_less (step_of plan g) (step_of plan c) (omega arith))
+
+        right : (a b f : Bool) → b ≡ true → f ≡ true → ((a && b) && f) ≡ a
+        right true b f p q = and_both b f p q
+        right false b f p q = refl
+
+        between : (g : Command) → In g (commands (s ∷ mid)) → test g ≡ own g
+        between g k =
+            let w = step_within d routes plan named paths front (s ∷ mid) (step ∷ after) g split k in
+            let low = w.0 in
+            let high = w.1 in
+            let here = first_step in
+            let there = last_step in
+            right (own g) (nat_le (step_of plan e) (step_of plan g)) (nat_lt (step_of plan g) (step_of plan c)) (le-leb (step_of plan e) (step_of plan g) (omega arith)) (le-leb (suc (step_of plan g)) (step_of plan c) (omega arith))
+
+    pub clears_there : (z : SectionNo) → can_clear d routes plan e c z ≡ clears d routes (s ∷ mid) e z
+    clears_there z =
+        let wants : List Route → Bool = λ given. nat_le (release_offset (route_at routes e.route) z + train_length d e.train) (sum_by length_mm given) || list_any exits given in
+        ap wants (ap (map (λ (g : Command). route_at routes g.route)) given_there
+        ∙ sym (map-map (route_at routes) (λ (g : Command). g.route) (filter own (commands (s ∷ mid))))
+        ∙ ap (map (route_at routes)) (sym (path_is e.train (s ∷ mid))))
+
+    pub earlier_keeps : (z : SectionNo) → keeps_from d routes plan c z e ≡ stops d routes (s ∷ mid) c.train z e
+    earlier_keeps z =
+        let here = first_step in
+        let there = last_step in
+        ap (λ b. not (is_train e.train c.train) && has_section (route_at routes e.route) z && (b || (nat_lt (step_of plan e) (step_of plan c) && not (can_clear d routes plan e c z)))) (not_eq (step_of plan e) (step_of plan c) (omega arith))
+        ∙ ap (λ b. not (is_train e.train c.train) && has_section (route_at routes e.route) z && (b && not (can_clear d routes plan e c z))) (le-leb (suc (step_of plan e)) (step_of plan c) (omega arith))
+        ∙ ap (λ b. not (is_train e.train c.train) && has_section (route_at routes e.route) z && not b) (clears_there z)
+
+  -- ---- the step itself, and those behind it
+
+  same_keeps : (front : List (List Command)) (step : List Command) (after : List (List Command)) → plan ≡ front ++ step ∷ after → (e c : Command) (z : SectionNo) → In e step → In c step → 1 ≤ train_length d e.train → keeps_from d routes plan c z e ≡ stops d routes [] c.train z e
+  same_keeps front step after split e c z m n long =
+      let here = step_is d routes plan named paths front step after e split m in
+      let there = step_is d routes plan named paths front step after c split n in
+      let needs : nat_le (release_offset (route_at routes e.route) z + train_length d e.train) 0 ≡ false = not_le (release_offset (route_at routes e.route) z + train_length d e.train) 0 (omega arith) in
+      ap (λ b. not (is_train e.train c.train) && has_section (route_at routes e.route) z && (b || (nat_lt (step_of plan e) (step_of plan c) && not (can_clear d routes plan e c z)))) (eq-eqb (step_of plan e) (step_of plan c) (here ∙ sym there))
+      ∙ ap (λ b. not (is_train e.train c.train) && has_section (route_at routes e.route) z && not (b || false)) (sym needs)
+
+  later_keeps : (front : List (List Command)) (step : List Command) (after : List (List Command)) → plan ≡ front ++ step ∷ after → (e c : Command) (z : SectionNo) → In e (commands after) → In c step → keeps_from d routes plan c z e ≡ false
+  later_keeps front step after split e c z m n =
+      let whole : plan ≡ (front ++ step ∷ []) ++ (after ++ []) = split ∙ sym (append_assoc front (step ∷ []) after) ∙ ap (λ p. (front ++ step ∷ []) ++ p) (sym (append-nil after)) in
+      let w = step_within d routes plan named paths (front ++ step ∷ []) after [] e whole m in
+      let low = w.0 in
+      let size = length-append front (step ∷ []) in
+      let there = step_is d routes plan named paths front step after c split n in
+      let apart : (step_of plan e == step_of plan c) ≡ false = false_unless (step_of plan e == step_of plan c) (λ h. let l : step_of plan e ≡ step_of plan c = eqb-true (step_of plan e) (step_of plan c) h in absurd (omega arith)) in
+      ap (λ b. not (is_train e.train c.train) && has_section (route_at routes e.route) z && (b || (nat_lt (step_of plan e) (step_of plan c) && not (can_clear d routes plan e c z)))) apart
+      ∙ ap (λ b. not (is_train e.train c.train) && has_section (route_at routes e.route) z && (b && not (can_clear d routes plan e c z))) (not_less (step_of plan e) (step_of plan c) (omega arith))
+      ∙ last (not (is_train e.train c.train) && has_section (route_at routes e.route) z)
+    where
+      last : (a : Bool) → (a && false) ≡ false
+      last true = refl
+      last false = refl
+
+  -- ---- all that keep a command from a section
+
+  module _ (long : (t : TrainNo) → IsTrain d t → 1 ≤ train_length d t) where
+    kept_is : (front before : List (List Command)) (step : List Command) (after : List (List Command)) → plan ≡ front ++ (before ++ step ∷ after) → (c : Command) (z : SectionNo) → In c step
+        → list_any (keeps_from d routes plan c z) (commands (before ++ step ∷ after)) ≡ is_stopped d routes c.train z before step
+    kept_is front [] step after split c z n =
+        list_any-append (keeps_from d routes plan c z) step (commands after)
+        ∙ ap (λ b. list_any (keeps_from d routes plan c z) step || b) (any_none (keeps_from d routes plan c z) (commands after) (λ e m. later_keeps front step after split e c z m n))
+        ∙ right (list_any (keeps_from d routes plan c z) step)
+        ∙ any_same (keeps_from d routes plan c z) (stops d routes [] c.train z) step (λ e m. same_keeps front step after split e c z m n (long e.train (train_there e m)))
+      where
+        right : (a : Bool) → (a || false) ≡ a
+        right true = refl
+        right false = refl
+
+        train_there : (e : Command) → In e step → IsTrain d e.train
+        train_there e m = its_train d routes e (list_all_at (is_of d routes) (commands plan) e named (subst (λ p. In e (commands p)) (sym split) (in_flat_map (λ s. s) (front ++ step ∷ after) step e (in_append_right step front (step ∷ after) (inl refl)) m)))
+    kept_is front (s ∷ ss) step after split c z n =
+        list_any-append (keeps_from d routes plan c z) s (commands (ss ++ step ∷ after))
+        ∙ ap (λ b. b || list_any (keeps_from d routes plan c z) (commands (ss ++ step ∷ after))) (any_same (keeps_from d routes plan c z) (stops d routes (s ∷ ss) c.train z) s (λ e m. earlier_keeps front ss s step after split e c m n z))
+        ∙ ap (λ b. list_any (stops d routes (s ∷ ss) c.train z) s || b) (kept_is (front ++ s ∷ []) ss step after (split ∙ sym (append_assoc front (s ∷ []) (ss ++ step ∷ after))) c z n)
+
+    -- the places of a step are those found from the steps up to it
+    pub blocked_step : (i : ℕ) (step : List Command) → i < length plan → step ≡ get_or plan i step → flat_map (blocked_in d routes plan (i + 1)) (trains d) ≡ stopped d routes (take i plan) step
+    blocked_step i step h e = joined_same (blocked_in d routes plan (i + 1)) (stopped_in d routes (take i plan) step) (trains d) (λ t m. of_train t)
+      where
+        parts : plan ≡ take i plan ++ step ∷ drop (i + 1) plan
+        parts = sym (take-append-drop i plan) ∙ ap (λ p. take i plan ++ p) (drop_more plan i step h ∙ ap (λ s. s ∷ drop (i + 1) plan) (sym e))
+
+        size : length (take i plan) ≡ i
+        size = length-take-le i plan (omega arith)
+
+        of_command : (c : Command) → In c step → blocked_sections d routes plan c ≡ stopped_sections d routes (take i plan) step c
+        of_command c m = kept_same (λ z. list_any (keeps_from d routes plan c z) (commands plan)) (λ z. is_stopped d routes c.train z (take i plan) step) (sections (route_at routes c.route))
+            (λ z n. ap (λ p. list_any (keeps_from d routes plan c z) (commands p)) parts ∙ kept_is [] (take i plan) step (drop (i + 1) plan) parts c z m)
+
+        of_train : (t : TrainNo) → blocked_in d routes plan (i + 1) t ≡ stopped_in d routes (take i plan) step t
+        of_train t =
+            ap (λ s. flat_map (λ c. map (place.Section (i + 1) t) (blocked_sections d routes plan c)) (filter (λ c. is_train c.train t) s)) (entry_read [] plan i step h e)
+            ∙ joined_same (λ c. map (place.Section (i + 1) t) (blocked_sections d routes plan c)) (λ c. map (place.Section (length (take i plan) + 1) t) (stopped_sections d routes (take i plan) step c)) (filter (λ c. is_train c.train t) step)
+            (λ c m. ap (map (place.Section (i + 1) t)) (of_command c (in_filter_back (λ (c : Command). is_train c.train t) step c m).0) ∙ ap (λ k. map (place.Section (k + 1) t) (stopped_sections d routes (take i plan) step c)) (sym size))

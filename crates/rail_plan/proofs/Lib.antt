@@ -1,0 +1,15 @@
+pub mod Firsts
+pub mod Named
+pub mod Placed
+pub mod Empties
+pub mod WellFormed
+pub mod Clearing
+pub mod Stopped
+pub mod Steps
+pub mod Blocked
+pub mod Standing
+pub mod Shapes
+pub mod TrainNames
+pub mod Seen
+pub mod Json
+pub mod Spelled

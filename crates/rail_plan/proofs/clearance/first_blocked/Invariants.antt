@@ -1,0 +1,9 @@
+use Rattle.std.proofs.Common.{◌≡◌, ◌+◌, ◌-◌, flat_map, length}
+use Rattle.rail_base.specs.Numbering.{count_from, first_of_list}
+use Rattle.rail_base.specs.Stations.{trains}
+use Rattle.rail_plan.specs.Executable.{blocked, blocked_in}
+use Rattle.rail_plan.proofs.clearance.first_blocked.Given as goal
+
+-- the first is to be found in the steps that are left
+abbrev pub invariant-loop-index : goal.invariant-loop-index
+invariant-loop-index l = first_of_list (flat_map (λ i. flat_map (blocked_in l.design.station l.routes l.steps i) (trains l.design.station)) (count_from (l.index + 1) (length l.steps - l.index))) ≡ first_of_list (blocked l.design.station l.routes l.steps)

@@ -1,0 +1,14 @@
+//! Plans: reading them, the paths and the order that they give, and whether they can be carried out.
+#![tactic(auto)]
+
+pub mod clearance;
+pub mod fault;
+pub mod formed;
+pub mod laws;
+mod names;
+pub mod paths;
+pub mod place;
+pub mod reading;
+#[cfg(test)]
+mod tests;
+mod text;

@@ -1,0 +1,183 @@
+//! Reading a plan.
+
+ghost use Rattle.std.specs.Prelude.{◌≡◌, ◌≤◌, ◌<◌, ◌^◌, true, IfOk, length, map, ok_or, option_map};
+ghost use Rattle.rail_spec.specs.Feasible.{IsRunnable, names_only};
+ghost use Rattle.serde_json.specs.View.{view};
+ghost use Rattle.rail_plan.specs.Text.{Spells, json_of, text_steps};
+ghost use Rattle.rail_plan.specs.Reading.{Gives, admitted_plan, plan_of, plan_of_text, read_in, read_steps, train_names, unread, unread_in, unless, values_of};
+
+use crate::clearance::executable;
+use crate::fault::{PlanCode, PlanFault};
+use crate::formed::well_formed;
+use crate::names::{command_at, train_names};
+use crate::place::PlanPlace;
+use crate::text::{are_steps, array_of, steps_at};
+use indexmap::IndexSet;
+use rail_base::design::Design;
+use rail_base::list::List;
+use rail_base::plan::{Command, Plan};
+use rail_base::route::RouteTable;
+use serde_json::Value;
+use std::alloc::Global;
+
+/// How many steps a plan may have.
+const MOST_STEPS: u32 = 64;
+
+/// The value that the bytes are, by the reading of `serde_json`.
+fn value_of(alloc: Global, bytes: &[u8]) -> Result<Value, PlanFault>
+    ensures { Gives view result (ok_or (json_of bytes.now) (PlanCode.P1, PlanPlace.File)) }
+{
+    match Value::from_slice(alloc, bytes) {
+        Ok(value) => Ok(value),
+        Err(error) => {
+            if error.is_memory() {
+                Err(PlanFault::Memory)
+            } else {
+                Err(PlanFault::Refused {
+                    code: PlanCode::P1,
+                    place: PlanPlace::File,
+                })
+            }
+        }
+    }
+}
+
+/// The commands of a step of this number, or the first whose train or route isn't there.
+fn read_step(
+    alloc: Global,
+    names: &IndexSet<&[u8]>,
+    many: usize,
+    number: usize,
+    values: &[Value],
+) -> Result<List<Command>, PlanFault>
+    requires names { length names.now.keys ≤ 32 }
+    requires many { many < 2 ^ 32 }
+    ensures { Gives (λ step. step) result (unless PlanCode.P2 (unread_in (map (λ k. k.now) names.now.keys) many number (map view values.now)) (Ok (read_in (map (λ k. k.now) names.now.keys) many (map view values.now)))) }
+{
+    let mut commands = List::new(alloc);
+    for (index, value) in values.iter().enumerate() {
+        match command_at(names, many, value) {
+            Some(command) => commands.push(command)?,
+            None => {
+                return Err(PlanFault::Refused {
+                    code: PlanCode::P2,
+                    place: PlanPlace::Command {
+                        step: number,
+                        command: index + 1,
+                    },
+                });
+            }
+        }
+    }
+    Ok(commands)
+}
+
+/// The values of a step.
+#[tactic(auto, using(crate::proofs::Seen::values))]
+fn values_of(value: &Value) -> &[Value]
+    ensures { map view result.now ≡ values_of (view value.now) }
+{
+    match array_of(value) {
+        Some(values) => values,
+        None => &[],
+    }
+}
+
+/// The commands of all steps, or the first whose train or route isn't there.
+fn read_steps(
+    alloc: Global,
+    names: &IndexSet<&[u8]>,
+    many: usize,
+    values: &[Value],
+) -> Result<List<List<Command>>, PlanFault>
+    requires names { length names.now.keys ≤ 32 }
+    requires many { many < 2 ^ 32 }
+    ensures { Gives (λ steps. steps) result (unless PlanCode.P2 (unread (map (λ k. k.now) names.now.keys) many (map view values.now)) (Ok (read_steps (map (λ k. k.now) names.now.keys) many (map view values.now)))) }
+{
+    let mut steps = List::new(alloc);
+    for (index, value) in values.iter().enumerate() {
+        let step = read_step(alloc, names, many, index + 1, values_of(value))?;
+        steps.push(step)?;
+    }
+    Ok(steps)
+}
+
+/// The steps of a plan, where a value is one by its shape.
+fn steps_of(value: &Value) -> Option<&[Value]>
+    ensures { Spells (option_map (λ s. map view s.now) result) (text_steps (view value.now)) }
+{
+    let steps = array_of(steps_at(value)?)?;
+    if are_steps(steps) { Some(steps) } else { None }
+}
+
+/// The commands of all steps over a design, or the first whose train or route isn't there.
+fn known_steps(
+    alloc: Global,
+    design: &Design,
+    routes: &RouteTable,
+    values: &[Value],
+) -> Result<List<List<Command>>, PlanFault>
+    requires { length routes.now < 2 ^ 32 }
+    ensures { Gives (λ steps. steps) result (unless PlanCode.P2 (unread (train_names design.now.station) (length routes.now) (map view values.now)) (Ok (read_steps (train_names design.now.station) (length routes.now) (map view values.now)))) }
+{
+    let names = train_names(alloc, design)?;
+    read_steps(alloc, &names, routes.len(), values)
+}
+
+/// The plan, where it is well formed for 64 and executable.
+fn admit(design: &Design, routes: &RouteTable, plan: Plan) -> Result<Plan, PlanFault>
+    requires { names_only design.now.station routes.now plan.steps ≡ true }
+    ensures { Gives (λ p. p.steps) result (admitted_plan design.now.station routes.now plan.steps) }
+{
+    if let Some(place) = well_formed(design, routes, &plan, MOST_STEPS) {
+        return Err(PlanFault::Refused {
+            code: PlanCode::P3,
+            place,
+        });
+    }
+    match executable(design, routes, &plan) {
+        Some(place) => Err(PlanFault::Refused {
+            code: PlanCode::P4,
+            place,
+        }),
+        None => Ok(plan),
+    }
+}
+
+/// The plan that a value spells, or the first refusal.
+fn plan_at(
+    alloc: Global,
+    design: &Design,
+    routes: &RouteTable,
+    value: &Value,
+) -> Result<Plan, PlanFault>
+    requires { length routes.now < 2 ^ 32 }
+    ensures { Gives (λ p. p.steps) result (plan_of_text design.now.station routes.now (text_steps (view value.now))) }
+{
+    match steps_of(value) {
+        Some(steps) => {
+            let steps = known_steps(alloc, design, routes, steps)?;
+            admit(design, routes, Plan { steps })
+        }
+        None => Err(PlanFault::Refused {
+            code: PlanCode::P1,
+            place: PlanPlace::File,
+        }),
+    }
+}
+
+/// Reads a plan over a design and its routes, or tells the first refusal: P1 before P2, P2 before P3, P3 before P4, and
+/// of each the first place. A plan that is read is well formed for 64 and executable.
+pub fn read_plan(
+    alloc: Global,
+    design: &Design,
+    routes: &RouteTable,
+    bytes: &[u8],
+) -> Result<Plan, PlanFault>
+    requires { length routes.now < 2 ^ 32 }
+    ensures given { Gives (λ p. p.steps) result (plan_of design.now.station routes.now bytes.now) }
+    ensures runnable { IfOk result (λ p. IsRunnable design.now.station routes.now 64 p.steps) }
+{
+    let value = value_of(alloc, bytes)?;
+    plan_at(alloc, design, routes, &value)
+}

@@ -1,0 +1,4 @@
+pub mod Reaching
+pub mod Fronting
+pub mod Marking
+pub mod Verdicting

@@ -1,0 +1,153 @@
+-- One more tick of the history of a run.
+use Rattle.std.proofs.Common.{◌≡◌, ℕ, zero, suc, ◌+◌, ◌-◌, ◌≤◌, Bool, true, false, nat_le, nat_lt, List, [], ◌∷◌, ◌++◌, map, flat_map, Option, None, Some, option_map, refl, sym, ap, ap₂, ◌∙◌, arith}
+use Rattle.std.specs.List.{enumerate_from}
+use Rattle.rail_base.specs.declared.station.Station.{Station}
+use Rattle.rail_base.specs.declared.station.NodeNo.{NodeNo}
+use Rattle.rail_base.specs.declared.station.SectionNo.{SectionNo}
+use Rattle.rail_base.specs.declared.station.TrainNo.{TrainNo}
+use Rattle.rail_base.specs.declared.route.Route.{Route}
+use Rattle.rail_base.specs.declared.route.RouteNo.{RouteNo}
+use Rattle.rail_base.specs.declared.plan.Command.{Command}
+use Rattle.rail_base.specs.declared.state.Stop.{Stop}
+use Rattle.rail_base.specs.declared.state.TrainState.{TrainState}
+use Rattle.rail_base.specs.Numbering.{or_this, least}
+use Rattle.rail_base.specs.Routes.{route_at, sections}
+use Rattle.rail_base.proofs.Members.{map-map}
+use Rattle.std.proofs.lemmas.List.{map-append}
+use Rattle.rail_spec.specs.Visits.{is_passed}
+use Rattle.rail_spec.specs.Plans.{path}
+use Rattle.rail_spec.specs.Dispatches.{state_of}
+use Rattle.rail_spec.specs.Run.{state_at, pass_tick, passed, stops_of_train, visits_of_train}
+use Rattle.rail_base.specs.declared.history.TrainHistory.{TrainHistory}
+use Rattle.rail_spec.specs.Histories.{grant_tick, granted, released, visit_made, train_history}
+use Rattle.rail_course.specs.declared.journey.Release.{Release}
+use Rattle.rail_course.specs.Releases.{release_for, releases_of_route, releases_of_train}
+use Rattle.tick_sim.specs.Marks.{is_released, mark_grants, mark_passes, mark_releases, mark_visits, made_now, made_or}
+
+map-flat_map : {X Y Z : Type 0} (f : Y → Z) (g : X → List Y) (xs : List X) → map f (flat_map g xs) ≡ flat_map (λ x. map f (g x)) xs
+map-flat_map f g [] = refl
+map-flat_map f g (x ∷ xs) = map-append f (g x) (flat_map g xs) ∙ ap (λ ys. map f (g x) ++ ys) (map-flat_map f g xs)
+
+flat_map-each : {X Y : Type 0} (f g : X → List Y) (xs : List X) → ((x : X) → f x ≡ g x) → flat_map f xs ≡ flat_map g xs
+flat_map-each f g [] h = refl
+flat_map-each f g (x ∷ xs) h = ap₂ (λ a b. a ++ b) (h x) (flat_map-each f g xs h)
+
+module _ (d : Station) (routes : List Route) (plan : List (List Command)) (t : TrainNo) where
+  abbrev now : ℕ → TrainState
+  now k = state_of (state_at d routes plan k) t
+
+  -- ---- grants
+
+  abbrev grant : ℕ → ℕ × RouteNo → RouteNo × Option ℕ
+  grant k p = (p.1, grant_tick d routes plan k t p.0)
+
+  grants_from : (k i : ℕ) (rs : List RouteNo) → map (λ p. (p.1.0, or_this p.1.1 (nat_lt p.0 (now (suc k)).granted) (suc k))) (enumerate_from i (map (grant k) (enumerate_from (i + 1) rs))) ≡ map (grant (suc k)) (enumerate_from (i + 1) rs)
+  grants_from k i [] = refl
+  grants_from k i (r ∷ rs) =
+      let one : suc i ≡ i + 1 = omega arith in
+      ap₂ (λ x xs. x ∷ xs) (ap (λ n. (r, or_this (grant_tick d routes plan k t (i + 1)) (nat_le n (now (suc k)).granted) (suc k))) one) (grants_from k (i + 1) rs)
+
+  pub grants_marked : (k : ℕ) → mark_grants (now (suc k)).granted (suc k) (granted d routes plan k t) ≡ granted d routes plan (suc k) t
+  grants_marked k = grants_from k 0 (path plan t)
+
+  grants_none : (i : ℕ) (rs : List RouteNo) → map (λ r. (r, None)) rs ≡ map (grant 0) (enumerate_from i rs)
+  grants_none i [] = refl
+  grants_none i (r ∷ rs) = ap (λ xs. (r, None) ∷ xs) (grants_none (i + 1) rs)
+
+  pub no_grants : map (λ r. (r, None)) (path plan t) ≡ granted d routes plan 0 t
+  no_grants = grants_none 1 (path plan t)
+
+  -- ---- passes
+
+  passes_of : (k : ℕ) (stops : List Stop) → mark_passes (now (suc k)) (suc k) stops (map (λ stop. (stop.node, pass_tick d routes plan k t stop)) stops) ≡ map (λ stop. (stop.node, pass_tick d routes plan (suc k) t stop)) stops
+  passes_of k [] = refl
+  passes_of k (stop ∷ stops) = ap (λ xs. (stop.node, pass_tick d routes plan (suc k) t stop) ∷ xs) (passes_of k stops)
+
+  pub passes_marked : (k : ℕ) → mark_passes (now (suc k)) (suc k) (stops_of_train d routes plan t) (passed d routes plan k t) ≡ passed d routes plan (suc k) t
+  passes_marked k = passes_of k (stops_of_train d routes plan t)
+
+  -- ---- releases
+
+  abbrev release : ℕ → Release → RouteNo × SectionNo × Option ℕ
+  release k r = (r.route, r.section, least (λ i. is_released (now i) r) k)
+
+  pub released_is : (k : ℕ) → map (release k) (releases_of_train d routes plan t) ≡ released d routes plan k t
+  released_is k =
+      map-flat_map (release k) (releases_of_route d routes plan t) (path plan t)
+      ∙ flat_map-each (λ r. map (release k) (releases_of_route d routes plan t r)) _ (path plan t) (λ r. map-map (release k) (release_for d routes plan (record { train = t; route = r })) (sections (route_at routes r)))
+
+  releases_of : (k : ℕ) (rs : List Release) → mark_releases (now (suc k)) (suc k) rs (map (release k) rs) ≡ map (release (suc k)) rs
+  releases_of k [] = refl
+  releases_of k (r ∷ rs) = ap (λ xs. release (suc k) r ∷ xs) (releases_of k rs)
+
+  pub releases_marked : (k : ℕ) → mark_releases (now (suc k)) (suc k) (releases_of_train d routes plan t) (released d routes plan k t) ≡ released d routes plan (suc k) t
+  releases_marked k = ap (mark_releases (now (suc k)) (suc k) (releases_of_train d routes plan t)) (sym (released_is k)) ∙ releases_of k (releases_of_train d routes plan t) ∙ released_is (suc k)
+
+  -- ---- visits
+
+  abbrev made_with : Stop → ℕ → Option ℕ → Bool → Option (NodeNo × ℕ)
+  made_with stop n (Some i) b = Some (stop.node, i)
+  made_with stop n None b = made_now stop b n
+
+  visit_marked : (k : ℕ) (place : Option Stop) → made_or (visit_made d routes plan k t place) place (now (suc k)) (suc k) ≡ visit_made d routes plan (suc k) t place
+  visit_marked k None = refl
+  visit_marked k (Some stop) = start (pass_tick d routes plan k t stop) ∙ go (pass_tick d routes plan k t stop) (is_passed (now (suc k)) stop)
+    where
+      start : (o : Option ℕ) → made_or (option_map (λ i. (stop.node, i)) o) (Some stop) (now (suc k)) (suc k) ≡ made_with stop (suc k) o (is_passed (now (suc k)) stop)
+      start None = refl
+      start (Some i) = refl
+
+      go : (o : Option ℕ) (b : Bool) → made_with stop (suc k) o b ≡ option_map (λ i. (stop.node, i)) (or_this o b (suc k))
+      go (Some i) b = refl
+      go None true = refl
+      go None false = refl
+
+  visits_of : (k : ℕ) (places : List (Option Stop)) → mark_visits (now (suc k)) (suc k) places (map (visit_made d routes plan k t) places) ≡ map (visit_made d routes plan (suc k) t) places
+  visits_of k [] = refl
+  visits_of k (place ∷ places) = ap₂ (λ x xs. x ∷ xs) (visit_marked k place) (visits_of k places)
+
+  pub visits_marked : (k : ℕ) → mark_visits (now (suc k)) (suc k) (visits_of_train d routes plan t) (map (visit_made d routes plan k t) (visits_of_train d routes plan t)) ≡ map (visit_made d routes plan (suc k) t) (visits_of_train d routes plan t)
+  visits_marked k = visits_of k (visits_of_train d routes plan t)
+
+  visit_none : (place : Option Stop) → None ≡ visit_made d routes plan 0 t place
+  visit_none None = refl
+  visit_none (Some stop) = refl
+
+  visits_none : (places : List (Option Stop)) → map (λ place. None) places ≡ map (visit_made d routes plan 0 t) places
+  visits_none [] = refl
+  visits_none (place ∷ places) = ap₂ (λ x xs. x ∷ xs) (visit_none place) (visits_none places)
+
+  pub no_visits : map (λ place. None) (visits_of_train d routes plan t) ≡ map (visit_made d routes plan 0 t) (visits_of_train d routes plan t)
+  no_visits = visits_none (visits_of_train d routes plan t)
+
+-- ---- the whole history of a train
+
+abbrev told : List (RouteNo × Option ℕ) → List (NodeNo × Option ℕ) → List (RouteNo × SectionNo × Option ℕ) → List (Option (NodeNo × ℕ)) → TrainHistory
+told g p r v = record { grants = g; passes = p; releases = r; visits = v }
+
+told_same : (g h : List (RouteNo × Option ℕ)) (p q : List (NodeNo × Option ℕ)) (r s : List (RouteNo × SectionNo × Option ℕ)) (v w : List (Option (NodeNo × ℕ))) → g ≡ h → p ≡ q → r ≡ s → v ≡ w → told g p r v ≡ told h q s w
+told_same g h p q r s v w a b c e = cc
+
+module _ (d : Station) (routes : List Route) (plan : List (List Command)) (t : TrainNo) where
+  -- what a run begins with
+  pub history_begins : (g : List (RouteNo × Option ℕ)) (p : List (NodeNo × Option ℕ)) (r : List (RouteNo × SectionNo × Option ℕ)) (v : List (Option (NodeNo × ℕ)))
+      → g ≡ map (λ x. (x, None)) (path plan t) → p ≡ map (λ (stop : Stop). (stop.node, None)) (stops_of_train d routes plan t)
+      → r ≡ map (λ (x : Release). (x.route, x.section, None)) (releases_of_train d routes plan t) → v ≡ map (λ x. None) (visits_of_train d routes plan t)
+      → told g p r v ≡ train_history d routes plan 0 t
+  history_begins g p r v a b c e = told_same g _ p _ r _ v _ (a ∙ no_grants d routes plan t) b (c ∙ released_is d routes plan t 0) (e ∙ no_visits d routes plan t)
+
+  -- what it has one tick further
+  pub history_goes_on : (tick : ℕ) → 1 ≤ tick → (s : TrainState) → s ≡ state_of (state_at d routes plan tick) t → (old : TrainHistory) → old ≡ train_history d routes plan (tick - 1) t
+      → (g : List (RouteNo × Option ℕ)) (p : List (NodeNo × Option ℕ)) (r : List (RouteNo × SectionNo × Option ℕ)) (v : List (Option (NodeNo × ℕ)))
+      → g ≡ mark_grants s.granted tick old.grants → p ≡ mark_passes s tick (stops_of_train d routes plan t) old.passes
+      → r ≡ mark_releases s tick (releases_of_train d routes plan t) old.releases → v ≡ mark_visits s tick (visits_of_train d routes plan t) old.visits
+      → told g p r v ≡ train_history d routes plan tick t
+  history_goes_on zero first s here old before g p r v a b c e = absurd (omega arith)
+  history_goes_on (suc k) first s here old before g p r v a b c e =
+      let less : suc k - 1 ≡ k = omega arith in
+      let was : old ≡ train_history d routes plan k t = before ∙ ap (λ n. train_history d routes plan n t) less in
+      told_same g _ p _ r _ v _
+      (a ∙ ap₂ (λ (x : TrainState) (o : TrainHistory). mark_grants x.granted (suc k) o.grants) here was ∙ grants_marked d routes plan t k)
+      (b ∙ ap₂ (λ (x : TrainState) (o : TrainHistory). mark_passes x (suc k) (stops_of_train d routes plan t) o.passes) here was ∙ passes_marked d routes plan t k)
+      (c ∙ ap₂ (λ (x : TrainState) (o : TrainHistory). mark_releases x (suc k) (releases_of_train d routes plan t) o.releases) here was ∙ releases_marked d routes plan t k)
+      (e ∙ ap₂ (λ (x : TrainState) (o : TrainHistory). mark_visits x (suc k) (visits_of_train d routes plan t) o.visits) here was ∙ visits_marked d routes plan t k)

@@ -1,0 +1,11 @@
+use Rattle.std.proofs.Common.{map, ap, sym, ◌∙◌}
+use Rattle.rail_base.proofs.Members.{map-map}
+use Rattle.rail_spec.specs.Histories.{train_history}
+use Rattle.rail_course.specs.declared.journey.Journey.{Journey}
+use Rattle.tick_sim.proofs.run.Run.first_histories.Goals as goal
+
+pub loop-journey-init : goal.loop-journey-init
+loop-journey-init c =
+    let history = train_history c.args.self.now.design.now.station c.args.self.now.routes.now c.args.self.now.plan.now.steps 0 in
+    let items = c.new-histories.ensures.items in
+    rw items (sym (map-map history (λ (j : Journey). j.course.now.train) c.args.self.now.journeys.now) ∙ ap (map history) c.requires.journeys.all)

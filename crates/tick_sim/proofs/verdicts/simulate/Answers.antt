@@ -1,0 +1,9 @@
+use Rattle.rail_base.proofs.Admitting.{admitted}
+use Rattle.tick_sim.proofs.Reaching.{run_in_range}
+use Rattle.tick_sim.proofs.verdicts.simulate.Goals as goal
+
+pub courses_of-requires : goal.courses_of-requires
+courses_of-requires c = run_in_range c.args.design.now.station (admitted c.args.design.now.station c.args.design.now.admitted) c.args.routes.now c.requires.table c.requires.few c.args.plan.now.steps c.requires.formed
+
+pub journeys_of-requires-clause-range : goal.journeys_of-requires-clause-range
+journeys_of-requires-clause-range c = run_in_range c.args.design.now.station (admitted c.args.design.now.station c.args.design.now.admitted) c.args.routes.now c.requires.table c.requires.few c.args.plan.now.steps c.requires.formed

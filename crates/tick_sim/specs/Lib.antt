@@ -1,0 +1,4 @@
+-- Runs as the simulator makes them.
+pub mod Granting
+pub mod Runs
+pub mod Marks

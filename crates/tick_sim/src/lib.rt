@@ -1,0 +1,11 @@
+//! Runs of plans, tick by tick, and their verdicts.
+#![tactic(auto)]
+
+mod grants;
+mod histories;
+mod marks;
+mod moves;
+mod run;
+mod verdicts;
+
+pub use verdicts::simulate;

@@ -1,0 +1,174 @@
+//! The history of a train, one tick further.
+
+ghost use Rattle.std.specs.Prelude.{◌≡◌, IfOk, None, map};
+ghost use Rattle.rail_base.specs.Numbering.{or_this};
+ghost use Rattle.rail_spec.specs.Visits.{is_passed};
+ghost use Rattle.tick_sim.specs.Marks.{is_released, made_or, mark_grants, mark_passes, mark_releases, mark_visits};
+
+use rail_base::route::RouteNo;
+use rail_base::state::{Stop, TrainState};
+use rail_base::station::{NodeNo, SectionNo};
+use rail_course::Release;
+use std::alloc::{AllocError, Global};
+
+/// The tick at which something came: the one it has, or this one where it comes by now.
+fn first_tick(old: Option<u64>, comes: bool, tick: u64) -> Option<u64>
+    ensures { result ≡ or_this old comes tick }
+{
+    match old {
+        Some(earlier) => Some(earlier),
+        None if comes => Some(tick),
+        None => None,
+    }
+}
+
+/// Whether a node has been passed.
+fn is_passed(state: TrainState, stop: &Stop) -> bool
+    ensures { result ≡ is_passed state stop.now }
+{
+    stop.command <= state.granted && stop.offset <= state.x
+}
+
+/// Whether a section has been released.
+fn is_released(state: TrainState, release: &Release) -> bool
+    ensures { result ≡ is_released state release.now }
+{
+    release.number < state.granted && release.place <= state.x
+}
+
+/// A visit that is made already, or else made now at its place.
+fn made_or(
+    old: Option<(NodeNo, u64)>,
+    place: Option<Stop>,
+    state: TrainState,
+    tick: u64,
+) -> Option<(NodeNo, u64)>
+    ensures { result ≡ made_or old place state tick }
+{
+    match (old, place) {
+        (Some(made), _) => Some(made),
+        (None, Some(stop)) => {
+            if is_passed(state, &stop) {
+                Some((stop.node, tick))
+            } else {
+                None
+            }
+        }
+        (None, None) => None,
+    }
+}
+
+/// The grants of a train of which so many commands are granted now.
+pub(crate) fn mark_grants(
+    alloc: Global,
+    granted: usize,
+    tick: u64,
+    old: &[(RouteNo, Option<u64>)],
+) -> Result<Vec<(RouteNo, Option<u64>)>, AllocError>
+    ensures { IfOk result (λ v. v.items ≡ mark_grants granted tick old.now) }
+{
+    old.iter()
+        .enumerate()
+        .map(|(number, grant)| (grant.0, first_tick(grant.1, number < granted, tick)))
+        .collect(alloc)
+}
+
+/// The nodes passed by a train that is here now.
+pub(crate) fn mark_passes(
+    alloc: Global,
+    state: TrainState,
+    tick: u64,
+    stops: &[Stop],
+    old: &[(NodeNo, Option<u64>)],
+) -> Result<Vec<(NodeNo, Option<u64>)>, AllocError>
+    ensures { IfOk result (λ v. v.items ≡ mark_passes state tick stops.now old.now) }
+{
+    stops
+        .iter()
+        .zip(old.iter())
+        .map(|(stop, pass)| (stop.node, first_tick(pass.1, is_passed(state, stop), tick)))
+        .collect(alloc)
+}
+
+/// The sections released by a train that is here now.
+pub(crate) fn mark_releases(
+    alloc: Global,
+    state: TrainState,
+    tick: u64,
+    releases: &[Release],
+    old: &[(RouteNo, SectionNo, Option<u64>)],
+) -> Result<Vec<(RouteNo, SectionNo, Option<u64>)>, AllocError>
+    ensures { IfOk result (λ v. v.items ≡ mark_releases state tick releases.now old.now) }
+{
+    releases
+        .iter()
+        .zip(old.iter())
+        .map(|(release, entry)| {
+            (
+                release.route,
+                release.section,
+                first_tick(entry.2, is_released(state, release), tick),
+            )
+        })
+        .collect(alloc)
+}
+
+/// The visits made by a train that is here now.
+pub(crate) fn mark_visits(
+    alloc: Global,
+    state: TrainState,
+    tick: u64,
+    places: &[Option<Stop>],
+    old: &[Option<(NodeNo, u64)>],
+) -> Result<Vec<Option<(NodeNo, u64)>>, AllocError>
+    ensures { IfOk result (λ v. v.items ≡ mark_visits state tick places.now old.now) }
+{
+    places
+        .iter()
+        .zip(old.iter())
+        .map(|(place, made)| made_or(*made, *place, state, tick))
+        .collect(alloc)
+}
+
+/// The commands of a path, none of them granted.
+pub(crate) fn none_granted(
+    alloc: Global,
+    path: &[RouteNo],
+) -> Result<Vec<(RouteNo, Option<u64>)>, AllocError>
+    ensures { IfOk result (λ v. v.items ≡ map (λ r. (r, None)) path.now) }
+{
+    path.iter().map(|route| (*route, None)).collect(alloc)
+}
+
+/// The nodes of a path, none of them passed.
+pub(crate) fn none_passed(
+    alloc: Global,
+    stops: &[Stop],
+) -> Result<Vec<(NodeNo, Option<u64>)>, AllocError>
+    ensures { IfOk result (λ v. v.items ≡ map (λ stop. (stop.node, None)) stops.now) }
+{
+    stops.iter().map(|stop| (stop.node, None)).collect(alloc)
+}
+
+/// The sections of a path, none of them released.
+pub(crate) fn none_released(
+    alloc: Global,
+    releases: &[Release],
+) -> Result<Vec<(RouteNo, SectionNo, Option<u64>)>, AllocError>
+    ensures { IfOk result (λ v. v.items ≡ map (λ r. (r.route, r.section, None)) releases.now) }
+{
+    releases
+        .iter()
+        .map(|release| (release.route, release.section, None))
+        .collect(alloc)
+}
+
+/// The visits of a train, none of them made.
+pub(crate) fn none_visited(
+    alloc: Global,
+    places: &[Option<Stop>],
+) -> Result<Vec<Option<(NodeNo, u64)>>, AllocError>
+    ensures { IfOk result (λ v. v.items ≡ map (λ _. None) places.now) }
+{
+    places.iter().map(|_| None).collect(alloc)
+}

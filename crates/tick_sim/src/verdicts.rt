@@ -1,0 +1,132 @@
+//! The verdict of a plan.
+
+ghost use Rattle.std.specs.Prelude.{◌≡◌, ◌≤◌, ◌<◌, ◌^◌, IfOk, None, is_none, length, map};
+ghost use Rattle.std.specs.List.{position_from};
+ghost use Rattle.rail_spec.specs.Track.{routes_of};
+ghost use Rattle.rail_spec.specs.Feasible.{IsWellFormed};
+ghost use Rattle.rail_spec.specs.Run.{state_at};
+ghost use Rattle.rail_spec.specs.Requirements.{path_violation};
+ghost use Rattle.rail_spec.specs.Histories.{verdict_of};
+ghost use Rattle.tick_sim.specs.Runs.{IsRun};
+
+use crate::grants::IDLE;
+use crate::run::Run;
+use rail_base::design::Design;
+use rail_base::history::Verdict;
+use rail_base::list::List;
+use rail_base::plan::{Plan, Violation};
+use rail_base::route::RouteTable;
+use rail_base::state::{Stop, TrainState};
+use rail_course::{courses_of, journeys_of};
+use rail_require::{first_violation, is_done};
+use std::alloc::{AllocError, Global};
+
+/// The number of the first visit that is made nowhere.
+fn missed(visits: &[Option<Stop>]) -> Option<u32>
+    requires { length visits.now < 2 ^ 32 }
+    ensures { result ≡ position_from is_none 1 visits.now }
+{
+    visits
+        .iter()
+        .position(|place| place.is_none())
+        .map(|place| place as u32 + 1)
+}
+
+impl Run<'_> {
+    /// The first visit, by train, that no path makes.
+    fn path_violation(&self) -> Option<Violation>
+        requires { IsRun self.now }
+        ensures { result ≡ path_violation self.now.design.now.station self.now.routes.now self.now.plan.now.steps }
+    {
+        for journey in self.journeys {
+            if let Some(visit) = missed(journey.course.visits.as_slice()) {
+                return Some(Violation::Path {
+                    train: journey.course.train,
+                    visit,
+                });
+            }
+        }
+        None
+    }
+
+    /// All trains before the first tick.
+    fn first_states(&self, alloc: Global) -> Result<Vec<TrainState>, AllocError>
+        requires { IsRun self.now }
+        ensures { IfOk result (λ s. s.items ≡ state_at self.now.design.now.station self.now.routes.now self.now.plan.now.steps 0) }
+    {
+        let mut states = Vec::new(alloc);
+        for _journey in self.journeys {
+            states.push(IDLE)?;
+        }
+        Ok(states)
+    }
+
+    /// The verdict of a plan whose paths make all visits.
+    fn verdict_by_ticks(&self, alloc: Global, ticks: u64) -> Result<Verdict, AllocError>
+        requires run { IsRun self.now }
+        requires paths { path_violation self.now.design.now.station self.now.routes.now self.now.plan.now.steps ≡ None }
+        ensures { IfOk result (λ v. v ≡ verdict_of self.now.design.now.station self.now.routes.now self.now.plan.now.steps ticks) }
+    {
+        let mut states = self.first_states(alloc)?;
+        let mut history = self.first_histories(alloc)?;
+        let last = ticks.min(self.design.horizon());
+        for tick in 1..last + 1 {
+            states = self.tick(alloc, states.as_slice())?;
+            history = self.next_histories(alloc, &history, states.as_slice(), tick)?;
+            if let Some(violation) = first_violation(self.design, &history, tick) {
+                return Ok(Verdict::Failed {
+                    history,
+                    tick,
+                    violation,
+                });
+            }
+            if is_done(&history) {
+                return Ok(Verdict::Met { history, tick });
+            }
+        }
+        Ok(Verdict::Undecided)
+    }
+
+    /// The verdict of the plan that is run.
+    fn verdict(&self, alloc: Global, ticks: u64) -> Result<Verdict, AllocError>
+        requires { IsRun self.now }
+        ensures { IfOk result (λ v. v ≡ verdict_of self.now.design.now.station self.now.routes.now self.now.plan.now.steps ticks) }
+    {
+        let Some(violation) = self.path_violation() else {
+            return self.verdict_by_ticks(alloc, ticks);
+        };
+        if ticks == 0 {
+            return Ok(Verdict::Undecided);
+        }
+        Ok(Verdict::Failed {
+            history: List::new(alloc),
+            tick: 1,
+            violation,
+        })
+    }
+}
+
+/// What so many ticks of a run show of a plan: that it meets the design, that it fails and why, or nothing yet. The
+/// history ends with the deciding tick.
+pub fn simulate(
+    alloc: Global,
+    design: &Design,
+    routes: &RouteTable,
+    plan: &Plan,
+    ticks: u64,
+) -> Result<Verdict, AllocError>
+    requires table { routes.now ≡ routes_of design.now.station }
+    requires few { length routes.now ≤ 2000 }
+    requires formed { IsWellFormed design.now.station routes.now 64 plan.now.steps }
+    ensures { IfOk result (λ v. v ≡ verdict_of design.now.station routes.now plan.now.steps ticks) }
+{
+    let courses = courses_of(alloc, design, routes, plan)?;
+    let journeys = journeys_of(alloc, design, routes, plan, courses.as_slice())?;
+    let run = Run {
+        design,
+        routes,
+        plan,
+        journeys: journeys.as_slice(),
+    };
+    run.verdict(alloc, ticks)
+}
