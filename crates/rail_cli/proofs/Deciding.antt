@@ -1,0 +1,154 @@
+-- Simulations in which nothing is refused.
+use Rattle.std.proofs.Common.{◌≡◌, ◌↔◌, ℕ, true, List, ◌∷◌, Option, None, Some, Result, Ok, Err, IfOk, refl, ap, sym, ◌∙◌, subst}
+use Rattle.std.specs.List.{concat}
+use Rattle.rail_base.specs.declared.station.Station.{Station}
+use Rattle.rail_base.specs.declared.plan.Command.{Command}
+use Rattle.rail_outside.specs.Files.{Files}
+use Rattle.rail_outside.specs.Growth.{grown}
+use Rattle.rail_plan.specs.Reading.{plan_of}
+use Rattle.rail_spec.specs.Track.{routes_of}
+use Rattle.rail_spec.specs.Feasible.{IsFeasible}
+use Rattle.rail_words.specs.Requests.{Asked, simulate, request_of}
+use Rattle.rail_cli.specs.declared.status.Status.{Status}
+use Rattle.rail_cli.specs.declared.status.Status.TheVariants as statuses
+use Rattle.rail_cli.specs.declared.reply.Reply.{Reply}
+use Rattle.rail_cli.specs.declared.ending.Ending.{Ending}
+use Rattle.rail_cli.specs.declared.ending.Ending.TheVariants as ending
+use Rattle.rail_cli.specs.declared.input.InputFile.TheVariants as file
+use Rattle.rail_cli.specs.Statuses.{is_refusal, is_answered}
+use Rattle.rail_cli.specs.Answers.{Answer, within_limit, design_in, plan_or_answer, plan_in, verdict_status, unless_refused, planned, shown, shown_by, simulated, answer_to, answer_of}
+use Rattle.rail_cli.specs.Replies.{reply_seen, Replies, RefusesFile, OnReply, DecidesPlan, Decides, DecidesRequest}
+use Rattle.rail_cli.specs.Simulations.{Simulates, TellsFeasible, DoneWhereFeasible}
+use Rattle.rail_cli.specs.Prints.{Prints}
+use Rattle.rail_cli.proofs.Refusing.{routes_listed, design_read, file_fits, file_is}
+use Rattle.rail_cli.proofs.Showing.{verdict_refuses_nothing, no_unless_done, met_first}
+
+-- ---- one reading after the other
+
+pub answered_next : {X : Type 0} (r : Result X Answer) (x : X) (next : X → Answer) → r ≡ Ok x → unless_refused r next ≡ next x
+answered_next r x next e = ap (λ q. unless_refused q next) e
+
+pub answered_refusal : {X : Type 0} (r : Result X Answer) (a : Answer) (next : X → Answer) → r ≡ Err a → unless_refused r next ≡ a
+answered_refusal r a next e = ap (λ q. unless_refused q next) e
+
+-- what is left of a simulation when its design is fetched
+abbrev pub with_design : List ℕ → List ℕ → Answer
+with_design plan_bytes design_text = unless_refused (design_in design_text) (λ d. unless_refused (within_limit file.Plan plan_bytes) (planned d))
+
+module _ (design_bytes plan_bytes : List ℕ) where
+  pub too_long_design : (a : Answer) → within_limit file.Design design_bytes ≡ Err a → simulated design_bytes plan_bytes ≡ a
+  too_long_design a e = answered_refusal (within_limit file.Design design_bytes) a (with_design plan_bytes) e
+
+  module _ (design_text : List ℕ) (fits : within_limit file.Design design_bytes ≡ Ok design_text) where
+    fetched_so : simulated design_bytes plan_bytes ≡ with_design plan_bytes design_text
+    fetched_so = answered_next (within_limit file.Design design_bytes) design_text (with_design plan_bytes) fits
+
+    pub refused_design : (a : Answer) → design_in design_text ≡ Err a → simulated design_bytes plan_bytes ≡ a
+    refused_design a e = fetched_so ∙ answered_refusal (design_in design_text) a (λ d. unless_refused (within_limit file.Plan plan_bytes) (planned d)) e
+
+    module _ (d : Station) (reads : design_in design_text ≡ Ok d) where
+      read_so : simulated design_bytes plan_bytes ≡ unless_refused (within_limit file.Plan plan_bytes) (planned d)
+      read_so = fetched_so ∙ answered_next (design_in design_text) d (λ e. unless_refused (within_limit file.Plan plan_bytes) (planned e)) reads
+
+      pub too_long_plan : (a : Answer) → within_limit file.Plan plan_bytes ≡ Err a → simulated design_bytes plan_bytes ≡ a
+      too_long_plan a e = read_so ∙ answered_refusal (within_limit file.Plan plan_bytes) a (planned d) e
+
+      pub planned_so : (plan_text : List ℕ) → within_limit file.Plan plan_bytes ≡ Ok plan_text → simulated design_bytes plan_bytes ≡ planned d plan_text
+      planned_so plan_text e = read_so ∙ answered_next (within_limit file.Plan plan_bytes) plan_text (planned d) e
+
+-- the plan is decided over the design that is spelled
+pub decides_so : (design_bytes plan_bytes design_text plan_text : List ℕ) (d : Station) (r : Result Reply Ending) → within_limit file.Design design_bytes ≡ Ok design_text → within_limit file.Plan plan_bytes ≡ Ok plan_text → design_in design_text ≡ Ok d
+    → IfOk r (λ reply. DecidesPlan d plan_text reply.status) → IfOk r (λ reply. Decides design_bytes plan_bytes reply.status)
+decides_so design_bytes plan_bytes design_text plan_text d (Ok reply) fits_design fits_plan reads decides =
+    let design = file_is file.Design design_bytes design_text fits_design in
+    let plan = file_is file.Plan plan_bytes plan_text fits_plan in
+    record {
+      design = d;
+      spelled = ap design_in design ∙ reads;
+      decided = subst (λ (text : List ℕ). DecidesPlan d text reply.status) (sym plan) decides;
+    }
+decides_so design_bytes plan_bytes design_text plan_text d (Err e) fits_design fits_plan reads decides = tt
+
+-- ---- where nothing is refused
+
+module _ (files : Files) (words : List (List ℕ)) (d : Station) (plan : List (List Command)) (s : Simulates files words d plan) where
+  pub reads_design : design_in (files s.design_name) ≡ Ok d
+  reads_design = design_read (files s.design_name) d s.spells_design (routes_listed d s.once s.few)
+
+  pub reads_plan : plan_in d (files s.plan_name) ≡ Ok plan
+  reads_plan = ap (plan_or_answer d) s.spells_plan
+
+  pub simulated_so : simulated (files s.design_name) (files s.plan_name) ≡ shown d (shown_by d plan)
+  simulated_so =
+      planned_so (files s.design_name) (files s.plan_name) (files s.design_name) (file_fits file.Design (files s.design_name) s.short_design) d reads_design (files s.plan_name) (file_fits file.Plan (files s.plan_name) s.short_plan)
+      ∙ answered_next (plan_in d (files s.plan_name)) plan (λ p. shown d (shown_by d p)) reads_plan
+
+  pub answered_so : answer_of files words ≡ shown d (shown_by d plan)
+  answered_so = ap (answer_to files) s.asked ∙ simulated_so
+
+  -- the request names its files
+  module _ (design_name plan_name : List ℕ) (asked : request_of words ≡ Some (simulate design_name plan_name)) where
+    same_design : s.design_name ≡ design_name
+    same_design = let h = sym s.asked ∙ asked in cc
+
+    same_plan : s.plan_name ≡ plan_name
+    same_plan = let h = sym s.asked ∙ asked in cc
+
+    pub done_here : (t : Status) → Decides (files design_name) (files plan_name) t → (t ≡ statuses.Done) ↔ IsFeasible d 64 plan
+    done_here t dec =
+        let one : Ok dec.design ≡ Ok d = sym dec.spelled ∙ ap (λ n. design_in (files n)) (sym same_design) ∙ reads_design in
+        let design : dec.design ≡ d = cc in
+        let two : Ok dec.decided.plan ≡ Ok plan = sym dec.decided.spelled ∙ ap (λ e. plan_in e (files plan_name)) design ∙ ap (λ n. plan_in d (files n)) (sym same_plan) ∙ reads_plan in
+        let steps : dec.decided.plan ≡ plan = cc in
+        let at_design : (t ≡ statuses.Done) ↔ IsFeasible d 64 dec.decided.plan = subst (λ (e : Station). (t ≡ statuses.Done) ↔ IsFeasible e 64 dec.decided.plan) design dec.decided.exactly in
+        subst (λ (p : List (List Command)). (t ≡ statuses.Done) ↔ IsFeasible d 64 p) steps at_design
+
+    pub not_refused : (r : Reply) → simulated (files design_name) (files plan_name) ≡ reply_seen r → is_refusal r.status ≡ true → ⊥
+    not_refused r e refuses =
+        let seen : shown d (shown_by d plan) ≡ reply_seen r = sym simulated_so ∙ ap (λ n. simulated (files n) (files s.plan_name)) same_design ∙ ap (λ n. simulated (files design_name) (files n)) same_plan ∙ e in
+        let kind : verdict_status (shown_by d plan) ≡ r.status = ap (λ (a : Answer). a.status) seen in
+        verdict_refuses_nothing (shown_by d plan) (ap is_refusal kind ∙ refuses)
+
+-- the reply to a request says 0 exactly where the plan is feasible
+pub done_where_feasible : (files : Files) (words : List (List ℕ)) (asked : Asked) (r : Result Reply Ending) → request_of words ≡ Some asked
+    → Replies r (answer_to files (Some asked)) → RefusesFile r → DecidesRequest files asked r
+    → OnReply r (λ reply. DoneWhereFeasible files words reply.status)
+done_where_feasible files words (simulate design_name plan_name) (Ok reply) asked replies refuses decides = λ d plan s. done_here files words d plan s design_name plan_name asked reply.status decides
+done_where_feasible files words (simulate design_name plan_name) (Err (ending.Told reply)) asked replies refuses decides = λ d plan s. absurd (not_refused files words d plan s design_name plan_name asked reply replies refuses)
+done_where_feasible files words (simulate design_name plan_name) (Err ending.Memory) asked replies refuses decides = tt
+done_where_feasible files words (simulate design_name plan_name) (Err ending.ShelfFault) asked replies refuses decides = tt
+
+-- what is printed then
+pub tells_feasible : (files : Files) (words : List (List ℕ)) (d : Station) (plan : List (List Command)) (t : Status) (text new_text : Option (List ℕ)) (pieces new_pieces : Option (List (List ℕ)))
+    → Prints (answer_of files words) t text new_text pieces new_pieces → DoneWhereFeasible files words t → Simulates files words d plan → is_answered t ≡ true → TellsFeasible d plan t text new_text
+tells_feasible files words d plan t text new_text pieces new_pieces prints exact s answered =
+    let so = answered_so files words d plan s in
+    let done = exact d plan s in
+    let kind : t ≡ verdict_status (shown_by d plan) = prints.status answered ∙ ap (λ (a : Answer). a.status) so in
+    record {
+      done = done;
+      failed = ((λ e f. let yes = done.1 f in absurd (cc)), (λ no. kind ∙ no_unless_done (shown_by d plan) (λ e. no (done.0 (kind ∙ e)))));
+      met = λ f. met_first d plan (sym kind ∙ done.1 f);
+      text = prints.written answered ∙ ap (λ (a : Answer). grown text (concat a.lines)) so;
+    }
+
+-- a reply that was made
+pub told_reply : (e : Ending) (reply : Reply) (fact : Reply → Type 0) → e ≡ ending.Told reply → OnReply (Err e) fact → fact reply
+told_reply (ending.Told r) reply fact same h = let this : r ≡ reply = cc in subst fact this h
+told_reply ending.Memory reply fact same h = absurd (cc)
+told_reply ending.ShelfFault reply fact same h = absurd (cc)
+
+module _ (answer : Answer) (reply : Reply) (t : Status) (text new_text : Option (List ℕ)) (pieces new_pieces : Option (List (List ℕ))) (replies : answer ≡ reply_seen reply) (prints : Prints (reply_seen reply) t text new_text pieces new_pieces) where
+  -- its print is that of the answer
+  pub prints_answer : Prints answer t text new_text pieces new_pieces
+  prints_answer = subst (λ (a : Answer). Prints a t text new_text pieces new_pieces) (sym replies) prints
+
+-- what is printed of it
+pub tells_of_reply : (files : Files) (words : List (List ℕ)) (d : Station) (plan : List (List Command)) (reply : Reply) (t : Status) (text new_text : Option (List ℕ)) (pieces new_pieces : Option (List (List ℕ)))
+    → answer_of files words ≡ reply_seen reply → DoneWhereFeasible files words reply.status → Prints (reply_seen reply) t text new_text pieces new_pieces → Simulates files words d plan → is_answered t ≡ true → TellsFeasible d plan t text new_text
+tells_of_reply files words d plan reply t text new_text pieces new_pieces replies done prints s answered =
+    tells_feasible files words d plan t text new_text pieces new_pieces (prints_answer (answer_of files words) reply t text new_text pieces new_pieces replies prints) (subst (DoneWhereFeasible files words) (sym (prints.status answered)) done) s answered
+
+-- a request that names these files is decided by them
+pub decides_named : (files : Files) (asked : Asked) (design_name plan_name : List ℕ) (r : Result Reply Ending) → IfOk r (λ reply. Decides (files design_name) (files plan_name) reply.status) → asked ≡ simulate design_name plan_name → DecidesRequest files asked r
+decides_named files asked design_name plan_name r decides is = subst (λ (a : Asked). DecidesRequest files a r) (sym is) decides

@@ -1,0 +1,5 @@
+pub mod Asking
+pub mod Refusing
+pub mod Showing
+pub mod Deciding
+pub mod Silence

@@ -1,0 +1,24 @@
+use Rattle.std.proofs.Common.{ap, ap₂, sym, ◌∙◌, subst, ◌↔◌, ◌≡◌}
+use Rattle.rail_base.proofs.Admitting.{admitted}
+use Rattle.rail_spec.specs.Feasible.{IsFeasible}
+use Rattle.rail_spec.specs.Histories.{verdict_of}
+use Rattle.rail_cli.specs.declared.status.Status.{Status}
+use Rattle.rail_cli.specs.declared.status.Status.TheVariants as statuses
+use Rattle.rail_cli.specs.Answers.{shown_by, verdict_status}
+use Rattle.rail_cli.proofs.Showing.{done_exactly, shown_so}
+use Rattle.rail_cli.proofs.simulation.show.Goals as goal
+
+pub returns-clause-shown : goal.returns-clause-shown
+returns-clause-shown c =
+    let d = c.args.design.now.station in
+    let plan = c.args.plan.now.steps in
+    let same : c.in_ok-verdict.verdict ≡ shown_by d plan = c.in_ok-verdict.ensures ∙ ap₂ (λ r h. verdict_of d r plan h) c.requires.table c.horizon.ensures.value in
+    shown_so d _ _ c.in_ok-verdict.verdict _ c.status_of.ensures c.in_ok-lines.ensures same
+
+pub returns-clause-exactly : goal.returns-clause-exactly
+returns-clause-exactly c =
+    let d = c.args.design.now.station in
+    let plan = c.args.plan.now.steps in
+    let same : c.in_ok-verdict.verdict ≡ shown_by d plan = c.in_ok-verdict.ensures ∙ ap₂ (λ r h. verdict_of d r plan h) c.requires.table c.horizon.ensures.value in
+    let kind : c.status_of.result ≡ verdict_status (shown_by d plan) = c.status_of.ensures ∙ ap verdict_status same in
+    subst (λ (s : Status). (s ≡ statuses.Done) ↔ IsFeasible d 64 plan) (sym kind) (done_exactly d plan (admitted d c.args.design.now.admitted) c.requires.runnable)

@@ -1,0 +1,130 @@
+-- The answer to the words of a command line, for the files that are held.
+use Rattle.std.specs.Prelude.{ℕ, List, [], ◌∷◌, length, map, nat_lt, nat_le, Option, None, Some, Result, Ok, Err, if◌then◌else◌}
+use Rattle.design_table.specs.declared.fault.Code.{Code}
+use Rattle.design_table.specs.declared.fault.Code.TheVariants.{D12, D13}
+use Rattle.design_table.specs.declared.place.EntryKind.TheVariants as kind
+use Rattle.design_table.specs.declared.place.Place.{Place}
+use Rattle.design_table.specs.declared.place.Place.TheVariants as place
+use Rattle.design_table.specs.Reads.{at, unless_at}
+use Rattle.infra_reader.specs.Design.{design_of}
+use Rattle.rail_base.specs.declared.station.Station.{Station}
+use Rattle.rail_base.specs.declared.station.EdgeNo.{EdgeNo}
+use Rattle.rail_base.specs.declared.plan.Command.{Command}
+use Rattle.rail_base.specs.declared.history.Verdict.{Verdict}
+use Rattle.rail_base.specs.declared.history.Verdict.TheVariants as verdict
+use Rattle.rail_base.specs.Stations.{horizon}
+use Rattle.rail_outside.specs.Files.{Files}
+use Rattle.rail_outside.specs.Asks.{Ask, fetched}
+use Rattle.rail_plan.specs.declared.fault.PlanCode.{PlanCode}
+use Rattle.rail_plan.specs.declared.place.PlanPlace.{PlanPlace}
+use Rattle.rail_plan.specs.Reading.{plan_of}
+use Rattle.rail_spec.specs.Track.{routes_of, all_closings, edges_met_again}
+use Rattle.rail_spec.specs.Histories.{verdict_of}
+use Rattle.rail_words.specs.Requests.{Asked, simulate, request_of}
+use Rattle.timetable.specs.Timetable.{timetable_of}
+use Rattle.rail_cli.specs.declared.status.Status.{Status}
+use Rattle.rail_cli.specs.declared.status.Status.TheVariants as status
+use Rattle.rail_cli.specs.declared.input.InputFile.{InputFile}
+use Rattle.rail_cli.specs.declared.input.InputFile.TheVariants as file
+use Rattle.rail_cli.specs.Texts.{usage_line, limit_of, too_long_line, design_refused_line, plan_refused_line}
+
+-- what the program answers: the status to end with, and the lines to print
+pub record Answer : Type 0 where
+  pub status : Status
+  pub lines : List (List ℕ)
+
+-- an answer of one line
+abbrev pub one_line : Status → List ℕ → Answer
+one_line s line = record { status = s; lines = line ∷ [] }
+
+-- ---- what is read, or the answer that refuses it
+
+-- the bytes of a file, where they are within its limit
+abbrev pub within_limit : InputFile → List ℕ → Result (List ℕ) Answer
+within_limit f bytes = if nat_lt (limit_of f) (length bytes) then Err (one_line status.TooLong (too_long_line f)) else Ok bytes
+
+-- an edge, by its place in the file
+abbrev pub edge_place : EdgeNo → Place
+edge_place e = place.Entry kind.Edge e.0
+
+-- a design of which no path of the first 2,001 meets an edge again, and at most 2,000 paths close
+abbrev pub with_routes : Station → Result Station (Code × Place)
+with_routes d =
+    unless_at D12 (map edge_place (edges_met_again d)) (
+    unless_at D13 (at (nat_le 2001 (length (all_closings d))) place.Routes) (Ok d))
+
+-- a design or its refusal, as an answer
+abbrev pub design_or_answer : Result Station (Code × Place) → Result Station Answer
+design_or_answer (Ok d) = Ok d
+design_or_answer (Err refusal) = Err (one_line status.DesignRefused (design_refused_line refusal.0 refusal.1))
+
+-- what comes next, unless this was refused
+abbrev pub and_then : {X Y R : Type 0} → Result X R → (X → Result Y R) → Result Y R
+and_then (Ok x) next = next x
+and_then (Err r) next = Err r
+
+-- the design that the bytes spell, whose routes can be listed
+abbrev pub design_in : List ℕ → Result Station Answer
+design_in bytes = design_or_answer (and_then (design_of bytes) with_routes)
+
+-- a plan or its refusal, as an answer
+abbrev pub plan_or_answer : Station → Result (List (List Command)) (PlanCode × PlanPlace) → Result (List (List Command)) Answer
+plan_or_answer d (Ok plan) = Ok plan
+plan_or_answer d (Err refusal) = Err (one_line status.PlanRefused (plan_refused_line d refusal.0 refusal.1))
+
+-- the plan over a design that the bytes spell
+abbrev pub plan_in : Station → List ℕ → Result (List (List Command)) Answer
+plan_in d bytes = plan_or_answer d (plan_of d (routes_of d) bytes)
+
+-- ---- answers
+
+-- what the run of a plan shows by the horizon
+abbrev pub shown_by : Station → List (List Command) → Verdict
+shown_by d plan = verdict_of d (routes_of d) plan (horizon d)
+
+-- 0 where the plan meets the design
+abbrev pub verdict_status : Verdict → Status
+verdict_status (verdict.Met history tick) = status.Done
+verdict_status (verdict.Failed history tick violation) = status.No
+verdict_status verdict.Undecided = status.No
+
+-- the timetable of what a run shows
+abbrev pub shown : Station → Verdict → Answer
+shown d v = record { status = verdict_status v; lines = timetable_of d v }
+
+-- what comes of what is read, or the answer that refuses it
+abbrev pub unless_refused : {X : Type 0} → Result X Answer → (X → Answer) → Answer
+unless_refused (Ok x) next = next x
+unless_refused (Err answer) next = answer
+
+-- the answer for a design and the bytes of a plan
+abbrev pub planned : Station → List ℕ → Answer
+planned d plan_text = unless_refused (plan_in d plan_text) (λ plan. shown d (shown_by d plan))
+
+-- the answer to a simulation, for the bytes of the design and of the plan
+abbrev pub simulated : List ℕ → List ℕ → Answer
+simulated design_bytes plan_bytes =
+    unless_refused (within_limit file.Design design_bytes) (λ design_text.
+    unless_refused (design_in design_text) (λ d.
+    unless_refused (within_limit file.Plan plan_bytes) (λ plan_text.
+    planned d plan_text)))
+
+-- the answer to a request, which may be none
+abbrev pub answer_to : Files → Option Asked → Answer
+answer_to files None = one_line status.Usage usage_line
+answer_to files (Some (simulate design plan)) = simulated (files design) (files plan)
+
+-- the answer to the words of a command line, the first of which is the program's name
+abbrev pub answer_of : Files → List (List ℕ) → Answer
+answer_of files words = answer_to files (request_of words)
+
+-- ---- what is asked of the shelf
+
+-- the fetches for a request, in order
+abbrev pub asks_to : Option Asked → List Ask
+asks_to None = []
+asks_to (Some (simulate design plan)) = fetched design ∷ fetched plan ∷ []
+
+-- the fetches for the words of a command line
+abbrev pub asks_of : List (List ℕ) → List Ask
+asks_of words = asks_to (request_of words)

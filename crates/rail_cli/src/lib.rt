@@ -1,0 +1,16 @@
+//! The commands of `rcv`: from the words of a command line, over a shelf of files, to the lines that are printed and
+//! the status to end with.
+#![tactic(auto)]
+
+mod ending;
+mod input;
+mod names;
+mod refusals;
+mod reply;
+mod run;
+mod simulation;
+mod status;
+mod texts;
+
+pub use run::run_words;
+pub use status::Status;

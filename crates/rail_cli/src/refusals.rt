@@ -1,0 +1,79 @@
+//! Replies of one line.
+
+ghost use Rattle.std.specs.Prelude.{◌≡◌, true, IfOk};
+ghost use Rattle.rail_cli.specs.Statuses.{is_answered};
+ghost use Rattle.rail_cli.specs.Texts.{usage_line, too_long_line, design_refused_line, plan_refused_line};
+ghost use Rattle.rail_cli.specs.Answers.{one_line};
+ghost use Rattle.rail_cli.specs.Replies.{reply_seen, ended};
+
+use crate::ending::Ending;
+use crate::input::InputFile;
+use crate::reply::Reply;
+use crate::status::Status;
+use crate::texts::{design_refused_line, plan_refused_line, too_long_line, usage_line};
+use design_table::{Code, Place};
+use rail_base::design::Design;
+use rail_plan::fault::PlanCode;
+use rail_plan::place::PlanPlace;
+use std::alloc::{AllocError, Global};
+
+/// A reply of one line.
+fn one_line(alloc: Global, status: Status, line: Vec<u8>) -> Result<Reply, AllocError>
+    requires { is_answered status ≡ true }
+    ensures { IfOk result (λ reply. reply_seen reply ≡ one_line status line.items) }
+{
+    let mut lines = Vec::new(alloc);
+    lines.push(line)?;
+    Ok(Reply { status, lines })
+}
+
+/// The words ask for nothing.
+pub(crate) fn usage(alloc: Global) -> Result<Reply, AllocError>
+    ensures { IfOk result (λ reply. reply_seen reply ≡ one_line Status.Usage usage_line) }
+{
+    one_line(alloc, Status::Usage, usage_line(alloc)?)
+}
+
+/// A file is longer than its limit.
+pub(crate) fn too_long(alloc: Global, file: InputFile) -> Result<Reply, AllocError>
+    ensures { IfOk result (λ reply. reply_seen reply ≡ one_line Status.TooLong (too_long_line file)) }
+{
+    one_line(alloc, Status::TooLong, too_long_line(alloc, file)?)
+}
+
+/// The design is refused.
+pub(crate) fn design_refused(alloc: Global, code: Code, place: Place) -> Result<Reply, AllocError>
+    ensures { IfOk result (λ reply. reply_seen reply ≡ one_line Status.DesignRefused (design_refused_line code place)) }
+{
+    one_line(
+        alloc,
+        Status::DesignRefused,
+        design_refused_line(alloc, code, place)?,
+    )
+}
+
+/// The plan is refused.
+pub(crate) fn plan_refused(
+    alloc: Global,
+    design: &Design,
+    code: PlanCode,
+    place: PlanPlace,
+) -> Result<Reply, AllocError>
+    ensures { IfOk result (λ reply. reply_seen reply ≡ one_line Status.PlanRefused (plan_refused_line design.now.station code place)) }
+{
+    one_line(
+        alloc,
+        Status::PlanRefused,
+        plan_refused_line(alloc, design, code, place)?,
+    )
+}
+
+/// The work ends with a reply, or for want of memory.
+pub(crate) fn ended(reply: Result<Reply, AllocError>) -> Ending
+    ensures { result ≡ ended reply }
+{
+    match reply {
+        Ok(reply) => Ending::Told(reply),
+        Err(_) => Ending::Memory,
+    }
+}

@@ -1,0 +1,193 @@
+//! A plan simulated over a design.
+
+ghost use Rattle.std.specs.Prelude.{◌≡◌, ◌≤◌, ◌↔◌, [], ◌∷◌, true, length, IfOk, OnOk, Some};
+ghost use Rattle.rail_base.specs.Stations.{horizon};
+ghost use Rattle.rail_outside.specs.Asks.{fetched};
+ghost use Rattle.rail_outside.specs.Files.{Files};
+ghost use Rattle.rail_outside.specs.Growth.{Rose, grown, GrowsByFront};
+ghost use Rattle.rail_spec.specs.Feasible.{IsRunnable, IsFeasible};
+ghost use Rattle.rail_spec.specs.Track.{routes_of};
+ghost use Rattle.rail_cli.specs.Statuses.{is_verdict};
+ghost use Rattle.rail_cli.specs.Answers.{within_limit, design_in, plan_in, with_routes, design_or_answer, planned, shown, shown_by, verdict_status, simulated};
+ghost use Rattle.rail_cli.specs.Replies.{reply_seen, Reads, RefusesFile, OnlyRefuses, Replies, DecidesPlan, Decides};
+ghost use Rattle.infra_reader.specs.Design.{design_of};
+
+use crate::ending::Ending;
+use crate::input::InputFile;
+use crate::refusals::{design_refused, ended, plan_refused, too_long};
+use crate::reply::Reply;
+use crate::status::Status;
+use design_table::{Code, DesignFault, EntryKind, Place};
+use infra_reader::read_design;
+use rail_base::design::Design;
+use rail_base::history::Verdict;
+use rail_base::plan::Plan;
+use rail_base::route::RouteTable;
+use rail_outside::{FetchFault, Shelf};
+use rail_plan::fault::PlanFault;
+use rail_plan::reading::read_plan;
+use rail_routes::{RouteFault, routes};
+use std::alloc::{AllocError, Global};
+use tick_sim::simulate;
+use timetable::timetable_lines;
+
+/// The bytes of a file within its limit.
+fn fetch<S: Shelf>(
+    alloc: Global,
+    shelf: &mut S,
+    file: InputFile,
+    name: &str,
+) -> Result<Vec<u8>, Ending>
+    ensures reads { (files : Files) → S.held shelf.old ≡ Some files → Reads (λ v. v.items) result (within_limit file (files name.now)) }
+    ensures refuses { RefusesFile result }
+    ensures cause { result ≡ Err Ending.ShelfFault → Rose (S.fault_count shelf.old) (S.fault_count shelf.new) }
+    ensures never_falls { S.fault_count shelf.old ≤ S.fault_count shelf.new }
+    ensures files_stay { S.held shelf.new ≡ S.held shelf.old }
+    ensures asked { OnOk result (S.asked shelf.new ≡ grown (S.asked shelf.old) (fetched name.now ∷ [])) }
+    ensures asks { GrowsByFront (S.asked shelf.old) (S.asked shelf.new) (fetched name.now ∷ []) }
+{
+    match shelf.fetch(alloc, name, file.limit()) {
+        Ok(bytes) => Ok(bytes),
+        Err(FetchFault::TooLong { .. }) => Err(ended(too_long(alloc, file))),
+        Err(FetchFault::Failed) => Err(Ending::ShelfFault),
+        Err(FetchFault::Memory) => Err(Ending::Memory),
+    }
+}
+
+/// The design that the bytes spell, before its routes are listed.
+fn read(alloc: Global, bytes: &[u8]) -> Result<Design, Ending>
+    ensures reads { Reads (λ d. d.station) result (design_or_answer (design_of bytes.now)) }
+    ensures refuses { OnlyRefuses result }
+{
+    match read_design(alloc, bytes) {
+        Ok(design) => Ok(design),
+        Err(DesignFault::Refused { code, place }) => {
+            Err(ended(design_refused(alloc, code, place)))
+        }
+        Err(DesignFault::Memory) => Err(Ending::Memory),
+    }
+}
+
+/// The routes of a design.
+fn list_routes(alloc: Global, design: &Design) -> Result<RouteTable, Ending>
+    ensures reads { Reads (λ _. design.now.station) result (design_or_answer (with_routes design.now.station)) }
+    ensures refuses { OnlyRefuses result }
+    ensures routes { IfOk result (λ routes. routes ≡ routes_of design.now.station) }
+    ensures few { IfOk result (λ routes. length routes ≤ 2000) }
+{
+    match routes(alloc, design) {
+        Ok(routes) => Ok(routes),
+        Err(RouteFault::Again { edge }) => {
+            let place = Place::Entry(EntryKind::Edge, u64::from(edge.0));
+            Err(ended(design_refused(alloc, Code::D12, place)))
+        }
+        Err(RouteFault::TooMany) => { Err(ended(design_refused(alloc, Code::D13, Place::Routes))) }
+        Err(RouteFault::Memory) => Err(Ending::Memory),
+    }
+}
+
+/// The design that the bytes spell, with its routes.
+fn admit(alloc: Global, bytes: &[u8]) -> Result<(Design, RouteTable), Ending>
+    ensures reads { Reads (λ found. found.0.station) result (design_in bytes.now) }
+    ensures refuses { OnlyRefuses result }
+    ensures routes { IfOk result (λ found. found.1 ≡ routes_of found.0.station) }
+    ensures few { IfOk result (λ found. length found.1 ≤ 2000) }
+{
+    let design = read(alloc, bytes)?;
+    let routes = list_routes(alloc, &design)?;
+    Ok((design, routes))
+}
+
+/// The plan over a design that the bytes spell.
+fn read_steps(
+    alloc: Global,
+    design: &Design,
+    routes: &RouteTable,
+    bytes: &[u8],
+) -> Result<Plan, Ending>
+    requires table { routes.now ≡ routes_of design.now.station }
+    requires few { length routes.now ≤ 2000 }
+    ensures reads { Reads (λ p. p.steps) result (plan_in design.now.station bytes.now) }
+    ensures refuses { OnlyRefuses result }
+    ensures runnable { IfOk result (λ p. IsRunnable design.now.station (routes_of design.now.station) 64 p.steps) }
+{
+    match read_plan(alloc, design, routes, bytes) {
+        Ok(plan) => Ok(plan),
+        Err(PlanFault::Refused { code, place }) => {
+            Err(ended(plan_refused(alloc, design, code, place)))
+        }
+        Err(PlanFault::Memory) => Err(Ending::Memory),
+    }
+}
+
+/// 0 where the plan meets the design, and else 1.
+fn status_of(verdict: &Verdict) -> Status
+    ensures { result ≡ verdict_status verdict.now }
+{
+    match verdict {
+        Verdict::Met { .. } => Status::Done,
+        Verdict::Failed { .. } | Verdict::Undecided => Status::No,
+    }
+}
+
+/// The timetable of a plan's run up to the horizon.
+fn show(
+    alloc: Global,
+    design: &Design,
+    routes: &RouteTable,
+    plan: &Plan,
+) -> Result<Reply, AllocError>
+    requires table { routes.now ≡ routes_of design.now.station }
+    requires few { length routes.now ≤ 2000 }
+    requires runnable { IsRunnable design.now.station (routes_of design.now.station) 64 plan.now.steps }
+    ensures shown { IfOk result (λ reply. reply_seen reply ≡ shown design.now.station (shown_by design.now.station plan.now.steps)) }
+    ensures verdict { IfOk result (λ reply. is_verdict reply.status ≡ true) }
+    ensures exactly { IfOk result (λ reply. (reply.status ≡ Status.Done) ↔ IsFeasible design.now.station 64 plan.now.steps) }
+{
+    let verdict = simulate(alloc, design, routes, plan, design.horizon())?;
+    let lines = timetable_lines(alloc, design, &verdict)?;
+    Ok(Reply {
+        status: status_of(&verdict),
+        lines,
+    })
+}
+
+/// The reply for a design and the bytes of a plan.
+fn planned(
+    alloc: Global,
+    design: &Design,
+    routes: &RouteTable,
+    bytes: &[u8],
+) -> Result<Reply, Ending>
+    requires table { routes.now ≡ routes_of design.now.station }
+    requires few { length routes.now ≤ 2000 }
+    ensures replies { Replies result (planned design.now.station bytes.now) }
+    ensures verdict { IfOk result (λ reply. is_verdict reply.status ≡ true) }
+    ensures refuses { OnlyRefuses result }
+    ensures decides { IfOk result (λ reply. DecidesPlan design.now.station bytes.now reply.status) }
+{
+    let plan = read_steps(alloc, design, routes, bytes)?;
+    Ok(show(alloc, design, routes, &plan)?)
+}
+
+/// The reply to a simulation, by the names of its files.
+pub(crate) fn simulated<S: Shelf>(
+    alloc: Global,
+    shelf: &mut S,
+    design: &str,
+    plan: &str,
+) -> Result<Reply, Ending>
+    ensures replies { (files : Files) → S.held shelf.old ≡ Some files → Replies result (simulated (files design.now) (files plan.now)) }
+    ensures verdict { IfOk result (λ reply. is_verdict reply.status ≡ true) }
+    ensures refuses { RefusesFile result }
+    ensures decides { (files : Files) → S.held shelf.old ≡ Some files → IfOk result (λ reply. Decides (files design.now) (files plan.now) reply.status) }
+    ensures cause { result ≡ Err Ending.ShelfFault → Rose (S.fault_count shelf.old) (S.fault_count shelf.new) }
+    ensures never_falls { S.fault_count shelf.old ≤ S.fault_count shelf.new }
+    ensures files_stay { S.held shelf.new ≡ S.held shelf.old }
+    ensures asks { GrowsByFront (S.asked shelf.old) (S.asked shelf.new) (fetched design.now ∷ fetched plan.now ∷ []) }
+{
+    let design_bytes = fetch(alloc, shelf, InputFile::Design, design)?;
+    let (design, routes) = admit(alloc, design_bytes.as_slice())?;
+    let plan_bytes = fetch(alloc, shelf, InputFile::Plan, plan)?;
+    planned(alloc, &design, &routes, plan_bytes.as_slice())
+}
