@@ -10,6 +10,8 @@ mod reply;
 mod run;
 mod simulation;
 mod status;
+#[cfg(test)]
+mod tests;
 mod texts;
 
 pub use run::run_words;

@@ -1,0 +1,318 @@
+//! Simulations from their words to their text, over a shelf and a sink in memory.
+
+use crate::{Status, run_words};
+use rail_outside::{Call, MemoryShelf, MemorySink};
+use std::alloc::{AllocError, Global};
+
+/// Two sections between two boundaries, with a signal between them.
+const TRACK: &str = r#"
+node = [
+ {name="b1", boundary=true}, {name="n1"}, {name="b2", boundary=true} ]
+edge = [
+ {name="e1", from="b1", from_side="b", to="n1", to_side="a", length_mm=10000, speed_mm_s=2000, section="z1"},
+ {name="e2", from="n1", from_side="b", to="b2", to_side="a", length_mm=6000, speed_mm_s=2000, section="z2"} ]
+signal = [ {name="s1", node="n1", toward="b"} ]
+vehicle = [ {name="v", length_mm=2000, accel_mm_s2=500, brake_mm_s2=700, speed_mm_s=2000} ]
+"#;
+
+const ONE_TRAIN: &str = r#"train = [ {name="A", vehicle="v", visits=[["b1"],["b2"]]} ]
+"#;
+
+const TWO_TRAINS: &str = r#"train = [
+ {name="A", vehicle="v", visits=[["b1"],["b2"]]},
+ {name="B", vehicle="v", visits=[["b1"],["b2"]]} ]
+"#;
+
+const WITHIN: &str =
+    r#"within = [ {from_train="A", from_visit=1, to_train="A", to_visit=2, max_ms=8000} ]
+"#;
+
+/// Two lines without a signal, and an order that asks for strictness.
+const PARALLEL: &str = r#"
+node = [
+ {name="c1", boundary=true}, {name="c2", boundary=true}, {name="d1", boundary=true}, {name="d2", boundary=true} ]
+edge = [
+ {name="e1", from="c1", from_side="b", to="c2", to_side="a", length_mm=4000, speed_mm_s=2000, section="zc"},
+ {name="e2", from="d1", from_side="b", to="d2", to_side="a", length_mm=4000, speed_mm_s=2000, section="zd"} ]
+vehicle = [ {name="v", length_mm=2000, accel_mm_s2=500, brake_mm_s2=700, speed_mm_s=2000} ]
+train = [
+ {name="A", vehicle="v", visits=[["c1"],["c2"]]},
+ {name="B", vehicle="v", visits=[["d1"],["d2"]]} ]
+order = [ {first_train="A", first_visit=1, then_train="B", then_visit=1} ]
+"#;
+
+/// The whole way for A.
+const ONE_WAY: &str = r#"{"steps":[[["A",1]],[["A",2]]]}"#;
+
+/// The whole way for A, and then for B.
+const ONE_BY_ONE: &str = r#"{"steps":[[["A",1]],[["A",2]],[["B",1]],[["B",2]]]}"#;
+
+const ONE_WAY_TEXT: &str = "met tick 10
+train A
+grant 1 route 1 tick 1
+grant 2 route 2 tick 2
+pass b1 tick 1
+pass n1 tick 7
+pass b2 tick 10
+visit 1 b1 tick 1 ms 1000
+visit 2 b2 tick 10 ms 10000
+";
+
+const ONE_BY_ONE_TEXT: &str = "met tick 18
+train A
+grant 1 route 1 tick 1
+grant 2 route 2 tick 2
+pass b1 tick 1
+pass n1 tick 7
+pass b2 tick 10
+visit 1 b1 tick 1 ms 1000
+visit 2 b2 tick 10 ms 10000
+train B
+grant 1 route 1 tick 9
+grant 2 route 2 tick 12
+pass b1 tick 9
+pass n1 tick 15
+pass b2 tick 18
+visit 1 b1 tick 9 ms 9000
+visit 2 b2 tick 18 ms 18000
+";
+
+const TOGETHER_TEXT: &str = "fails order 1 tick 1
+train A
+grant 1 route 1 tick 1
+pass c1 tick 1
+visit 1 c1 tick 1 ms 1000
+train B
+grant 1 route 3 tick 1
+pass d1 tick 1
+visit 1 d1 tick 1 ms 1000
+";
+
+const TOO_SLOW_TEXT: &str = "fails within 1 tick 9
+train A
+grant 1 route 1 tick 1
+grant 2 route 2 tick 2
+pass b1 tick 1
+pass n1 tick 7
+visit 1 b1 tick 1 ms 1000
+";
+
+const TOO_LATE_TEXT: &str = "fails grant train B command 1 tick 8
+train A
+grant 1 route 1 tick 1
+grant 2 route 2 tick 2
+pass b1 tick 1
+pass n1 tick 7
+visit 1 b1 tick 1 ms 1000
+train B
+";
+
+const USAGE: &str =
+    "usage: rcv simulate DESIGN PLAN; rcv routes DESIGN; rcv verify --steps N --conflicts C --ticks T DESIGN PROOF; rcv check --steps N DESIGN PROOF; rcv trial SEED SIZE\n";
+
+/// A design by its horizon, its track and what is asked of it.
+fn design(
+    alloc: Global,
+    horizon_ms: u32,
+    track: &str,
+    trains: &str,
+    asked: &str,
+) -> Result<String, AllocError> {
+    format!(in alloc;
+        "version = 1\ntick_ms = 1000\nhorizon_ms = {horizon_ms}\n{track}{trains}{asked}"
+    )
+}
+
+/// The words of a line of text, cut at its spaces.
+fn words_of(alloc: Global, line: &str) -> Result<Vec<String>, AllocError> {
+    let mut words = Vec::new(alloc);
+    for word in line.split(' ') {
+        words.push(String::from_str(alloc, word)?)?;
+    }
+    Ok(words)
+}
+
+/// A shelf with a design and a plan.
+fn shelf_of(alloc: Global, design: &[u8], plan: &str) -> Result<MemoryShelf, AllocError> {
+    let mut shelf = MemoryShelf::new(alloc);
+    shelf.add_file("design.toml", design)?;
+    shelf.add_file("plan.json", plan.as_bytes())?;
+    Ok(shelf)
+}
+
+/// The status of a line of words, as a number.
+fn run(
+    alloc: Global,
+    line: &str,
+    shelf: &mut MemoryShelf,
+    out: &mut MemorySink,
+) -> Result<u8, AllocError> {
+    let words = words_of(alloc, line)?;
+    Ok(run_words(alloc, words.as_slice(), shelf, out).code())
+}
+
+/// A simulation, and what it has to answer.
+#[derive(Clone, Copy)]
+struct Row<'a> {
+    design: &'a String,
+    plan: &'a str,
+    status: u8,
+    text: &'a str,
+}
+
+#[test]
+fn simulations_print_what_they_show(rt: HostRuntime) -> Result<(), AllocError> {
+    let alloc = rt.alloc();
+    let halt = design(alloc, 600_000, TRACK, ONE_TRAIN, "")?;
+    let halt_within = design(alloc, 600_000, TRACK, ONE_TRAIN, WITHIN)?;
+    let follow = design(alloc, 600_000, TRACK, TWO_TRAINS, "")?;
+    let follow_short = design(alloc, 8_000, TRACK, TWO_TRAINS, "")?;
+    let parallel = design(alloc, 600_000, PARALLEL, "", "")?;
+    let rows = [
+        Row {
+            design: &halt,
+            plan: ONE_WAY,
+            status: 0,
+            text: ONE_WAY_TEXT,
+        },
+        Row {
+            design: &halt,
+            plan: r#"{"steps":[[["A",1]]]}"#,
+            status: 1,
+            text: "fails path train A visit 2\n",
+        },
+        Row {
+            design: &halt,
+            plan: r#"{"steps":[]}"#,
+            status: 1,
+            text: "fails path train A visit 1\n",
+        },
+        Row {
+            design: &follow,
+            plan: ONE_BY_ONE,
+            status: 0,
+            text: ONE_BY_ONE_TEXT,
+        },
+        Row {
+            design: &follow,
+            plan: r#"{"steps":[[["A",1]],[["A",2],["B",1]]]}"#,
+            status: 4,
+            text: "plan refused P4 step 2 train B section z1\n",
+        },
+        Row {
+            design: &follow,
+            plan: r#"{"steps":[[["A",1]]"#,
+            status: 4,
+            text: "plan refused P1 file\n",
+        },
+        Row {
+            design: &follow,
+            plan: r#"{"steps":[[["C",1]]]}"#,
+            status: 4,
+            text: "plan refused P2 step 1 command 1\n",
+        },
+        Row {
+            design: &follow,
+            plan: r#"{"steps":[[["A",2]]]}"#,
+            status: 4,
+            text: "plan refused P3 step 1 train A\n",
+        },
+        Row {
+            design: &parallel,
+            plan: r#"{"steps":[[["A",1],["B",3]]]}"#,
+            status: 1,
+            text: TOGETHER_TEXT,
+        },
+        Row {
+            design: &halt_within,
+            plan: ONE_WAY,
+            status: 1,
+            text: TOO_SLOW_TEXT,
+        },
+        Row {
+            design: &follow_short,
+            plan: ONE_BY_ONE,
+            status: 1,
+            text: TOO_LATE_TEXT,
+        },
+    ];
+    for row in rows.iter() {
+        let mut shelf = shelf_of(alloc, row.design.as_bytes(), row.plan)?;
+        let mut out = MemorySink::new(alloc);
+        let status = run(
+            alloc,
+            "rcv simulate design.toml plan.json",
+            &mut shelf,
+            &mut out,
+        )?;
+        assert_eq!(rt; status, row.status, "{}", row.plan);
+        assert_eq!(rt; out.bytes(), row.text.as_bytes());
+    }
+    Ok(())
+}
+
+#[test]
+fn faults_stop_a_run(rt: HostRuntime) -> Result<(), AllocError> {
+    let alloc = rt.alloc();
+    let halt = design(alloc, 600_000, TRACK, ONE_TRAIN, "")?;
+    let mut shelf = shelf_of(alloc, halt.as_bytes(), ONE_WAY)?;
+    let mut out = MemorySink::new(alloc);
+    out.fail_at(2, 0)?;
+    let status = run(
+        alloc,
+        "rcv simulate design.toml plan.json",
+        &mut shelf,
+        &mut out,
+    )?;
+    assert_eq!(rt; status, 8);
+    assert_eq!(rt; out.bytes(), b"met tick 10\n".as_slice());
+    assert_eq!(rt; shelf.calls().len(), 2);
+    let mut out = MemorySink::new(alloc);
+    let status = run(
+        alloc,
+        "rcv simulate nothing.toml plan.json",
+        &mut shelf,
+        &mut out,
+    )?;
+    assert_eq!(rt; status, 7);
+    assert!(rt; out.pieces().is_empty());
+    let missed =
+        matches!(shelf.calls().last(), Some(Call::Fetch(name)) if name.as_str() == "nothing.toml");
+    assert!(rt; missed);
+    let status = run(alloc, "rcv", &mut shelf, &mut out)?;
+    assert_eq!(rt; status, Status::Usage.code());
+    assert_eq!(rt; out.bytes(), USAGE.as_bytes());
+    assert_eq!(rt; shelf.calls().len(), 3);
+    Ok(())
+}
+
+#[test]
+fn designs_are_read_up_to_the_limit(rt: HostRuntime) -> Result<(), AllocError> {
+    let alloc = rt.alloc();
+    let mut halt = design(alloc, 600_000, TRACK, ONE_TRAIN, "")?;
+    for _ in halt.len()..8_388_608 {
+        halt.push('\n')?;
+    }
+    let mut shelf = shelf_of(alloc, halt.as_bytes(), ONE_WAY)?;
+    let mut out = MemorySink::new(alloc);
+    let status = run(
+        alloc,
+        "rcv simulate design.toml plan.json",
+        &mut shelf,
+        &mut out,
+    )?;
+    assert_eq!(rt; status, 0);
+    assert_eq!(rt; out.bytes(), ONE_WAY_TEXT.as_bytes());
+    halt.push('\n')?;
+    let mut shelf = shelf_of(alloc, halt.as_bytes(), ONE_WAY)?;
+    let mut out = MemorySink::new(alloc);
+    let status = run(
+        alloc,
+        "rcv simulate design.toml plan.json",
+        &mut shelf,
+        &mut out,
+    )?;
+    assert_eq!(rt; status, 11);
+    assert_eq!(rt; out.bytes(), b"too long design 8388608\n".as_slice());
+    Ok(())
+}
