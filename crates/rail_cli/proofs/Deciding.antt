@@ -1,12 +1,10 @@
 -- Simulations in which nothing is refused.
-use Rattle.std.proofs.Common.{◌≡◌, ◌↔◌, ℕ, true, List, ◌∷◌, Option, None, Some, Result, Ok, Err, IfOk, refl, ap, sym, ◌∙◌, subst}
+use Rattle.std.proofs.Common.{◌≡◌, ◌↔◌, ℕ, true, List, Option, Some, Result, Ok, Err, IfOk, ap, sym, ◌∙◌, subst}
 use Rattle.std.specs.List.{concat}
 use Rattle.rail_base.specs.declared.station.Station.{Station}
 use Rattle.rail_base.specs.declared.plan.Command.{Command}
 use Rattle.rail_outside.specs.Files.{Files}
 use Rattle.rail_outside.specs.Growth.{grown}
-use Rattle.rail_plan.specs.Reading.{plan_of}
-use Rattle.rail_spec.specs.Track.{routes_of}
 use Rattle.rail_spec.specs.Feasible.{IsFeasible}
 use Rattle.rail_words.specs.Requests.{Asked, simulate, request_of}
 use Rattle.rail_cli.specs.declared.status.Status.{Status}

@@ -1,5 +1,5 @@
 -- Readings that refuse, and readings that don't.
-use Rattle.std.proofs.Common.{◌≡◌, ℕ, ◌<◌, ◌≤◌, Bool, true, false, List, [], ◌∷◌, map, length, nat_lt, nat_le, if◌then◌else◌, Option, Some, Result, Ok, Err, IfOk, refl, ap, sym, ◌∙◌, arith}
+use Rattle.std.proofs.Common.{◌≡◌, ℕ, ◌≤◌, Bool, true, false, List, [], ◌∷◌, map, length, nat_lt, nat_le, if◌then◌else◌, Some, Result, Ok, Err, IfOk, refl, ap, sym, ◌∙◌, arith}
 use Rattle.std.specs.declared.alloc.AllocError.{AllocError}
 use Rattle.std.proofs.lemmas.Bool.{le-ltb, lt-leb}
 use Rattle.design_table.specs.declared.fault.Code.{Code}
@@ -16,7 +16,6 @@ use Rattle.rail_routes.specs.declared.fault.RouteFault.TheVariants as fault
 use Rattle.rail_routes.specs.Refusals.{HasFault}
 use Rattle.rail_spec.specs.Track.{all_closings, edges_met_again}
 use Rattle.rail_cli.specs.declared.reply.Reply.{Reply}
-use Rattle.rail_cli.specs.declared.ending.Ending.{Ending}
 use Rattle.rail_cli.specs.declared.input.InputFile.{InputFile}
 use Rattle.rail_cli.specs.Texts.{limit_of}
 use Rattle.rail_cli.specs.Answers.{Answer, within_limit, with_routes, edge_place, design_or_answer, and_then, design_in}

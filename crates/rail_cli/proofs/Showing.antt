@@ -1,5 +1,5 @@
 -- What a timetable says of the plan.
-use Rattle.std.proofs.Common.{◌≡◌, ◌↔◌, ℕ, ◌≤◌, Bool, true, false, List, [], ◌∷◌, nat_lt, Option, None, Some, if◌then◌else◌, refl, ap, ap₂, sym, ◌∙◌, subst}
+use Rattle.std.proofs.Common.{◌≡◌, ◌↔◌, ℕ, Bool, true, false, List, ◌∷◌, nat_lt, Option, None, Some, if◌then◌else◌, refl, ap, ap₂, sym, ◌∙◌}
 use Rattle.std.proofs.lemmas.Bool.{le-ltb}
 use Rattle.rail_base.specs.declared.station.Station.{Station}
 use Rattle.rail_base.specs.declared.route.Route.{Route}
@@ -11,7 +11,7 @@ use Rattle.rail_base.specs.Admitted.{IsAdmitted}
 use Rattle.rail_base.specs.Stations.{horizon}
 use Rattle.rail_spec.specs.Track.{routes_of}
 use Rattle.rail_spec.specs.Feasible.{IsRunnable, IsFeasible}
-use Rattle.rail_spec.specs.Histories.{decided, verdict_of}
+use Rattle.rail_spec.specs.Histories.{decided}
 use Rattle.rail_spec.specs.Requirements.{meets, cost, path_violation, violation_at}
 use Rattle.rail_spec.specs.Verdict.{failure, or_else}
 use Rattle.rail_spec.proofs.Verdicts.{met_exactly, verdict}
@@ -20,7 +20,7 @@ use Rattle.timetable.specs.Timetable.{timetable_of}
 use Rattle.rail_cli.specs.declared.status.Status.{Status}
 use Rattle.rail_cli.specs.declared.status.Status.TheVariants as statuses
 use Rattle.rail_cli.specs.Statuses.{is_verdict, is_refusal, is_answered}
-use Rattle.rail_cli.specs.Answers.{Answer, verdict_status, shown, shown_by}
+use Rattle.rail_cli.specs.Answers.{verdict_status, shown, shown_by}
 
 -- ---- the status of a verdict
 

@@ -1,8 +1,6 @@
 -- Runs that end before anything is printed.
-use Rattle.std.proofs.Common.{◌≡◌, ℕ, true, false, List, [], Option, refl}
-use Rattle.std.specs.List.{concat}
-use Rattle.rail_cli.specs.declared.status.Status.{Status}
-use Rattle.rail_cli.specs.declared.status.Status.TheVariants.{Memory, ShelfFault, SinkFault}
+use Rattle.std.proofs.Common.{ℕ, List, [], Option, refl}
+use Rattle.rail_cli.specs.declared.status.Status.TheVariants.{Memory, ShelfFault}
 use Rattle.rail_cli.specs.Answers.{Answer}
 use Rattle.rail_cli.specs.Prints.{Prints}
 use Rattle.rail_cli.proofs.Asking.{grown-nothing, none_of}

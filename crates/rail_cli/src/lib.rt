@@ -10,9 +10,11 @@ mod reply;
 mod run;
 mod simulation;
 mod status;
+mod sure;
 #[cfg(test)]
 mod tests;
 mod texts;
 
 pub use run::run_words;
 pub use status::Status;
+pub use sure::run_words_surely;

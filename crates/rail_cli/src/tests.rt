@@ -1,7 +1,7 @@
 //! Simulations from their words to their text, over a shelf and a sink in memory.
 
-use crate::{Status, run_words};
-use rail_outside::{Call, MemoryShelf, MemorySink};
+use crate::{Status, run_words, run_words_surely};
+use rail_outside::{Call, MemoryShelf, MemorySink, SureShelf, SureSink};
 use std::alloc::{AllocError, Global};
 
 /// Two sections between two boundaries, with a signal between them.
@@ -283,6 +283,21 @@ fn faults_stop_a_run(rt: HostRuntime) -> Result<(), AllocError> {
     assert_eq!(rt; status, Status::Usage.code());
     assert_eq!(rt; out.bytes(), USAGE.as_bytes());
     assert_eq!(rt; shelf.calls().len(), 3);
+    Ok(())
+}
+
+#[test]
+fn a_sure_run_gives_the_answer(rt: HostRuntime) -> Result<(), AllocError> {
+    let alloc = rt.alloc();
+    let halt = design(alloc, 600_000, TRACK, ONE_TRAIN, "")?;
+    let mut shelf = SureShelf::new(alloc);
+    shelf.add_file("design.toml", halt.as_bytes())?;
+    shelf.add_file("plan.json", ONE_WAY.as_bytes())?;
+    let mut out = SureSink::new(alloc);
+    let words = words_of(alloc, "rcv simulate design.toml plan.json")?;
+    let status = run_words_surely(alloc, words.as_slice(), &mut shelf, &mut out);
+    assert_eq!(rt; status, Status::Done);
+    assert_eq!(rt; out.bytes(), ONE_WAY_TEXT.as_bytes());
     Ok(())
 }
 

@@ -1,6 +1,5 @@
 use Rattle.std.proofs.Common.{ap, sym, ◌∙◌}
 use Rattle.rail_cli.specs.Answers.{design_in}
-use Rattle.rail_cli.specs.Replies.{DecidesPlan}
 use Rattle.rail_cli.proofs.Asking.{first_of_two, second_of_two}
 use Rattle.rail_cli.proofs.Deciding.{decides_so}
 use Rattle.rail_cli.proofs.simulation.simulated.Goals as goal
