@@ -1,6 +1,6 @@
 //! The top call.
 
-ghost use Rattle.std.specs.Prelude.{◌≡◌, ◌≢◌, ◌≤◌, true, None, Some, List, IfOk};
+ghost use Rattle.std.specs.Prelude.{◌≡◌, ◌≢◌, ◌≤◌, ◌↔◌, true, None, Some, List, IfOk};
 ghost use Rattle.rail_base.specs.declared.station.Station.{Station};
 ghost use Rattle.rail_base.specs.declared.plan.Command.{Command};
 ghost use Rattle.rail_outside.specs.Files.{Files};
@@ -42,7 +42,7 @@ fn requested<S: Shelf>(alloc: Global, shelf: &mut S, request: Request<'_>) -> Re
 fn reply<S: Shelf>(alloc: Global, words: &[String], shelf: &mut S) -> Result<Reply, Ending>
     ensures replies { (files : Files) → S.held shelf.old ≡ Some files → Replies result (answer_of files (texts_of words.now)) }
     ensures done { (files : Files) → S.held shelf.old ≡ Some files → OnReply result (λ reply. DoneWhereFeasible files (texts_of words.now) reply.status) }
-    ensures usage { OnReply result (λ reply. reply.status ≡ Status.Usage → request_of (texts_of words.now) ≡ None) }
+    ensures usage { OnReply result (λ reply. (reply.status ≡ Status.Usage) ↔ (request_of (texts_of words.now) ≡ None)) }
     ensures cause { result ≡ Err Ending.ShelfFault → Rose (S.fault_count shelf.old) (S.fault_count shelf.new) }
     ensures never_falls { S.fault_count shelf.old ≤ S.fault_count shelf.new }
     ensures files_stay { S.held shelf.new ≡ S.held shelf.old }
@@ -82,7 +82,7 @@ pub fn run_words<S: Shelf, O: Sink>(
 ) -> Status
     ensures answer { (files : Files) → S.held shelf.old ≡ Some files → Prints (answer_of files (texts_of words.now)) result (O.written out.old) (O.written out.new) (O.puts out.old) (O.puts out.new) }
     ensures met { (files : Files) → S.held shelf.old ≡ Some files → (d : Station) (plan : List (List Command)) → Simulates files (texts_of words.now) d plan → is_answered result ≡ true → TellsFeasible d plan result (O.written out.old) (O.written out.new) }
-    ensures usage { result ≡ Status.Usage → request_of (texts_of words.now) ≡ None }
+    ensures usage { is_answered result ≡ true → (result ≡ Status.Usage) ↔ (request_of (texts_of words.now) ≡ None) }
 
     // A fault comes only where its side has counted one.
     ensures shelf_fault { result ≡ Status.ShelfFault → Rose (S.fault_count shelf.old) (S.fault_count shelf.new) }
