@@ -1,0 +1,31 @@
+-- A variable with a held literal has its place in the table of marks.
+use Rattle.std.proofs.Common.{◌≡◌, ℕ, ◌<◌, ◌≤◌, Bool, true, false, cond, not, List, length, get_or, refl, ◌∙◌, arith}
+use Rattle.std.proofs.lemmas.Bool.{eq-eqb}
+use Rattle.std.proofs.lemmas.List.{get_or_past}
+use Rattle.std.proofs.lemmas.List.Folds.{list_any_at}
+use Rattle.sat_clause.specs.declared.lit.Lit.{Lit}
+use Rattle.sat_clause.specs.Hints.{same_lit, is_held}
+use Rattle.rup_check.specs.declared.marks.Mark.{Mark}
+use Rattle.rup_check.specs.Marks.{marked, no_mark, Agrees}
+
+same_bool-self : (b : Bool) → cond b b (not b) ≡ true
+same_bool-self true = refl
+same_bool-self false = refl
+
+same_lit-self : (l : Lit) → same_lit l l ≡ true
+same_lit-self l = rw (eq-eqb l.var l.var refl, same_bool-self l.negated) refl
+
+no_mark-says : (b : Bool) → cond b false false ≡ false
+no_mark-says true = refl
+no_mark-says false = refl
+
+marked-past : (table : List Mark) (l : Lit) → length table ≤ l.var → marked table l ≡ false
+marked-past table l h = rw (get_or_past table l.var no_mark h) (no_mark-says l.negated)
+
+-- each held literal has its place
+pub held-within : (table : List Mark) (held : List Lit) (i : ℕ) (d : Lit) → Agrees table held → i < length held → (get_or held i d).var < length table
+held-within table held i d agrees h =
+    let l : Lit = get_or held i d in
+    let is : is_held held l ≡ true = list_any_at (same_lit l) held i d h (same_lit-self l) in
+    let yes : marked table l ≡ true = agrees l ∙ is in
+    grind (arith, marked-past, yes)

@@ -1,0 +1,11 @@
+//! Whether a clause follows from live ones by its hints.
+#![tactic(auto)]
+
+mod check;
+mod held;
+mod marks;
+#[cfg(test)]
+mod tests;
+
+pub use check::{Marks, follows};
+pub use sat_clause::Follow;
