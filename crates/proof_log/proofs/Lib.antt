@@ -1,0 +1,6 @@
+pub mod Splitting
+pub mod Gathering
+pub mod Joining
+pub mod Spelled
+pub mod OneText
+pub mod ReadBack

@@ -1,0 +1,6 @@
+pub mod Words
+pub mod Lines
+pub mod Text
+pub mod Reading
+pub mod Writing
+pub mod Laws

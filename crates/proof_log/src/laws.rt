@@ -1,0 +1,17 @@
+//! What reading and writing lines have to do with one another.
+
+ghost use Rattle.proof_log.specs.Laws.{LinesReadBack, LinesHaveOneText};
+
+use rail_text::numbers_read_back;
+
+/// The text of a line that keeps the grammar is read as that line.
+pub fn lines_read_back()
+    ensures { LinesReadBack }
+{
+    numbers_read_back();
+}
+
+/// Bytes that are read as a line are the one text of that line, which keeps the grammar.
+pub fn lines_have_one_text()
+    ensures { LinesHaveOneText }
+{}

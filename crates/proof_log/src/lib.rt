@@ -1,0 +1,16 @@
+//! The lines of proof files, as values and as text.
+#![tactic(auto)]
+
+mod laws;
+mod line;
+mod members;
+mod read;
+#[cfg(test)]
+mod tests;
+mod words;
+mod write;
+
+pub use laws::{lines_have_one_text, lines_read_back};
+pub use line::{Line, LineFault};
+pub use read::{is_head, read_line};
+pub use write::{write_derive, write_line};
