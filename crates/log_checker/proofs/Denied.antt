@@ -4,14 +4,9 @@ use Rattle.std.proofs.lemmas.Bool.Decides.{nat_tests}
 use Rattle.sat_clause.specs.declared.lit.Lit.{Lit}
 use Rattle.sat_clause.specs.Clauses.{Store, clause_holds, lit_holds}
 use Rattle.log_checker.specs.Truth.{clauses_hold}
+use Rattle.log_checker.specs.Laws.{Denies}
 use Rattle.log_checker.specs.Verdict.{steps_denied}
 use Rattle.log_checker.proofs.Kept.{last-holds}
-
--- a number of steps is among those asked for, and the clauses rule out that all is given by then
-pub record Denies (vars steps : ℕ) (base : Store) (k : ℕ) : Type 0 where
-  pub most : k ≤ steps
-  pub least : 0 < steps → 0 < k
-  pub never : (values : ℕ → Bool) → clauses_hold values base ≡ true → values (vars - steps + k) ≡ true → ⊥
 
 tests : (negated : Bool) (steps step k : ℕ) → cond (negated && nat_le 1 step && nat_le step steps) (Some step) None ≡ Some k → (negated ≡ true) × (1 ≤ step) × (step ≤ steps) × (step ≡ k)
 tests negated steps step k e = grind (arith, nat_tests)

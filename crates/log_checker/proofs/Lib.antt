@@ -1,3 +1,4 @@
 pub mod Kept
 pub mod Denied
 pub mod Counted
+pub mod ShownSo

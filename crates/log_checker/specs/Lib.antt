@@ -1,3 +1,4 @@
 pub mod Verdict
 pub mod Truth
 pub mod Words
+pub mod Laws

@@ -2,10 +2,12 @@
 #![tactic(auto)]
 
 mod judge;
+mod laws;
 mod line;
 mod shown;
 #[cfg(test)]
 mod tests;
 
 pub use judge::judge_log;
+pub use laws::shown_is_so;
 pub use shown::{Reason, Shown};

@@ -2,7 +2,7 @@ use Rattle.std.proofs.Common.{◌≡◌, ◌+◌, ℕ, Bool, IsTrue, None, Some,
 use Rattle.rail_text.specs.Cursors.{lines_left}
 use Rattle.log_checker.specs.Verdict.{shown_from}
 use Rattle.log_checker.specs.Truth.{clauses_hold}
-use Rattle.log_checker.proofs.Denied.{Denies}
+use Rattle.log_checker.specs.Laws.{Denies}
 use Rattle.log_checker.proofs.judge.judge_lines.Given as goal
 
 abbrev pub invariant-lines : goal.invariant-lines
