@@ -1,0 +1,33 @@
+//! Laws of the base, each the contract of a function that does nothing.
+
+ghost use Rattle.std.specs.Prelude.{◌≡◌, ℕ, ◌≤◌, Bool, true, List};
+ghost use Rattle.std.specs.List.{list_all};
+ghost use Rattle.rail_base.specs.declared.station.Station.{Station};
+ghost use Rattle.rail_base.specs.declared.route.Route.{Route};
+ghost use Rattle.rail_base.specs.declared.plan.Command.{Command};
+ghost use Rattle.sat_clause.specs.Clauses.{clause_holds};
+ghost use Rattle.rail_spec.specs.Track.{routes_of};
+ghost use Rattle.rail_spec.specs.Feasible.{IsFeasible, IsInfeasible, IsRunnable};
+ghost use Rattle.plan_clauses.specs.Clauses.{base_clauses};
+ghost use Rattle.plan_clauses.specs.Models.{model_of, decoded};
+ghost use Rattle.plan_clauses.specs.Laws.{VisitsAll, Agrees, NoneBy};
+
+/// The model of a plan that can be carried out, and whose paths make all visits, makes the base true.
+pub fn plans_are_models()
+    ensures { (d : Station) (routes : List Route) (n : ℕ) (plan : List (List Command)) → 1 ≤ n → IsRunnable d routes n plan → VisitsAll d routes plan → list_all (clause_holds (model_of d routes n plan)) (base_clauses d routes n) ≡ true }
+{}
+
+/// So does the model of each feasible plan.
+pub fn feasible_plans_are_models()
+    ensures { (d : Station) (n : ℕ) (plan : List (List Command)) → 1 ≤ n → IsFeasible d n plan → list_all (clause_holds (model_of d (routes_of d) n plan)) (base_clauses d (routes_of d) n) ≡ true }
+{}
+
+/// Values that make the base true tell of a plan that can be carried out, and whose model has them.
+pub fn models_are_plans()
+    ensures { (d : Station) (routes : List Route) (n : ℕ) (values : ℕ → Bool) → 1 ≤ n → list_all (clause_holds values) (base_clauses d routes n) ≡ true → IsRunnable d routes n (decoded d routes n values) × Agrees d routes n (model_of d routes n (decoded d routes n values)) values }
+{}
+
+/// Where no values that make the base of n steps true say that all is given by step k, no plan of k steps is feasible.
+pub fn none_by_is_infeasible()
+    ensures { (d : Station) (n k : ℕ) → 1 ≤ k → k ≤ n → NoneBy d (routes_of d) n k → IsInfeasible d k }
+{}

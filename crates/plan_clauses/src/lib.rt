@@ -1,0 +1,4 @@
+//! The clauses that the model of every feasible plan makes true, and what they say.
+#![tactic(auto)]
+
+pub mod laws;
