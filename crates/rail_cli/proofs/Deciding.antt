@@ -6,7 +6,7 @@ use Rattle.rail_base.specs.declared.plan.Command.{Command}
 use Rattle.rail_outside.specs.Files.{Files}
 use Rattle.rail_outside.specs.Growth.{grown}
 use Rattle.rail_spec.specs.Feasible.{IsFeasible}
-use Rattle.rail_words.specs.Requests.{Asked, simulate, request_of}
+use Rattle.rail_words.specs.Requests.{Asked, simulate, routes, request_of}
 use Rattle.rail_cli.specs.declared.status.Status.{Status}
 use Rattle.rail_cli.specs.declared.status.Status.TheVariants as statuses
 use Rattle.rail_cli.specs.declared.reply.Reply.{Reply}
@@ -107,6 +107,10 @@ module _ (files : Files) (words : List (List ℕ)) (d : Station) (plan : List (L
         let kind : verdict_status (shown_by d plan) ≡ r.status = ap (λ (a : Answer). a.status) seen in
         verdict_refuses_nothing (shown_by d plan) (ap is_refusal kind ∙ refuses)
 
+-- words that ask for routes ask for no simulation
+other_request : (files : Files) (words : List (List ℕ)) (design_name : List ℕ) (reply : Reply) → request_of words ≡ Some (routes design_name) → DoneWhereFeasible files words reply.status
+other_request files words design_name reply asked = λ d plan s. (let clash = sym s.asked ∙ asked in absurd (cc))
+
 -- the reply to a request says 0 exactly where the plan is feasible
 pub done_where_feasible : (files : Files) (words : List (List ℕ)) (asked : Asked) (r : Result Reply Ending) → request_of words ≡ Some asked
     → Replies r (answer_to files (Some asked)) → RefusesFile r → DecidesRequest files asked r
@@ -115,6 +119,10 @@ done_where_feasible files words (simulate design_name plan_name) (Ok reply) aske
 done_where_feasible files words (simulate design_name plan_name) (Err (ending.Told reply)) asked replies refuses decides = λ d plan s. absurd (not_refused files words d plan s design_name plan_name asked reply replies refuses)
 done_where_feasible files words (simulate design_name plan_name) (Err ending.Memory) asked replies refuses decides = tt
 done_where_feasible files words (simulate design_name plan_name) (Err ending.ShelfFault) asked replies refuses decides = tt
+done_where_feasible files words (routes design_name) (Ok reply) asked replies refuses decides = other_request files words design_name reply asked
+done_where_feasible files words (routes design_name) (Err (ending.Told reply)) asked replies refuses decides = other_request files words design_name reply asked
+done_where_feasible files words (routes design_name) (Err ending.Memory) asked replies refuses decides = tt
+done_where_feasible files words (routes design_name) (Err ending.ShelfFault) asked replies refuses decides = tt
 
 -- what is printed then
 pub tells_feasible : (files : Files) (words : List (List ℕ)) (d : Station) (plan : List (List Command)) (t : Status) (text new_text : Option (List ℕ)) (pieces new_pieces : Option (List (List ℕ)))
@@ -150,3 +158,7 @@ tells_of_reply files words d plan reply t text new_text pieces new_pieces replie
 -- a request that names these files is decided by them
 pub decides_named : (files : Files) (asked : Asked) (design_name plan_name : List ℕ) (r : Result Reply Ending) → IfOk r (λ reply. Decides (files design_name) (files plan_name) reply.status) → asked ≡ simulate design_name plan_name → DecidesRequest files asked r
 decides_named files asked design_name plan_name r decides is = subst (λ (a : Asked). DecidesRequest files a r) (sym is) decides
+
+-- a request for routes decides nothing
+pub decides_routes : (files : Files) (asked : Asked) (design_name : List ℕ) (r : Result Reply Ending) → asked ≡ routes design_name → DecidesRequest files asked r
+decides_routes files asked design_name r is = subst (λ (a : Asked). DecidesRequest files a r) (sym is) tt

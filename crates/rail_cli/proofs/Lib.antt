@@ -3,3 +3,4 @@ pub mod Refusing
 pub mod Showing
 pub mod Deciding
 pub mod Silence
+pub mod Numbered

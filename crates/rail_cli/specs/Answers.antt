@@ -20,12 +20,13 @@ use Rattle.rail_plan.specs.declared.place.PlanPlace.{PlanPlace}
 use Rattle.rail_plan.specs.Reading.{plan_of}
 use Rattle.rail_spec.specs.Track.{routes_of, all_closings, edges_met_again}
 use Rattle.rail_spec.specs.Histories.{verdict_of}
-use Rattle.rail_words.specs.Requests.{Asked, simulate, request_of}
+use Rattle.rail_words.specs.Requests.{Asked, simulate, routes, request_of}
 use Rattle.timetable.specs.Timetable.{timetable_of}
 use Rattle.rail_cli.specs.declared.status.Status.{Status}
 use Rattle.rail_cli.specs.declared.status.Status.TheVariants as status
 use Rattle.rail_cli.specs.declared.input.InputFile.{InputFile}
 use Rattle.rail_cli.specs.declared.input.InputFile.TheVariants as file
+use Rattle.rail_cli.specs.Listings.{routes_text}
 use Rattle.rail_cli.specs.Texts.{usage_line, limit_of, too_long_line, design_refused_line, plan_refused_line}
 
 -- what the program answers: the status to end with, and the lines to print
@@ -109,10 +110,21 @@ simulated design_bytes plan_bytes =
     unless_refused (within_limit file.Plan plan_bytes) (λ plan_text.
     planned d plan_text)))
 
+-- the routes of a design
+abbrev pub listed : Station → Answer
+listed d = record { status = status.Done; lines = routes_text d (routes_of d) }
+
+-- the answer that lists routes, for the bytes of the design
+abbrev pub routes_listed : List ℕ → Answer
+routes_listed design_bytes =
+    unless_refused (within_limit file.Design design_bytes) (λ design_text.
+    unless_refused (design_in design_text) listed)
+
 -- the answer to a request, which may be none
 abbrev pub answer_to : Files → Option Asked → Answer
 answer_to files None = one_line status.Usage usage_line
 answer_to files (Some (simulate design plan)) = simulated (files design) (files plan)
+answer_to files (Some (routes design)) = routes_listed (files design)
 
 -- the answer to the words of a command line, the first of which is the program's name
 abbrev pub answer_of : Files → List (List ℕ) → Answer
@@ -124,6 +136,7 @@ answer_of files words = answer_to files (request_of words)
 abbrev pub asks_to : Option Asked → List Ask
 asks_to None = []
 asks_to (Some (simulate design plan)) = fetched design ∷ fetched plan ∷ []
+asks_to (Some (routes design)) = fetched design ∷ []
 
 -- the fetches for the words of a command line
 abbrev pub asks_of : List (List ℕ) → List Ask

@@ -1,6 +1,7 @@
 -- What the program answers: its texts, its statuses, and the answer to each command line.
 pub mod Statuses
 pub mod Texts
+pub mod Listings
 pub mod Answers
 pub mod Simulations
 pub mod Replies

@@ -6,7 +6,7 @@ use Rattle.rail_base.specs.declared.plan.Command.{Command}
 use Rattle.rail_outside.specs.Lines.{lines_of}
 use Rattle.rail_spec.specs.Feasible.{IsFeasible}
 use Rattle.rail_outside.specs.Files.{Files}
-use Rattle.rail_words.specs.Requests.{Asked, simulate}
+use Rattle.rail_words.specs.Requests.{Asked, simulate, routes}
 use Rattle.rail_cli.specs.declared.status.Status.{Status}
 use Rattle.rail_cli.specs.declared.status.Status.TheVariants as statuses
 use Rattle.rail_cli.specs.declared.reply.Reply.{Reply}
@@ -71,3 +71,4 @@ pub record Decides (design_bytes plan_bytes : List ℕ) (s : Status) : Type 0 wh
 -- the reply to a request for a simulation is so decided by the files that it names
 abbrev pub DecidesRequest : Files → Asked → Result Reply Ending → Type 0
 DecidesRequest files (simulate design plan) result = IfOk result (λ reply. Decides (files design) (files plan) reply.status)
+DecidesRequest files (routes design) result = Unit {0}

@@ -4,7 +4,9 @@
 
 mod ending;
 mod input;
+mod listing;
 mod names;
+mod reading;
 mod refusals;
 mod reply;
 mod run;

@@ -14,6 +14,7 @@ ghost use Rattle.rail_cli.specs.Replies.{reply_seen, OnReply, RefusesFile, Repli
 ghost use Rattle.rail_cli.specs.Simulations.{Simulates, TellsFeasible, DoneWhereFeasible};
 
 use crate::ending::Ending;
+use crate::listing::routes_listed;
 use crate::refusals::usage;
 use crate::reply::Reply;
 use crate::simulation::simulated;
@@ -35,6 +36,7 @@ fn requested<S: Shelf>(alloc: Global, shelf: &mut S, request: Request<'_>) -> Re
 {
     match request {
         Request::Simulate { design, plan } => simulated(alloc, shelf, design, plan),
+        Request::Routes { design } => routes_listed(alloc, shelf, design),
     }
 }
 

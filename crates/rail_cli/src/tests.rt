@@ -251,6 +251,65 @@ fn simulations_print_what_they_show(rt: HostRuntime) -> Result<(), AllocError> {
     Ok(())
 }
 
+/// A switch, one leg of it a dead end on the section of the stem, with a signal for trains that come back.
+const FORK: &str = r#"
+node = [ {name="a", boundary=true}, {name="b"}, {name="c", boundary=true}, {name="d"} ]
+edge = [
+ {name="e", from="a", from_side="b", to="b", to_side="a", length_mm=1000, speed_mm_s=2000, section="y"},
+ {name="f", from="b", from_side="b", to="c", to_side="a", length_mm=2000, speed_mm_s=2000, section="z"},
+ {name="g", from="b", from_side="b", to="d", to_side="a", length_mm=3000, speed_mm_s=2000, section="y"} ]
+signal = [ {name="s", node="b", toward="a"} ]
+vehicle = [ {name="v", length_mm=2000, accel_mm_s2=500, brake_mm_s2=700, speed_mm_s=2000} ]
+train = [ {name="A", vehicle="v", visits=[["a"]]} ]
+"#;
+
+/// A ring without a signal.
+const RING: &str = r#"
+node = [ {name="b1", boundary=true}, {name="n1"}, {name="m1"} ]
+edge = [
+ {name="e1", from="b1", from_side="b", to="n1", to_side="a", length_mm=4000, speed_mm_s=2000, section="z1"},
+ {name="e2", from="n1", from_side="b", to="m1", to_side="a", length_mm=4000, speed_mm_s=2000, section="z2"},
+ {name="e3", from="m1", from_side="b", to="n1", to_side="a", length_mm=4000, speed_mm_s=2000, section="z3"} ]
+vehicle = [ {name="v", length_mm=2000, accel_mm_s2=500, brake_mm_s2=700, speed_mm_s=2000} ]
+train = [ {name="A", vehicle="v", visits=[["b1"]]} ]
+"#;
+
+const FOLLOW_ROUTES: &str = "route 1 boundary:b1 signal:s1 length 10000 sections z1=10000
+route 2 signal:s1 boundary:b2 length 6000 sections z2=6000
+route 3 boundary:b2 boundary:b1 length 16000 sections z2=6000 z1=16000
+";
+
+const PARALLEL_ROUTES: &str = "route 1 boundary:c1 boundary:c2 length 4000 sections zc=4000
+route 2 boundary:c2 boundary:c1 length 4000 sections zc=4000
+route 3 boundary:d1 boundary:d2 length 4000 sections zd=4000
+route 4 boundary:d2 boundary:d1 length 4000 sections zd=4000
+";
+
+const FORK_ROUTES: &str = "route 1 boundary:a boundary:c length 3000 sections y=1000 z=3000
+route 2 boundary:a dead:d length 4000 sections y=4000
+route 3 signal:s boundary:a length 1000 sections y=1000
+route 4 boundary:c signal:s length 2000 sections z=2000
+";
+
+#[test]
+fn routes_are_listed(rt: HostRuntime) -> Result<(), AllocError> {
+    let alloc = rt.alloc();
+    for (track, trains, status, text) in [
+        (TRACK, TWO_TRAINS, 0, FOLLOW_ROUTES),
+        (PARALLEL, "", 0, PARALLEL_ROUTES),
+        (FORK, "", 0, FORK_ROUTES),
+        (RING, "", 3, "design refused D12 edge[2]\n"),
+    ] {
+        let text_of_design = design(alloc, 600_000, track, trains, "")?;
+        let mut shelf = shelf_of(alloc, text_of_design.as_bytes(), "")?;
+        let mut out = MemorySink::new(alloc);
+        let code = run(alloc, "rcv routes design.toml", &mut shelf, &mut out)?;
+        assert_eq!(rt; code, status);
+        assert!(rt; out.bytes() == text.as_bytes(), "{text}");
+    }
+    Ok(())
+}
+
 #[test]
 fn faults_stop_a_run(rt: HostRuntime) -> Result<(), AllocError> {
     let alloc = rt.alloc();

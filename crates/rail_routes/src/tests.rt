@@ -1,4 +1,4 @@
-//! The routes of four small stations, worked by hand.
+//! The routes of a small station, worked by hand.
 
 ghost use Rattle.std.specs.Prelude.{◌≡◌, [], ◌∷◌, false, true, IfOk};
 ghost use Rattle.rail_base.specs.Admission.{is_admitted};
@@ -41,20 +41,6 @@ fn three<T: Drop>(alloc: Global, first: T, second: T, third: T) -> Result<List<T
 {
     let mut list = two(alloc, first, second)?;
     list.push(third)?;
-    Ok(list)
-}
-
-fn four<T: Drop>(
-    alloc: Global,
-    first: T,
-    second: T,
-    third: T,
-    fourth: T,
-) -> Result<List<T>, AllocError>
-    ensures { IfOk result (λ l. l ≡ first ∷ second ∷ third ∷ fourth ∷ []) }
-{
-    let mut list = three(alloc, first, second, third)?;
-    list.push(fourth)?;
     Ok(list)
 }
 
@@ -190,66 +176,6 @@ fn follow(alloc: Global) -> Result<Station, AllocError>
     Ok(station)
 }
 
-/// Two lines side by side, without a signal.
-fn parallel(alloc: Global) -> Result<Station, AllocError>
-    ensures { IfOk result (λ d. is_admitted d ≡ true) }
-{
-    let first = boundary(alloc, b'a')?;
-    let second = boundary(alloc, b'b')?;
-    let third = boundary(alloc, b'c')?;
-    let fourth = boundary(alloc, b'd')?;
-    let nodes = four(alloc, first, second, third, fourth)?;
-    let one_line = edge(alloc, b'e', 1, 2, 4_000, 1)?;
-    let other_line = edge(alloc, b'f', 3, 4, 4_000, 2)?;
-    let edges = two(alloc, one_line, other_line)?;
-    let sections = two(alloc, name(alloc, b'y')?, name(alloc, b'z')?)?;
-    let station = station(alloc, nodes, edges, sections, List::new(alloc))?;
-    Ok(station)
-}
-
-/// A switch, one leg of it a dead end on the section of the entry, with a signal for trains that come back.
-fn fork(alloc: Global) -> Result<Station, AllocError>
-    ensures { IfOk result (λ d. is_admitted d ≡ true) }
-{
-    let entry = boundary(alloc, b'a')?;
-    let switch = inner(alloc, b'b')?;
-    let exit = boundary(alloc, b'c')?;
-    let end = inner(alloc, b'd')?;
-    let nodes = four(alloc, entry, switch, exit, end)?;
-    let stem = edge(alloc, b'e', 1, 2, 1_000, 1)?;
-    let main = edge(alloc, b'f', 2, 3, 2_000, 2)?;
-    let leg = edge(alloc, b'g', 2, 4, 3_000, 1)?;
-    let edges = three(alloc, stem, main, leg)?;
-    let sections = two(alloc, name(alloc, b'y')?, name(alloc, b'z')?)?;
-    let signals = signal(alloc, Side::A)?;
-    let station = station(alloc, nodes, edges, sections, signals)?;
-    Ok(station)
-}
-
-/// A ring without a signal.
-fn ring(alloc: Global) -> Result<Station, AllocError>
-    ensures { IfOk result (λ d. is_admitted d ≡ true) }
-{
-    let nodes = three(
-        alloc,
-        boundary(alloc, b'a')?,
-        inner(alloc, b'b')?,
-        inner(alloc, b'c')?,
-    )?;
-    let entry = edge(alloc, b'e', 1, 2, 4_000, 1)?;
-    let over = edge(alloc, b'f', 2, 3, 4_000, 2)?;
-    let back = edge(alloc, b'g', 3, 2, 4_000, 3)?;
-    let edges = three(alloc, entry, over, back)?;
-    let sections = three(
-        alloc,
-        name(alloc, b'x')?,
-        name(alloc, b'y')?,
-        name(alloc, b'z')?,
-    )?;
-    let station = station(alloc, nodes, edges, sections, List::new(alloc))?;
-    Ok(station)
-}
-
 /// What is to be told of a route.
 #[derive(Clone, Copy)]
 struct Row<'a> {
@@ -259,24 +185,6 @@ struct Row<'a> {
     nodes: &'a [(NodeNo, i64)],
     sections: &'a [(SectionNo, i64)],
     length: i64,
-}
-
-/// A way of 4 m from one boundary to another.
-fn way<'a>(
-    from: u32,
-    to: u32,
-    edges: &'a [EdgeNo],
-    nodes: &'a [(NodeNo, i64)],
-    sections: &'a [(SectionNo, i64)],
-) -> Row<'a> {
-    Row {
-        start: Start::Boundary(NodeNo(from)),
-        finish: Finish::Exit(NodeNo(to)),
-        edges,
-        nodes,
-        sections,
-        length: 4_000,
-    }
 }
 
 /// Whether the table has these rows.
@@ -332,93 +240,5 @@ fn lines(rt: HostRuntime) -> Result<(), RouteFault> {
         },
     ];
     assert!(rt; has_rows(&routes(alloc, &design)?, &rows));
-    let design = Design {
-        station: parallel(alloc)?,
-    };
-    let rows = [
-        way(
-            1,
-            2,
-            &[EdgeNo(1)],
-            &[(NodeNo(1), 0), (NodeNo(2), 4_000)],
-            &[(SectionNo(1), 4_000)],
-        ),
-        way(
-            2,
-            1,
-            &[EdgeNo(1)],
-            &[(NodeNo(2), 0), (NodeNo(1), 4_000)],
-            &[(SectionNo(1), 4_000)],
-        ),
-        way(
-            3,
-            4,
-            &[EdgeNo(2)],
-            &[(NodeNo(3), 0), (NodeNo(4), 4_000)],
-            &[(SectionNo(2), 4_000)],
-        ),
-        way(
-            4,
-            3,
-            &[EdgeNo(2)],
-            &[(NodeNo(4), 0), (NodeNo(3), 4_000)],
-            &[(SectionNo(2), 4_000)],
-        ),
-    ];
-    assert!(rt; has_rows(&routes(alloc, &design)?, &rows));
-    Ok(())
-}
-
-#[test]
-fn switches_and_rings(rt: HostRuntime) -> Result<(), RouteFault> {
-    let alloc = rt.alloc();
-    let design = Design {
-        station: fork(alloc)?,
-    };
-    let rows = [
-        Row {
-            start: Start::Boundary(NodeNo(1)),
-            finish: Finish::Exit(NodeNo(3)),
-            edges: &[EdgeNo(1), EdgeNo(2)],
-            nodes: &[(NodeNo(1), 0), (NodeNo(2), 1_000), (NodeNo(3), 3_000)],
-            sections: &[(SectionNo(1), 1_000), (SectionNo(2), 3_000)],
-            length: 3_000,
-        },
-        Row {
-            start: Start::Boundary(NodeNo(1)),
-            finish: Finish::Dead(NodeNo(4)),
-            edges: &[EdgeNo(1), EdgeNo(3)],
-            nodes: &[(NodeNo(1), 0), (NodeNo(2), 1_000), (NodeNo(4), 4_000)],
-            sections: &[(SectionNo(1), 4_000)],
-            length: 4_000,
-        },
-        Row {
-            start: Start::Signal(SignalNo(1)),
-            finish: Finish::Exit(NodeNo(1)),
-            edges: &[EdgeNo(1)],
-            nodes: &[(NodeNo(2), 0), (NodeNo(1), 1_000)],
-            sections: &[(SectionNo(1), 1_000)],
-            length: 1_000,
-        },
-        Row {
-            start: Start::Boundary(NodeNo(3)),
-            finish: Finish::Signal(SignalNo(1)),
-            edges: &[EdgeNo(2)],
-            nodes: &[(NodeNo(3), 0), (NodeNo(2), 2_000)],
-            sections: &[(SectionNo(2), 2_000)],
-            length: 2_000,
-        },
-    ];
-    assert!(rt; has_rows(&routes(alloc, &design)?, &rows));
-    let design = Design {
-        station: ring(alloc)?,
-    };
-    match routes(alloc, &design) {
-        Err(fault) => {
-            let again = RouteFault::Again { edge: EdgeNo(2) };
-            assert_eq!(rt; fault, again);
-        }
-        Ok(table) => assert!(rt; table.is_empty(), "a ring has no routes"),
-    }
     Ok(())
 }

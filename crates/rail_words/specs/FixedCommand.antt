@@ -10,11 +10,15 @@ positional_rule name = record (new_rule name) { required = true }
 abbrev pub simulate_app : App
 simulate_app = with_rule (with_rule (new_app (codes "simulate")) (positional_rule (codes "DESIGN"))) (positional_rule (codes "PLAN"))
 
+-- `routes DESIGN`
+abbrev pub routes_app : App
+routes_app = with_rule (new_app (codes "routes")) (positional_rule (codes "DESIGN"))
+
 abbrev pub top_app : App
 top_app = record (new_app (codes "rcv")) { top = record (new_app (codes "rcv")).top { subcommand_required = true } }
 
 abbrev pub rcv_app : App
-rcv_app = with_subcommand top_app simulate_app.top
+rcv_app = with_subcommand (with_subcommand top_app simulate_app.top) routes_app.top
 
 -- the fixed command takes the words, the first of which is the program's name
 abbrev pub is_taken : List Text → Bool

@@ -3,8 +3,8 @@ use Rattle.std.specs.Prelude.{List, map, String, string_bytes}
 use Rattle.std.specs.declared.alloc.Global.{Global}
 use Rattle.clap.specs.Words.{Text}
 use Rattle.rail_words.specs.declared.request.Request.{Request}
-use Rattle.rail_words.specs.declared.request.Request.TheVariants.{Simulate}
-use Rattle.rail_words.specs.Requests.{Asked, simulate}
+use Rattle.rail_words.specs.declared.request.Request.TheVariants.{Simulate, Routes}
+use Rattle.rail_words.specs.Requests.{Asked, simulate, routes}
 
 -- the words as texts
 abbrev pub texts_of : List (String Global) → List Text
@@ -13,3 +13,4 @@ texts_of words = map (λ word. string_bytes word) words
 -- a request by its texts
 abbrev pub asked_of : Request → Asked
 asked_of (Simulate design plan) = simulate design.now plan.now
+asked_of (Routes design) = routes design.now

@@ -3,7 +3,7 @@
 ghost use Rattle.std.specs.Prelude.{◌≡◌, IfOk, false};
 ghost use Rattle.clap.specs.Words.{app_of, rule_of};
 ghost use Rattle.clap.specs.declared.builder.command.Command.TheViews.{out-Command as fields_of};
-ghost use Rattle.rail_words.specs.FixedCommand.{positional_rule, simulate_app, rcv_app};
+ghost use Rattle.rail_words.specs.FixedCommand.{positional_rule, simulate_app, routes_app, rcv_app};
 
 use clap::{Arg, Command};
 use std::alloc::{AllocError, Global};
@@ -25,11 +25,19 @@ fn simulate_command<'a>(alloc: Global) -> Result<Command<'a>, AllocError>
         .arg(positional(alloc, "PLAN"))
 }
 
+fn routes_command<'a>(alloc: Global) -> Result<Command<'a>, AllocError>
+    ensures shape { IfOk result (λ command. app_of command ≡ routes_app) }
+    ensures local { IfOk result (λ command. (fields_of command).has_globals ≡ false) }
+{
+    Command::new(alloc, "routes").arg(positional(alloc, "DESIGN"))
+}
+
 /// The fixed command.
 pub(crate) fn command<'a>(alloc: Global) -> Result<Command<'a>, AllocError>
     ensures shape { IfOk result (λ command. app_of command ≡ rcv_app) }
 {
     Command::new(alloc, "rcv")
         .subcommand_required(true)
-        .subcommand(simulate_command(alloc)?)
+        .subcommand(simulate_command(alloc)?)?
+        .subcommand(routes_command(alloc)?)
 }

@@ -3,7 +3,7 @@
 ghost use Rattle.std.specs.Prelude.{◌≡◌, ◌≢◌, IfOk, OnOk, Err, Some, None, true, false, option_map, option_and_then, codes};
 ghost use Rattle.clap.specs.Words.{first_of, rows_of, found_of, subcommand_of, subcommand_rows_of};
 ghost use Rattle.rail_words.specs.FixedCommand.{rcv_app, is_taken};
-ghost use Rattle.rail_words.specs.Requests.{asked_by, request_of, simulate_with};
+ghost use Rattle.rail_words.specs.Requests.{asked_by, request_of, simulate_with, routes_with};
 ghost use Rattle.rail_words.specs.Words.{asked_of, texts_of};
 ghost use Rattle.rail_words.specs.declared.request.WordsFault.TheVariants as fault;
 
@@ -18,6 +18,8 @@ use thiserror::Error;
 pub enum Request<'a> {
     /// Simulate a plan over a design, each by its file's name.
     Simulate { design: &'a str, plan: &'a str },
+    /// List the routes of a design, by its file's name.
+    Routes { design: &'a str },
 }
 
 /// Why words ask for nothing.
@@ -87,6 +89,16 @@ fn simulate<'a>(values: &ArgMatches<'a>) -> Option<Request<'a>>
     Some(Request::Simulate { design, plan })
 }
 
+/// What the value of `routes` asks for.
+fn routes<'a>(values: &ArgMatches<'a>) -> Option<Request<'a>>
+    ensures { option_map asked_of result ≡ routes_with (first_of (codes "DESIGN") (rows_of (found_of values.now))) }
+{
+    let Some(design) = value(values, "DESIGN") else {
+        return None;
+    };
+    Some(Request::Routes { design })
+}
+
 /// What the matches ask for.
 fn request_in<'a>(matches: &ArgMatches<'a>) -> Option<Request<'a>>
     ensures { option_map asked_of result ≡ option_and_then asked_by (subcommand_rows_of matches.now) }
@@ -96,6 +108,9 @@ fn request_in<'a>(matches: &ArgMatches<'a>) -> Option<Request<'a>>
     };
     if name == "simulate" {
         return simulate(values);
+    }
+    if name == "routes" {
+        return routes(values);
     }
     None
 }

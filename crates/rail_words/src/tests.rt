@@ -33,6 +33,17 @@ fn simulate_names_its_files(rt: HostRuntime) -> Result<(), AllocError> {
 }
 
 #[test]
+fn routes_names_its_file(rt: HostRuntime) -> Result<(), AllocError> {
+    let alloc = rt.alloc();
+    let words = words_of(alloc, "rcv routes halt.toml")?;
+    let want = Request::Routes {
+        design: "halt.toml",
+    };
+    assert!(rt; read_words(alloc, words.as_slice()) == Ok(want));
+    Ok(())
+}
+
+#[test]
 fn other_words_are_refused(rt: HostRuntime) -> Result<(), AllocError> {
     let alloc = rt.alloc();
     for line in [
@@ -42,6 +53,8 @@ fn other_words_are_refused(rt: HostRuntime) -> Result<(), AllocError> {
         "rcv simulate halt.toml plan.json more",
         "rcv simulate --steps halt.toml plan.json",
         "rcv dispatch halt.toml plan.json",
+        "rcv routes",
+        "rcv routes halt.toml plan.json",
         "rcv help",
         "rcv --help",
         "rcv simulate --help",

@@ -2,7 +2,7 @@ use Rattle.std.proofs.Common.{List, ap}
 use Rattle.rail_base.specs.declared.route.Route.{Route}
 use Rattle.rail_cli.specs.Answers.{design_or_answer}
 use Rattle.rail_cli.proofs.Refusing.{again_refused, found_again, ended_reads}
-use Rattle.rail_cli.proofs.simulation.list_routes.Goals as goal
+use Rattle.rail_cli.proofs.reading.list_routes.Goals as goal
 
 pub returns-in-Err-Again-clause-reads : goal.returns-in-Err-Again-clause-reads
 returns-in-Err-Again-clause-reads c =

@@ -1,0 +1,157 @@
+//! The routes of a design, listed.
+
+ghost use Rattle.std.specs.Prelude.{◌≡◌, ◌≤◌, ◌++◌, [], ◌∷◌, ℕ, true, IfOk, OnOk, Some};
+ghost use Rattle.std.specs.List.{flat_map};
+ghost use Rattle.rail_base.specs.declared.station.SectionNo.{SectionNo};
+ghost use Rattle.rail_outside.specs.Asks.{fetched};
+ghost use Rattle.rail_outside.specs.Files.{Files};
+ghost use Rattle.rail_outside.specs.Growth.{Rose, GrowsByFront};
+ghost use Rattle.rail_outside.specs.Lines.{lines_of};
+ghost use Rattle.rail_spec.specs.Track.{routes_of};
+ghost use Rattle.rail_cli.specs.Statuses.{is_verdict};
+ghost use Rattle.rail_cli.specs.Answers.{listed, routes_listed};
+ghost use Rattle.rail_cli.specs.Listings.{start_text, finish_text, release_text, route_line, routes_text};
+ghost use Rattle.rail_cli.specs.Replies.{reply_seen, RefusesFile, Replies};
+
+use crate::ending::Ending;
+use crate::input::InputFile;
+use crate::names::{node_name, section_name, signal_name};
+use crate::reading::{admit, fetch};
+use crate::reply::Reply;
+use crate::status::Status;
+use rail_base::design::Design;
+use rail_base::route::{Finish, Route, RouteTable, Start};
+use rail_base::station::SectionNo;
+use rail_outside::Shelf;
+use rail_text::put_number;
+use std::alloc::{AllocError, Global};
+
+/// Appends where a route begins.
+fn put_start(line: &mut Vec<u8>, design: &Design, start: Start) -> Result<(), AllocError>
+    ensures { OnOk result (line.new.items ≡ line.old.items ++ start_text design.now.station start) }
+{
+    match start {
+        Start::Boundary(node) => {
+            line.extend_from_slice(b"boundary:")?;
+            line.extend_from_slice(node_name(design, node))
+        }
+        Start::Signal(signal) => {
+            line.extend_from_slice(b"signal:")?;
+            line.extend_from_slice(signal_name(design, signal))
+        }
+    }
+}
+
+/// Appends where a route ends.
+fn put_finish(line: &mut Vec<u8>, design: &Design, finish: Finish) -> Result<(), AllocError>
+    ensures { OnOk result (line.new.items ≡ line.old.items ++ finish_text design.now.station finish) }
+{
+    match finish {
+        Finish::Exit(node) => {
+            line.extend_from_slice(b"boundary:")?;
+            line.extend_from_slice(node_name(design, node))
+        }
+        Finish::Signal(signal) => {
+            line.extend_from_slice(b"signal:")?;
+            line.extend_from_slice(signal_name(design, signal))
+        }
+        Finish::Dead(node) => {
+            line.extend_from_slice(b"dead:")?;
+            line.extend_from_slice(node_name(design, node))
+        }
+    }
+}
+
+/// Appends ` <section>=<offset>`, with the offset in mm at which the section is released.
+fn put_release(
+    line: &mut Vec<u8>,
+    design: &Design,
+    section: SectionNo,
+    offset: i64,
+) -> Result<(), AllocError>
+    ensures { OnOk result (line.new.items ≡ line.old.items ++ release_text design.now.station (section, offset)) }
+{
+    line.push(b' ')?;
+    line.extend_from_slice(section_name(design, section))?;
+    line.push(b'=')?;
+    put_number(line, offset.unsigned_abs())
+}
+
+/// Appends all sections with their offsets.
+fn put_releases(
+    line: &mut Vec<u8>,
+    design: &Design,
+    sections: &[(SectionNo, i64)],
+) -> Result<(), AllocError>
+    ensures { OnOk result (line.new.items ≡ line.old.items ++ flat_map (release_text design.now.station) sections.now) }
+{
+    for (section, offset) in sections {
+        put_release(line, design, *section, *offset)?;
+    }
+    Ok(())
+}
+
+/// `route <r> <start> <end> length <mm> sections`, and then each section.
+fn route_line(
+    alloc: Global,
+    design: &Design,
+    number: u64,
+    route: &Route,
+) -> Result<Vec<u8>, AllocError>
+    ensures { IfOk result (λ line. line.items ≡ route_line design.now.station (number, route.now)) }
+{
+    let mut line = Vec::from_slice(alloc, b"route ")?;
+    put_number(&mut line, number)?;
+    line.push(b' ')?;
+    put_start(&mut line, design, route.start)?;
+    line.push(b' ')?;
+    put_finish(&mut line, design, route.finish)?;
+    line.extend_from_slice(b" length ")?;
+    put_number(&mut line, route.length_mm())?;
+    line.extend_from_slice(b" sections")?;
+    put_releases(&mut line, design, route.sections.as_slice())?;
+    line.push(b'\n')?;
+    Ok(line)
+}
+
+/// The lines of all routes.
+fn route_lines(alloc: Global, design: &Design, routes: &[Route]) -> Result<Vec<Vec<u8>>, AllocError>
+    ensures { IfOk result (λ lines. lines_of lines.items ≡ routes_text design.now.station routes.now) }
+{
+    let mut lines = Vec::new(alloc);
+    for (index, route) in routes.iter().enumerate() {
+        lines.push(route_line(alloc, design, index as u64 + 1, route)?)?;
+    }
+    Ok(lines)
+}
+
+/// The routes of a design.
+fn list(alloc: Global, design: &Design, routes: &RouteTable) -> Result<Reply, AllocError>
+    requires { routes.now ≡ routes_of design.now.station }
+    ensures listed { IfOk result (λ reply. reply_seen reply ≡ listed design.now.station) }
+    ensures verdict { IfOk result (λ reply. is_verdict reply.status ≡ true) }
+{
+    Ok(Reply {
+        status: Status::Done,
+        lines: route_lines(alloc, design, routes.as_slice())?,
+    })
+}
+
+/// The reply that lists routes, by the name of the design's file.
+pub(crate) fn routes_listed<S: Shelf>(
+    alloc: Global,
+    shelf: &mut S,
+    design: &str,
+) -> Result<Reply, Ending>
+    ensures replies { (files : Files) → S.held shelf.old ≡ Some files → Replies result (routes_listed (files design.now)) }
+    ensures verdict { IfOk result (λ reply. is_verdict reply.status ≡ true) }
+    ensures refuses { RefusesFile result }
+    ensures cause { result ≡ Err Ending.ShelfFault → Rose (S.fault_count shelf.old) (S.fault_count shelf.new) }
+    ensures never_falls { S.fault_count shelf.old ≤ S.fault_count shelf.new }
+    ensures files_stay { S.held shelf.new ≡ S.held shelf.old }
+    ensures asks { GrowsByFront (S.asked shelf.old) (S.asked shelf.new) (fetched design.now ∷ []) }
+{
+    let bytes = fetch(alloc, shelf, InputFile::Design, design)?;
+    let (design, routes) = admit(alloc, bytes.as_slice())?;
+    Ok(list(alloc, &design, &routes)?)
+}

@@ -1,0 +1,88 @@
+//! The files of a command, read.
+
+ghost use Rattle.std.specs.Prelude.{◌≡◌, ◌≤◌, [], ◌∷◌, length, IfOk, OnOk, Some};
+ghost use Rattle.rail_outside.specs.Asks.{fetched};
+ghost use Rattle.rail_outside.specs.Files.{Files};
+ghost use Rattle.rail_outside.specs.Growth.{Rose, grown, GrowsByFront};
+ghost use Rattle.rail_spec.specs.Track.{routes_of};
+ghost use Rattle.rail_cli.specs.Answers.{within_limit, design_in, with_routes, design_or_answer};
+ghost use Rattle.rail_cli.specs.Replies.{Reads, RefusesFile, OnlyRefuses};
+ghost use Rattle.infra_reader.specs.Design.{design_of};
+
+use crate::ending::Ending;
+use crate::input::InputFile;
+use crate::refusals::{design_refused, ended, too_long};
+use design_table::{Code, DesignFault, EntryKind, Place};
+use infra_reader::read_design;
+use rail_base::design::Design;
+use rail_base::route::RouteTable;
+use rail_outside::{FetchFault, Shelf};
+use rail_routes::{RouteFault, routes};
+use std::alloc::Global;
+
+/// The bytes of a file within its limit.
+pub(crate) fn fetch<S: Shelf>(
+    alloc: Global,
+    shelf: &mut S,
+    file: InputFile,
+    name: &str,
+) -> Result<Vec<u8>, Ending>
+    ensures reads { (files : Files) → S.held shelf.old ≡ Some files → Reads (λ v. v.items) result (within_limit file (files name.now)) }
+    ensures refuses { RefusesFile result }
+    ensures cause { result ≡ Err Ending.ShelfFault → Rose (S.fault_count shelf.old) (S.fault_count shelf.new) }
+    ensures never_falls { S.fault_count shelf.old ≤ S.fault_count shelf.new }
+    ensures files_stay { S.held shelf.new ≡ S.held shelf.old }
+    ensures asked { OnOk result (S.asked shelf.new ≡ grown (S.asked shelf.old) (fetched name.now ∷ [])) }
+    ensures asks { GrowsByFront (S.asked shelf.old) (S.asked shelf.new) (fetched name.now ∷ []) }
+{
+    match shelf.fetch(alloc, name, file.limit()) {
+        Ok(bytes) => Ok(bytes),
+        Err(FetchFault::TooLong { .. }) => Err(ended(too_long(alloc, file))),
+        Err(FetchFault::Failed) => Err(Ending::ShelfFault),
+        Err(FetchFault::Memory) => Err(Ending::Memory),
+    }
+}
+
+/// The design that the bytes spell, before its routes are listed.
+fn read(alloc: Global, bytes: &[u8]) -> Result<Design, Ending>
+    ensures reads { Reads (λ d. d.station) result (design_or_answer (design_of bytes.now)) }
+    ensures refuses { OnlyRefuses result }
+{
+    match read_design(alloc, bytes) {
+        Ok(design) => Ok(design),
+        Err(DesignFault::Refused { code, place }) => {
+            Err(ended(design_refused(alloc, code, place)))
+        }
+        Err(DesignFault::Memory) => Err(Ending::Memory),
+    }
+}
+
+/// The routes of a design.
+fn list_routes(alloc: Global, design: &Design) -> Result<RouteTable, Ending>
+    ensures reads { Reads (λ _. design.now.station) result (design_or_answer (with_routes design.now.station)) }
+    ensures refuses { OnlyRefuses result }
+    ensures routes { IfOk result (λ routes. routes ≡ routes_of design.now.station) }
+    ensures few { IfOk result (λ routes. length routes ≤ 2000) }
+{
+    match routes(alloc, design) {
+        Ok(routes) => Ok(routes),
+        Err(RouteFault::Again { edge }) => {
+            let place = Place::Entry(EntryKind::Edge, u64::from(edge.0));
+            Err(ended(design_refused(alloc, Code::D12, place)))
+        }
+        Err(RouteFault::TooMany) => { Err(ended(design_refused(alloc, Code::D13, Place::Routes))) }
+        Err(RouteFault::Memory) => Err(Ending::Memory),
+    }
+}
+
+/// The design that the bytes spell, with its routes.
+pub(crate) fn admit(alloc: Global, bytes: &[u8]) -> Result<(Design, RouteTable), Ending>
+    ensures reads { Reads (λ found. found.0.station) result (design_in bytes.now) }
+    ensures refuses { OnlyRefuses result }
+    ensures routes { IfOk result (λ found. found.1 ≡ routes_of found.0.station) }
+    ensures few { IfOk result (λ found. length found.1 ≤ 2000) }
+{
+    let design = read(alloc, bytes)?;
+    let routes = list_routes(alloc, &design)?;
+    Ok((design, routes))
+}
