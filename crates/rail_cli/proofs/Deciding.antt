@@ -6,7 +6,7 @@ use Rattle.rail_base.specs.declared.plan.Command.{Command}
 use Rattle.rail_outside.specs.Files.{Files}
 use Rattle.rail_outside.specs.Growth.{grown}
 use Rattle.rail_spec.specs.Feasible.{IsFeasible}
-use Rattle.rail_words.specs.Requests.{Asked, simulate, routes, request_of}
+use Rattle.rail_words.specs.Requests.{Asked, simulate, routes, check, request_of}
 use Rattle.rail_cli.specs.declared.status.Status.{Status}
 use Rattle.rail_cli.specs.declared.status.Status.TheVariants as statuses
 use Rattle.rail_cli.specs.declared.reply.Reply.{Reply}
@@ -16,7 +16,7 @@ use Rattle.rail_cli.specs.declared.input.InputFile.TheVariants as file
 use Rattle.rail_cli.specs.Statuses.{is_refusal, is_answered}
 use Rattle.rail_cli.specs.Answers.{Answer, within_limit, design_in, plan_or_answer, plan_in, verdict_status, unless_refused, planned, shown, shown_by, simulated, answer_to, answer_of}
 use Rattle.rail_cli.specs.Replies.{reply_seen, Replies, RefusesFile, OnReply, DecidesPlan, Decides, DecidesRequest}
-use Rattle.rail_cli.specs.Simulations.{Simulates, TellsFeasible, DoneWhereFeasible}
+use Rattle.rail_cli.specs.Simulations.{Settles, Simulates, TellsFeasible, DoneWhereFeasible}
 use Rattle.rail_cli.specs.Prints.{Prints}
 use Rattle.rail_cli.proofs.Refusing.{routes_listed, design_read, file_fits, file_is}
 use Rattle.rail_cli.proofs.Showing.{verdict_refuses_nothing, no_unless_done, met_first}
@@ -92,14 +92,15 @@ module _ (files : Files) (words : List (List ℕ)) (d : Station) (plan : List (L
     same_plan : s.plan_name ≡ plan_name
     same_plan = let h = sym s.asked ∙ asked in cc
 
-    pub done_here : (t : Status) → Decides (files design_name) (files plan_name) t → (t ≡ statuses.Done) ↔ IsFeasible d 64 plan
+    pub done_here : (t : Status) → Decides (files design_name) (files plan_name) t → Settles d plan t
     done_here t dec =
         let one : Ok dec.design ≡ Ok d = sym dec.spelled ∙ ap (λ n. design_in (files n)) (sym same_design) ∙ reads_design in
         let design : dec.design ≡ d = cc in
         let two : Ok dec.decided.plan ≡ Ok plan = sym dec.decided.spelled ∙ ap (λ e. plan_in e (files plan_name)) design ∙ ap (λ n. plan_in d (files n)) (sym same_plan) ∙ reads_plan in
         let steps : dec.decided.plan ≡ plan = cc in
-        let at_design : (t ≡ statuses.Done) ↔ IsFeasible d 64 dec.decided.plan = subst (λ (e : Station). (t ≡ statuses.Done) ↔ IsFeasible e 64 dec.decided.plan) design dec.decided.exactly in
-        subst (λ (p : List (List Command)). (t ≡ statuses.Done) ↔ IsFeasible d 64 p) steps at_design
+        let settled : Settles dec.design dec.decided.plan t = record { done = dec.decided.exactly; apart = dec.decided.apart } in
+        let at_design : Settles d dec.decided.plan t = subst (λ (e : Station). Settles e dec.decided.plan t) design settled in
+        subst (λ (p : List (List Command)). Settles d p t) steps at_design
 
     pub not_refused : (r : Reply) → simulated (files design_name) (files plan_name) ≡ reply_seen r → is_refusal r.status ≡ true → ⊥
     not_refused r e refuses =
@@ -107,9 +108,12 @@ module _ (files : Files) (words : List (List ℕ)) (d : Station) (plan : List (L
         let kind : verdict_status (shown_by d plan) ≡ r.status = ap (λ (a : Answer). a.status) seen in
         verdict_refuses_nothing (shown_by d plan) (ap is_refusal kind ∙ refuses)
 
--- words that ask for routes ask for no simulation
-other_request : (files : Files) (words : List (List ℕ)) (design_name : List ℕ) (reply : Reply) → request_of words ≡ Some (routes design_name) → DoneWhereFeasible files words reply.status
-other_request files words design_name reply asked = λ d plan s. (let clash = sym s.asked ∙ asked in absurd (cc))
+-- words that ask for routes or for a check ask for no simulation
+routes_only : (files : Files) (words : List (List ℕ)) (design_name : List ℕ) (reply : Reply) → request_of words ≡ Some (routes design_name) → DoneWhereFeasible files words reply.status
+routes_only files words design_name reply asked = λ d plan s. (let clash = sym s.asked ∙ asked in absurd (cc))
+
+check_only : (files : Files) (words : List (List ℕ)) (n : ℕ) (design_name proof_name : List ℕ) (reply : Reply) → request_of words ≡ Some (check n design_name proof_name) → DoneWhereFeasible files words reply.status
+check_only files words n design_name proof_name reply asked = λ d plan s. (let clash = sym s.asked ∙ asked in absurd (cc))
 
 -- the reply to a request says 0 exactly where the plan is feasible
 pub done_where_feasible : (files : Files) (words : List (List ℕ)) (asked : Asked) (r : Result Reply Ending) → request_of words ≡ Some asked
@@ -119,23 +123,29 @@ done_where_feasible files words (simulate design_name plan_name) (Ok reply) aske
 done_where_feasible files words (simulate design_name plan_name) (Err (ending.Told reply)) asked replies refuses decides = λ d plan s. absurd (not_refused files words d plan s design_name plan_name asked reply replies refuses)
 done_where_feasible files words (simulate design_name plan_name) (Err ending.Memory) asked replies refuses decides = tt
 done_where_feasible files words (simulate design_name plan_name) (Err ending.ShelfFault) asked replies refuses decides = tt
-done_where_feasible files words (routes design_name) (Ok reply) asked replies refuses decides = other_request files words design_name reply asked
-done_where_feasible files words (routes design_name) (Err (ending.Told reply)) asked replies refuses decides = other_request files words design_name reply asked
+done_where_feasible files words (routes design_name) (Ok reply) asked replies refuses decides = routes_only files words design_name reply asked
+done_where_feasible files words (routes design_name) (Err (ending.Told reply)) asked replies refuses decides = routes_only files words design_name reply asked
 done_where_feasible files words (routes design_name) (Err ending.Memory) asked replies refuses decides = tt
 done_where_feasible files words (routes design_name) (Err ending.ShelfFault) asked replies refuses decides = tt
+done_where_feasible files words (check n design_name proof_name) (Ok reply) asked replies refuses decides = check_only files words n design_name proof_name reply asked
+done_where_feasible files words (check n design_name proof_name) (Err (ending.Told reply)) asked replies refuses decides = check_only files words n design_name proof_name reply asked
+done_where_feasible files words (check n design_name proof_name) (Err ending.Memory) asked replies refuses decides = tt
+done_where_feasible files words (check n design_name proof_name) (Err ending.ShelfFault) asked replies refuses decides = tt
 
 -- what is printed then
 pub tells_feasible : (files : Files) (words : List (List ℕ)) (d : Station) (plan : List (List Command)) (t : Status) (text new_text : Option (List ℕ)) (pieces new_pieces : Option (List (List ℕ)))
     → Prints (answer_of files words) t text new_text pieces new_pieces → DoneWhereFeasible files words t → Simulates files words d plan → is_answered t ≡ true → TellsFeasible d plan t text new_text
 tells_feasible files words d plan t text new_text pieces new_pieces prints exact s answered =
     let so = answered_so files words d plan s in
-    let done = exact d plan s in
+    let settled = exact d plan s in
+    let done = settled.done in
     let kind : t ≡ verdict_status (shown_by d plan) = prints.status answered ∙ ap (λ (a : Answer). a.status) so in
     record {
       done = done;
       failed = ((λ e f. let yes = done.1 f in absurd (cc)), (λ no. kind ∙ no_unless_done (shown_by d plan) (λ e. no (done.0 (kind ∙ e)))));
       met = λ f. met_first d plan (sym kind ∙ done.1 f);
       text = prints.written answered ∙ ap (λ (a : Answer). grown text (concat a.lines)) so;
+      apart = settled.apart;
     }
 
 -- a reply that was made
@@ -162,3 +172,7 @@ decides_named files asked design_name plan_name r decides is = subst (λ (a : As
 -- a request for routes decides nothing
 pub decides_routes : (files : Files) (asked : Asked) (design_name : List ℕ) (r : Result Reply Ending) → asked ≡ routes design_name → DecidesRequest files asked r
 decides_routes files asked design_name r is = subst (λ (a : Asked). DecidesRequest files a r) (sym is) tt
+
+-- nor does a request for a check
+pub decides_check : (files : Files) (asked : Asked) (n : ℕ) (design_name proof_name : List ℕ) (r : Result Reply Ending) → asked ≡ check n design_name proof_name → DecidesRequest files asked r
+decides_check files asked n design_name proof_name r is = subst (λ (a : Asked). DecidesRequest files a r) (sym is) tt

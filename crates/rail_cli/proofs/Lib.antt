@@ -4,3 +4,4 @@ pub mod Showing
 pub mod Deciding
 pub mod Silence
 pub mod Numbered
+pub mod Judging

@@ -7,6 +7,10 @@ use Rattle.design_table.specs.declared.place.Place.{Place}
 use Rattle.design_table.specs.declared.place.Place.TheVariants as place
 use Rattle.design_table.specs.Reads.{at, unless_at}
 use Rattle.infra_reader.specs.Design.{design_of}
+use Rattle.log_checker.specs.declared.shown.Shown.{Shown}
+use Rattle.log_checker.specs.declared.shown.Shown.TheVariants as shown_
+use Rattle.proof_judge.specs.Judged.{judged}
+use Rattle.plan_clauses.specs.Clauses.{base_clauses, past_limit}
 use Rattle.rail_base.specs.declared.station.Station.{Station}
 use Rattle.rail_base.specs.declared.station.EdgeNo.{EdgeNo}
 use Rattle.rail_base.specs.declared.plan.Command.{Command}
@@ -20,14 +24,14 @@ use Rattle.rail_plan.specs.declared.place.PlanPlace.{PlanPlace}
 use Rattle.rail_plan.specs.Reading.{plan_of}
 use Rattle.rail_spec.specs.Track.{routes_of, all_closings, edges_met_again}
 use Rattle.rail_spec.specs.Histories.{verdict_of}
-use Rattle.rail_words.specs.Requests.{Asked, simulate, routes, request_of}
+use Rattle.rail_words.specs.Requests.{Asked, simulate, routes, check, request_of}
 use Rattle.timetable.specs.Timetable.{timetable_of}
 use Rattle.rail_cli.specs.declared.status.Status.{Status}
 use Rattle.rail_cli.specs.declared.status.Status.TheVariants as status
 use Rattle.rail_cli.specs.declared.input.InputFile.{InputFile}
 use Rattle.rail_cli.specs.declared.input.InputFile.TheVariants as file
 use Rattle.rail_cli.specs.Listings.{routes_text}
-use Rattle.rail_cli.specs.Texts.{usage_line, limit_of, too_long_line, design_refused_line, plan_refused_line}
+use Rattle.rail_cli.specs.Texts.{usage_line, limit_of, too_long_line, design_refused_line, too_large_line, yes_line, no_line, plan_refused_line}
 
 -- what the program answers: the status to end with, and the lines to print
 pub record Answer : Type 0 where
@@ -120,11 +124,43 @@ routes_listed design_bytes =
     unless_refused (within_limit file.Design design_bytes) (λ design_text.
     unless_refused (design_in design_text) listed)
 
+-- the design, unless its clauses have so many literals
+abbrev pub unless_too_large : Station → Option ℕ → Result Station Answer
+unless_too_large d None = Ok d
+unless_too_large d (Some literals) = Err (one_line status.DesignRefused too_large_line)
+
+-- a design whose clauses for plans of n steps have at most 4,000,000 literals
+abbrev pub with_clauses : ℕ → Station → Result Station Answer
+with_clauses n d = unless_too_large d (past_limit 4000000 0 (base_clauses d (routes_of d) n))
+
+-- what a proof file shows
+abbrev pub told : Shown → Answer
+told (shown_.Yes k) = one_line status.Done (yes_line k)
+told (shown_.No line reason) = one_line status.No (no_line line reason)
+
+-- what the bytes of a proof show of a design
+abbrev pub checked_against : Station → ℕ → List ℕ → Answer
+checked_against d n bytes = told (judged d n bytes)
+
+-- the answer to a check of a design, for the bytes of the proof
+abbrev pub with_proof : ℕ → Station → List ℕ → Answer
+with_proof n d proof_bytes =
+    unless_refused (with_clauses n d) (λ same.
+    unless_refused (within_limit file.Proof proof_bytes) (checked_against d n))
+
+-- the answer to a check, for the bytes of the design and of the proof
+abbrev pub checked : ℕ → List ℕ → List ℕ → Answer
+checked n design_bytes proof_bytes =
+    unless_refused (within_limit file.Design design_bytes) (λ design_text.
+    unless_refused (design_in design_text) (λ d.
+    with_proof n d proof_bytes))
+
 -- the answer to a request, which may be none
 abbrev pub answer_to : Files → Option Asked → Answer
 answer_to files None = one_line status.Usage usage_line
 answer_to files (Some (simulate design plan)) = simulated (files design) (files plan)
 answer_to files (Some (routes design)) = routes_listed (files design)
+answer_to files (Some (check n design proof)) = checked n (files design) (files proof)
 
 -- the answer to the words of a command line, the first of which is the program's name
 abbrev pub answer_of : Files → List (List ℕ) → Answer
@@ -137,6 +173,7 @@ abbrev pub asks_to : Option Asked → List Ask
 asks_to None = []
 asks_to (Some (simulate design plan)) = fetched design ∷ fetched plan ∷ []
 asks_to (Some (routes design)) = fetched design ∷ []
+asks_to (Some (check n design proof)) = fetched design ∷ fetched proof ∷ []
 
 -- the fetches for the words of a command line
 abbrev pub asks_of : List (List ℕ) → List Ask

@@ -4,5 +4,6 @@ pub mod Texts
 pub mod Listings
 pub mod Answers
 pub mod Simulations
+pub mod Checks
 pub mod Replies
 pub mod Prints

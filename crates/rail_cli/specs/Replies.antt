@@ -5,8 +5,10 @@ use Rattle.rail_base.specs.declared.station.Station.{Station}
 use Rattle.rail_base.specs.declared.plan.Command.{Command}
 use Rattle.rail_outside.specs.Lines.{lines_of}
 use Rattle.rail_spec.specs.Feasible.{IsFeasible}
+use Rattle.rail_spec.specs.Safety.{Clash}
+use Rattle.rail_spec.specs.Track.{routes_of}
 use Rattle.rail_outside.specs.Files.{Files}
-use Rattle.rail_words.specs.Requests.{Asked, simulate, routes}
+use Rattle.rail_words.specs.Requests.{Asked, simulate, routes, check}
 use Rattle.rail_cli.specs.declared.status.Status.{Status}
 use Rattle.rail_cli.specs.declared.status.Status.TheVariants as statuses
 use Rattle.rail_cli.specs.declared.reply.Reply.{Reply}
@@ -56,11 +58,12 @@ OnReply (Err ending.ShelfFault) fact = Unit {0}
 abbrev pub Replies : Result Reply Ending → Answer → Type 0
 Replies result answer = OnReply result (λ reply. answer ≡ reply_seen reply)
 
--- the bytes spell a plan over the design, and the status is 0 exactly where it is feasible
+-- the bytes spell a plan over the design in whose run no two trains ever clash, and the status is 0 exactly where it is feasible
 pub record DecidesPlan (d : Station) (bytes : List ℕ) (s : Status) : Type 0 where
   pub plan : List (List Command)
   pub spelled : plan_in d bytes ≡ Ok plan
   pub exactly : (s ≡ statuses.Done) ↔ IsFeasible d 64 plan
+  pub apart : (k : ℕ) → Clash d (routes_of d) plan k → ⊥
 
 -- the one file spells a design, the other a plan over it, and the status is 0 exactly where that is feasible
 pub record Decides (design_bytes plan_bytes : List ℕ) (s : Status) : Type 0 where
@@ -72,3 +75,4 @@ pub record Decides (design_bytes plan_bytes : List ℕ) (s : Status) : Type 0 wh
 abbrev pub DecidesRequest : Files → Asked → Result Reply Ending → Type 0
 DecidesRequest files (simulate design plan) result = IfOk result (λ reply. Decides (files design) (files plan) reply.status)
 DecidesRequest files (routes design) result = Unit {0}
+DecidesRequest files (check n design proof) result = Unit {0}

@@ -8,6 +8,7 @@ use Rattle.rail_plan.specs.Reading.{plan_of}
 use Rattle.rail_spec.specs.Track.{routes_of, all_closings, edges_met_again}
 use Rattle.rail_spec.specs.Feasible.{IsFeasible}
 use Rattle.rail_spec.specs.Requirements.{cost}
+use Rattle.rail_spec.specs.Safety.{Clash}
 use Rattle.rail_outside.specs.Growth.{grown}
 use Rattle.timetable.specs.Lines.{met_line}
 use Rattle.timetable.specs.Timetable.{timetable_of, timetable_text}
@@ -28,13 +29,19 @@ pub record Simulates (files : Files) (words : List (List ℕ)) (d : Station) (pl
   pub few : length (all_closings d) ≤ 2000
   pub spells_plan : plan_of d (routes_of d) (files plan_name) ≡ Ok plan
 
--- the status is 0 exactly where the plan is feasible, and else 1; the text is the timetable, which begins with `met tick <k>` at the deciding tick exactly in the first case
+-- the status is 0 exactly where the plan is feasible, and else 1; the text is the timetable, which begins with `met tick <k>` at the deciding tick exactly in the first case; and at no tick of the run, past the horizon too, do two trains hold one section or stand on one
 pub record TellsFeasible (d : Station) (plan : List (List Command)) (s : Status) (old new : Option (List ℕ)) : Type 0 where
   pub done : (s ≡ statuses.Done) ↔ IsFeasible d 64 plan
   pub failed : (s ≡ statuses.No) ↔ (IsFeasible d 64 plan → ⊥)
   pub met : IsFeasible d 64 plan → (more : List (List ℕ)) × (timetable_of d (shown_by d plan) ≡ met_line (cost d (routes_of d) plan) ∷ more)
   pub text : new ≡ grown old (timetable_text d (shown_by d plan))
+  pub apart : (k : ℕ) → Clash d (routes_of d) plan k → ⊥
 
--- where the words ask for a simulation in which nothing is refused, the status is 0 exactly where the plan is feasible
+-- the status is 0 exactly where the plan is feasible, and no two trains ever clash
+pub record Settles (d : Station) (plan : List (List Command)) (s : Status) : Type 0 where
+  pub done : (s ≡ statuses.Done) ↔ IsFeasible d 64 plan
+  pub apart : (k : ℕ) → Clash d (routes_of d) plan k → ⊥
+
+-- where the words ask for a simulation in which nothing is refused, the status settles it
 abbrev pub DoneWhereFeasible : Files → List (List ℕ) → Status → Type 0
-DoneWhereFeasible files words s = (d : Station) (plan : List (List Command)) → Simulates files words d plan → (s ≡ statuses.Done) ↔ IsFeasible d 64 plan
+DoneWhereFeasible files words s = (d : Station) (plan : List (List Command)) → Simulates files words d plan → Settles d plan s

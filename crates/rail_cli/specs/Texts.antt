@@ -6,6 +6,8 @@ use Rattle.design_table.specs.declared.place.EntryKind.{EntryKind}
 use Rattle.design_table.specs.declared.place.Place.{Place}
 use Rattle.design_table.specs.declared.place.Place.TheVariants as place
 use Rattle.design_table.specs.Keys.{key_text, kind_key}
+use Rattle.log_checker.specs.declared.shown.Reason.{Reason}
+use Rattle.log_checker.specs.Words.{words_of}
 use Rattle.rail_base.specs.declared.station.Station.{Station}
 use Rattle.rail_base.specs.declared.station.SectionNo.{SectionNo}
 use Rattle.rail_base.specs.declared.station.TrainNo.{TrainNo}
@@ -30,11 +32,13 @@ usage_line = codes "usage: rcv simulate DESIGN PLAN; rcv routes DESIGN; rcv veri
 abbrev pub file_text : InputFile → List ℕ
 file_text file.Design = codes "design"
 file_text file.Plan = codes "plan"
+file_text file.Proof = codes "proof"
 
 -- the most bytes that it may have
 abbrev pub limit_of : InputFile → ℕ
 limit_of file.Design = 8388608
 limit_of file.Plan = 8388608
+limit_of file.Proof = 268435456
 
 -- `too long <file> <limit>`
 abbrev pub too_long_line : InputFile → List ℕ
@@ -75,6 +79,20 @@ place_text place.Routes = codes "routes"
 -- `design refused <code> <place>`
 abbrev pub design_refused_line : Code → Place → List ℕ
 design_refused_line c p = codes "design refused " ++ code_text c ++ codes " " ++ place_text p ++ codes "\n"
+
+-- the clauses of the design are too many
+abbrev pub too_large_line : List ℕ
+too_large_line = codes "design refused D14 base\n"
+
+-- ---- a proof
+
+-- `yes steps <k>`
+abbrev pub yes_line : ℕ → List ℕ
+yes_line k = codes "yes steps " ++ decimal k ++ codes "\n"
+
+-- `no line <number> <reason>`
+abbrev pub no_line : ℕ → Reason → List ℕ
+no_line line reason = codes "no line " ++ decimal line ++ codes " " ++ words_of reason ++ codes "\n"
 
 -- ---- a refused plan
 

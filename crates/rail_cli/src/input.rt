@@ -8,6 +8,7 @@ ghost use Rattle.rail_cli.specs.Texts.{file_text, limit_of};
 pub enum InputFile {
     Design,
     Plan,
+    Proof,
 }
 
 impl InputFile {
@@ -18,6 +19,7 @@ impl InputFile {
         match self {
             InputFile::Design => "design",
             InputFile::Plan => "plan",
+            InputFile::Proof => "proof",
         }
     }
 
@@ -27,6 +29,7 @@ impl InputFile {
     {
         match self {
             InputFile::Design | InputFile::Plan => 8_388_608,
+            InputFile::Proof => 268_435_456,
         }
     }
 }

@@ -2,6 +2,7 @@
 //! the status to end with.
 #![tactic(auto)]
 
+mod checking;
 mod ending;
 mod input;
 mod listing;

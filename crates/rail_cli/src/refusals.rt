@@ -2,7 +2,7 @@
 
 ghost use Rattle.std.specs.Prelude.{◌≡◌, true, IfOk};
 ghost use Rattle.rail_cli.specs.Statuses.{is_answered};
-ghost use Rattle.rail_cli.specs.Texts.{usage_line, too_long_line, design_refused_line, plan_refused_line};
+ghost use Rattle.rail_cli.specs.Texts.{usage_line, too_long_line, design_refused_line, too_large_line, plan_refused_line};
 ghost use Rattle.rail_cli.specs.Answers.{one_line};
 ghost use Rattle.rail_cli.specs.Replies.{reply_seen, ended};
 
@@ -10,7 +10,9 @@ use crate::ending::Ending;
 use crate::input::InputFile;
 use crate::reply::Reply;
 use crate::status::Status;
-use crate::texts::{design_refused_line, plan_refused_line, too_long_line, usage_line};
+use crate::texts::{
+    design_refused_line, plan_refused_line, too_large_line, too_long_line, usage_line,
+};
 use design_table::{Code, Place};
 use rail_base::design::Design;
 use rail_plan::fault::PlanCode;
@@ -18,7 +20,7 @@ use rail_plan::place::PlanPlace;
 use std::alloc::{AllocError, Global};
 
 /// A reply of one line.
-fn one_line(alloc: Global, status: Status, line: Vec<u8>) -> Result<Reply, AllocError>
+pub(crate) fn one_line(alloc: Global, status: Status, line: Vec<u8>) -> Result<Reply, AllocError>
     requires { is_answered status ≡ true }
     ensures { IfOk result (λ reply. reply_seen reply ≡ one_line status line.items) }
 {
@@ -50,6 +52,13 @@ pub(crate) fn design_refused(alloc: Global, code: Code, place: Place) -> Result<
         Status::DesignRefused,
         design_refused_line(alloc, code, place)?,
     )
+}
+
+/// The clauses of the design are too many.
+pub(crate) fn too_large(alloc: Global) -> Result<Reply, AllocError>
+    ensures { IfOk result (λ reply. reply_seen reply ≡ one_line Status.DesignRefused too_large_line) }
+{
+    one_line(alloc, Status::DesignRefused, too_large_line(alloc)?)
 }
 
 /// The plan is refused.

@@ -1,18 +1,20 @@
 //! The top call.
 
-ghost use Rattle.std.specs.Prelude.{◌≡◌, ◌≢◌, ◌≤◌, ◌↔◌, true, None, Some, List, IfOk};
+ghost use Rattle.std.specs.Prelude.{◌≡◌, ◌≢◌, ◌≤◌, ◌↔◌, true, None, Some, List, IfOk, ℕ};
 ghost use Rattle.rail_base.specs.declared.station.Station.{Station};
 ghost use Rattle.rail_base.specs.declared.plan.Command.{Command};
 ghost use Rattle.rail_outside.specs.Files.{Files};
 ghost use Rattle.rail_outside.specs.Growth.{Rose, GrowsByFront};
-ghost use Rattle.rail_words.specs.Requests.{request_of};
+ghost use Rattle.rail_words.specs.Requests.{IsInRange, request_of};
 ghost use Rattle.rail_words.specs.Words.{texts_of, asked_of};
 ghost use Rattle.rail_cli.specs.Statuses.{is_answered, is_verdict};
 ghost use Rattle.rail_cli.specs.Answers.{answer_to, answer_of, asks_to, asks_of};
+ghost use Rattle.rail_cli.specs.Checks.{Checks, TellsInfeasible};
 ghost use Rattle.rail_cli.specs.Prints.{Prints};
 ghost use Rattle.rail_cli.specs.Replies.{reply_seen, OnReply, RefusesFile, Replies, DecidesRequest};
 ghost use Rattle.rail_cli.specs.Simulations.{Simulates, TellsFeasible, DoneWhereFeasible};
 
+use crate::checking::checked;
 use crate::ending::Ending;
 use crate::listing::routes_listed;
 use crate::refusals::usage;
@@ -25,6 +27,7 @@ use std::alloc::Global;
 
 /// The reply to a request.
 fn requested<S: Shelf>(alloc: Global, shelf: &mut S, request: Request<'_>) -> Result<Reply, Ending>
+    requires range { IsInRange (asked_of request) }
     ensures replies { (files : Files) → S.held shelf.old ≡ Some files → Replies result (answer_to files (Some (asked_of request.entry))) }
     ensures verdict { IfOk result (λ reply. is_verdict reply.status ≡ true) }
     ensures refuses { RefusesFile result }
@@ -37,6 +40,11 @@ fn requested<S: Shelf>(alloc: Global, shelf: &mut S, request: Request<'_>) -> Re
     match request {
         Request::Simulate { design, plan } => simulated(alloc, shelf, design, plan),
         Request::Routes { design } => routes_listed(alloc, shelf, design),
+        Request::Check {
+            steps,
+            design,
+            proof,
+        } => checked(alloc, shelf, steps, design, proof),
     }
 }
 
@@ -84,6 +92,7 @@ pub fn run_words<S: Shelf, O: Sink>(
 ) -> Status
     ensures answer { (files : Files) → S.held shelf.old ≡ Some files → Prints (answer_of files (texts_of words.now)) result (O.written out.old) (O.written out.new) (O.puts out.old) (O.puts out.new) }
     ensures met { (files : Files) → S.held shelf.old ≡ Some files → (d : Station) (plan : List (List Command)) → Simulates files (texts_of words.now) d plan → is_answered result ≡ true → TellsFeasible d plan result (O.written out.old) (O.written out.new) }
+    ensures infeasible { (files : Files) → S.held shelf.old ≡ Some files → (n : ℕ) (d : Station) → Checks files (texts_of words.now) n d → result ≡ Status.Done → TellsInfeasible n d (O.written out.old) (O.written out.new) }
     ensures usage { is_answered result ≡ true → (result ≡ Status.Usage) ↔ (request_of (texts_of words.now) ≡ None) }
 
     // A fault comes only where its side has counted one.

@@ -1,11 +1,12 @@
 //! A plan simulated over a design.
 
-ghost use Rattle.std.specs.Prelude.{◌≡◌, ◌≤◌, ◌↔◌, [], ◌∷◌, true, length, IfOk, OnOk, Some};
+ghost use Rattle.std.specs.Prelude.{◌≡◌, ◌≤◌, ◌↔◌, [], ◌∷◌, true, length, IfOk, OnOk, Some, ℕ};
 ghost use Rattle.rail_base.specs.Stations.{horizon};
 ghost use Rattle.rail_outside.specs.Asks.{fetched};
 ghost use Rattle.rail_outside.specs.Files.{Files};
 ghost use Rattle.rail_outside.specs.Growth.{Rose, grown, GrowsByFront};
 ghost use Rattle.rail_spec.specs.Feasible.{IsRunnable, IsFeasible};
+ghost use Rattle.rail_spec.specs.Safety.{Clash};
 ghost use Rattle.rail_spec.specs.Track.{routes_of};
 ghost use Rattle.rail_cli.specs.Statuses.{is_verdict};
 ghost use Rattle.rail_cli.specs.Answers.{within_limit, design_in, plan_in, with_routes, design_or_answer, planned, shown, shown_by, verdict_status, simulated};
@@ -74,6 +75,7 @@ fn show(
     ensures shown { IfOk result (λ reply. reply_seen reply ≡ shown design.now.station (shown_by design.now.station plan.now.steps)) }
     ensures verdict { IfOk result (λ reply. is_verdict reply.status ≡ true) }
     ensures exactly { IfOk result (λ reply. (reply.status ≡ Status.Done) ↔ IsFeasible design.now.station 64 plan.now.steps) }
+    ensures apart { OnOk result ((k : ℕ) → Clash design.now.station (routes_of design.now.station) plan.now.steps k → ⊥) }
 {
     let verdict = simulate(alloc, design, routes, plan, design.horizon())?;
     let lines = timetable_lines(alloc, design, &verdict)?;

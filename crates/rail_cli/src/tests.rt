@@ -311,6 +311,48 @@ fn routes_are_listed(rt: HostRuntime) -> Result<(), AllocError> {
 }
 
 #[test]
+fn proofs_are_judged(rt: HostRuntime) -> Result<(), AllocError> {
+    let alloc = rt.alloc();
+    let halt = design(alloc, 600_000, TRACK, ONE_TRAIN, "")?;
+    let follow = design(alloc, 600_000, TRACK, TWO_TRAINS, "")?;
+    for (station, steps, proof, status, text) in [
+        (&halt, "1", "rcvlog 1\nd 0 1 5 0\n", 0, "yes steps 1\n"),
+        (
+            &halt,
+            "2",
+            "rcvlog 1\nd 0 1 5 0\n",
+            1,
+            "no line 2 hint not unit\n",
+        ),
+        (
+            &halt,
+            "2",
+            "rcvlog 1\nd -7 0 10 12 4 0\n",
+            0,
+            "yes steps 1\n",
+        ),
+        (
+            &halt,
+            "2",
+            "rcvlog 1\nd -7 0 0\n",
+            1,
+            "no line 2 no conflict\n",
+        ),
+        (&halt, "2", "", 1, "no line 1 no final line\n"),
+        (&follow, "2", "rcvlog 1\n", 1, "no line 2 no final line\n"),
+        (&halt, "65", "rcvlog 1\n", 2, USAGE),
+    ] {
+        let mut shelf = shelf_of(alloc, station.as_bytes(), proof)?;
+        let mut out = MemorySink::new(alloc);
+        let line = format!(in alloc; "rcv check --steps {steps} design.toml plan.json")?;
+        let code = run(alloc, line.as_str(), &mut shelf, &mut out)?;
+        assert_eq!(rt; code, status, "{proof}");
+        assert!(rt; out.bytes() == text.as_bytes(), "{text}");
+    }
+    Ok(())
+}
+
+#[test]
 fn faults_stop_a_run(rt: HostRuntime) -> Result<(), AllocError> {
     let alloc = rt.alloc();
     let halt = design(alloc, 600_000, TRACK, ONE_TRAIN, "")?;

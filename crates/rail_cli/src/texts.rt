@@ -1,11 +1,12 @@
 //! The lines that are printed where there is no timetable, each with its LF. An error is want of memory.
 
 ghost use Rattle.std.specs.Prelude.{◌≡◌, ◌++◌, IfOk, OnOk};
-ghost use Rattle.rail_cli.specs.Texts.{usage_line, file_text, limit_of, too_long_line, code_text, entry_text, place_text, design_refused_line, plan_code_text, step_text, train_text, plan_place_text, plan_refused_line};
+ghost use Rattle.rail_cli.specs.Texts.{usage_line, file_text, limit_of, too_long_line, code_text, entry_text, place_text, design_refused_line, too_large_line, yes_line, no_line, plan_code_text, step_text, train_text, plan_place_text, plan_refused_line};
 
 use crate::input::InputFile;
 use crate::names::{section_name, train_name};
 use design_table::{Code, EntryKind, Place};
+use log_checker::Reason;
 use rail_base::design::Design;
 use rail_base::station::TrainNo;
 use rail_plan::fault::PlanCode;
@@ -101,6 +102,35 @@ pub(crate) fn design_refused_line(
     line.extend_from_slice(code_text(code).as_bytes())?;
     line.push(b' ')?;
     put_place(&mut line, place)?;
+    line.push(b'\n')?;
+    Ok(line)
+}
+
+/// The clauses of the design are too many.
+pub(crate) fn too_large_line(alloc: Global) -> Result<Vec<u8>, AllocError>
+    ensures { IfOk result (λ line. line.items ≡ too_large_line) }
+{
+    Vec::from_slice(alloc, b"design refused D14 base\n")
+}
+
+/// `yes steps <k>`
+pub(crate) fn yes_line(alloc: Global, steps: u32) -> Result<Vec<u8>, AllocError>
+    ensures { IfOk result (λ line. line.items ≡ yes_line steps) }
+{
+    let mut line = Vec::from_slice(alloc, b"yes steps ")?;
+    put_number(&mut line, u64::from(steps))?;
+    line.push(b'\n')?;
+    Ok(line)
+}
+
+/// `no line <number> <reason>`
+pub(crate) fn no_line(alloc: Global, number: u64, reason: Reason) -> Result<Vec<u8>, AllocError>
+    ensures { IfOk result (λ line. line.items ≡ no_line number reason) }
+{
+    let mut line = Vec::from_slice(alloc, b"no line ")?;
+    put_number(&mut line, number)?;
+    line.push(b' ')?;
+    line.extend_from_slice(reason.words().as_bytes())?;
     line.push(b'\n')?;
     Ok(line)
 }

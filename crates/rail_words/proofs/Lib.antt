@@ -1,3 +1,5 @@
 pub mod Refusals
 pub mod Reading
+pub mod Walks
 pub mod Taken
+pub mod Ranges

@@ -20,3 +20,9 @@ pub not_taken : (app : App) (words : List Text) (e : Error) → app ≡ rcv_app 
 not_taken app words e same has other =
     let kinds : HasKind (fault_of rcv_app words) e = rw same at (has (rw (same, rcv_is_simple) refl)) in
     some_kind e (fault_of rcv_app words) kinds other
+
+-- what is parsed is taken
+pub taken : (app : App) (words : List Text) → app ≡ rcv_app → (is_simple_and_free app ≡ true → fault_of app words ≡ []) → is_taken words ≡ true
+taken app words same none =
+    let no_fault : fault_of rcv_app words ≡ [] = rw same at (none (rw (same, rcv_is_simple) refl)) in
+    rw no_fault refl

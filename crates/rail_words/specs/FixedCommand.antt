@@ -1,10 +1,14 @@
 -- The fixed command: `rcv` with one required subcommand for each line of the usage.
-use Rattle.std.specs.Prelude.{◌==◌, Bool, true, List, length, codes}
+use Rattle.std.specs.Prelude.{◌==◌, Bool, true, List, length, Some, codes}
 use Rattle.clap.specs.Words.{App, Rule, Text, new_app, new_rule, with_rule, with_subcommand, fault_of}
 
 -- a required value read as text, by its place
 abbrev pub positional_rule : Text → Rule
 positional_rule name = record (new_rule name) { required = true }
+
+-- a required option with a value
+abbrev pub option_rule : Text → Rule
+option_rule name = record (new_rule name) { long = Some name; required = true }
 
 -- `simulate DESIGN PLAN`
 abbrev pub simulate_app : App
@@ -14,11 +18,15 @@ simulate_app = with_rule (with_rule (new_app (codes "simulate")) (positional_rul
 abbrev pub routes_app : App
 routes_app = with_rule (new_app (codes "routes")) (positional_rule (codes "DESIGN"))
 
+-- `check --steps N DESIGN PROOF`
+abbrev pub check_app : App
+check_app = with_rule (with_rule (with_rule (new_app (codes "check")) (option_rule (codes "steps"))) (positional_rule (codes "DESIGN"))) (positional_rule (codes "PROOF"))
+
 abbrev pub top_app : App
 top_app = record (new_app (codes "rcv")) { top = record (new_app (codes "rcv")).top { subcommand_required = true } }
 
 abbrev pub rcv_app : App
-rcv_app = with_subcommand (with_subcommand top_app simulate_app.top) routes_app.top
+rcv_app = with_subcommand (with_subcommand (with_subcommand top_app simulate_app.top) routes_app.top) check_app.top
 
 -- the fixed command takes the words, the first of which is the program's name
 abbrev pub is_taken : List Text → Bool

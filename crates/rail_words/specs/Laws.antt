@@ -1,7 +1,7 @@
 -- Which words are taken.
-use Rattle.std.specs.Prelude.{◌≡◌, ◌==◌, not, Bool, true, false, [], ◌∷◌, Some, codes}
+use Rattle.std.specs.Prelude.{ℕ, List, ◌≡◌, ◌==◌, not, Bool, true, false, [], ◌∷◌, Some, codes}
 use Rattle.clap.specs.Words.{Text}
-use Rattle.rail_words.specs.Requests.{request_of, simulate, routes}
+use Rattle.rail_words.specs.Requests.{Asked, IsInRange, request_of, steps_of, simulate, routes, check}
 
 -- not empty, and not beginning with a hyphen
 abbrev pub is_plain : Text → Bool
@@ -15,3 +15,11 @@ SimulateIsRead = (program design plan : Text) → is_plain design ≡ true → i
 
 abbrev pub RoutesIsRead : Type 0
 RoutesIsRead = (program design : Text) → is_plain design ≡ true → request_of (program ∷ codes "routes" ∷ design ∷ []) ≡ Some (routes design)
+
+abbrev pub CheckIsRead : Type 0
+CheckIsRead = (program steps design proof : Text) (n : ℕ) → steps_of steps ≡ Some n → is_plain design ≡ true → is_plain proof ≡ true
+    → request_of (program ∷ codes "check" ∷ codes "--steps" ∷ steps ∷ design ∷ proof ∷ []) ≡ Some (check n design proof)
+
+-- what words ask for is in range
+abbrev pub RequestsAreInRange : Type 0
+RequestsAreInRange = (words : List Text) (asked : Asked) → request_of words ≡ Some asked → IsInRange asked

@@ -3,7 +3,7 @@
 ghost use Rattle.std.specs.Prelude.{◌≡◌, IfOk, false};
 ghost use Rattle.clap.specs.Words.{app_of, rule_of};
 ghost use Rattle.clap.specs.declared.builder.command.Command.TheViews.{out-Command as fields_of};
-ghost use Rattle.rail_words.specs.FixedCommand.{positional_rule, simulate_app, routes_app, rcv_app};
+ghost use Rattle.rail_words.specs.FixedCommand.{option_rule, positional_rule, simulate_app, routes_app, check_app, rcv_app};
 
 use clap::{Arg, Command};
 use std::alloc::{AllocError, Global};
@@ -14,6 +14,14 @@ fn positional<'a>(alloc: Global, name: &'a str) -> Arg<'a>
     ensures local { result.global ≡ false }
 {
     Arg::new(alloc, name).required(true)
+}
+
+/// A required option with a value.
+fn option<'a>(alloc: Global, name: &'a str) -> Arg<'a>
+    ensures rule { rule_of result ≡ option_rule name.entry.now }
+    ensures local { result.global ≡ false }
+{
+    Arg::new(alloc, name).long(name).required(true)
 }
 
 fn simulate_command<'a>(alloc: Global) -> Result<Command<'a>, AllocError>
@@ -32,6 +40,16 @@ fn routes_command<'a>(alloc: Global) -> Result<Command<'a>, AllocError>
     Command::new(alloc, "routes").arg(positional(alloc, "DESIGN"))
 }
 
+fn check_command<'a>(alloc: Global) -> Result<Command<'a>, AllocError>
+    ensures shape { IfOk result (λ command. app_of command ≡ check_app) }
+    ensures local { IfOk result (λ command. (fields_of command).has_globals ≡ false) }
+{
+    Command::new(alloc, "check")
+        .arg(option(alloc, "steps"))?
+        .arg(positional(alloc, "DESIGN"))?
+        .arg(positional(alloc, "PROOF"))
+}
+
 /// The fixed command.
 pub(crate) fn command<'a>(alloc: Global) -> Result<Command<'a>, AllocError>
     ensures shape { IfOk result (λ command. app_of command ≡ rcv_app) }
@@ -39,5 +57,6 @@ pub(crate) fn command<'a>(alloc: Global) -> Result<Command<'a>, AllocError>
     Command::new(alloc, "rcv")
         .subcommand_required(true)
         .subcommand(simulate_command(alloc)?)?
-        .subcommand(routes_command(alloc)?)
+        .subcommand(routes_command(alloc)?)?
+        .subcommand(check_command(alloc)?)
 }

@@ -3,13 +3,14 @@
 ghost use Rattle.std.specs.Prelude.{◌≡◌, ◌≢◌, IfOk, OnOk, Err, Some, None, true, false, option_map, option_and_then, codes};
 ghost use Rattle.clap.specs.Words.{first_of, rows_of, found_of, subcommand_of, subcommand_rows_of};
 ghost use Rattle.rail_words.specs.FixedCommand.{rcv_app, is_taken};
-ghost use Rattle.rail_words.specs.Requests.{asked_by, request_of, simulate_with, routes_with};
+ghost use Rattle.rail_words.specs.Requests.{IsInRange, asked_by, check_with, request_of, simulate_with, steps_of, routes_with};
 ghost use Rattle.rail_words.specs.Words.{asked_of, texts_of};
 ghost use Rattle.rail_words.specs.declared.request.WordsFault.TheVariants as fault;
 
 use crate::command::command;
 use clap::ArgMatches;
 use clap::error::ErrorKind;
+use rail_text::number;
 use std::alloc::{AllocError, Global};
 use thiserror::Error;
 
@@ -17,9 +18,20 @@ use thiserror::Error;
 #[derive(Clone, Copy, Debug, PartialEq, Eq)]
 pub enum Request<'a> {
     /// Simulate a plan over a design, each by its file's name.
-    Simulate { design: &'a str, plan: &'a str },
+    Simulate {
+        design: &'a str,
+        plan: &'a str,
+    },
     /// List the routes of a design, by its file's name.
-    Routes { design: &'a str },
+    Routes {
+        design: &'a str,
+    },
+    /// Check a proof that a design has no plan of so many steps, 1 to 64, the design and the proof by their files' names.
+    Check {
+        steps: u32,
+        design: &'a str,
+        proof: &'a str,
+    },
 }
 
 /// Why words ask for nothing.
@@ -99,6 +111,39 @@ fn routes<'a>(values: &ArgMatches<'a>) -> Option<Request<'a>>
     Some(Request::Routes { design })
 }
 
+/// The number of steps that a text gives, from 1 to 64.
+fn steps_of(text: &str) -> Option<u32>
+    ensures { result ≡ steps_of text.now }
+{
+    match number(text.as_bytes()) {
+        Some(steps) if 1 <= steps && steps <= 64 => Some(steps as u32),
+        _ => None,
+    }
+}
+
+/// What the values of `check` ask for.
+fn check<'a>(values: &ArgMatches<'a>) -> Option<Request<'a>>
+    ensures { option_map asked_of result ≡ check_with (first_of (codes "steps") (rows_of (found_of values.now))) (first_of (codes "DESIGN") (rows_of (found_of values.now))) (first_of (codes "PROOF") (rows_of (found_of values.now))) }
+{
+    let Some(text) = value(values, "steps") else {
+        return None;
+    };
+    let Some(design) = value(values, "DESIGN") else {
+        return None;
+    };
+    let Some(proof) = value(values, "PROOF") else {
+        return None;
+    };
+    let Some(steps) = steps_of(text) else {
+        return None;
+    };
+    Some(Request::Check {
+        steps,
+        design,
+        proof,
+    })
+}
+
 /// What the matches ask for.
 fn request_in<'a>(matches: &ArgMatches<'a>) -> Option<Request<'a>>
     ensures { option_map asked_of result ≡ option_and_then asked_by (subcommand_rows_of matches.now) }
@@ -112,6 +157,9 @@ fn request_in<'a>(matches: &ArgMatches<'a>) -> Option<Request<'a>>
     if name == "routes" {
         return routes(values);
     }
+    if name == "check" {
+        return check(values);
+    }
     None
 }
 
@@ -119,6 +167,7 @@ fn request_in<'a>(matches: &ArgMatches<'a>) -> Option<Request<'a>>
 pub fn read_words<'a>(alloc: Global, words: &'a [String]) -> Result<Request<'a>, WordsFault>
     ensures ok { IfOk result (λ request. request_of (texts_of words.entry.now) ≡ Some (asked_of request)) }
     ensures usage { result ≡ Err WordsFault.Usage → request_of (texts_of words.entry.now) ≡ None }
+    ensures range { IfOk result (λ request. IsInRange (asked_of request)) }
 {
     match matches_of(alloc, words) {
         Ok(matches) => request_in(&matches).ok_or(WordsFault::Usage),

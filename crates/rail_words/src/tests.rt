@@ -44,6 +44,28 @@ fn routes_names_its_file(rt: HostRuntime) -> Result<(), AllocError> {
 }
 
 #[test]
+fn check_names_its_steps_and_files(rt: HostRuntime) -> Result<(), AllocError> {
+    let alloc = rt.alloc();
+    let want = Request::Check {
+        steps: 64,
+        design: "halt.toml",
+        proof: "halt.proof",
+    };
+    for line in [
+        "rcv check --steps 64 halt.toml halt.proof",
+        "rcv check --steps=064 halt.toml halt.proof",
+        "rcv check halt.toml halt.proof --steps 64",
+    ] {
+        let words = words_of(alloc, line)?;
+        assert!(rt;
+            read_words(alloc, words.as_slice()) == Ok(want),
+            "at {line}"
+        );
+    }
+    Ok(())
+}
+
+#[test]
 fn other_words_are_refused(rt: HostRuntime) -> Result<(), AllocError> {
     let alloc = rt.alloc();
     for line in [
@@ -54,6 +76,11 @@ fn other_words_are_refused(rt: HostRuntime) -> Result<(), AllocError> {
         "rcv simulate --steps halt.toml plan.json",
         "rcv dispatch halt.toml plan.json",
         "rcv routes",
+        "rcv check halt.toml halt.proof",
+        "rcv check --steps 0 halt.toml halt.proof",
+        "rcv check --steps 65 halt.toml halt.proof",
+        "rcv check --steps 6x halt.toml halt.proof",
+        "rcv check --steps 1 --steps 1 halt.toml halt.proof",
         "rcv routes halt.toml plan.json",
         "rcv help",
         "rcv --help",

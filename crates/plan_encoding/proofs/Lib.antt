@@ -1,0 +1,9 @@
+pub mod Gathering
+pub mod Listing
+pub mod Sizes
+pub mod Tabled
+pub mod Sequences
+pub mod Chained
+pub mod Starting
+pub mod Ordering
+pub mod Based

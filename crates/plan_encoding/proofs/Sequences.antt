@@ -1,0 +1,67 @@
+-- Clauses that calls list one after another.
+use Rattle.std.proofs.Common.{◌≡◌, ℕ, Bool, true, false, cond, nat_lt, List, [], ◌∷◌, ◌++◌, flat_map, filter, refl, sym, ap, subst, ◌∙◌}
+use Rattle.std.proofs.lemmas.List.{append_assoc}
+use Rattle.std.proofs.lemmas.Grind.{flat_map-append}
+use Rattle.rail_base.specs.declared.station.Station.{Station}
+use Rattle.rail_base.specs.declared.route.Route.{Route}
+use Rattle.rail_spec.specs.Plans.{all_commands}
+use Rattle.plan_clauses.specs.Variables.{pairs, pairs_of}
+use Rattle.plan_encoding.specs.Waiting.{apart_once}
+use Rattle.plan_encoding.proofs.Listing.{listed_next, next_fails}
+use Rattle.std.specs.Prelude.{Result, Ok, Err, OnOk, IfErr}
+use Rattle.plan_encoding.specs.declared.draft.BaseFault.{BaseFault}
+use Rattle.plan_encoding.specs.declared.frame.Frame.{Frame}
+use Rattle.plan_clauses.specs.Clauses.{Clause, first_pairs, not_at_once}
+use Rattle.plan_encoding.specs.Drafts.{Drafted, Listing, Listed, listed, FaultSays}
+use Rattle.plan_encoding.specs.Frames.{told}
+
+-- what holds where the answer is Ok, if another thing does
+pub on_ok : {A E : Type 0} {P Q : Type 0} (r : Result A E) → (P → Q) → OnOk r P → OnOk r Q
+on_ok (Ok x) h p = h p
+on_ok (Err e) h p = p
+
+-- the same of the fault
+pub if_err : {A : Type 0} {P Q : BaseFault → Type 0} (r : Result A BaseFault) → ((e : BaseFault) → P e → Q e) → IfErr r P → IfErr r Q
+if_err (Ok x) h p = p
+if_err (Err e) h p = h e p
+
+module _ {A : Type 0} (one other : Listing) (r : Result A BaseFault) (e : other ≡ one) where
+  -- the last call's answer is that of all
+  pub last_ok : (new : Drafted) → OnOk r (other ≡ Listed new) → OnOk r (one ≡ Listed new)
+  last_ok new p = on_ok r (λ q. sym e ∙ q) p
+
+  pub last_err : IfErr r (FaultSays other) → IfErr r (FaultSays one)
+  last_err p = if_err r (λ x q. subst (λ l. FaultSays l x) e q) p
+
+module _ (f : Frame) (a b : List Clause) (old new : Drafted) where
+  -- what is listed after a part, of both
+  pub then_rest : listed old (told f a) ≡ Listed new → listed new (told f b) ≡ listed old (told f (a ++ b))
+  then_rest h = listed_next f (a ++ b) a b (record { is = refl }) old new (listed old (told f (a ++ b))) h refl
+
+-- a fault in the first part is one of both
+pub then_fails : (f : Frame) (a b : List Clause) (old : Drafted) (e : BaseFault) → FaultSays (listed old (told f a)) e → FaultSays (listed old (told f (a ++ b))) e
+then_fails f a b old e h = next_fails f (a ++ b) a b (record { is = refl }) old e (listed old (told f (a ++ b))) h refl
+
+-- a filter's parts
+parts_kept : {X Y : Type 0} (g : X → List Y) (test : X → Bool) (xs : List X) → flat_map g (filter test xs) ≡ flat_map (λ x. cond (test x) (g x) []) xs
+parts_kept g test [] = refl
+parts_kept {X} {Y} g test (x ∷ xs) = go (test x) (parts_kept g test xs)
+  where
+    go : (b : Bool) → flat_map g (filter test xs) ≡ flat_map (λ x. cond (test x) (g x) []) xs → flat_map g (cond b (x ∷ filter test xs) (filter test xs)) ≡ cond b (g x) [] ++ flat_map (λ x. cond (test x) (g x) []) xs
+    go true e = ap (λ ys. g x ++ ys) e
+    go false e = e
+
+-- parts of parts
+pub parts_parts : {X Y Z : Type 0} (g : Y → List Z) (h : X → List Y) (xs : List X) → flat_map g (flat_map h xs) ≡ flat_map (λ x. flat_map g (h x)) xs
+parts_parts g h [] = refl
+parts_parts g h (x ∷ xs) = flat_map-append g (h x) (flat_map h xs) ∙ ap (λ zs. flat_map g (h x) ++ zs) (parts_parts g h xs)
+
+-- the first pairs are those of which the first train is the earlier one
+pub apart_are : (d : Station) (routes : List Route) (n : ℕ) → flat_map (λ e. flat_map (apart_once d routes n) (pairs_of d routes e)) (all_commands d routes) ≡ flat_map (not_at_once d routes n) (first_pairs d routes n)
+apart_are d routes n = sym (parts_kept (not_at_once d routes n) (λ p. nat_lt p.0.train.0 p.1.train.0) (pairs d routes) ∙ parts_parts (apart_once d routes n) (pairs_of d routes) (all_commands d routes))
+
+-- the parts as they stand in all
+pub in_a_row : {X : Type 0} (a d e f g h : List X) → (a ++ (d ++ e)) ++ ((f ++ g) ++ h) ≡ ((((a ++ d) ++ e) ++ f) ++ g) ++ h
+in_a_row a d e f g h =
+    ap (λ xs. xs ++ ((f ++ g) ++ h)) (sym (append_assoc a d e))
+    ∙ (sym (append_assoc ((a ++ d) ++ e) (f ++ g) h) ∙ ap (λ xs. xs ++ h) (sym (append_assoc ((a ++ d) ++ e) f g)))

@@ -1,0 +1,222 @@
+-- What the tables of a frame have.
+use Rattle.std.proofs.Common.{◌≡◌, ℕ, zero, suc, ◌+◌, ◌-◌, ◌*◌, ◌≤◌, ◌<◌, ◌⊎◌, inl, inr, Bool, true, false, cond, not, ◌&&◌, ◌==◌, List, [], ◌∷◌, ◌++◌, map, filter, flat_map, length, get_or, refl, sym, ap, subst, ◌∙◌, arith, eqb-true, eq-eqb, drop, length-append}
+use Rattle.std.proofs.Math.Nat.{suc-mul}
+use Rattle.std.proofs.lemmas.Nat.{mul-le}
+use Rattle.plan_clauses.specs.Variables.{pairs_of}
+use Rattle.plan_clauses.specs.Clauses.{Clause, exclude, later_pairs}
+use Rattle.std.proofs.lemmas.List.{append_assoc}
+use Rattle.plan_encoding.proofs.Gathering.{drop_next}
+use Rattle.plan_encoding.proofs.Listing.{Next}
+use Rattle.std.specs.Prelude.{All}
+use Rattle.rail_base.specs.declared.station.Station.{Station}
+use Rattle.rail_base.specs.declared.station.TrainNo.{TrainNo}
+use Rattle.rail_base.specs.declared.route.Route.{Route}
+use Rattle.rail_base.specs.declared.route.RouteNo.{RouteNo}
+use Rattle.rail_base.specs.declared.plan.Command.{Command}
+use Rattle.rail_base.specs.Numbering.{one_to, entry}
+use Rattle.rail_base.specs.Members.{In}
+use Rattle.rail_base.specs.Routes.{IsRoute, route_at, share}
+use Rattle.rail_base.specs.Stations.{IsTrain, trains}
+use Rattle.rail_base.proofs.Members.{get_or-counted, map-map, filter-append}
+use Rattle.rail_base.proofs.Lists.{in_append, in_map_back, in_flat_map_back, in_filter_back, in_count_back, length-map}
+use Rattle.rail_spec.specs.Plans.{all_commands, commands_of, contend, route_numbers}
+use Rattle.plan_clauses.proofs.Numbers.{length-count}
+use Rattle.plan_encoding.specs.declared.frame.Frame.{Frame}
+use Rattle.plan_encoding.specs.Frames.{IsCommand}
+use Rattle.plan_encoding.specs.Tables.{ArePairs, exclusions, sharing}
+
+-- ---- rows by the numbers of routes
+
+module _ (routes : List Route) (row : RouteNo → List RouteNo) (rows : List (List RouteNo)) (is : rows ≡ map row (route_numbers routes)) where
+  pub length_rows : length rows ≡ length routes
+  length_rows =
+      let named : ℕ → RouteNo = λ r. record { 0 = r } in
+      ap length is ∙ (length-map row (route_numbers routes) ∙ (length-map named (one_to (length routes)) ∙ length-count 1 (length routes)))
+
+  -- the row of a route stands at its number
+  pub row_is : (r : RouteNo) → IsRoute routes r → entry [] rows r.0 ≡ row r
+  row_is r k = ap (λ rs. entry [] rs r.0) is ∙ at r.0 k.0 k.1
+    where
+      named : ℕ → RouteNo
+      named n = record { 0 = n }
+
+      at : (n : ℕ) → 1 ≤ n → n ≤ length routes → entry [] (map row (route_numbers routes)) n ≡ row (named n)
+      at zero a b = absurd (omega arith)
+      at (suc i) a b = ap (λ rs. get_or rs i []) (map-map row named (one_to (length routes))) ∙ (get_or-counted (λ n. row (named n)) 1 (length routes) i [] (omega arith) ∙ ap (λ n. row (named n)) (omega arith))
+
+-- ---- members
+
+pub in_get : {X : Type 0} (xs : List X) (i : ℕ) (other : X) → i < length xs → In (get_or xs i other) xs
+in_get [] i other h = absurd (omega arith)
+in_get (x ∷ xs) zero other h = inl refl
+in_get (x ∷ xs) (suc i) other h = inr (in_get xs i other (omega arith))
+
+pub all_by_members : {X : Type 0} (P : X → Type 0) (xs : List X) → ((x : X) → In x xs → P x) → All P xs
+all_by_members P xs h = λ i other l. h (get_or xs i other) (in_get xs i other l)
+
+pub route_known : (routes : List Route) (r : RouteNo) → In r (route_numbers routes) → IsRoute routes r
+route_known routes r m =
+    let named : ℕ → RouteNo = λ n. record { 0 = n } in
+    let back = in_map_back named (one_to (length routes)) r m in
+    let e : back.0 ≡ r.0 = ap (λ (q : RouteNo). q.0) back.2 in
+    let range = in_count_back 1 (length routes) back.0 back.1 in
+    let a = range.0 in let b = range.1 in
+    (omega arith, omega arith)
+
+pub train_known : (d : Station) (t : TrainNo) → In t (trains d) → IsTrain d t
+train_known d t m =
+    let named : ℕ → TrainNo = λ n. record { 0 = n } in
+    let back = in_map_back named (one_to (length d.trains)) t m in
+    let e : back.0 ≡ t.0 = ap (λ (q : TrainNo). q.0) back.2 in
+    let range = in_count_back 1 (length d.trains) back.0 back.1 in
+    let a = range.0 in let b = range.1 in
+    (omega arith, omega arith)
+
+pub all_numbers : (routes : List Route) → All (IsRoute routes) (route_numbers routes)
+all_numbers routes = all_by_members (IsRoute routes) (route_numbers routes) (route_known routes)
+
+pub all_kept : (routes : List Route) (test : RouteNo → Bool) → All (IsRoute routes) (filter test (route_numbers routes))
+all_kept routes test = all_by_members (IsRoute routes) (filter test (route_numbers routes)) (λ r m. route_known routes r (in_filter_back test (route_numbers routes) r m).0)
+
+pub all_trains : (d : Station) → All (IsTrain d) (trains d)
+all_trains d = all_by_members (IsTrain d) (trains d) (train_known d)
+
+pub command_known : (f : Frame) (c : Command) → In c (all_commands f.design.now.station f.routes.now) → IsCommand f c
+command_known f c m =
+    let d = f.design.now.station in
+    let routes = f.routes.now in
+    let outer = in_flat_map_back (commands_of routes) (trains d) c m in
+    let make : RouteNo → Command = λ r. record { train = outer.0; route = r } in
+    let inner = in_map_back make (route_numbers routes) c outer.2 in
+    let t : outer.0 ≡ c.train = ap (λ (e : Command). e.train) inner.2 in
+    let r : inner.0 ≡ c.route = ap (λ (e : Command). e.route) inner.2 in
+    record { train = subst (IsTrain d) t (train_known d outer.0 outer.1); route = subst (IsRoute routes) r (route_known routes inner.0 inner.1) }
+
+pub all_known : (f : Frame) → All (IsCommand f) (all_commands f.design.now.station f.routes.now)
+all_known f = all_by_members (IsCommand f) (all_commands f.design.now.station f.routes.now) (command_known f)
+
+pub all_kept_commands : (f : Frame) (test : Command → Bool) → All (IsCommand f) (filter test (all_commands f.design.now.station f.routes.now))
+all_kept_commands f test =
+    let all = all_commands f.design.now.station f.routes.now in
+    all_by_members (IsCommand f) (filter test all) (λ c m. command_known f c (in_filter_back test all c m).0)
+
+-- ---- rivals
+
+module _ (routes : List Route) (e : Command) (t : TrainNo) where
+  abbrev make : RouteNo → Command
+  make r = record { train = t; route = r }
+
+  -- a command contends with none of its own train
+  pub rivals_none : t.0 ≡ e.train.0 → filter (contend routes e) (commands_of routes t) ≡ []
+  rivals_none h = go (route_numbers routes)
+    where
+      same : (e.train.0 == t.0) ≡ true
+      same = eq-eqb e.train.0 t.0 (sym h)
+
+      go : (rs : List RouteNo) → filter (contend routes e) (map make rs) ≡ []
+      go [] = refl
+      go (r ∷ rs) = ap (λ b. cond (not b && share (route_at routes e.route) (route_at routes r)) (make r ∷ filter (contend routes e) (map make rs)) (filter (contend routes e) (map make rs))) same ∙ go rs
+
+  -- and with those of another train whose routes share a section with its own
+  pub rivals_some : (t.0 ≡ e.train.0 → ⊥) → filter (contend routes e) (commands_of routes t) ≡ map (λ r. record { train = t; route = r }) (sharing routes e.route)
+  rivals_some h = go (route_numbers routes)
+    where
+      other : (b : Bool) → (e.train.0 == t.0) ≡ b → (e.train.0 == t.0) ≡ false
+      other true k = absurd (h (sym (eqb-true e.train.0 t.0 k)))
+      other false k = k
+
+      join : (b : Bool) (r : RouteNo) (rs : List RouteNo) → cond b (make r ∷ map make (filter (λ q. share (route_at routes e.route) (route_at routes q)) rs)) (map make (filter (λ q. share (route_at routes e.route) (route_at routes q)) rs))
+          ≡ map make (cond b (r ∷ filter (λ q. share (route_at routes e.route) (route_at routes q)) rs) (filter (λ q. share (route_at routes e.route) (route_at routes q)) rs))
+      join true r rs = refl
+      join false r rs = refl
+
+      go : (rs : List RouteNo) → filter (contend routes e) (map make rs) ≡ map make (filter (λ q. share (route_at routes e.route) (route_at routes q)) rs)
+      go [] = refl
+      go (r ∷ rs) = ap (λ b. cond (not b && share (route_at routes e.route) (route_at routes r)) (make r ∷ filter (contend routes e) (map make rs)) (filter (contend routes e) (map make rs))) (other _ refl)
+          ∙ (ap (λ cs. cond (share (route_at routes e.route) (route_at routes r)) (make r ∷ cs) cs) (go rs) ∙ join (share (route_at routes e.route) (route_at routes r)) r rs)
+
+-- a test of all commands goes train by train
+pub filter_parts : {X Y : Type 0} (test : Y → Bool) (g : X → List Y) (xs : List X) → filter test (flat_map g xs) ≡ flat_map (λ x. filter test (g x)) xs
+filter_parts test g [] = refl
+filter_parts test g (x ∷ xs) = filter-append test (g x) (flat_map g xs) ∙ ap (λ ys. filter test (g x) ++ ys) (filter_parts test g xs)
+
+-- a filter of a filter
+pub filter_both : {X : Type 0} (one other : X → Bool) (xs : List X) → filter other (filter one xs) ≡ filter (λ x. one x && other x) xs
+filter_both one other [] = refl
+filter_both {X} one other (x ∷ xs) = go (one x) (filter_both one other xs)
+  where
+    go : (b : Bool) → filter other (filter one xs) ≡ filter (λ x. one x && other x) xs → filter other (cond b (x ∷ filter one xs) (filter one xs)) ≡ cond (b && other x) (x ∷ filter (λ x. one x && other x) xs) (filter (λ x. one x && other x) xs)
+    go true h = ap (λ ys. cond (other x) (x ∷ ys) ys) h
+    go false h = h
+
+-- the part of a command's pairs, over its rivals
+pub next_rivals : (g : Command × Command → List Clause) (d : Station) (routes : List Route) (cs : List Command) (i : ℕ) (other : Command) → i < length cs → (rivals : List Command) → rivals ≡ filter (contend routes (get_or cs i other)) (all_commands d routes)
+    → Next (flat_map (λ e. flat_map g (pairs_of d routes e)) (drop i cs)) (flat_map g (map (λ c. (get_or cs i other, c)) rivals)) (flat_map (λ e. flat_map g (pairs_of d routes e)) (drop (i + 1) cs))
+next_rivals g d routes cs i other h rivals is = record {
+  is =
+      ap (flat_map (λ e. flat_map g (pairs_of d routes e))) (drop_next cs i other h)
+      ∙ ap (λ rs. flat_map g (map (λ c. (get_or cs i other, c)) rs) ++ flat_map (λ e. flat_map g (pairs_of d routes e)) (drop (i + 1) cs)) (sym is);
+}
+
+-- all commands are few
+pub commands_many : (d : Station) (routes : List Route) → length (all_commands d routes) ≡ length d.trains * length routes
+commands_many d routes =
+    let named : ℕ → TrainNo = λ t. record { 0 = t } in
+    go (trains d) ∙ ap (λ m. m * length routes) (length-map named (one_to (length d.trains)) ∙ length-count 1 (length d.trains))
+  where
+    each : (t : TrainNo) → length (commands_of routes t) ≡ length routes
+    each t =
+        let named : ℕ → RouteNo = λ r. record { 0 = r } in
+        let command : RouteNo → Command = λ r. record { train = t; route = r } in
+        length-map command (route_numbers routes) ∙ (length-map named (one_to (length routes)) ∙ length-count 1 (length routes))
+
+    go : (ts : List TrainNo) → length (flat_map (commands_of routes) ts) ≡ length ts * length routes
+    go [] = omega arith
+    go (t ∷ ts) =
+        let a = length-append (commands_of routes t) (flat_map (commands_of routes) ts) in
+        let b = each t in
+        let c = go ts in
+        let e = suc-mul (length ts) (length routes) in
+        omega arith
+
+pub commands_few : (d : Station) (routes : List Route) → length d.trains ≤ 32 → length routes ≤ 2000 → length (all_commands d routes) ≤ 64000
+commands_few d routes a b = let c = commands_many d routes in let e : length d.trains * length routes ≤ 32 * 2000 = mul-le (length d.trains) (length routes) 32 2000 a b in omega arith
+
+-- the other members are in the table too
+pub tail_known : (routes : List Route) (all : List RouteNo) (r : RouteNo) (later : List RouteNo) → all ≡ r ∷ later → All (IsRoute routes) all → All (IsRoute routes) later
+tail_known routes all r later is h = λ i other l. subst (λ rs. All (IsRoute routes) rs) is h (suc i) other (omega arith)
+
+-- the pairs of one route more
+pub exclusions_next : (test : RouteNo × RouteNo → Bool) (old new whole : List (RouteNo × RouteNo)) (all : List RouteNo) (r : RouteNo) (later : List RouteNo) → all ≡ r ∷ later → new ≡ old ++ filter test (map (λ q. (r, q)) later) → old ++ filter test (later_pairs all) ≡ whole → new ++ filter test (later_pairs later) ≡ whole
+exclusions_next test old new whole all r later is e h =
+    ap (λ ps. ps ++ filter test (later_pairs later)) e ∙ (append_assoc old (filter test (map (λ q. (r, q)) later)) (filter test (later_pairs later))
+    ∙ (ap (λ ps. old ++ ps) (sym (ap (λ rs. filter test (later_pairs rs)) is ∙ filter-append test (map (λ q. (r, q)) later) (later_pairs later))) ∙ h))
+
+-- the visit of a number stands at the index before it
+pub visit_is : {X : Type 0} (k : ℕ) (other : X) (seen visits : List X) (x none : X) → seen ≡ visits → 1 ≤ k → k - 1 < length seen → x ≡ get_or seen (k - 1) other → x ≡ entry none visits k
+visit_is zero other seen visits x none e a b h = absurd (omega arith)
+visit_is {X} (suc i) other seen visits x none e a b h = h ∙ (ap (λ j. get_or seen j other) (less i) ∙ (same seen i (omega arith) ∙ ap (λ vs. get_or vs i none) e))
+  where
+    less : (i : ℕ) → suc i - 1 ≡ i
+    less i = omega arith
+
+    same : (ys : List X) (j : ℕ) → j < length ys → get_or ys j other ≡ get_or ys j none
+    same [] j l = absurd (omega arith)
+    same (y ∷ ys) zero l = refl
+    same (y ∷ ys) (suc j) l = same ys j (omega arith)
+
+-- pairs of members that pass a test of each
+later_known : {X : Type 0} (P : X → Type 0) (xs : List X) → ((x : X) → In x xs → P x) → (p : X × X) → In p (later_pairs xs) → P p.0 × P p.1
+later_known P [] h p m = absurd m
+later_known {X} P (x ∷ xs) h p m = go (in_append p (map (λ y. (x, y)) xs) (later_pairs xs) m) (later_known P xs (λ y l. h y (inr l)) p)
+  where
+    go : In p (map (λ y. (x, y)) xs) ⊎ In p (later_pairs xs) → (In p (later_pairs xs) → P p.0 × P p.1) → P p.0 × P p.1
+    go (inl k) rest =
+        let made = in_map_back (λ (y : X). (x, y)) xs p k in
+        subst (λ (q : X × X). P q.0 × P q.1) made.2 (h x (inl refl), h made.0 (inr made.1))
+    go (inr k) rest = rest k
+
+-- pairs of routes are of routes in the table
+pub all_pairs_known : (routes : List Route) → All (ArePairs routes) (exclusions routes)
+all_pairs_known routes = all_by_members (ArePairs routes) (exclusions routes) (λ p m.
+    later_known (IsRoute routes) (route_numbers routes) (λ r k. route_known routes r k) p (in_filter_back (λ (p : RouteNo × RouteNo). exclude (route_at routes p.0) (route_at routes p.1)) (later_pairs (route_numbers routes)) p m).0)

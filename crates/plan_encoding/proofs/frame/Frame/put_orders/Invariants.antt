@@ -1,0 +1,14 @@
+use Rattle.std.proofs.Common.{◌≡◌, ◌+◌, ◌*◌, flat_map, drop, length}
+use Rattle.plan_clauses.specs.Variables.{pairs_of}
+use Rattle.plan_clauses.specs.Clauses.{in_order}
+use Rattle.plan_encoding.specs.Drafts.{listed}
+use Rattle.plan_encoding.specs.Frames.{told}
+use Rattle.plan_encoding.proofs.Ordering.{pairs_to}
+use Rattle.plan_encoding.proofs.frame.Frame.put_orders.Given as goal
+
+-- what is left to list makes all of it
+abbrev pub invariant-loop-command : goal.invariant-loop-command
+invariant-loop-command l = record {
+  counted : l.last ≡ length l.self.design.now.station.trains * length l.self.routes.now * l.self.steps + length (pairs_to l.self.design.now.station l.self.routes.now l.command-index);
+  left : listed l.draft (told l.self (flat_map (λ e. flat_map (in_order l.self.design.now.station l.self.routes.now l.self.steps) (pairs_of l.self.design.now.station l.self.routes.now e)) (drop l.command-index l.commands))) ≡ listed l.fn.draft (told l.self (flat_map (λ e. flat_map (in_order l.self.design.now.station l.self.routes.now l.self.steps) (pairs_of l.self.design.now.station l.self.routes.now e)) l.commands));
+}

@@ -1,0 +1,11 @@
+use Rattle.std.proofs.Common.{◌≡◌, ◌+◌, ◌-◌, [], ◌∷◌, map}
+use Rattle.rail_base.specs.Numbering.{count_from}
+use Rattle.plan_clauses.specs.Variables.{Given, yes, no}
+use Rattle.plan_clauses.specs.Clauses.{stays_given}
+use Rattle.plan_encoding.specs.Drafts.{listed}
+use Rattle.plan_encoding.specs.Frames.{told}
+use Rattle.plan_encoding.proofs.frame.Frame.put_stays_of.Given as goal
+
+-- what is left to list makes all of it
+abbrev pub invariant-loop-step : goal.invariant-loop-step
+invariant-loop-step l = listed l.draft (told l.self (map (λ i. no (Given l.command i) ∷ yes (Given l.command (i + 1)) ∷ []) (count_from l.step (l.self.steps - l.step)))) ≡ listed l.fn.draft (told l.self (stays_given l.self.design.now.station l.self.routes.now l.self.steps l.command))

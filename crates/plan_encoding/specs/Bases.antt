@@ -1,0 +1,38 @@
+-- What a base is.
+use Rattle.std.specs.Prelude.{ℕ, ◌≡◌, ◌≤◌, true, List, length, map, Some}
+use Rattle.sat_clause.specs.Clauses.{Store}
+use Rattle.rail_base.specs.declared.station.Station.{Station}
+use Rattle.rail_base.specs.declared.route.Route.{Route}
+use Rattle.rail_base.specs.declared.plan.Command.{Command}
+use Rattle.plan_clauses.specs.Variables.{pairs}
+use Rattle.plan_clauses.specs.Clauses.{base_clauses, past_limit}
+use Rattle.plan_encoding.specs.declared.draft.BaseFault.{BaseFault}
+use Rattle.plan_encoding.specs.declared.draft.BaseFault.TheVariants.{TooLarge, Memory}
+
+-- how many trains, routes and steps there are, the pairs that contend, and clauses
+pub record Numbered : Type 0 where
+  pub trains : ℕ
+  pub routes : ℕ
+  pub steps : ℕ
+  pub pairs : List (Command × Command)
+  pub clauses : Store
+
+-- it has a train and a route of these numbers
+pub record HasCommand (b : Numbered) (c : Command) : Type 0 where
+  pub first_train : 1 ≤ c.train.0
+  pub last_train : c.train.0 ≤ b.trains
+  pub first_route : 1 ≤ c.route.0
+  pub last_route : c.route.0 ≤ b.routes
+
+-- it is the base of a design with these routes, for n steps: its clauses are there in their order, all live
+pub record IsBaseOf (d : Station) (table : List Route) (n : ℕ) (b : Numbered) : Type 0 where
+  pub trains : b.trains ≡ length d.trains
+  pub routes : b.routes ≡ length table
+  pub steps : b.steps ≡ n
+  pub pairs : b.pairs ≡ pairs d table
+  pub clauses : b.clauses ≡ map (λ c. (c, true)) (base_clauses d table n)
+
+-- there are more than 4,000,000 literals, so many up to the first clause that is too much
+abbrev pub IsRefused : Station → List Route → ℕ → BaseFault → Type 0
+IsRefused d routes n (TooLarge k) = past_limit 4000000 0 (base_clauses d routes n) ≡ Some k
+IsRefused d routes n Memory = Unit {0}

@@ -1,0 +1,25 @@
+//! The clauses that every plan of a design makes true, listed with the numbers of their variables.
+#![tactic(auto)]
+
+mod apart;
+mod draft;
+mod excluded;
+mod frame;
+mod links;
+mod literals;
+mod make;
+mod numbered;
+mod orders;
+mod relations;
+mod rivals;
+mod starts;
+mod stays;
+mod tables;
+#[cfg(test)]
+mod tests;
+mod visits;
+mod waits;
+
+pub use draft::BaseFault;
+pub use make::base;
+pub use numbered::{Base, Counts};

@@ -1,0 +1,86 @@
+//! How routes are related.
+
+ghost use Rattle.std.specs.Prelude.{◌≡◌, ◌≤◌, ◌&&◌, ◌||◌, ◌-◌, ◌++◌, ◌∷◌, [], All, IfOk, OnOk, cond, filter, length, slice_index_or};
+ghost use Rattle.std.specs.List.{list_any};
+ghost use Rattle.rail_spec.specs.Plans.{end_at_one_signal, goes_on, has_node, is_start, starts_in};
+ghost use Rattle.plan_clauses.specs.Clauses.{at_boundary, exclude};
+ghost use Rattle.rail_base.specs.Numbering.{entry};
+
+use rail_base::list::List;
+use rail_base::route::{Finish, Route, RouteNo, Start};
+use rail_base::station::NodeNo;
+use std::alloc::AllocError;
+
+/// Whether a route that starts here goes on where another ends: at a signal.
+pub fn goes_on(finish: Finish, start: Start) -> bool
+    ensures { result ≡ goes_on finish start }
+{
+    match (finish, start) {
+        (Finish::Signal(end), Start::Signal(begin)) => end == begin,
+        _ => false,
+    }
+}
+
+/// Whether two routes end at one signal.
+fn end_at_one_signal(one: Finish, other: Finish) -> bool
+    ensures { result ≡ end_at_one_signal one other }
+{
+    match (one, other) {
+        (Finish::Signal(one), Finish::Signal(other)) => one == other,
+        _ => false,
+    }
+}
+
+/// Whether two routes start at boundaries, or at one place.
+fn exclude_by_starts(one: Start, other: Start) -> bool
+    ensures { result ≡ (at_boundary one && at_boundary other || is_start one other) }
+{
+    match (one, other) {
+        (Start::Boundary(_), Start::Boundary(_)) => true,
+        (Start::Signal(one), Start::Signal(other)) => one == other,
+        _ => false,
+    }
+}
+
+/// Whether no train is given both routes.
+pub fn exclude(one: &Route, other: &Route) -> bool
+    ensures { result ≡ exclude one.now other.now }
+{
+    exclude_by_starts(one.start, other.start) || end_at_one_signal(one.finish, other.finish)
+}
+
+/// Whether a node is one of these.
+pub fn has_node(nodes: &List<NodeNo>, node: NodeNo) -> bool
+    ensures { result ≡ has_node nodes.now node }
+{
+    nodes.as_slice().iter().any(|other| other.0 == node.0)
+}
+
+/// Whether a start is a boundary of the set.
+pub fn starts_in(set: &List<NodeNo>, start: Start) -> bool
+    ensures { result ≡ starts_in set.now start }
+{
+    match start {
+        Start::Boundary(node) => has_node(set, node),
+        Start::Signal(_) => false,
+    }
+}
+
+/// Puts a member at the end of a list, where it belongs there.
+pub fn push_if<T: Drop>(list: &mut Vec<T>, item: T, belongs: bool) -> Result<(), AllocError>
+    ensures { OnOk result (list.new.items ≡ list.old.items ++ cond belongs (item ∷ []) []) }
+{
+    if belongs {
+        list.push(item)?;
+    }
+    Ok(())
+}
+
+/// The row of a route.
+pub fn row_of(rows: &[List<RouteNo>], route: RouteNo) -> &[RouteNo]
+    requires one { 1 ≤ route.0 }
+    requires last { route.0 ≤ length rows.now }
+    ensures { result.now ≡ entry [] rows.now route.0 }
+{
+    rows[route.0 as usize - 1].as_slice()
+}

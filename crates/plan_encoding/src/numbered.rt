@@ -1,0 +1,157 @@
+//! A base, and the numbers of its variables.
+
+ghost use Rattle.std.specs.Prelude.{◌≡◌, ℕ, ◌≤◌, ◌<◌, IfSome, ◌+◌, ◌*◌, List, Option, Some, None, if◌then◌else◌, false, length};
+ghost use Rattle.std.specs.List.{list_any};
+ghost use Rattle.rail_base.specs.Numbering.{before_first};
+ghost use Rattle.rail_base.specs.declared.station.Station.{Station};
+ghost use Rattle.rail_base.specs.declared.route.Route.{Route};
+ghost use Rattle.rail_spec.specs.Plans.{contend};
+ghost use Rattle.plan_clauses.specs.Variables.{Given, Before, By, is_pair, yes, numbered, variable_count};
+ghost use Rattle.plan_encoding.specs.Bases.{HasCommand, IsBaseOf};
+
+use rail_base::plan::Command;
+use rail_base::route::RouteNo;
+use rail_base::station::TrainNo;
+use sat_clause::{Arena, Lit};
+use std::marker::Model;
+
+/// How many trains, routes, steps and variables there are.
+#[derive(Clone, Copy, Debug, PartialEq, Eq)]
+pub struct Counts {
+    pub trains: u32,
+    pub routes: u32,
+    pub steps: u32,
+    pub vars: u32,
+}
+
+/// The clauses that every plan of a design makes true, and the numbers of their variables.
+#[derive(Drop)]
+pub struct Base {
+    trains: u32,
+    routes: u32,
+    steps: u32,
+    pairs: Vec<(Command, Command)>,
+    clauses: Arena,
+}
+
+impl Model for Base {
+    ghost use Rattle.std.specs.Prelude.{◌≤◌, length};
+    ghost use Rattle.plan_encoding.specs.Bases.{Numbered};
+
+    ghost Value = { Numbered };
+
+    ghost view = { λ b. record { trains = b.trains; routes = b.routes; steps = b.steps; pairs = b.pairs.items; clauses = b.clauses } };
+
+    ghost invariant = { λ b. (b.trains ≤ 32) × (b.routes ≤ 2000) × (b.steps ≤ 64) × (length b.pairs.items ≤ 4096000000) };
+}
+
+impl Base {
+    /// The literal that a train is given a route by a step.
+    pub fn given(&self, train: TrainNo, route: RouteNo, step: u32) -> Lit
+        requires command { HasCommand self.now (record { train = train; route = route }) }
+        requires step { step ≤ self.now.steps }
+        ensures { (d : Station) (routes : List Route) (n : ℕ) → IsBaseOf d routes n self.now → result ≡ numbered d routes n (yes (Given (record { train = train; route = route }) step)) }
+    {
+        Lit {
+            var: ((train.0 - 1) * self.routes + (route.0 - 1)) * self.steps + step,
+            negated: false,
+        }
+    }
+
+    /// The literal that one command is given before another; none where they don't contend.
+    pub fn before(&self, first: Command, second: Command) -> Option<Lit>
+        requires first { HasCommand self.now first }
+        requires second { HasCommand self.now second }
+        ensures { (d : Station) (routes : List Route) (n : ℕ) → IsBaseOf d routes n self.now → result ≡ (if contend routes first second then Some (numbered d routes n (yes (Before first second))) else None) }
+    {
+        match place_of(&self.pairs, first, second) {
+            Some(place) => Some(Lit {
+                var: self.trains * self.routes * self.steps + place as u32 + 1,
+                negated: false,
+            }),
+            None => None,
+        }
+    }
+
+    /// The literal that all is given by a step.
+    pub fn selector(&self, step: u32) -> Lit
+        requires { step ≤ self.now.steps }
+        ensures { (d : Station) (routes : List Route) (n : ℕ) → IsBaseOf d routes n self.now → result ≡ numbered d routes n (yes (By step)) }
+    {
+        Lit {
+            var: self.trains * self.routes * self.steps + self.pairs.len() as u32 + step,
+            negated: false,
+        }
+    }
+
+    /// The clauses, all live.
+    pub fn clauses(&self) -> &Arena
+        ensures { result.now ≡ self.now.clauses }
+    {
+        &self.clauses
+    }
+
+    /// The clauses, to which others may be added.
+    pub fn into_clauses(self) -> Arena
+        ensures { result ≡ self.clauses }
+    {
+        let Base { clauses, .. } = self;
+        clauses
+    }
+
+    pub fn counts(&self) -> Counts
+        ensures { (d : Station) (routes : List Route) (n : ℕ) → IsBaseOf d routes n self.now → result ≡ record { trains = length d.trains; routes = length routes; steps = n; vars = variable_count d routes n } }
+    {
+        Counts {
+            trains: self.trains,
+            routes: self.routes,
+            steps: self.steps,
+            vars: self.trains * self.routes * self.steps + self.pairs.len() as u32 + self.steps,
+        }
+    }
+}
+
+/// How many pairs stand before this one, if it is there.
+fn place_of(pairs: &[(Command, Command)], first: Command, second: Command) -> Option<usize>
+    ensures place { result ≡ (if list_any (is_pair first second) pairs.now then Some (length (before_first (is_pair first second) pairs.now)) else None) }
+    ensures bound { IfSome result (λ place. place < length pairs.now) }
+{
+    let mut place = 0;
+    for pair in pairs {
+        if is_pair(first, second, *pair) {
+            return Some(place);
+        }
+        place += 1;
+    }
+    None
+}
+
+/// Whether a pair is of these two commands.
+fn is_pair(first: Command, second: Command, pair: (Command, Command)) -> bool
+    ensures { result ≡ is_pair first second pair }
+{
+    first == pair.0 && second == pair.1
+}
+
+/// A base of these parts.
+pub fn base_of(
+    trains: u32,
+    routes: u32,
+    steps: u32,
+    pairs: Vec<(Command, Command)>,
+    clauses: Arena,
+) -> Base
+    requires trains { trains ≤ 32 }
+    requires routes { routes ≤ 2000 }
+    requires steps { steps ≤ 64 }
+    requires pairs { length pairs.items ≤ 4096000000 }
+    ensures { result ≡ record { trains = trains; routes = routes; steps = steps; pairs = pairs.items; clauses = clauses } }
+{
+    Base {
+        trains,
+        routes,
+        steps,
+        pairs,
+        clauses,
+    }
+}

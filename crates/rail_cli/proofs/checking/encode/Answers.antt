@@ -1,0 +1,18 @@
+use Rattle.std.proofs.Common.{List, ap, sym, subst, ◌∙◌}
+use Rattle.rail_base.specs.declared.route.Route.{Route}
+use Rattle.plan_clauses.specs.Clauses.{base_clauses, past_limit}
+use Rattle.plan_encoding.specs.Bases.{IsBaseOf, Numbered}
+use Rattle.rail_cli.proofs.Refusing.{ended_reads}
+use Rattle.rail_cli.proofs.Judging.{refused_so, small_passes}
+use Rattle.rail_cli.proofs.checking.encode.Goals as goal
+
+pub returns-in-Ok-clause-reads : goal.returns-in-Ok-clause-reads
+returns-in-Ok-clause-reads c = small_passes c.args.steps c.args.design.now.station (ap (λ (r : List Route). past_limit 4000000 0 (base_clauses c.args.design.now.station r c.args.steps)) (sym c.requires.table) ∙ c.in-Ok.ensures.within)
+
+pub returns-in-Ok-clause-base : goal.returns-in-Ok-clause-base
+returns-in-Ok-clause-base c = subst (λ (r : List Route). IsBaseOf c.args.design.now.station r c.args.steps c.in-Ok.base) c.requires.table c.in-Ok.ensures.base
+
+pub returns-in-Err-TooLarge-clause-reads : goal.returns-in-Err-TooLarge-clause-reads
+returns-in-Err-TooLarge-clause-reads c =
+    let d = c.args.design.now.station in
+    rw c.ended.ensures (ended_reads (λ (b : Numbered). d) c.too_large.result _ _ c.too_large.ensures (refused_so c.args.steps d c.args.routes.now c.in-Err-TooLarge.field-0 c.in-Err-TooLarge.field-0-0 c.requires.table c.in-Err-TooLarge.field-0-is c.in-Err-TooLarge.ensures.fault))

@@ -1,0 +1,23 @@
+-- Checks of a proof, and what their answers say of the design.
+use Rattle.std.specs.Prelude.{◌≡◌, ℕ, ◌≤◌, List, length, Option, Some, Ok}
+use Rattle.infra_reader.specs.Design.{design_of}
+use Rattle.rail_base.specs.declared.station.Station.{Station}
+use Rattle.rail_outside.specs.Files.{Files}
+use Rattle.rail_outside.specs.Growth.{grown}
+use Rattle.rail_spec.specs.Feasible.{IsInfeasible}
+use Rattle.rail_words.specs.Requests.{check, request_of}
+use Rattle.rail_cli.specs.Texts.{yes_line}
+
+-- the words ask for a check with n steps, and the design's file spells this design
+pub record Checks (files : Files) (words : List (List ℕ)) (n : ℕ) (d : Station) : Type 0 where
+  pub design_name : List ℕ
+  pub proof_name : List ℕ
+  pub asked : request_of words ≡ Some (check n design_name proof_name)
+  pub spells_design : design_of (files design_name) ≡ Ok d
+
+-- what is printed is `yes steps <k>`, and no plan of k steps is feasible
+pub record TellsInfeasible (n : ℕ) (d : Station) (old new : Option (List ℕ)) : Type 0 where
+  pub steps : ℕ
+  pub within : steps ≤ n
+  pub text : new ≡ grown old (yes_line steps)
+  pub none : IsInfeasible d steps

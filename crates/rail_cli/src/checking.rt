@@ -1,0 +1,107 @@
+//! A proof checked against a design.
+
+ghost use Rattle.std.specs.Prelude.{◌≡◌, ◌≤◌, [], ◌∷◌, true, length, IfOk, OnOk, Some};
+ghost use Rattle.rail_outside.specs.Asks.{fetched};
+ghost use Rattle.rail_outside.specs.Files.{Files};
+ghost use Rattle.rail_outside.specs.Growth.{Rose, GrowsByFront};
+ghost use Rattle.rail_spec.specs.Track.{routes_of};
+ghost use Rattle.log_checker.specs.declared.shown.Shown.{Shown};
+ghost use Rattle.proof_judge.specs.Judged.{judged};
+ghost use Rattle.plan_encoding.specs.Bases.{IsBaseOf};
+ghost use Rattle.rail_cli.specs.Statuses.{is_verdict};
+ghost use Rattle.rail_cli.specs.Answers.{with_clauses, told, with_proof, checked};
+ghost use Rattle.rail_cli.specs.Replies.{reply_seen, Reads, RefusesFile, OnlyRefuses, Replies};
+
+use crate::ending::Ending;
+use crate::input::InputFile;
+use crate::reading::{admit, fetch};
+use crate::refusals::{ended, one_line, too_large};
+use crate::reply::Reply;
+use crate::status::Status;
+use crate::texts::{no_line, yes_line};
+use log_checker::Shown;
+use plan_encoding::{Base, BaseFault, base};
+use proof_judge::judge;
+use rail_base::design::Design;
+use rail_base::route::RouteTable;
+use rail_outside::Shelf;
+use std::alloc::{AllocError, Global};
+
+/// The clauses of a design, for plans of up to so many steps.
+fn encode(alloc: Global, design: &Design, routes: &RouteTable, steps: u32) -> Result<Base, Ending>
+    requires table { routes.now ≡ routes_of design.now.station }
+    requires few { length routes.now ≤ 2000 }
+    requires some { 1 ≤ steps }
+    requires most { steps ≤ 64 }
+    ensures reads { Reads (λ _. design.now.station) result (with_clauses steps design.now.station) }
+    ensures refuses { OnlyRefuses result }
+    ensures base { IfOk result (IsBaseOf design.now.station (routes_of design.now.station) steps) }
+{
+    match base(alloc, design, routes, steps) {
+        Ok(base) => Ok(base),
+        Err(BaseFault::TooLarge { .. }) => Err(ended(too_large(alloc))),
+        Err(BaseFault::Memory) => Err(Ending::Memory),
+    }
+}
+
+/// What a proof file shows, in a line.
+fn tell(alloc: Global, shown: Shown) -> Result<Reply, AllocError>
+    ensures told { IfOk result (λ reply. reply_seen reply ≡ told shown) }
+    ensures verdict { IfOk result (λ reply. is_verdict reply.status ≡ true) }
+{
+    match shown {
+        Shown::Yes { steps } => one_line(alloc, Status::Done, yes_line(alloc, steps)?),
+        Shown::No { line, reason } => one_line(alloc, Status::No, no_line(alloc, line, reason)?),
+    }
+}
+
+/// The reply to a check of a design, by the name of the proof's file.
+fn checked_proof<S: Shelf>(
+    alloc: Global,
+    shelf: &mut S,
+    design: &Design,
+    routes: &RouteTable,
+    steps: u32,
+    proof: &str,
+) -> Result<Reply, Ending>
+    requires table { routes.now ≡ routes_of design.now.station }
+    requires few { length routes.now ≤ 2000 }
+    requires some { 1 ≤ steps }
+    requires most { steps ≤ 64 }
+    ensures replies { (files : Files) → S.held shelf.old ≡ Some files → Replies result (with_proof steps design.now.station (files proof.now)) }
+    ensures verdict { IfOk result (λ reply. is_verdict reply.status ≡ true) }
+    ensures refuses { RefusesFile result }
+    ensures cause { result ≡ Err Ending.ShelfFault → Rose (S.fault_count shelf.old) (S.fault_count shelf.new) }
+    ensures never_falls { S.fault_count shelf.old ≤ S.fault_count shelf.new }
+    ensures files_stay { S.held shelf.new ≡ S.held shelf.old }
+    ensures asks { GrowsByFront (S.asked shelf.old) (S.asked shelf.new) (fetched proof.now ∷ []) }
+{
+    let base = encode(alloc, design, routes, steps)?;
+    let bytes = fetch(alloc, shelf, InputFile::Proof, proof)?;
+    let shown = judge(alloc, base, bytes.as_slice())?;
+    let reply = tell(alloc, shown)?;
+    Ok(reply)
+}
+
+/// The reply to a check, by the names of its files. The steps are 1 to 64.
+pub(crate) fn checked<S: Shelf>(
+    alloc: Global,
+    shelf: &mut S,
+    steps: u32,
+    design: &str,
+    proof: &str,
+) -> Result<Reply, Ending>
+    requires some { 1 ≤ steps }
+    requires most { steps ≤ 64 }
+    ensures replies { (files : Files) → S.held shelf.old ≡ Some files → Replies result (checked steps (files design.now) (files proof.now)) }
+    ensures verdict { IfOk result (λ reply. is_verdict reply.status ≡ true) }
+    ensures refuses { RefusesFile result }
+    ensures cause { result ≡ Err Ending.ShelfFault → Rose (S.fault_count shelf.old) (S.fault_count shelf.new) }
+    ensures never_falls { S.fault_count shelf.old ≤ S.fault_count shelf.new }
+    ensures files_stay { S.held shelf.new ≡ S.held shelf.old }
+    ensures asks { GrowsByFront (S.asked shelf.old) (S.asked shelf.new) (fetched design.now ∷ fetched proof.now ∷ []) }
+{
+    let design_bytes = fetch(alloc, shelf, InputFile::Design, design)?;
+    let (design, routes) = admit(alloc, design_bytes.as_slice())?;
+    checked_proof(alloc, shelf, &design, &routes, steps, proof)
+}

@@ -1,0 +1,67 @@
+-- The steps that are asked for are from 1 to 64.
+use Rattle.std.proofs.Common.{◌≡◌, ℕ, ◌≤◌, ◌&&◌, Bool, true, false, List, Option, Some, None, Result, Ok, Err, IfOk, nat_le, if◌then◌else◌, option_map, option_and_then, bytes_eq, codes, refl, subst, leb-true}
+use Rattle.clap.specs.Words.{Row, Text, first_of, subcommand_of}
+use Rattle.rail_text.specs.Numbers.{number_of}
+use Rattle.rail_words.specs.FixedCommand.{rcv_app, is_taken}
+use Rattle.rail_words.specs.Requests.{Asked, simulate, routes, check, IsInRange, simulate_with, routes_with, check_with, steps_of, asked_by, request_of}
+use Rattle.rail_words.specs.Laws.{RequestsAreInRange}
+use Rattle.rail_words.specs.Words.{asked_of}
+use Rattle.rail_words.specs.declared.request.Request.{Request}
+use Rattle.rail_words.specs.declared.request.WordsFault.{WordsFault}
+
+both : (a b : Bool) → (a && b) ≡ true → (a ≡ true) × (b ≡ true)
+both true b h = (refl, h)
+both false b h = absurd (cc)
+
+kept : (found : Option ℕ) (n : ℕ) → option_and_then (λ k. if nat_le 1 k && nat_le k 64 then Some k else None) found ≡ Some n → (1 ≤ n) × (n ≤ 64)
+kept None n e = absurd (cc)
+kept (Some k) n e = go (nat_le 1 k && nat_le k 64) refl e
+  where
+    go : (b : Bool) → (nat_le 1 k && nat_le k 64) ≡ b → (if b then Some k else None) ≡ Some n → (1 ≤ n) × (n ≤ 64)
+    go true h e = (let same : k ≡ n = cc in let p = both (nat_le 1 k) (nat_le k 64) h in subst (λ m. (1 ≤ m) × (m ≤ 64)) same (leb-true 1 k p.0, leb-true k 64 p.1))
+    go false h e = absurd (cc)
+
+check_made : (steps : Option ℕ) (design proof : Text) (a : Asked) → ((n : ℕ) → steps ≡ Some n → (1 ≤ n) × (n ≤ 64)) → option_map (λ n. check n design proof) steps ≡ Some a → IsInRange a
+check_made None design proof a h e = absurd (cc)
+check_made (Some n) design proof a h e = let same : check n design proof ≡ a = cc in subst IsInRange same (h n refl)
+
+checked_so : (steps design proof : Option Text) (a : Asked) → check_with steps design proof ≡ Some a → IsInRange a
+checked_so None design proof a e = absurd (cc)
+checked_so (Some steps) None proof a e = absurd (cc)
+checked_so (Some steps) (Some design) None a e = absurd (cc)
+checked_so (Some steps) (Some design) (Some proof) a e = check_made (steps_of steps) design proof a (λ n h. kept (number_of steps) n h) e
+
+simulated_so : (design plan : Option Text) (a : Asked) → simulate_with design plan ≡ Some a → IsInRange a
+simulated_so None plan a e = absurd (cc)
+simulated_so (Some design) None a e = absurd (cc)
+simulated_so (Some design) (Some plan) a e = let same : simulate design plan ≡ a = cc in subst IsInRange same tt
+
+routed_so : (design : Option Text) (a : Asked) → routes_with design ≡ Some a → IsInRange a
+routed_so None a e = absurd (cc)
+routed_so (Some design) a e = let same : routes design ≡ a = cc in subst IsInRange same tt
+
+chosen : (first second third : Bool) (design plan file steps of proof : Option Text) (a : Asked)
+    → (if first then simulate_with design plan else if second then routes_with file else if third then check_with steps of proof else None) ≡ Some a → IsInRange a
+chosen true second third design plan file steps of proof a e = simulated_so design plan a e
+chosen false true third design plan file steps of proof a e = routed_so file a e
+chosen false false true design plan file steps of proof a e = checked_so steps of proof a e
+chosen false false false design plan file steps of proof a e = absurd (cc)
+
+named : (entered : Option (Text × List Row)) (a : Asked) → option_and_then asked_by entered ≡ Some a → IsInRange a
+named None a e = absurd (cc)
+named (Some entered) a e =
+    chosen (bytes_eq entered.0 (codes "simulate")) (bytes_eq entered.0 (codes "routes")) (bytes_eq entered.0 (codes "check"))
+    (first_of (codes "DESIGN") entered.1) (first_of (codes "PLAN") entered.1) (first_of (codes "DESIGN") entered.1)
+    (first_of (codes "steps") entered.1) (first_of (codes "DESIGN") entered.1) (first_of (codes "PROOF") entered.1) a e
+
+taken_so : (taken : Bool) (entered : Option (Text × List Row)) (a : Asked) → (if taken then option_and_then asked_by entered else None) ≡ Some a → IsInRange a
+taken_so true entered a e = named entered a e
+taken_so false entered a e = absurd (cc)
+
+pub requests_in_range : RequestsAreInRange
+unfolding request_of
+requests_in_range words a e = taken_so (is_taken words) (subcommand_of rcv_app words) a e
+
+pub answer_in_range : (words : List Text) (answer : Result Request WordsFault) → IfOk answer (λ request. request_of words ≡ Some (asked_of request)) → IfOk answer (λ request. IsInRange (asked_of request))
+answer_in_range words (Ok request) h = requests_in_range words (asked_of request) h
+answer_in_range words (Err fault) h = tt
