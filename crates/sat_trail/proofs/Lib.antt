@@ -1,0 +1,11 @@
+pub mod Members
+pub mod Explains
+pub mod Closes
+pub mod Choice
+pub mod Grows
+pub mod Looks
+pub mod Places
+pub mod Table
+pub mod Levels
+pub mod Standing
+pub mod Stores

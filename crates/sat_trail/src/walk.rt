@@ -1,0 +1,296 @@
+ghost use Rattle.std.specs.Prelude.{◌≡◌, ◌≢◌, ◌≤◌, ◌<◌, ◌+◌, ℕ, IsSome, IsTrue, IfOk, OnOk, IfSome, IfNone, Some, None, true, false, map, [], ◌∷◌, ◌++◌, length, take, reverse, slice_index_or, vec_len, Bool};
+ghost use Rattle.std.specs.List.{list_any};
+ghost use Rattle.sat_clause.specs.Clauses.{opposite};
+ghost use Rattle.sat_clause.specs.Hints.{same_lit, is_held, open_lits, follow_of};
+ghost use Rattle.sat_clause.specs.Closed.{IsClosed, IsNew};
+ghost use Rattle.sat_trail.specs.Trails.{lits, IsTrail};
+ghost use Rattle.sat_trail.specs.Standing.{IsApart, IsIncreasing, Stands, AllStand, NegationsStand};
+ghost use Rattle.sat_trail.specs.Walks.{Walk, IsConflict, KeepsOf, decided, NegatesOnly, Beyond};
+ghost use Rattle.sat_clause.specs.declared.follow.Follow.TheVariants.{Yes};
+
+use crate::step::Step;
+use sat_clause::{Arena, Lit};
+use std::alloc::{AllocError, Global};
+
+/// Whether two literals are the same.
+pub fn same(a: Lit, b: Lit) -> bool
+    ensures { result ≡ same_lit a b }
+{
+    a.var == b.var && a.negated == b.negated
+}
+
+/// The literal that is true where this one is false.
+pub fn negated(l: Lit) -> Lit
+    ensures { result ≡ opposite l }
+{
+    Lit {
+        var: l.var,
+        negated: !l.negated,
+    }
+}
+
+/// Whether a literal is one of these.
+fn holds(held: &[Lit], l: Lit) -> bool
+    ensures { result ≡ is_held held.now l }
+{
+    held.iter().any(|h| same(l, *h))
+}
+
+/// Adds the opposites of a clause's literals.
+fn add_opposites(needed: &mut Vec<Lit>, clause: &[Lit]) -> Result<(), AllocError>
+    ensures { OnOk result (needed.new.items ≡ needed.old.items ++ map opposite clause.now) }
+{
+    for l in clause {
+        needed.push(negated(*l))?;
+    }
+    Ok(())
+}
+
+/// Whether the literal of one of the steps is needed.
+fn some_needed(needed: &[Lit], steps: &[Step]) -> bool
+    ensures { result ≡ list_any (λ s. is_held needed.now s.lit) steps.now }
+{
+    steps.iter().any(|s| holds(needed, s.lit))
+}
+
+/// Goes back to the first step of the last level through which every way to the conflict leads, and gives its literal.
+fn to_unique(
+    arena: &Arena,
+    steps: &[Step],
+    base: usize,
+    needed: &mut Vec<Lit>,
+    back: &mut Vec<u64>,
+) -> Result<Lit, AllocError>
+    requires trail { IsTrail arena.now steps.now }
+    requires closed { IsClosed arena.now (take base (lits steps.now)) }
+    requires base { base ≤ length steps.now }
+    requires reasoned { (i : ℕ) (d : _) → base < i → i < length steps.now → IsSome (slice_index_or steps.now i d).reason }
+    requires walk { Walk arena.now (lits steps.now) [] needed.old.items (reverse back.old.items) }
+    requires some { 0 < length back.old.items }
+    requires stands { NegationsStand arena.now needed.old.items }
+    ensures stands { OnOk result (NegationsStand arena.now needed.new.items) }
+    ensures stands_too { IfOk result (λ u. Stands arena.now (opposite u)) }
+    ensures walk { IfOk result (λ u. Walk arena.now (take base (lits steps.now)) (u ∷ []) needed.new.items (reverse back.new.items)) }
+    ensures some { OnOk result (0 < length back.new.items) }
+    ensures member { IfOk result (λ u. is_held (lits steps.now) u ≡ true) }
+{
+    let mut i = steps.len();
+    while i > base {
+        i -= 1;
+        let step = steps[i];
+        if holds(needed, step.lit) {
+            if !some_needed(needed, &steps[base..i]) {
+                return Ok(step.lit);
+            }
+            let Some(id) = step.reason else {
+                unreachable!()
+            };
+            back.push(id)?;
+            add_opposites(needed, arena.clause(id))?;
+        }
+    }
+    unreachable!()
+}
+
+/// The clause behind a literal that gives way to others.
+fn resolved_by(step: Step, only_decided: bool) -> Option<u64>
+    ensures taken { IfSome result (λ id. step.reason ≡ Some id) }
+    ensures kept { IfNone result (IsTrue only_decided → step.reason ≡ None) }
+{
+    if only_decided || step.level == 0 {
+        step.reason
+    } else {
+        None
+    }
+}
+
+/// Goes back to the trail's beginning and keeps what is of an open level, or only what was decided.
+fn to_start(
+    arena: &Arena,
+    steps: &[Step],
+    only_decided: bool,
+    kept: &mut Vec<Lit>,
+    needed: &mut Vec<Lit>,
+    back: &mut Vec<u64>,
+) -> Result<(), AllocError>
+    requires trail { IsTrail arena.now steps.now }
+    requires walk { Walk arena.now (lits steps.now) kept.old.items needed.old.items (reverse back.old.items) }
+    requires some { 0 < length back.old.items }
+    requires stands { NegationsStand arena.now needed.old.items }
+    requires apart { IsApart kept.old.items }
+    ensures stands { OnOk result (NegationsStand arena.now needed.new.items) }
+    ensures apart { OnOk result (IsApart kept.new.items) }
+    ensures needed { OnOk result (KeepsOf kept.old.items kept.new.items needed.new.items) }
+    ensures walk { OnOk result (Walk arena.now [] kept.new.items needed.new.items (reverse back.new.items)) }
+    ensures kept { OnOk result (KeepsOf kept.old.items kept.new.items (lits steps.now)) }
+    ensures grows { OnOk result ((l : _) → is_held kept.old.items l ≡ true → is_held kept.new.items l ≡ true) }
+    ensures decided { OnOk result (IsTrue only_decided → KeepsOf kept.old.items kept.new.items (decided steps.now)) }
+{
+    let mut i = steps.len();
+    while i > 0 {
+        i -= 1;
+        let step = steps[i];
+        if holds(needed, step.lit) {
+            match resolved_by(step, only_decided) {
+                Some(id) => {
+                    back.push(id)?;
+                    add_opposites(needed, arena.clause(id))?;
+                }
+                None => kept.push(step.lit)?,
+            }
+        }
+    }
+    Ok(())
+}
+
+/// A clause and the hints by which it follows.
+#[derive(Drop)]
+pub struct Learnt {
+    /// The literals, in increasing order of their variables.
+    pub clause: Vec<Lit>,
+    /// The numbers of the clauses that give a literal each in turn, and then of one that is false.
+    pub hints: Vec<u64>,
+}
+
+/// The clause that negates what was kept.
+fn negate_kept(alloc: Global, kept: &[Lit]) -> Result<Vec<Lit>, AllocError>
+    requires apart { IsApart kept.now }
+    ensures names { IfOk result (λ v. (l : _) → is_held (map opposite v.items) l ≡ is_held kept.now l) }
+    ensures increasing { IfOk result (λ v. IsIncreasing v.items) }
+{
+    let mut clause = Vec::new(alloc);
+    for l in kept {
+        clause.push(negated(*l))?;
+    }
+    clause.sort_by_key(|l| l.var)?;
+    Ok(clause)
+}
+
+/// The hints from the first one on, where they were found from the last one on.
+fn in_turn(mut back: Vec<u64>) -> Vec<u64>
+    ensures { result.items ≡ reverse back.items }
+{
+    back.reverse();
+    back
+}
+
+/// A new clause that follows where a live one is false, `base` being the place at which the last level begins.
+pub fn learn(
+    alloc: Global,
+    arena: &Arena,
+    steps: &[Step],
+    base: usize,
+    conflict: u64,
+) -> Result<Learnt, AllocError>
+    requires trail { IsTrail arena.now steps.now }
+    requires closed { IsClosed arena.now (take base (lits steps.now)) }
+    requires base { base ≤ length steps.now }
+    requires reasoned { (i : ℕ) (d : _) → base < i → i < length steps.now → IsSome (slice_index_or steps.now i d).reason }
+    requires conflict { IsConflict arena.now (lits steps.now) conflict }
+    ensures follows { IfOk result (λ r. follow_of arena.now r.clause.items r.hints.items ≡ Yes) }
+    ensures increasing { IfOk result (λ r. IsIncreasing r.clause.items) }
+    ensures stand { IfOk result (λ r. AllStand arena.now r.clause.items) }
+    ensures new { IfOk result (λ r. IsNew arena.now r.clause.items) }
+    ensures beyond { IfOk result (λ r. Beyond r.clause.items (take base (lits steps.now))) }
+    ensures only { IfOk result (λ r. NegatesOnly r.clause.items (lits steps.now)) }
+{
+    let mut needed = Vec::new(alloc);
+    add_opposites(&mut needed, arena.clause(conflict))?;
+    let mut back = Vec::new(alloc);
+    back.push(conflict)?;
+    let unique = to_unique(arena, steps, base, &mut needed, &mut back)?;
+    let mut kept = Vec::new(alloc);
+    kept.push(unique)?;
+    to_start(
+        arena,
+        &steps[..base],
+        false,
+        &mut kept,
+        &mut needed,
+        &mut back,
+    )?;
+    let clause = negate_kept(alloc, &kept)?;
+    Ok(Learnt {
+        clause,
+        hints: in_turn(back),
+    })
+}
+
+/// A clause that negates decided literals, where a live clause is false.
+pub fn refute(
+    alloc: Global,
+    arena: &Arena,
+    steps: &[Step],
+    conflict: u64,
+) -> Result<Learnt, AllocError>
+    requires trail { IsTrail arena.now steps.now }
+    requires conflict { IsConflict arena.now (lits steps.now) conflict }
+    ensures follows { IfOk result (λ r. follow_of arena.now r.clause.items r.hints.items ≡ Yes) }
+    ensures increasing { IfOk result (λ r. IsIncreasing r.clause.items) }
+    ensures only { IfOk result (λ r. NegatesOnly r.clause.items (decided steps.now)) }
+{
+    let mut needed = Vec::new(alloc);
+    add_opposites(&mut needed, arena.clause(conflict))?;
+    let mut back = Vec::new(alloc);
+    back.push(conflict)?;
+    let mut kept = Vec::new(alloc);
+    to_start(arena, steps, true, &mut kept, &mut needed, &mut back)?;
+    let clause = negate_kept(alloc, &kept)?;
+    Ok(Learnt {
+        clause,
+        hints: in_turn(back),
+    })
+}
+
+/// The place of a literal of the trail.
+fn place_of(steps: &[Step], l: Lit) -> usize
+    requires { is_held (lits steps.now) l ≡ true }
+    ensures within { result < length steps.now }
+    ensures there { (d : _) → (slice_index_or steps.now result d).lit ≡ l }
+{
+    for (i, s) in steps.iter().enumerate() {
+        if same(l, s.lit) {
+            return i;
+        }
+    }
+    unreachable!()
+}
+
+/// A clause that negates a literal and decided ones, where its opposite was forced.
+pub fn refute_choice(
+    alloc: Global,
+    arena: &Arena,
+    steps: &[Step],
+    l: Lit,
+) -> Result<Learnt, AllocError>
+    requires trail { IsTrail arena.now steps.now }
+    requires negated { is_held (lits steps.now) (opposite l) ≡ true }
+    requires forced { is_held (decided steps.now) (opposite l) ≡ true → ⊥ }
+    ensures follows { IfOk result (λ r. follow_of arena.now r.clause.items r.hints.items ≡ Yes) }
+    ensures increasing { IfOk result (λ r. IsIncreasing r.clause.items) }
+    ensures only { IfOk result (λ r. NegatesOnly r.clause.items (l ∷ decided steps.now)) }
+{
+    let place = place_of(steps, negated(l));
+    let Some(id) = steps[place].reason else {
+        unreachable!()
+    };
+    let mut needed = Vec::new(alloc);
+    add_opposites(&mut needed, arena.clause(id))?;
+    let mut back = Vec::new(alloc);
+    back.push(id)?;
+    let mut kept = Vec::new(alloc);
+    kept.push(l)?;
+    to_start(
+        arena,
+        &steps[..place],
+        true,
+        &mut kept,
+        &mut needed,
+        &mut back,
+    )?;
+    let clause = negate_kept(alloc, &kept)?;
+    Ok(Learnt {
+        clause,
+        hints: in_turn(back),
+    })
+}
