@@ -1,0 +1,17 @@
+//! A solver of clauses under assumptions. It learns clauses, and a recorder keeps each one with the reason why it follows.
+#![tactic(auto)]
+
+mod assignment;
+mod found;
+mod keep;
+mod listed;
+mod recorder;
+mod round;
+mod solver;
+#[cfg(test)]
+mod tests;
+
+pub use assignment::Assignment;
+pub use listed::{Line, Listed};
+pub use recorder::{RecordFault, Recorder};
+pub use solver::{Answer, Core, Solver};

@@ -1,0 +1,261 @@
+ghost use Rattle.std.specs.Prelude.{◌≡◌, ◌≤◌, ◌+◌, ◌++◌, ◌∷◌, [], true, length, OnOk, OnErr, IfOk, IfErr};
+ghost use Rattle.sat_clause.specs.declared.follow.Follow.TheVariants.{Yes};
+ghost use Rattle.sat_clause.specs.Hints.{follow_of};
+ghost use Rattle.sat_clause.specs.Closed.{IsConsistent};
+ghost use Rattle.sat_trail.specs.Trails.{AllIn, depth};
+ghost use Rattle.sat_trail.specs.Standing.{IsIncreasing};
+ghost use Rattle.sat_core.specs.Kept.{Holds};
+ghost use Rattle.sat_core.specs.Texts.{added_lines, derive_line, text_size, has_room};
+ghost use Rattle.sat_core.specs.Faults.{IsFullAt};
+
+use crate::assignment::Assignment;
+use crate::found::Found;
+use crate::keep::keep;
+use crate::recorder::{RecordFault, Recorder};
+use crate::round::look;
+use sat_clause::{Arena, Lit};
+use sat_trail::{Learnt, Trail};
+use std::alloc::{AllocError, Global};
+
+/// Clauses of variables from 1 to their count, and the recorder that is told of each.
+#[derive(Drop)]
+pub struct Solver<R: Recorder> {
+    alloc: Global,
+    arena: Arena,
+    trail: Trail,
+    recorder: R,
+    vars: u32,
+    derives: u64,
+    ghost same: { R.clauses recorder ≡ arena },
+    ghost holds: { Holds arena trail vars },
+    ghost counted: { derives ≤ length arena },
+}
+
+/// A clause of negated assumptions that follows from the clauses.
+#[derive(Drop)]
+pub struct Core {
+    /// The literals, in increasing order of their variables.
+    pub clause: Vec<Lit>,
+}
+
+/// What a call of `solve` ends with.
+#[derive(Drop)]
+pub enum Answer {
+    /// Values under which all clauses and all assumptions are true.
+    Sat(Assignment),
+    /// The last line derives this clause, so no values make all clauses and all assumptions true.
+    Unsat(Core),
+    /// As many lines were recorded as were allowed. This is the next one, which was not recorded.
+    Spent {
+        /// The literals, in increasing order of their variables.
+        clause: Vec<Lit>,
+        /// The numbers of the clauses by which it follows.
+        hints: Vec<u64>,
+    },
+    /// The recorder had no room for the next line.
+    Full {
+        /// The bytes that were recorded.
+        bytes: u64,
+        /// The bytes of the next line, with its end.
+        next: u64,
+    },
+    /// There was no memory.
+    Memory,
+}
+
+impl<R: Recorder> Solver<R> {
+    /// No clause yet. The recorder may not have one either; it is dropped where there is no memory.
+    pub fn new(alloc: Global, recorder: R, vars: u32) -> Result<Solver<R>, AllocError>
+        requires none { R.clauses recorder ≡ [] }
+        ensures recorder { IfOk result (λ s. s.recorder ≡ recorder) }
+        ensures vars { IfOk result (λ s. s.vars ≡ vars) }
+        ensures derives { IfOk result (λ s. s.derives ≡ 0) }
+        ensures level { IfOk result (λ s. depth s.trail.steps ≡ 0) }
+    {
+        let trail = Trail::new(alloc, vars)?;
+        Ok(Solver {
+            alloc,
+            arena: Arena::new(alloc),
+            trail,
+            recorder,
+            vars,
+            derives: 0,
+        })
+    }
+
+    /// The recorder as it stands.
+    pub fn recorder(&self) -> &R
+        ensures { result.now ≡ self.now.recorder }
+    {
+        &self.recorder
+    }
+
+    /// Gives the recorder back.
+    pub fn into_recorder(self) -> R
+        ensures { result ≡ self.recorder }
+    {
+        self.recorder
+    }
+
+    /// How many derived clauses were recorded.
+    pub fn derives(&self) -> u64
+        ensures { result ≡ self.now.derives }
+    {
+        self.derives
+    }
+
+    /// Adds a clause with its line, and gives the clause's number, in solver and recorder alike.
+    /// Where there is no memory neither has it. The recorder has to have room for the line.
+    pub fn add_clause(&mut self, line: &[u8], clause: &[Lit]) -> Result<u64, AllocError>
+        requires in_vars { AllIn self.old.vars clause.now }
+        requires room { has_room (R.limit self.old.recorder) (text_size (R.lines self.old.recorder) + text_size (added_lines line.now)) ≡ true }
+        ensures clauses { OnOk result (R.clauses self.new.recorder ≡ R.clauses self.old.recorder ++ (clause.now, true) ∷ []) }
+        ensures id { IfOk result (λ id. id ≡ length (R.clauses self.new.recorder)) }
+        ensures lines { OnOk result (R.lines self.new.recorder ≡ R.lines self.old.recorder ++ added_lines line.now) }
+        ensures err { OnErr result ((R.clauses self.new.recorder ≡ R.clauses self.old.recorder) × (R.lines self.new.recorder ≡ R.lines self.old.recorder)) }
+        ensures limit { R.limit self.new.recorder ≡ R.limit self.old.recorder }
+        ensures vars { self.new.vars ≡ self.old.vars }
+        ensures level { depth self.new.trail.steps ≡ depth self.old.trail.steps }
+        ensures derives { self.new.derives ≡ self.old.derives }
+    {
+        let id = keep(&mut self.arena, &mut self.trail, clause)?;
+        match self.recorder.added(line, clause) {
+            Ok(()) => Ok(id),
+            Err(RecordFault::Memory) => {
+                self.trail.detach(&self.arena, id);
+                self.arena.pop();
+                Err(AllocError)
+            }
+            Err(RecordFault::Full { .. }) => unreachable!(),
+        }
+    }
+}
+
+impl<R: Recorder> Solver<R> {
+    ghost use Rattle.sat_core.specs.Runs.{IsFound, Ends, IsEnd, IsStep, IsRecorded, state_of};
+    ghost use Rattle.sat_core.specs.Answers.{IsFinal, IsLearntBeyond};
+
+    /// Adds a clause that follows by its hints, and records it.
+    fn record(&mut self, clause: &[Lit], hints: &[u64]) -> Result<(), RecordFault>
+        requires follows { follow_of (R.clauses self.old.recorder) clause.now hints.now ≡ Yes }
+        requires increasing { IsIncreasing clause.now }
+        requires in_vars { AllIn self.old.vars clause.now }
+        ensures recorded { OnOk result (IsRecorded (state_of (R.clauses self.old.recorder) (R.lines self.old.recorder) (R.limit self.old.recorder) self.old.derives) (state_of (R.clauses self.new.recorder) (R.lines self.new.recorder) (R.limit self.new.recorder) self.new.derives) clause.now hints.now) }
+        ensures err { OnErr result (state_of (R.clauses self.new.recorder) (R.lines self.new.recorder) (R.limit self.new.recorder) self.new.derives ≡ state_of (R.clauses self.old.recorder) (R.lines self.old.recorder) (R.limit self.old.recorder) self.old.derives) }
+        ensures fault { IfErr result (IsFullAt (R.limit self.old.recorder) (text_size (R.lines self.old.recorder)) (text_size (derive_line clause.now hints.now ∷ []))) }
+        ensures vars { self.new.vars ≡ self.old.vars }
+    {
+        let Ok(id) = keep(&mut self.arena, &mut self.trail, clause) else {
+            return Err(RecordFault::Memory);
+        };
+        if let Err(fault) = self.recorder.derived(clause, hints) {
+            self.trail.detach(&self.arena, id);
+            self.arena.pop();
+            return Err(fault);
+        }
+        self.derives += 1;
+        Ok(())
+    }
+
+    /// Looks for values under which all clauses and assumptions are true, recording at most `left` lines.
+    /// No two assumptions may be opposites. After each answer the solver stands at no assumption, and may be asked again.
+    pub fn solve(&mut self, assumptions: &[Lit], left: u64) -> Answer
+        requires assumed { AllIn self.old.vars assumptions.now }
+        requires consistent { IsConsistent assumptions.now }
+        ensures run { Ends (state_of (R.clauses self.old.recorder) (R.lines self.old.recorder) (R.limit self.old.recorder) self.old.derives) (state_of (R.clauses self.new.recorder) (R.lines self.new.recorder) (R.limit self.new.recorder) self.new.derives) assumptions.now self.old.vars left result }
+        ensures vars { self.new.vars ≡ self.old.vars }
+        ensures level { depth self.new.trail.steps ≡ 0 }
+    {
+        let answer = self.search(assumptions, left);
+        self.trail.back(0);
+        answer
+    }
+
+    /// Step after step, each of which but the last ends with a line.
+    fn search(&mut self, assumptions: &[Lit], left: u64) -> Answer
+        requires assumed { AllIn self.old.vars assumptions.now }
+        requires consistent { IsConsistent assumptions.now }
+        ensures run { Ends (state_of (R.clauses self.old.recorder) (R.lines self.old.recorder) (R.limit self.old.recorder) self.old.derives) (state_of (R.clauses self.new.recorder) (R.lines self.new.recorder) (R.limit self.new.recorder) self.new.derives) assumptions.now self.old.vars left result }
+        ensures vars { self.new.vars ≡ self.old.vars }
+    {
+        'derive: for done in 0..=left {
+            if let Some(answer) = self.step(assumptions, done == left) {
+                return answer;
+            }
+        }
+        unreachable!()
+    }
+
+    /// One round, and the line that it ends with, unless this is the last step. There is no answer where a line was recorded.
+    fn step(&mut self, assumptions: &[Lit], last: bool) -> Option<Answer>
+        requires assumed { AllIn self.old.vars assumptions.now }
+        requires consistent { IsConsistent assumptions.now }
+        ensures step { IsStep (state_of (R.clauses self.old.recorder) (R.lines self.old.recorder) (R.limit self.old.recorder) self.old.derives) (state_of (R.clauses self.new.recorder) (R.lines self.new.recorder) (R.limit self.new.recorder) self.new.derives) assumptions.now self.old.vars last result }
+        ensures vars { self.new.vars ≡ self.old.vars }
+    {
+        match self.round(assumptions) {
+            Err(AllocError) => Some(Answer::Memory),
+            Ok(Found::Model(values)) => Some(Answer::Sat(values)),
+            Ok(Found::Final(why)) => Some(self.finish(why, assumptions, last)),
+            Ok(Found::New(why)) => self.learn(why, assumptions, last),
+        }
+    }
+
+    /// Records the line of negated assumptions that a run ends with, unless no line is left.
+    fn finish(&mut self, why: Learnt, _assumptions: &[Lit], last: bool) -> Answer
+        requires assumed { AllIn self.old.vars _assumptions.now }
+        requires final_ { IsFinal (R.clauses self.old.recorder) _assumptions.now why.clause.items why.hints.items }
+        ensures end { IsEnd (state_of (R.clauses self.old.recorder) (R.lines self.old.recorder) (R.limit self.old.recorder) self.old.derives) (state_of (R.clauses self.new.recorder) (R.lines self.new.recorder) (R.limit self.new.recorder) self.new.derives) _assumptions.now self.old.vars last result }
+        ensures vars { self.new.vars ≡ self.old.vars }
+    {
+        if last {
+            return Answer::Spent {
+                clause: why.clause,
+                hints: why.hints,
+            };
+        }
+        match self.record(&why.clause, &why.hints) {
+            Ok(()) => Answer::Unsat(Core { clause: why.clause }),
+            Err(RecordFault::Full { bytes, next }) => Answer::Full { bytes, next },
+            Err(RecordFault::Memory) => Answer::Memory,
+        }
+    }
+
+    /// Records a new line, unless no line is left.
+    fn learn(&mut self, why: Learnt, _assumptions: &[Lit], last: bool) -> Option<Answer>
+        requires in_vars { AllIn self.old.vars why.clause.items }
+        requires learnt { IsLearntBeyond (R.clauses self.old.recorder) _assumptions.now why.clause.items why.hints.items }
+        ensures step { IsStep (state_of (R.clauses self.old.recorder) (R.lines self.old.recorder) (R.limit self.old.recorder) self.old.derives) (state_of (R.clauses self.new.recorder) (R.lines self.new.recorder) (R.limit self.new.recorder) self.new.derives) _assumptions.now self.old.vars last result }
+        ensures vars { self.new.vars ≡ self.old.vars }
+    {
+        if last {
+            return Some(Answer::Spent {
+                clause: why.clause,
+                hints: why.hints,
+            });
+        }
+        match self.record(&why.clause, &why.hints) {
+            Ok(()) => None,
+            Err(RecordFault::Full { bytes, next }) => Some(Answer::Full { bytes, next }),
+            Err(RecordFault::Memory) => Some(Answer::Memory),
+        }
+    }
+
+    /// One round, up to values for all variables or to a clause that follows.
+    fn round(&mut self, assumptions: &[Lit]) -> Result<Found, AllocError>
+        requires assumed { AllIn self.old.vars assumptions.now }
+        requires consistent { IsConsistent assumptions.now }
+        ensures state { state_of (R.clauses self.new.recorder) (R.lines self.new.recorder) (R.limit self.new.recorder) self.new.derives ≡ state_of (R.clauses self.old.recorder) (R.lines self.old.recorder) (R.limit self.old.recorder) self.old.derives }
+        ensures vars { self.new.vars ≡ self.old.vars }
+        ensures found { IfOk result (λ f. IsFound (R.clauses self.old.recorder) assumptions.now self.old.vars f) }
+    {
+        self.trail.back(0);
+        look(
+            self.alloc,
+            &self.arena,
+            &mut self.trail,
+            self.vars,
+            assumptions,
+        )
+    }
+}
