@@ -469,10 +469,7 @@ fn designs_are_refused_at_their_first_place(rt: HostRuntime) -> Result<(), Alloc
         let mut out = MemorySink::new(alloc);
         let code = run(alloc, "rcv routes design.toml", &mut shelf, &mut out)?;
         let line = format!(in alloc; "design refused {place}\n")?;
-        assert!(rt;
-            code == 3 && out.bytes() == line.as_bytes(),
-            "{to}: {place}"
-        );
+        assert!(rt; code == 3 && out.bytes() == line.as_bytes(), "at {line}");
     }
     Ok(())
 }
