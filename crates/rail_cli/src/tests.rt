@@ -310,6 +310,170 @@ fn routes_are_listed(rt: HostRuntime) -> Result<(), AllocError> {
     Ok(())
 }
 
+/// What is asked of two trains.
+const ASKED: &str = r#"order = [ {first_train="A", first_visit=1, then_train="B", then_visit=2} ]
+within = [ {from_train="A", from_visit=1, to_train="A", to_visit=2, max_ms=8000} ]
+"#;
+
+/// Two edges more at the side of a node.
+const CROWDED: &str = r#"section="z2"},
+ {name="e3", from="n1", from_side="b", to="b2", to_side="b", length_mm=6000, speed_mm_s=2000, section="z2"},
+ {name="e4", from="n1", from_side="b", to="b2", to_side="b", length_mm=6000, speed_mm_s=2000, section="z2"} ]
+signal"#;
+
+/// Two edge ends at each side of a node.
+const CROSSED: &str = r#"section="z2"},
+ {name="e3", from="b1", from_side="a", to="n1", to_side="a", length_mm=6000, speed_mm_s=2000, section="z2"},
+ {name="e4", from="n1", from_side="b", to="b2", to_side="b", length_mm=6000, speed_mm_s=2000, section="z2"} ]
+signal"#;
+
+/// A second way into a boundary.
+const REACHED_TWICE: &str = r#"section="z2"},
+ {name="e3", from="n1", from_side="b", to="b2", to_side="b", length_mm=6000, speed_mm_s=2000, section="z2"} ]
+signal"#;
+
+/// What is put in a design in place of what, and the place of the refusal that then comes.
+const REFUSALS: [(&str, &str, &str); 45] = [
+    ("version = 1", "version = ", "D01 file"),
+    ("version = 1", "version = 1\nversion = 1", "D01 file"),
+    ("tick_ms = 100", "tick_ms = 9223372036854775808", "D01 file"),
+    ("version = 1", "versio = 1", "D02 version"),
+    (r#"{name="n1"}"#, r#"{nam="n1"}"#, "D02 node[2].name"),
+    (r#"{name="n1"}"#, r#"{name="n1", x=1}"#, "D02 node[2].?"),
+    (r#"toward="b""#, r#"toward="c""#, "D02 signal[1].toward"),
+    (
+        "length_mm=10000",
+        "length_mm=10000.0",
+        "D02 edge[1].length_mm",
+    ),
+    (r#"{name="n1"}"#, r#"{name="b1"}"#, "D03 node[2].name"),
+    (r#"{name="e2""#, r#"{name="e1""#, "D03 edge[2].name"),
+    (r#"{name="B""#, r#"{name="A""#, "D03 train[2].name"),
+    (r#"to="n1""#, r#"to="n9""#, "D04 edge[1].to"),
+    (r#"node="n1""#, r#"node="n9""#, "D04 signal[1].node"),
+    (
+        r#"{name="B", vehicle="v""#,
+        r#"{name="B", vehicle="w""#,
+        "D04 train[2].vehicle",
+    ),
+    (
+        r#"[["b1"],["b2"]]},"#,
+        r#"[["b1"],["b9"]]},"#,
+        "D04 train[1].visits",
+    ),
+    (
+        r#"first_train="A""#,
+        r#"first_train="C""#,
+        "D04 order[1].first_train",
+    ),
+    ("version = 1", "version = 2", "D05 version"),
+    ("tick_ms = 100", "tick_ms = 99", "D05 tick_ms"),
+    ("tick_ms = 100", "tick_ms = 1001", "D05 tick_ms"),
+    ("horizon_ms = 600000", "horizon_ms = 0", "D05 horizon_ms"),
+    ("length_mm=10000", "length_mm=0", "D05 edge[1].length_mm"),
+    (
+        "length_mm=10000",
+        "length_mm=10000001",
+        "D05 edge[1].length_mm",
+    ),
+    ("max_ms=8000", "max_ms=86400001", "D05 within[1].max_ms"),
+    (r#"to="b2""#, r#"to="n1""#, "D06 edge[2]"),
+    ("section=\"z2\"} ]\nsignal", CROWDED, "D06 node[2]"),
+    ("section=\"z2\"} ]\nsignal", CROSSED, "D06 node[2]"),
+    (
+        r#"{name="n1"}"#,
+        r#"{name="n1", boundary=true}"#,
+        "D07 node[2]",
+    ),
+    (
+        r#"{name="n1"}"#,
+        r#"{name="n1"}, {name="b3", boundary=true}"#,
+        "D07 node[3]",
+    ),
+    ("section=\"z2\"} ]\nsignal", REACHED_TWICE, "D07 node[3]"),
+    (
+        r#"node="n1", toward"#,
+        r#"node="b1", toward"#,
+        "D08 signal[1]",
+    ),
+    (
+        r#"toward="b"}"#,
+        r#"toward="b"}, {name="s2", node="n1", toward="b"}"#,
+        "D08 signal[2]",
+    ),
+    (
+        r#"toward="b"}"#,
+        r#"toward="b"}, {name="s2", node="b2", toward="a"}"#,
+        "D08 signal[2]",
+    ),
+    ("horizon_ms = 600000", "horizon_ms = 99", "D09 horizon_ms"),
+    (
+        "accel_mm_s2=500",
+        "accel_mm_s2=99",
+        "D09 vehicle[1].accel_mm_s2",
+    ),
+    (
+        "brake_mm_s2=700",
+        "brake_mm_s2=99",
+        "D09 vehicle[1].brake_mm_s2",
+    ),
+    (
+        "speed_mm_s=2000} ]\ntrain",
+        "speed_mm_s=9} ]\ntrain",
+        "D09 vehicle[1].speed_mm_s",
+    ),
+    (
+        r#"[["b1"],["b2"]]},"#,
+        r#"[["n1"],["b2"]]},"#,
+        "D10 train[1].visits",
+    ),
+    (
+        r#"[["b1"],["b2"]]},"#,
+        r#"[["b1","n1"],["b2"]]},"#,
+        "D10 train[1].visits",
+    ),
+    (
+        r#"[["b1"],["b2"]]} ]"#,
+        r#"[["b2","n1"],["b1"]]} ]"#,
+        "D10 train[2].visits",
+    ),
+    ("first_visit=1", "first_visit=3", "D11 order[1].first_visit"),
+    ("then_visit=2", "then_visit=0", "D11 order[1].then_visit"),
+    ("to_visit=2", "to_visit=3", "D11 within[1].to_visit"),
+    // The lowest code counts, wherever the others stand.
+    (
+        r#"to="n1", to_side="a""#,
+        r#"to="n9", to_side="q""#,
+        "D02 edge[1].to_side",
+    ),
+    (
+        r#"from="n1", from_side="b""#,
+        r#"from="n9", from_side="q""#,
+        "D02 edge[2].from_side",
+    ),
+    (
+        "length_mm=10000, speed_mm_s=2000, section=\"z1\"},\n {name=\"e2\"",
+        "length_mm=0, speed_mm_s=2000, section=\"z1\"},\n {name=\"e1\"",
+        "D03 edge[2].name",
+    ),
+];
+
+#[test]
+fn designs_are_refused_at_their_first_place(rt: HostRuntime) -> Result<(), AllocError> {
+    let alloc = rt.alloc();
+    let slow = design(alloc, 600_000, TRACK, TWO_TRAINS, ASKED)?;
+    let whole = slow.replace(alloc, "tick_ms = 1000", "tick_ms = 100")?;
+    for (from, to, place) in REFUSALS {
+        let text = whole.replace(alloc, from, to)?;
+        let mut shelf = shelf_of(alloc, text.as_bytes(), "")?;
+        let mut out = MemorySink::new(alloc);
+        let code = run(alloc, "rcv routes design.toml", &mut shelf, &mut out)?;
+        let line = format!(in alloc; "design refused {place}\n")?;
+        assert!(rt; code == 3 && out.bytes() == line.as_bytes(), "at {line}");
+    }
+    Ok(())
+}
+
 #[test]
 fn proofs_are_judged(rt: HostRuntime) -> Result<(), AllocError> {
     let alloc = rt.alloc();
