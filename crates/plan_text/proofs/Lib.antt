@@ -1,0 +1,5 @@
+mod Names
+mod Plain
+mod Ordered
+mod ReadBack
+mod Trains

@@ -1,0 +1,8 @@
+//! Plans as text: compact JSON, in which the trains of each step stand in file order.
+#![tactic(auto)]
+
+pub mod laws;
+#[cfg(test)]
+mod tests;
+mod values;
+pub mod writing;
