@@ -1,12 +1,14 @@
 //! The verdict of a plan.
 
-ghost use Rattle.std.specs.Prelude.{◌≡◌, ◌≤◌, ◌<◌, ◌^◌, IfOk, None, is_none, length, map};
+ghost use Rattle.std.specs.Prelude.{◌≡◌, ◌≤◌, ◌<◌, ◌^◌, ℕ, true, IfOk, None, is_none, length, map};
 ghost use Rattle.std.specs.List.{position_from};
 ghost use Rattle.rail_spec.specs.Track.{routes_of};
+ghost use Rattle.rail_spec.specs.Plans.{is_executable};
 ghost use Rattle.rail_spec.specs.Feasible.{IsWellFormed};
 ghost use Rattle.rail_spec.specs.Run.{state_at};
 ghost use Rattle.rail_spec.specs.Requirements.{path_violation};
 ghost use Rattle.rail_spec.specs.Histories.{verdict_of};
+ghost use Rattle.rail_spec.specs.Safety.{Clash};
 ghost use Rattle.tick_sim.specs.Runs.{IsRun};
 
 use crate::grants::IDLE;
@@ -108,6 +110,8 @@ impl Run<'_> {
 
 /// What so many ticks of a run show of a plan: that it meets the design, that it fails and why, or nothing yet. The
 /// history ends with the deciding tick.
+///
+/// Where the plan is executable too, no two trains ever hold one section or stand on one, at whatever tick.
 pub fn simulate(
     alloc: Global,
     design: &Design,
@@ -118,7 +122,8 @@ pub fn simulate(
     requires table { routes.now ≡ routes_of design.now.station }
     requires few { length routes.now ≤ 2000 }
     requires formed { IsWellFormed design.now.station routes.now 64 plan.now.steps }
-    ensures { IfOk result (λ v. v ≡ verdict_of design.now.station routes.now plan.now.steps ticks) }
+    ensures value { IfOk result (λ v. v ≡ verdict_of design.now.station routes.now plan.now.steps ticks) }
+    ensures apart { is_executable design.now.station routes.now plan.now.steps ≡ true → (k : ℕ) → Clash design.now.station routes.now plan.now.steps k → ⊥ }
 {
     let courses = courses_of(alloc, design, routes, plan)?;
     let journeys = journeys_of(alloc, design, routes, plan, courses.as_slice())?;
