@@ -1,0 +1,3 @@
+-- The clause of a cone as literals of the base.
+pub mod Numbered
+pub mod Laws

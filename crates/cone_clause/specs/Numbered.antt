@@ -1,0 +1,22 @@
+-- The clause of a cone over the numbers that the base gives its variables.
+use Rattle.std.specs.Prelude.{ℕ, List, map}
+use Rattle.rail_base.specs.declared.station.Station.{Station}
+use Rattle.rail_base.specs.declared.route.Route.{Route}
+use Rattle.rail_cone.specs.declared.Cone.{Cone}
+use Rattle.sat_clause.specs.declared.lit.Lit.{Lit}
+use Rattle.plan_clauses.specs.Variables.{Variable, Given, Before as BeforeIn, number_of}
+use Rattle.rail_cone.specs.Clauses.{Fact, Used, Before, Literal, clause_of_cone}
+
+-- a command is used where it is given by the last step
+abbrev pub variable_of : ℕ → Fact → Variable
+variable_of n (Used c) = Given c n
+variable_of n (Before e c) = BeforeIn e c
+
+module _ (d : Station) (routes : List Route) (n : ℕ) where
+  -- the literal of the base that says so
+  abbrev pub lit_of : Literal → Lit
+  lit_of l = record { var = number_of d routes n (variable_of n l.fact); negated = l.negated }
+
+  -- the cone's clause, with the numbers of the base
+  abbrev pub numbered_clause : Cone → List Lit
+  numbered_clause k = map lit_of (clause_of_cone d routes k)
