@@ -99,8 +99,12 @@ impl Base {
         clauses
     }
 
+    /// How many trains, routes, steps and variables there are.
     pub fn counts(&self) -> Counts
-        ensures { (d : Station) (routes : List Route) (n : ℕ) → IsBaseOf d routes n self.now → result ≡ record { trains = length d.trains; routes = length routes; steps = n; vars = variable_count d routes n } }
+        ensures trains { result.trains ≡ self.now.trains }
+        ensures routes { result.routes ≡ self.now.routes }
+        ensures steps { result.steps ≡ self.now.steps }
+        ensures value { (d : Station) (routes : List Route) (n : ℕ) → IsBaseOf d routes n self.now → result ≡ record { trains = length d.trains; routes = length routes; steps = n; vars = variable_count d routes n } }
     {
         Counts {
             trains: self.trains,

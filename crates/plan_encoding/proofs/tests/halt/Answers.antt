@@ -3,18 +3,4 @@ use Rattle.std.proofs.Common.{refl}
 use Rattle.plan_encoding.proofs.tests.halt.Goals as goal
 
 pub returns : goal.returns
-returns c =
-    simp (
-      c.in_ok-station.ensures,
-      c.in_ok-nodes.ensures,
-      c.in_ok-boundary.ensures,
-      c.in_ok-inner.ensures,
-      c.in_ok-boundary-2.ensures,
-      c.in_ok-edges.ensures,
-      c.in_ok-first.ensures,
-      c.in_ok-second.ensures,
-      c.in_ok-sections.ensures,
-      c.in_ok-name.ensures,
-      c.in_ok-name-2.ensures,
-      c.in_ok-signals.ensures,
-    ) refl
+returns c = simp c.in_ok-station.ensures refl

@@ -1,0 +1,39 @@
+use Rattle.std.proofs.Common.{◌≡◌, ◌++◌, ◌≤◌, ◌+◌, ℕ, List, [], ◌∷◌, map, refl, sym, ap, subst, ◌∙◌, arith}
+use Rattle.rail_base.specs.declared.plan.Command.{Command}
+use Rattle.rail_base.specs.Numbering.{one_to}
+use Rattle.rail_spec.specs.Feasible.{IsRunnable}
+use Rattle.sat_core.specs.Models.{value_in}
+use Rattle.plan_clauses.specs.Laws.{Agrees}
+use Rattle.plan_clauses.specs.Models.{cut_off, given_in, model_of}
+use Rattle.plan_clauses.proofs.Theorems.{models_are_plans}
+use Rattle.plan_decoder.specs.Told.{says}
+use Rattle.plan_decoder.proofs.Puts.{put_next, put_all}
+use Rattle.plan_decoder.proofs.decoding.decode.Goals as goal
+use Rattle.plan_decoder.proofs.decoding.decode.Goals.{else-loop-step-test, then-loop-step-test+in_ok-given_in+in_ok-push+else-step-step-end}
+
+pub loop-step-preserved : goal.loop-step-preserved
+loop-step-preserved c = λ d routes n is.
+    let step : ℕ → List Command = given_in d routes n (says d routes n c.args.values.now) in
+    let low : c.loop-step.step ≤ n = (let k = c.counts-step-end.ensures.steps in let l = c.loop-step-test.true in let m = is.steps in omega arith) in
+    put_next c.loop-step.steps.items c.push.new.self.items _ (map step) c.loop-step.step n (step c.loop-step.step ∷ []) low refl (c.in_ok-push.ensures.items ∙ ap (λ s. c.loop-step.steps.items ++ s ∷ []) (c.in_ok-given_in.ensures d routes n is)) (c.loop-step.invariant d routes n is)
+
+pub returns-clause-value : goal.returns-clause-value
+returns-clause-value c = λ d routes n is.
+    let step : ℕ → List Command = given_in d routes n (says d routes n c.args.values.now) in
+    let all : List (List Command) = map step (one_to n) in
+    let steps_are : c.counts-step-end.result.steps ≡ n = c.counts-step-end.ensures.steps ∙ is.steps in
+    let whole : c.loop-step-test.steps.items ≡ all =
+    elim c.loop-step-test.branch [
+      | else-loop-step-test w ↦ ap (λ v. v.items) w.steps-is ∙ put_all c.loop-step.steps.items all (map step) c.loop-step.step n (omega (arith, w.loop-step-test.false)) refl (c.loop-step.invariant d routes n is)
+      | then-loop-step-test+in_ok-given_in+in_ok-push+else-step-step-end w ↦
+          ap (λ v. v.items) w.steps-is ∙ put_all w.push.new.self.items all (map step) (c.loop-step.step + 1) n (omega arith) refl
+          (put_next c.loop-step.steps.items w.push.new.self.items all (map step) c.loop-step.step n (step c.loop-step.step ∷ []) (omega (arith, w.loop-step-test.true)) refl (w.in_ok-push.ensures.items ∙ ap (λ s. c.loop-step.steps.items ++ s ∷ []) (w.in_ok-given_in.ensures d routes n is)) (c.loop-step.invariant d routes n is))
+    ] in
+    c.from_vec.ensures ∙ (c.cut_off.ensures ∙ ap cut_off whole)
+
+pub returns-clause-runnable : goal.returns-clause-runnable
+returns-clause-runnable c = λ d routes n is some holds. subst (IsRunnable d routes n) (sym (returns-clause-value c d routes n is)) (models_are_plans d routes n (value_in c.args.values.now) some holds).0
+
+pub returns-clause-agrees : goal.returns-clause-agrees
+returns-clause-agrees c = λ d routes n is some holds.
+    subst (λ steps. Agrees d routes n (model_of d routes n steps) (value_in c.args.values.now)) (sym (returns-clause-value c d routes n is)) (models_are_plans d routes n (value_in c.args.values.now) some holds).1

@@ -1,0 +1,17 @@
+-- What values of a base's variables say.
+use Rattle.std.specs.Prelude.{ℕ, ◌-◌, Bool, not, ◌&&◌, List}
+use Rattle.rail_base.specs.declared.station.Station.{Station}
+use Rattle.rail_base.specs.declared.route.Route.{Route}
+use Rattle.rail_base.specs.declared.plan.Command.{Command}
+use Rattle.plan_clauses.specs.Variables.{Variable, number_of}
+use Rattle.plan_clauses.specs.Models.{given_by}
+use Rattle.sat_core.specs.Models.{value_in}
+
+module _ (d : Station) (routes : List Route) (n : ℕ) (values : List Bool) where
+  -- the value of a variable
+  abbrev pub says : Variable → Bool
+  says v = value_in values (number_of d routes n v)
+
+  -- a command is given by a step and not by the one before
+  abbrev pub is_new : ℕ → Command → Bool
+  is_new i c = given_by says c i && not (given_by says c (i - 1))

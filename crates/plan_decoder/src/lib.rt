@@ -1,0 +1,10 @@
+//! The plan that values of a base's variables tell of.
+#![tactic(auto)]
+
+mod decoding;
+mod laws;
+#[cfg(test)]
+mod tests;
+
+pub use decoding::decode;
+pub use laws::{lines_keep_the_front, live_clauses_are_true};
