@@ -17,3 +17,6 @@ pub mod Feasibles
 pub mod Theorems
 pub mod Variables
 pub mod Shown
+pub mod Plain
+pub mod InRange
+pub mod Retold

@@ -7,12 +7,13 @@ use Rattle.rail_base.specs.declared.route.Route.{Route}
 use Rattle.rail_base.specs.declared.route.RouteNo.{RouteNo}
 use Rattle.rail_base.specs.declared.plan.Command.{Command}
 use Rattle.rail_spec.specs.Plans.{goes_on, is_start, exits, route_at, contend}
-use Rattle.rail_base.specs.Members.{all_neighbors, all_pairs}
+use Rattle.rail_base.specs.Members.{In, all_neighbors, all_pairs}
 use Rattle.rail_spec.specs.Feasible.{is_of}
 use Rattle.rail_spec.specs.Run.{makes_visits}
 use Rattle.plan_clauses.specs.Clauses.{chain_length, base_clauses}
 use Rattle.sat_clause.specs.Clauses.{clause_holds}
-use Rattle.plan_clauses.specs.Variables.{Given, Before, By, number_of}
+use Rattle.sat_clause.specs.declared.lit.Lit.{Lit}
+use Rattle.plan_clauses.specs.Variables.{Given, Before, By, number_of, variable_count}
 
 -- the whole path of each train makes all its visits
 pub record VisitsAll (d : Station) (routes : List Route) (plan : List (List Command)) : Type 0 where
@@ -34,3 +35,7 @@ pub record IsChain (routes : List Route) (bound : ℕ) (chain : List RouteNo) : 
 -- no values that make the base true say that all is given by step k
 abbrev pub NoneBy : Station → List Route → ℕ → ℕ → Type 0
 NoneBy d routes n k = (values : ℕ → Bool) → list_all (clause_holds values) (base_clauses d routes n) ≡ true → values (number_of d routes n (By k)) ≡ true → ⊥
+
+-- each literal of the base has a variable from 1 on, and none the last one, which says that all is given by step n
+abbrev pub IsInRange : Station → List Route → ℕ → Type 0
+IsInRange d routes n = (c : List Lit) → In c (base_clauses d routes n) → (l : Lit) → In l c → (1 ≤ l.var) × (l.var < variable_count d routes n)

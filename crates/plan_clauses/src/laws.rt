@@ -10,7 +10,7 @@ ghost use Rattle.rail_spec.specs.Track.{routes_of};
 ghost use Rattle.rail_spec.specs.Feasible.{IsFeasible, IsInfeasible, IsRunnable};
 ghost use Rattle.plan_clauses.specs.Clauses.{base_clauses};
 ghost use Rattle.plan_clauses.specs.Models.{model_of, decoded};
-ghost use Rattle.plan_clauses.specs.Laws.{VisitsAll, Agrees, NoneBy};
+ghost use Rattle.plan_clauses.specs.Laws.{VisitsAll, Agrees, NoneBy, IsInRange};
 
 /// The model of a plan that can be carried out, and whose paths make all visits, makes the base true.
 pub fn plans_are_models()
@@ -25,6 +25,16 @@ pub fn feasible_plans_are_models()
 /// Values that make the base true tell of a plan that can be carried out, and whose model has them.
 pub fn models_are_plans()
     ensures { (d : Station) (routes : List Route) (n : ℕ) (values : ℕ → Bool) → 1 ≤ n → list_all (clause_holds values) (base_clauses d routes n) ≡ true → IsRunnable d routes n (decoded d routes n values) × Agrees d routes n (model_of d routes n (decoded d routes n values)) values }
+{}
+
+/// Its model makes the base true, too.
+pub fn told_plans_are_models()
+    ensures { (d : Station) (routes : List Route) (n : ℕ) (values : ℕ → Bool) → 1 ≤ n → list_all (clause_holds values) (base_clauses d routes n) ≡ true → list_all (clause_holds (model_of d routes n (decoded d routes n values))) (base_clauses d routes n) ≡ true }
+{}
+
+/// The variables of the base are numbered from 1, and none of its clauses says by which step all is given at the latest.
+pub fn literals_are_in_range()
+    ensures { (d : Station) (routes : List Route) (n : ℕ) → 1 ≤ n → IsInRange d routes n }
 {}
 
 /// Where no values that make the base of n steps true say that all is given by step k, no plan of k steps is feasible.
