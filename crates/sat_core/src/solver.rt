@@ -5,8 +5,8 @@ ghost use Rattle.sat_clause.specs.Closed.{IsConsistent};
 ghost use Rattle.sat_trail.specs.Trails.{AllIn, depth};
 ghost use Rattle.sat_trail.specs.Standing.{IsIncreasing};
 ghost use Rattle.sat_core.specs.Kept.{Holds};
-ghost use Rattle.sat_core.specs.Texts.{added_lines, derive_line, text_size, has_room};
-ghost use Rattle.sat_core.specs.Faults.{IsFullAt};
+ghost use Rattle.sat_core.specs.Texts.{added_line, derive_line, has_room};
+ghost use Rattle.sat_core.specs.Faults.{IsFault};
 
 use crate::assignment::Assignment;
 use crate::found::Found;
@@ -108,11 +108,11 @@ impl<R: Recorder> Solver<R> {
     /// Where there is no memory neither has it. The recorder has to have room for the line.
     pub fn add_clause(&mut self, line: &[u8], clause: &[Lit]) -> Result<u64, AllocError>
         requires in_vars { AllIn self.old.vars clause.now }
-        requires room { has_room (R.limit self.old.recorder) (text_size (R.lines self.old.recorder) + text_size (added_lines line.now)) ≡ true }
+        requires room { has_room (R.limit self.old.recorder) (length (R.text self.old.recorder) + length (added_line line.now)) ≡ true }
         ensures clauses { OnOk result (R.clauses self.new.recorder ≡ R.clauses self.old.recorder ++ (clause.now, true) ∷ []) }
         ensures id { IfOk result (λ id. id ≡ length (R.clauses self.new.recorder)) }
-        ensures lines { OnOk result (R.lines self.new.recorder ≡ R.lines self.old.recorder ++ added_lines line.now) }
-        ensures err { OnErr result ((R.clauses self.new.recorder ≡ R.clauses self.old.recorder) × (R.lines self.new.recorder ≡ R.lines self.old.recorder)) }
+        ensures text { OnOk result (R.text self.new.recorder ≡ R.text self.old.recorder ++ added_line line.now) }
+        ensures err { OnErr result ((R.clauses self.new.recorder ≡ R.clauses self.old.recorder) × (R.text self.new.recorder ≡ R.text self.old.recorder)) }
         ensures limit { R.limit self.new.recorder ≡ R.limit self.old.recorder }
         ensures vars { self.new.vars ≡ self.old.vars }
         ensures level { depth self.new.trail.steps ≡ depth self.old.trail.steps }
@@ -140,9 +140,9 @@ impl<R: Recorder> Solver<R> {
         requires follows { follow_of (R.clauses self.old.recorder) clause.now hints.now ≡ Yes }
         requires increasing { IsIncreasing clause.now }
         requires in_vars { AllIn self.old.vars clause.now }
-        ensures recorded { OnOk result (IsRecorded (state_of (R.clauses self.old.recorder) (R.lines self.old.recorder) (R.limit self.old.recorder) self.old.derives) (state_of (R.clauses self.new.recorder) (R.lines self.new.recorder) (R.limit self.new.recorder) self.new.derives) clause.now hints.now) }
-        ensures err { OnErr result (state_of (R.clauses self.new.recorder) (R.lines self.new.recorder) (R.limit self.new.recorder) self.new.derives ≡ state_of (R.clauses self.old.recorder) (R.lines self.old.recorder) (R.limit self.old.recorder) self.old.derives) }
-        ensures fault { IfErr result (IsFullAt (R.limit self.old.recorder) (text_size (R.lines self.old.recorder)) (text_size (derive_line clause.now hints.now ∷ []))) }
+        ensures recorded { OnOk result (IsRecorded (state_of (R.clauses self.old.recorder) (R.text self.old.recorder) (R.limit self.old.recorder) self.old.derives) (state_of (R.clauses self.new.recorder) (R.text self.new.recorder) (R.limit self.new.recorder) self.new.derives) clause.now hints.now) }
+        ensures err { OnErr result (state_of (R.clauses self.new.recorder) (R.text self.new.recorder) (R.limit self.new.recorder) self.new.derives ≡ state_of (R.clauses self.old.recorder) (R.text self.old.recorder) (R.limit self.old.recorder) self.old.derives) }
+        ensures fault { IfErr result (IsFault (R.limit self.old.recorder) (length (R.text self.old.recorder)) (length (derive_line clause.now hints.now))) }
         ensures vars { self.new.vars ≡ self.old.vars }
     {
         let Ok(id) = keep(&mut self.arena, &mut self.trail, clause) else {
@@ -162,7 +162,7 @@ impl<R: Recorder> Solver<R> {
     pub fn solve(&mut self, assumptions: &[Lit], left: u64) -> Answer
         requires assumed { AllIn self.old.vars assumptions.now }
         requires consistent { IsConsistent assumptions.now }
-        ensures run { Ends (state_of (R.clauses self.old.recorder) (R.lines self.old.recorder) (R.limit self.old.recorder) self.old.derives) (state_of (R.clauses self.new.recorder) (R.lines self.new.recorder) (R.limit self.new.recorder) self.new.derives) assumptions.now self.old.vars left result }
+        ensures run { Ends (state_of (R.clauses self.old.recorder) (R.text self.old.recorder) (R.limit self.old.recorder) self.old.derives) (state_of (R.clauses self.new.recorder) (R.text self.new.recorder) (R.limit self.new.recorder) self.new.derives) assumptions.now self.old.vars left result }
         ensures vars { self.new.vars ≡ self.old.vars }
         ensures level { depth self.new.trail.steps ≡ 0 }
     {
@@ -175,7 +175,7 @@ impl<R: Recorder> Solver<R> {
     fn search(&mut self, assumptions: &[Lit], left: u64) -> Answer
         requires assumed { AllIn self.old.vars assumptions.now }
         requires consistent { IsConsistent assumptions.now }
-        ensures run { Ends (state_of (R.clauses self.old.recorder) (R.lines self.old.recorder) (R.limit self.old.recorder) self.old.derives) (state_of (R.clauses self.new.recorder) (R.lines self.new.recorder) (R.limit self.new.recorder) self.new.derives) assumptions.now self.old.vars left result }
+        ensures run { Ends (state_of (R.clauses self.old.recorder) (R.text self.old.recorder) (R.limit self.old.recorder) self.old.derives) (state_of (R.clauses self.new.recorder) (R.text self.new.recorder) (R.limit self.new.recorder) self.new.derives) assumptions.now self.old.vars left result }
         ensures vars { self.new.vars ≡ self.old.vars }
     {
         'derive: for done in 0..=left {
@@ -190,7 +190,7 @@ impl<R: Recorder> Solver<R> {
     fn step(&mut self, assumptions: &[Lit], last: bool) -> Option<Answer>
         requires assumed { AllIn self.old.vars assumptions.now }
         requires consistent { IsConsistent assumptions.now }
-        ensures step { IsStep (state_of (R.clauses self.old.recorder) (R.lines self.old.recorder) (R.limit self.old.recorder) self.old.derives) (state_of (R.clauses self.new.recorder) (R.lines self.new.recorder) (R.limit self.new.recorder) self.new.derives) assumptions.now self.old.vars last result }
+        ensures step { IsStep (state_of (R.clauses self.old.recorder) (R.text self.old.recorder) (R.limit self.old.recorder) self.old.derives) (state_of (R.clauses self.new.recorder) (R.text self.new.recorder) (R.limit self.new.recorder) self.new.derives) assumptions.now self.old.vars last result }
         ensures vars { self.new.vars ≡ self.old.vars }
     {
         match self.round(assumptions) {
@@ -205,7 +205,7 @@ impl<R: Recorder> Solver<R> {
     fn finish(&mut self, why: Learnt, _assumptions: &[Lit], last: bool) -> Answer
         requires assumed { AllIn self.old.vars _assumptions.now }
         requires final_ { IsFinal (R.clauses self.old.recorder) _assumptions.now why.clause.items why.hints.items }
-        ensures end { IsEnd (state_of (R.clauses self.old.recorder) (R.lines self.old.recorder) (R.limit self.old.recorder) self.old.derives) (state_of (R.clauses self.new.recorder) (R.lines self.new.recorder) (R.limit self.new.recorder) self.new.derives) _assumptions.now self.old.vars last result }
+        ensures end { IsEnd (state_of (R.clauses self.old.recorder) (R.text self.old.recorder) (R.limit self.old.recorder) self.old.derives) (state_of (R.clauses self.new.recorder) (R.text self.new.recorder) (R.limit self.new.recorder) self.new.derives) _assumptions.now self.old.vars last result }
         ensures vars { self.new.vars ≡ self.old.vars }
     {
         if last {
@@ -225,7 +225,7 @@ impl<R: Recorder> Solver<R> {
     fn learn(&mut self, why: Learnt, _assumptions: &[Lit], last: bool) -> Option<Answer>
         requires in_vars { AllIn self.old.vars why.clause.items }
         requires learnt { IsLearntBeyond (R.clauses self.old.recorder) _assumptions.now why.clause.items why.hints.items }
-        ensures step { IsStep (state_of (R.clauses self.old.recorder) (R.lines self.old.recorder) (R.limit self.old.recorder) self.old.derives) (state_of (R.clauses self.new.recorder) (R.lines self.new.recorder) (R.limit self.new.recorder) self.new.derives) _assumptions.now self.old.vars last result }
+        ensures step { IsStep (state_of (R.clauses self.old.recorder) (R.text self.old.recorder) (R.limit self.old.recorder) self.old.derives) (state_of (R.clauses self.new.recorder) (R.text self.new.recorder) (R.limit self.new.recorder) self.new.derives) _assumptions.now self.old.vars last result }
         ensures vars { self.new.vars ≡ self.old.vars }
     {
         if last {
@@ -245,7 +245,7 @@ impl<R: Recorder> Solver<R> {
     fn round(&mut self, assumptions: &[Lit]) -> Result<Found, AllocError>
         requires assumed { AllIn self.old.vars assumptions.now }
         requires consistent { IsConsistent assumptions.now }
-        ensures state { state_of (R.clauses self.new.recorder) (R.lines self.new.recorder) (R.limit self.new.recorder) self.new.derives ≡ state_of (R.clauses self.old.recorder) (R.lines self.old.recorder) (R.limit self.old.recorder) self.old.derives }
+        ensures state { state_of (R.clauses self.new.recorder) (R.text self.new.recorder) (R.limit self.new.recorder) self.new.derives ≡ state_of (R.clauses self.old.recorder) (R.text self.old.recorder) (R.limit self.old.recorder) self.old.derives }
         ensures vars { self.new.vars ≡ self.old.vars }
         ensures found { IfOk result (λ f. IsFound (R.clauses self.old.recorder) assumptions.now self.old.vars f) }
     {

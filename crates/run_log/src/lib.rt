@@ -1,0 +1,10 @@
+//! The text of a search: a proof file to which a line is added for each clause that is derived.
+#![tactic(auto)]
+
+mod laws;
+#[cfg(test)]
+mod tests;
+mod text;
+
+pub use laws::ended_runs_are_accepted;
+pub use text::Text;
