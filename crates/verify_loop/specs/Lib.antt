@@ -1,0 +1,3 @@
+-- How a search ends.
+pub mod Outcomes
+pub mod Loading
