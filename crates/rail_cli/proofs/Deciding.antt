@@ -1,14 +1,13 @@
 -- Simulations in which nothing is refused.
-use Rattle.std.proofs.Common.{◌≡◌, ◌↔◌, ℕ, true, List, Option, Some, Result, Ok, Err, IfOk, ap, sym, ◌∙◌, subst}
+use Rattle.std.proofs.Common.{◌≡◌, ℕ, true, List, Option, Some, Result, Ok, Err, IfOk, ap, sym, ◌∙◌, subst}
 use Rattle.std.specs.List.{concat}
 use Rattle.rail_base.specs.declared.station.Station.{Station}
 use Rattle.rail_base.specs.declared.plan.Command.{Command}
 use Rattle.rail_outside.specs.Files.{Files}
 use Rattle.rail_outside.specs.Growth.{grown}
-use Rattle.rail_spec.specs.Feasible.{IsFeasible}
-use Rattle.rail_words.specs.Requests.{Asked, simulate, routes, check, request_of}
+use Rattle.rail_words.specs.Requests.{Asked, simulate, routes, verify, check, request_of}
+use Rattle.verify_loop.specs.declared.outcome.Outcome.{Outcome}
 use Rattle.rail_cli.specs.declared.status.Status.{Status}
-use Rattle.rail_cli.specs.declared.status.Status.TheVariants as statuses
 use Rattle.rail_cli.specs.declared.reply.Reply.{Reply}
 use Rattle.rail_cli.specs.declared.ending.Ending.{Ending}
 use Rattle.rail_cli.specs.declared.ending.Ending.TheVariants as ending
@@ -81,8 +80,8 @@ module _ (files : Files) (words : List (List ℕ)) (d : Station) (plan : List (L
       planned_so (files s.design_name) (files s.plan_name) (files s.design_name) (file_fits file.Design (files s.design_name) s.short_design) d reads_design (files s.plan_name) (file_fits file.Plan (files s.plan_name) s.short_plan)
       ∙ answered_next (plan_in d (files s.plan_name)) plan (λ p. shown d (shown_by d p)) reads_plan
 
-  pub answered_so : answer_of files words ≡ shown d (shown_by d plan)
-  answered_so = ap (answer_to files) s.asked ∙ simulated_so
+  pub answered_so : (found : Outcome) → answer_of files found words ≡ shown d (shown_by d plan)
+  answered_so found = ap (answer_to files found) s.asked ∙ simulated_so
 
   -- the request names its files
   module _ (design_name plan_name : List ℕ) (asked : request_of words ≡ Some (simulate design_name plan_name)) where
@@ -108,35 +107,42 @@ module _ (files : Files) (words : List (List ℕ)) (d : Station) (plan : List (L
         let kind : verdict_status (shown_by d plan) ≡ r.status = ap (λ (a : Answer). a.status) seen in
         verdict_refuses_nothing (shown_by d plan) (ap is_refusal kind ∙ refuses)
 
--- words that ask for routes or for a check ask for no simulation
+-- words that ask for something else ask for no simulation
 routes_only : (files : Files) (words : List (List ℕ)) (design_name : List ℕ) (reply : Reply) → request_of words ≡ Some (routes design_name) → DoneWhereFeasible files words reply.status
 routes_only files words design_name reply asked = λ d plan s. (let clash = sym s.asked ∙ asked in absurd (cc))
+
+verify_only : (files : Files) (words : List (List ℕ)) (n conflicts ticks : ℕ) (design_name proof_name : List ℕ) (reply : Reply) → request_of words ≡ Some (verify n conflicts ticks design_name proof_name) → DoneWhereFeasible files words reply.status
+verify_only files words n conflicts ticks design_name proof_name reply asked = λ d plan s. (let clash = sym s.asked ∙ asked in absurd (cc))
 
 check_only : (files : Files) (words : List (List ℕ)) (n : ℕ) (design_name proof_name : List ℕ) (reply : Reply) → request_of words ≡ Some (check n design_name proof_name) → DoneWhereFeasible files words reply.status
 check_only files words n design_name proof_name reply asked = λ d plan s. (let clash = sym s.asked ∙ asked in absurd (cc))
 
 -- the reply to a request says 0 exactly where the plan is feasible
-pub done_where_feasible : (files : Files) (words : List (List ℕ)) (asked : Asked) (r : Result Reply Ending) → request_of words ≡ Some asked
-    → Replies r (answer_to files (Some asked)) → RefusesFile r → DecidesRequest files asked r
+pub done_where_feasible : (files : Files) (found : Outcome) (words : List (List ℕ)) (asked : Asked) (r : Result Reply Ending) → request_of words ≡ Some asked
+    → Replies r (answer_to files found (Some asked)) → RefusesFile r → DecidesRequest files asked r
     → OnReply r (λ reply. DoneWhereFeasible files words reply.status)
-done_where_feasible files words (simulate design_name plan_name) (Ok reply) asked replies refuses decides = λ d plan s. done_here files words d plan s design_name plan_name asked reply.status decides
-done_where_feasible files words (simulate design_name plan_name) (Err (ending.Told reply)) asked replies refuses decides = λ d plan s. absurd (not_refused files words d plan s design_name plan_name asked reply replies refuses)
-done_where_feasible files words (simulate design_name plan_name) (Err ending.Memory) asked replies refuses decides = tt
-done_where_feasible files words (simulate design_name plan_name) (Err ending.ShelfFault) asked replies refuses decides = tt
-done_where_feasible files words (routes design_name) (Ok reply) asked replies refuses decides = routes_only files words design_name reply asked
-done_where_feasible files words (routes design_name) (Err (ending.Told reply)) asked replies refuses decides = routes_only files words design_name reply asked
-done_where_feasible files words (routes design_name) (Err ending.Memory) asked replies refuses decides = tt
-done_where_feasible files words (routes design_name) (Err ending.ShelfFault) asked replies refuses decides = tt
-done_where_feasible files words (check n design_name proof_name) (Ok reply) asked replies refuses decides = check_only files words n design_name proof_name reply asked
-done_where_feasible files words (check n design_name proof_name) (Err (ending.Told reply)) asked replies refuses decides = check_only files words n design_name proof_name reply asked
-done_where_feasible files words (check n design_name proof_name) (Err ending.Memory) asked replies refuses decides = tt
-done_where_feasible files words (check n design_name proof_name) (Err ending.ShelfFault) asked replies refuses decides = tt
+done_where_feasible files found words (simulate design_name plan_name) (Ok reply) asked replies refuses decides = λ d plan s. done_here files words d plan s design_name plan_name asked reply.status decides
+done_where_feasible files found words (simulate design_name plan_name) (Err (ending.Told reply)) asked replies refuses decides = λ d plan s. absurd (not_refused files words d plan s design_name plan_name asked reply replies refuses)
+done_where_feasible files found words (simulate design_name plan_name) (Err ending.Memory) asked replies refuses decides = tt
+done_where_feasible files found words (simulate design_name plan_name) (Err ending.ShelfFault) asked replies refuses decides = tt
+done_where_feasible files found words (routes design_name) (Ok reply) asked replies refuses decides = routes_only files words design_name reply asked
+done_where_feasible files found words (routes design_name) (Err (ending.Told reply)) asked replies refuses decides = routes_only files words design_name reply asked
+done_where_feasible files found words (routes design_name) (Err ending.Memory) asked replies refuses decides = tt
+done_where_feasible files found words (routes design_name) (Err ending.ShelfFault) asked replies refuses decides = tt
+done_where_feasible files found words (verify n conflicts ticks design_name proof_name) (Ok reply) asked replies refuses decides = verify_only files words n conflicts ticks design_name proof_name reply asked
+done_where_feasible files found words (verify n conflicts ticks design_name proof_name) (Err (ending.Told reply)) asked replies refuses decides = verify_only files words n conflicts ticks design_name proof_name reply asked
+done_where_feasible files found words (verify n conflicts ticks design_name proof_name) (Err ending.Memory) asked replies refuses decides = tt
+done_where_feasible files found words (verify n conflicts ticks design_name proof_name) (Err ending.ShelfFault) asked replies refuses decides = tt
+done_where_feasible files found words (check n design_name proof_name) (Ok reply) asked replies refuses decides = check_only files words n design_name proof_name reply asked
+done_where_feasible files found words (check n design_name proof_name) (Err (ending.Told reply)) asked replies refuses decides = check_only files words n design_name proof_name reply asked
+done_where_feasible files found words (check n design_name proof_name) (Err ending.Memory) asked replies refuses decides = tt
+done_where_feasible files found words (check n design_name proof_name) (Err ending.ShelfFault) asked replies refuses decides = tt
 
 -- what is printed then
-pub tells_feasible : (files : Files) (words : List (List ℕ)) (d : Station) (plan : List (List Command)) (t : Status) (text new_text : Option (List ℕ)) (pieces new_pieces : Option (List (List ℕ)))
-    → Prints (answer_of files words) t text new_text pieces new_pieces → DoneWhereFeasible files words t → Simulates files words d plan → is_answered t ≡ true → TellsFeasible d plan t text new_text
-tells_feasible files words d plan t text new_text pieces new_pieces prints exact s answered =
-    let so = answered_so files words d plan s in
+pub tells_feasible : (files : Files) (found : Outcome) (words : List (List ℕ)) (d : Station) (plan : List (List Command)) (t : Status) (text new_text : Option (List ℕ)) (pieces new_pieces : Option (List (List ℕ)))
+    → Prints (answer_of files found words) t text new_text pieces new_pieces → DoneWhereFeasible files words t → Simulates files words d plan → is_answered t ≡ true → TellsFeasible d plan t text new_text
+tells_feasible files found words d plan t text new_text pieces new_pieces prints exact s answered =
+    let so = answered_so files words d plan s found in
     let settled = exact d plan s in
     let done = settled.done in
     let kind : t ≡ verdict_status (shown_by d plan) = prints.status answered ∙ ap (λ (a : Answer). a.status) so in
@@ -160,10 +166,10 @@ module _ (answer : Answer) (reply : Reply) (t : Status) (text new_text : Option 
   prints_answer = subst (λ (a : Answer). Prints a t text new_text pieces new_pieces) (sym replies) prints
 
 -- what is printed of it
-pub tells_of_reply : (files : Files) (words : List (List ℕ)) (d : Station) (plan : List (List Command)) (reply : Reply) (t : Status) (text new_text : Option (List ℕ)) (pieces new_pieces : Option (List (List ℕ)))
-    → answer_of files words ≡ reply_seen reply → DoneWhereFeasible files words reply.status → Prints (reply_seen reply) t text new_text pieces new_pieces → Simulates files words d plan → is_answered t ≡ true → TellsFeasible d plan t text new_text
-tells_of_reply files words d plan reply t text new_text pieces new_pieces replies done prints s answered =
-    tells_feasible files words d plan t text new_text pieces new_pieces (prints_answer (answer_of files words) reply t text new_text pieces new_pieces replies prints) (subst (DoneWhereFeasible files words) (sym (prints.status answered)) done) s answered
+pub tells_of_reply : (files : Files) (found : Outcome) (words : List (List ℕ)) (d : Station) (plan : List (List Command)) (reply : Reply) (t : Status) (text new_text : Option (List ℕ)) (pieces new_pieces : Option (List (List ℕ)))
+    → answer_of files found words ≡ reply_seen reply → DoneWhereFeasible files words reply.status → Prints (reply_seen reply) t text new_text pieces new_pieces → Simulates files words d plan → is_answered t ≡ true → TellsFeasible d plan t text new_text
+tells_of_reply files found words d plan reply t text new_text pieces new_pieces replies done prints s answered =
+    tells_feasible files found words d plan t text new_text pieces new_pieces (prints_answer (answer_of files found words) reply t text new_text pieces new_pieces replies prints) (subst (DoneWhereFeasible files words) (sym (prints.status answered)) done) s answered
 
 -- a request that names these files is decided by them
 pub decides_named : (files : Files) (asked : Asked) (design_name plan_name : List ℕ) (r : Result Reply Ending) → IfOk r (λ reply. Decides (files design_name) (files plan_name) reply.status) → asked ≡ simulate design_name plan_name → DecidesRequest files asked r
@@ -173,6 +179,10 @@ decides_named files asked design_name plan_name r decides is = subst (λ (a : As
 pub decides_routes : (files : Files) (asked : Asked) (design_name : List ℕ) (r : Result Reply Ending) → asked ≡ routes design_name → DecidesRequest files asked r
 decides_routes files asked design_name r is = subst (λ (a : Asked). DecidesRequest files a r) (sym is) tt
 
--- nor does a request for a check
+-- nor does a request for a search
+pub decides_verify : (files : Files) (asked : Asked) (n conflicts ticks : ℕ) (design_name proof_name : List ℕ) (r : Result Reply Ending) → asked ≡ verify n conflicts ticks design_name proof_name → DecidesRequest files asked r
+decides_verify files asked n conflicts ticks design_name proof_name r is = subst (λ (a : Asked). DecidesRequest files a r) (sym is) tt
+
+-- nor one for a check
 pub decides_check : (files : Files) (asked : Asked) (n : ℕ) (design_name proof_name : List ℕ) (r : Result Reply Ending) → asked ≡ check n design_name proof_name → DecidesRequest files asked r
 decides_check files asked n design_name proof_name r is = subst (λ (a : Asked). DecidesRequest files a r) (sym is) tt

@@ -1,12 +1,7 @@
 -- Checks in which the file shows something.
-use Rattle.std.proofs.Common.{◌≡◌, ℕ, ◌+◌, ◌-◌, ◌≤◌, ◌<◌, Bool, true, false, ◌&&◌, List, [], ◌∷◌, ◌++◌, map, length, nat_lt, if◌then◌else◌, Option, Some, None, Result, Ok, Err, refl, ap, sym, ◌∙◌, subst, arith, nat_le}
-use Rattle.std.specs.List.{list_all, concat}
+use Rattle.std.proofs.Common.{◌≡◌, ℕ, ◌≤◌, true, List, Option, Some, None, Ok, Err, refl, ap, sym, ◌∙◌, subst}
+use Rattle.std.specs.List.{concat}
 use Rattle.std.proofs.lemmas.List.{append-nil}
-use Rattle.design_table.specs.declared.fault.Code.{Code}
-use Rattle.design_table.specs.declared.fault.Code.TheVariants.{D12, D13}
-use Rattle.design_table.specs.declared.place.Place.{Place}
-use Rattle.design_table.specs.declared.place.Place.TheVariants.{Routes}
-use Rattle.design_table.specs.Reads.{at, unless_at}
 use Rattle.infra_reader.specs.Design.{design_of}
 use Rattle.log_checker.specs.declared.shown.Shown.{Shown}
 use Rattle.log_checker.specs.declared.shown.Shown.TheVariants.{Yes, No}
@@ -17,16 +12,15 @@ use Rattle.rail_base.specs.declared.station.Station.{Station}
 use Rattle.rail_outside.specs.Files.{Files}
 use Rattle.rail_outside.specs.Growth.{grown}
 use Rattle.rail_spec.specs.Feasible.{IsInfeasible}
-use Rattle.rail_spec.specs.Track.{routes_of, all_closings, edges_met_again}
+use Rattle.rail_spec.specs.Track.{routes_of}
 use Rattle.rail_words.specs.Requests.{Asked, check, IsInRange}
 use Rattle.rail_words.proofs.Ranges.{requests_in_range}
 use Rattle.rail_cli.specs.declared.status.Status.{Status}
-use Rattle.rail_cli.specs.declared.status.Status.TheVariants.{Done, DesignRefused, TooLong}
-use Rattle.rail_cli.specs.declared.input.InputFile.{InputFile}
+use Rattle.rail_cli.specs.declared.status.Status.TheVariants.{Done, DesignRefused}
 use Rattle.rail_cli.specs.declared.input.InputFile.TheVariants as file
-use Rattle.rail_cli.specs.Statuses.{is_answered}
-use Rattle.rail_cli.specs.Texts.{limit_of, too_long_line, design_refused_line, too_large_line, yes_line}
-use Rattle.rail_cli.specs.Answers.{Answer, one_line, within_limit, with_routes, design_or_answer, and_then, design_in, edge_place, unless_too_large, with_clauses, told, checked_against, with_proof, unless_refused, checked, answer_to, answer_of}
+use Rattle.rail_cli.specs.Statuses.{is_answered, is_verdict}
+use Rattle.rail_cli.specs.Texts.{too_large_line, yes_line}
+use Rattle.rail_cli.specs.Answers.{Answer, one_line, within_limit, with_routes, and_then, design_in, unless_too_large, with_clauses, told, checked_against, with_proof, unless_refused, checked, answer_to, answer_of}
 use Rattle.rail_cli.specs.Checks.{Checks, TellsInfeasible}
 use Rattle.rail_cli.specs.Prints.{Prints}
 use Rattle.rail_cli.specs.Replies.{reply_seen}
@@ -35,62 +29,9 @@ use Rattle.plan_encoding.specs.Bases.{IsRefused}
 use Rattle.plan_encoding.specs.declared.draft.BaseFault.{BaseFault}
 use Rattle.plan_encoding.specs.declared.draft.BaseFault.TheVariants.{TooLarge, Memory}
 use Rattle.rail_base.specs.declared.route.Route.{Route}
+use Rattle.verify_loop.specs.declared.outcome.Outcome.{Outcome}
+use Rattle.rail_cli.proofs.Passing.{passed, long_refuses, design_refuses, clauses_refuse, read-same}
 use Rattle.rail_cli.proofs.Refusing.{file_is}
-
--- ---- what refuses does not end with 0
-
--- what was read, and what comes of it
-record Passed {X : Type 0} (r : Result X Answer) (next : X → Answer) : Type 0 where
-  read : X
-  is : r ≡ Ok read
-  comes : unless_refused r next ≡ next read
-  done : (next read).status ≡ Done
-
-passed : {X : Type 0} (r : Result X Answer) (next : X → Answer) → ((a : Answer) → r ≡ Err a → a.status ≡ Done → ⊥) → (unless_refused r next).status ≡ Done → Passed r next
-passed (Ok x) next never done = record { read = x; is = refl; comes = refl; done = done }
-passed (Err a) next never done = absurd (never a refl done)
-
--- an answer of one line ends with its status
-refused : {X : Type 0} (r : Result X Answer) (s : Status) (line : List ℕ) (a : Answer) → r ≡ Err (one_line s line) → r ≡ Err a → (s ≡ Done → ⊥) → a.status ≡ Done → ⊥
-refused r s line a one other differs done = let same : one_line s line ≡ a = cc in differs (ap (λ (b : Answer). b.status) same ∙ done)
-
-long_refuses : (f : InputFile) (bytes : List ℕ) (a : Answer) → within_limit f bytes ≡ Err a → a.status ≡ Done → ⊥
-long_refuses f bytes a = go (nat_lt (limit_of f) (length bytes)) a
-  where
-    go : (long : Bool) (a : Answer) → (if long then Err (one_line TooLong (too_long_line f)) else Ok bytes) ≡ Err a → a.status ≡ Done → ⊥
-    go true a e done = refused _ TooLong (too_long_line f) a refl e (λ h. absurd (cc)) done
-    go false a e done = absurd (cc)
-
-design_refuses : (r : Result Station (Code × Place)) (a : Answer) → design_or_answer r ≡ Err a → a.status ≡ Done → ⊥
-design_refuses (Ok d) a e done = absurd (cc)
-design_refuses (Err x) a e done = refused (design_or_answer (Err x)) DesignRefused (design_refused_line x.0 x.1) a refl e (λ h. absurd (cc)) done
-
-clauses_refuse : (d : Station) (many : Option ℕ) (a : Answer) → unless_too_large d many ≡ Err a → a.status ≡ Done → ⊥
-clauses_refuse d None a e done = absurd (cc)
-clauses_refuse d (Some k) a e done = refused (unless_too_large d (Some k)) DesignRefused too_large_line a refl e (λ h. absurd (cc)) done
-
--- ---- the design that is read is the one that is spelled
-
-not_refused : (code : Code) (places : List Place) (next : Result Station (Code × Place)) (e : Station) → unless_at code places next ≡ Ok e → next ≡ Ok e
-not_refused code [] next e h = h
-not_refused code (p ∷ ps) next e h = absurd (cc)
-
-with_routes-same : (d e : Station) → with_routes d ≡ Ok e → d ≡ e
-with_routes-same d e h =
-    let few : Result Station (Code × Place) = unless_at D13 (at (nat_le 2001 (length (all_closings d))) Routes) (Ok d) in
-    let same = not_refused D13 (at (nat_le 2001 (length (all_closings d))) Routes) (Ok d) e (not_refused D12 (map edge_place (edges_met_again d)) few e h) in
-    cc
-
-admitted-same : (r : Result Station (Code × Place)) (e : Station) → design_or_answer r ≡ Ok e → r ≡ Ok e
-admitted-same (Ok d) e h = let same : d ≡ e = cc in ap Ok same
-admitted-same (Err x) e h = absurd (cc)
-
-read-same : (bytes : List ℕ) (d e : Station) → design_of bytes ≡ Ok d → design_in bytes ≡ Ok e → d ≡ e
-read-same bytes d e spells read = with_routes-same d e (admitted-same (with_routes d) e (ap (λ r. design_or_answer (and_then r with_routes)) (sym spells) ∙ read))
-
-clauses-same : (d : Station) (many : Option ℕ) (e : Station) → unless_too_large d many ≡ Ok e → d ≡ e
-clauses-same d None e h = cc
-clauses-same d (Some k) e h = absurd (cc)
 
 -- ---- what the file shows
 
@@ -120,22 +61,22 @@ judged_shows n d bytes some done =
 
 checked_shows : (n : ℕ) (design_bytes proof_bytes : List ℕ) (d : Station) → 1 ≤ n → design_of design_bytes ≡ Ok d → (checked n design_bytes proof_bytes).status ≡ Done → Shows n d (checked n design_bytes proof_bytes)
 checked_shows n design_bytes proof_bytes d some spells done =
-    let one = passed (within_limit file.Design design_bytes) (λ text. unless_refused (design_in text) (λ e. with_proof n e proof_bytes)) (long_refuses file.Design design_bytes) done in
-    let two = passed (design_in one.read) (λ e. with_proof n e proof_bytes) (design_refuses (and_then (design_of one.read) with_routes)) one.done in
-    let three = passed (with_clauses n two.read) (λ same. unless_refused (within_limit file.Proof proof_bytes) (checked_against two.read n)) (clauses_refuse two.read (past_limit 4000000 0 (base_clauses two.read (routes_of two.read) n))) two.done in
-    let four = passed (within_limit file.Proof proof_bytes) (checked_against two.read n) (long_refuses file.Proof proof_bytes) three.done in
+    let one = passed (within_limit file.Design design_bytes) (λ text. unless_refused (design_in text) (λ e. with_proof n e proof_bytes)) (long_refuses file.Design design_bytes) (ap is_verdict done) in
+    let two = passed (design_in one.read) (λ e. with_proof n e proof_bytes) (design_refuses (and_then (design_of one.read) with_routes)) one.verdict in
+    let three = passed (with_clauses n two.read) (λ same. unless_refused (within_limit file.Proof proof_bytes) (checked_against two.read n)) (clauses_refuse two.read (past_limit 4000000 0 (base_clauses two.read (routes_of two.read) n))) two.verdict in
+    let four = passed (within_limit file.Proof proof_bytes) (checked_against two.read n) (long_refuses file.Proof proof_bytes) three.verdict in
     let text : design_bytes ≡ one.read = file_is file.Design design_bytes one.read one.is in
     let same : d ≡ two.read = read-same one.read d two.read (ap design_of (sym text) ∙ spells) two.is in
-    let shows = judged_shows n two.read four.read some four.done in
     let all : checked n design_bytes proof_bytes ≡ checked_against two.read n four.read = one.comes ∙ (two.comes ∙ (three.comes ∙ four.comes)) in
+    let shows = judged_shows n two.read four.read some (ap (λ (a : Answer). a.status) (sym all) ∙ done) in
     record { steps = shows.steps; within = shows.within; answer = all ∙ shows.answer; none = subst (λ (e : Station). IsInfeasible e shows.steps) (sym same) shows.none }
 
 -- what is printed of it
-pub tells_infeasible : (files : Files) (words : List (List ℕ)) (n : ℕ) (d : Station) (t : Status) (text new_text : Option (List ℕ)) (pieces new_pieces : Option (List (List ℕ)))
-    → Prints (answer_of files words) t text new_text pieces new_pieces → Checks files words n d → t ≡ Done → TellsInfeasible n d text new_text
-tells_infeasible files words n d t text new_text pieces new_pieces prints c done =
+pub tells_infeasible : (files : Files) (found : Outcome) (words : List (List ℕ)) (n : ℕ) (d : Station) (t : Status) (text new_text : Option (List ℕ)) (pieces new_pieces : Option (List (List ℕ)))
+    → Prints (answer_of files found words) t text new_text pieces new_pieces → Checks files words n d → t ≡ Done → TellsInfeasible n d text new_text
+tells_infeasible files found words n d t text new_text pieces new_pieces prints c done =
     let answered : is_answered t ≡ true = rw done refl in
-    let so : answer_of files words ≡ checked n (files c.design_name) (files c.proof_name) = ap (answer_to files) c.asked in
+    let so : answer_of files found words ≡ checked n (files c.design_name) (files c.proof_name) = ap (answer_to files found) c.asked in
     let some : 1 ≤ n = (requests_in_range words (check n c.design_name c.proof_name) c.asked).0 in
     let status : (checked n (files c.design_name) (files c.proof_name)).status ≡ Done = ap (λ (a : Answer). a.status) (sym so) ∙ (sym (prints.status answered) ∙ done) in
     let shows = checked_shows n (files c.design_name) (files c.proof_name) d some c.spells_design status in

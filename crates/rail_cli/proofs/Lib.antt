@@ -4,4 +4,7 @@ pub mod Showing
 pub mod Deciding
 pub mod Silence
 pub mod Numbered
+pub mod Passing
 pub mod Judging
+pub mod Leaving
+pub mod Finding

@@ -56,8 +56,8 @@ done_told d routes plan None None = ((λ e. refl), (λ e. refl))
 told_by_horizon : (d : Station) (plan : List (List Command)) → IsAdmitted d → shown_by d plan ≡ decided d (routes_of d) plan (path_violation d (routes_of d) plan) (violation_at d (routes_of d) plan (cost d (routes_of d) plan))
 told_by_horizon d plan admitted = rw (le-ltb (horizon d) (cost d (routes_of d) plan) (verdict d (routes_of d) plan admitted).last) refl
 
-pub done_exactly : (d : Station) (plan : List (List Command)) → IsAdmitted d → IsRunnable d (routes_of d) 64 plan → (verdict_status (shown_by d plan) ≡ statuses.Done) ↔ IsFeasible d 64 plan
-done_exactly d plan admitted runnable =
+pub done_exactly : (d : Station) (n : ℕ) (plan : List (List Command)) → IsAdmitted d → IsRunnable d (routes_of d) n plan → (verdict_status (shown_by d plan) ≡ statuses.Done) ↔ IsFeasible d n plan
+done_exactly d n plan admitted runnable =
     let exact : (meets d (routes_of d) plan ≡ true) ↔ (failure d (routes_of d) plan ≡ None) = met_exactly d (routes_of d) plan admitted in
     let told = done_told d (routes_of d) plan (path_violation d (routes_of d) plan) (violation_at d (routes_of d) plan (cost d (routes_of d) plan)) in
     let same = ap verdict_status (told_by_horizon d plan admitted) in

@@ -18,20 +18,22 @@ use Rattle.rail_base.specs.declared.history.Verdict.{Verdict}
 use Rattle.rail_base.specs.declared.history.Verdict.TheVariants as verdict
 use Rattle.rail_base.specs.Stations.{horizon}
 use Rattle.rail_outside.specs.Files.{Files}
-use Rattle.rail_outside.specs.Asks.{Ask, fetched}
+use Rattle.rail_outside.specs.Asks.{Ask, fetched, stored}
 use Rattle.rail_plan.specs.declared.fault.PlanCode.{PlanCode}
 use Rattle.rail_plan.specs.declared.place.PlanPlace.{PlanPlace}
 use Rattle.rail_plan.specs.Reading.{plan_of}
 use Rattle.rail_spec.specs.Track.{routes_of, all_closings, edges_met_again}
 use Rattle.rail_spec.specs.Histories.{verdict_of}
-use Rattle.rail_words.specs.Requests.{Asked, simulate, routes, check, request_of}
+use Rattle.rail_words.specs.Requests.{Asked, simulate, routes, verify, check, request_of}
 use Rattle.timetable.specs.Timetable.{timetable_of}
+use Rattle.verify_loop.specs.declared.outcome.Outcome.{Outcome}
+use Rattle.verify_loop.specs.declared.outcome.Outcome.TheVariants as outcome
 use Rattle.rail_cli.specs.declared.status.Status.{Status}
 use Rattle.rail_cli.specs.declared.status.Status.TheVariants as status
 use Rattle.rail_cli.specs.declared.input.InputFile.{InputFile}
 use Rattle.rail_cli.specs.declared.input.InputFile.TheVariants as file
 use Rattle.rail_cli.specs.Listings.{routes_text}
-use Rattle.rail_cli.specs.Texts.{usage_line, limit_of, too_long_line, design_refused_line, too_large_line, yes_line, no_line, plan_refused_line}
+use Rattle.rail_cli.specs.Texts.{usage_line, limit_of, too_long_line, design_refused_line, too_large_line, yes_line, no_line, plan_refused_line, plan_steps_line, plan_line, infeasible_line, conflicts_spent_line, ticks_spent_line, log_spent_line, unrefuted_line}
 
 -- what the program answers: the status to end with, and the lines to print
 pub record Answer : Type 0 where
@@ -155,26 +157,54 @@ checked n design_bytes proof_bytes =
     unless_refused (design_in design_text) (λ d.
     with_proof n d proof_bytes))
 
--- the answer to a request, which may be none
-abbrev pub answer_to : Files → Option Asked → Answer
-answer_to files None = one_line status.Usage usage_line
-answer_to files (Some (simulate design plan)) = simulated (files design) (files plan)
-answer_to files (Some (routes design)) = routes_listed (files design)
-answer_to files (Some (check n design proof)) = checked n (files design) (files proof)
+-- a plan that was found: its number of steps, the plan, and the timetable of its run
+abbrev pub plan_told : Station → List (List Command) → Answer
+plan_told d plan = record { status = status.Done; lines = plan_steps_line (length plan) ∷ plan_line d plan ∷ timetable_of d (shown_by d plan) }
+
+-- what a search for a plan of n steps ended with, within so many derived clauses and ticks
+abbrev pub told_outcome : Station → ℕ → ℕ → ℕ → Outcome → Answer
+told_outcome d n conflicts ticks (outcome.Plan plan verdict) = plan_told d plan.steps
+told_outcome d n conflicts ticks (outcome.Infeasible log) = one_line status.No (infeasible_line n)
+told_outcome d n conflicts ticks (outcome.ConflictsSpent log clause hints) = one_line status.ConflictsSpent (conflicts_spent_line conflicts)
+told_outcome d n conflicts ticks (outcome.TicksSpent sum at_hand) = one_line status.TicksSpent (ticks_spent_line sum ticks)
+told_outcome d n conflicts ticks (outcome.LogSpent log bytes next) = one_line status.LogSpent (log_spent_line bytes next)
+told_outcome d n conflicts ticks (outcome.Unrefuted plan tick) = one_line status.Unrefuted (unrefuted_line tick)
+told_outcome d n conflicts ticks (outcome.TooLarge literals) = one_line status.DesignRefused too_large_line
+told_outcome d n conflicts ticks outcome.Memory = record { status = status.Memory; lines = [] }
+
+-- the answer to a search in a design, by what it ended with
+abbrev pub searched_in : Station → ℕ → ℕ → ℕ → Outcome → Answer
+searched_in d n conflicts ticks found = unless_refused (with_clauses n d) (λ same. told_outcome d n conflicts ticks found)
+
+-- the answer to a search, for the bytes of the design, by what it ended with
+abbrev pub searched : ℕ → ℕ → ℕ → List ℕ → Outcome → Answer
+searched n conflicts ticks design_bytes found =
+    unless_refused (within_limit file.Design design_bytes) (λ design_text.
+    unless_refused (design_in design_text) (λ d.
+    searched_in d n conflicts ticks found))
+
+-- the answer to a request, which may be none; of a search, by what it ended with
+abbrev pub answer_to : Files → Outcome → Option Asked → Answer
+answer_to files found None = one_line status.Usage usage_line
+answer_to files found (Some (simulate design plan)) = simulated (files design) (files plan)
+answer_to files found (Some (routes design)) = routes_listed (files design)
+answer_to files found (Some (verify n conflicts ticks design proof)) = searched n conflicts ticks (files design) found
+answer_to files found (Some (check n design proof)) = checked n (files design) (files proof)
 
 -- the answer to the words of a command line, the first of which is the program's name
-abbrev pub answer_of : Files → List (List ℕ) → Answer
-answer_of files words = answer_to files (request_of words)
+abbrev pub answer_of : Files → Outcome → List (List ℕ) → Answer
+answer_of files found words = answer_to files found (request_of words)
 
 -- ---- what is asked of the shelf
 
--- the fetches for a request, in order
+-- the calls for a request, in order
 abbrev pub asks_to : Option Asked → List Ask
 asks_to None = []
 asks_to (Some (simulate design plan)) = fetched design ∷ fetched plan ∷ []
 asks_to (Some (routes design)) = fetched design ∷ []
+asks_to (Some (verify n conflicts ticks design proof)) = fetched design ∷ stored proof ∷ []
 asks_to (Some (check n design proof)) = fetched design ∷ fetched proof ∷ []
 
--- the fetches for the words of a command line
+-- the calls for the words of a command line
 abbrev pub asks_of : List (List ℕ) → List Ask
 asks_of words = asks_to (request_of words)

@@ -5,5 +5,6 @@ pub mod Listings
 pub mod Answers
 pub mod Simulations
 pub mod Checks
+pub mod Searches
 pub mod Replies
 pub mod Prints

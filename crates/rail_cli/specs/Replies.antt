@@ -1,21 +1,26 @@
 -- Replies as the program makes them, and what its steps give.
-use Rattle.std.specs.Prelude.{◌≡◌, ◌↔◌, ℕ, true, List, Result, Ok, Err, IfOk}
+use Rattle.std.specs.Prelude.{◌≡◌, ◌↔◌, ◌⊎◌, ℕ, true, List, Option, Some, Result, Ok, Err, IfOk, is_ok}
 use Rattle.std.specs.declared.alloc.AllocError.{AllocError}
+use Rattle.rail_base.specs.declared.design.Design.{Design}
 use Rattle.rail_base.specs.declared.station.Station.{Station}
 use Rattle.rail_base.specs.declared.plan.Command.{Command}
 use Rattle.rail_outside.specs.Lines.{lines_of}
 use Rattle.rail_spec.specs.Feasible.{IsFeasible}
 use Rattle.rail_spec.specs.Safety.{Clash}
 use Rattle.rail_spec.specs.Track.{routes_of}
-use Rattle.rail_outside.specs.Files.{Files}
-use Rattle.rail_words.specs.Requests.{Asked, simulate, routes, check}
+use Rattle.rail_outside.specs.Files.{Files, updated}
+use Rattle.rail_words.specs.Requests.{Asked, simulate, routes, verify, check}
+use Rattle.verify_loop.specs.declared.outcome.Outcome.{Outcome}
+use Rattle.verify_loop.specs.declared.outcome.Outcome.TheVariants as outcome
+use Rattle.verify_loop.specs.Outcomes.{Says, Fits}
 use Rattle.rail_cli.specs.declared.status.Status.{Status}
 use Rattle.rail_cli.specs.declared.status.Status.TheVariants as statuses
 use Rattle.rail_cli.specs.declared.reply.Reply.{Reply}
 use Rattle.rail_cli.specs.declared.ending.Ending.{Ending}
 use Rattle.rail_cli.specs.declared.ending.Ending.TheVariants as ending
 use Rattle.rail_cli.specs.Statuses.{is_refusal}
-use Rattle.rail_cli.specs.Answers.{Answer, design_in, plan_in}
+use Rattle.rail_cli.specs.Answers.{Answer, design_in, plan_in, answer_to}
+use Rattle.rail_cli.specs.Searches.{budgets_of}
 
 -- a reply, by its status and the bytes of its lines
 abbrev pub reply_seen : Reply → Answer
@@ -47,6 +52,13 @@ OnlyRefuses (Err (ending.Told reply)) = is_refusal reply.status ≡ true
 OnlyRefuses (Err ending.Memory) = Unit {0}
 OnlyRefuses (Err ending.ShelfFault) = ⊥
 
+-- nothing is refused: memory was wanting or the shelf failed
+abbrev pub OnlyFails : {X : Type 0} → Result X Ending → Type 0
+OnlyFails (Ok x) = Unit {0}
+OnlyFails (Err (ending.Told reply)) = ⊥
+OnlyFails (Err ending.Memory) = Unit {0}
+OnlyFails (Err ending.ShelfFault) = Unit {0}
+
 -- this holds of the reply, where one is made
 abbrev pub OnReply : Result Reply Ending → (Reply → Type 0) → Type 0
 OnReply (Ok reply) fact = fact reply
@@ -57,6 +69,15 @@ OnReply (Err ending.ShelfFault) fact = Unit {0}
 -- the reply is the answer; want of memory and a fault of the shelf are free
 abbrev pub Replies : Result Reply Ending → Answer → Type 0
 Replies result answer = OnReply result (λ reply. answer ≡ reply_seen reply)
+
+-- this holds of the status with which the work ends
+abbrev pub OnEnd : Result Reply Ending → (Status → Type 0) → Type 0
+OnEnd (Ok reply) fact = fact reply.status
+OnEnd (Err (ending.Told reply)) fact = fact reply.status
+OnEnd (Err ending.Memory) fact = fact statuses.Memory
+OnEnd (Err ending.ShelfFault) fact = fact statuses.ShelfFault
+
+-- ---- simulations
 
 -- the bytes spell a plan over the design in whose run no two trains ever clash, and the status is 0 exactly where it is feasible
 pub record DecidesPlan (d : Station) (bytes : List ℕ) (s : Status) : Type 0 where
@@ -75,4 +96,35 @@ pub record Decides (design_bytes plan_bytes : List ℕ) (s : Status) : Type 0 wh
 abbrev pub DecidesRequest : Files → Asked → Result Reply Ending → Type 0
 DecidesRequest files (simulate design plan) result = IfOk result (λ reply. Decides (files design) (files plan) reply.status)
 DecidesRequest files (routes design) result = Unit {0}
+DecidesRequest files (verify n conflicts ticks design proof) result = Unit {0}
 DecidesRequest files (check n design proof) result = Unit {0}
+
+-- ---- searches
+
+-- the file spells an admitted design, of which the outcome says what it is to say
+pub record EndsIn (files : Files) (n conflicts ticks : ℕ) (design_name : List ℕ) (found : Outcome) : Type 0 where
+  pub design : Design
+  pub spelled : design_in (files design_name) ≡ Ok design.station
+  pub says : Says design.station n (budgets_of conflicts ticks) found
+  pub fits : Fits design.station n found
+
+-- where a search is asked for, it ends so, or for want of memory
+abbrev pub EndsWith : Files → Option Asked → Outcome → Type 0
+EndsWith files (Some (verify n conflicts ticks design proof)) found = (found ≡ outcome.Memory) ⊎ EndsIn files n conflicts ticks design found
+EndsWith files _ found = Unit {0}
+
+-- the reply is the answer to what is asked, for an outcome with which a search may end
+abbrev pub RepliesSo : Result Reply Ending → Files → Option Asked → Type 0
+RepliesSo result files asked = (found : Outcome) × EndsWith files asked found × Replies result (answer_to files found asked)
+
+-- the bytes are stored under the name; for want of memory nothing is, and after a fault of the shelf it holds some bytes
+abbrev pub StoresFile : {X : Type 0} → Result X Ending → Files → List ℕ → List ℕ → Option Files → Type 0
+StoresFile (Ok x) files name bytes held = held ≡ Some (updated files name bytes)
+StoresFile (Err ending.ShelfFault) files name bytes held = (some : List ℕ) × (held ≡ Some (updated files name some))
+StoresFile (Err ending.Memory) files name bytes held = held ≡ Some files
+StoresFile (Err (ending.Told reply)) files name bytes held = ⊥
+
+-- a log that shows that there is no plan is so stored; where there is none, nothing is
+abbrev pub KeepsLog : {X : Type 0} → Result X Ending → Files → List ℕ → Outcome → Option Files → Type 0
+KeepsLog result files name (outcome.Infeasible log) held = StoresFile result files name log.items held
+KeepsLog result files name _ held = (is_ok result ≡ true) × (held ≡ Some files)

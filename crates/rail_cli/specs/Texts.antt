@@ -8,6 +8,8 @@ use Rattle.design_table.specs.declared.place.Place.TheVariants as place
 use Rattle.design_table.specs.Keys.{key_text, kind_key}
 use Rattle.log_checker.specs.declared.shown.Reason.{Reason}
 use Rattle.log_checker.specs.Words.{words_of}
+use Rattle.plan_text.specs.Text.{plan_text}
+use Rattle.rail_base.specs.declared.plan.Command.{Command}
 use Rattle.rail_base.specs.declared.station.Station.{Station}
 use Rattle.rail_base.specs.declared.station.SectionNo.{SectionNo}
 use Rattle.rail_base.specs.declared.station.TrainNo.{TrainNo}
@@ -93,6 +95,36 @@ yes_line k = codes "yes steps " ++ decimal k ++ codes "\n"
 -- `no line <number> <reason>`
 abbrev pub no_line : ℕ → Reason → List ℕ
 no_line line reason = codes "no line " ++ decimal line ++ codes " " ++ words_of reason ++ codes "\n"
+
+-- ---- a search
+
+-- `plan steps <number of steps>`
+abbrev pub plan_steps_line : ℕ → List ℕ
+plan_steps_line steps = codes "plan steps " ++ decimal steps ++ codes "\n"
+
+-- the plan, as one line
+abbrev pub plan_line : Station → List (List Command) → List ℕ
+plan_line d plan = plan_text d plan ++ codes "\n"
+
+-- `infeasible steps <n>`
+abbrev pub infeasible_line : ℕ → List ℕ
+infeasible_line n = codes "infeasible steps " ++ decimal n ++ codes "\n"
+
+-- `conflicts spent <number>`
+abbrev pub conflicts_spent_line : ℕ → List ℕ
+conflicts_spent_line conflicts = codes "conflicts spent " ++ decimal conflicts ++ codes "\n"
+
+-- `ticks spent <sum> of <ticks>`
+abbrev pub ticks_spent_line : ℕ → ℕ → List ℕ
+ticks_spent_line sum ticks = codes "ticks spent " ++ decimal sum ++ codes " of " ++ decimal ticks ++ codes "\n"
+
+-- `log spent <bytes> next <bytes>`
+abbrev pub log_spent_line : ℕ → ℕ → List ℕ
+log_spent_line bytes next = codes "log spent " ++ decimal bytes ++ codes " next " ++ decimal next ++ codes "\n"
+
+-- `unrefuted tick <tick>`
+abbrev pub unrefuted_line : ℕ → List ℕ
+unrefuted_line tick = codes "unrefuted tick " ++ decimal tick ++ codes "\n"
 
 -- ---- a refused plan
 

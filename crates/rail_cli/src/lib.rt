@@ -11,6 +11,7 @@ mod reading;
 mod refusals;
 mod reply;
 mod run;
+mod searching;
 mod simulation;
 mod status;
 mod sure;

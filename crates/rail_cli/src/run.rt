@@ -7,39 +7,69 @@ ghost use Rattle.rail_outside.specs.Files.{Files};
 ghost use Rattle.rail_outside.specs.Growth.{Rose, GrowsByFront};
 ghost use Rattle.rail_words.specs.Requests.{IsInRange, request_of};
 ghost use Rattle.rail_words.specs.Words.{texts_of, asked_of};
-ghost use Rattle.rail_cli.specs.Statuses.{is_answered, is_verdict};
-ghost use Rattle.rail_cli.specs.Answers.{answer_to, answer_of, asks_to, asks_of};
+ghost use Rattle.verify_loop.specs.declared.outcome.Outcome.{Outcome};
+ghost use Rattle.rail_cli.specs.Statuses.{is_answered};
+ghost use Rattle.rail_cli.specs.Answers.{answer_of, asks_to, asks_of};
 ghost use Rattle.rail_cli.specs.Checks.{Checks, TellsInfeasible};
 ghost use Rattle.rail_cli.specs.Prints.{Prints};
-ghost use Rattle.rail_cli.specs.Replies.{reply_seen, OnReply, RefusesFile, Replies, DecidesRequest};
+ghost use Rattle.rail_cli.specs.Replies.{reply_seen, OnEnd, OnReply, RefusesFile, RepliesSo, DecidesRequest};
+ghost use Rattle.rail_cli.specs.Searches.{budgets_of, Finds, Leaves, Searches, TellsNone, TellsPlan};
 ghost use Rattle.rail_cli.specs.Simulations.{Simulates, TellsFeasible, DoneWhereFeasible};
 
 use crate::checking::checked;
 use crate::ending::Ending;
+use crate::input::InputFile;
 use crate::listing::routes_listed;
 use crate::refusals::usage;
 use crate::reply::Reply;
+use crate::searching::searched;
 use crate::simulation::simulated;
 use crate::status::Status;
 use rail_outside::{Shelf, Sink, SinkFault, put_lines};
 use rail_words::{Request, WordsFault, read_words};
 use std::alloc::Global;
+use verify_loop::Budgets;
+
+/// What a search may spend: so many derived clauses and ticks, and a log as long as a proof may be.
+fn budgets(conflicts: u64, ticks: u64) -> Budgets
+    ensures { result ≡ budgets_of conflicts ticks }
+{
+    Budgets {
+        conflicts,
+        ticks,
+        log_bytes: InputFile::Proof.limit(),
+    }
+}
 
 /// The reply to a request.
 fn requested<S: Shelf>(alloc: Global, shelf: &mut S, request: Request<'_>) -> Result<Reply, Ending>
     requires range { IsInRange (asked_of request) }
-    ensures replies { (files : Files) → S.held shelf.old ≡ Some files → Replies result (answer_to files (Some (asked_of request.entry))) }
-    ensures verdict { IfOk result (λ reply. is_verdict reply.status ≡ true) }
+    ensures replies { (files : Files) → S.held shelf.old ≡ Some files → RepliesSo result files (Some (asked_of request.entry)) }
+    ensures no_usage { IfOk result (λ reply. reply.status ≢ Status.Usage) }
     ensures refuses { RefusesFile result }
     ensures decides { (files : Files) → S.held shelf.old ≡ Some files → DecidesRequest files (asked_of request.entry) result }
     ensures cause { result ≡ Err Ending.ShelfFault → Rose (S.fault_count shelf.old) (S.fault_count shelf.new) }
     ensures never_falls { S.fault_count shelf.old ≤ S.fault_count shelf.new }
-    ensures files_stay { S.held shelf.new ≡ S.held shelf.old }
+    ensures held { OnEnd result (λ s. Leaves (Some (asked_of request.entry)) s (S.held shelf.old) (S.held shelf.new)) }
     ensures asks { GrowsByFront (S.asked shelf.old) (S.asked shelf.new) (asks_to (Some (asked_of request.entry))) }
 {
     match request {
         Request::Simulate { design, plan } => simulated(alloc, shelf, design, plan),
         Request::Routes { design } => routes_listed(alloc, shelf, design),
+        Request::Verify {
+            steps,
+            conflicts,
+            ticks,
+            design,
+            proof,
+        } => searched(
+            alloc,
+            shelf,
+            steps,
+            budgets(conflicts, ticks),
+            design,
+            proof,
+        ),
         Request::Check {
             steps,
             design,
@@ -50,12 +80,12 @@ fn requested<S: Shelf>(alloc: Global, shelf: &mut S, request: Request<'_>) -> Re
 
 /// The reply to the words of a command line.
 fn reply<S: Shelf>(alloc: Global, words: &[String], shelf: &mut S) -> Result<Reply, Ending>
-    ensures replies { (files : Files) → S.held shelf.old ≡ Some files → Replies result (answer_of files (texts_of words.now)) }
+    ensures replies { (files : Files) → S.held shelf.old ≡ Some files → RepliesSo result files (request_of (texts_of words.now)) }
     ensures done { (files : Files) → S.held shelf.old ≡ Some files → OnReply result (λ reply. DoneWhereFeasible files (texts_of words.now) reply.status) }
     ensures usage { OnReply result (λ reply. (reply.status ≡ Status.Usage) ↔ (request_of (texts_of words.now) ≡ None)) }
     ensures cause { result ≡ Err Ending.ShelfFault → Rose (S.fault_count shelf.old) (S.fault_count shelf.new) }
     ensures never_falls { S.fault_count shelf.old ≤ S.fault_count shelf.new }
-    ensures files_stay { S.held shelf.new ≡ S.held shelf.old }
+    ensures held { OnEnd result (λ s. Leaves (request_of (texts_of words.now)) s (S.held shelf.old) (S.held shelf.new)) }
     ensures asks { GrowsByFront (S.asked shelf.old) (S.asked shelf.new) (asks_of (texts_of words.now)) }
 {
     match read_words(alloc, words) {
@@ -90,9 +120,13 @@ pub fn run_words<S: Shelf, O: Sink>(
     shelf: &mut S,
     out: &mut O,
 ) -> Status
-    ensures answer { (files : Files) → S.held shelf.old ≡ Some files → Prints (answer_of files (texts_of words.now)) result (O.written out.old) (O.written out.new) (O.puts out.old) (O.puts out.new) }
+    ensures answer { (files : Files) → S.held shelf.old ≡ Some files → (found : Outcome) × Finds files (request_of (texts_of words.now)) found × Prints (answer_of files found (texts_of words.now)) result (O.written out.old) (O.written out.new) (O.puts out.old) (O.puts out.new) }
     ensures met { (files : Files) → S.held shelf.old ≡ Some files → (d : Station) (plan : List (List Command)) → Simulates files (texts_of words.now) d plan → is_answered result ≡ true → TellsFeasible d plan result (O.written out.old) (O.written out.new) }
     ensures infeasible { (files : Files) → S.held shelf.old ≡ Some files → (n : ℕ) (d : Station) → Checks files (texts_of words.now) n d → result ≡ Status.Done → TellsInfeasible n d (O.written out.old) (O.written out.new) }
+
+    // A search prints a plan only where it is feasible, and that there is none only where there is none.
+    ensures planned { (files : Files) → S.held shelf.old ≡ Some files → (n : ℕ) (d : Station) → Searches files (texts_of words.now) n d → result ≡ Status.Done → TellsPlan n d (O.written out.old) (O.written out.new) }
+    ensures proven { (files : Files) → S.held shelf.old ≡ Some files → (n : ℕ) (d : Station) → (s : Searches files (texts_of words.now) n d) → result ≡ Status.No → TellsNone files s.design_name s.proof_name n d (O.written out.old) (O.written out.new) (S.held shelf.new) }
     ensures usage { is_answered result ≡ true → (result ≡ Status.Usage) ↔ (request_of (texts_of words.now) ≡ None) }
 
     // A fault comes only where its side has counted one.
@@ -101,8 +135,8 @@ pub fn run_words<S: Shelf, O: Sink>(
     ensures shelf_count { S.fault_count shelf.old ≤ S.fault_count shelf.new }
     ensures sink_count { O.fault_count out.old ≤ O.fault_count out.new }
 
-    // Nothing is stored, and nothing is asked for but the named files, in their order.
-    ensures held { S.held shelf.new ≡ S.held shelf.old }
+    // Nothing is stored but what a search proves, and nothing is asked for but the named files, in their order.
+    ensures held { Leaves (request_of (texts_of words.now)) result (S.held shelf.old) (S.held shelf.new) }
     ensures asked { GrowsByFront (S.asked shelf.old) (S.asked shelf.new) (asks_of (texts_of words.now)) }
 {
     match reply(alloc, words, shelf) {

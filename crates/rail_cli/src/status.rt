@@ -6,9 +6,10 @@ ghost use Rattle.rail_cli.specs.Statuses.{code_of};
 /// How a run of the program ends.
 #[derive(Clone, Copy, Debug, PartialEq, Eq)]
 pub enum Status {
-    /// The answer is yes: the plan meets the design.
+    /// The answer is yes: the plan meets the design, a plan is found, the file shows that there is none, or the routes
+    /// are listed.
     Done,
-    /// The answer is no: the plan fails.
+    /// The answer is no: the plan fails, there is no plan, or the file does not show that.
     No,
     /// The words of the command line ask for nothing.
     Usage,
@@ -16,14 +17,22 @@ pub enum Status {
     DesignRefused,
     /// The plan is refused.
     PlanRefused,
+    /// A search derived as many clauses as were allowed.
+    ConflictsSpent,
     /// Memory ran out.
     Memory,
-    /// A file could not be fetched.
+    /// A file could not be fetched or stored.
     ShelfFault,
     /// The text could not be printed.
     SinkFault,
+    /// A search found a plan that takes more ticks than are left.
+    TicksSpent,
+    /// A search found no room for the next line of its log.
+    LogSpent,
     /// A file is longer than its limit.
     TooLong,
+    /// A search found a plan that fails on time, and such plans cannot be excluded yet.
+    Unrefuted,
 }
 
 impl Status {
@@ -37,10 +46,14 @@ impl Status {
             Status::Usage => 2,
             Status::DesignRefused => 3,
             Status::PlanRefused => 4,
+            Status::ConflictsSpent => 5,
             Status::Memory => 6,
             Status::ShelfFault => 7,
             Status::SinkFault => 8,
+            Status::TicksSpent => 9,
+            Status::LogSpent => 10,
             Status::TooLong => 11,
+            Status::Unrefuted => 12,
         }
     }
 }

@@ -1,4 +1,4 @@
-//! Simulations from their words to their text, over a shelf and a sink in memory.
+//! Runs from their words to their text, over a shelf and a sink in memory.
 
 use crate::{Status, run_words, run_words_surely};
 use rail_outside::{Call, MemoryShelf, MemorySink, SureShelf, SureSink};
@@ -513,6 +513,144 @@ fn proofs_are_judged(rt: HostRuntime) -> Result<(), AllocError> {
         assert_eq!(rt; code, status, "{proof}");
         assert!(rt; out.bytes() == text.as_bytes(), "{text}");
     }
+    Ok(())
+}
+
+/// A search, and what it has to answer.
+#[derive(Clone, Copy)]
+struct Search<'a> {
+    design: &'a String,
+    numbers: &'a str,
+    status: u8,
+    text: &'a str,
+}
+
+#[test]
+fn searches_that_find_no_plan_say_why(rt: HostRuntime) -> Result<(), AllocError> {
+    let alloc = rt.alloc();
+    let halt_within = design(alloc, 600_000, TRACK, ONE_TRAIN, WITHIN)?;
+    let follow = design(alloc, 600_000, TRACK, TWO_TRAINS, "")?;
+    let ring = design(alloc, 600_000, RING, "", "")?;
+    let searches = [
+        Search {
+            design: &follow,
+            numbers: "--steps 3 --conflicts 1 --ticks 1000",
+            status: 5,
+            text: "conflicts spent 1\n",
+        },
+        Search {
+            design: &halt_within,
+            numbers: "--steps 2 --conflicts 1000 --ticks 8",
+            status: 9,
+            text: "ticks spent 0 of 8\n",
+        },
+        Search {
+            design: &halt_within,
+            numbers: "--steps 2 --conflicts 1000 --ticks 9",
+            status: 12,
+            text: "unrefuted tick 9\n",
+        },
+        Search {
+            design: &ring,
+            numbers: "--steps 2 --conflicts 1000 --ticks 9",
+            status: 3,
+            text: "design refused D12 edge[2]\n",
+        },
+    ];
+    for search in searches.iter() {
+        let mut shelf = shelf_of(alloc, search.design.as_bytes(), "")?;
+        let mut out = MemorySink::new(alloc);
+        let line = format!(in alloc; "rcv verify {} design.toml found.proof", search.numbers)?;
+        let status = run(alloc, line.as_str(), &mut shelf, &mut out)?;
+        assert_eq!(rt; status, search.status, "{}", search.text);
+        assert_eq!(rt; out.bytes(), search.text.as_bytes());
+        assert!(rt; shelf.file("found.proof").is_none());
+        assert_eq!(rt; shelf.calls().len(), 1);
+    }
+    Ok(())
+}
+
+#[test]
+fn a_proof_is_stored_and_passes(rt: HostRuntime) -> Result<(), AllocError> {
+    let alloc = rt.alloc();
+    let follow = design(alloc, 600_000, TRACK, TWO_TRAINS, "")?;
+    let mut shelf = shelf_of(alloc, follow.as_bytes(), "")?;
+    let mut out = MemorySink::new(alloc);
+    let status = run(
+        alloc,
+        "rcv verify --steps 3 --conflicts 1000 --ticks 1000 design.toml found.proof",
+        &mut shelf,
+        &mut out,
+    )?;
+    assert_eq!(rt; status, 1);
+    assert_eq!(rt; out.bytes(), b"infeasible steps 3\n".as_slice());
+    let stored =
+        matches!(shelf.calls().last(), Some(Call::Store(name)) if name.as_str() == "found.proof");
+    assert!(rt; stored);
+    let mut out = MemorySink::new(alloc);
+    let status = run(
+        alloc,
+        "rcv check --steps 3 design.toml found.proof",
+        &mut shelf,
+        &mut out,
+    )?;
+    assert_eq!(rt; status, 0);
+    assert_eq!(rt; out.bytes(), b"yes steps 3\n".as_slice());
+    Ok(())
+}
+
+#[test]
+fn a_proof_that_is_not_stored_is_not_told(rt: HostRuntime) -> Result<(), AllocError> {
+    let alloc = rt.alloc();
+    let follow = design(alloc, 600_000, TRACK, TWO_TRAINS, "")?;
+    let mut shelf = shelf_of(alloc, follow.as_bytes(), "")?;
+    shelf.fail_at(2)?;
+    let mut out = MemorySink::new(alloc);
+    let status = run(
+        alloc,
+        "rcv verify --steps 3 --conflicts 1000 --ticks 1000 design.toml found.proof",
+        &mut shelf,
+        &mut out,
+    )?;
+    assert_eq!(rt; status, 7);
+    assert!(rt; out.pieces().is_empty());
+    assert!(rt; shelf.file("found.proof").is_none());
+    Ok(())
+}
+
+#[test]
+fn plans_are_found(rt: HostRuntime) -> Result<(), AllocError> {
+    let alloc = rt.alloc();
+    let within =
+        r#"within = [ {from_train="A", from_visit=1, to_train="A", to_visit=2, max_ms=9000} ]
+"#;
+    let halt_within = design(alloc, 600_000, TRACK, ONE_TRAIN, within)?;
+    let mut shelf = shelf_of(alloc, halt_within.as_bytes(), "")?;
+    let mut out = MemorySink::new(alloc);
+    let status = run(
+        alloc,
+        "rcv verify --steps 2 --conflicts 1000 --ticks 10 design.toml found.proof",
+        &mut shelf,
+        &mut out,
+    )?;
+    let want = format!(in alloc; "plan steps 2\n{ONE_WAY}\n{ONE_WAY_TEXT}")?;
+    assert_eq!(rt; status, 0);
+    assert_eq!(rt; out.bytes(), want.as_bytes());
+    assert!(rt; shelf.file("found.proof").is_none());
+    let follow = design(alloc, 600_000, TRACK, TWO_TRAINS, "")?;
+    let mut shelf = shelf_of(alloc, follow.as_bytes(), "")?;
+    let mut out = MemorySink::new(alloc);
+    let status = run(
+        alloc,
+        "rcv verify --steps 4 --conflicts 1000 --ticks 1000 design.toml found.proof",
+        &mut shelf,
+        &mut out,
+    )?;
+    assert_eq!(rt; status, 0);
+    assert!(rt; out.bytes().starts_with(b"plan steps 4\n"));
+    let met =
+        matches!(out.pieces().get(2), Some(line) if line.as_slice() == b"met tick 18\n".as_slice());
+    assert!(rt; met);
     Ok(())
 }
 

@@ -1,13 +1,15 @@
 //! The lines that are printed where there is no timetable, each with its LF. An error is want of memory.
 
-ghost use Rattle.std.specs.Prelude.{◌≡◌, ◌++◌, IfOk, OnOk};
-ghost use Rattle.rail_cli.specs.Texts.{usage_line, file_text, limit_of, too_long_line, code_text, entry_text, place_text, design_refused_line, too_large_line, yes_line, no_line, plan_code_text, step_text, train_text, plan_place_text, plan_refused_line};
+ghost use Rattle.std.specs.Prelude.{◌≡◌, ◌++◌, length, codes, decimal, IfOk, OnOk};
+ghost use Rattle.rail_cli.specs.Texts.{usage_line, file_text, limit_of, too_long_line, code_text, entry_text, place_text, design_refused_line, too_large_line, yes_line, no_line, plan_steps_line, plan_line, infeasible_line, conflicts_spent_line, ticks_spent_line, log_spent_line, unrefuted_line, plan_code_text, step_text, train_text, plan_place_text, plan_refused_line};
 
 use crate::input::InputFile;
 use crate::names::{section_name, train_name};
 use design_table::{Code, EntryKind, Place};
 use log_checker::Reason;
+use plan_text::writing::write_plan;
 use rail_base::design::Design;
+use rail_base::plan::Plan;
 use rail_base::station::TrainNo;
 use rail_plan::fault::PlanCode;
 use rail_plan::place::PlanPlace;
@@ -113,14 +115,21 @@ pub(crate) fn too_large_line(alloc: Global) -> Result<Vec<u8>, AllocError>
     Vec::from_slice(alloc, b"design refused D14 base\n")
 }
 
+/// Words, a number, and the end of a line.
+fn counted_line(alloc: Global, words: &[u8], number: u64) -> Result<Vec<u8>, AllocError>
+    ensures { IfOk result (λ line. line.items ≡ words.now ++ decimal number ++ codes "\n") }
+{
+    let mut line = Vec::from_slice(alloc, words)?;
+    put_number(&mut line, number)?;
+    line.push(b'\n')?;
+    Ok(line)
+}
+
 /// `yes steps <k>`
 pub(crate) fn yes_line(alloc: Global, steps: u32) -> Result<Vec<u8>, AllocError>
     ensures { IfOk result (λ line. line.items ≡ yes_line steps) }
 {
-    let mut line = Vec::from_slice(alloc, b"yes steps ")?;
-    put_number(&mut line, u64::from(steps))?;
-    line.push(b'\n')?;
-    Ok(line)
+    counted_line(alloc, b"yes steps ", u64::from(steps))
 }
 
 /// `no line <number> <reason>`
@@ -133,6 +142,67 @@ pub(crate) fn no_line(alloc: Global, number: u64, reason: Reason) -> Result<Vec<
     line.extend_from_slice(reason.words().as_bytes())?;
     line.push(b'\n')?;
     Ok(line)
+}
+
+/// `plan steps <number of steps>`
+pub(crate) fn plan_steps_line(alloc: Global, plan: &Plan) -> Result<Vec<u8>, AllocError>
+    ensures { IfOk result (λ line. line.items ≡ plan_steps_line (length plan.now.steps)) }
+{
+    counted_line(alloc, b"plan steps ", plan.steps.len() as u64)
+}
+
+/// The plan, as one line.
+pub(crate) fn plan_line(alloc: Global, design: &Design, plan: &Plan) -> Result<Vec<u8>, AllocError>
+    ensures { IfOk result (λ line. line.items ≡ plan_line design.now.station plan.now.steps) }
+{
+    let mut line = write_plan(alloc, design, plan)?;
+    line.push(b'\n')?;
+    Ok(line)
+}
+
+/// `infeasible steps <n>`
+pub(crate) fn infeasible_line(alloc: Global, steps: u32) -> Result<Vec<u8>, AllocError>
+    ensures { IfOk result (λ line. line.items ≡ infeasible_line steps) }
+{
+    counted_line(alloc, b"infeasible steps ", u64::from(steps))
+}
+
+/// `conflicts spent <number>`
+pub(crate) fn conflicts_spent_line(alloc: Global, conflicts: u64) -> Result<Vec<u8>, AllocError>
+    ensures { IfOk result (λ line. line.items ≡ conflicts_spent_line conflicts) }
+{
+    counted_line(alloc, b"conflicts spent ", conflicts)
+}
+
+/// `ticks spent <sum> of <ticks>`
+pub(crate) fn ticks_spent_line(alloc: Global, sum: u64, ticks: u64) -> Result<Vec<u8>, AllocError>
+    ensures { IfOk result (λ line. line.items ≡ ticks_spent_line sum ticks) }
+{
+    let mut line = Vec::from_slice(alloc, b"ticks spent ")?;
+    put_number(&mut line, sum)?;
+    line.extend_from_slice(b" of ")?;
+    put_number(&mut line, ticks)?;
+    line.push(b'\n')?;
+    Ok(line)
+}
+
+/// `log spent <bytes> next <bytes>`
+pub(crate) fn log_spent_line(alloc: Global, bytes: u64, next: u64) -> Result<Vec<u8>, AllocError>
+    ensures { IfOk result (λ line. line.items ≡ log_spent_line bytes next) }
+{
+    let mut line = Vec::from_slice(alloc, b"log spent ")?;
+    put_number(&mut line, bytes)?;
+    line.extend_from_slice(b" next ")?;
+    put_number(&mut line, next)?;
+    line.push(b'\n')?;
+    Ok(line)
+}
+
+/// `unrefuted tick <tick>`
+pub(crate) fn unrefuted_line(alloc: Global, tick: u64) -> Result<Vec<u8>, AllocError>
+    ensures { IfOk result (λ line. line.items ≡ unrefuted_line tick) }
+{
+    counted_line(alloc, b"unrefuted tick ", tick)
 }
 
 /// The name of a code of a plan.

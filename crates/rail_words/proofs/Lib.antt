@@ -1,5 +1,6 @@
 pub mod Refusals
 pub mod Reading
 pub mod Walks
+pub mod Searches
 pub mod Taken
 pub mod Ranges

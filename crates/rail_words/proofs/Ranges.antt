@@ -3,7 +3,7 @@ use Rattle.std.proofs.Common.{◌≡◌, ℕ, ◌≤◌, ◌&&◌, Bool, true, f
 use Rattle.clap.specs.Words.{Row, Text, first_of, subcommand_of}
 use Rattle.rail_text.specs.Numbers.{number_of}
 use Rattle.rail_words.specs.FixedCommand.{rcv_app, is_taken}
-use Rattle.rail_words.specs.Requests.{Asked, simulate, routes, check, IsInRange, simulate_with, routes_with, check_with, steps_of, asked_by, request_of}
+use Rattle.rail_words.specs.Requests.{Asked, simulate, routes, verify, check, IsInRange, simulate_with, routes_with, verify_within, verify_with, check_with, steps_of, conflicts_of, ticks_of, asked_by, request_of}
 use Rattle.rail_words.specs.Laws.{RequestsAreInRange}
 use Rattle.rail_words.specs.Words.{asked_of}
 use Rattle.rail_words.specs.declared.request.Request.{Request}
@@ -31,6 +31,20 @@ checked_so (Some steps) None proof a e = absurd (cc)
 checked_so (Some steps) (Some design) None a e = absurd (cc)
 checked_so (Some steps) (Some design) (Some proof) a e = check_made (steps_of steps) design proof a (λ n h. kept (number_of steps) n h) e
 
+verify_made : (steps conflicts ticks : Option ℕ) (design proof : Text) (a : Asked) → ((n : ℕ) → steps ≡ Some n → (1 ≤ n) × (n ≤ 64)) → verify_within steps conflicts ticks design proof ≡ Some a → IsInRange a
+verify_made None conflicts ticks design proof a h e = absurd (cc)
+verify_made (Some n) None ticks design proof a h e = absurd (cc)
+verify_made (Some n) (Some c) None design proof a h e = absurd (cc)
+verify_made (Some n) (Some c) (Some t) design proof a h e = let same : verify n c t design proof ≡ a = cc in subst IsInRange same (h n refl)
+
+verified_so : (steps conflicts ticks design proof : Option Text) (a : Asked) → verify_with steps conflicts ticks design proof ≡ Some a → IsInRange a
+verified_so None conflicts ticks design proof a e = absurd (cc)
+verified_so (Some s) None ticks design proof a e = absurd (cc)
+verified_so (Some s) (Some c) None design proof a e = absurd (cc)
+verified_so (Some s) (Some c) (Some t) None proof a e = absurd (cc)
+verified_so (Some s) (Some c) (Some t) (Some design) None a e = absurd (cc)
+verified_so (Some s) (Some c) (Some t) (Some design) (Some proof) a e = verify_made (steps_of s) (conflicts_of c) (ticks_of t) design proof a (λ n h. kept (number_of s) n h) e
+
 simulated_so : (design plan : Option Text) (a : Asked) → simulate_with design plan ≡ Some a → IsInRange a
 simulated_so None plan a e = absurd (cc)
 simulated_so (Some design) None a e = absurd (cc)
@@ -40,19 +54,20 @@ routed_so : (design : Option Text) (a : Asked) → routes_with design ≡ Some a
 routed_so None a e = absurd (cc)
 routed_so (Some design) a e = let same : routes design ≡ a = cc in subst IsInRange same tt
 
-chosen : (first second third : Bool) (design plan file steps of proof : Option Text) (a : Asked)
-    → (if first then simulate_with design plan else if second then routes_with file else if third then check_with steps of proof else None) ≡ Some a → IsInRange a
-chosen true second third design plan file steps of proof a e = simulated_so design plan a e
-chosen false true third design plan file steps of proof a e = routed_so file a e
-chosen false false true design plan file steps of proof a e = checked_so steps of proof a e
-chosen false false false design plan file steps of proof a e = absurd (cc)
+chosen : (first second third fourth : Bool) (design plan file steps conflicts ticks of proof : Option Text) (a : Asked)
+    → (if first then simulate_with design plan else if second then routes_with file else if third then verify_with steps conflicts ticks of proof else if fourth then check_with steps of proof else None) ≡ Some a → IsInRange a
+chosen true second third fourth design plan file steps conflicts ticks of proof a e = simulated_so design plan a e
+chosen false true third fourth design plan file steps conflicts ticks of proof a e = routed_so file a e
+chosen false false true fourth design plan file steps conflicts ticks of proof a e = verified_so steps conflicts ticks of proof a e
+chosen false false false true design plan file steps conflicts ticks of proof a e = checked_so steps of proof a e
+chosen false false false false design plan file steps conflicts ticks of proof a e = absurd (cc)
 
 named : (entered : Option (Text × List Row)) (a : Asked) → option_and_then asked_by entered ≡ Some a → IsInRange a
 named None a e = absurd (cc)
 named (Some entered) a e =
-    chosen (bytes_eq entered.0 (codes "simulate")) (bytes_eq entered.0 (codes "routes")) (bytes_eq entered.0 (codes "check"))
+    chosen (bytes_eq entered.0 (codes "simulate")) (bytes_eq entered.0 (codes "routes")) (bytes_eq entered.0 (codes "verify")) (bytes_eq entered.0 (codes "check"))
     (first_of (codes "DESIGN") entered.1) (first_of (codes "PLAN") entered.1) (first_of (codes "DESIGN") entered.1)
-    (first_of (codes "steps") entered.1) (first_of (codes "DESIGN") entered.1) (first_of (codes "PROOF") entered.1) a e
+    (first_of (codes "steps") entered.1) (first_of (codes "conflicts") entered.1) (first_of (codes "ticks") entered.1) (first_of (codes "DESIGN") entered.1) (first_of (codes "PROOF") entered.1) a e
 
 taken_so : (taken : Bool) (entered : Option (Text × List Row)) (a : Asked) → (if taken then option_and_then asked_by entered else None) ≡ Some a → IsInRange a
 taken_so true entered a e = named entered a e

@@ -7,9 +7,10 @@ use Rattle.rail_text.specs.Numbers.{is_numeral}
 use Rattle.clap.proofs.OnLiterals.{clap_on_literals}
 use Rattle.clap.specs.Words.{Row, Text, first_of, subcommand_of, fault_of}
 use Rattle.rail_words.specs.FixedCommand.{rcv_app}
-use Rattle.rail_words.specs.Requests.{request_of, steps_of, check}
+use Rattle.rail_words.specs.Requests.{request_of, number_to, steps_of, conflicts_of, ticks_of, verify, check}
 use Rattle.rail_words.proofs.Walks.{level, steps_read, design_read, proof_read, check_rows, check_top}
-use Rattle.rail_words.specs.Laws.{is_plain, SimulateIsRead, RoutesIsRead, CheckIsRead}
+use Rattle.rail_words.proofs.Searches as search
+use Rattle.rail_words.specs.Laws.{is_plain, SimulateIsRead, RoutesIsRead, VerifyIsRead, CheckIsRead}
 
 off : (b : Bool) → not b ≡ true → b ≡ false
 off true h = absurd (false≢true h)
@@ -34,20 +35,20 @@ and_off true b h = h
 and_off false b h = refl
 
 -- text that begins with a hyphen is no number
-hyphen : (x : ℕ) (xs : Text) → (x == 45) ≡ true → steps_of (x ∷ xs) ≡ None
-hyphen x xs h =
+hyphen : (greatest x : ℕ) (xs : Text) → (x == 45) ≡ true → number_to greatest (x ∷ xs) ≡ None
+hyphen greatest x xs h =
     let is : x ≡ 45 = eqb-true x 45 h in
     let no_digit : list_all is_ascii_digit (x ∷ xs) ≡ false = rw is refl in
     let no_numeral : is_numeral (x ∷ xs) ≡ false = and_off _ _ no_digit in
     rw no_numeral refl
 
 -- a number does not
-digits_plain : (text : Text) (n : ℕ) → steps_of text ≡ Some n → is_plain text ≡ true
-digits_plain [] n e = absurd (cc)
-digits_plain (x ∷ xs) n e = go (x == 45) refl
+digits_plain : (greatest : ℕ) (text : Text) (n : ℕ) → number_to greatest text ≡ Some n → is_plain text ≡ true
+digits_plain greatest [] n e = absurd (cc)
+digits_plain greatest (x ∷ xs) n e = go (x == 45) refl
   where
     go : (b : Bool) → (x == 45) ≡ b → not b ≡ true
-    go true h = (let f = hyphen x xs h in absurd (cc))
+    go true h = (let f = hyphen greatest x xs h in absurd (cc))
     go false h = refl
 
 -- what is read of the rows
@@ -61,9 +62,33 @@ check_read program [] design proof n e i j = absurd (cc)
 check_read program (x ∷ xs) [] proof n h i j = absurd (false≢true i)
 check_read program (x ∷ xs) (y ∷ ys) [] n h i j = absurd (false≢true j)
 check_read program (x ∷ xs) (y ∷ ys) (z ∷ zs) n h i j =
-    let e : (x == 45) ≡ false = off (x == 45) (digits_plain (x ∷ xs) n h) in
+    let e : (x == 45) ≡ false = off (x == 45) (digits_plain 64 (x ∷ xs) n h) in
     let f : (y == 45) ≡ false = off (y == 45) i in
     let g : (z == 45) ≡ false = off (z == 45) j in
     read_rows (program ∷ codes "check" ∷ codes "--steps" ∷ (x ∷ xs) ∷ (y ∷ ys) ∷ (z ∷ zs) ∷ []) _ (x ∷ xs) (y ∷ ys) (z ∷ zs) n
     (check_top program _ _ _ _ ∙ rw (level x xs y ys z zs e f g) refl) (check_rows program _ _ _ _)
     (steps_read x xs y ys z zs e f g) (design_read x xs y ys z zs e f g) (proof_read x xs y ys z zs e f g) h
+
+-- what is read of the rows of a search
+search_rows : (words : List Text) (rows : List Row) (steps conflicts ticks design proof : Text) (n c t : ℕ) → fault_of rcv_app words ≡ [] → subcommand_of rcv_app words ≡ Some (codes "verify", rows)
+    → first_of (codes "steps") rows ≡ Some steps → first_of (codes "conflicts") rows ≡ Some conflicts → first_of (codes "ticks") rows ≡ Some ticks → first_of (codes "DESIGN") rows ≡ Some design → first_of (codes "PROOF") rows ≡ Some proof
+    → steps_of steps ≡ Some n → conflicts_of conflicts ≡ Some c → ticks_of ticks ≡ Some t → request_of words ≡ Some (verify n c t design proof)
+unfolding request_of
+search_rows words rows steps conflicts ticks design proof n c t taken named a b e f g h i j = rw (taken, named, a, b, e, f, g, h, i, j) refl
+
+pub verify_read : VerifyIsRead
+verify_read program [] conflicts ticks design proof n c t p q r i j = absurd (cc)
+verify_read program (x ∷ xs) [] ticks design proof n c t p q r i j = absurd (cc)
+verify_read program (x ∷ xs) (u ∷ us) [] design proof n c t p q r i j = absurd (cc)
+verify_read program (x ∷ xs) (u ∷ us) (v ∷ vs) [] proof n c t p q r i j = absurd (false≢true i)
+verify_read program (x ∷ xs) (u ∷ us) (v ∷ vs) (y ∷ ys) [] n c t p q r i j = absurd (false≢true j)
+verify_read program (x ∷ xs) (u ∷ us) (v ∷ vs) (y ∷ ys) (z ∷ zs) n c t p q r i j =
+    let a : (x == 45) ≡ false = off (x == 45) (digits_plain 64 (x ∷ xs) n p) in
+    let b : (u == 45) ≡ false = off (u == 45) (digits_plain 10000000 (u ∷ us) c q) in
+    let d : (v == 45) ≡ false = off (v == 45) (digits_plain 1000000000000 (v ∷ vs) t r) in
+    let f : (y == 45) ≡ false = off (y == 45) i in
+    let g : (z == 45) ≡ false = off (z == 45) j in
+    search_rows (program ∷ codes "verify" ∷ codes "--steps" ∷ (x ∷ xs) ∷ codes "--conflicts" ∷ (u ∷ us) ∷ codes "--ticks" ∷ (v ∷ vs) ∷ (y ∷ ys) ∷ (z ∷ zs) ∷ []) _ (x ∷ xs) (u ∷ us) (v ∷ vs) (y ∷ ys) (z ∷ zs) n c t
+    (search.verify_top program _ _ _ _ _ _ _ _ ∙ rw (search.level x xs u us v vs y ys z zs a b d f g) refl) (search.verify_rows program _ _ _ _ _ _ _ _)
+    (search.steps_read x xs u us v vs y ys z zs a b d f g) (search.conflicts_read x xs u us v vs y ys z zs a b d f g) (search.ticks_read x xs u us v vs y ys z zs a b d f g)
+    (search.design_read x xs u us v vs y ys z zs a b d f g) (search.proof_read x xs u us v vs y ys z zs a b d f g) p q r

@@ -9,7 +9,7 @@ use Rattle.clap.proofs.OnLiterals.{clap_on_literals}
 use Rattle.rail_words.specs.FixedCommand.{rcv_app, check_app}
 
 -- where a walk stands, before its subcommand
-abbrev stand : Held → Waiting → ℕ → Walk
+abbrev pub stand : Held → Waiting → ℕ → Walk
 stand h waiting position = record { held = h; waiting = waiting; position = position; is_trailing = false; stopped = None }
 
 -- a plain word of a command without subcommands
@@ -30,7 +30,7 @@ module _ (s : Shape) (h : Held) (position : ℕ) (x : ℕ) (xs : Text) (e : (x =
 -- ---- `check`
 
 abbrev pub leaf : Shape
-leaf = slice_index_or (built rcv_app).subs 2 check_app.top
+leaf = slice_index_or (built rcv_app).subs 3 check_app.top
 
 start : walked leaf.rules [] (walk_from nothing_held) (codes "--steps") ≡ stand (record { rows = []; pending = Some (codes "steps", []); skip = 0 }) (option (codes "steps")) 1
 unfolding clap_on_literals

@@ -18,6 +18,14 @@ simulate_app = with_rule (with_rule (new_app (codes "simulate")) (positional_rul
 abbrev pub routes_app : App
 routes_app = with_rule (new_app (codes "routes")) (positional_rule (codes "DESIGN"))
 
+-- `verify --steps N --conflicts C --ticks T`, before its files
+abbrev pub verify_options_app : App
+verify_options_app = with_rule (with_rule (with_rule (new_app (codes "verify")) (option_rule (codes "steps"))) (option_rule (codes "conflicts"))) (option_rule (codes "ticks"))
+
+-- `verify --steps N --conflicts C --ticks T DESIGN PROOF`
+abbrev pub verify_app : App
+verify_app = with_rule (with_rule verify_options_app (positional_rule (codes "DESIGN"))) (positional_rule (codes "PROOF"))
+
 -- `check --steps N DESIGN PROOF`
 abbrev pub check_app : App
 check_app = with_rule (with_rule (with_rule (new_app (codes "check")) (option_rule (codes "steps"))) (positional_rule (codes "DESIGN"))) (positional_rule (codes "PROOF"))
@@ -25,8 +33,12 @@ check_app = with_rule (with_rule (with_rule (new_app (codes "check")) (option_ru
 abbrev pub top_app : App
 top_app = record (new_app (codes "rcv")) { top = record (new_app (codes "rcv")).top { subcommand_required = true } }
 
+-- with the commands that take no number
+abbrev pub numberless_app : App
+numberless_app = with_subcommand (with_subcommand top_app simulate_app.top) routes_app.top
+
 abbrev pub rcv_app : App
-rcv_app = with_subcommand (with_subcommand (with_subcommand top_app simulate_app.top) routes_app.top) check_app.top
+rcv_app = with_subcommand (with_subcommand numberless_app verify_app.top) check_app.top
 
 -- the fixed command takes the words, the first of which is the program's name
 abbrev pub is_taken : List Text → Bool

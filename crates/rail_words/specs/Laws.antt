@@ -1,7 +1,7 @@
 -- Which words are taken.
 use Rattle.std.specs.Prelude.{ℕ, List, ◌≡◌, ◌==◌, not, Bool, true, false, [], ◌∷◌, Some, codes}
 use Rattle.clap.specs.Words.{Text}
-use Rattle.rail_words.specs.Requests.{Asked, IsInRange, request_of, steps_of, simulate, routes, check}
+use Rattle.rail_words.specs.Requests.{Asked, IsInRange, request_of, steps_of, conflicts_of, ticks_of, simulate, routes, verify, check}
 
 -- not empty, and not beginning with a hyphen
 abbrev pub is_plain : Text → Bool
@@ -15,6 +15,10 @@ SimulateIsRead = (program design plan : Text) → is_plain design ≡ true → i
 
 abbrev pub RoutesIsRead : Type 0
 RoutesIsRead = (program design : Text) → is_plain design ≡ true → request_of (program ∷ codes "routes" ∷ design ∷ []) ≡ Some (routes design)
+
+abbrev pub VerifyIsRead : Type 0
+VerifyIsRead = (program steps conflicts ticks design proof : Text) (n c t : ℕ) → steps_of steps ≡ Some n → conflicts_of conflicts ≡ Some c → ticks_of ticks ≡ Some t → is_plain design ≡ true → is_plain proof ≡ true
+    → request_of (program ∷ codes "verify" ∷ codes "--steps" ∷ steps ∷ codes "--conflicts" ∷ conflicts ∷ codes "--ticks" ∷ ticks ∷ design ∷ proof ∷ []) ≡ Some (verify n c t design proof)
 
 abbrev pub CheckIsRead : Type 0
 CheckIsRead = (program steps design proof : Text) (n : ℕ) → steps_of steps ≡ Some n → is_plain design ≡ true → is_plain proof ≡ true

@@ -4,20 +4,34 @@ use Rattle.clap.specs.Words.{Row, Text, first_of, subcommand_of}
 use Rattle.rail_text.specs.Numbers.{number_of}
 use Rattle.rail_words.specs.FixedCommand.{rcv_app, is_taken}
 
--- the number of steps that a text gives: 1 to 20 digits, from 1 to 64
+-- the number that a text gives, where it is from 1 to a greatest: 1 to 20 digits
+abbrev pub number_to : ℕ → Text → Option ℕ
+number_to greatest text = option_and_then (λ n. if nat_le 1 n && nat_le n greatest then Some n else None) (number_of text)
+
+-- how many steps a plan may have
 abbrev pub steps_of : Text → Option ℕ
-steps_of text = option_and_then (λ n. if nat_le 1 n && nat_le n 64 then Some n else None) (number_of text)
+steps_of = number_to 64
+
+-- how many clauses may be derived
+abbrev pub conflicts_of : Text → Option ℕ
+conflicts_of = number_to 10_000_000
+
+-- how many ticks may be simulated
+abbrev pub ticks_of : Text → Option ℕ
+ticks_of = number_to 1_000_000_000_000
 
 -- a request, by the texts of its values
 pub data Asked : Type 0 where
   simulate : Text → Text → Asked
   routes : Text → Asked
+  verify : ℕ → ℕ → ℕ → Text → Text → Asked
   check : ℕ → Text → Text → Asked
 
 -- its number of steps, where it has one, is from 1 to 64
 abbrev pub IsInRange : Asked → Type 0
 IsInRange (simulate design plan) = Unit {0}
 IsInRange (routes design) = Unit {0}
+IsInRange (verify n conflicts ticks design proof) = (1 ≤ n) × (n ≤ 64)
 IsInRange (check n design proof) = (1 ≤ n) × (n ≤ 64)
 
 abbrev pub simulate_with : Option Text → Option Text → Option Asked
@@ -26,6 +40,15 @@ simulate_with _ _ = None
 
 abbrev pub routes_with : Option Text → Option Asked
 routes_with design = option_map routes design
+
+-- a search with these numbers, if all of them are there
+abbrev pub verify_within : Option ℕ → Option ℕ → Option ℕ → Text → Text → Option Asked
+verify_within (Some n) (Some conflicts) (Some ticks) design proof = Some (verify n conflicts ticks design proof)
+verify_within _ _ _ design proof = None
+
+abbrev pub verify_with : Option Text → Option Text → Option Text → Option Text → Option Text → Option Asked
+verify_with (Some steps) (Some conflicts) (Some ticks) (Some design) (Some proof) = verify_within (steps_of steps) (conflicts_of conflicts) (ticks_of ticks) design proof
+verify_with _ _ _ _ _ = None
 
 abbrev pub check_with : Option Text → Option Text → Option Text → Option Asked
 check_with (Some steps) (Some design) (Some proof) = option_map (λ n. check n design proof) (steps_of steps)
@@ -36,6 +59,7 @@ abbrev pub asked_by : Text × List Row → Option Asked
 asked_by entered =
     if bytes_eq entered.0 (codes "simulate") then simulate_with (first_of (codes "DESIGN") entered.1) (first_of (codes "PLAN") entered.1)
     else if bytes_eq entered.0 (codes "routes") then routes_with (first_of (codes "DESIGN") entered.1)
+    else if bytes_eq entered.0 (codes "verify") then verify_with (first_of (codes "steps") entered.1) (first_of (codes "conflicts") entered.1) (first_of (codes "ticks") entered.1) (first_of (codes "DESIGN") entered.1) (first_of (codes "PROOF") entered.1)
     else if bytes_eq entered.0 (codes "check") then check_with (first_of (codes "steps") entered.1) (first_of (codes "DESIGN") entered.1) (first_of (codes "PROOF") entered.1)
     else None
 

@@ -3,7 +3,7 @@
 ghost use Rattle.std.specs.Prelude.{◌≡◌, IfOk, false};
 ghost use Rattle.clap.specs.Words.{app_of, rule_of};
 ghost use Rattle.clap.specs.declared.builder.command.Command.TheViews.{out-Command as fields_of};
-ghost use Rattle.rail_words.specs.FixedCommand.{option_rule, positional_rule, simulate_app, routes_app, check_app, rcv_app};
+ghost use Rattle.rail_words.specs.FixedCommand.{option_rule, positional_rule, simulate_app, routes_app, numberless_app, verify_options_app, verify_app, check_app, rcv_app};
 
 use clap::{Arg, Command};
 use std::alloc::{AllocError, Global};
@@ -40,6 +40,26 @@ fn routes_command<'a>(alloc: Global) -> Result<Command<'a>, AllocError>
     Command::new(alloc, "routes").arg(positional(alloc, "DESIGN"))
 }
 
+/// `verify` with its options.
+fn verify_options<'a>(alloc: Global) -> Result<Command<'a>, AllocError>
+    ensures shape { IfOk result (λ command. app_of command ≡ verify_options_app) }
+    ensures local { IfOk result (λ command. (fields_of command).has_globals ≡ false) }
+{
+    Command::new(alloc, "verify")
+        .arg(option(alloc, "steps"))?
+        .arg(option(alloc, "conflicts"))?
+        .arg(option(alloc, "ticks"))
+}
+
+fn verify_command<'a>(alloc: Global) -> Result<Command<'a>, AllocError>
+    ensures shape { IfOk result (λ command. app_of command ≡ verify_app) }
+    ensures local { IfOk result (λ command. (fields_of command).has_globals ≡ false) }
+{
+    verify_options(alloc)?
+        .arg(positional(alloc, "DESIGN"))?
+        .arg(positional(alloc, "PROOF"))
+}
+
 fn check_command<'a>(alloc: Global) -> Result<Command<'a>, AllocError>
     ensures shape { IfOk result (λ command. app_of command ≡ check_app) }
     ensures local { IfOk result (λ command. (fields_of command).has_globals ≡ false) }
@@ -50,13 +70,21 @@ fn check_command<'a>(alloc: Global) -> Result<Command<'a>, AllocError>
         .arg(positional(alloc, "PROOF"))
 }
 
-/// The fixed command.
-pub(crate) fn command<'a>(alloc: Global) -> Result<Command<'a>, AllocError>
-    ensures shape { IfOk result (λ command. app_of command ≡ rcv_app) }
+/// The program's command with those that take no number.
+fn numberless<'a>(alloc: Global) -> Result<Command<'a>, AllocError>
+    ensures shape { IfOk result (λ command. app_of command ≡ numberless_app) }
 {
     Command::new(alloc, "rcv")
         .subcommand_required(true)
         .subcommand(simulate_command(alloc)?)?
-        .subcommand(routes_command(alloc)?)?
+        .subcommand(routes_command(alloc)?)
+}
+
+/// The fixed command.
+pub(crate) fn command<'a>(alloc: Global) -> Result<Command<'a>, AllocError>
+    ensures shape { IfOk result (λ command. app_of command ≡ rcv_app) }
+{
+    numberless(alloc)?
+        .subcommand(verify_command(alloc)?)?
         .subcommand(check_command(alloc)?)
 }

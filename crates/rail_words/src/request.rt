@@ -3,7 +3,7 @@
 ghost use Rattle.std.specs.Prelude.{◌≡◌, ◌≢◌, IfOk, OnOk, Err, Some, None, true, false, option_map, option_and_then, codes};
 ghost use Rattle.clap.specs.Words.{first_of, rows_of, found_of, subcommand_of, subcommand_rows_of};
 ghost use Rattle.rail_words.specs.FixedCommand.{rcv_app, is_taken};
-ghost use Rattle.rail_words.specs.Requests.{IsInRange, asked_by, check_with, request_of, simulate_with, steps_of, routes_with};
+ghost use Rattle.rail_words.specs.Requests.{IsInRange, asked_by, check_with, conflicts_of, number_to, request_of, simulate_with, steps_of, ticks_of, routes_with, verify_with, verify_within};
 ghost use Rattle.rail_words.specs.Words.{asked_of, texts_of};
 ghost use Rattle.rail_words.specs.declared.request.WordsFault.TheVariants as fault;
 
@@ -25,6 +25,15 @@ pub enum Request<'a> {
     /// List the routes of a design, by its file's name.
     Routes {
         design: &'a str,
+    },
+    /// Look for a plan of at most so many steps, 1 to 64, within budgets of derived clauses and of ticks, or for a proof that
+    /// there is none, the design and the proof by their files' names.
+    Verify {
+        steps: u32,
+        conflicts: u64,
+        ticks: u64,
+        design: &'a str,
+        proof: &'a str,
     },
     /// Check a proof that a design has no plan of so many steps, 1 to 64, the design and the proof by their files' names.
     Check {
@@ -111,6 +120,16 @@ fn routes<'a>(values: &ArgMatches<'a>) -> Option<Request<'a>>
     Some(Request::Routes { design })
 }
 
+/// The number that a text gives, from 1 to a greatest.
+fn number_to(greatest: u64, text: &str) -> Option<u64>
+    ensures { result ≡ number_to greatest text.now }
+{
+    match number(text.as_bytes()) {
+        Some(number) if 1 <= number && number <= greatest => Some(number),
+        _ => None,
+    }
+}
+
 /// The number of steps that a text gives, from 1 to 64.
 fn steps_of(text: &str) -> Option<u32>
     ensures { result ≡ steps_of text.now }
@@ -119,6 +138,56 @@ fn steps_of(text: &str) -> Option<u32>
         Some(steps) if 1 <= steps && steps <= 64 => Some(steps as u32),
         _ => None,
     }
+}
+
+/// What the numbers and names of `verify` ask for.
+fn verify_within<'a>(
+    steps: &str,
+    conflicts: &str,
+    ticks: &str,
+    design: &'a str,
+    proof: &'a str,
+) -> Option<Request<'a>>
+    ensures { option_map asked_of result ≡ verify_within (steps_of steps.now) (conflicts_of conflicts.now) (ticks_of ticks.now) design.now proof.now }
+{
+    let Some(steps) = steps_of(steps) else {
+        return None;
+    };
+    let Some(conflicts) = number_to(10_000_000, conflicts) else {
+        return None;
+    };
+    let Some(ticks) = number_to(1_000_000_000_000, ticks) else {
+        return None;
+    };
+    Some(Request::Verify {
+        steps,
+        conflicts,
+        ticks,
+        design,
+        proof,
+    })
+}
+
+/// What the values of `verify` ask for.
+fn verify<'a>(values: &ArgMatches<'a>) -> Option<Request<'a>>
+    ensures { option_map asked_of result ≡ verify_with (first_of (codes "steps") (rows_of (found_of values.now))) (first_of (codes "conflicts") (rows_of (found_of values.now))) (first_of (codes "ticks") (rows_of (found_of values.now))) (first_of (codes "DESIGN") (rows_of (found_of values.now))) (first_of (codes "PROOF") (rows_of (found_of values.now))) }
+{
+    let Some(steps) = value(values, "steps") else {
+        return None;
+    };
+    let Some(conflicts) = value(values, "conflicts") else {
+        return None;
+    };
+    let Some(ticks) = value(values, "ticks") else {
+        return None;
+    };
+    let Some(design) = value(values, "DESIGN") else {
+        return None;
+    };
+    let Some(proof) = value(values, "PROOF") else {
+        return None;
+    };
+    verify_within(steps, conflicts, ticks, design, proof)
 }
 
 /// What the values of `check` ask for.
@@ -156,6 +225,9 @@ fn request_in<'a>(matches: &ArgMatches<'a>) -> Option<Request<'a>>
     }
     if name == "routes" {
         return routes(values);
+    }
+    if name == "verify" {
+        return verify(values);
     }
     if name == "check" {
         return check(values);

@@ -44,6 +44,24 @@ fn routes_names_its_file(rt: HostRuntime) -> Result<(), AllocError> {
 }
 
 #[test]
+fn verify_names_its_numbers_and_files(rt: HostRuntime) -> Result<(), AllocError> {
+    let alloc = rt.alloc();
+    let want = Request::Verify {
+        steps: 4,
+        conflicts: 10_000_000,
+        ticks: 1_000_000_000_000,
+        design: "halt.toml",
+        proof: "halt.proof",
+    };
+    let words = words_of(
+        alloc,
+        "rcv verify --steps 4 --conflicts 10000000 --ticks 1000000000000 halt.toml halt.proof",
+    )?;
+    assert!(rt; read_words(alloc, words.as_slice()) == Ok(want));
+    Ok(())
+}
+
+#[test]
 fn check_names_its_steps_and_files(rt: HostRuntime) -> Result<(), AllocError> {
     let alloc = rt.alloc();
     let want = Request::Check {
@@ -76,6 +94,9 @@ fn other_words_are_refused(rt: HostRuntime) -> Result<(), AllocError> {
         "rcv simulate --steps halt.toml plan.json",
         "rcv dispatch halt.toml plan.json",
         "rcv routes",
+        "rcv verify --steps 4 --conflicts 9 halt.toml halt.proof",
+        "rcv verify --steps 4 --conflicts 10000001 --ticks 9 halt.toml halt.proof",
+        "rcv verify --steps 4 --conflicts 9 --ticks 1000000000001 halt.toml halt.proof",
         "rcv check halt.toml halt.proof",
         "rcv check --steps 0 halt.toml halt.proof",
         "rcv check --steps 65 halt.toml halt.proof",

@@ -1,39 +1,55 @@
-use Rattle.std.proofs.Common.{◌≡◌}
 use Rattle.rail_words.specs.Words.{texts_of}
+use Rattle.rail_words.specs.Requests.{request_of}
+use Rattle.verify_loop.specs.declared.outcome.Outcome.TheVariants.{Memory}
 use Rattle.rail_cli.specs.Answers.{answer_of}
-use Rattle.rail_cli.specs.Replies.{reply_seen}
+use Rattle.rail_cli.specs.Searches.{Leaves}
 use Rattle.rail_cli.specs.Simulations.{DoneWhereFeasible}
-use Rattle.rail_cli.proofs.Deciding.{told_reply, prints_answer, tells_of_reply}
-use Rattle.rail_cli.proofs.Judging.{tells_infeasible}
+use Rattle.rail_cli.proofs.Deciding.{told_reply}
+use Rattle.rail_cli.proofs.Finding.{may_want, finds_so, told_so, run_so, run_infeasible, run_met, tells_plan, tells_none}
+use Rattle.rail_cli.proofs.Leaving.{run_leaves, told_status}
+use Rattle.rail_cli.proofs.Silence.{silent_for_memory, silent_at_shelf}
 use Rattle.rail_cli.proofs.run.run_words.Goals as goal
 
+pub returns-in-Ok-clause-answer : goal.returns-in-Ok-clause-answer
+returns-in-Ok-clause-answer g c = λ files told. run_so files (texts_of c.args.words.now) c.in-Ok.reply c.print.result _ _ _ _ (c.in-Ok.ensures.replies files told) c.print.ensures.prints
+
 pub returns-in-Ok-clause-met : goal.returns-in-Ok-clause-met
-returns-in-Ok-clause-met g c = λ files told d plan s answered.
-    tells_of_reply files (texts_of c.args.words.now) d plan c.in-Ok.reply c.print.result _ _ _ _ (c.in-Ok.ensures.replies files told) (c.in-Ok.ensures.done files told) c.print.ensures.prints s answered
-
-pub returns-in-Err-Told-clause-answer : goal.returns-in-Err-Told-clause-answer
-returns-in-Err-Told-clause-answer g c = λ files told.
-    prints_answer (answer_of files (texts_of c.args.words.now)) c.in-Err-Told.reply c.print-in-Err-Told.result _ _ _ _
-    (told_reply c.in-Err-Told.field-0 c.in-Err-Told.reply (λ reply. answer_of files (texts_of c.args.words.now) ≡ reply_seen reply) c.in-Err-Told.field-0-is (c.in-Err-Told.ensures.replies files told))
-    c.print-in-Err-Told.ensures.prints
-
-pub returns-in-Err-Told-clause-met : goal.returns-in-Err-Told-clause-met
-returns-in-Err-Told-clause-met g c = λ files told d plan s answered.
-    tells_of_reply files (texts_of c.args.words.now) d plan c.in-Err-Told.reply c.print-in-Err-Told.result _ _ _ _
-    (told_reply c.in-Err-Told.field-0 c.in-Err-Told.reply (λ reply. answer_of files (texts_of c.args.words.now) ≡ reply_seen reply) c.in-Err-Told.field-0-is (c.in-Err-Told.ensures.replies files told))
-    (told_reply c.in-Err-Told.field-0 c.in-Err-Told.reply (λ reply. DoneWhereFeasible files (texts_of c.args.words.now) reply.status) c.in-Err-Told.field-0-is (c.in-Err-Told.ensures.done files told))
-    c.print-in-Err-Told.ensures.prints s answered
+returns-in-Ok-clause-met g c = λ files told d plan s answered. run_met files (texts_of c.args.words.now) c.in-Ok.reply c.print.result _ _ _ _ (c.in-Ok.ensures.replies files told) (c.in-Ok.ensures.done files told) c.print.ensures.prints d plan s answered
 
 pub returns-in-Ok-clause-infeasible : goal.returns-in-Ok-clause-infeasible
-returns-in-Ok-clause-infeasible g c = λ files told n d checks done.
-    tells_infeasible files (texts_of c.args.words.now) n d c.print.result _ _ _ _
-    (prints_answer (answer_of files (texts_of c.args.words.now)) c.in-Ok.reply c.print.result _ _ _ _ (c.in-Ok.ensures.replies files told) c.print.ensures.prints)
-    checks done
+returns-in-Ok-clause-infeasible g c = λ files told n d checks done. run_infeasible files (texts_of c.args.words.now) c.in-Ok.reply c.print.result _ _ _ _ n d (c.in-Ok.ensures.replies files told) c.print.ensures.prints checks done
+
+pub returns-in-Ok-clause-planned : goal.returns-in-Ok-clause-planned
+returns-in-Ok-clause-planned g c = λ files told n d s done. tells_plan files (texts_of c.args.words.now) n d s c.in-Ok.reply c.print.result _ _ _ _ (c.in-Ok.ensures.replies files told) c.print.ensures.prints done
+
+pub returns-in-Ok-clause-held : goal.returns-in-Ok-clause-held
+returns-in-Ok-clause-held g c = run_leaves (request_of (texts_of c.args.words.now)) c.in-Ok.reply.status c.print.result (g.S.Shelf.held c.args.shelf.now) (g.S.Shelf.held c.reply.new.shelf) c.in-Ok.reply.answered c.print.ensures.prints.status c.print.ensures.no_shelf c.in-Ok.ensures.held
+
+pub returns-in-Ok-clause-proven : goal.returns-in-Ok-clause-proven
+returns-in-Ok-clause-proven g c = λ files told n d s no. tells_none files (texts_of c.args.words.now) n d s c.in-Ok.reply c.print.result _ _ _ _ (c.in-Ok.ensures.replies files told) c.print.ensures.prints _ _ told
+    (run_leaves (request_of (texts_of c.args.words.now)) c.in-Ok.reply.status c.print.result (g.S.Shelf.held c.args.shelf.now) (g.S.Shelf.held c.reply.new.shelf) c.in-Ok.reply.answered c.print.ensures.prints.status c.print.ensures.no_shelf c.in-Ok.ensures.held) no
+
+pub returns-in-Err-Told-clause-answer : goal.returns-in-Err-Told-clause-answer
+returns-in-Err-Told-clause-answer g c = λ files told. run_so files (texts_of c.args.words.now) c.in-Err-Told.reply c.print-in-Err-Told.result _ _ _ _ (told_so c.in-Err-Told.field-0 c.in-Err-Told.reply files (request_of (texts_of c.args.words.now)) c.in-Err-Told.field-0-is (c.in-Err-Told.ensures.replies files told)) c.print-in-Err-Told.ensures.prints
+
+pub returns-in-Err-Told-clause-met : goal.returns-in-Err-Told-clause-met
+returns-in-Err-Told-clause-met g c = λ files told d plan s answered. run_met files (texts_of c.args.words.now) c.in-Err-Told.reply c.print-in-Err-Told.result _ _ _ _ (told_so c.in-Err-Told.field-0 c.in-Err-Told.reply files (request_of (texts_of c.args.words.now)) c.in-Err-Told.field-0-is (c.in-Err-Told.ensures.replies files told)) (told_reply c.in-Err-Told.field-0 c.in-Err-Told.reply (λ reply. DoneWhereFeasible files (texts_of c.args.words.now) reply.status) c.in-Err-Told.field-0-is (c.in-Err-Told.ensures.done files told)) c.print-in-Err-Told.ensures.prints d plan s answered
 
 pub returns-in-Err-Told-clause-infeasible : goal.returns-in-Err-Told-clause-infeasible
-returns-in-Err-Told-clause-infeasible g c = λ files told n d checks done.
-    tells_infeasible files (texts_of c.args.words.now) n d c.print-in-Err-Told.result _ _ _ _
-    (prints_answer (answer_of files (texts_of c.args.words.now)) c.in-Err-Told.reply c.print-in-Err-Told.result _ _ _ _
-    (told_reply c.in-Err-Told.field-0 c.in-Err-Told.reply (λ reply. answer_of files (texts_of c.args.words.now) ≡ reply_seen reply) c.in-Err-Told.field-0-is (c.in-Err-Told.ensures.replies files told))
-    c.print-in-Err-Told.ensures.prints)
-    checks done
+returns-in-Err-Told-clause-infeasible g c = λ files told n d checks done. run_infeasible files (texts_of c.args.words.now) c.in-Err-Told.reply c.print-in-Err-Told.result _ _ _ _ n d (told_so c.in-Err-Told.field-0 c.in-Err-Told.reply files (request_of (texts_of c.args.words.now)) c.in-Err-Told.field-0-is (c.in-Err-Told.ensures.replies files told)) c.print-in-Err-Told.ensures.prints checks done
+
+pub returns-in-Err-Told-clause-planned : goal.returns-in-Err-Told-clause-planned
+returns-in-Err-Told-clause-planned g c = λ files told n d s done. tells_plan files (texts_of c.args.words.now) n d s c.in-Err-Told.reply c.print-in-Err-Told.result _ _ _ _ (told_so c.in-Err-Told.field-0 c.in-Err-Told.reply files (request_of (texts_of c.args.words.now)) c.in-Err-Told.field-0-is (c.in-Err-Told.ensures.replies files told)) c.print-in-Err-Told.ensures.prints done
+
+pub returns-in-Err-Told-clause-held : goal.returns-in-Err-Told-clause-held
+returns-in-Err-Told-clause-held g c = run_leaves (request_of (texts_of c.args.words.now)) c.in-Err-Told.reply.status c.print-in-Err-Told.result (g.S.Shelf.held c.args.shelf.now) (g.S.Shelf.held c.reply.new.shelf) c.in-Err-Told.reply.answered c.print-in-Err-Told.ensures.prints.status c.print-in-Err-Told.ensures.no_shelf (told_status c.in-Err-Told.field-0 c.in-Err-Told.reply (λ s. Leaves (request_of (texts_of c.args.words.now)) s (g.S.Shelf.held c.args.shelf.now) (g.S.Shelf.held c.reply.new.shelf)) c.in-Err-Told.field-0-is c.in-Err-Told.ensures.held)
+
+pub returns-in-Err-Told-clause-proven : goal.returns-in-Err-Told-clause-proven
+returns-in-Err-Told-clause-proven g c = λ files told n d s no. tells_none files (texts_of c.args.words.now) n d s c.in-Err-Told.reply c.print-in-Err-Told.result _ _ _ _ (told_so c.in-Err-Told.field-0 c.in-Err-Told.reply files (request_of (texts_of c.args.words.now)) c.in-Err-Told.field-0-is (c.in-Err-Told.ensures.replies files told)) c.print-in-Err-Told.ensures.prints _ _ told
+    (run_leaves (request_of (texts_of c.args.words.now)) c.in-Err-Told.reply.status c.print-in-Err-Told.result (g.S.Shelf.held c.args.shelf.now) (g.S.Shelf.held c.reply.new.shelf) c.in-Err-Told.reply.answered c.print-in-Err-Told.ensures.prints.status c.print-in-Err-Told.ensures.no_shelf (told_status c.in-Err-Told.field-0 c.in-Err-Told.reply (λ s. Leaves (request_of (texts_of c.args.words.now)) s (g.S.Shelf.held c.args.shelf.now) (g.S.Shelf.held c.reply.new.shelf)) c.in-Err-Told.field-0-is c.in-Err-Told.ensures.held)) no
+
+pub returns-in-Err-Memory-clause-answer : goal.returns-in-Err-Memory-clause-answer
+returns-in-Err-Memory-clause-answer g c = λ files told. (Memory, finds_so files (request_of (texts_of c.args.words.now)) Memory (may_want files (request_of (texts_of c.args.words.now))), silent_for_memory (answer_of files Memory (texts_of c.args.words.now)) _ _)
+
+pub returns-in-Err-ShelfFault-clause-answer : goal.returns-in-Err-ShelfFault-clause-answer
+returns-in-Err-ShelfFault-clause-answer g c = λ files told. (Memory, finds_so files (request_of (texts_of c.args.words.now)) Memory (may_want files (request_of (texts_of c.args.words.now))), silent_at_shelf (answer_of files Memory (texts_of c.args.words.now)) _ _)

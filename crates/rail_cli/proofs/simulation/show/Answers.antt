@@ -23,7 +23,7 @@ returns-clause-exactly c =
     let plan = c.args.plan.now.steps in
     let same : c.in_ok-verdict.verdict ≡ shown_by d plan = c.in_ok-verdict.ensures.value ∙ ap₂ (λ r h. verdict_of d r plan h) c.requires.table c.horizon.ensures.value in
     let kind : c.status_of.result ≡ verdict_status (shown_by d plan) = c.status_of.ensures ∙ ap verdict_status same in
-    subst (λ (s : Status). (s ≡ statuses.Done) ↔ IsFeasible d 64 plan) (sym kind) (done_exactly d plan (admitted d c.args.design.now.admitted) c.requires.runnable)
+    subst (λ (s : Status). (s ≡ statuses.Done) ↔ IsFeasible d 64 plan) (sym kind) (done_exactly d 64 plan (admitted d c.args.design.now.admitted) c.requires.runnable)
 
 pub returns-clause-apart : goal.returns-clause-apart
 returns-clause-apart c =

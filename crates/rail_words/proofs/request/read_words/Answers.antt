@@ -2,6 +2,7 @@ use Rattle.std.proofs.Common.{◌≡◌, option_map}
 use Rattle.rail_words.specs.Requests.{request_of}
 use Rattle.rail_words.specs.Words.{asked_of, texts_of}
 use Rattle.rail_words.proofs.Reading.{request_of-read, request_of-refused, answers_ok, answers_usage}
+use Rattle.rail_words.proofs.Ranges.{answer_in_range}
 use Rattle.rail_words.proofs.request.read_words.Goals as goal
 
 pub returns-in-Ok-clause-ok : goal.returns-in-Ok-clause-ok
@@ -16,3 +17,6 @@ returns-in-Ok-clause-usage c =
 
 pub returns-in-Err-clause-usage : goal.returns-in-Err-clause-usage
 returns-in-Err-clause-usage c = λ e. request_of-refused (texts_of c.args.words.now) (c.in-Err.ensures.usage (cc))
+
+pub returns-in-Ok-clause-range : goal.returns-in-Ok-clause-range
+returns-in-Ok-clause-range c = answer_in_range (texts_of c.args.words.now) c.ok_or.result (returns-in-Ok-clause-ok c)

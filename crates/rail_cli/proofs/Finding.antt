@@ -1,0 +1,354 @@
+-- Searches: what they end with, and what their answers say.
+use Rattle.std.proofs.Common.{◌≡◌, ◌≤◌, ℕ, true, List, length, Option, None, Some, Result, Ok, Err, Vec, Global, refl, ap, sym, ◌∙◌, subst, inl, inr}
+use Rattle.std.specs.List.{concat}
+use Rattle.std.proofs.lemmas.List.{append-nil}
+use Rattle.infra_reader.specs.Design.{design_of}
+use Rattle.log_checker.specs.declared.shown.Shown.TheVariants.{Yes}
+use Rattle.plan_clauses.specs.Clauses.{base_clauses, past_limit}
+use Rattle.proof_judge.specs.Judged.{judged}
+use Rattle.proof_judge.proofs.Sound.{yes_infeasible}
+use Rattle.rail_base.specs.Admission.{is_admitted}
+use Rattle.rail_base.proofs.Admitting.{admitted}
+use Rattle.rail_base.specs.declared.design.Design.{Design}
+use Rattle.rail_base.specs.declared.plan.Command.{Command}
+use Rattle.rail_base.specs.declared.plan.Plan.{Plan}
+use Rattle.rail_base.specs.declared.station.Station.{Station}
+use Rattle.rail_base.specs.declared.history.Verdict.{Verdict}
+use Rattle.rail_outside.specs.Files.{Files}
+use Rattle.rail_outside.specs.Growth.{grown}
+use Rattle.rail_spec.specs.Feasible.{IsFeasible}
+use Rattle.rail_spec.specs.Track.{routes_of}
+use Rattle.rail_spec.proofs.Admits.{never_clash}
+use Rattle.rail_words.specs.Requests.{Asked, simulate, routes, verify, check, request_of, IsInRange}
+use Rattle.rail_words.proofs.Ranges.{requests_in_range}
+use Rattle.verify_loop.specs.declared.outcome.Budgets.{Budgets}
+use Rattle.verify_loop.specs.declared.outcome.Outcome.{Outcome}
+use Rattle.verify_loop.specs.declared.outcome.Outcome.TheVariants as outcome
+use Rattle.verify_loop.specs.Outcomes.{Says, Fits}
+use Rattle.rail_cli.specs.declared.status.Status.{Status}
+use Rattle.rail_cli.specs.declared.status.Status.TheVariants as statuses
+use Rattle.rail_cli.specs.declared.input.InputFile.TheVariants as file
+use Rattle.rail_cli.specs.declared.reply.Reply.{Reply}
+use Rattle.rail_cli.specs.declared.ending.Ending.{Ending}
+use Rattle.rail_cli.specs.declared.ending.Ending.TheVariants as ending
+use Rattle.rail_cli.specs.Statuses.{is_answered, is_verdict}
+use Rattle.rail_cli.specs.Texts.{limit_of, usage_line, yes_line, infeasible_line}
+use Rattle.rail_cli.specs.Answers.{Answer, one_line, within_limit, with_routes, design_in, and_then, unless_too_large, with_clauses, unless_refused, told, checked_against, with_proof, checked, plan_told, told_outcome, searched_in, searched, answer_to, answer_of}
+use Rattle.rail_cli.specs.Replies.{reply_seen, Reads, RefusesFile, OnlyFails, Replies, EndsIn, EndsWith, RepliesSo}
+use Rattle.rail_cli.specs.Searches.{budgets_of, Finds, HoldsLog, HoldsProof, SearchLeaves, Leaves, Searches, TellsPlan, TellsNone}
+use Rattle.rail_cli.specs.Checks.{Checks, TellsInfeasible}
+use Rattle.rail_cli.specs.Simulations.{Simulates, TellsFeasible, DoneWhereFeasible}
+use Rattle.rail_cli.specs.Prints.{Prints}
+use Rattle.rail_cli.proofs.Passing.{passed, long_refuses, design_refuses, clauses_refuse, read-same}
+use Rattle.rail_cli.proofs.Refusing.{file_is, file_fits}
+use Rattle.rail_cli.proofs.Deciding.{answered_next, answered_refusal, prints_answer, tells_of_reply}
+use Rattle.rail_cli.proofs.Judging.{small_passes, too_large_refused, tells_infeasible}
+use Rattle.rail_cli.proofs.Showing.{done_exactly, met_first}
+
+-- ---- what a search ends with
+
+-- want of memory is free
+pub may_want : (files : Files) (asked : Option Asked) → EndsWith files asked outcome.Memory
+may_want files None = tt
+may_want files (Some (simulate design plan)) = tt
+may_want files (Some (routes design)) = tt
+may_want files (Some (check n design proof)) = tt
+may_want files (Some (verify n conflicts ticks design proof)) = inl refl
+
+-- the outcome says what it is to say of the design that the file spells
+pub finds_so : (files : Files) (asked : Option Asked) (found : Outcome) → EndsWith files asked found → Finds files asked found
+finds_so files None found ends = tt
+finds_so files (Some (simulate design plan)) found ends = tt
+finds_so files (Some (routes design)) found ends = tt
+finds_so files (Some (check n design proof)) found ends = tt
+finds_so files (Some (verify n conflicts ticks design proof)) found (inl same) = λ d spelled. subst (λ (o : Outcome). Says d n (budgets_of conflicts ticks) o × Fits d n o) (sym same) (tt, tt)
+finds_so files (Some (verify n conflicts ticks design proof)) found (inr e) = λ d spelled.
+    (let one : Ok e.design.station ≡ Ok d = sym e.spelled ∙ spelled in
+    let same : e.design.station ≡ d = cc in
+    subst (λ (x : Station). Says x n (budgets_of conflicts ticks) found × Fits x n found) same (e.says, e.fits))
+
+-- ---- what is told of it
+
+module _ (d : Station) (n : ℕ) (b : Budgets) where
+  -- what is told, where the clauses are few
+  abbrev outcome_told : Outcome → Answer
+  outcome_told found = told_outcome d n b.conflicts b.ticks found
+
+  few_told : (found : Outcome) → past_limit 4000000 0 (base_clauses d (routes_of d) n) ≡ None → searched_in d n b.conflicts b.ticks found ≡ outcome_told found
+  few_told found few = answered_next (with_clauses n d) d (λ same. outcome_told found) (small_passes n d few)
+
+  many_told : (literals : ℕ) → past_limit 4000000 0 (base_clauses d (routes_of d) n) ≡ Some literals → searched_in d n b.conflicts b.ticks (outcome.TooLarge literals) ≡ outcome_told (outcome.TooLarge literals)
+  many_told literals many = answered_refusal (with_clauses n d) _ (λ same. outcome_told (outcome.TooLarge literals)) (too_large_refused n d literals many)
+
+  -- a reply is no answer for want of memory
+  never_memory : (r : Result Reply Ending) (answer : Answer) → Replies r (outcome_told outcome.Memory) → Replies r answer
+  never_memory (Ok reply) answer h = (let kind : is_answered statuses.Memory ≡ is_answered reply.status = ap (λ (a : Answer). is_answered a.status) h in let yes = reply.answered in absurd (cc))
+  never_memory (Err (ending.Told reply)) answer h = (let kind : is_answered statuses.Memory ≡ is_answered reply.status = ap (λ (a : Answer). is_answered a.status) h in let yes = reply.answered in absurd (cc))
+  never_memory (Err ending.Memory) answer h = tt
+  never_memory (Err ending.ShelfFault) answer h = tt
+
+  -- the reply to the end of a search is one to the search
+  pub searched_so : (r : Result Reply Ending) (found : Outcome) → Says d n b found → Fits d n found → Replies r (outcome_told found) → Replies r (searched_in d n b.conflicts b.ticks found)
+  searched_so r outcome.Memory says fits h = never_memory r _ h
+  searched_so r (outcome.TooLarge literals) says fits h = subst (Replies r) (sym (many_told literals says)) h
+  searched_so r (outcome.Plan plan verdict) says fits h = subst (Replies r) (sym (few_told (outcome.Plan plan verdict) fits)) h
+  searched_so r (outcome.Infeasible log) says fits h = subst (Replies r) (sym (few_told (outcome.Infeasible log) fits)) h
+  searched_so r (outcome.ConflictsSpent log clause hints) says fits h = subst (Replies r) (sym (few_told (outcome.ConflictsSpent log clause hints) fits)) h
+  searched_so r (outcome.TicksSpent sum at_hand) says fits h = subst (Replies r) (sym (few_told (outcome.TicksSpent sum at_hand) fits)) h
+  searched_so r (outcome.LogSpent log bytes next) says fits h = subst (Replies r) (sym (few_told (outcome.LogSpent log bytes next) fits)) h
+  searched_so r (outcome.Unrefuted plan tick) says fits h = subst (Replies r) (sym (few_told (outcome.Unrefuted plan tick) fits)) h
+
+  -- it is never that the words ask for nothing
+  outcome_no_usage : (found : Outcome) → (outcome_told found).status ≡ statuses.Usage → ⊥
+  outcome_no_usage (outcome.Plan plan verdict) e = cc
+  outcome_no_usage (outcome.Infeasible log) e = cc
+  outcome_no_usage (outcome.ConflictsSpent log clause hints) e = cc
+  outcome_no_usage (outcome.TicksSpent sum at_hand) e = cc
+  outcome_no_usage (outcome.LogSpent log bytes next) e = cc
+  outcome_no_usage (outcome.Unrefuted plan tick) e = cc
+  outcome_no_usage (outcome.TooLarge literals) e = cc
+  outcome_no_usage outcome.Memory e = cc
+
+  pub told_no_usage : (found : Outcome) (reply : Reply) → reply_seen reply ≡ outcome_told found → reply.status ≡ statuses.Usage → ⊥
+  told_no_usage found reply seen e = outcome_no_usage found (ap (λ (a : Answer). a.status) (sym seen) ∙ e)
+
+-- a store that failed tells nothing
+pub failed_so : (e : Ending) (r : Result Reply Ending) (answer : Answer) → r ≡ Err e → OnlyFails {X = Unit {0}} (Err e) → Replies r answer
+failed_so (ending.Told reply) r answer is h = absurd h
+failed_so ending.Memory r answer is h = subst (λ (x : Result Reply Ending). Replies x answer) (sym is) tt
+failed_so ending.ShelfFault r answer is h = subst (λ (x : Result Reply Ending). Replies x answer) (sym is) tt
+
+pub failed_refuses : (e : Ending) (r : Result Reply Ending) → r ≡ Err e → OnlyFails {X = Unit {0}} (Err e) → RefusesFile r
+failed_refuses (ending.Told reply) r is h = absurd h
+failed_refuses ending.Memory r is h = subst (λ (x : Result Reply Ending). RefusesFile x) (sym is) tt
+failed_refuses ending.ShelfFault r is h = subst (λ (x : Result Reply Ending). RefusesFile x) (sym is) tt
+
+-- ---- the design is read
+
+module _ (n conflicts ticks : ℕ) (design_bytes : List ℕ) (found : Outcome) where
+  -- the rest of a search, with the design's text
+  abbrev with_text : List ℕ → Answer
+  with_text text = unless_refused (design_in text) (λ d. searched_in d n conflicts ticks found)
+
+  pub unfetched : (view : Vec ℕ Global → List ℕ) (e : Ending) → Reads view (Err e) (within_limit file.Design design_bytes) → Replies (Err e) (searched n conflicts ticks design_bytes found)
+  unfetched view (ending.Told reply) h = answered_refusal (within_limit file.Design design_bytes) (reply_seen reply) with_text h
+  unfetched view ending.Memory h = tt
+  unfetched view ending.ShelfFault h = tt
+
+  module _ (text : List ℕ) (fits : within_limit file.Design design_bytes ≡ Ok text) where
+    fetched_so : searched n conflicts ticks design_bytes found ≡ with_text text
+    fetched_so = answered_next (within_limit file.Design design_bytes) text with_text fits
+
+    pub unread : {X : Type 0} (view : X → Station) (e : Ending) → Reads view (Err e) (design_in text) → Replies (Err e) (searched n conflicts ticks design_bytes found)
+    unread view (ending.Told reply) h = fetched_so ∙ answered_refusal (design_in text) (reply_seen reply) (λ d. searched_in d n conflicts ticks found) h
+    unread view ending.Memory h = tt
+    unread view ending.ShelfFault h = tt
+
+    pub read_so : (d : Station) → design_in text ≡ Ok d → searched n conflicts ticks design_bytes found ≡ searched_in d n conflicts ticks found
+    read_so d reads = fetched_so ∙ answered_next (design_in text) d (λ d. searched_in d n conflicts ticks found) reads
+
+-- ---- the replies to a search
+
+within_budgets : (d : Station) (n : ℕ) (b : Budgets) (found : Outcome) → b.log_bytes ≡ limit_of file.Proof → Says d n b found → Says d n (budgets_of b.conflicts b.ticks) found
+within_budgets d n b found room says = subst (λ (k : ℕ). Says d n (record { conflicts = b.conflicts; ticks = b.ticks; log_bytes = k }) found) room says
+
+module _ (files : Files) (n : ℕ) (b : Budgets) (design proof : List ℕ) where
+  -- what is asked
+  abbrev search_asked : Option Asked
+  search_asked = Some (verify n b.conflicts b.ticks design proof)
+
+  pub unfetched_so : (view : Vec ℕ Global → List ℕ) (e : Ending) (r : Result Reply Ending) → r ≡ Err e → Reads view (Err e) (within_limit file.Design (files design)) → RepliesSo r files search_asked
+  unfetched_so view e r is h = subst (λ (x : Result Reply Ending). RepliesSo x files search_asked) (sym is) (outcome.Memory, inl refl, unfetched n b.conflicts b.ticks (files design) outcome.Memory view e h)
+
+  module _ (text : List ℕ) (fits : within_limit file.Design (files design) ≡ Ok text) where
+    pub unread_so : {X : Type 0} (view : X → Station) (e : Ending) (r : Result Reply Ending) → r ≡ Err e → Reads view (Err e) (design_in text) → RepliesSo r files search_asked
+    unread_so view e r is h = subst (λ (x : Result Reply Ending). RepliesSo x files search_asked) (sym is) (outcome.Memory, inl refl, unread n b.conflicts b.ticks (files design) outcome.Memory text fits view e h)
+
+    -- the name spells the design
+    pub spelled_so : (d : Station) → design_in text ≡ Ok d → design_in (files design) ≡ Ok d
+    spelled_so d reads = ap design_in (file_is file.Design (files design) text fits) ∙ reads
+
+    pub ended_so : (d : Design) (r : Result Reply Ending) → b.log_bytes ≡ limit_of file.Proof → design_in text ≡ Ok d.station
+        → (found : Outcome) × Says d.station n b found × Fits d.station n found × Replies r (searched_in d.station n b.conflicts b.ticks found)
+        → RepliesSo r files search_asked
+    ended_so d r room reads h = (
+      h.0,
+      inr (record { design = d; spelled = spelled_so d.station reads; says = within_budgets d.station n b h.0 room h.1; fits = h.2 }),
+      subst (Replies r) (sym (read_so n b.conflicts b.ticks (files design) h.0 text fits d.station reads)) h.3,
+    )
+
+-- ---- the replies to a request
+
+module _ (r : Result Reply Ending) (files : Files) (asked : Asked) where
+  pub simulate_so : (design plan : List ℕ) → asked ≡ simulate design plan → Replies r (answer_to files outcome.Memory (Some (simulate design plan))) → RepliesSo r files (Some asked)
+  simulate_so design plan is h = subst (λ (a : Asked). RepliesSo r files (Some a)) (sym is) (outcome.Memory, tt, h)
+
+  pub routes_so : (design : List ℕ) → asked ≡ routes design → Replies r (answer_to files outcome.Memory (Some (routes design))) → RepliesSo r files (Some asked)
+  routes_so design is h = subst (λ (a : Asked). RepliesSo r files (Some a)) (sym is) (outcome.Memory, tt, h)
+
+  pub check_so : (n : ℕ) (design proof : List ℕ) → asked ≡ check n design proof → Replies r (answer_to files outcome.Memory (Some (check n design proof))) → RepliesSo r files (Some asked)
+  check_so n design proof is h = subst (λ (a : Asked). RepliesSo r files (Some a)) (sym is) (outcome.Memory, tt, h)
+
+  pub verify_so : (n conflicts ticks : ℕ) (b : Budgets) (design proof : List ℕ) → b ≡ budgets_of conflicts ticks → asked ≡ verify n conflicts ticks design proof → RepliesSo r files (Some (verify n b.conflicts b.ticks design proof)) → RepliesSo r files (Some asked)
+  verify_so n conflicts ticks b design proof within is h = subst (λ (a : Asked). RepliesSo r files (Some a)) (sym is) (subst (λ (x : Budgets). RepliesSo r files (Some (verify n x.conflicts x.ticks design proof))) within h)
+
+-- the words ask for nothing
+pub usage_so : (files : Files) (asked : Option Asked) (reply : Reply) → asked ≡ None → reply_seen reply ≡ one_line statuses.Usage usage_line → RepliesSo (Ok reply) files asked
+usage_so files asked reply is seen = subst (λ (a : Option Asked). RepliesSo (Ok reply) files a) (sym is) (outcome.Memory, tt, sym seen)
+
+-- memory was wanting
+pub want_so : (r : Result Reply Ending) (files : Files) (asked : Option Asked) → r ≡ Err ending.Memory → RepliesSo r files asked
+want_so r files asked is = subst (λ (x : Result Reply Ending). RepliesSo x files asked) (sym is) (outcome.Memory, may_want files asked, tt)
+
+-- what a search was asked for, from a request that is in range
+pub search_steps : (asked : Asked) (n conflicts ticks : ℕ) (design proof : List ℕ) → asked ≡ verify n conflicts ticks design proof → IsInRange asked → (1 ≤ n) × (n ≤ 64)
+search_steps asked n conflicts ticks design proof is range = subst IsInRange is range
+
+-- ---- runs
+
+-- the reply of an ending
+pub told_so : (e : Ending) (reply : Reply) (files : Files) (asked : Option Asked) → e ≡ ending.Told reply → RepliesSo (Err e) files asked → RepliesSo (Ok reply) files asked
+told_so e reply files asked is h = subst (λ (x : Ending). RepliesSo (Err x) files asked) is h
+
+module _ (files : Files) (words : List (List ℕ)) (reply : Reply) (t : Status) (text new_text : Option (List ℕ)) (pieces new_pieces : Option (List (List ℕ))) where
+  -- the reply was printed
+  pub run_so : RepliesSo (Ok reply) files (request_of words) → Prints (reply_seen reply) t text new_text pieces new_pieces → (found : Outcome) × Finds files (request_of words) found × Prints (answer_of files found words) t text new_text pieces new_pieces
+  run_so h prints = (h.0, finds_so files (request_of words) h.0 h.1, prints_answer (answer_of files h.0 words) reply t text new_text pieces new_pieces h.2 prints)
+
+  -- of a check
+  pub run_infeasible : (n : ℕ) (d : Station) → RepliesSo (Ok reply) files (request_of words) → Prints (reply_seen reply) t text new_text pieces new_pieces → Checks files words n d → t ≡ statuses.Done → TellsInfeasible n d text new_text
+  run_infeasible n d h prints checks done = tells_infeasible files h.0 words n d t text new_text pieces new_pieces (prints_answer (answer_of files h.0 words) reply t text new_text pieces new_pieces h.2 prints) checks done
+
+  -- of a simulation
+  pub run_met : RepliesSo (Ok reply) files (request_of words) → DoneWhereFeasible files words reply.status → Prints (reply_seen reply) t text new_text pieces new_pieces → (d : Station) (plan : List (List Command)) → Simulates files words d plan → is_answered t ≡ true → TellsFeasible d plan t text new_text
+  run_met h done prints d plan s answered = tells_of_reply files h.0 words d plan reply t text new_text pieces new_pieces h.2 done prints s answered
+
+-- ---- where the answer is yes or no
+
+-- the design was read, its clauses are few, and the end of the search is told
+record Searched (n conflicts ticks : ℕ) (design_bytes : List ℕ) (found : Outcome) (d : Station) : Type 0 where
+  fits : within_limit file.Design design_bytes ≡ Ok design_bytes
+  reads : design_in design_bytes ≡ Ok d
+  clauses : with_clauses n d ≡ Ok d
+  answer : searched n conflicts ticks design_bytes found ≡ told_outcome d n conflicts ticks found
+
+same_clauses : (d : Station) (many : Option ℕ) (e : Station) → unless_too_large d many ≡ Ok e → unless_too_large d many ≡ Ok d
+same_clauses d None e h = refl
+same_clauses d (Some k) e h = absurd (cc)
+
+was_searched : (n conflicts ticks : ℕ) (design_bytes : List ℕ) (found : Outcome) (d : Station) → design_of design_bytes ≡ Ok d → is_verdict (searched n conflicts ticks design_bytes found).status ≡ true → Searched n conflicts ticks design_bytes found d
+was_searched n conflicts ticks design_bytes found d spells verdict =
+    let one = passed (within_limit file.Design design_bytes) (with_text n conflicts ticks design_bytes found) (long_refuses file.Design design_bytes) verdict in
+    let two = passed (design_in one.read) (λ e. searched_in e n conflicts ticks found) (design_refuses (and_then (design_of one.read) with_routes)) one.verdict in
+    let three = passed (with_clauses n two.read) (λ same. told_outcome two.read n conflicts ticks found) (clauses_refuse two.read (past_limit 4000000 0 (base_clauses two.read (routes_of two.read) n))) two.verdict in
+    let text : design_bytes ≡ one.read = file_is file.Design design_bytes one.read one.is in
+    let same : d ≡ two.read = read-same one.read d two.read (ap design_of (sym text) ∙ spells) two.is in
+    let few : with_clauses n two.read ≡ Ok two.read = same_clauses two.read (past_limit 4000000 0 (base_clauses two.read (routes_of two.read) n)) three.read three.is in
+    record {
+      fits = one.is ∙ ap (λ (bytes : List ℕ). Ok bytes) (sym text);
+      reads = ap design_in text ∙ (two.is ∙ ap (λ (e : Station). Ok e) (sym same));
+      clauses = subst (λ (e : Station). with_clauses n e ≡ Ok e) (sym same) few;
+      answer = (one.comes ∙ (two.comes ∙ three.comes)) ∙ ap (λ (e : Station). told_outcome e n conflicts ticks found) (sym same);
+    }
+
+-- a plan was found
+record PlanFound (found : Outcome) : Type 0 where
+  plan : Plan
+  verdict : Verdict
+  is : found ≡ outcome.Plan plan verdict
+
+plan_found : (d : Station) (n conflicts ticks : ℕ) (found : Outcome) → (told_outcome d n conflicts ticks found).status ≡ statuses.Done → PlanFound found
+plan_found d n conflicts ticks (outcome.Plan plan verdict) e = record { plan = plan; verdict = verdict; is = refl }
+plan_found d n conflicts ticks (outcome.Infeasible log) e = absurd (cc)
+plan_found d n conflicts ticks (outcome.ConflictsSpent log clause hints) e = absurd (cc)
+plan_found d n conflicts ticks (outcome.TicksSpent sum at_hand) e = absurd (cc)
+plan_found d n conflicts ticks (outcome.LogSpent log bytes next) e = absurd (cc)
+plan_found d n conflicts ticks (outcome.Unrefuted plan tick) e = absurd (cc)
+plan_found d n conflicts ticks (outcome.TooLarge literals) e = absurd (cc)
+plan_found d n conflicts ticks outcome.Memory e = absurd (cc)
+
+-- there is no plan
+none_told : (d : Station) (n conflicts ticks : ℕ) (found : Outcome) → (told_outcome d n conflicts ticks found).status ≡ statuses.No → told_outcome d n conflicts ticks found ≡ one_line statuses.No (infeasible_line n)
+none_told d n conflicts ticks (outcome.Infeasible log) e = refl
+none_told d n conflicts ticks (outcome.Plan plan verdict) e = absurd (cc)
+none_told d n conflicts ticks (outcome.ConflictsSpent log clause hints) e = absurd (cc)
+none_told d n conflicts ticks (outcome.TicksSpent sum at_hand) e = absurd (cc)
+none_told d n conflicts ticks (outcome.LogSpent log bytes next) e = absurd (cc)
+none_told d n conflicts ticks (outcome.Unrefuted plan tick) e = absurd (cc)
+none_told d n conflicts ticks (outcome.TooLarge literals) e = absurd (cc)
+none_told d n conflicts ticks outcome.Memory e = absurd (cc)
+
+-- where a plan was found, memory was not wanting
+ended_in : (files : Files) (n conflicts ticks : ℕ) (design proof : List ℕ) (found : Outcome) → PlanFound found → EndsWith files (Some (verify n conflicts ticks design proof)) found → EndsIn files n conflicts ticks design found
+ended_in files n conflicts ticks design proof found p (inl same) = (let clash = sym same ∙ p.is in absurd (cc))
+ended_in files n conflicts ticks design proof found p (inr e) = e
+
+module _ (files : Files) (words : List (List ℕ)) (n : ℕ) (d : Station) (s : Searches files words n d) (reply : Reply) (t : Status) (text new_text : Option (List ℕ)) (pieces new_pieces : Option (List (List ℕ)))
+    (replies : RepliesSo (Ok reply) files (request_of words)) (prints : Prints (reply_seen reply) t text new_text pieces new_pieces) where
+  abbrev found_here : Outcome
+  found_here = replies.0
+
+  answer_here : reply_seen reply ≡ searched n s.conflicts s.ticks (files s.design_name) found_here
+  answer_here = sym replies.2 ∙ ap (answer_to files found_here) s.asked
+
+  searched_here : is_answered t ≡ true → is_verdict t ≡ true → Searched n s.conflicts s.ticks (files s.design_name) found_here d
+  searched_here answered verdict = was_searched n s.conflicts s.ticks (files s.design_name) found_here d s.spells_design (ap (λ (a : Answer). is_verdict a.status) (sym answer_here) ∙ (ap is_verdict (sym (prints.status answered)) ∙ verdict))
+
+  told_here : is_answered t ≡ true → is_verdict t ≡ true → reply_seen reply ≡ told_outcome d n s.conflicts s.ticks found_here
+  told_here answered verdict = answer_here ∙ (searched_here answered verdict).answer
+
+  ends_here : EndsWith files (Some (verify n s.conflicts s.ticks s.design_name s.proof_name)) found_here
+  ends_here = subst (λ (a : Option Asked). EndsWith files a found_here) s.asked replies.1
+
+  -- status 0 tells a plan
+  pub tells_plan : t ≡ statuses.Done → TellsPlan n d text new_text
+  tells_plan done =
+      let answered : is_answered t ≡ true = rw done refl in
+      let verdict : is_verdict t ≡ true = rw done refl in
+      let q = searched_here answered verdict in
+      let told = told_here answered verdict in
+      let p = plan_found d n s.conflicts s.ticks found_here (ap (λ (a : Answer). a.status) (sym told) ∙ (sym (prints.status answered) ∙ done)) in
+      let e = ended_in files n s.conflicts s.ticks s.design_name s.proof_name found_here p ends_here in
+      let one : Ok e.design.station ≡ Ok d = sym e.spelled ∙ q.reads in
+      let same : e.design.station ≡ d = cc in
+      let good = admitted d (subst (λ (x : Station). is_admitted x ≡ true) same e.design.admitted) in
+      let says = subst (λ (o : Outcome). Says d n (budgets_of s.conflicts s.ticks) o) p.is (subst (λ (x : Station). Says x n (budgets_of s.conflicts s.ticks) found_here) same e.says) in
+      let feasible : IsFeasible d n p.plan.steps = says.0 in
+      let lines : reply_seen reply ≡ plan_told d p.plan.steps = told ∙ ap (told_outcome d n s.conflicts s.ticks) p.is in
+      record {
+        plan = p.plan.steps;
+        text = prints.written answered ∙ ap (λ (a : Answer). grown text (concat a.lines)) lines;
+        feasible = feasible;
+        met = met_first d p.plan.steps ((done_exactly d n p.plan.steps good feasible.runnable).1 feasible);
+        apart = never_clash d good n p.plan.steps feasible.runnable.well_formed.formed feasible.runnable.executable;
+      }
+
+  -- what a check says of the stored log
+  log_passes : Searched n s.conflicts s.ticks (files s.design_name) found_here d → (log : List ℕ) → length log ≤ limit_of file.Proof → judged d n log ≡ Yes n → checked n (files s.design_name) log ≡ one_line statuses.Done (yes_line n)
+  log_passes q log short shows =
+      answered_next (within_limit file.Design (files s.design_name)) (files s.design_name) (λ bytes. unless_refused (design_in bytes) (λ e. with_proof n e log)) q.fits
+      ∙ (answered_next (design_in (files s.design_name)) d (λ e. with_proof n e log) q.reads
+      ∙ (answered_next (with_clauses n d) d (λ same. unless_refused (within_limit file.Proof log) (checked_against d n)) q.clauses
+      ∙ (answered_next (within_limit file.Proof log) log (checked_against d n) (file_fits file.Proof log short)
+      ∙ ap told shows)))
+
+  -- status 1 tells that there is none, and such a log is stored
+  pub tells_none : (old new : Option Files) → old ≡ Some files → Leaves (request_of words) t old new → t ≡ statuses.No → TellsNone files s.design_name s.proof_name n d text new_text new
+  tells_none old new told_files leaves ends =
+      let answered : is_answered t ≡ true = rw ends refl in
+      let verdict : is_verdict t ≡ true = rw ends refl in
+      let q = searched_here answered verdict in
+      let told = told_here answered verdict in
+      let line = told ∙ none_told d n s.conflicts s.ticks found_here (ap (λ (a : Answer). a.status) (sym told) ∙ (sym (prints.status answered) ∙ ends)) in
+      let left = subst (λ (a : Option Asked). Leaves a t old new) s.asked leaves in
+      let proof : HoldsProof files n s.design_name s.proof_name new = subst (λ (u : Status). SearchLeaves files n s.design_name s.proof_name u new) ends (left files told_files) in
+      let one : Ok proof.0 ≡ Ok d = sym proof.1 ∙ q.reads in
+      let same : proof.0 ≡ d = cc in
+      let log : HoldsLog files s.proof_name d n new = subst (λ (x : Station). HoldsLog files s.proof_name x n new) same proof.2 in
+      let some : 1 ≤ n = (requests_in_range words (verify n s.conflicts s.ticks s.design_name s.proof_name) s.asked).0 in
+      record {
+        text = prints.written answered ∙ (ap (λ (a : Answer). grown text (concat a.lines)) line ∙ ap (grown text) (append-nil (infeasible_line n)));
+        none = (yes_infeasible d n n log.log some log.shows).1;
+        stored = log;
+        passes = log_passes q log.log log.short log.shows;
+      }

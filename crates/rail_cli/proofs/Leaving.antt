@@ -1,0 +1,178 @@
+-- What a run leaves on the shelf.
+use Rattle.std.proofs.Common.{◌≡◌, ◌⊎◌, ℕ, true, List, Option, None, Some, Result, Ok, Err, refl, ap, sym, ◌∙◌, subst, inl, inr}
+use Rattle.rail_base.specs.declared.station.Station.{Station}
+use Rattle.rail_outside.specs.Files.{Files}
+use Rattle.rail_outside.proofs.Kept.{updated-kept}
+use Rattle.rail_words.specs.Requests.{Asked, simulate, routes, verify, check}
+use Rattle.verify_loop.specs.declared.outcome.Budgets.{Budgets}
+use Rattle.verify_loop.specs.declared.outcome.Outcome.{Outcome}
+use Rattle.verify_loop.specs.declared.outcome.Outcome.TheVariants as outcome
+use Rattle.verify_loop.specs.Outcomes.{Says}
+use Rattle.rail_cli.specs.declared.status.Status.{Status}
+use Rattle.rail_cli.specs.declared.status.Status.TheVariants.{Done, No, Usage, DesignRefused, PlanRefused, ConflictsSpent, Memory, ShelfFault, SinkFault, TicksSpent, LogSpent, TooLong, Unrefuted}
+use Rattle.rail_cli.specs.declared.input.InputFile.TheVariants as file
+use Rattle.rail_cli.specs.declared.reply.Reply.{Reply}
+use Rattle.rail_cli.specs.declared.ending.Ending.{Ending}
+use Rattle.rail_cli.specs.declared.ending.Ending.TheVariants as ending
+use Rattle.rail_cli.specs.Statuses.{is_answered, is_refusal}
+use Rattle.rail_cli.specs.Texts.{limit_of}
+use Rattle.rail_cli.specs.Answers.{Answer, design_in, told_outcome}
+use Rattle.rail_cli.specs.Replies.{reply_seen, OnEnd, RefusesFile, StoresFile, KeepsLog}
+use Rattle.rail_cli.specs.Searches.{HoldsProof, SearchLeaves, Leaves}
+
+-- ---- a search
+
+module _ (files : Files) (n : ℕ) (design proof : List ℕ) (held : Option Files) where
+  -- this is left with a status
+  abbrev left : Status → Type 0
+  left s = SearchLeaves files n design proof s held
+
+  -- after an answer there is a proof, or the files are as they were
+  answered_leaves : (s : Status) → is_answered s ≡ true → left s → HoldsProof files n design proof held ⊎ (held ≡ Some files)
+  answered_leaves No answered h = inl h
+  answered_leaves Done answered h = inr h
+  answered_leaves Usage answered h = inr h
+  answered_leaves DesignRefused answered h = inr h
+  answered_leaves PlanRefused answered h = inr h
+  answered_leaves ConflictsSpent answered h = inr h
+  answered_leaves TicksSpent answered h = inr h
+  answered_leaves LogSpent answered h = inr h
+  answered_leaves TooLong answered h = inr h
+  answered_leaves Unrefuted answered h = inr h
+  answered_leaves Memory answered h = absurd (cc)
+  answered_leaves ShelfFault answered h = absurd (cc)
+  answered_leaves SinkFault answered h = absurd (cc)
+
+  -- a reply with status s was made, and its print ended with status t
+  pub printed_leaves : (s t : Status) → is_answered s ≡ true → (is_answered t ≡ true → t ≡ s) → (t ≡ ShelfFault → ⊥) → left s → left t
+  printed_leaves s Memory answered same no_shelf h = answered_leaves s answered h
+  printed_leaves s SinkFault answered same no_shelf h = answered_leaves s answered h
+  printed_leaves s ShelfFault answered same no_shelf h = absurd (no_shelf refl)
+  printed_leaves s Done answered same no_shelf h = subst left (sym (same refl)) h
+  printed_leaves s No answered same no_shelf h = subst left (sym (same refl)) h
+  printed_leaves s Usage answered same no_shelf h = subst left (sym (same refl)) h
+  printed_leaves s DesignRefused answered same no_shelf h = subst left (sym (same refl)) h
+  printed_leaves s PlanRefused answered same no_shelf h = subst left (sym (same refl)) h
+  printed_leaves s ConflictsSpent answered same no_shelf h = subst left (sym (same refl)) h
+  printed_leaves s TicksSpent answered same no_shelf h = subst left (sym (same refl)) h
+  printed_leaves s LogSpent answered same no_shelf h = subst left (sym (same refl)) h
+  printed_leaves s TooLong answered same no_shelf h = subst left (sym (same refl)) h
+  printed_leaves s Unrefuted answered same no_shelf h = subst left (sym (same refl)) h
+
+  -- a refusal leaves the files as they were
+  refusal_leaves : (s : Status) → is_refusal s ≡ true → held ≡ Some files → left s
+  refusal_leaves DesignRefused refusal same = same
+  refusal_leaves PlanRefused refusal same = same
+  refusal_leaves TooLong refusal same = same
+  refusal_leaves Done refusal same = absurd (cc)
+  refusal_leaves No refusal same = absurd (cc)
+  refusal_leaves Usage refusal same = absurd (cc)
+  refusal_leaves ConflictsSpent refusal same = absurd (cc)
+  refusal_leaves TicksSpent refusal same = absurd (cc)
+  refusal_leaves LogSpent refusal same = absurd (cc)
+  refusal_leaves Unrefuted refusal same = absurd (cc)
+  refusal_leaves Memory refusal same = absurd (cc)
+  refusal_leaves ShelfFault refusal same = absurd (cc)
+  refusal_leaves SinkFault refusal same = absurd (cc)
+
+  -- the work ended early, with the files as they were
+  pub early_leaves : (r : Result Reply Ending) (e : Ending) → r ≡ Err e → RefusesFile r → held ≡ Some files → OnEnd r left
+  early_leaves r e is refuses same = subst (λ (x : Result Reply Ending). OnEnd x left) (sym is) (go e (subst (λ (x : Result Reply Ending). RefusesFile x) is refuses))
+    where
+      go : (e : Ending) → RefusesFile {X = Reply} (Err e) → OnEnd (Err e) left
+      go (ending.Told reply) refuses = refusal_leaves reply.status refuses same
+      go ending.Memory refuses = inr same
+      go ending.ShelfFault refuses = (files proof, same ∙ ap (λ (f : Files). Some f) (updated-kept files proof))
+
+  -- the log was not stored
+  unstored_leaves : (e : Ending) (log : List ℕ) → StoresFile {X = Unit {0}} (Err e) files proof log held → OnEnd (Err e) left
+  unstored_leaves (ending.Told reply) log h = absurd h
+  unstored_leaves ending.Memory log h = inr h
+  unstored_leaves ending.ShelfFault log h = h
+
+  unkept_leaves : (e : Ending) (found : Outcome) → KeepsLog {X = Unit {0}} (Err e) files proof found held → OnEnd (Err e) left
+  unkept_leaves e (outcome.Infeasible log) h = unstored_leaves e log.items h
+  unkept_leaves e (outcome.Plan plan verdict) h = absurd (let no = h.0 in cc)
+  unkept_leaves e (outcome.ConflictsSpent log clause hints) h = absurd (let no = h.0 in cc)
+  unkept_leaves e (outcome.TicksSpent sum at_hand) h = absurd (let no = h.0 in cc)
+  unkept_leaves e (outcome.LogSpent log bytes next) h = absurd (let no = h.0 in cc)
+  unkept_leaves e (outcome.Unrefuted plan tick) h = absurd (let no = h.0 in cc)
+  unkept_leaves e (outcome.TooLarge literals) h = absurd (let no = h.0 in cc)
+  unkept_leaves e outcome.Memory h = absurd (let no = h.0 in cc)
+
+  pub failed_leaves : (r : Result Reply Ending) (e : Ending) (found : Outcome) → r ≡ Err e → KeepsLog {X = Unit {0}} (Err e) files proof found held → OnEnd r left
+  failed_leaves r e found is h = subst (λ (x : Result Reply Ending). OnEnd x left) (sym is) (unkept_leaves e found h)
+
+  -- what the search ended with is told, and a log that shows that there is no plan is stored
+  module _ (d : Station) (spelled : design_in (files design) ≡ Ok d) (b : Budgets) (room : b.log_bytes ≡ limit_of file.Proof) where
+    told_leaves : (found : Outcome) → Says d n b found → KeepsLog {X = Unit {0}} (Ok tt) files proof found held → is_answered (told_outcome d n b.conflicts b.ticks found).status ≡ true → left (told_outcome d n b.conflicts b.ticks found).status
+    told_leaves (outcome.Infeasible log) says kept answered = (d, spelled, record { log = log.items; short = rw (← room) says.3; shows = says.2; holds = kept })
+    told_leaves (outcome.Plan plan verdict) says kept answered = kept.1
+    told_leaves (outcome.ConflictsSpent log clause hints) says kept answered = kept.1
+    told_leaves (outcome.TicksSpent sum at_hand) says kept answered = kept.1
+    told_leaves (outcome.LogSpent log bytes next) says kept answered = kept.1
+    told_leaves (outcome.Unrefuted plan tick) says kept answered = kept.1
+    told_leaves (outcome.TooLarge literals) says kept answered = kept.1
+    told_leaves outcome.Memory says kept answered = absurd (cc)
+
+    pub settled_leaves : (found : Outcome) (reply : Reply) → Says d n b found → KeepsLog {X = Unit {0}} (Ok tt) files proof found held → reply_seen reply ≡ told_outcome d n b.conflicts b.ticks found → left reply.status
+    settled_leaves found reply says kept seen =
+        let status : reply.status ≡ (told_outcome d n b.conflicts b.ticks found).status = ap (λ (a : Answer). a.status) seen in
+        subst left (sym status) (told_leaves found says kept (ap is_answered (sym status) ∙ reply.answered))
+
+-- ---- a request
+
+-- the fact holds of every status
+every_status : (r : Result Reply Ending) (fact : Status → Type 0) → ((s : Status) → fact s) → OnEnd r fact
+every_status (Ok reply) fact h = h reply.status
+every_status (Err (ending.Told reply)) fact h = h reply.status
+every_status (Err ending.Memory) fact h = h Memory
+every_status (Err ending.ShelfFault) fact h = h ShelfFault
+
+-- the facts hold of one status
+one_status : (r : Result Reply Ending) (old : Option Files) (fact : Files → Status → Type 0) → ((files : Files) → old ≡ Some files → OnEnd r (fact files)) → OnEnd r (λ s. (files : Files) → old ≡ Some files → fact files s)
+one_status (Ok reply) old fact h = h
+one_status (Err (ending.Told reply)) old fact h = h
+one_status (Err ending.Memory) old fact h = h
+one_status (Err ending.ShelfFault) old fact h = h
+
+module _ (r : Result Reply Ending) (old new : Option Files) (asked : Asked) where
+  -- what is left after this request
+  abbrev leaves : Asked → Type 0
+  leaves a = OnEnd r (λ s. Leaves (Some a) s old new)
+
+  pub simulate_leaves : (design plan : List ℕ) → asked ≡ simulate design plan → new ≡ old → leaves asked
+  simulate_leaves design plan is same = subst leaves (sym is) (every_status r (λ s. new ≡ old) (λ s. same))
+
+  pub routes_leaves : (design : List ℕ) → asked ≡ routes design → new ≡ old → leaves asked
+  routes_leaves design is same = subst leaves (sym is) (every_status r (λ s. new ≡ old) (λ s. same))
+
+  pub check_leaves : (n : ℕ) (design proof : List ℕ) → asked ≡ check n design proof → new ≡ old → leaves asked
+  check_leaves n design proof is same = subst leaves (sym is) (every_status r (λ s. new ≡ old) (λ s. same))
+
+  pub verify_leaves : (n conflicts ticks : ℕ) (design proof : List ℕ) → asked ≡ verify n conflicts ticks design proof → ((files : Files) → old ≡ Some files → OnEnd r (λ s. SearchLeaves files n design proof s new)) → leaves asked
+  verify_leaves n conflicts ticks design proof is h = subst leaves (sym is) (one_status r old (λ files s. SearchLeaves files n design proof s new) h)
+
+-- ---- a run
+
+-- what is asked for
+pub asked_leaves : (r : Result Reply Ending) (old new : Option Files) (a b : Option Asked) → a ≡ b → OnEnd r (λ s. Leaves b s old new) → OnEnd r (λ s. Leaves a s old new)
+asked_leaves r old new a b is h = subst (λ (x : Option Asked). OnEnd r (λ s. Leaves x s old new)) (sym is) h
+
+-- nothing is asked for
+pub none_leaves : (r : Result Reply Ending) (old new : Option Files) (asked : Option Asked) → asked ≡ None → new ≡ old → OnEnd r (λ s. Leaves asked s old new)
+none_leaves r old new asked is same = subst (λ (a : Option Asked). OnEnd r (λ s. Leaves a s old new)) (sym is) (every_status r (λ s. new ≡ old) (λ s. same))
+
+-- the status of a reply that was made
+pub told_status : (e : Ending) (reply : Reply) (fact : Status → Type 0) → e ≡ ending.Told reply → OnEnd (Err e) fact → fact reply.status
+told_status (ending.Told r) reply fact same h = (let this : r ≡ reply = cc in subst (λ (x : Reply). fact x.status) this h)
+told_status ending.Memory reply fact same h = absurd (cc)
+told_status ending.ShelfFault reply fact same h = absurd (cc)
+
+-- a reply was printed
+pub run_leaves : (asked : Option Asked) (s t : Status) (old new : Option Files) → is_answered s ≡ true → (is_answered t ≡ true → t ≡ s) → (t ≡ ShelfFault → ⊥) → Leaves asked s old new → Leaves asked t old new
+run_leaves None s t old new answered same no_shelf h = h
+run_leaves (Some (simulate design plan)) s t old new answered same no_shelf h = h
+run_leaves (Some (routes design)) s t old new answered same no_shelf h = h
+run_leaves (Some (check n design proof)) s t old new answered same no_shelf h = h
+run_leaves (Some (verify n conflicts ticks design proof)) s t old new answered same no_shelf h = λ files told. printed_leaves files n design proof new s t answered same no_shelf (h files told)

@@ -1,0 +1,10 @@
+use Rattle.rail_cli.proofs.Finding.{searched_so}
+use Rattle.rail_cli.proofs.searching.searched_in.Goals as goal
+
+pub returns-clause-replies : goal.returns-clause-replies
+returns-clause-replies g c = (
+  c.verify-found.result,
+  c.verify-found.ensures.says,
+  c.verify-found.ensures.fits,
+  searched_so c.args.design.now.station c.args.steps c.args.budgets c.settle.result c.verify-found.result c.verify-found.ensures.says c.verify-found.ensures.fits c.settle.ensures.replies,
+)

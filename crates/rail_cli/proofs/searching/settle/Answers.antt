@@ -1,0 +1,18 @@
+use Rattle.std.proofs.Common.{rules}
+use Rattle.rail_cli.proofs.Finding.{failed_so, failed_refuses}
+use Rattle.rail_cli.proofs.Leaving.{failed_leaves, settled_leaves}
+use Rattle.rail_cli.proofs.searching.settle.Goals as goal
+
+pub returns-in_err-keep-clause-replies : goal.returns-in_err-keep-clause-replies
+returns-in_err-keep-clause-replies g c = failed_so c.in_err-keep.field-0.0 c.from_residual-in_err-keep.result _ (search rules) c.in_err-keep.ensures.fails
+
+pub returns-in_err-keep-clause-refuses : goal.returns-in_err-keep-clause-refuses
+returns-in_err-keep-clause-refuses g c = failed_refuses c.in_err-keep.field-0.0 c.from_residual-in_err-keep.result (search rules) c.in_err-keep.ensures.fails
+
+pub returns-in_err-keep-clause-held : goal.returns-in_err-keep-clause-held
+returns-in_err-keep-clause-held g c = λ files name told spelled.
+    failed_leaves files c.args.steps name c.args.proof.now _ c.from_residual-in_err-keep.result c.in_err-keep.field-0.0 c.args.found.now (search rules) (c.in_err-keep.ensures.held files told)
+
+pub returns-clause-held : goal.returns-clause-held
+returns-clause-held g c = λ files name told spelled.
+    settled_leaves files c.args.steps name c.args.proof.now _ c.args.design.now.station spelled c.args.budgets c.requires.room c.args.found.now c.in_ok-reply.reply c.requires.says (c.in_ok-keep.ensures.held files told) c.in_ok-reply.ensures

@@ -1,0 +1,88 @@
+-- Searches for a plan: what they end with, what they leave on the shelf, and what their answers say of the design.
+use Rattle.std.specs.Prelude.{◌≡◌, ◌≤◌, ◌⊎◌, ℕ, List, ◌∷◌, length, Option, Some, Ok}
+use Rattle.std.specs.List.{concat}
+use Rattle.infra_reader.specs.Design.{design_of}
+use Rattle.log_checker.specs.declared.shown.Shown.TheVariants.{Yes}
+use Rattle.proof_judge.specs.Judged.{judged}
+use Rattle.rail_base.specs.declared.plan.Command.{Command}
+use Rattle.rail_base.specs.declared.station.Station.{Station}
+use Rattle.rail_outside.specs.Files.{Files, updated}
+use Rattle.rail_outside.specs.Growth.{grown}
+use Rattle.rail_spec.specs.Feasible.{IsFeasible, IsInfeasible}
+use Rattle.rail_spec.specs.Requirements.{cost}
+use Rattle.rail_spec.specs.Safety.{Clash}
+use Rattle.rail_spec.specs.Track.{routes_of}
+use Rattle.rail_words.specs.Requests.{Asked, verify, request_of}
+use Rattle.timetable.specs.Lines.{met_line}
+use Rattle.timetable.specs.Timetable.{timetable_of}
+use Rattle.verify_loop.specs.declared.outcome.Budgets.{Budgets}
+use Rattle.verify_loop.specs.declared.outcome.Outcome.{Outcome}
+use Rattle.verify_loop.specs.Outcomes.{Says, Fits}
+use Rattle.rail_cli.specs.declared.status.Status.{Status}
+use Rattle.rail_cli.specs.declared.status.Status.TheVariants.{Done, No, Memory, ShelfFault, SinkFault}
+use Rattle.rail_cli.specs.declared.input.InputFile.TheVariants as file
+use Rattle.rail_cli.specs.Texts.{limit_of, yes_line, plan_steps_line, plan_line, infeasible_line}
+use Rattle.rail_cli.specs.Answers.{one_line, design_in, shown_by, checked}
+
+-- ---- what a search ends with
+
+-- what a search may spend: so many derived clauses and ticks, and a log as long as a proof may be
+abbrev pub budgets_of : ℕ → ℕ → Budgets
+budgets_of conflicts ticks = record { conflicts = conflicts; ticks = ticks; log_bytes = limit_of file.Proof }
+
+-- where a search is asked for and the file spells a design, the outcome says what it is to say of that design and n, within the budgets
+abbrev pub Finds : Files → Option Asked → Outcome → Type 0
+Finds files (Some (verify n conflicts ticks design proof)) found = (d : Station) → design_in (files design) ≡ Ok d → Says d n (budgets_of conflicts ticks) found × Fits d n found
+Finds files _ found = Unit {0}
+
+-- ---- what a run leaves on the shelf
+
+-- the shelf holds these files with a log under the proof's name, no longer than a proof may be, which shows that the design has no plan of n steps
+pub record HoldsLog (files : Files) (proof : List ℕ) (d : Station) (n : ℕ) (held : Option Files) : Type 0 where
+  pub log : List ℕ
+  pub short : length log ≤ limit_of file.Proof
+  pub shows : judged d n log ≡ Yes n
+  pub holds : held ≡ Some (updated files proof log)
+
+-- the design that the file spelled has no plan of n steps, and the shelf holds a log that shows it
+abbrev pub HoldsProof : Files → ℕ → List ℕ → List ℕ → Option Files → Type 0
+HoldsProof files n design proof held = (d : Station) × (design_in (files design) ≡ Ok d) × HoldsLog files proof d n held
+
+-- what the shelf holds after a search, by its status: after 1 such a log; for want of memory or after a fault of the sink, that or the files as they were; after a fault of the shelf the other files as they were; else all as they were
+abbrev pub SearchLeaves : Files → ℕ → List ℕ → List ℕ → Status → Option Files → Type 0
+SearchLeaves files n design proof No held = HoldsProof files n design proof held
+SearchLeaves files n design proof Memory held = HoldsProof files n design proof held ⊎ (held ≡ Some files)
+SearchLeaves files n design proof SinkFault held = HoldsProof files n design proof held ⊎ (held ≡ Some files)
+SearchLeaves files n design proof ShelfFault held = (some : List ℕ) × (held ≡ Some (updated files proof some))
+SearchLeaves files n design proof _ held = held ≡ Some files
+
+-- what the shelf holds after a request with this status: only a search changes it
+abbrev pub Leaves : Option Asked → Status → Option Files → Option Files → Type 0
+Leaves (Some (verify n conflicts ticks design proof)) s old new = (files : Files) → old ≡ Some files → SearchLeaves files n design proof s new
+Leaves _ s old new = new ≡ old
+
+-- ---- what the answers say
+
+-- the words ask for a search for a plan of n steps, and the design's file spells this design
+pub record Searches (files : Files) (words : List (List ℕ)) (n : ℕ) (d : Station) : Type 0 where
+  pub conflicts : ℕ
+  pub ticks : ℕ
+  pub design_name : List ℕ
+  pub proof_name : List ℕ
+  pub asked : request_of words ≡ Some (verify n conflicts ticks design_name proof_name)
+  pub spells_design : design_of (files design_name) ≡ Ok d
+
+-- the lines printed are `plan steps <number of steps>`, the plan and its timetable; the plan is feasible for n steps; and at no tick of its run, past the horizon too, do two trains hold one section or stand on one
+pub record TellsPlan (n : ℕ) (d : Station) (old new : Option (List ℕ)) : Type 0 where
+  pub plan : List (List Command)
+  pub text : new ≡ grown old (concat (plan_steps_line (length plan) ∷ plan_line d plan ∷ timetable_of d (shown_by d plan)))
+  pub feasible : IsFeasible d n plan
+  pub met : (more : List (List ℕ)) × (timetable_of d (shown_by d plan) ≡ met_line (cost d (routes_of d) plan) ∷ more)
+  pub apart : (k : ℕ) → Clash d (routes_of d) plan k → ⊥
+
+-- what is printed is `infeasible steps <n>`; no plan of n steps is feasible; and the shelf holds a log under the proof's name, every other name as before, to which with the design's bytes a check answers `yes steps <n>`
+pub record TellsNone (files : Files) (design proof : List ℕ) (n : ℕ) (d : Station) (old new : Option (List ℕ)) (held : Option Files) : Type 0 where
+  pub text : new ≡ grown old (infeasible_line n)
+  pub none : IsInfeasible d n
+  pub stored : HoldsLog files proof d n held
+  pub passes : checked n (files design) stored.log ≡ one_line Done (yes_line n)

@@ -1,0 +1,237 @@
+//! A search for a plan of a design.
+
+ghost use Rattle.std.specs.Prelude.{◌≡◌, ◌≢◌, ◌≤◌, [], ◌∷◌, length, ℕ, List, IfOk, Ok, Some};
+ghost use Rattle.rail_outside.specs.Asks.{fetched, stored};
+ghost use Rattle.rail_outside.specs.Files.{Files};
+ghost use Rattle.rail_outside.specs.Growth.{Rose, GrowsByFront};
+ghost use Rattle.rail_outside.specs.Lines.{lines_of};
+ghost use Rattle.rail_spec.specs.Track.{routes_of};
+ghost use Rattle.rail_words.specs.Requests.{verify};
+ghost use Rattle.verify_loop.specs.declared.outcome.Outcome.{Outcome};
+ghost use Rattle.verify_loop.specs.Outcomes.{Says, Fits};
+ghost use Rattle.rail_cli.specs.Answers.{design_in, one_line, plan_told, searched_in, shown_by, told_outcome};
+ghost use Rattle.rail_cli.specs.Replies.{reply_seen, KeepsLog, OnEnd, OnlyFails, RefusesFile, Replies, RepliesSo, StoresFile};
+ghost use Rattle.rail_cli.specs.Searches.{SearchLeaves};
+ghost use Rattle.rail_cli.specs.Texts.{limit_of, plan_steps_line, plan_line, infeasible_line, conflicts_spent_line, ticks_spent_line, log_spent_line, unrefuted_line};
+
+use crate::ending::Ending;
+use crate::input::InputFile;
+use crate::reading::{admit, fetch};
+use crate::refusals::{one_line, too_large};
+use crate::reply::Reply;
+use crate::status::Status;
+use crate::texts::{
+    conflicts_spent_line, infeasible_line, log_spent_line, plan_line, plan_steps_line,
+    ticks_spent_line, unrefuted_line,
+};
+use rail_base::design::Design;
+use rail_base::history::Verdict;
+use rail_base::plan::Plan;
+use rail_base::route::RouteTable;
+use rail_outside::{Shelf, StoreFault};
+use std::alloc::{AllocError, Global};
+use timetable::timetable_lines;
+use verify_loop::{Budgets, Outcome, verify};
+
+/// The lines of a plan, before its timetable.
+fn plan_lines(alloc: Global, design: &Design, plan: &Plan) -> Result<Vec<Vec<u8>>, AllocError>
+    ensures { IfOk result (λ lines. lines_of lines.items ≡ plan_steps_line (length plan.now.steps) ∷ plan_line design.now.station plan.now.steps ∷ []) }
+{
+    let mut lines = Vec::new(alloc);
+    lines.push(plan_steps_line(alloc, plan)?)?;
+    lines.push(plan_line(alloc, design, plan)?)?;
+    Ok(lines)
+}
+
+/// The reply for a plan that is found, with what its run shows.
+fn plan_found(
+    alloc: Global,
+    design: &Design,
+    plan: &Plan,
+    verdict: &Verdict,
+) -> Result<Reply, AllocError>
+    requires { verdict.now ≡ shown_by design.now.station plan.now.steps }
+    ensures { IfOk result (λ reply. reply_seen reply ≡ plan_told design.now.station plan.now.steps) }
+{
+    let mut lines = plan_lines(alloc, design, plan)?;
+    let mut timetable = timetable_lines(alloc, design, verdict)?;
+    lines.append(&mut timetable)?;
+    Ok(Reply {
+        status: Status::Done,
+        lines,
+    })
+}
+
+/// There is no plan of so many steps.
+fn infeasible(alloc: Global, steps: u32) -> Result<Reply, AllocError>
+    ensures { IfOk result (λ reply. reply_seen reply ≡ one_line Status.No (infeasible_line steps)) }
+{
+    one_line(alloc, Status::No, infeasible_line(alloc, steps)?)
+}
+
+/// As many clauses were derived as were allowed.
+fn conflicts_spent(alloc: Global, conflicts: u64) -> Result<Reply, AllocError>
+    ensures { IfOk result (λ reply. reply_seen reply ≡ one_line Status.ConflictsSpent (conflicts_spent_line conflicts)) }
+{
+    one_line(
+        alloc,
+        Status::ConflictsSpent,
+        conflicts_spent_line(alloc, conflicts)?,
+    )
+}
+
+/// The next plan takes more ticks than are left.
+fn ticks_spent(alloc: Global, sum: u64, ticks: u64) -> Result<Reply, AllocError>
+    ensures { IfOk result (λ reply. reply_seen reply ≡ one_line Status.TicksSpent (ticks_spent_line sum ticks)) }
+{
+    one_line(
+        alloc,
+        Status::TicksSpent,
+        ticks_spent_line(alloc, sum, ticks)?,
+    )
+}
+
+/// The next line of the log has no room.
+fn log_spent(alloc: Global, bytes: u64, next: u64) -> Result<Reply, AllocError>
+    ensures { IfOk result (λ reply. reply_seen reply ≡ one_line Status.LogSpent (log_spent_line bytes next)) }
+{
+    one_line(alloc, Status::LogSpent, log_spent_line(alloc, bytes, next)?)
+}
+
+/// A plan fails on time, and is not excluded.
+fn unrefuted(alloc: Global, tick: u64) -> Result<Reply, AllocError>
+    ensures { IfOk result (λ reply. reply_seen reply ≡ one_line Status.Unrefuted (unrefuted_line tick)) }
+{
+    one_line(alloc, Status::Unrefuted, unrefuted_line(alloc, tick)?)
+}
+
+/// The reply for what a search ended with.
+fn tell(
+    alloc: Global,
+    design: &Design,
+    steps: u32,
+    budgets: Budgets,
+    found: &Outcome,
+) -> Result<Reply, AllocError>
+    requires { Says design.now.station steps budgets found.now }
+    ensures { IfOk result (λ reply. reply_seen reply ≡ told_outcome design.now.station steps budgets.conflicts budgets.ticks found.now) }
+{
+    match found {
+        Outcome::Plan { plan, verdict } => plan_found(alloc, design, plan, verdict),
+        Outcome::Infeasible { .. } => infeasible(alloc, steps),
+        Outcome::ConflictsSpent { .. } => conflicts_spent(alloc, budgets.conflicts),
+        Outcome::TicksSpent { sum, .. } => ticks_spent(alloc, *sum, budgets.ticks),
+        Outcome::LogSpent { bytes, next, .. } => log_spent(alloc, *bytes, *next),
+        Outcome::Unrefuted { tick, .. } => unrefuted(alloc, *tick),
+        Outcome::TooLarge { .. } => too_large(alloc),
+        Outcome::Memory => Err(AllocError),
+    }
+}
+
+/// Puts bytes under a name of the shelf.
+fn store<S: Shelf>(shelf: &mut S, name: &str, bytes: &[u8]) -> Result<(), Ending>
+    ensures held { (files : Files) → S.held shelf.old ≡ Some files → StoresFile result files name.now bytes.now (S.held shelf.new) }
+    ensures fails { OnlyFails result }
+    ensures cause { result ≡ Err Ending.ShelfFault → Rose (S.fault_count shelf.old) (S.fault_count shelf.new) }
+    ensures never_falls { S.fault_count shelf.old ≤ S.fault_count shelf.new }
+    ensures asks { GrowsByFront (S.asked shelf.old) (S.asked shelf.new) (stored name.now ∷ []) }
+{
+    match shelf.store(name, bytes) {
+        Ok(()) => Ok(()),
+        Err(StoreFault::Failed) => Err(Ending::ShelfFault),
+        Err(StoreFault::Memory) => Err(Ending::Memory),
+    }
+}
+
+/// Stores the log of a search under a name, where it shows that there is no plan; else nothing.
+fn keep<S: Shelf>(shelf: &mut S, name: &str, found: &Outcome) -> Result<(), Ending>
+    ensures held { (files : Files) → S.held shelf.old ≡ Some files → KeepsLog result files name.now found.now (S.held shelf.new) }
+    ensures fails { OnlyFails result }
+    ensures cause { result ≡ Err Ending.ShelfFault → Rose (S.fault_count shelf.old) (S.fault_count shelf.new) }
+    ensures never_falls { S.fault_count shelf.old ≤ S.fault_count shelf.new }
+    ensures asks { GrowsByFront (S.asked shelf.old) (S.asked shelf.new) (stored name.now ∷ []) }
+{
+    match found {
+        Outcome::Infeasible { log } => store(shelf, name, log.as_slice()),
+        _ => Ok(()),
+    }
+}
+
+/// The reply for what a search ended with. When it is made, the log is stored under the proof's name, where it shows
+/// that there is no plan.
+fn settle<S: Shelf>(
+    alloc: Global,
+    shelf: &mut S,
+    design: &Design,
+    steps: u32,
+    budgets: Budgets,
+    proof: &str,
+    found: &Outcome,
+) -> Result<Reply, Ending>
+    requires says { Says design.now.station steps budgets found.now }
+    requires room { budgets.log_bytes ≡ limit_of InputFile.Proof }
+    ensures replies { Replies result (told_outcome design.now.station steps budgets.conflicts budgets.ticks found.now) }
+    ensures no_usage { IfOk result (λ reply. reply.status ≢ Status.Usage) }
+    ensures refuses { RefusesFile result }
+    ensures held { (files : Files) (name : List ℕ) → S.held shelf.old ≡ Some files → design_in (files name) ≡ Ok design.now.station → OnEnd result (λ s. SearchLeaves files steps name proof.now s (S.held shelf.new)) }
+    ensures cause { result ≡ Err Ending.ShelfFault → Rose (S.fault_count shelf.old) (S.fault_count shelf.new) }
+    ensures never_falls { S.fault_count shelf.old ≤ S.fault_count shelf.new }
+    ensures asks { GrowsByFront (S.asked shelf.old) (S.asked shelf.new) (stored proof.now ∷ []) }
+{
+    let reply = tell(alloc, design, steps, budgets, found)?;
+    keep(shelf, proof, found)?;
+    Ok(reply)
+}
+
+/// The reply to a search in a design, by the name of the proof's file.
+fn searched_in<S: Shelf>(
+    alloc: Global,
+    shelf: &mut S,
+    design: &Design,
+    routes: &RouteTable,
+    steps: u32,
+    budgets: Budgets,
+    proof: &str,
+) -> Result<Reply, Ending>
+    requires table { routes.now ≡ routes_of design.now.station }
+    requires few { length routes.now ≤ 2000 }
+    requires some { 1 ≤ steps }
+    requires most { steps ≤ 64 }
+    requires room { budgets.log_bytes ≡ limit_of InputFile.Proof }
+    ensures replies { (found : Outcome) × Says design.now.station steps budgets found × Fits design.now.station steps found × Replies result (searched_in design.now.station steps budgets.conflicts budgets.ticks found) }
+    ensures no_usage { IfOk result (λ reply. reply.status ≢ Status.Usage) }
+    ensures refuses { RefusesFile result }
+    ensures held { (files : Files) (name : List ℕ) → S.held shelf.old ≡ Some files → design_in (files name) ≡ Ok design.now.station → OnEnd result (λ s. SearchLeaves files steps name proof.now s (S.held shelf.new)) }
+    ensures cause { result ≡ Err Ending.ShelfFault → Rose (S.fault_count shelf.old) (S.fault_count shelf.new) }
+    ensures never_falls { S.fault_count shelf.old ≤ S.fault_count shelf.new }
+    ensures asks { GrowsByFront (S.asked shelf.old) (S.asked shelf.new) (stored proof.now ∷ []) }
+{
+    let found = verify(alloc, design, routes, steps, budgets);
+    settle(alloc, shelf, design, steps, budgets, proof, &found)
+}
+
+/// The reply to a search for a plan of so many steps, 1 to 64, by the names of its files. Where there is no plan, the
+/// log that shows it is stored under the proof's name.
+pub(crate) fn searched<S: Shelf>(
+    alloc: Global,
+    shelf: &mut S,
+    steps: u32,
+    budgets: Budgets,
+    design: &str,
+    proof: &str,
+) -> Result<Reply, Ending>
+    requires some { 1 ≤ steps }
+    requires most { steps ≤ 64 }
+    requires room { budgets.log_bytes ≡ limit_of InputFile.Proof }
+    ensures replies { (files : Files) → S.held shelf.old ≡ Some files → RepliesSo result files (Some (verify steps budgets.conflicts budgets.ticks design.now proof.now)) }
+    ensures no_usage { IfOk result (λ reply. reply.status ≢ Status.Usage) }
+    ensures refuses { RefusesFile result }
+    ensures held { (files : Files) → S.held shelf.old ≡ Some files → OnEnd result (λ s. SearchLeaves files steps design.now proof.now s (S.held shelf.new)) }
+    ensures cause { result ≡ Err Ending.ShelfFault → Rose (S.fault_count shelf.old) (S.fault_count shelf.new) }
+    ensures never_falls { S.fault_count shelf.old ≤ S.fault_count shelf.new }
+    ensures asks { GrowsByFront (S.asked shelf.old) (S.asked shelf.new) (fetched design.now ∷ stored proof.now ∷ []) }
+{
+    let bytes = fetch(alloc, shelf, InputFile::Design, design)?;
+    let (design, routes) = admit(alloc, bytes.as_slice())?;
+    searched_in(alloc, shelf, &design, &routes, steps, budgets, proof)
+}
