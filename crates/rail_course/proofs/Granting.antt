@@ -64,6 +64,17 @@ module _ (d : Station) (adm : IsAdmitted d) where
         };
   }
 
+  -- a path has no more edges than mm
+  pub edges_few : (path : List RouteNo) → length (edges_of (routes_of d) path) ≤ way (routes_of d) path
+  edges_few [] = omega arith
+  edges_few (r ∷ rs) =
+      let here = sum_least (length_of d) (route_at (routes_of d) r).edges (λ e m. (in_from_all (HasLimit d) (route_at (routes_of d) r).edges (laid.each r).edges e m).long) in
+      let whole = (laid.each r).whole in
+      let later = edges_few rs in
+      let s = sum_by-cons length_mm (route_at (routes_of d) r) (routes_at (routes_of d) rs) in
+      let l = length-append (route_at (routes_of d) r).edges (edges_of (routes_of d) rs) in
+      omega arith
+
   module _ (n : ℕ) (plan : List (List Command)) (formed : IsWellFormed d (routes_of d) n plan) (many : length (routes_of d) ≤ 2000) where
     command_is : (c : Command) → In c (commands plan) → IsCommand d (routes_of d) c
     command_is c m =
@@ -73,17 +84,6 @@ module _ (d : Station) (adm : IsAdmitted d) where
           (leb-true 1 c.train.0 (and_left (nat_le 1 c.train.0) (nat_le c.train.0 (length d.trains)) g), leb-true c.train.0 (length d.trains) (and_right (nat_le 1 c.train.0) (nat_le c.train.0 (length d.trains)) g)),
           (leb-true 1 c.route.0 (and_right (nat_le 1 c.train.0 && nat_le c.train.0 (length d.trains)) (nat_le 1 c.route.0) f), leb-true c.route.0 (length (routes_of d)) (and_right (nat_le 1 c.train.0 && nat_le c.train.0 (length d.trains) && nat_le 1 c.route.0) (nat_le c.route.0 (length (routes_of d))) h)),
         )
-
-    -- a path has no more edges than mm
-    edges_few : (path : List RouteNo) → length (edges_of (routes_of d) path) ≤ way (routes_of d) path
-    edges_few [] = omega arith
-    edges_few (r ∷ rs) =
-        let here = sum_least (length_of d) (route_at (routes_of d) r).edges (λ e m. (in_from_all (HasLimit d) (route_at (routes_of d) r).edges (laid.each r).edges e m).long) in
-        let whole = (laid.each r).whole in
-        let later = edges_few rs in
-        let s = sum_by-cons length_mm (route_at (routes_of d) r) (routes_at (routes_of d) rs) in
-        let l = length-append (route_at (routes_of d) r).edges (edges_of (routes_of d) rs) in
-        omega arith
 
     pub in_range : IsInRange d (routes_of d) plan
     in_range = record {

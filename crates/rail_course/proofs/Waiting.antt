@@ -53,7 +53,7 @@ module _ (d : Station) (routes : List Route) (plan : List (List Command)) (s : L
   some_shared : (r q : Route) → share r q ≡ true → (z : SectionNo) × In z (shared r q)
   some_shared r q h = let f = list_any_gives (λ p. has_section q p.0) r.sections h in (f.0.0, in_filter (has_section q) (sections r) f.0.0 (in_map (λ p. p.0) r.sections f.0 f.1) f.2)
 
-  over_when_cleared : (c e : Command) → share (route_at routes e.route) (route_at routes c.route) ≡ true → has_cleared d routes plan s c e ≡ is_over s (wait_for d routes plan c e)
+  pub over_when_cleared : (c e : Command) → share (route_at routes e.route) (route_at routes c.route) ≡ true → has_cleared d routes plan s c e ≡ is_over s (wait_for d routes plan c e)
   over_when_cleared c e h = go (shared (route_at routes e.route) (route_at routes c.route)) (some_shared (route_at routes e.route) (route_at routes c.route) h).1
     where
       go : (zs : List SectionNo) → In (some_shared (route_at routes e.route) (route_at routes c.route) h).0 zs

@@ -13,4 +13,5 @@ mod waits;
 pub use course::{Course, courses_of};
 pub use fronts::Front;
 pub use journey::{Journey, Release, journeys_of};
-pub use waits::Wait;
+pub use stops::{stops_of, visits_of};
+pub use waits::{Wait, wait_for};

@@ -92,7 +92,7 @@ pub(crate) fn place_of(
 }
 
 /// The wait of a command with a route for another command.
-fn wait_for(
+pub fn wait_for(
     design: &Design,
     routes: &RouteTable,
     plan: &Plan,

@@ -11,14 +11,14 @@ use rail_base::station::TrainNo;
 use rail_course::Wait;
 
 /// How a train begins: nothing is granted, and it stands at the start of its path.
-pub(crate) const IDLE: TrainState = TrainState {
+pub const IDLE: TrainState = TrainState {
     granted: 0,
     x: 0,
     v: 0,
 };
 
 /// The state of a train; who is no train is idle.
-pub(crate) fn state_of(states: &[TrainState], train: TrainNo) -> TrainState
+pub fn state_of(states: &[TrainState], train: TrainNo) -> TrainState
     ensures { result ≡ state_of states.now train }
 {
     if train.0 == 0 || states.len() < train.0 as usize {
@@ -43,7 +43,7 @@ fn are_over(states: &[TrainState], waits: &[Wait]) -> bool
 }
 
 /// How many commands are granted after the tick, where so many are before it and these are the waits of each.
-pub(crate) fn granted_on(states: &[TrainState], granted: usize, waits: &[Vec<Wait>]) -> usize
+pub fn granted_on(states: &[TrainState], granted: usize, waits: &[Vec<Wait>]) -> usize
     ensures { result ≡ granted_on states.now granted (slice_get (map (λ v. v.items) waits.now) granted) }
 {
     if waits.len() <= granted {

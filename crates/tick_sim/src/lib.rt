@@ -8,4 +8,6 @@ mod moves;
 mod run;
 mod verdicts;
 
+pub use grants::{IDLE, granted_on, state_of};
+pub use run::Run;
 pub use verdicts::simulate;

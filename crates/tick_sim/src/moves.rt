@@ -9,6 +9,7 @@ ghost use Rattle.rail_spec.specs.Dispatches.{authority, state_of, stretches};
 ghost use Rattle.rail_spec.specs.Run.{granted_after, moved, tick};
 ghost use Rattle.rail_course.specs.Courses.{IsCourse};
 ghost use Rattle.rail_course.specs.Journeys.{IsJourney};
+ghost use Rattle.rail_course.specs.Tracks.{IsInRange};
 ghost use Rattle.tick_sim.specs.Runs.{CanMove, IsReached, IsRun};
 
 use crate::grants::{granted_on, state_of};
@@ -34,7 +35,7 @@ fn authority_end(front: Front) -> Option<i64>
 impl Run<'_> {
     /// The track ahead of a train that is granted so many commands.
     fn ahead<'b>(&self, course: &'b Course, granted: usize) -> Ahead<'b>
-        requires run { IsRun self.now }
+        requires range { IsInRange self.now.design.now.station self.now.routes.now self.now.plan.now.steps }
         requires course { IsCourse self.now.design.now.station self.now.routes.now self.now.plan.now.steps course.now }
         requires granted { granted ≤ length (path self.now.plan.now.steps course.now.train) }
         ensures spans { stretches_of result.spans.now ≡ stretches self.now.design.now.station (take granted (path_routes self.now.routes.now self.now.plan.now.steps course.now.train)) }
@@ -50,8 +51,8 @@ impl Run<'_> {
     }
 
     /// A train after the tick, of which so many commands are granted then.
-    fn moved(&self, course: &Course, state: TrainState, granted: usize) -> TrainState
-        requires run { IsRun self.now }
+    pub fn moved(&self, course: &Course, state: TrainState, granted: usize) -> TrainState
+        requires range { IsInRange self.now.design.now.station self.now.routes.now self.now.plan.now.steps }
         requires course { IsCourse self.now.design.now.station self.now.routes.now self.now.plan.now.steps course.now }
         requires can_move { CanMove self.now.design.now.station self.now.routes.now self.now.plan.now.steps course.now.train granted state }
         ensures { result ≡ moved self.now.design.now.station self.now.routes.now self.now.plan.now.steps course.now.train state granted }

@@ -4,8 +4,6 @@ use Rattle.rail_spec.specs.Plans.{path_routes}
 use Rattle.rail_course.specs.declared.fronts.Front.{Front}
 use Rattle.rail_course.specs.Fronts.{front_of, no_front}
 use Rattle.tick_sim.proofs.Fronting.{front_fits, front_is, front_short, length_of-take, spans_are, spans_fit}
-use Rattle.tick_sim.proofs.Reaching.{run_in_range}
-use Rattle.rail_base.proofs.Admitting.{admitted}
 use Rattle.tick_sim.proofs.run.Run.ahead.Goals as goal
 
 pub bounds-fronts-granted : goal.bounds-fronts-granted
@@ -48,8 +46,7 @@ authority_end-requires c =
     let course = c.args.course.now in
     let front : get_or c.as_slice-fronts.result.now c.args.granted no_front ≡ front_of (take c.args.granted (path_routes routes plan course.train)) = ap (λ fs. get_or fs c.args.granted no_front) c.as_slice-fronts.ensures.value ∙ front_is d routes plan course c.requires.course c.args.granted c.requires.granted no_front in
     let long = ap (λ (f : Front). f.length) front in
-    let range = run_in_range d (admitted d c.args.self.now.design.now.admitted) routes c.requires.run.table c.requires.run.few plan c.requires.run.formed in
-    let short = front_short d routes plan course c.requires.course c.args.granted c.requires.granted (range.short course.train) in
+    let short = front_short d routes plan course c.requires.course c.args.granted c.requires.granted (c.requires.range.short course.train) in
     omega arith
 
 pub returns : goal.returns

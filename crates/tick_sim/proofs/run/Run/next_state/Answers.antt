@@ -4,8 +4,11 @@ use Rattle.rail_base.specs.declared.state.TrainState.{TrainState}
 use Rattle.rail_spec.specs.Run.{granted_after, moved}
 use Rattle.tick_sim.specs.Granting.{granted_on}
 use Rattle.tick_sim.specs.Runs.{CanMove}
-use Rattle.tick_sim.proofs.Reaching.{granted_is, can_move_on}
+use Rattle.tick_sim.proofs.Reaching.{granted_is, can_move_on, run_in_range}
 use Rattle.tick_sim.proofs.run.Run.next_state.Goals as goal
+
+pub moved-requires-clause-range : goal.moved-requires-clause-range
+moved-requires-clause-range c = run_in_range c.args.self.now.design.now.station (admitted c.args.self.now.design.now.station c.args.self.now.design.now.admitted) c.args.self.now.routes.now c.requires.run.table c.requires.run.few c.args.self.now.plan.now.steps c.requires.run.formed
 
 pub moved-requires-clause-can_move : goal.moved-requires-clause-can_move
 moved-requires-clause-can_move c =
