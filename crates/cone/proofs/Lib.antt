@@ -1,0 +1,5 @@
+pub mod Pathing
+pub mod Ranging
+pub mod Riding
+pub mod Telling
+pub mod Looking

@@ -1,0 +1,83 @@
+//! Which cones are valid.
+
+ghost use Rattle.std.specs.Prelude.{◌≡◌, ◌≤◌, true, IfOk, length};
+ghost use Rattle.std.specs.List.{list_all};
+ghost use Rattle.rail_spec.specs.Track.{routes_of};
+ghost use Rattle.rail_cone.specs.Validity.{fault_of, first_fault, free_granted, held, shown};
+ghost use Rattle.cone.specs.Runs.{IsLayout};
+ghost use Rattle.cone.specs.Checks.{IsConeRun};
+
+use crate::checked::ConeRun;
+use crate::free::free_plan;
+use crate::layout::Layout;
+use cone_design::is_in_design;
+use rail_base::design::Design;
+use rail_base::route::RouteTable;
+use rail_cone::{Cone, ConeFault};
+use rail_course::courses_of;
+use std::alloc::{AllocError, Global};
+use tick_sim::Run;
+
+impl ConeRun<'_> {
+    /// The first reason against a cone that speaks of the design.
+    fn fault(&self, alloc: Global) -> Result<Option<ConeFault>, AllocError>
+        requires { IsConeRun self.now }
+        ensures { IfOk result (λ f. f ≡ fault_of self.now.layout.run.design.now.station self.now.layout.run.routes.now self.now.layout.cone.now) }
+    {
+        if !self.all_granted() {
+            return Ok(Some(ConeFault::CommandNotGranted));
+        }
+        if !self.all_held() {
+            return Ok(Some(ConeFault::HolderNotValid));
+        }
+        if !self.shown(alloc)? {
+            return Ok(Some(ConeFault::ViolationNotShown));
+        }
+        Ok(None)
+    }
+}
+
+impl Layout<'_> {
+    /// The first reason against a cone that speaks of the design.
+    fn fault(&self, alloc: Global) -> Result<Option<ConeFault>, AllocError>
+        requires { IsLayout self.now }
+        ensures { IfOk result (λ f. f ≡ fault_of self.now.run.design.now.station self.now.run.routes.now self.now.cone.now) }
+    {
+        let states = self.states(alloc)?;
+        let run = ConeRun {
+            layout: *self,
+            states: states.as_slice(),
+        };
+        run.fault(alloc)
+    }
+}
+
+/// The first of the reasons for which a cone shows nothing, or None where it is valid.
+pub fn fault_of(
+    alloc: Global,
+    design: &Design,
+    routes: &RouteTable,
+    cone: &Cone,
+) -> Result<Option<ConeFault>, AllocError>
+    requires table { routes.now ≡ routes_of design.now.station }
+    requires few { length routes.now ≤ 2000 }
+    ensures value { IfOk result (λ f. f ≡ fault_of design.now.station routes.now cone.now) }
+{
+    if !is_in_design(design, routes, cone) {
+        return Ok(Some(ConeFault::PathNotInDesign));
+    }
+    let plan = free_plan(alloc, cone)?;
+    let courses = courses_of(alloc, design, routes, &plan)?;
+    let run = Run {
+        design,
+        routes,
+        plan: &plan,
+        journeys: &[],
+    };
+    let layout = Layout {
+        run,
+        cone,
+        courses: courses.as_slice(),
+    };
+    layout.fault(alloc)
+}

@@ -1,0 +1,14 @@
+use Rattle.std.proofs.Common.{List, length, sym, subst, ◌∙◌, All}
+use Rattle.std.specs.List.{list_all}
+use Rattle.rail_base.specs.declared.route.RouteNo.{RouteNo}
+use Rattle.rail_base.specs.Admission.{is_from}
+use Rattle.rail_base.specs.Routes.{IsRoute}
+use Rattle.rail_base.proofs.Members.{and_left, and_right}
+use Rattle.cone_design.proofs.Ranges.{all_routes}
+use Rattle.cone_design.proofs.trains.train_in_design.Goals as goal
+
+pub is_way-requires : goal.is_way-requires
+is_way-requires c =
+    let named = sym c.names_design.ensures ∙ c.if-not-names_design.false in
+    subst (λ (path : List RouteNo). All (IsRoute c.args.routes.now) path) (sym c.as_slice.ensures)
+    (all_routes c.args.routes.now c.args.entry.now.path (and_right (is_from 1 (length c.args.design.now.station.trains) c.args.entry.now.train.0) (list_all (λ (r : RouteNo). is_from 1 (length c.args.routes.now) r.0) c.args.entry.now.path) (and_left _ _ named)))
