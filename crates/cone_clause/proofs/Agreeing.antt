@@ -10,7 +10,7 @@ use Rattle.rail_spec.specs.Feasible.{IsFeasible, IsInfeasible}
 use Rattle.rail_base.proofs.Members.{In, and_left, and_right, and_both}
 use Rattle.sat_clause.specs.Clauses.{lit_holds, clause_holds}
 use Rattle.plan_clauses.specs.Clauses.{base_clauses}
-use Rattle.plan_clauses.specs.Variables.{By}
+use Rattle.plan_clauses.specs.Variables.{By, number_of}
 use Rattle.rail_base.proofs.Lists.{list_all_from}
 use Rattle.cone_clause.specs.Laws.{NoneByCones}
 use Rattle.plan_clauses.specs.Models.{is_so, model_of}
@@ -101,3 +101,15 @@ none_feasible d n k cones some more timed valid none plan f =
     each : (ks : List Cone) → list_all (is_valid_cone d (routes_of d)) ks ≡ true → list_all (clause_holds (model_of d (routes_of d) n plan)) (map (numbered_clause d (routes_of d) n) ks) ≡ true
     each [] h = refl
     each (c ∷ cs) h = and_both _ _ (holds_of_feasible d n k c plan (omega arith) more timed f (and_left (is_valid_cone d (routes_of d) c) _ h)) (each cs (and_right (is_valid_cone d (routes_of d) c) _ h))
+
+-- so too where it is asked of all valid cones
+pub none_of_valid : (d : Station) (n k : ℕ) → 1 ≤ k → k ≤ n → IsTimed d
+    → ((values : ℕ → Bool) → list_all (clause_holds values) (base_clauses d (routes_of d) n) ≡ true → ((cone : Cone) → is_valid_cone d (routes_of d) cone ≡ true → clause_holds values (numbered_clause d (routes_of d) n cone) ≡ true) → values (number_of d (routes_of d) n (By k)) ≡ true → ⊥)
+    → IsInfeasible d k
+none_of_valid d n k some more timed none plan f =
+    let short = short_enough d (routes_of d) k plan f.runnable.well_formed.formed in
+    let by_then : is_so plan (By k) ≡ true = list_all_from (λ c. nat_le (step_of plan c) k) (commands plan) (λ c m. (let high = step_high plan c m in le-leb (step_of plan c) k (omega arith))) in
+    none (model_of d (routes_of d) n plan)
+    (feasible_plans_are_models d n plan (omega arith) (more_feasible d k n plan more f))
+    (λ cone valid. holds_of_feasible d n k cone plan (omega arith) more timed f valid)
+    (model_says d (routes_of d) n plan (By k) (some, more) ∙ by_then)

@@ -3,4 +3,9 @@ pub mod Sorted
 pub mod ClauseOrder
 pub mod Ordered
 pub mod Agreeing
+pub mod Sizes
+pub mod Gathering
+pub mod Signing
+pub mod Walked
+pub mod Further
 mod Rows

@@ -50,7 +50,7 @@ pair_less p q h = go (either (is_before p.0 q.0) (is_command p.0 q.0 && is_befor
     go (inl x) = inl (less p.0 q.0 x)
     go (inr x) = inr (is_command_same p.0 q.0 (and_left (is_command p.0 q.0) (is_before p.1 q.1) x), less p.1 q.1 (and_right (is_command p.0 q.0) (is_before p.1 q.1) x))
 
-not_both_pairs : (p q : Command × Command) → is_pair_before p q ≡ true → is_pair_before q p ≡ true → ⊥
+pub not_both_pairs : (p q : Command × Command) → is_pair_before p q ≡ true → is_pair_before q p ≡ true → ⊥
 not_both_pairs p q h k = go (pair_less p q h) (pair_less q p k)
   where
     go : Less p.0 q.0 ⊎ ((q.0 ≡ p.0) × Less p.1 q.1) → Less q.0 p.0 ⊎ ((p.0 ≡ q.0) × Less q.1 p.1) → ⊥
@@ -61,13 +61,13 @@ not_both_pairs p q h k = go (pair_less p q h) (pair_less q p k)
 
 -- ---- the place of a pair among all pairs
 
-same_pair : (p x : Command × Command) → is_pair p.0 p.1 x ≡ true → x ≡ p
+pub same_pair : (p x : Command × Command) → is_pair p.0 p.1 x ≡ true → x ≡ p
 same_pair p x h =
     let a = is_command_same p.0 x.0 (and_left (is_command p.0 x.0) (is_command p.1 x.1) h) in
     let b = is_command_same p.1 x.1 (and_right (is_command p.0 x.0) (is_command p.1 x.1) h) in
     ap (λ c. (c, x.1)) a ∙ ap (λ c. (p.0, c)) b
 
-pair_self : (p : Command × Command) → is_pair p.0 p.1 p ≡ true
+pub pair_self : (p : Command × Command) → is_pair p.0 p.1 p ≡ true
 pair_self p = and_both _ _ (is_command_self p.0) (is_command_self p.1)
 
 places : (xs : List (Command × Command)) (p q : Command × Command) → all_pairs is_pair_before xs ≡ true → In p xs → In q xs → is_pair_before p q ≡ true

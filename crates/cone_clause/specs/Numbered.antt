@@ -1,5 +1,5 @@
 -- The clause of a cone over the numbers that the base gives its variables.
-use Rattle.std.specs.Prelude.{ℕ, List, map}
+use Rattle.std.specs.Prelude.{ℕ, Bool, List, [], ◌∷◌, map, Option, None, Some}
 use Rattle.rail_base.specs.declared.station.Station.{Station}
 use Rattle.rail_base.specs.declared.route.Route.{Route}
 use Rattle.rail_cone.specs.declared.Cone.{Cone}
@@ -11,6 +11,11 @@ use Rattle.rail_cone.specs.Clauses.{Fact, Used, Before, Literal, clause_of_cone}
 abbrev pub variable_of : ℕ → Fact → Variable
 variable_of n (Used c) = Given c n
 variable_of n (Before e c) = BeforeIn e c
+
+-- the literal of a variable and a sign, where there is a sign
+abbrev pub signed : ℕ → Option Bool → List Lit
+signed v None = []
+signed v (Some negated) = record { var = v; negated = negated } ∷ []
 
 module _ (d : Station) (routes : List Route) (n : ℕ) where
   -- the literal of the base that says so

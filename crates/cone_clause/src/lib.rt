@@ -2,3 +2,10 @@
 #![tactic(auto)]
 
 pub mod laws;
+mod listing;
+mod onward;
+mod pairs;
+mod signs;
+mod used;
+
+pub use crate::listing::clause_of;

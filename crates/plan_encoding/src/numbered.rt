@@ -91,12 +91,13 @@ impl Base {
         &self.clauses
     }
 
-    /// The clauses, to which others may be added.
-    pub fn into_clauses(self) -> Arena
-        ensures { result ≡ self.clauses }
+    /// The clauses, to which others may be added, and the pairs of commands that contend, in the order of their variables.
+    pub fn into_parts(self) -> (Arena, Vec<(Command, Command)>)
+        ensures clauses { result.0 ≡ self.clauses }
+        ensures pairs { result.1.items ≡ self.pairs }
     {
-        let Base { clauses, .. } = self;
-        clauses
+        let Base { clauses, pairs, .. } = self;
+        (clauses, pairs)
     }
 
     /// How many trains, routes, steps and variables there are.

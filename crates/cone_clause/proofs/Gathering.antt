@@ -1,0 +1,41 @@
+-- Lists that are put together part by part.
+use Rattle.std.proofs.Common.{◌≡◌, ℕ, zero, suc, ◌+◌, ◌-◌, ◌<◌, ◌≤◌, List, [], ◌∷◌, ◌++◌, map, flat_map, drop, get_or, length, refl, sym, ap, ◌∙◌, arith, add-one, drop-cons, append-nil}
+use Rattle.std.proofs.lemmas.List.{append_assoc, map-append}
+use Rattle.std.proofs.lemmas.Grind.{flat_map-append}
+use Rattle.rail_base.specs.Numbering.{count_from}
+
+-- the numbers from one on: this one, and those from the next on
+pub count_next : (i n : ℕ) → i < n → count_from i (n - i) ≡ i ∷ count_from (i + 1) (n - (i + 1))
+count_next i n h = ap (count_from i) (less i n h)
+  where
+    less : (i n : ℕ) → i < n → n - i ≡ suc (n - (i + 1))
+    less i n h = omega arith
+
+-- none are left at the end
+pub count_end : (i n : ℕ) → n ≤ i → count_from i (n - i) ≡ []
+count_end i n h = let e : n - i ≡ zero = omega arith in ap (count_from i) e
+
+-- the members from one on: this one, and those from the next on
+pub drop_next : {X : Type 0} (xs : List X) (i : ℕ) (other : X) → i < length xs → drop i xs ≡ get_or xs i other ∷ drop (i + 1) xs
+drop_next xs i other h = drop-cons xs i other h ∙ ap (λ j. get_or xs i other ∷ drop j xs) (sym (add-one i))
+
+pub drop_end : {X : Type 0} (xs : List X) (i : ℕ) → length xs ≤ i → drop i xs ≡ []
+drop_end [] zero h = refl
+drop_end [] (suc i) h = refl
+drop_end (x ∷ xs) zero h = absurd (omega arith)
+drop_end (x ∷ xs) (suc i) h = drop_end xs i (omega arith)
+
+module _ {X L Z : Type 0} (g : X → List L) (num : L → Z) where
+  -- one more part, of which each member is written so
+  pub mapped_next : (old new all : List Z) (now later : List X) (x : X) → now ≡ x ∷ later → new ≡ old ++ map num (g x) → old ++ map num (flat_map g now) ≡ all → new ++ map num (flat_map g later) ≡ all
+  mapped_next old new all now later x is e h = ap (λ xs. xs ++ map num (flat_map g later)) e ∙ (append_assoc old (map num (g x)) (map num (flat_map g later))
+      ∙ (ap (λ xs. old ++ xs) (sym (ap (λ xs. map num (flat_map g xs)) is ∙ map-append num (g x) (flat_map g later))) ∙ h))
+
+  -- nothing is left at the end
+  pub mapped_end : (old all : List Z) (now : List X) → now ≡ [] → old ++ map num (flat_map g now) ≡ all → old ≡ all
+  mapped_end old all now is h = sym (append-nil old) ∙ (ap (λ xs. old ++ map num (flat_map g xs)) (sym is) ∙ h)
+
+-- parts of parts
+pub flat_flat : {X Y L : Type 0} (g : Y → List L) (f : X → List Y) (xs : List X) → flat_map g (flat_map f xs) ≡ flat_map (λ x. flat_map g (f x)) xs
+flat_flat g f [] = refl
+flat_flat g f (x ∷ xs) = flat_map-append g (f x) (flat_map f xs) ∙ ap (λ ys. flat_map g (f x) ++ ys) (flat_flat g f xs)

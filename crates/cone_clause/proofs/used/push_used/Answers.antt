@@ -1,0 +1,23 @@
+use Rattle.std.proofs.Common.{ℕ, ◌+◌, ◌<◌, ◌++◌, length, map, flat_map, ap, arith}
+use Rattle.rail_base.specs.declared.station.TrainNo.{TrainNo}
+use Rattle.rail_spec.specs.Plans.{commands_of}
+use Rattle.rail_cone.specs.Clauses.{used_literals}
+use Rattle.cone_clause.specs.Numbered.{lit_of}
+use Rattle.cone_clause.proofs.Gathering.{count_next, mapped_next}
+use Rattle.cone_clause.proofs.Walked.{path_routes, used_whole}
+use Rattle.cone_clause.proofs.used.push_used.Goals as goal
+
+pub loop-number-init : goal.loop-number-init
+loop-number-init c = ap (λ ls. c.args.clause.now.items ++ map (lit_of c.args.design.now.station c.args.routes.now c.args.steps) ls) (used_whole c.args.design.now.station c.args.routes.now c.args.cone.now)
+
+pub push_used_of-requires-clause-path : goal.push_used_of-requires-clause-path
+push_used_of-requires-clause-path c = path_routes c.args.design.now.station c.args.routes.now c.args.cone.now c.requires.fits _
+
+pub loop-number-preserved : goal.loop-number-preserved
+loop-number-preserved c =
+    let d = c.args.design.now.station in
+    let routes = c.args.routes.now in
+    let numbered : ℕ → TrainNo = λ n. record { 0 = n } in
+    let within : c.loop-number.number < length d.trains + 1 = (let e = c.len.ensures in let l = c.loop-number-test.true in omega arith) in
+    mapped_next (λ (t : TrainNo). flat_map (used_literals d routes c.args.cone.now) (commands_of routes t)) (lit_of d routes c.args.steps) c.loop-number.clause.items c.push_used_of.new.clause.items _ _ _ (numbered c.loop-number.number)
+    (ap (map numbered) (count_next c.loop-number.number (length d.trains + 1) within)) c.in_ok-push_used_of.ensures c.loop-number.invariant

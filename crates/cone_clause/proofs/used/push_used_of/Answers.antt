@@ -1,0 +1,20 @@
+use Rattle.std.proofs.Common.{ℕ, ◌+◌, ◌<◌, ◌++◌, length, map, ap, ◌∙◌, arith}
+use Rattle.rail_base.specs.declared.plan.Command.{Command}
+use Rattle.rail_base.specs.declared.route.RouteNo.{RouteNo}
+use Rattle.rail_cone.specs.Clauses.{used_literals}
+use Rattle.cone_clause.specs.Numbered.{lit_of}
+use Rattle.cone_clause.proofs.Gathering.{count_next, mapped_next}
+use Rattle.cone_clause.proofs.Signing.{used_signed}
+use Rattle.cone_clause.proofs.used.push_used_of.Goals as goal
+
+pub loop-number-preserved : goal.loop-number-preserved
+loop-number-preserved c =
+    let d = c.args.design.now.station in
+    let routes = c.args.routes.now in
+    let command : RouteNo → Command = λ r. record { train = c.args.train; route = r } in
+    let numbered : ℕ → RouteNo = λ n. record { 0 = n } in
+    let within : c.loop-number.number < length routes + 1 = (let e = c.len.ensures in let l = c.loop-number-test.true in omega arith) in
+    mapped_next (used_literals d routes c.args.cone.now) (lit_of d routes c.args.steps) c.loop-number.clause.items c.push_signed.new.clause.items _ _ _ (command (numbered c.loop-number.number))
+    (ap (λ ns. map command (map numbered ns)) (count_next c.loop-number.number (length routes + 1) within))
+    (c.in_ok-push_signed.ensures ∙ ap (λ ls. c.loop-number.clause.items ++ ls) (used_signed d routes c.args.steps c.args.cone.now (command (numbered c.loop-number.number)) c.used_number.result c.used_sign-sign.result c.used_number.ensures (c.used_sign-sign.ensures d)))
+    c.loop-number.invariant

@@ -1,0 +1,63 @@
+//! Where a train goes no further than its path in a cone.
+
+ghost use Rattle.std.specs.Prelude.{◌≡◌, List, All, map};
+ghost use Rattle.rail_base.specs.declared.station.Station.{Station};
+ghost use Rattle.rail_base.specs.declared.route.Route.{Route};
+ghost use Rattle.rail_cone.specs.declared.Cone.{Cone};
+ghost use Rattle.rail_base.specs.Routes.{IsRoute, route_at};
+ghost use Rattle.rail_spec.specs.Plans.{is_start};
+ghost use Rattle.rail_cone.specs.Cones.{all_free, named};
+ghost use Rattle.rail_cone.specs.Clauses.{goes_further, is_closed, is_path_violation};
+
+use cone_design::{goes_on, named};
+use rail_base::plan::Violation;
+use rail_base::route::{Route, RouteNo, RouteTable, Start, route_at};
+use rail_base::station::TrainNo;
+use rail_cone::Cone;
+
+/// Whether all commands of a train are free.
+fn all_free(cone: &Cone, train: TrainNo) -> bool
+    ensures { result ≡ all_free (named cone.now train) }
+{
+    match named(cone, train) {
+        Some(entry) => entry.path.len() <= entry.free as usize,
+        None => true,
+    }
+}
+
+/// Whether the cone is one of a path that misses a visit.
+fn is_path_violation(violation: Violation) -> bool
+    ensures { (d : Station) (routes : List Route) (k : Cone) → result ≡ is_path_violation d routes k violation }
+{
+    matches!(violation, Violation::Path { .. })
+}
+
+/// Whether the cone says that a train goes no further than its path.
+pub fn is_closed(cone: &Cone, train: TrainNo) -> bool
+    ensures { (d : Station) (routes : List Route) → result ≡ is_closed d routes cone.now train }
+{
+    all_free(cone, train) || is_path_violation(cone.violation)
+}
+
+/// Whether two routes start at one place.
+fn is_start(one: Start, other: Start) -> bool
+    ensures { result ≡ is_start one other }
+{
+    one == other
+}
+
+/// Whether a route starts at the signal where a path ends, which is not a start of one of the path's routes.
+pub fn goes_further(routes: &RouteTable, path: &[RouteNo], route: &Route) -> bool
+    requires { All (IsRoute routes.now) path.now }
+    ensures { result ≡ goes_further (map (route_at routes.now) path.now) route.now }
+{
+    let mut goes = false;
+    for number in path {
+        let last = route_at(routes, *number);
+        if is_start(last.start, route.start) {
+            return false;
+        }
+        goes = goes_on(last.finish, route.start);
+    }
+    goes
+}
