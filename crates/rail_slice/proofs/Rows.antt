@@ -1,0 +1,93 @@
+-- The cones of small failed plans.
+use Rattle.std.specs.Prelude.{◌≡◌, ℕ, ◌==◌, if◌then◌else◌, false, List, [], ◌∷◌, Option, None, Some, refl}
+use Rattle.rail_base.specs.declared.station.TrainNo.{TrainNo}
+use Rattle.rail_base.specs.declared.route.RouteNo.{RouteNo}
+use Rattle.rail_base.specs.declared.plan.Command.{Command}
+use Rattle.rail_base.specs.declared.plan.Violation.TheVariants as violation
+use Rattle.rail_cone.specs.declared.ConeTrain.{ConeTrain}
+use Rattle.rail_spec.specs.Track.{routes_of}
+use Rattle.rail_spec.proofs.Stations.{follow_short, parallel, follow_within, plan_two, plan_together, command}
+use Rattle.rail_slice.specs.Slices.{slice_of, whole_cone}
+use Rattle.rail_slice.specs.Holders.{IsClosed, grants_reach, holder_at, reaches_holder}
+use Rattle.rail_base.specs.Stations.{trains}
+use Rattle.rail_base.specs.declared.station.Station.{Station}
+use Rattle.rail_base.specs.declared.plan.Violation.{Violation}
+use Rattle.rail_spec.specs.Plans.{commands}
+use Rattle.std.specs.List.{list_all}
+use Rattle.rail_cone.specs.declared.Cone.{Cone}
+
+abbrev two : ℕ → ℕ → TrainNo → ℕ
+two a b t = if t.0 == 1 then a else b
+
+abbrev r1 : RouteNo
+r1 = record { 0 = 1 }
+
+abbrev r2 : RouteNo
+r2 = record { 0 = 2 }
+
+abbrev train : ℕ → ℕ → ℕ → List RouteNo → Option Command → ConeTrain
+train t horizon free path holder = record { train = record { 0 = t }; horizon = horizon; free = free; path = path; holder = holder }
+
+abbrev second_first : List (List Command)
+second_first = (command 2 1 ∷ []) ∷ (command 2 2 ∷ []) ∷ (command 1 1 ∷ []) ∷ (command 1 2 ∷ []) ∷ []
+
+abbrev slice_in : Station → List (List Command) → ℕ → (TrainNo → ℕ) → Violation → Cone
+slice_in d plan last h v = slice_of d (routes_of d) plan last h v
+
+abbrev whole_in : Station → List (List Command) → ℕ → Violation → Cone
+whole_in d plan last v = whole_cone d (routes_of d) plan last v
+
+abbrev Closed : Station → List (List Command) → ℕ → (TrainNo → ℕ) → Violation → Type 0
+Closed d plan last h v = IsClosed d (routes_of d) plan last h v
+
+late_slice : slice_in (follow_within 7999) plan_two 17 (two 11 17) (violation.Within 1)
+    ≡ record { trains = train 1 11 2 (r1 ∷ r2 ∷ []) None ∷ train 2 17 2 (r1 ∷ r2 ∷ []) None ∷ []; pairs = (command 1 1, command 2 1) ∷ (command 1 2, command 2 2) ∷ []; violation = violation.Within 1 }
+late_slice = refl
+
+late_closed : Closed (follow_within 7999) plan_two 17 (two 11 17) (violation.Within 1)
+late_closed = record { soon = refl; own = refl; grants = refl; holders = refl }
+
+late_open : list_all (grants_reach (follow_within 7999) (routes_of (follow_within 7999)) plan_two 17 (two 10 17)) (commands plan_two) ≡ false
+late_open = refl
+
+order_slice : slice_in (follow_within 7999) second_first 1 (two 0 1) (violation.Order 1)
+    ≡ record { trains = train 2 1 1 (r1 ∷ r2 ∷ []) None ∷ []; pairs = []; violation = violation.Order 1 }
+order_slice = refl
+
+order_closed : Closed (follow_within 7999) second_first 1 (two 0 1) (violation.Order 1)
+order_closed = record { soon = refl; own = refl; grants = refl; holders = refl }
+
+shut_out_slice : slice_in follow_short plan_two 8 (two 7 8) (violation.Grant (record { 0 = 2 }) 1)
+    ≡ record { trains = train 1 7 2 (r1 ∷ r2 ∷ []) None ∷ train 2 8 0 (r1 ∷ []) (Some (command 1 1)) ∷ []; pairs = (command 1 1, command 2 1) ∷ []; violation = violation.Grant (record { 0 = 2 }) 1 }
+shut_out_slice = refl
+
+shut_out_closed : Closed follow_short plan_two 8 (two 7 8) (violation.Grant (record { 0 = 2 }) 1)
+shut_out_closed = record { soon = refl; own = refl; grants = refl; holders = refl }
+
+shut_out_open : list_all (λ t. reaches_holder follow_short (routes_of follow_short) plan_two 8 (two 6 8) t (holder_at follow_short (routes_of follow_short) plan_two 8 (two 6 8) t)) (trains follow_short) ≡ false
+shut_out_open = refl
+
+together_slice : slice_in parallel plan_together 1 (two 0 1) (violation.Order 1)
+    ≡ record { trains = train 2 1 1 (record { 0 = 3 } ∷ []) None ∷ []; pairs = []; violation = violation.Order 1 }
+together_slice = refl
+
+together_closed : Closed parallel plan_together 1 (two 0 1) (violation.Order 1)
+together_closed = record { soon = refl; own = refl; grants = refl; holders = refl }
+
+-- ---- the slices of the whole plans
+
+late_whole : whole_in (follow_within 7999) plan_two 17 (violation.Within 1)
+    ≡ record { trains = train 1 17 2 (r1 ∷ r2 ∷ []) None ∷ train 2 17 2 (r1 ∷ r2 ∷ []) None ∷ []; pairs = (command 1 1, command 2 1) ∷ (command 1 2, command 2 2) ∷ []; violation = violation.Within 1 }
+late_whole = refl
+
+order_whole : whole_in (follow_within 7999) second_first 1 (violation.Order 1)
+    ≡ record { trains = train 1 1 0 (r1 ∷ r2 ∷ []) (Some (command 2 1)) ∷ train 2 1 1 (r1 ∷ r2 ∷ []) None ∷ []; pairs = (command 2 1, command 1 1) ∷ []; violation = violation.Order 1 }
+order_whole = refl
+
+shut_out_whole : whole_in follow_short plan_two 8 (violation.Grant (record { 0 = 2 }) 1)
+    ≡ record { trains = train 1 8 2 (r1 ∷ r2 ∷ []) None ∷ train 2 8 0 (r1 ∷ r2 ∷ []) (Some (command 1 1)) ∷ []; pairs = (command 1 1, command 2 1) ∷ []; violation = violation.Grant (record { 0 = 2 }) 1 }
+shut_out_whole = refl
+
+together_whole : whole_in parallel plan_together 1 (violation.Order 1)
+    ≡ record { trains = train 1 1 1 (r1 ∷ []) None ∷ train 2 1 1 (record { 0 = 3 } ∷ []) None ∷ []; pairs = []; violation = violation.Order 1 }
+together_whole = refl

@@ -1,0 +1,3 @@
+-- The cones of failed plans.
+pub mod Holders
+pub mod Slices
