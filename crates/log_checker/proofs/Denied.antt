@@ -1,12 +1,9 @@
--- What the last clause of a file says of plans.
-use Rattle.std.proofs.Common.{◌≡◌, ℕ, ◌+◌, ◌-◌, ◌≤◌, ◌<◌, Bool, true, false, not, ◌&&◌, ◌||◌, cond, nat_le, List, [], ◌∷◌, ◌++◌, Option, Some, None, refl, sym, ◌∙◌, arith}
+-- What a clause says of the steps that it denies.
+use Rattle.std.proofs.Common.{◌≡◌, ℕ, ◌+◌, ◌-◌, ◌≤◌, ◌<◌, Bool, true, false, not, ◌&&◌, ◌||◌, cond, nat_le, List, [], ◌∷◌, Some, None, refl, arith}
 use Rattle.std.proofs.lemmas.Bool.Decides.{nat_tests}
 use Rattle.sat_clause.specs.declared.lit.Lit.{Lit}
-use Rattle.sat_clause.specs.Clauses.{Store, clause_holds, lit_holds}
-use Rattle.log_checker.specs.Truth.{clauses_hold}
-use Rattle.log_checker.specs.Laws.{Denies}
+use Rattle.sat_clause.specs.Clauses.{clause_holds, lit_holds}
 use Rattle.log_checker.specs.Verdict.{steps_denied}
-use Rattle.log_checker.proofs.Kept.{last-holds}
 
 tests : (negated : Bool) (steps step k : ℕ) → cond (negated && nat_le 1 step && nat_le step steps) (Some step) None ≡ Some k → (negated ≡ true) × (1 ≤ step) × (step ≤ steps) × (step ≡ k)
 tests negated steps step k e = grind (arith, nat_tests)
@@ -22,24 +19,16 @@ opposed false h g = cc
 negated-holds : (values : ℕ → Bool) (l : Lit) → l.negated ≡ true → lit_holds values l ≡ true → values l.var ≡ true → ⊥
 negated-holds values l n h g = opposed (values l.var) (rw n at h) g
 
--- the same, of one clause
-record ClauseDenies (vars steps : ℕ) (clause : List Lit) (k : ℕ) : Type 0 where
-  most : k ≤ steps
-  least : 0 < steps → 0 < k
-  never : (values : ℕ → Bool) → clause_holds values clause ≡ true → values (vars - steps + k) ≡ true → ⊥
+-- the steps are among those asked for, and where the clause is true not all is given by then
+pub record ClauseDenies (vars steps : ℕ) (clause : List Lit) (k : ℕ) : Type 0 where
+  pub most : k ≤ steps
+  pub least : 0 < steps → 0 < k
+  pub never : (values : ℕ → Bool) → clause_holds values clause ≡ true → values (vars - steps + k) ≡ true → ⊥
 
-clause-denies : (vars steps : ℕ) (clause : List Lit) (k : ℕ) → steps_denied vars steps clause ≡ Some k → ClauseDenies vars steps clause k
+pub clause-denies : (vars steps : ℕ) (clause : List Lit) (k : ℕ) → steps_denied vars steps clause ≡ Some k → ClauseDenies vars steps clause k
 clause-denies vars steps [] k e = let s : steps ≡ k = cc in record { most = omega arith; least = λ h. omega arith; never = λ values h g. cc }
 clause-denies vars steps (l ∷ []) k e =
     let t = tests l.negated steps (l.var - (vars - steps)) k e in
     let at : vars - steps + k ≡ l.var = omega (arith, t.1, t.3) in
     record { most = omega (arith, t.2, t.3); least = λ h. omega (arith, t.1, t.3); never = λ values h g. negated-holds values l t.0 (or-false (lit_holds values l) h) (rw at at g) }
 clause-denies vars steps (l ∷ m ∷ more) k e = absurd (cc)
-
--- the clause of a line that was taken
-pub line-denies : (vars steps : ℕ) (base old new : Store) (clause : List Lit) (shown : Option ℕ) → new ≡ old ++ (clause, true) ∷ [] → shown ≡ steps_denied vars steps clause
-    → ((values : ℕ → Bool) → clauses_hold values base ≡ true → clauses_hold values new ≡ true)
-    → (k : ℕ) → shown ≡ Some k → Denies vars steps base k
-line-denies vars steps base old new clause shown e s kept k is =
-    let d = clause-denies vars steps clause k (sym s ∙ is) in
-    record { most = d.most; least = d.least; never = λ values h g. d.never values (last-holds values old clause (rw e at (kept values h))) g }

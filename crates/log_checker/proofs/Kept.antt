@@ -1,11 +1,12 @@
--- A clause that is derived is true wherever all clauses before it are.
+-- A clause that is derived is true wherever all clauses before it are, and clauses that are taken out stay true.
 use Rattle.std.proofs.Common.{◌≡◌, ℕ, zero, suc, Bool, true, false, ◌&&◌, List, [], ◌∷◌, ◌++◌, slice_get, Option, Some, None, refl}
 use Rattle.std.proofs.lemmas.Option.{cond_some}
 use Rattle.sat_clause.specs.declared.lit.Lit.{Lit}
 use Rattle.sat_clause.specs.declared.follow.Follow.{Follow}
 use Rattle.sat_clause.specs.declared.follow.Follow.TheVariants.{Yes}
-use Rattle.sat_clause.specs.Clauses.{Store, clause_holds, if_live, live_clause}
+use Rattle.sat_clause.specs.Clauses.{Store, clause_holds, if_live, live_clause, unmarked_at, without}
 use Rattle.sat_clause.specs.Hints.{open_lits, unit_of, at_last, at_unit, at_clause, where_last, follow_from, follow_of, holds_at, hints_hold}
+use Rattle.sat_clause.proofs.Sound.{follows-holds}
 use Rattle.log_checker.specs.Truth.{clauses_hold}
 
 both : (a b : Bool) → (a && b) ≡ true → (a ≡ true) × (b ≡ true)
@@ -44,18 +45,24 @@ hinted : (values : ℕ → Bool) (store : Store) (held : List Lit) (hints : List
 hinted values store held [] h y = refl
 hinted values store held (i ∷ is) h y = hint-step values store held i is (live_clause store i) refl h y (λ l z. hinted values store (held ++ l ∷ []) is h z)
 
-push-holds : (values : ℕ → Bool) (store : Store) (clause : List Lit) → clauses_hold values store ≡ true → clause_holds values clause ≡ true → clauses_hold values (store ++ (clause, true) ∷ []) ≡ true
+-- so a clause that follows is true
+pub follows-true : (values : ℕ → Bool) (store : Store) (clause : List Lit) (hints : List ℕ) → follow_of store clause hints ≡ Yes → clauses_hold values store ≡ true → clause_holds values clause ≡ true
+follows-true values store clause hints y h = follows-holds values store clause hints y (hinted values store _ hints h y)
+
+pub push-holds : (values : ℕ → Bool) (store : Store) (clause : List Lit) → clauses_hold values store ≡ true → clause_holds values clause ≡ true → clauses_hold values (store ++ (clause, true) ∷ []) ≡ true
 push-holds values [] clause h c = rw c refl
 push-holds values (x ∷ xs) clause h c =
     let p = both (clause_holds values x.0) (clauses_hold values xs) h in
     rw (p.0, push-holds values xs clause p.1 c) refl
 
-pub kept : (old new : Store) (clause : List Lit) (hints : List ℕ) → follow_of old clause hints ≡ Yes → new ≡ old ++ (clause, true) ∷ []
-    → ((values : ℕ → Bool) → hints_hold values old hints ≡ true → clause_holds values clause ≡ true)
-    → (values : ℕ → Bool) → clauses_hold values old ≡ true → clauses_hold values new ≡ true
-kept old new clause hints y e sound values h = rw e (push-holds values old clause h (sound values (hinted values old _ hints h y)))
+unmarked-holds : (values : ℕ → Bool) (store : Store) (i : ℕ) → clauses_hold values store ≡ true → clauses_hold values (unmarked_at store i) ≡ true
+unmarked-holds values [] i h = refl
+unmarked-holds values (x ∷ xs) zero h = h
+unmarked-holds values (x ∷ xs) (suc i) h =
+    let p = both (clause_holds values x.0) (clauses_hold values xs) h in
+    rw (p.0, unmarked-holds values xs i p.1) refl
 
--- the last clause is one of all
-pub last-holds : (values : ℕ → Bool) (store : Store) (clause : List Lit) → clauses_hold values (store ++ (clause, true) ∷ []) ≡ true → clause_holds values clause ≡ true
-last-holds values [] clause h = (both (clause_holds values clause) true h).0
-last-holds values (x ∷ xs) clause h = last-holds values xs clause (both (clause_holds values x.0) (clauses_hold values (xs ++ (clause, true) ∷ [])) h).1
+-- a clause that is no longer live is still true
+pub without-holds : (values : ℕ → Bool) (store : Store) (id : ℕ) → clauses_hold values store ≡ true → clauses_hold values (without store id) ≡ true
+without-holds values store zero h = h
+without-holds values store (suc i) h = unmarked-holds values store i h

@@ -1,65 +1,106 @@
 -- What a file shows is so.
-use Rattle.std.proofs.Common.{◌≡◌, ℕ, ◌+◌, Bool, true, false, List, [], ◌∷◌, ◌++◌, if◌then◌else◌, Option, Some, None, Result, Ok, Err, refl, sym, ap, ◌∙◌, subst}
+use Rattle.std.proofs.Common.{◌≡◌, ℕ, ◌+◌, Bool, true, false, List, [], ◌∷◌, if◌then◌else◌, is_some, Option, Some, None, Result, Ok, Err, refl, subst}
 use Rattle.rail_text.specs.Pieces.{pieces}
 use Rattle.rail_text.specs.Pieces.{Line as Piece}
+use Rattle.rail_cone.specs.declared.Cone.{Cone}
+use Rattle.rail_cone.specs.declared.ConeFault.{ConeFault}
 use Rattle.sat_clause.specs.declared.lit.Lit.{Lit}
 use Rattle.sat_clause.specs.declared.follow.Follow.{Follow}
 use Rattle.sat_clause.specs.declared.follow.Follow.TheVariants as follow
-use Rattle.sat_clause.specs.Clauses.{Store}
+use Rattle.sat_clause.specs.Clauses.{Store, clause_holds, live_clause, without}
 use Rattle.sat_clause.specs.Hints.{follow_of}
-use Rattle.sat_clause.proofs.Sound.{follows-holds}
 use Rattle.proof_log.specs.declared.line.Line.{Line}
-use Rattle.proof_log.specs.declared.line.Line.TheVariants.{Derive}
+use Rattle.proof_log.specs.declared.line.Line.TheVariants.{Derive, Refute, Forget}
 use Rattle.log_checker.specs.declared.shown.Shown.TheVariants.{Yes, No}
 use Rattle.log_checker.specs.declared.shown.Reason.{Reason}
 use Rattle.log_checker.specs.declared.shown.Reason.TheVariants as reason
 use Rattle.log_checker.specs.Truth.{clauses_hold}
-use Rattle.log_checker.specs.Verdict.{spelled, by_follow, derived, steps_denied, at_end, after_line, shown_from, is_headed, shown_by}
-use Rattle.log_checker.specs.Laws.{Denies, ShownIsSo}
-use Rattle.log_checker.proofs.Kept.{kept}
-use Rattle.log_checker.proofs.Denied.{line-denies}
+use Rattle.log_checker.specs.Verdict.{SoFar, at_first, with_clause, is_derived, forgotten, spelled, by_follow, by_cone, by_forget, taken, steps_denied, at_end, after_line, shown_from, is_headed, shown_by}
+use Rattle.log_checker.specs.Laws.{AllHold, Denies, ShownIsSo}
+use Rattle.log_checker.proofs.Kept.{follows-true, push-holds, without-holds}
+use Rattle.log_checker.proofs.Denied.{clause-denies}
 
--- the clauses stay true with the clause that a line derives
-followed : (store : Store) (clause given : List Lit) (hints : List ℕ) (answer : Follow) → follow_of store given hints ≡ answer → by_follow given answer ≡ Ok clause
-    → (values : ℕ → Bool) → clauses_hold values store ≡ true → clauses_hold values (store ++ (clause, true) ∷ []) ≡ true
-followed store clause given hints follow.Yes e o =
-    let same : given ≡ clause = cc in
-    kept store (store ++ (clause, true) ∷ []) clause hints (ap (λ c. follow_of store c hints) (sym same) ∙ e) refl (λ values. follows-holds values store clause hints (ap (λ c. follow_of store c hints) (sym same) ∙ e))
-followed store clause given hints follow.UnknownClause e o = λ values h. absurd (cc)
-followed store clause given hints follow.NotUnit e o = λ values h. absurd (cc)
-followed store clause given hints follow.NoConflict e o = λ values h. absurd (cc)
+forget-step : (values : ℕ → Bool) (left : Store) (further : Result Store Reason) (a b : Bool) → (if a then if b then further else Err reason.DropRefused else Err reason.UnknownClause) ≡ Ok left → (further ≡ Ok left → clauses_hold values left ≡ true) → clauses_hold values left ≡ true
+forget-step values left further true true e go = go e
+forget-step values left further true false e go = absurd (cc)
+forget-step values left further false b e go = absurd (cc)
 
-derived-holds : (store : Store) (clause : List Lit) (line : Option Line) → derived store line ≡ Ok clause → (values : ℕ → Bool) → clauses_hold values store ≡ true → clauses_hold values (store ++ (clause, true) ∷ []) ≡ true
-derived-holds store clause None e = λ values h. absurd (cc)
-derived-holds store clause (Some (Derive given hints)) e = followed store clause given hints (follow_of store given hints) refl e
+-- taking clauses out leaves them true
+forgets : (values : ℕ → Bool) (derived : List Bool) (store left : Store) (ids : List ℕ) → forgotten derived store ids ≡ Ok left → clauses_hold values store ≡ true → clauses_hold values left ≡ true
+forgets values derived store left [] e h = let same : store ≡ left = cc in subst (λ s. clauses_hold values s ≡ true) same h
+forgets values derived store left (id ∷ ids) e h =
+    forget-step values left (forgotten derived (without store id) ids) (is_some (live_clause store id)) (is_derived derived id) e
+    (λ f. forgets values derived (without store id) left ids f (without-holds values store id h))
 
-ended : (vars steps here : ℕ) (base : Store) (shown : Option ℕ) (k : ℕ) → ((j : ℕ) → shown ≡ Some j → Denies vars steps base j) → at_end here shown ≡ Yes k → Denies vars steps base k
-ended vars steps here base None k denied e = absurd (cc)
-ended vars steps here base (Some j) k denied e = let same : j ≡ k = cc in subst (Denies vars steps base) same (denied j refl)
+module _ (refute : Cone → Result (List Lit) ConeFault) (vars steps : ℕ) (base : Store) where
+  -- all clauses are true wherever those of the base and of the cones are, and what is shown is denied
+  record IsSo (s : SoFar) : Type 0 where
+    holds : (values : ℕ → Bool) → AllHold refute values base → clauses_hold values s.store ≡ true
+    denied : (k : ℕ) → s.shown ≡ Some k → Denies refute vars steps base k
 
-module _ (vars steps : ℕ) (base : Store) (k : ℕ) where
-  shown_from-so : (here : ℕ) (store : Store) (shown : Option ℕ) (lines : List Piece) → ((values : ℕ → Bool) → clauses_hold values base ≡ true → clauses_hold values store ≡ true)
-      → ((j : ℕ) → shown ≡ Some j → Denies vars steps base j) → shown_from vars steps here store shown lines ≡ Yes k → Denies vars steps base k
-  shown_from-so here store shown [] holds denied e = ended vars steps here base shown k denied e
-  shown_from-so here store shown (piece ∷ more) holds denied e =
-      go (derived store (spelled vars piece)) refl e (λ clause stays denies f. shown_from-so (here + 1) (store ++ (clause, true) ∷ []) (steps_denied vars steps clause) more stays denies f)
-    where
-      go : (r : Result (List Lit) Reason) → derived store (spelled vars piece) ≡ r → after_line here r (λ clause. shown_from vars steps (here + 1) (store ++ (clause, true) ∷ []) (steps_denied vars steps clause) more) ≡ Yes k
-          → ((clause : List Lit) → ((values : ℕ → Bool) → clauses_hold values base ≡ true → clauses_hold values (store ++ (clause, true) ∷ []) ≡ true) → ((j : ℕ) → steps_denied vars steps clause ≡ Some j → Denies vars steps base j)
-          → shown_from vars steps (here + 1) (store ++ (clause, true) ∷ []) (steps_denied vars steps clause) more ≡ Yes k → Denies vars steps base k)
-          → Denies vars steps base k
-      go (Err reason) d e further = absurd (cc)
-      go (Ok clause) d e further =
-          let stays : (values : ℕ → Bool) → clauses_hold values base ≡ true → clauses_hold values (store ++ (clause, true) ∷ []) ≡ true = λ values h. derived-holds store clause (spelled vars piece) d values (holds values h) in
-          further clause stays (line-denies vars steps base store (store ++ (clause, true) ∷ []) clause (steps_denied vars steps clause) refl refl stays) e
+  begins : IsSo (at_first base)
+  begins = record { holds = λ values h. h.clauses; denied = λ k e. absurd (cc) }
 
-  headed : (b : Bool) (more : List Piece) → (if b then shown_from vars steps 2 base None more else No 1 reason.Text) ≡ Yes k → Denies vars steps base k
-  headed true more e = shown_from-so 2 base None more (λ values h. h) (λ j n. absurd (cc)) e
-  headed false more e = absurd (cc)
+  -- a clause more, which is true
+  goes-on : (s : SoFar) (clause : List Lit) (derived : Bool) (shown : Option ℕ) → IsSo s → ((values : ℕ → Bool) → AllHold refute values base → clause_holds values clause ≡ true)
+      → ((k : ℕ) → shown ≡ Some k → Denies refute vars steps base k) → IsSo (with_clause s clause derived shown)
+  goes-on s clause derived shown so is_true denied = record { holds = λ values h. push-holds values s.store clause (so.holds values h) (is_true values h); denied = denied }
 
-  lines-so : (lines : List Piece) → shown_by vars steps base lines ≡ Yes k → Denies vars steps base k
-  lines-so [] e = absurd (cc)
-  lines-so (first ∷ more) e = headed (is_headed first) more e
+  by-clause : (clause : List Lit) → ((values : ℕ → Bool) → AllHold refute values base → clause_holds values clause ≡ true) → (k : ℕ) → steps_denied vars steps clause ≡ Some k → Denies refute vars steps base k
+  by-clause clause is_true k e =
+      let d = clause-denies vars steps clause k e in
+      record { most = d.most; least = d.least; never = λ values h g. d.never values (is_true values h) g }
+
+  followed : (s t : SoFar) (clause : List Lit) (hints : List ℕ) (answer : Follow) → IsSo s → follow_of s.store clause hints ≡ answer → by_follow s clause (steps_denied vars steps clause) answer ≡ Ok t → IsSo t
+  followed s t clause hints follow.Yes so y e =
+      let same : with_clause s clause true (steps_denied vars steps clause) ≡ t = cc in
+      let is_true : (values : ℕ → Bool) → AllHold refute values base → clause_holds values clause ≡ true = λ values h. follows-true values s.store clause hints y (so.holds values h) in
+      subst IsSo same (goes-on s clause true (steps_denied vars steps clause) so is_true (by-clause clause is_true))
+  followed s t clause hints follow.UnknownClause so y e = absurd (cc)
+  followed s t clause hints follow.NotUnit so y e = absurd (cc)
+  followed s t clause hints follow.NoConflict so y e = absurd (cc)
+
+  refuted : (s t : SoFar) (cone : Cone) (r : Result (List Lit) ConeFault) → IsSo s → refute cone ≡ r → by_cone s r ≡ Ok t → IsSo t
+  refuted s t cone (Ok clause) so r e =
+      let same : with_clause s clause false None ≡ t = cc in
+      subst IsSo same (goes-on s clause false None so (λ values h. h.cones cone clause r) (λ k n. absurd (cc)))
+  refuted s t cone (Err fault) so r e = absurd (cc)
+
+  forgot : (s t : SoFar) (ids : List ℕ) (r : Result Store Reason) → IsSo s → forgotten s.derived s.store ids ≡ r → by_forget s r ≡ Ok t → IsSo t
+  forgot s t ids (Ok left) so r e =
+      let after : SoFar = record { store = left; derived = s.derived; shown = None } in
+      let same : after ≡ t = cc in
+      subst IsSo same (record { holds = λ values h. forgets values s.derived s.store left ids r (so.holds values h); denied = λ k n. absurd (cc) })
+  forgot s t ids (Err fault) so r e = absurd (cc)
+
+  takes : (s t : SoFar) (line : Option Line) → IsSo s → taken refute vars steps s line ≡ Ok t → IsSo t
+  takes s t None so e = absurd (cc)
+  takes s t (Some (Derive clause hints)) so e = followed s t clause hints (follow_of s.store clause hints) so refl e
+  takes s t (Some (Refute cone)) so e = refuted s t cone (refute cone) so refl e
+  takes s t (Some (Forget ids)) so e = forgot s t ids (forgotten s.derived s.store ids) so refl e
+
+  module _ (k : ℕ) where
+    ended : (here : ℕ) (shown : Option ℕ) → ((j : ℕ) → shown ≡ Some j → Denies refute vars steps base j) → at_end here shown ≡ Yes k → Denies refute vars steps base k
+    ended here None denied e = absurd (cc)
+    ended here (Some j) denied e = let same : j ≡ k = cc in subst (Denies refute vars steps base) same (denied j refl)
+
+    further : (here : ℕ) (r : Result SoFar Reason) (next : SoFar → _) → after_line here r next ≡ Yes k → ((t : SoFar) → r ≡ Ok t → next t ≡ Yes k → Denies refute vars steps base k) → Denies refute vars steps base k
+    further here (Err reason) next e go = absurd (cc)
+    further here (Ok t) next e go = go t refl e
+
+    shown_from-so : (here : ℕ) (s : SoFar) (lines : List Piece) → IsSo s → shown_from refute vars steps here s lines ≡ Yes k → Denies refute vars steps base k
+    shown_from-so here s [] so e = ended here s.shown so.denied e
+    shown_from-so here s (piece ∷ more) so e =
+        further here (taken refute vars steps s (spelled vars piece)) (λ t. shown_from refute vars steps (here + 1) t more) e
+        (λ t r f. shown_from-so (here + 1) t more (takes s t (spelled vars piece) so r) f)
+
+    headed : (b : Bool) (more : List Piece) → (if b then shown_from refute vars steps 2 (at_first base) more else No 1 reason.Text) ≡ Yes k → Denies refute vars steps base k
+    headed true more e = shown_from-so 2 (at_first base) more begins e
+    headed false more e = absurd (cc)
+
+    lines-so : (lines : List Piece) → shown_by refute vars steps base lines ≡ Yes k → Denies refute vars steps base k
+    lines-so [] e = absurd (cc)
+    lines-so (first ∷ more) e = headed (is_headed first) more e
 
 pub shown-so : ShownIsSo
-shown-so base vars steps k bytes e = lines-so vars steps base k (pieces bytes) e
+shown-so refute vars steps base k bytes e = lines-so refute vars steps base k (pieces bytes) e

@@ -1,44 +1,36 @@
 -- What a proof file shows over a base of clauses, or its first bad line.
-use Rattle.std.specs.Prelude.{ℕ, ◌+◌, ◌-◌, Bool, true, ◌&&◌, List, [], ◌∷◌, ◌++◌, nat_le, Option, Some, None, Result, Ok, Err, if◌then◌else◌}
+use Rattle.std.specs.Prelude.{ℕ, suc, zero, ◌+◌, ◌-◌, Bool, true, false, ◌&&◌, List, [], ◌∷◌, ◌++◌, length, replicate, nat_le, slice_get, unwrap_or, is_some, Option, Some, None, Result, Ok, Err, if◌then◌else◌}
 use Rattle.std.specs.List.{list_all}
 use Rattle.std.specs.Str.{bytes_eq}
 use Rattle.rail_text.specs.Pieces.{pieces}
 use Rattle.rail_text.specs.Pieces.{Line as Piece}
+use Rattle.rail_cone.specs.declared.Cone.{Cone}
+use Rattle.rail_cone.specs.declared.ConeFault.{ConeFault}
 use Rattle.sat_clause.specs.declared.lit.Lit.{Lit}
 use Rattle.sat_clause.specs.declared.follow.Follow.{Follow}
 use Rattle.sat_clause.specs.declared.follow.Follow.TheVariants as follow
-use Rattle.sat_clause.specs.Clauses.{Store}
+use Rattle.sat_clause.specs.Clauses.{Store, live_clause, without}
 use Rattle.sat_clause.specs.Hints.{follow_of}
 use Rattle.proof_log.specs.declared.line.Line.{Line}
-use Rattle.proof_log.specs.declared.line.Line.TheVariants.{Derive}
+use Rattle.proof_log.specs.declared.line.Line.TheVariants.{Derive, Refute, Forget}
 use Rattle.proof_log.specs.Lines.{head, line_of}
 use Rattle.log_checker.specs.declared.shown.Shown.{Shown}
 use Rattle.log_checker.specs.declared.shown.Shown.TheVariants.{Yes, No}
 use Rattle.log_checker.specs.declared.shown.Reason.{Reason}
-use Rattle.log_checker.specs.declared.shown.Reason.TheVariants.{Text, UnknownClause, HintNotUnit, NoConflict, NoFinalLine}
+use Rattle.log_checker.specs.declared.shown.Reason.TheVariants.{Text, UnknownClause, HintNotUnit, NoConflict, DropRefused, NotRefuted, NoFinalLine}
 
 -- ---- lines
 
--- the line, where no variable of its clause is past the last one
+-- the line, where no variable of a clause that it derives is past the last one
 abbrev pub if_within : ℕ → Option Line → Option Line
 if_within vars None = None
 if_within vars (Some (Derive clause hints)) = if list_all (λ l. nat_le l.var vars) clause then Some (Derive clause hints) else None
+if_within vars (Some (Refute cone)) = Some (Refute cone)
+if_within vars (Some (Forget ids)) = Some (Forget ids)
 
 -- the line that a piece of a file spells: an LF ends it, and no variable is past the last one
 abbrev pub spelled : ℕ → Piece → Option Line
 spelled vars piece = if piece.ended then if_within vars (line_of piece.bytes) else None
-
--- a clause, or why its hints don't show it
-abbrev pub by_follow : List Lit → Follow → Result (List Lit) Reason
-by_follow clause follow.Yes = Ok clause
-by_follow clause follow.UnknownClause = Err UnknownClause
-by_follow clause follow.NotUnit = Err HintNotUnit
-by_follow clause follow.NoConflict = Err NoConflict
-
--- the clause that a line derives from the clauses before it, or why it is bad
-abbrev pub derived : Store → Option Line → Result (List Lit) Reason
-derived store None = Err Text
-derived store (Some (Derive clause hints)) = by_follow clause (follow_of store clause hints)
 
 -- ---- what the last line shows
 
@@ -52,34 +44,88 @@ steps_denied vars steps [] = Some steps
 steps_denied vars steps (l ∷ []) = step_denied steps l (l.var - (vars - steps))
 steps_denied vars steps (l ∷ m ∷ more) = None
 
+-- ---- the clauses so far
+
+-- the clauses, of which some are live; of each, whether a line derived it; and what the last line shows
+pub record SoFar : Type 0 where
+  pub store : Store
+  pub derived : List Bool
+  pub shown : Option ℕ
+
+-- those of the base: all stay, and nothing is shown
+abbrev pub at_first : Store → SoFar
+at_first base = record { store = base; derived = replicate (length base) false; shown = None }
+
+-- with one clause more
+abbrev pub with_clause : SoFar → List Lit → Bool → Option ℕ → SoFar
+with_clause s clause derived shown = record { store = s.store ++ (clause, true) ∷ []; derived = s.derived ++ derived ∷ []; shown = shown }
+
+-- a line derived the clause of this number, numbers being counted from 1
+abbrev pub is_derived : List Bool → ℕ → Bool
+is_derived derived zero = false
+is_derived derived (suc i) = unwrap_or (slice_get derived i) false
+
+-- the clauses without these, which are taken out in order, or why one is not: it is not live, or it is to stay
+abbrev pub forgotten : List Bool → Store → List ℕ → Result Store Reason
+forgotten derived store [] = Ok store
+forgotten derived store (id ∷ ids) =
+    if is_some (live_clause store id)
+    then if is_derived derived id then forgotten derived (without store id) ids else Err DropRefused
+    else Err UnknownClause
+
+-- ---- what a line does to them
+
+-- with a derived clause, or why its hints don't show it
+abbrev pub by_follow : SoFar → List Lit → Option ℕ → Follow → Result SoFar Reason
+by_follow s clause shown follow.Yes = Ok (with_clause s clause true shown)
+by_follow s clause shown follow.UnknownClause = Err UnknownClause
+by_follow s clause shown follow.NotUnit = Err HintNotUnit
+by_follow s clause shown follow.NoConflict = Err NoConflict
+
+-- with the clause of a cone, or why it shows nothing
+abbrev pub by_cone : SoFar → Result (List Lit) ConeFault → Result SoFar Reason
+by_cone s (Ok clause) = Ok (with_clause s clause false None)
+by_cone s (Err fault) = Err (NotRefuted fault)
+
+-- with these clauses left
+abbrev pub by_forget : SoFar → Result Store Reason → Result SoFar Reason
+by_forget s (Ok store) = Ok (record { store = store; derived = s.derived; shown = None })
+by_forget s (Err reason) = Err reason
+
+-- a bad line is the answer, a good one goes on
+abbrev pub after_line : ℕ → Result SoFar Reason → (SoFar → Shown) → Shown
+after_line here (Err reason) next = No here reason
+after_line here (Ok s) next = next s
+
 -- the answer where no line is left, by what the last one shows
 abbrev pub at_end : ℕ → Option ℕ → Shown
 at_end here None = No here NoFinalLine
-at_end here (Some steps) = Yes steps
-
--- ---- all lines
-
--- a bad line is the answer, a good one goes on with its clause
-abbrev pub after_line : ℕ → Result (List Lit) Reason → (List Lit → Shown) → Shown
-after_line here (Err reason) next = No here reason
-after_line here (Ok clause) next = next clause
-
--- what the lines from this place on show, over the clauses so far, where the line before shows this
-abbrev pub shown_from : ℕ → ℕ → ℕ → Store → Option ℕ → List Piece → Shown
-shown_from vars steps here store shown [] = at_end here shown
-shown_from vars steps here store shown (piece ∷ more) =
-    after_line here (derived store (spelled vars piece)) (λ clause.
-    shown_from vars steps (here + 1) (store ++ (clause, true) ∷ []) (steps_denied vars steps clause) more)
+at_end here (Some k) = Yes k
 
 -- an LF ends the first line, and it is the head
 abbrev pub is_headed : Piece → Bool
 is_headed first = first.ended && bytes_eq first.bytes head
 
--- what the lines of a file show, the head being the first of them
-abbrev pub shown_by : ℕ → ℕ → Store → List Piece → Shown
-shown_by vars steps base [] = No 1 NoFinalLine
-shown_by vars steps base (first ∷ more) = if is_headed first then shown_from vars steps 2 base None more else No 1 Text
+-- ---- all lines, where these cones are refuted, over so many variables and for plans of so many steps
 
--- what a file shows over the clauses of a base with this many variables, for plans of this many steps
-abbrev pub log_verdict : Store → ℕ → ℕ → List ℕ → Shown
-log_verdict base vars steps bytes = shown_by vars steps base (pieces bytes)
+module _ (refute : Cone → Result (List Lit) ConeFault) (vars steps : ℕ) where
+  -- with a line taken, or why it is bad
+  abbrev pub taken : SoFar → Option Line → Result SoFar Reason
+  taken s None = Err Text
+  taken s (Some (Derive clause hints)) = by_follow s clause (steps_denied vars steps clause) (follow_of s.store clause hints)
+  taken s (Some (Refute cone)) = by_cone s (refute cone)
+  taken s (Some (Forget ids)) = by_forget s (forgotten s.derived s.store ids)
+
+  -- what the lines from this place on show
+  abbrev pub shown_from : ℕ → SoFar → List Piece → Shown
+  shown_from here s [] = at_end here s.shown
+  shown_from here s (piece ∷ more) = after_line here (taken s (spelled vars piece)) (λ t. shown_from (here + 1) t more)
+
+  -- what the lines of a file show, the head being the first of them
+  abbrev pub shown_by : Store → List Piece → Shown
+  shown_by base [] = No 1 NoFinalLine
+  shown_by base (first ∷ more) = if is_headed first then shown_from 2 (at_first base) more else No 1 Text
+
+  -- what a file shows over the clauses of a base
+  abbrev pub log_verdict : Store → List ℕ → Shown
+  log_verdict base bytes = shown_by base (pieces bytes)

@@ -1,13 +1,16 @@
-//! Whether a proof file shows that there is no plan, from the clauses of a base alone.
+//! Whether a proof file shows that there is no plan, from the clauses of a base and of cones alone.
 #![tactic(auto)]
 
+mod held;
 mod judge;
 mod laws;
 mod line;
+mod refuter;
 mod shown;
 #[cfg(test)]
 mod tests;
 
 pub use judge::judge_log;
 pub use laws::shown_is_so;
+pub use refuter::{RefuteFault, Refuter};
 pub use shown::{Reason, Shown};

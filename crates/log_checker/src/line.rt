@@ -1,37 +1,38 @@
 //! One line of a proof file.
 
-ghost use Rattle.std.specs.Prelude.{◌≡◌, ◌∷◌, ◌++◌, [], ℕ, nat_le, Bool, true, IsTrue, IfOk, OnOk, Ok, Err, Some, None};
+ghost use Rattle.std.specs.Prelude.{◌≡◌, nat_le, IfOk, OnOk, Ok, Err, Some, None, if◌then◌else◌};
 ghost use Rattle.std.specs.List.{list_all};
 ghost use Rattle.rail_text.specs.Lines.{line_of};
-ghost use Rattle.sat_clause.specs.Hints.{follow_of};
-ghost use Rattle.log_checker.specs.Verdict.{spelled, by_follow, derived, steps_denied};
-ghost use Rattle.log_checker.specs.Truth.{clauses_hold};
+ghost use Rattle.log_checker.specs.Verdict.{if_within, spelled, steps_denied, taken};
 ghost use Rattle.log_checker.specs.declared.shown.Reason.{Reason};
 ghost use Rattle.log_checker.specs.declared.shown.Reason.TheVariants.{Text};
-ghost use Rattle.log_checker.specs.declared.line.Fault.TheVariants.{Bad};
+ghost use Rattle.log_checker.specs.declared.held.Fault.TheVariants.{Bad};
 
+use crate::held::{Fault, Held};
+use crate::refuter::Refuter;
 use crate::shown::Reason;
 use proof_log::{Line, LineFault, read_line};
-use rail_base::list::List;
 use rail_text::Piece;
-use rup_check::{Follow, Marks, follows};
-use sat_clause::{Arena, Lit};
+use rup_check::Marks;
+use sat_clause::Lit;
 use std::alloc::Global;
-
-/// Why a line wasn't taken.
-#[derive(Clone, Copy)]
-pub enum Fault {
-    /// It is bad.
-    Bad(Reason),
-    /// Memory ran out.
-    Memory,
-}
 
 /// Whether no variable of the clause is past the last one.
 fn are_within(clause: &[Lit], vars: u32) -> bool
     ensures { result ≡ list_all (λ l. nat_le l.var vars) clause.now }
 {
     clause.iter().all(|lit| lit.var <= vars)
+}
+
+/// Whether no variable of a clause that the line derives is past the last one.
+fn is_within(line: &Line, vars: u32) -> bool
+    ensures { (if result then Some line.now else None) ≡ if_within vars (Some line.now) }
+{
+    match line {
+        Line::Derive { clause, .. } => are_within(clause.as_slice(), vars),
+        Line::Refute { .. } => true,
+        Line::Forget { .. } => true,
+    }
 }
 
 /// The line that a piece of a file spells.
@@ -42,66 +43,19 @@ fn spell(alloc: Global, vars: u32, piece: &Piece<'_>) -> Result<Line, Fault>
     if !piece.ended {
         return Err(Fault::Bad(Reason::Text));
     }
-    let (clause, hints) = match read_line(alloc, piece.bytes) {
-        Ok(Line::Derive { clause, hints }) => (clause, hints),
+    let line = match read_line(alloc, piece.bytes) {
+        Ok(line) => line,
         Err(LineFault::Text) => return Err(Fault::Bad(Reason::Text)),
         Err(LineFault::Memory) => return Err(Fault::Memory),
     };
-    if !are_within(clause.as_slice(), vars) {
+    if !is_within(&line, vars) {
         return Err(Fault::Bad(Reason::Text));
     }
-    Ok(Line::Derive { clause, hints })
-}
-
-/// Derives a clause by its hints and puts it at the end.
-fn derive(
-    marks: &mut Marks,
-    clauses: &mut Arena,
-    clause: &[Lit],
-    hints: &[u64],
-) -> Result<(), Fault>
-    ensures ok { OnOk result ((by_follow clause.now (follow_of clauses.old clause.now hints.now) ≡ Ok clause.now) × (clauses.new ≡ clauses.old ++ (clause.now, true) ∷ [])) }
-    ensures bad { (reason : Reason) → result ≡ Err (Bad reason) → by_follow clause.now (follow_of clauses.old clause.now hints.now) ≡ Err reason }
-    ensures sound { OnOk result ((values : ℕ → Bool) → IsTrue (clauses_hold values clauses.old) → IsTrue (clauses_hold values clauses.new)) }
-{
-    match follows(marks, clauses, clause, hints) {
-        Ok(Follow::Yes) => {}
-        Ok(Follow::UnknownClause) => return Err(Fault::Bad(Reason::UnknownClause)),
-        Ok(Follow::NotUnit) => return Err(Fault::Bad(Reason::HintNotUnit)),
-        Ok(Follow::NoConflict) => return Err(Fault::Bad(Reason::NoConflict)),
-        Err(_) => return Err(Fault::Memory),
-    }
-    match clauses.push(clause) {
-        Ok(_) => Ok(()),
-        Err(_) => Err(Fault::Memory),
-    }
-}
-
-/// Takes a line: puts the clause that it derives at the end, and gives it.
-pub fn take_line(
-    alloc: Global,
-    marks: &mut Marks,
-    clauses: &mut Arena,
-    vars: u32,
-    piece: &Piece<'_>,
-) -> Result<List<Lit>, Fault>
-    ensures ok { IfOk result (λ clause. (derived clauses.old (spelled vars (line_of piece.now)) ≡ Ok clause) × (clauses.new ≡ clauses.old ++ (clause, true) ∷ [])) }
-    ensures bad { (reason : Reason) → result ≡ Err (Bad reason) → derived clauses.old (spelled vars (line_of piece.now)) ≡ Err reason }
-    ensures sound { OnOk result ((values : ℕ → Bool) → IsTrue (clauses_hold values clauses.old) → IsTrue (clauses_hold values clauses.new)) }
-{
-    match spell(alloc, vars, piece) {
-        Ok(Line::Derive { clause, hints }) => {
-            match derive(marks, clauses, clause.as_slice(), hints.as_slice()) {
-                Ok(()) => Ok(clause),
-                Err(fault) => Err(fault),
-            }
-        }
-        Err(fault) => Err(fault),
-    }
+    Ok(line)
 }
 
 /// For how many steps a clause shows that there is no plan.
-pub fn deny_steps(vars: u32, steps: u32, clause: &[Lit]) -> Option<u32>
+fn deny_steps(vars: u32, steps: u32, clause: &[Lit]) -> Option<u32>
     ensures { result ≡ steps_denied vars steps clause.now }
 {
     match clause {
@@ -115,5 +69,47 @@ pub fn deny_steps(vars: u32, steps: u32, clause: &[Lit]) -> Option<u32>
             }
         }
         _ => None,
+    }
+}
+
+/// Lines judged over a base of so many variables, for plans of so many steps.
+#[derive(Drop)]
+pub struct Judge<'a, R: Refuter> {
+    pub alloc: Global,
+    pub refuter: &'a R,
+    pub vars: u32,
+    pub steps: u32,
+}
+
+impl<R: Refuter> Judge<'_, R> {
+    /// Takes a line.
+    pub fn take(&self, marks: &mut Marks, held: &mut Held, line: &Line) -> Result<(), Fault>
+        ensures ok { OnOk result (taken (R.refute self.now.refuter.now) self.now.vars self.now.steps held.old (Some line.now) ≡ Ok held.new) }
+        ensures bad { (reason : Reason) → result ≡ Err (Bad reason) → taken (R.refute self.now.refuter.now) self.now.vars self.now.steps held.old (Some line.now) ≡ Err reason }
+    {
+        match line {
+            Line::Derive { clause, hints } => {
+                let shown = deny_steps(self.vars, self.steps, clause.as_slice());
+                held.derive(marks, clause.as_slice(), hints.as_slice(), shown)
+            }
+            Line::Refute { cone } => held.refute(self.alloc, self.refuter, cone),
+            Line::Forget { clauses } => held.forget(clauses.as_slice()),
+        }
+    }
+
+    /// Takes the line that a piece of a file spells.
+    pub fn take_piece(
+        &self,
+        marks: &mut Marks,
+        held: &mut Held,
+        piece: &Piece<'_>,
+    ) -> Result<(), Fault>
+        ensures ok { OnOk result (taken (R.refute self.now.refuter.now) self.now.vars self.now.steps held.old (spelled self.now.vars (line_of piece.now)) ≡ Ok held.new) }
+        ensures bad { (reason : Reason) → result ≡ Err (Bad reason) → taken (R.refute self.now.refuter.now) self.now.vars self.now.steps held.old (spelled self.now.vars (line_of piece.now)) ≡ Err reason }
+    {
+        match spell(self.alloc, self.vars, piece) {
+            Ok(line) => self.take(marks, held, &line),
+            Err(fault) => Err(fault),
+        }
     }
 }

@@ -1,18 +1,27 @@
 -- Words that are joined by spaces.
-use Rattle.std.proofs.Common.{◌≡◌, ℕ, List, [], ◌∷◌, ◌++◌, append_assoc, append-nil, refl, sym, ap, ◌∙◌, map, codes, decimal}
+use Rattle.std.proofs.Common.{◌≡◌, ℕ, List, [], ◌∷◌, ◌++◌, append_assoc, append-nil, refl, sym, ap, ◌∙◌, map, flat_map, codes, decimal}
 use Rattle.std.specs.List.{join_with_byte}
 use Rattle.sat_clause.specs.declared.lit.Lit.{Lit}
-use Rattle.proof_log.specs.declared.line.Line.TheVariants.{Derive}
-use Rattle.proof_log.specs.Text.{literal_word, text_of_line}
+use Rattle.rail_cone.specs.declared.Cone.{Cone}
+use Rattle.proof_log.specs.declared.line.Line.TheVariants.{Derive, Refute, Forget}
+use Rattle.proof_log.specs.Text.{literal_word, list_words, train_words, pair_words, violation_words, text_of_line}
 use Rattle.proof_log.specs.Writing.{spaced}
 
 join-spaced : (word : List ℕ) (more : List (List ℕ)) → join_with_byte 32 (word ∷ more) ≡ word ++ spaced more
 join-spaced word [] = sym (append-nil word)
 join-spaced word (next ∷ more) = ap (λ t. word ++ (32 ∷ t)) (join-spaced next more)
 
-spaced-append : (words more : List (List ℕ)) → spaced (words ++ more) ≡ spaced words ++ spaced more
+pub spaced-append : (words more : List (List ℕ)) → spaced (words ++ more) ≡ spaced words ++ spaced more
 spaced-append [] more = refl
 spaced-append (word ∷ words) more = ap (λ t. 32 ∷ t) (ap (λ t. word ++ t) (spaced-append words more) ∙ sym (append_assoc word (spaced words) (spaced more)))
+
+-- the text of a list that `0` ends
+pub spaced-list : {X : Type 0} (word_of : X → List ℕ) (xs : List X) → spaced (list_words word_of xs) ≡ spaced (map word_of xs) ++ codes " 0"
+spaced-list word_of xs = spaced-append (map word_of xs) (codes "0" ∷ [])
+
+spaced-parts : {X : Type 0} (words_of : X → List (List ℕ)) (xs : List X) → spaced (flat_map words_of xs) ≡ flat_map (λ x. spaced (words_of x)) xs
+spaced-parts words_of [] = refl
+spaced-parts words_of (x ∷ xs) = spaced-append (words_of x) (flat_map words_of xs) ∙ ap (λ t. spaced (words_of x) ++ t) (spaced-parts words_of xs)
 
 -- the text of a derive line, by its parts
 pub text-parts : (clause : List Lit) (hints : List ℕ) → text_of_line (Derive clause hints) ≡ codes "d" ++ spaced (map literal_word clause) ++ codes " 0" ++ spaced (map decimal hints) ++ codes " 0"
@@ -25,3 +34,19 @@ text-parts clause hints =
     let grouped : spaced literals ++ end ++ spaced numbers ++ end ≡ spaced literals ++ (end ++ (spaced numbers ++ end)) =
     append_assoc (spaced literals ++ end) (spaced numbers) end ∙ append_assoc (spaced literals) end (spaced numbers ++ end) in
     join-spaced (codes "d") _ ∙ ap (λ t. 100 ∷ t) (from_literals ∙ sym grouped)
+
+-- the text of a forget line, by its parts
+pub forget-parts : (clauses : List ℕ) → text_of_line (Forget clauses) ≡ codes "x" ++ spaced (map decimal clauses) ++ codes " 0"
+forget-parts clauses = join-spaced (codes "x") _ ∙ ap (λ t. 120 ∷ t) (spaced-list decimal clauses)
+
+-- the text of a refute line, by its parts
+pub refute-parts : (k : Cone) → text_of_line (Refute k) ≡ codes "r" ++ spaced (violation_words k.violation) ++ flat_map (λ c. spaced (train_words c)) k.trains ++ flat_map (λ p. spaced (pair_words p)) k.pairs
+refute-parts k =
+    let violation : List ℕ = spaced (violation_words k.violation) in
+    let trains : List ℕ = flat_map (λ c. spaced (train_words c)) k.trains in
+    let pairs : List ℕ = flat_map (λ p. spaced (pair_words p)) k.pairs in
+    let after : spaced (flat_map train_words k.trains ++ flat_map pair_words k.pairs) ≡ trains ++ pairs =
+    spaced-append (flat_map train_words k.trains) (flat_map pair_words k.pairs) ∙ rw (spaced-parts train_words k.trains, spaced-parts pair_words k.pairs) refl in
+    let all : spaced (violation_words k.violation ++ (flat_map train_words k.trains ++ flat_map pair_words k.pairs)) ≡ violation ++ (trains ++ pairs) =
+    spaced-append (violation_words k.violation) _ ∙ ap (λ t. violation ++ t) after in
+    join-spaced (codes "r") _ ∙ ap (λ t. 114 ∷ t) (all ∙ sym (append_assoc violation trains pairs))

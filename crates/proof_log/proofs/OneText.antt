@@ -1,52 +1,71 @@
 -- Bytes that are read as a line are the text of that line.
-use Rattle.std.proofs.Common.{◌≡◌, ℕ, Bool, true, false, cond, List, [], ◌∷◌, ◌++◌, map, codes, decimal, Option, Some, None, refl, sym, ap, ◌∙◌}
+use Rattle.std.proofs.Common.{◌≡◌, ℕ, Bool, true, ◌&&◌, List, [], ◌∷◌, ◌++◌, append-nil, append_assoc, map, codes, decimal, Option, Some, None, refl, sym, ap, ◌∙◌}
 use Rattle.std.specs.List.{list_all, join_with_byte}
 use Rattle.std.specs.Str.{bytes_eq}
-use Rattle.std.proofs.lemmas.Slice.Eq.{bytes_eq-Decides}
 use Rattle.std.proofs.lemmas.List.Splits.{join_with_byte-slice_split}
 use Rattle.sat_clause.specs.declared.lit.Lit.{Lit}
 use Rattle.proof_log.specs.declared.line.Line.{Line}
-use Rattle.proof_log.specs.declared.line.Line.TheVariants.{Derive}
+use Rattle.proof_log.specs.declared.line.Line.TheVariants.{Derive, Refute, Forget}
 use Rattle.proof_log.specs.Words.{greatest_variable, greatest_clause_number, is_from_1_to, words_of, literal_of, clause_number_of, members_of}
-use Rattle.proof_log.specs.Lines.{is_increasing, with_hints, with_clause, line_of_words, line_of}
-use Rattle.proof_log.specs.Text.{literal_word, words_of_line, text_of_line, keeps_grammar}
-use Rattle.proof_log.proofs.Spelled.{Found, literal-spelled, clause_number-spelled, members-spelled}
+use Rattle.proof_log.specs.Parts.{made, has_member, cone}
+use Rattle.proof_log.specs.Lines.{is_increasing, if_increasing, derivation, clause_numbers, if_all, line_of_kind, line_of_words, line_of}
+use Rattle.proof_log.specs.Text.{literal_word, list_words, cone_words, words_of_line, text_of_line, keeps_cone, keeps_grammar}
+use Rattle.proof_log.proofs.Spelled.{clause_number-spelled, literal-spelled, members-spelled}
+use Rattle.proof_log.proofs.Told.{Told, next-told, tested-told, any-told, choose, named-told, cone-told}
 
--- the words are those of the line, which keeps the grammar
-abbrev Told : List (List ℕ) → Line → Type 0
-Told words line = (words ≡ words_of_line line) × (keeps_grammar line ≡ true)
+abbrev good_numbers : List ℕ → Bool
+good_numbers = list_all (is_from_1_to greatest_clause_number)
 
-hints-told : (clause : List Lit) (after : List (List ℕ)) (found : Option (List ℕ × List (List ℕ))) (words : List (List ℕ)) (line : Line) → is_increasing clause ≡ true → list_all (λ l. is_from_1_to greatest_variable l.var) clause ≡ true
-    → words ≡ codes "d" ∷ (map literal_word clause ++ codes "0" ∷ after)
-    → ((f : List ℕ × List (List ℕ)) → found ≡ Some f → Found decimal (is_from_1_to greatest_clause_number) after f)
-    → with_hints clause found ≡ Some line → Told words line
-hints-told clause after None words line up good e step is = absurd (cc)
-hints-told clause after (Some (hints, [])) words line up good e step is =
-    let same : Derive clause hints ≡ line = cc in
-    let s = step (hints, []) refl in
-    rw (← same) (rw (e, s.0) refl, rw (up, good, s.1) refl)
-hints-told clause after (Some (hints, word ∷ more)) words line up good e step is = absurd (cc)
+abbrev good_variables : List Lit → Bool
+good_variables = list_all (λ l. is_from_1_to greatest_variable l.var)
 
-clause-case : (b : Bool) (found : List Lit × List (List ℕ)) (words : List (List ℕ)) (line : Line) → b ≡ is_increasing found.0 → Found literal_word (λ l. is_from_1_to greatest_variable l.var) words found
-    → cond b (with_hints found.0 (members_of clause_number_of found.1)) None ≡ Some line → Told (codes "d" ∷ words) line
-clause-case true found words line up f is =
-    hints-told found.0 found.1 (members_of clause_number_of found.1) (codes "d" ∷ words) line (sym up) f.1 (ap (λ w. codes "d" ∷ w) f.0) (members-spelled clause_number_of decimal (is_from_1_to greatest_clause_number) clause_number-spelled found.1) is
-clause-case false found words line up f is = absurd (cc)
+numbers-told : (words : List (List ℕ)) → Told (list_words decimal) good_numbers words (members_of clause_number_of words)
+numbers-told words = members-spelled clause_number_of decimal (is_from_1_to greatest_clause_number) clause_number-spelled words
 
-clause-told : (found : Option (List Lit × List (List ℕ))) (words : List (List ℕ)) (line : Line) → ((f : List Lit × List (List ℕ)) → found ≡ Some f → Found literal_word (λ l. is_from_1_to greatest_variable l.var) words f)
-    → with_clause found ≡ Some line → Told (codes "d" ∷ words) line
-clause-told None words line step is = absurd (cc)
-clause-told (Some f) words line step is = clause-case (is_increasing f.0) f words line refl (step f refl) is
+ordered : (words : List (List ℕ)) (o : Option (List Lit × List (List ℕ))) → Told (list_words literal_word) good_variables words o → Told (list_words literal_word) (λ c. is_increasing c && good_variables c) words (if_increasing o)
+ordered words None told = λ found e. absurd (cc)
+ordered words (Some f) told =
+    let t = told f refl in
+    tested-told (list_words literal_word) good_variables words f (is_increasing f.0) (λ c. is_increasing c && good_variables c) (λ h. rw (h, t.1) refl) t
 
-kind-told : (b : Bool) (word : List ℕ) (more : List (List ℕ)) (line : Line) → b ≡ bytes_eq word (codes "d") → cond b (with_clause (members_of literal_of more)) None ≡ Some line → Told (word ∷ more) line
-kind-told true word more line kind is =
-    let d : word ≡ codes "d" = (bytes_eq-Decides word (codes "d")).0 (sym kind) in
-    rw d (clause-told (members_of literal_of more) more line (members-spelled literal_of literal_word (λ l. is_from_1_to greatest_variable l.var) literal-spelled more) is)
-kind-told false word more line kind is = absurd (cc)
+derivation-told : (words : List (List ℕ)) → Told (λ d. list_words literal_word d.0 ++ list_words decimal d.1) (λ d. (is_increasing d.0 && good_variables d.0) && good_numbers d.1) words (derivation words)
+derivation-told words =
+    next-told (list_words literal_word) (λ c. is_increasing c && good_variables c) (list_words decimal) good_numbers (members_of clause_number_of) numbers-told words (if_increasing (members_of literal_of words))
+    (ordered words (members_of literal_of words) (members-spelled literal_of literal_word (λ l. is_from_1_to greatest_variable l.var) literal-spelled words))
 
-words-told : (words : List (List ℕ)) (line : Line) → line_of_words words ≡ Some line → Told words line
+forgotten-told : (words : List (List ℕ)) → Told (list_words decimal) (λ c. has_member c && good_numbers c) words (clause_numbers words)
+forgotten-told words = any-told (list_words decimal) good_numbers words (members_of clause_number_of words) (numbers-told words)
+
+-- the words of a derive line are the clause's and then those of the hints
+derive-words : (d : List Lit × List ℕ) → words_of_line (Derive d.0 d.1) ≡ codes "d" ∷ (list_words literal_word d.0 ++ list_words decimal d.1)
+derive-words d = ap (λ w. codes "d" ∷ w) (sym (append_assoc (map literal_word d.0) (codes "0" ∷ []) (list_words decimal d.1)))
+
+-- a line that takes all words
+all-told : (words : List (List ℕ)) (o : Option (Line × List (List ℕ))) (line : Line) → Told words_of_line keeps_grammar words o → if_all o ≡ Some line → (words ≡ words_of_line line) × (keeps_grammar line ≡ true)
+all-told words None line told e = absurd (cc)
+all-told words (Some (found, [])) line told e =
+    let same : found ≡ line = cc in
+    let t = told (found, []) refl in
+    (t.0 ∙ append-nil (words_of_line found) ∙ ap words_of_line same, ap keeps_grammar (sym same) ∙ t.1)
+all-told words (Some (found, word ∷ more)) line told e = absurd (cc)
+
+kind-told : (kind : List ℕ) (more : List (List ℕ)) (line : Line) → line_of_kind kind more ≡ Some line → (kind ∷ more ≡ words_of_line line) × (keeps_grammar line ≡ true)
+kind-told kind more line e =
+    choose kind (codes "d") (if_all (made (λ d. Derive d.0 d.1) (derivation more))) _ line
+    (λ n. all-told (kind ∷ more) (made (λ d. Derive d.0 d.1) (derivation more)) line
+    (named-told (codes "d") (λ d. Derive d.0 d.1) (λ d. list_words literal_word d.0 ++ list_words decimal d.1) (λ d. (is_increasing d.0 && good_variables d.0) && good_numbers d.1) words_of_line keeps_grammar derive-words (λ d h. h) kind more (derivation more) (derivation-told more) n))
+    (choose kind (codes "r") (if_all (made Refute (cone more))) _ line
+    (λ n. all-told (kind ∷ more) (made Refute (cone more)) line (named-told (codes "r") Refute cone_words keeps_cone words_of_line keeps_grammar (λ k. refl) (λ k h. h) kind more (cone more) (cone-told more) n))
+    (choose kind (codes "x") (if_all (made Forget (clause_numbers more))) None line
+    (λ n. all-told (kind ∷ more) (made Forget (clause_numbers more)) line
+    (named-told (codes "x") Forget (list_words decimal) (λ c. has_member c && good_numbers c) words_of_line keeps_grammar (λ c. refl) (λ c h. h) kind more (clause_numbers more) (forgotten-told more) n))
+    (λ none. absurd (cc)) (bytes_eq kind (codes "x")) refl)
+    (bytes_eq kind (codes "r")) refl)
+    (bytes_eq kind (codes "d")) refl e
+
+words-told : (words : List (List ℕ)) (line : Line) → line_of_words words ≡ Some line → (words ≡ words_of_line line) × (keeps_grammar line ≡ true)
 words-told [] line is = absurd (cc)
-words-told (word ∷ more) line is = kind-told (bytes_eq word (codes "d")) word more line refl is
+words-told (kind ∷ more) line is = kind-told kind more line is
 
 pub one-text : (bytes : List ℕ) (line : Line) → line_of bytes ≡ Some line → (text_of_line line ≡ bytes) × (keeps_grammar line ≡ true)
 one-text bytes line is =

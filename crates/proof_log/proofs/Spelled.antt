@@ -1,16 +1,17 @@
 -- What is read of a word has that word as its text.
-use Rattle.std.proofs.Common.{◌≡◌, ℕ, ◌<◌, ◌≤◌, ◌^◌, Bool, true, false, not, cond, ◌&&◌, ◌||◌, nat_le, nat_lt, nat_eq, List, [], ◌∷◌, ◌++◌, length, get_or, map, option_map, codes, decimal, Option, Some, None, refl, sym, ap, ◌∙◌, rules, arith, eqb-true}
+use Rattle.std.proofs.Common.{◌≡◌, ℕ, ◌<◌, ◌≤◌, ◌^◌, Bool, true, false, not, cond, ◌&&◌, ◌||◌, nat_le, nat_lt, nat_eq, List, [], ◌∷◌, ◌++◌, length, get_or, map, option_map, codes, decimal, Option, Some, None, refl, sym, ap, ◌∙◌, rules, arith, eqb-true, suc, append_assoc}
 use Rattle.std.specs.List.{list_all}
 use Rattle.std.specs.Char.{is_ascii_digit}
 use Rattle.std.specs.Str.Parse.{digits_value}
-use Rattle.std.proofs.lemmas.Str.Parse.{IsDigitsTest, IsNumeralModel, numerals_by_value}
+use Rattle.std.proofs.lemmas.Str.Parse.{IsDigitsTest, IsNumeralModel, numerals_by_value, digits_value_short}
 use Rattle.std.proofs.lemmas.Fmt.{decimal-digits_value}
 use Rattle.std.proofs.lemmas.Slice.Eq.{bytes_eq-Decides}
 use Rattle.std.proofs.lemmas.Bool.Decides.{nat_tests}
+use Rattle.rail_base.specs.declared.route.RouteNo.{RouteNo}
 use Rattle.rail_text.specs.Numbers.{number_of}
 use Rattle.sat_clause.specs.declared.lit.Lit.{Lit}
-use Rattle.proof_log.specs.Words.{greatest_variable, greatest_clause_number, is_from_1_to, plain_number_of, if_from_1_to, variable_of, clause_number_of, literal_of, is_end, member_before, members_of}
-use Rattle.proof_log.specs.Text.{literal_word}
+use Rattle.proof_log.specs.Words.{greatest_variable, greatest_clause_number, is_from_1_to, is_small, plain_number_of, if_small, small_number_of, if_from_1_to, variable_of, route_of, clause_number_of, literal_of, is_end, member_before, members_of}
+use Rattle.proof_log.specs.Text.{literal_word, route_word, list_words}
 
 digits_test : IsDigitsTest (λ ds. list_all is_ascii_digit ds ≡ true)
 digits_test = search rules
@@ -20,25 +21,24 @@ own = numerals_by_value _ digits_test
 
 -- ---- numbers
 
-record IsDecimal (size value : ℕ) (digits : Bool) (number : ℕ) : Type 0 where
-  some : 0 < size
-  digits_only : digits ≡ true
-  fits : value < 2 ^ 64
-  same : value ≡ number
-
 is-decimal : (size value : ℕ) (digits : Bool) (number : ℕ) → cond (nat_le 1 size && nat_le size 20 && digits && nat_lt value (2 ^ 64)) (Some value) None ≡ Some number
     → (0 < size) × (digits ≡ true) × (value < 2 ^ 64) × (value ≡ number)
 is-decimal size value digits number e = grind (arith, nat_tests)
 
 short-number : (size first : ℕ) (found : Option ℕ) (number : ℕ) → cond (nat_le size 18 && (nat_le size 1 || not (nat_eq first 48))) found None ≡ Some number
-    → (found ≡ Some number) × (first ≡ 48 → size ≤ 1)
+    → (found ≡ Some number) × (first ≡ 48 → size ≤ 1) × (size ≤ 18)
 short-number size first found number e = grind (arith, nat_tests)
 
-plain-spelled : (word : List ℕ) (number : ℕ) → plain_number_of word ≡ Some number → decimal number ≡ word
+up-to : (greatest number : ℕ) → number < suc greatest → nat_le number greatest ≡ true
+up-to greatest number h = grind (arith, nat_tests)
+
+pub plain-spelled : (word : List ℕ) (number : ℕ) → plain_number_of word ≡ Some number → (decimal number ≡ word) × (nat_le number greatest_clause_number ≡ true)
 plain-spelled word number e =
     let s = short-number (length word) (get_or word 0 0) (number_of word) number e in
     let d = is-decimal (length word) (digits_value 10 word) (list_all is_ascii_digit word) number s.0 in
-    ap decimal (sym d.3) ∙ decimal-digits_value own word d.1 d.0 (λ h. let le : length word ≤ 1 = s.1 h in omega (arith, d.0)) d.2
+    let below : digits_value 10 word < 10 ^ 18 = digits_value_short own word 18 d.1 s.2 in
+    let most : digits_value 10 word ≤ greatest_clause_number = omega (arith, below) in
+    (ap decimal (sym d.3) ∙ decimal-digits_value own word d.1 d.0 (λ h. let le : length word ≤ 1 = s.1 h in omega (arith, d.0)) d.2, up-to greatest_clause_number number (omega (arith, most, d.3)))
 
 within-is : (greatest number : ℕ) (found : Option ℕ) → if_from_1_to greatest found ≡ Some number → (found ≡ Some number) × (is_from_1_to greatest number ≡ true)
 within-is greatest number None e = absurd (cc)
@@ -47,12 +47,33 @@ within-is greatest number (Some n) e = chosen n (is_from_1_to greatest n) refl e
   chosen n true is e = (e, let same : n ≡ number = cc in rw (← same) (sym is))
   chosen n false is e = absurd (cc)
 
+small-is : (number : ℕ) (found : Option ℕ) → if_small found ≡ Some number → (found ≡ Some number) × (is_small number ≡ true)
+small-is number None e = absurd (cc)
+small-is number (Some n) e = chosen n (is_small n) refl e where
+  chosen : (n : ℕ) (b : Bool) → b ≡ is_small n → cond b (Some n) None ≡ Some number → (Some n ≡ Some number) × (is_small number ≡ true)
+  chosen n true is e = (e, let same : n ≡ number = cc in rw (← same) (sym is))
+  chosen n false is e = absurd (cc)
+
 -- what is read of a word: its text, and that it is in range
+pub small-spelled : (word : List ℕ) (number : ℕ) → small_number_of word ≡ Some number → (decimal number ≡ word) × (is_small number ≡ true)
+small-spelled word number e = let w = small-is number (plain_number_of word) e in ((plain-spelled word number w.0).0, w.1)
+
 pub clause_number-spelled : (word : List ℕ) (number : ℕ) → clause_number_of word ≡ Some number → (decimal number ≡ word) × (is_from_1_to greatest_clause_number number ≡ true)
-clause_number-spelled word number e = let w = within-is greatest_clause_number number (plain_number_of word) e in (plain-spelled word number w.0, w.1)
+clause_number-spelled word number e = let w = within-is greatest_clause_number number (plain_number_of word) e in ((plain-spelled word number w.0).0, w.1)
 
 variable-spelled : (word : List ℕ) (number : ℕ) → variable_of word ≡ Some number → (decimal number ≡ word) × (is_from_1_to greatest_variable number ≡ true)
-variable-spelled word number e = let w = within-is greatest_variable number (plain_number_of word) e in (plain-spelled word number w.0, w.1)
+variable-spelled word number e = let w = within-is greatest_variable number (plain_number_of word) e in ((plain-spelled word number w.0).0, w.1)
+
+route-case : (word : List ℕ) (found : Option ℕ) (r : RouteNo) → found ≡ variable_of word → option_map (λ n. record { 0 = n }) found ≡ Some r → (route_word r ≡ word) × (is_from_1_to greatest_variable r.0 ≡ true)
+route-case word None r is e = absurd (cc)
+route-case word (Some n) r is e =
+    let same : ◌≡◌ {A = RouteNo} (record { 0 = n }) r = cc in
+    let number : n ≡ r.0 = ap (λ q. q.0) same in
+    let s = variable-spelled word n (sym is) in
+    (rw (← number) s.0, rw (← number) s.1)
+
+pub route-spelled : (word : List ℕ) (r : RouteNo) → route_of word ≡ Some r → (route_word r ≡ word) × (is_from_1_to greatest_variable r.0 ≡ true)
+route-spelled word r e = route-case word (variable_of word) r refl e
 
 signed : (negated : Bool) (digits : List ℕ) (found : Option ℕ) (l : Lit) → found ≡ variable_of digits → option_map (λ v. record { var = v; negated = negated }) found ≡ Some l
     → (l.negated ≡ negated) × (decimal l.var ≡ digits) × (is_from_1_to greatest_variable l.var ≡ true)
@@ -84,7 +105,7 @@ end-word : (word : List ℕ) → is_end word ≡ true → word ≡ codes "0"
 end-word word h = (bytes_eq-Decides word (codes "0")).0 h
 
 -- the words of a list that was found, with its end and the words after it; all members are in range
-abbrev pub Found : {X : Type 0} → (X → List ℕ) → (X → Bool) → List (List ℕ) → List X × List (List ℕ) → Type 0
+abbrev Found : {X : Type 0} → (X → List ℕ) → (X → Bool) → List (List ℕ) → List X × List (List ℕ) → Type 0
 Found word_of good words found = (words ≡ map word_of found.0 ++ codes "0" ∷ found.1) × (list_all good found.0 ≡ true)
 
 members-step : {X : Type 0} (word_of : X → List ℕ) (good : X → Bool) (word : List ℕ) (more : List (List ℕ)) (b : Bool) (o : Option X) (rest : Option (List X × List (List ℕ))) (found : List X × List (List ℕ))
@@ -105,8 +126,15 @@ members-step {X} word_of good word more false (Some x) (Some f) found is each st
     let p = each x refl in
     (rw (← some, ← left, p.0, s.0) refl, rw (← some, p.1, s.1) refl)
 
-pub members-spelled : {X : Type 0} (member : List ℕ → Option X) (word_of : X → List ℕ) (good : X → Bool) → ((word : List ℕ) (x : X) → member word ≡ Some x → (word_of x ≡ word) × (good x ≡ true))
+members-found : {X : Type 0} (member : List ℕ → Option X) (word_of : X → List ℕ) (good : X → Bool) → ((word : List ℕ) (x : X) → member word ≡ Some x → (word_of x ≡ word) × (good x ≡ true))
     → (words : List (List ℕ)) (found : List X × List (List ℕ)) → members_of member words ≡ Some found → Found word_of good words found
-members-spelled member word_of good each [] found e = absurd (cc)
-members-spelled member word_of good each (word ∷ more) found e =
-    members-step word_of good word more (is_end word) (member word) (members_of member more) found refl (each word) (members-spelled member word_of good each more) e
+members-found member word_of good each [] found e = absurd (cc)
+members-found member word_of good each (word ∷ more) found e =
+    members-step word_of good word more (is_end word) (member word) (members_of member more) found refl (each word) (members-found member word_of good each more) e
+
+-- the words of a list that was found
+pub members-spelled : {X : Type 0} (member : List ℕ → Option X) (word_of : X → List ℕ) (good : X → Bool) → ((word : List ℕ) (x : X) → member word ≡ Some x → (word_of x ≡ word) × (good x ≡ true))
+    → (words : List (List ℕ)) (found : List X × List (List ℕ)) → members_of member words ≡ Some found → (words ≡ list_words word_of found.0 ++ found.1) × (list_all good found.0 ≡ true)
+members-spelled member word_of good each words found e =
+    let f = members-found member word_of good each words found e in
+    (f.0 ∙ sym (append_assoc (map word_of found.0) (codes "0" ∷ []) found.1), f.1)

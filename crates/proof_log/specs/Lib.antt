@@ -1,4 +1,5 @@
 pub mod Words
+pub mod Parts
 pub mod Lines
 pub mod Text
 pub mod Reading

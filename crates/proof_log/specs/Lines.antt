@@ -4,8 +4,9 @@ use Rattle.std.specs.List.{list_all, zip}
 use Rattle.std.specs.Str.{bytes_eq}
 use Rattle.sat_clause.specs.declared.lit.Lit.{Lit}
 use Rattle.proof_log.specs.declared.line.Line.{Line}
-use Rattle.proof_log.specs.declared.line.Line.TheVariants.{Derive}
+use Rattle.proof_log.specs.declared.line.Line.TheVariants.{Derive, Refute, Forget}
 use Rattle.proof_log.specs.Words.{words_of, literal_of, clause_number_of, members_of}
+use Rattle.proof_log.specs.Parts.{Reads, made, with_next, if_any, cone}
 
 -- the first line of a file
 abbrev pub head : List ℕ
@@ -15,21 +16,37 @@ head = codes "rcvlog 1"
 abbrev pub is_increasing : List Lit → Bool
 is_increasing clause = list_all (λ pair. nat_lt pair.0.var pair.1.var) (zip clause (drop 1 clause))
 
--- the line of a clause and of the hints that are found after it, where no word is left
-abbrev pub with_hints : List Lit → Option (List ℕ × List (List ℕ)) → Option Line
-with_hints clause None = None
-with_hints clause (Some (hints, [])) = Some (Derive clause hints)
-with_hints clause (Some (hints, word ∷ more)) = None
+-- a clause that was found, where its variables increase
+abbrev pub if_increasing : {W : Type 0} → Option (List Lit × W) → Option (List Lit × W)
+if_increasing None = None
+if_increasing (Some found) = if is_increasing found.0 then Some found else None
 
--- the line of a clause that is found, in increasing order, and of the hints after it
-abbrev pub with_clause : Option (List Lit × List (List ℕ)) → Option Line
-with_clause None = None
-with_clause (Some found) = if is_increasing found.0 then with_hints found.0 (members_of clause_number_of found.1) else None
+-- the literals of a clause, `0`, the numbers of the hinted clauses, `0`
+abbrev pub derivation : Reads (List Lit × List ℕ)
+derivation words = with_next (if_increasing (members_of literal_of words)) (members_of clause_number_of)
 
--- the line that words spell: `d`, the literals of a clause, `0`, the numbers of the hinted clauses, `0`
+-- the numbers of clauses, one or more, and `0`
+abbrev pub clause_numbers : Reads (List ℕ)
+clause_numbers words = if_any (members_of clause_number_of words)
+
+-- what is found where no word is left after it
+abbrev pub if_all : {X W : Type 0} → Option (X × List W) → Option X
+if_all None = None
+if_all (Some (found, [])) = Some found
+if_all (Some (found, word ∷ more)) = None
+
+-- the line of a kind: `d` with a derivation, `r` with a cone, `x` with numbers of clauses
+abbrev pub line_of_kind : List ℕ → List (List ℕ) → Option Line
+line_of_kind kind words =
+    if bytes_eq kind (codes "d") then if_all (made (λ d. Derive d.0 d.1) (derivation words))
+    else if bytes_eq kind (codes "r") then if_all (made Refute (cone words))
+    else if bytes_eq kind (codes "x") then if_all (made Forget (clause_numbers words))
+    else None
+
+-- the line that words spell
 abbrev pub line_of_words : List (List ℕ) → Option Line
 line_of_words [] = None
-line_of_words (word ∷ more) = if bytes_eq word (codes "d") then with_clause (members_of literal_of more) else None
+line_of_words (kind ∷ more) = line_of_kind kind more
 
 -- the line that bytes spell
 abbrev pub line_of : List ℕ → Option Line

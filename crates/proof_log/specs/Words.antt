@@ -3,6 +3,7 @@ use Rattle.std.specs.Prelude.{ℕ, ◌==◌, Bool, true, false, not, ◌&&◌, �
 use Rattle.std.specs.List.{slice_split}
 use Rattle.std.specs.Str.{bytes_eq}
 use Rattle.rail_text.specs.Numbers.{number_of}
+use Rattle.rail_base.specs.declared.route.RouteNo.{RouteNo}
 use Rattle.sat_clause.specs.declared.lit.Lit.{Lit}
 
 abbrev pub is_space : ℕ → Bool
@@ -36,9 +37,26 @@ abbrev pub if_from_1_to : ℕ → Option ℕ → Option ℕ
 if_from_1_to greatest None = None
 if_from_1_to greatest (Some number) = if is_from_1_to greatest number then Some number else None
 
+-- at most the greatest number of a variable
+abbrev pub is_small : ℕ → Bool
+is_small number = nat_le number greatest_variable
+
+-- a number that was read, where it is small
+abbrev pub if_small : Option ℕ → Option ℕ
+if_small None = None
+if_small (Some number) = if is_small number then Some number else None
+
+-- a small number, which may be 0
+abbrev pub small_number_of : List ℕ → Option ℕ
+small_number_of word = if_small (plain_number_of word)
+
 -- the number of a variable
 abbrev pub variable_of : List ℕ → Option ℕ
 variable_of word = if_from_1_to greatest_variable (plain_number_of word)
+
+-- the number of a route in a path
+abbrev pub route_of : List ℕ → Option RouteNo
+route_of word = option_map (λ r. record { 0 = r }) (variable_of word)
 
 -- the number of a clause
 abbrev pub clause_number_of : List ℕ → Option ℕ

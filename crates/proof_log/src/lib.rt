@@ -1,14 +1,17 @@
 //! The lines of proof files, as values and as text.
 #![tactic(auto)]
 
+mod cones;
 mod laws;
 mod line;
 mod members;
+mod parts;
 mod read;
 #[cfg(test)]
 mod tests;
 mod words;
 mod write;
+mod write_cone;
 
 pub use laws::{lines_have_one_text, lines_read_back};
 pub use line::{Line, LineFault};

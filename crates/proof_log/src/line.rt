@@ -1,6 +1,7 @@
 //! Lines, and why bytes are none.
 
 use rail_base::list::List;
+use rail_cone::Cone;
 use sat_clause::Lit;
 
 /// A line of a proof file.
@@ -8,6 +9,10 @@ use sat_clause::Lit;
 pub enum Line {
     /// A clause that follows from the clauses of these numbers, taken in order.
     Derive { clause: List<Lit>, hints: List<u64> },
+    /// The clause of a cone.
+    Refute { cone: Cone },
+    /// Clauses that are taken out.
+    Forget { clauses: List<u64> },
 }
 
 /// Why no line was read.

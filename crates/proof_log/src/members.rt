@@ -1,13 +1,15 @@
 //! The lists of a line, each ended by the word `0`.
 
 ghost use Rattle.std.specs.Prelude.{◌≡◌, IfOk, List, Option, ℕ, Some, None, Err};
-ghost use Rattle.proof_log.specs.Words.{members_of, literal_of, clause_number_of};
+ghost use Rattle.proof_log.specs.Words.{members_of, literal_of, route_of, clause_number_of};
+ghost use Rattle.proof_log.specs.Parts.{has_member};
 ghost use Rattle.proof_log.specs.Reading.{words_left};
 ghost use Rattle.proof_log.specs.declared.line.LineFault.TheVariants.{Text};
 
 use crate::line::LineFault;
-use crate::words::{clause_number, first_word, literal};
+use crate::words::{clause_number, first_word, literal, route};
 use rail_base::list::List;
+use rail_base::route::RouteNo;
 use sat_clause::Lit;
 use std::alloc::Global;
 
@@ -29,6 +31,14 @@ impl Member for Lit {
     }
 }
 
+impl Member for RouteNo {
+    ghost member_of = { route_of };
+
+    fn read(word: &[u8]) -> Option<Self> {
+        route(word)
+    }
+}
+
 /// The number of a clause.
 impl Member for u64 {
     ghost member_of = { clause_number_of };
@@ -36,6 +46,13 @@ impl Member for u64 {
     fn read(word: &[u8]) -> Option<Self> {
         clause_number(word)
     }
+}
+
+/// Whether a list has a member.
+pub fn has_member<T>(list: &List<T>) -> bool
+    ensures { result ≡ has_member list.now }
+{
+    !list.is_empty()
 }
 
 /// The members up to the word `0`, and the words after it.

@@ -2,8 +2,9 @@
 
 ghost use Rattle.std.specs.Prelude.{◌≡◌, ◌∷◌, position};
 ghost use Rattle.proof_log.specs.Reading.{words_left};
-ghost use Rattle.proof_log.specs.Words.{is_space, words_of, plain_number_of, variable_of, clause_number_of, literal_of};
+ghost use Rattle.proof_log.specs.Words.{is_space, words_of, plain_number_of, small_number_of, variable_of, route_of, clause_number_of, literal_of};
 
+use rail_base::route::RouteNo;
 use rail_text::number;
 use sat_clause::Lit;
 
@@ -28,13 +29,23 @@ pub fn first_word(text: &[u8]) -> (&[u8], Option<&[u8]>)
 }
 
 /// The number that 1 to 18 digits with no zero in front write.
-fn plain_number(word: &[u8]) -> Option<u64>
+pub fn plain_number(word: &[u8]) -> Option<u64>
     ensures { result ≡ plain_number_of word.now }
 {
     if word.len() > 18 || word.len() > 1 && word[0] == b'0' {
         return None;
     }
     number(word)
+}
+
+/// A number of at most 32 bits, which may be 0.
+pub fn small_number(word: &[u8]) -> Option<u32>
+    ensures { result ≡ small_number_of word.now }
+{
+    match plain_number(word) {
+        Some(number) if number <= 4_294_967_295 => Some(number as u32),
+        _ => None,
+    }
 }
 
 /// The number of a variable.
@@ -45,6 +56,14 @@ fn variable(word: &[u8]) -> Option<u32>
         Some(var) if 1 <= var && var <= 4_294_967_295 => Some(var as u32),
         _ => None,
     }
+}
+
+/// The number of a route in a path.
+pub fn route(word: &[u8]) -> Option<RouteNo>
+    ensures { result ≡ route_of word.now }
+{
+    let number = variable(word)?;
+    Some(RouteNo(number))
 }
 
 /// The number of a clause.

@@ -3,9 +3,11 @@
 ghost use Rattle.std.specs.Prelude.{◌≡◌, ◌++◌, ◌∷◌, [], map, codes, decimal, IfOk, OnOk, if◌then◌else◌};
 ghost use Rattle.proof_log.specs.Text.{literal_word, text_of_line};
 ghost use Rattle.proof_log.specs.Writing.{spaced};
-ghost use Rattle.proof_log.specs.declared.line.Line.TheVariants.{Derive};
+ghost use Rattle.proof_log.specs.declared.line.Line.TheVariants.{Derive, Refute, Forget};
 
 use crate::line::Line;
+use crate::write_cone::{put_pairs, put_trains, put_violation};
+use rail_cone::Cone;
 use rail_text::put_number;
 use sat_clause::Lit;
 use std::alloc::{AllocError, Global};
@@ -39,13 +41,13 @@ fn put_literals(text: &mut Vec<u8>, clause: &[Lit]) -> Result<(), AllocError>
     Ok(())
 }
 
-/// Appends the numbers of clauses, each after a space.
-fn put_hints(text: &mut Vec<u8>, hints: &[u64]) -> Result<(), AllocError>
-    ensures { OnOk result (text.new.items ≡ text.old.items ++ spaced (map decimal hints.now)) }
+/// Appends numbers, each after a space.
+fn put_numbers(text: &mut Vec<u8>, numbers: &[u64]) -> Result<(), AllocError>
+    ensures { OnOk result (text.new.items ≡ text.old.items ++ spaced (map decimal numbers.now)) }
 {
-    for hint in hints {
+    for number in numbers {
         text.push(b' ')?;
-        put_number(text, *hint)?;
+        put_number(text, *number)?;
     }
     Ok(())
 }
@@ -60,8 +62,29 @@ pub fn write_derive(alloc: Global, clause: &[Lit], hints: &[u64]) -> Result<Vec<
     let mut text = Vec::from_slice(alloc, b"d")?;
     put_literals(&mut text, clause)?;
     text.extend_from_slice(b" 0")?;
-    put_hints(&mut text, hints)?;
+    put_numbers(&mut text, hints)?;
     text.extend_from_slice(b" 0")?;
+    Ok(text)
+}
+
+/// The text of the line that takes out clauses.
+fn write_forget(alloc: Global, clauses: &[u64]) -> Result<Vec<u8>, AllocError>
+    ensures { IfOk result (λ text. text.items ≡ text_of_line (Forget clauses.now)) }
+{
+    let mut text = Vec::from_slice(alloc, b"x")?;
+    put_numbers(&mut text, clauses)?;
+    text.extend_from_slice(b" 0")?;
+    Ok(text)
+}
+
+/// The text of the line of a cone.
+fn write_refute(alloc: Global, cone: &Cone) -> Result<Vec<u8>, AllocError>
+    ensures { IfOk result (λ text. text.items ≡ text_of_line (Refute cone.now)) }
+{
+    let mut text = Vec::from_slice(alloc, b"r")?;
+    put_violation(&mut text, cone.violation)?;
+    put_trains(&mut text, cone.trains.as_slice())?;
+    put_pairs(&mut text, cone.pairs.as_slice())?;
     Ok(text)
 }
 
@@ -71,5 +94,7 @@ pub fn write_line(alloc: Global, line: &Line) -> Result<Vec<u8>, AllocError>
 {
     match line {
         Line::Derive { clause, hints } => write_derive(alloc, clause.as_slice(), hints.as_slice()),
+        Line::Refute { cone } => write_refute(alloc, cone),
+        Line::Forget { clauses } => write_forget(alloc, clauses.as_slice()),
     }
 }

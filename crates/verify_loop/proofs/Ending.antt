@@ -6,10 +6,11 @@ use Rattle.log_checker.specs.declared.shown.Shown.TheVariants.{Yes}
 use Rattle.log_checker.specs.Verdict.{log_verdict}
 use Rattle.plan_clauses.specs.Clauses.{base_clauses}
 use Rattle.plan_decoder.specs.Laws.{FrontIsTrue, FrontStays}
-use Rattle.proof_judge.specs.Judged.{all_live, judged, YesIsInfeasible}
+use Rattle.proof_judge.specs.Judged.{all_live, judged, refuted, YesIsInfeasible}
 use Rattle.proof_log.specs.Lines.{head}
 use Rattle.proof_log.specs.Words.{greatest_variable, greatest_clause_number}
 use Rattle.rail_base.specs.declared.station.Station.{Station}
+use Rattle.rail_base.specs.Admitted.{IsAdmitted}
 use Rattle.rail_spec.specs.Feasible.{IsInfeasible}
 use Rattle.rail_spec.specs.Track.{routes_of}
 use Rattle.run_log.specs.Laws.{EndedRunsAreAccepted}
@@ -99,10 +100,10 @@ module _ (d : Station) (n limit : ℕ) (old : State) (s : IsSetUp d n limit old)
     ended_so = record { lines = more; last = (core, hints); text = whole; go_on = (log_so now more went fewer).go_on; is_last = last }
 
     pub shown_so : EndedRunsAreAccepted → judged d n new.text ≡ Yes n
-    shown_so accepted = ap (log_verdict (base d n) (vars d n) n) whole ∙ accepted (base d n) (vars d n) n more (core, hints) (log_so now more went fewer).go_on last
+    shown_so accepted = ap (log_verdict (refuted d n) (vars d n) n (base d n)) whole ∙ accepted (refuted d n) (vars d n) n (base d n) more (core, hints) (log_so now more went fewer).go_on last
 
-    pub infeasible_so : EndedRunsAreAccepted → YesIsInfeasible → IsInfeasible d n
-    infeasible_so accepted sound = (sound d n n new.text s.some (shown_so accepted)).1
+    pub infeasible_so : IsAdmitted d → EndedRunsAreAccepted → YesIsInfeasible → IsInfeasible d n
+    infeasible_so good accepted sound = (sound d good n n new.text s.some (shown_so accepted)).1
 
 pub some-limit : (a b : ℕ) → Some a ≡ Some b → a ≡ b
 some-limit a b e = cc

@@ -1,9 +1,9 @@
-use Rattle.std.proofs.Common.{arith, length, ◌≤◌}
-use Rattle.rail_text.specs.Cursors.{lines_left}
-use Rattle.log_checker.proofs.Counted.{few}
+use Rattle.std.proofs.Common.{◌≡◌, sym, subst, IfOk}
+use Rattle.log_checker.specs.Verdict.{log_verdict}
+use Rattle.log_checker.proofs.ShownSo.{shown-so}
 use Rattle.log_checker.proofs.judge.judge_log.Goals as goal
 
-pub judge_lines-requires : goal.judge_lines-requires
-judge_lines-requires c =
-    let few : length (lines_left c.next.new.self) ≤ length c.args.bytes.now = few c.args.bytes.now _ _ _ c.new-lines.ensures c.in-Some.ensures.steps in
-    record { few = omega arith }
+pub returns-clause-sound : goal.returns-clause-sound
+returns-clause-sound g c = λ k e.
+    shown-so (g.R.Refuter.refute c.args.refuter.now) c.args.vars c.args.steps c.args.base k c.args.bytes.now
+    (sym (subst (λ r. IfOk r (λ shown. shown ≡ log_verdict (g.R.Refuter.refute c.args.refuter.now) c.args.vars c.args.steps c.args.base c.args.bytes.now)) e c.shown_by.ensures))

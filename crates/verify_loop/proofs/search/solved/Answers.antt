@@ -1,4 +1,5 @@
 use Rattle.std.proofs.Common.{◌≡◌, ℕ, ◌≤◌, List, length, Some, sym, ap, ◌∙◌, subst, arith}
+use Rattle.rail_base.proofs.Admitting.{admitted}
 use Rattle.plan_decoder.proofs.Fronts.{front_is_true, front_stays}
 use Rattle.sat_core.specs.Runs.{State, state_of}
 use Rattle.verify_loop.specs.Outcomes.{IsFull}
@@ -35,7 +36,7 @@ returns-in-Unsat c =
     let within = two.recorder.within in
     record {
       says = (
-        infeasible_so d n limit old s run.1 new run.0 core run.2 run.3 run.5 run.6 two.recorder.few ended_runs yes_is_so,
+        infeasible_so d n limit old s run.1 new run.0 core run.2 run.3 run.5 run.6 two.recorder.few (admitted d c.args.design.now.admitted) ended_runs yes_is_so,
         rw text (ended_so d n limit old s run.1 new run.0 core run.2 run.3 run.5 run.6 two.recorder.few),
         rw text (shown_so d n limit old s run.1 new run.0 core run.2 run.3 run.5 run.6 two.recorder.few ended_runs),
         rw text (omega (arith, room, within)),
