@@ -14,3 +14,4 @@ mod Admitted
 mod Phases
 mod Spelling
 mod Resolved
+pub mod Reading

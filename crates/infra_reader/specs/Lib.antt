@@ -10,3 +10,4 @@ pub mod Traffic
 pub mod Spelling
 pub mod Keeping
 pub mod Design
+pub mod Laws

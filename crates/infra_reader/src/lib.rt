@@ -6,6 +6,7 @@
 #![tactic(auto)]
 
 mod design;
+pub mod laws;
 mod limits;
 mod names;
 mod resolve;

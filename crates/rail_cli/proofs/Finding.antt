@@ -7,6 +7,7 @@ use Rattle.log_checker.specs.declared.shown.Shown.TheVariants.{Yes}
 use Rattle.plan_clauses.specs.Clauses.{base_clauses, past_limit}
 use Rattle.proof_judge.specs.Judged.{judged}
 use Rattle.proof_judge.proofs.Sound.{yes_infeasible}
+use Rattle.infra_reader.proofs.Reading.{spelled_admitted}
 use Rattle.rail_base.specs.Admission.{is_admitted}
 use Rattle.rail_base.proofs.Admitting.{admitted}
 use Rattle.rail_base.specs.declared.design.Design.{Design}
@@ -348,7 +349,7 @@ module _ (files : Files) (words : List (List ℕ)) (n : ℕ) (d : Station) (s : 
       let some : 1 ≤ n = (requests_in_range words (verify n s.conflicts s.ticks s.design_name s.proof_name) s.asked).0 in
       record {
         text = prints.written answered ∙ (ap (λ (a : Answer). grown text (concat a.lines)) line ∙ ap (grown text) (append-nil (infeasible_line n)));
-        none = (yes_infeasible d n n log.log some log.shows).1;
+        none = (yes_infeasible d (spelled_admitted (files s.design_name) d s.spells_design) n n log.log some log.shows).1;
         stored = log;
         passes = log_passes q log.log log.short log.shows;
       }

@@ -8,6 +8,8 @@ use Rattle.log_checker.specs.declared.shown.Shown.TheVariants.{Yes, No}
 use Rattle.plan_clauses.specs.Clauses.{base_clauses, past_limit}
 use Rattle.proof_judge.specs.Judged.{judged}
 use Rattle.proof_judge.proofs.Sound.{yes_infeasible}
+use Rattle.rail_base.specs.Admitted.{IsAdmitted}
+use Rattle.infra_reader.proofs.Reading.{spelled_admitted}
 use Rattle.rail_base.specs.declared.station.Station.{Station}
 use Rattle.rail_outside.specs.Files.{Files}
 use Rattle.rail_outside.specs.Growth.{grown}
@@ -53,10 +55,10 @@ record Shows (n : ℕ) (d : Station) (a : Answer) : Type 0 where
   answer : a ≡ one_line Done (yes_line steps)
   none : IsInfeasible d steps
 
-judged_shows : (n : ℕ) (d : Station) (bytes : List ℕ) → 1 ≤ n → (checked_against d n bytes).status ≡ Done → Shows n d (checked_against d n bytes)
-judged_shows n d bytes some done =
+judged_shows : (n : ℕ) (d : Station) (bytes : List ℕ) → IsAdmitted d → 1 ≤ n → (checked_against d n bytes).status ≡ Done → Shows n d (checked_against d n bytes)
+judged_shows n d bytes good some done =
     let t = told_done (judged d n bytes) done in
-    let s = yes_infeasible d n t.steps bytes some t.is in
+    let s = yes_infeasible d good n t.steps bytes some t.is in
     record { steps = t.steps; within = s.0; answer = ap told t.is; none = s.1 }
 
 checked_shows : (n : ℕ) (design_bytes proof_bytes : List ℕ) (d : Station) → 1 ≤ n → design_of design_bytes ≡ Ok d → (checked n design_bytes proof_bytes).status ≡ Done → Shows n d (checked n design_bytes proof_bytes)
@@ -68,7 +70,8 @@ checked_shows n design_bytes proof_bytes d some spells done =
     let text : design_bytes ≡ one.read = file_is file.Design design_bytes one.read one.is in
     let same : d ≡ two.read = read-same one.read d two.read (ap design_of (sym text) ∙ spells) two.is in
     let all : checked n design_bytes proof_bytes ≡ checked_against two.read n four.read = one.comes ∙ (two.comes ∙ (three.comes ∙ four.comes)) in
-    let shows = judged_shows n two.read four.read some (ap (λ (a : Answer). a.status) (sym all) ∙ done) in
+    let good : IsAdmitted two.read = subst IsAdmitted same (spelled_admitted design_bytes d spells) in
+    let shows = judged_shows n two.read four.read good some (ap (λ (a : Answer). a.status) (sym all) ∙ done) in
     record { steps = shows.steps; within = shows.within; answer = all ∙ shows.answer; none = subst (λ (e : Station). IsInfeasible e shows.steps) (sym same) shows.none }
 
 -- what is printed of it

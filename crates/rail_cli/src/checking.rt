@@ -78,7 +78,7 @@ fn checked_proof<S: Shelf>(
 {
     let base = encode(alloc, design, routes, steps)?;
     let bytes = fetch(alloc, shelf, InputFile::Proof, proof)?;
-    let shown = judge(alloc, base, bytes.as_slice())?;
+    let shown = judge(alloc, design, routes, base, bytes.as_slice())?;
     let reply = tell(alloc, shown)?;
     Ok(reply)
 }

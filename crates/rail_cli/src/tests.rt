@@ -474,11 +474,15 @@ fn designs_are_refused_at_their_first_place(rt: HostRuntime) -> Result<(), Alloc
     Ok(())
 }
 
+/// A proof that the train of a line with a greatest time is not through in time.
+const BY_TIME: &str = "rcvlog 1\nr within 1 t 1 9 2 1 2 0 0 0\nd 0 9 10 14 0\n";
+
 #[test]
 fn proofs_are_judged(rt: HostRuntime) -> Result<(), AllocError> {
     let alloc = rt.alloc();
     let halt = design(alloc, 600_000, TRACK, ONE_TRAIN, "")?;
     let follow = design(alloc, 600_000, TRACK, TWO_TRAINS, "")?;
+    let halt_within = design(alloc, 600_000, TRACK, ONE_TRAIN, WITHIN)?;
     for (station, steps, proof, status, text) in [
         (&halt, "1", "rcvlog 1\nd 0 1 5 0\n", 0, "yes steps 1\n"),
         (
@@ -505,6 +509,22 @@ fn proofs_are_judged(rt: HostRuntime) -> Result<(), AllocError> {
         (&halt, "2", "", 1, "no line 1 no final line\n"),
         (&follow, "2", "rcvlog 1\n", 1, "no line 2 no final line\n"),
         (&halt, "65", "rcvlog 1\n", 2, USAGE),
+        (&halt_within, "2", BY_TIME, 0, "yes steps 2\n"),
+        (
+            &halt_within,
+            "2",
+            "rcvlog 1\nr within 1 t 1 8 2 1 2 0 0 0\n",
+            1,
+            "no line 2 violation not shown\n",
+        ),
+        (
+            &halt_within,
+            "2",
+            "rcvlog 1\nr within 1 t 1 9 2 1 2 0 0 0\nx 14 0\n",
+            1,
+            "no line 3 drop refused\n",
+        ),
+        (&halt, "2", BY_TIME, 1, "no line 2 path not in design\n"),
     ] {
         let mut shelf = shelf_of(alloc, station.as_bytes(), proof)?;
         let mut out = MemorySink::new(alloc);

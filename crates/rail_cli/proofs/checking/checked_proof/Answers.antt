@@ -1,4 +1,6 @@
-use Rattle.std.proofs.Common.{ap, ◌∙◌}
+use Rattle.std.proofs.Common.{ℕ, ap, sym, subst, ◌∙◌}
+use Rattle.plan_encoding.specs.Bases.{IsBaseOf}
+use Rattle.rail_spec.specs.Track.{routes_of}
 use Rattle.proof_judge.specs.Judged.{judged}
 use Rattle.rail_cli.proofs.Asking.{none_of}
 use Rattle.rail_cli.proofs.Judging.{proof_shown}
@@ -11,4 +13,9 @@ pub returns-clause-replies : goal.returns-clause-replies
 returns-clause-replies g c = λ files told_so.
     let d = c.args.design.now.station in
     proof_shown c.args.steps d (files c.args.proof.now) c.in_ok-bytes.bytes.items c.in_ok-shown.shown c.in_ok-reply.reply c.in_ok-base.ensures.reads (c.in_ok-bytes.ensures.reads files told_so)
-    (c.in_ok-shown.ensures.value d c.args.steps c.in_ok-base.ensures.base ∙ ap (judged d c.args.steps) c.as_slice.ensures.value) c.in_ok-reply.ensures.told
+    (c.in_ok-shown.ensures.value ∙ (ap (λ n. judged d n c.as_slice.result.now) c.in_ok-base.ensures.base.steps ∙ ap (judged d c.args.steps) c.as_slice.ensures.value)) c.in_ok-reply.ensures.told
+
+pub judge-requires-clause-base : goal.judge-requires-clause-base
+judge-requires-clause-base g c =
+    let d = c.args.design.now.station in
+    subst (λ (m : ℕ). IsBaseOf d (routes_of d) m c.in_ok-base.base) (sym c.in_ok-base.ensures.base.steps) c.in_ok-base.ensures.base

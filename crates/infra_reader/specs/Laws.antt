@@ -1,0 +1,9 @@
+-- What follows of what is read.
+use Rattle.std.specs.Prelude.{◌≡◌, ℕ, List, Ok}
+use Rattle.rail_base.specs.declared.station.Station.{Station}
+use Rattle.rail_base.specs.Admitted.{IsAdmitted}
+use Rattle.infra_reader.specs.Design.{design_of}
+
+-- a design that bytes spell is admitted
+abbrev pub SpelledAreAdmitted : Type 0
+SpelledAreAdmitted = (bytes : List ℕ) (d : Station) → design_of bytes ≡ Ok d → IsAdmitted d
