@@ -1,0 +1,81 @@
+-- How a run ends.
+use Rattle.std.specs.Prelude.{ℕ, ◌≡◌, ◌≤◌, true, List, [], ◌∷◌, ◌++◌, length, flat_map, codes, decimal, Some, None, Result, Ok, Err, ◌⊎◌}
+use Rattle.sat_clause.specs.Clauses.{Store}
+use Rattle.sat_clause.specs.Hints.{follow_of}
+use Rattle.sat_clause.specs.declared.follow.Follow.TheVariants.{Yes}
+use Rattle.sat_core.specs.Lines.{Derived, text_of}
+use Rattle.sat_core.specs.Listing.{text_of_line}
+use Rattle.sat_core.specs.Models.{IsModel, HasNoModel}
+use Rattle.sat_core.specs.declared.listed.Line.{Line}
+use Rattle.sat_core.specs.declared.solver.Answer.{Answer}
+use Rattle.sat_core.specs.declared.solver.Answer.TheVariants as answer
+use Rattle.solve_clauses.specs.declared.formula.Formula.{Formula}
+use Rattle.solve_clauses.specs.declared.outcome.Outcome.{Outcome}
+use Rattle.solve_clauses.specs.declared.outcome.Outcome.TheVariants.{Sat, Unsat, Spent, DoesNotFollow, Text, Memory, Usage, File, TooLong}
+use Rattle.solve_clauses.specs.Replays.{fault_from}
+
+-- each clause follows from those before it
+abbrev pub AllFollow : Store → List Derived → Type 0
+AllFollow store [] = Unit {0}
+AllFollow store (d ∷ ds) = (follow_of store d.0 d.1 ≡ Yes) × AllFollow (store ++ (d.0, true) ∷ []) ds
+
+-- so many lines were derived, each of which follows; lines with their text are listed, and the check of these found no fault
+pub record AreRecorded (store : Store) (lines : ℕ) : Type 0 where
+  pub derived : List Derived
+  pub listed : List Line
+  pub count : length derived ≡ lines
+  pub follow : AllFollow store derived
+  pub text : flat_map text_of_line listed ≡ flat_map text_of derived
+  pub checked : fault_from store 1 listed ≡ None
+
+-- what an answer and the number of derived lines tell; a recorder without a limit is never full
+abbrev pub told_of : Answer → ℕ → Outcome
+told_of (answer.Sat values) lines = Sat lines values
+told_of (answer.Unsat core) lines = Unsat lines
+told_of (answer.Spent clause hints) lines = Spent lines
+told_of (answer.Full bytes next) lines = Memory
+told_of answer.Memory lines = Memory
+
+-- what the end of a run over these clauses says, where at most so many lines may be derived
+abbrev pub Ends : Formula → ℕ → Outcome → Type 0
+Ends f conflicts (Sat lines values) = IsModel f.clauses [] f.vars values × AreRecorded f.clauses lines × (lines ≤ conflicts)
+Ends f conflicts (Unsat lines) = HasNoModel f.clauses [] × AreRecorded f.clauses lines × (lines ≤ conflicts)
+Ends f conflicts (Spent lines) = AreRecorded f.clauses lines × (lines ≡ conflicts)
+Ends f conflicts (DoesNotFollow line) = (listed : List Line) × (fault_from f.clauses 1 listed ≡ Some line)
+Ends f conflicts (Text line) = ⊥
+Ends f conflicts Memory = Unit {0}
+Ends f conflicts Usage = ⊥
+Ends f conflicts File = ⊥
+Ends f conflicts TooLong = ⊥
+
+-- what it says of what the bytes spell: clauses, or none from this line on
+abbrev pub Says : Result Formula ℕ → ℕ → Outcome → Type 0
+Says (Ok f) conflicts outcome = Ends f conflicts outcome
+Says (Err line) conflicts outcome = (outcome ≡ Text line) ⊎ (outcome ≡ Memory)
+
+abbrev pub numbered_line : List ℕ → ℕ → List ℕ → List ℕ
+numbered_line front number back = front ++ decimal number ++ back
+
+-- the line that tells it
+abbrev pub line_of : Outcome → List ℕ
+line_of (Sat lines values) = numbered_line (codes "sat lines ") lines (codes "\n")
+line_of (Unsat lines) = numbered_line (codes "unsat lines ") lines (codes "\n")
+line_of (Spent lines) = numbered_line (codes "spent lines ") lines (codes "\n")
+line_of (DoesNotFollow line) = numbered_line (codes "line ") line (codes " does not follow\n")
+line_of (Text line) = numbered_line (codes "text line ") line (codes "\n")
+line_of Memory = codes "memory\n"
+line_of Usage = codes "usage: solve_clauses CONFLICTS FILE\n"
+line_of File = codes "file\n"
+line_of TooLong = codes "too long\n"
+
+-- 0 for an answer, 1 for a bad text, 2 for other words, 3 for a line that does not follow, 6 for want of memory, 7 and 11 for a file
+abbrev pub status_of : Outcome → ℕ
+status_of (Sat lines values) = 0
+status_of (Unsat lines) = 0
+status_of (Spent lines) = 0
+status_of (Text line) = 1
+status_of (DoesNotFollow line) = 3
+status_of Memory = 6
+status_of Usage = 2
+status_of File = 7
+status_of TooLong = 11
