@@ -1,0 +1,4 @@
+pub mod Admitting
+pub mod Counting
+pub mod Drawing
+pub mod Making

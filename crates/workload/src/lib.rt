@@ -1,0 +1,13 @@
+//! Stations that are made from numbers, for trials.
+#![tactic(auto)]
+
+mod design;
+mod draws;
+mod edges;
+mod names;
+mod nodes;
+#[cfg(test)]
+mod tests;
+mod traffic;
+
+pub use design::make;
