@@ -1,0 +1,4 @@
+pub mod Lines
+pub mod Accepted
+pub mod Appending
+pub mod Searched

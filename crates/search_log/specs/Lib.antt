@@ -1,0 +1,3 @@
+-- Logs of searches, with lines of cones.
+pub mod Logs
+pub mod Laws
