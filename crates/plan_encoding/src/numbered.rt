@@ -91,6 +91,13 @@ impl Base {
         &self.clauses
     }
 
+    /// The pairs of commands that contend, in the order of their variables.
+    pub fn pairs(&self) -> &[(Command, Command)]
+        ensures { result.now ≡ self.now.pairs }
+    {
+        &self.pairs
+    }
+
     /// The clauses, to which others may be added, and the pairs of commands that contend, in the order of their variables.
     pub fn into_parts(self) -> (Arena, Vec<(Command, Command)>)
         ensures clauses { result.0 ≡ self.clauses }

@@ -5,7 +5,7 @@ use Rattle.rail_base.specs.declared.station.Station.{Station}
 use Rattle.rail_base.specs.declared.plan.Command.{Command}
 use Rattle.rail_outside.specs.Files.{Files}
 use Rattle.rail_outside.specs.Growth.{grown}
-use Rattle.rail_words.specs.Requests.{Asked, simulate, routes, verify, check, request_of}
+use Rattle.rail_words.specs.Requests.{Asked, simulate, routes, verify, check, trial, request_of}
 use Rattle.verify_loop.specs.declared.outcome.Outcome.{Outcome}
 use Rattle.rail_cli.specs.declared.status.Status.{Status}
 use Rattle.rail_cli.specs.declared.reply.Reply.{Reply}
@@ -117,6 +117,9 @@ verify_only files words n conflicts ticks design_name proof_name reply asked = �
 check_only : (files : Files) (words : List (List ℕ)) (n : ℕ) (design_name proof_name : List ℕ) (reply : Reply) → request_of words ≡ Some (check n design_name proof_name) → DoneWhereFeasible files words reply.status
 check_only files words n design_name proof_name reply asked = λ d plan s. (let clash = sym s.asked ∙ asked in absurd (cc))
 
+trial_only : (files : Files) (words : List (List ℕ)) (seed size : ℕ) (reply : Reply) → request_of words ≡ Some (trial seed size) → DoneWhereFeasible files words reply.status
+trial_only files words seed size reply asked = λ d plan s. (let clash = sym s.asked ∙ asked in absurd (cc))
+
 -- the reply to a request says 0 exactly where the plan is feasible
 pub done_where_feasible : (files : Files) (found : Outcome) (words : List (List ℕ)) (asked : Asked) (r : Result Reply Ending) → request_of words ≡ Some asked
     → Replies r (answer_to files found (Some asked)) → RefusesFile r → DecidesRequest files asked r
@@ -137,6 +140,10 @@ done_where_feasible files found words (check n design_name proof_name) (Ok reply
 done_where_feasible files found words (check n design_name proof_name) (Err (ending.Told reply)) asked replies refuses decides = check_only files words n design_name proof_name reply asked
 done_where_feasible files found words (check n design_name proof_name) (Err ending.Memory) asked replies refuses decides = tt
 done_where_feasible files found words (check n design_name proof_name) (Err ending.ShelfFault) asked replies refuses decides = tt
+done_where_feasible files found words (trial seed size) (Ok reply) asked replies refuses decides = trial_only files words seed size reply asked
+done_where_feasible files found words (trial seed size) (Err (ending.Told reply)) asked replies refuses decides = trial_only files words seed size reply asked
+done_where_feasible files found words (trial seed size) (Err ending.Memory) asked replies refuses decides = tt
+done_where_feasible files found words (trial seed size) (Err ending.ShelfFault) asked replies refuses decides = tt
 
 -- what is printed then
 pub tells_feasible : (files : Files) (found : Outcome) (words : List (List ℕ)) (d : Station) (plan : List (List Command)) (t : Status) (text new_text : Option (List ℕ)) (pieces new_pieces : Option (List (List ℕ)))
@@ -186,3 +193,7 @@ decides_verify files asked n conflicts ticks design_name proof_name r is = subst
 -- nor one for a check
 pub decides_check : (files : Files) (asked : Asked) (n : ℕ) (design_name proof_name : List ℕ) (r : Result Reply Ending) → asked ≡ check n design_name proof_name → DecidesRequest files asked r
 decides_check files asked n design_name proof_name r is = subst (λ (a : Asked). DecidesRequest files a r) (sym is) tt
+
+-- nor one for a trial
+pub decides_trial : (files : Files) (asked : Asked) (seed size : ℕ) (r : Result Reply Ending) → asked ≡ trial seed size → DecidesRequest files asked r
+decides_trial files asked seed size r is = subst (λ (a : Asked). DecidesRequest files a r) (sym is) tt

@@ -20,7 +20,7 @@ use Rattle.rail_outside.specs.Growth.{grown}
 use Rattle.rail_spec.specs.Feasible.{IsFeasible}
 use Rattle.rail_spec.specs.Track.{routes_of}
 use Rattle.rail_spec.proofs.Admits.{never_clash}
-use Rattle.rail_words.specs.Requests.{Asked, simulate, routes, verify, check, request_of, IsInRange}
+use Rattle.rail_words.specs.Requests.{Asked, simulate, routes, verify, check, trial, request_of, IsInRange}
 use Rattle.rail_words.proofs.Ranges.{requests_in_range}
 use Rattle.verify_loop.specs.declared.outcome.Budgets.{Budgets}
 use Rattle.verify_loop.specs.declared.outcome.Outcome.{Outcome}
@@ -33,9 +33,9 @@ use Rattle.rail_cli.specs.declared.reply.Reply.{Reply}
 use Rattle.rail_cli.specs.declared.ending.Ending.{Ending}
 use Rattle.rail_cli.specs.declared.ending.Ending.TheVariants as ending
 use Rattle.rail_cli.specs.Statuses.{is_answered, is_verdict}
-use Rattle.rail_cli.specs.Texts.{limit_of, usage_line, yes_line, infeasible_line}
+use Rattle.rail_cli.specs.Texts.{limit_of, usage_line, too_large_line, yes_line, infeasible_line}
 use Rattle.rail_cli.specs.Answers.{Answer, one_line, within_limit, with_routes, design_in, and_then, unless_too_large, with_clauses, unless_refused, told, checked_against, with_proof, checked, plan_told, told_outcome, searched_in, searched, answer_to, answer_of}
-use Rattle.rail_cli.specs.Replies.{reply_seen, Reads, RefusesFile, OnlyFails, Replies, EndsIn, EndsWith, RepliesSo}
+use Rattle.rail_cli.specs.Replies.{reply_seen, Reads, RefusesFile, OnlyFails, Replies, EndsIn, EndsWith, RepliesSo, RepliesTrial}
 use Rattle.rail_cli.specs.Searches.{budgets_of, Finds, HoldsLog, HoldsProof, SearchLeaves, Leaves, Searches, TellsPlan, TellsNone}
 use Rattle.rail_cli.specs.Checks.{Checks, TellsInfeasible}
 use Rattle.rail_cli.specs.Simulations.{Simulates, TellsFeasible, DoneWhereFeasible}
@@ -54,6 +54,7 @@ may_want files None = tt
 may_want files (Some (simulate design plan)) = tt
 may_want files (Some (routes design)) = tt
 may_want files (Some (check n design proof)) = tt
+may_want files (Some (trial seed size)) = (tt, tt)
 may_want files (Some (verify n conflicts ticks design proof)) = inl refl
 
 -- the outcome says what it is to say of the design that the file spells
@@ -62,6 +63,7 @@ finds_so files None found ends = tt
 finds_so files (Some (simulate design plan)) found ends = tt
 finds_so files (Some (routes design)) found ends = tt
 finds_so files (Some (check n design proof)) found ends = tt
+finds_so files (Some (trial seed size)) found ends = ends
 finds_so files (Some (verify n conflicts ticks design proof)) found (inl same) = λ d spelled. subst (λ (o : Outcome). Says d n (budgets_of conflicts ticks) o × Fits d n o) (sym same) (tt, tt)
 finds_so files (Some (verify n conflicts ticks design proof)) found (inr e) = λ d spelled.
     (let one : Ok e.design.station ≡ Ok d = sym e.spelled ∙ spelled in
@@ -70,43 +72,50 @@ finds_so files (Some (verify n conflicts ticks design proof)) found (inr e) = λ
 
 -- ---- what is told of it
 
+-- a reply is no answer for want of memory
+never_memory : (r : Result Reply Ending) (want answer : Answer) → want.status ≡ statuses.Memory → Replies r want → Replies r answer
+never_memory (Ok reply) want answer is h = (let kind : is_answered statuses.Memory ≡ is_answered reply.status = ap is_answered (sym is) ∙ ap (λ (a : Answer). is_answered a.status) h in let yes = reply.answered in absurd (cc))
+never_memory (Err (ending.Told reply)) want answer is h = (let kind : is_answered statuses.Memory ≡ is_answered reply.status = ap is_answered (sym is) ∙ ap (λ (a : Answer). is_answered a.status) h in let yes = reply.answered in absurd (cc))
+never_memory (Err ending.Memory) want answer is h = tt
+never_memory (Err ending.ShelfFault) want answer is h = tt
+
+-- for any way to tell an outcome that tells too many clauses as the refusal
+module _ (d : Station) (n : ℕ) (b : Budgets) (tell : Outcome → Answer) (large : (literals : ℕ) → tell (outcome.TooLarge literals) ≡ one_line statuses.DesignRefused too_large_line) (want : (tell outcome.Memory).status ≡ statuses.Memory) where
+  -- what is told, unless the clauses are too many
+  abbrev unless_many : Outcome → Answer
+  unless_many found = unless_refused (with_clauses n d) (λ same. tell found)
+
+  few_told : (found : Outcome) → past_limit 4000000 0 (base_clauses d (routes_of d) n) ≡ None → unless_many found ≡ tell found
+  few_told found few = answered_next (with_clauses n d) d (λ same. tell found) (small_passes n d few)
+
+  many_told : (literals : ℕ) → past_limit 4000000 0 (base_clauses d (routes_of d) n) ≡ Some literals → unless_many (outcome.TooLarge literals) ≡ tell (outcome.TooLarge literals)
+  many_told literals many = answered_refusal (with_clauses n d) _ (λ same. tell (outcome.TooLarge literals)) (too_large_refused n d literals many) ∙ sym (large literals)
+
+  -- the reply to the end of a search is one to the search
+  pub told_unless_many : (r : Result Reply Ending) (found : Outcome) → Says d n b found → Fits d n found → Replies r (tell found) → Replies r (unless_many found)
+  told_unless_many r outcome.Memory says fits h = never_memory r _ _ want h
+  told_unless_many r (outcome.TooLarge literals) says fits h = subst (Replies r) (sym (many_told literals says)) h
+  told_unless_many r (outcome.Plan plan verdict) says fits h = subst (Replies r) (sym (few_told (outcome.Plan plan verdict) fits)) h
+  told_unless_many r (outcome.Infeasible log) says fits h = subst (Replies r) (sym (few_told (outcome.Infeasible log) fits)) h
+  told_unless_many r (outcome.ConflictsSpent log clause hints) says fits h = subst (Replies r) (sym (few_told (outcome.ConflictsSpent log clause hints) fits)) h
+  told_unless_many r (outcome.TicksSpent failed sum at_hand) says fits h = subst (Replies r) (sym (few_told (outcome.TicksSpent failed sum at_hand) fits)) h
+  told_unless_many r (outcome.LogSpent log bytes next) says fits h = subst (Replies r) (sym (few_told (outcome.LogSpent log bytes next) fits)) h
+
 module _ (d : Station) (n : ℕ) (b : Budgets) where
   -- what is told, where the clauses are few
   abbrev outcome_told : Outcome → Answer
   outcome_told found = told_outcome d n b.conflicts b.ticks found
 
-  few_told : (found : Outcome) → past_limit 4000000 0 (base_clauses d (routes_of d) n) ≡ None → searched_in d n b.conflicts b.ticks found ≡ outcome_told found
-  few_told found few = answered_next (with_clauses n d) d (λ same. outcome_told found) (small_passes n d few)
-
-  many_told : (literals : ℕ) → past_limit 4000000 0 (base_clauses d (routes_of d) n) ≡ Some literals → searched_in d n b.conflicts b.ticks (outcome.TooLarge literals) ≡ outcome_told (outcome.TooLarge literals)
-  many_told literals many = answered_refusal (with_clauses n d) _ (λ same. outcome_told (outcome.TooLarge literals)) (too_large_refused n d literals many)
-
-  -- a reply is no answer for want of memory
-  never_memory : (r : Result Reply Ending) (answer : Answer) → Replies r (outcome_told outcome.Memory) → Replies r answer
-  never_memory (Ok reply) answer h = (let kind : is_answered statuses.Memory ≡ is_answered reply.status = ap (λ (a : Answer). is_answered a.status) h in let yes = reply.answered in absurd (cc))
-  never_memory (Err (ending.Told reply)) answer h = (let kind : is_answered statuses.Memory ≡ is_answered reply.status = ap (λ (a : Answer). is_answered a.status) h in let yes = reply.answered in absurd (cc))
-  never_memory (Err ending.Memory) answer h = tt
-  never_memory (Err ending.ShelfFault) answer h = tt
-
-  -- the reply to the end of a search is one to the search
   pub searched_so : (r : Result Reply Ending) (found : Outcome) → Says d n b found → Fits d n found → Replies r (outcome_told found) → Replies r (searched_in d n b.conflicts b.ticks found)
-  searched_so r outcome.Memory says fits h = never_memory r _ h
-  searched_so r (outcome.TooLarge literals) says fits h = subst (Replies r) (sym (many_told literals says)) h
-  searched_so r (outcome.Plan plan verdict) says fits h = subst (Replies r) (sym (few_told (outcome.Plan plan verdict) fits)) h
-  searched_so r (outcome.Infeasible log) says fits h = subst (Replies r) (sym (few_told (outcome.Infeasible log) fits)) h
-  searched_so r (outcome.ConflictsSpent log clause hints) says fits h = subst (Replies r) (sym (few_told (outcome.ConflictsSpent log clause hints) fits)) h
-  searched_so r (outcome.TicksSpent sum at_hand) says fits h = subst (Replies r) (sym (few_told (outcome.TicksSpent sum at_hand) fits)) h
-  searched_so r (outcome.LogSpent log bytes next) says fits h = subst (Replies r) (sym (few_told (outcome.LogSpent log bytes next) fits)) h
-  searched_so r (outcome.Unrefuted plan tick) says fits h = subst (Replies r) (sym (few_told (outcome.Unrefuted plan tick) fits)) h
+  searched_so r found says fits h = told_unless_many d n b outcome_told (λ literals. refl) refl r found says fits h
 
   -- it is never that the words ask for nothing
   outcome_no_usage : (found : Outcome) → (outcome_told found).status ≡ statuses.Usage → ⊥
   outcome_no_usage (outcome.Plan plan verdict) e = cc
   outcome_no_usage (outcome.Infeasible log) e = cc
   outcome_no_usage (outcome.ConflictsSpent log clause hints) e = cc
-  outcome_no_usage (outcome.TicksSpent sum at_hand) e = cc
+  outcome_no_usage (outcome.TicksSpent failed sum at_hand) e = cc
   outcome_no_usage (outcome.LogSpent log bytes next) e = cc
-  outcome_no_usage (outcome.Unrefuted plan tick) e = cc
   outcome_no_usage (outcome.TooLarge literals) e = cc
   outcome_no_usage outcome.Memory e = cc
 
@@ -190,6 +199,9 @@ module _ (r : Result Reply Ending) (files : Files) (asked : Asked) where
   pub check_so : (n : ℕ) (design proof : List ℕ) → asked ≡ check n design proof → Replies r (answer_to files outcome.Memory (Some (check n design proof))) → RepliesSo r files (Some asked)
   check_so n design proof is h = subst (λ (a : Asked). RepliesSo r files (Some a)) (sym is) (outcome.Memory, tt, h)
 
+  pub trial_so : (seed size : ℕ) → asked ≡ trial seed size → RepliesTrial r seed size → RepliesSo r files (Some asked)
+  trial_so seed size is h = subst (λ (a : Asked). RepliesSo r files (Some a)) (sym is) h
+
   pub verify_so : (n conflicts ticks : ℕ) (b : Budgets) (design proof : List ℕ) → b ≡ budgets_of conflicts ticks → asked ≡ verify n conflicts ticks design proof → RepliesSo r files (Some (verify n b.conflicts b.ticks design proof)) → RepliesSo r files (Some asked)
   verify_so n conflicts ticks b design proof within is h = subst (λ (a : Asked). RepliesSo r files (Some a)) (sym is) (subst (λ (x : Budgets). RepliesSo r files (Some (verify n x.conflicts x.ticks design proof))) within h)
 
@@ -262,9 +274,8 @@ plan_found : (d : Station) (n conflicts ticks : ℕ) (found : Outcome) → (told
 plan_found d n conflicts ticks (outcome.Plan plan verdict) e = record { plan = plan; verdict = verdict; is = refl }
 plan_found d n conflicts ticks (outcome.Infeasible log) e = absurd (cc)
 plan_found d n conflicts ticks (outcome.ConflictsSpent log clause hints) e = absurd (cc)
-plan_found d n conflicts ticks (outcome.TicksSpent sum at_hand) e = absurd (cc)
+plan_found d n conflicts ticks (outcome.TicksSpent failed sum at_hand) e = absurd (cc)
 plan_found d n conflicts ticks (outcome.LogSpent log bytes next) e = absurd (cc)
-plan_found d n conflicts ticks (outcome.Unrefuted plan tick) e = absurd (cc)
 plan_found d n conflicts ticks (outcome.TooLarge literals) e = absurd (cc)
 plan_found d n conflicts ticks outcome.Memory e = absurd (cc)
 
@@ -273,9 +284,8 @@ none_told : (d : Station) (n conflicts ticks : ℕ) (found : Outcome) → (told_
 none_told d n conflicts ticks (outcome.Infeasible log) e = refl
 none_told d n conflicts ticks (outcome.Plan plan verdict) e = absurd (cc)
 none_told d n conflicts ticks (outcome.ConflictsSpent log clause hints) e = absurd (cc)
-none_told d n conflicts ticks (outcome.TicksSpent sum at_hand) e = absurd (cc)
+none_told d n conflicts ticks (outcome.TicksSpent failed sum at_hand) e = absurd (cc)
 none_told d n conflicts ticks (outcome.LogSpent log bytes next) e = absurd (cc)
-none_told d n conflicts ticks (outcome.Unrefuted plan tick) e = absurd (cc)
 none_told d n conflicts ticks (outcome.TooLarge literals) e = absurd (cc)
 none_told d n conflicts ticks outcome.Memory e = absurd (cc)
 

@@ -3,13 +3,13 @@ use Rattle.std.proofs.Common.{◌≡◌, ◌⊎◌, ℕ, true, List, Option, Non
 use Rattle.rail_base.specs.declared.station.Station.{Station}
 use Rattle.rail_outside.specs.Files.{Files}
 use Rattle.rail_outside.proofs.Kept.{updated-kept}
-use Rattle.rail_words.specs.Requests.{Asked, simulate, routes, verify, check}
+use Rattle.rail_words.specs.Requests.{Asked, simulate, routes, verify, check, trial}
 use Rattle.verify_loop.specs.declared.outcome.Budgets.{Budgets}
 use Rattle.verify_loop.specs.declared.outcome.Outcome.{Outcome}
 use Rattle.verify_loop.specs.declared.outcome.Outcome.TheVariants as outcome
 use Rattle.verify_loop.specs.Outcomes.{Says}
 use Rattle.rail_cli.specs.declared.status.Status.{Status}
-use Rattle.rail_cli.specs.declared.status.Status.TheVariants.{Done, No, Usage, DesignRefused, PlanRefused, ConflictsSpent, Memory, ShelfFault, SinkFault, TicksSpent, LogSpent, TooLong, Unrefuted}
+use Rattle.rail_cli.specs.declared.status.Status.TheVariants.{Done, No, Usage, DesignRefused, PlanRefused, ConflictsSpent, Memory, ShelfFault, SinkFault, TicksSpent, LogSpent, TooLong}
 use Rattle.rail_cli.specs.declared.input.InputFile.TheVariants as file
 use Rattle.rail_cli.specs.declared.reply.Reply.{Reply}
 use Rattle.rail_cli.specs.declared.ending.Ending.{Ending}
@@ -38,7 +38,6 @@ module _ (files : Files) (n : ℕ) (design proof : List ℕ) (held : Option File
   answered_leaves TicksSpent answered h = inr h
   answered_leaves LogSpent answered h = inr h
   answered_leaves TooLong answered h = inr h
-  answered_leaves Unrefuted answered h = inr h
   answered_leaves Memory answered h = absurd (cc)
   answered_leaves ShelfFault answered h = absurd (cc)
   answered_leaves SinkFault answered h = absurd (cc)
@@ -57,7 +56,6 @@ module _ (files : Files) (n : ℕ) (design proof : List ℕ) (held : Option File
   printed_leaves s TicksSpent answered same no_shelf h = subst left (sym (same refl)) h
   printed_leaves s LogSpent answered same no_shelf h = subst left (sym (same refl)) h
   printed_leaves s TooLong answered same no_shelf h = subst left (sym (same refl)) h
-  printed_leaves s Unrefuted answered same no_shelf h = subst left (sym (same refl)) h
 
   -- a refusal leaves the files as they were
   refusal_leaves : (s : Status) → is_refusal s ≡ true → held ≡ Some files → left s
@@ -70,7 +68,6 @@ module _ (files : Files) (n : ℕ) (design proof : List ℕ) (held : Option File
   refusal_leaves ConflictsSpent refusal same = absurd (cc)
   refusal_leaves TicksSpent refusal same = absurd (cc)
   refusal_leaves LogSpent refusal same = absurd (cc)
-  refusal_leaves Unrefuted refusal same = absurd (cc)
   refusal_leaves Memory refusal same = absurd (cc)
   refusal_leaves ShelfFault refusal same = absurd (cc)
   refusal_leaves SinkFault refusal same = absurd (cc)
@@ -94,9 +91,8 @@ module _ (files : Files) (n : ℕ) (design proof : List ℕ) (held : Option File
   unkept_leaves e (outcome.Infeasible log) h = unstored_leaves e log.items h
   unkept_leaves e (outcome.Plan plan verdict) h = absurd (let no = h.0 in cc)
   unkept_leaves e (outcome.ConflictsSpent log clause hints) h = absurd (let no = h.0 in cc)
-  unkept_leaves e (outcome.TicksSpent sum at_hand) h = absurd (let no = h.0 in cc)
+  unkept_leaves e (outcome.TicksSpent failed sum at_hand) h = absurd (let no = h.0 in cc)
   unkept_leaves e (outcome.LogSpent log bytes next) h = absurd (let no = h.0 in cc)
-  unkept_leaves e (outcome.Unrefuted plan tick) h = absurd (let no = h.0 in cc)
   unkept_leaves e (outcome.TooLarge literals) h = absurd (let no = h.0 in cc)
   unkept_leaves e outcome.Memory h = absurd (let no = h.0 in cc)
 
@@ -106,12 +102,11 @@ module _ (files : Files) (n : ℕ) (design proof : List ℕ) (held : Option File
   -- what the search ended with is told, and a log that shows that there is no plan is stored
   module _ (d : Station) (spelled : design_in (files design) ≡ Ok d) (b : Budgets) (room : b.log_bytes ≡ limit_of file.Proof) where
     told_leaves : (found : Outcome) → Says d n b found → KeepsLog {X = Unit {0}} (Ok tt) files proof found held → is_answered (told_outcome d n b.conflicts b.ticks found).status ≡ true → left (told_outcome d n b.conflicts b.ticks found).status
-    told_leaves (outcome.Infeasible log) says kept answered = (d, spelled, record { log = log.items; short = rw (← room) says.3; shows = says.2; holds = kept })
+    told_leaves (outcome.Infeasible log) says kept answered = (d, spelled, record { log = log.items; short = rw (← room) says.2; shows = says.1.accepted; holds = kept })
     told_leaves (outcome.Plan plan verdict) says kept answered = kept.1
     told_leaves (outcome.ConflictsSpent log clause hints) says kept answered = kept.1
-    told_leaves (outcome.TicksSpent sum at_hand) says kept answered = kept.1
+    told_leaves (outcome.TicksSpent failed sum at_hand) says kept answered = kept.1
     told_leaves (outcome.LogSpent log bytes next) says kept answered = kept.1
-    told_leaves (outcome.Unrefuted plan tick) says kept answered = kept.1
     told_leaves (outcome.TooLarge literals) says kept answered = kept.1
     told_leaves outcome.Memory says kept answered = absurd (cc)
 
@@ -150,6 +145,9 @@ module _ (r : Result Reply Ending) (old new : Option Files) (asked : Asked) wher
   pub check_leaves : (n : ℕ) (design proof : List ℕ) → asked ≡ check n design proof → new ≡ old → leaves asked
   check_leaves n design proof is same = subst leaves (sym is) (every_status r (λ s. new ≡ old) (λ s. same))
 
+  pub trial_leaves : (seed size : ℕ) → asked ≡ trial seed size → new ≡ old → leaves asked
+  trial_leaves seed size is same = subst leaves (sym is) (every_status r (λ s. new ≡ old) (λ s. same))
+
   pub verify_leaves : (n conflicts ticks : ℕ) (design proof : List ℕ) → asked ≡ verify n conflicts ticks design proof → ((files : Files) → old ≡ Some files → OnEnd r (λ s. SearchLeaves files n design proof s new)) → leaves asked
   verify_leaves n conflicts ticks design proof is h = subst leaves (sym is) (one_status r old (λ files s. SearchLeaves files n design proof s new) h)
 
@@ -175,4 +173,5 @@ run_leaves None s t old new answered same no_shelf h = h
 run_leaves (Some (simulate design plan)) s t old new answered same no_shelf h = h
 run_leaves (Some (routes design)) s t old new answered same no_shelf h = h
 run_leaves (Some (check n design proof)) s t old new answered same no_shelf h = h
+run_leaves (Some (trial seed size)) s t old new answered same no_shelf h = h
 run_leaves (Some (verify n conflicts ticks design proof)) s t old new answered same no_shelf h = λ files told. printed_leaves files n design proof new s t answered same no_shelf (h files told)

@@ -8,3 +8,4 @@ pub mod Passing
 pub mod Judging
 pub mod Leaving
 pub mod Finding
+pub mod Trying

@@ -63,8 +63,11 @@ admitted-same : (r : Result Station (Code × Place)) (e : Station) → design_or
 admitted-same (Ok d) e h = let same : d ≡ e = cc in ap Ok same
 admitted-same (Err x) e h = absurd (cc)
 
+pub listed-same : (d e : Station) → design_or_answer (with_routes d) ≡ Ok e → d ≡ e
+listed-same d e h = with_routes-same d e (admitted-same (with_routes d) e h)
+
 pub read-same : (bytes : List ℕ) (d e : Station) → design_of bytes ≡ Ok d → design_in bytes ≡ Ok e → d ≡ e
-read-same bytes d e spells read = with_routes-same d e (admitted-same (with_routes d) e (ap (λ r. design_or_answer (and_then r with_routes)) (sym spells) ∙ read))
+read-same bytes d e spells read = listed-same d e (ap (λ r. design_or_answer (and_then r with_routes)) (sym spells) ∙ read)
 
 pub clauses-same : (d : Station) (many : Option ℕ) (e : Station) → unless_too_large d many ≡ Ok e → d ≡ e
 clauses-same d None e h = cc

@@ -1,5 +1,5 @@
 -- The answer to the words of a command line, for the files that are held.
-use Rattle.std.specs.Prelude.{ℕ, List, [], ◌∷◌, length, map, nat_lt, nat_le, Option, None, Some, Result, Ok, Err, if◌then◌else◌}
+use Rattle.std.specs.Prelude.{ℕ, ◌*◌, List, [], ◌∷◌, length, map, nat_lt, nat_le, Option, None, Some, Result, Ok, Err, if◌then◌else◌}
 use Rattle.design_table.specs.declared.fault.Code.{Code}
 use Rattle.design_table.specs.declared.fault.Code.TheVariants.{D12, D13}
 use Rattle.design_table.specs.declared.place.EntryKind.TheVariants as kind
@@ -24,16 +24,18 @@ use Rattle.rail_plan.specs.declared.place.PlanPlace.{PlanPlace}
 use Rattle.rail_plan.specs.Reading.{plan_of}
 use Rattle.rail_spec.specs.Track.{routes_of, all_closings, edges_met_again}
 use Rattle.rail_spec.specs.Histories.{verdict_of}
-use Rattle.rail_words.specs.Requests.{Asked, simulate, routes, verify, check, request_of}
+use Rattle.rail_spec.specs.Requirements.{cost}
+use Rattle.rail_words.specs.Requests.{Asked, simulate, routes, verify, check, trial, request_of}
 use Rattle.timetable.specs.Timetable.{timetable_of}
 use Rattle.verify_loop.specs.declared.outcome.Outcome.{Outcome}
 use Rattle.verify_loop.specs.declared.outcome.Outcome.TheVariants as outcome
+use Rattle.workload.specs.Made.{made}
 use Rattle.rail_cli.specs.declared.status.Status.{Status}
 use Rattle.rail_cli.specs.declared.status.Status.TheVariants as status
 use Rattle.rail_cli.specs.declared.input.InputFile.{InputFile}
 use Rattle.rail_cli.specs.declared.input.InputFile.TheVariants as file
 use Rattle.rail_cli.specs.Listings.{routes_text}
-use Rattle.rail_cli.specs.Texts.{usage_line, limit_of, too_long_line, design_refused_line, too_large_line, yes_line, no_line, plan_refused_line, plan_steps_line, plan_line, infeasible_line, conflicts_spent_line, ticks_spent_line, log_spent_line, unrefuted_line}
+use Rattle.rail_cli.specs.Texts.{usage_line, limit_of, too_long_line, design_refused_line, too_large_line, yes_line, no_line, plan_refused_line, plan_steps_line, plan_line, infeasible_line, conflicts_spent_line, ticks_spent_line, log_spent_line, trial_line, counts_line, plan_tick_line}
 
 -- what the program answers: the status to end with, and the lines to print
 pub record Answer : Type 0 where
@@ -166,9 +168,8 @@ abbrev pub told_outcome : Station → ℕ → ℕ → ℕ → Outcome → Answer
 told_outcome d n conflicts ticks (outcome.Plan plan verdict) = plan_told d plan.steps
 told_outcome d n conflicts ticks (outcome.Infeasible log) = one_line status.No (infeasible_line n)
 told_outcome d n conflicts ticks (outcome.ConflictsSpent log clause hints) = one_line status.ConflictsSpent (conflicts_spent_line conflicts)
-told_outcome d n conflicts ticks (outcome.TicksSpent sum at_hand) = one_line status.TicksSpent (ticks_spent_line sum ticks)
+told_outcome d n conflicts ticks (outcome.TicksSpent failed sum at_hand) = one_line status.TicksSpent (ticks_spent_line sum ticks)
 told_outcome d n conflicts ticks (outcome.LogSpent log bytes next) = one_line status.LogSpent (log_spent_line bytes next)
-told_outcome d n conflicts ticks (outcome.Unrefuted plan tick) = one_line status.Unrefuted (unrefuted_line tick)
 told_outcome d n conflicts ticks (outcome.TooLarge literals) = one_line status.DesignRefused too_large_line
 told_outcome d n conflicts ticks outcome.Memory = record { status = status.Memory; lines = [] }
 
@@ -183,6 +184,36 @@ searched n conflicts ticks design_bytes found =
     unless_refused (design_in design_text) (λ d.
     searched_in d n conflicts ticks found))
 
+-- how many clauses a trial may derive
+abbrev pub trial_conflicts : ℕ
+trial_conflicts = 1000000
+
+-- how many ticks it may simulate
+abbrev pub trial_ticks : ℕ
+trial_ticks = 1000000000
+
+-- the lines of a trial: what was made, how much it has, and this last line
+abbrev pub three_lines : ℕ → ℕ → Station → Status → List ℕ → Answer
+three_lines seed size d s last = record { status = s; lines = trial_line seed size ∷ counts_line d ∷ last ∷ [] }
+
+-- what a trial tells of a station, by what its search ended with; a refusal is told alone
+abbrev pub told_trial : ℕ → ℕ → Station → Outcome → Answer
+told_trial seed size d (outcome.Plan plan verdict) = three_lines seed size d status.Done (plan_tick_line (length plan.steps) (cost d (routes_of d) plan.steps))
+told_trial seed size d (outcome.Infeasible log) = three_lines seed size d status.No (infeasible_line (2 * size))
+told_trial seed size d (outcome.ConflictsSpent log clause hints) = three_lines seed size d status.ConflictsSpent (conflicts_spent_line trial_conflicts)
+told_trial seed size d (outcome.TicksSpent failed sum at_hand) = three_lines seed size d status.TicksSpent (ticks_spent_line sum trial_ticks)
+told_trial seed size d (outcome.LogSpent log bytes next) = three_lines seed size d status.LogSpent (log_spent_line bytes next)
+told_trial seed size d (outcome.TooLarge literals) = one_line status.DesignRefused too_large_line
+told_trial seed size d outcome.Memory = record { status = status.Memory; lines = [] }
+
+-- the answer to a trial of a station with its routes, by what it ended with
+abbrev pub tried_in : ℕ → ℕ → Station → Outcome → Answer
+tried_in seed size d found = unless_refused (with_clauses (2 * size) d) (λ same. told_trial seed size d found)
+
+-- the answer to a trial: the station that the seed and the size make is searched for a plan of twice as many steps as its size
+abbrev pub tried : ℕ → ℕ → Outcome → Answer
+tried seed size found = unless_refused (design_or_answer (with_routes (made seed size))) (λ d. tried_in seed size d found)
+
 -- the answer to a request, which may be none; of a search, by what it ended with
 abbrev pub answer_to : Files → Outcome → Option Asked → Answer
 answer_to files found None = one_line status.Usage usage_line
@@ -190,6 +221,7 @@ answer_to files found (Some (simulate design plan)) = simulated (files design) (
 answer_to files found (Some (routes design)) = routes_listed (files design)
 answer_to files found (Some (verify n conflicts ticks design proof)) = searched n conflicts ticks (files design) found
 answer_to files found (Some (check n design proof)) = checked n (files design) (files proof)
+answer_to files found (Some (trial seed size)) = tried seed size found
 
 -- the answer to the words of a command line, the first of which is the program's name
 abbrev pub answer_of : Files → Outcome → List (List ℕ) → Answer
@@ -204,6 +236,7 @@ asks_to (Some (simulate design plan)) = fetched design ∷ fetched plan ∷ []
 asks_to (Some (routes design)) = fetched design ∷ []
 asks_to (Some (verify n conflicts ticks design proof)) = fetched design ∷ stored proof ∷ []
 asks_to (Some (check n design proof)) = fetched design ∷ fetched proof ∷ []
+asks_to (Some (trial seed size)) = []
 
 -- the calls for the words of a command line
 abbrev pub asks_of : List (List ℕ) → List Ask

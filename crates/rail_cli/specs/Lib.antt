@@ -6,5 +6,6 @@ pub mod Answers
 pub mod Simulations
 pub mod Checks
 pub mod Searches
+pub mod Trials
 pub mod Replies
 pub mod Prints

@@ -4,12 +4,14 @@ use Rattle.std.specs.declared.alloc.AllocError.{AllocError}
 use Rattle.rail_base.specs.declared.design.Design.{Design}
 use Rattle.rail_base.specs.declared.station.Station.{Station}
 use Rattle.rail_base.specs.declared.plan.Command.{Command}
+use Rattle.rail_base.specs.declared.history.Verdict.{Verdict}
+use Rattle.rail_base.specs.declared.history.Verdict.TheVariants as verdict
 use Rattle.rail_outside.specs.Lines.{lines_of}
 use Rattle.rail_spec.specs.Feasible.{IsFeasible}
 use Rattle.rail_spec.specs.Safety.{Clash}
 use Rattle.rail_spec.specs.Track.{routes_of}
 use Rattle.rail_outside.specs.Files.{Files, updated}
-use Rattle.rail_words.specs.Requests.{Asked, simulate, routes, verify, check}
+use Rattle.rail_words.specs.Requests.{Asked, simulate, routes, verify, check, trial}
 use Rattle.verify_loop.specs.declared.outcome.Outcome.{Outcome}
 use Rattle.verify_loop.specs.declared.outcome.Outcome.TheVariants as outcome
 use Rattle.verify_loop.specs.Outcomes.{Says, Fits}
@@ -19,8 +21,8 @@ use Rattle.rail_cli.specs.declared.reply.Reply.{Reply}
 use Rattle.rail_cli.specs.declared.ending.Ending.{Ending}
 use Rattle.rail_cli.specs.declared.ending.Ending.TheVariants as ending
 use Rattle.rail_cli.specs.Statuses.{is_refusal}
-use Rattle.rail_cli.specs.Answers.{Answer, design_in, plan_in, answer_to}
-use Rattle.rail_cli.specs.Searches.{budgets_of}
+use Rattle.rail_cli.specs.Answers.{Answer, design_in, plan_in, tried, answer_to}
+use Rattle.rail_cli.specs.Searches.{budgets_of, EndsTrial}
 
 -- a reply, by its status and the bytes of its lines
 abbrev pub reply_seen : Reply → Answer
@@ -77,6 +79,12 @@ OnEnd (Err (ending.Told reply)) fact = fact reply.status
 OnEnd (Err ending.Memory) fact = fact statuses.Memory
 OnEnd (Err ending.ShelfFault) fact = fact statuses.ShelfFault
 
+-- the tick at which a verdict is decided; 0 where it is not
+abbrev pub deciding_tick : Verdict → ℕ
+deciding_tick (verdict.Met history tick) = tick
+deciding_tick (verdict.Failed history tick violation) = tick
+deciding_tick verdict.Undecided = 0
+
 -- ---- simulations
 
 -- the bytes spell a plan over the design in whose run no two trains ever clash, and the status is 0 exactly where it is feasible
@@ -98,6 +106,7 @@ DecidesRequest files (simulate design plan) result = IfOk result (λ reply. Deci
 DecidesRequest files (routes design) result = Unit {0}
 DecidesRequest files (verify n conflicts ticks design proof) result = Unit {0}
 DecidesRequest files (check n design proof) result = Unit {0}
+DecidesRequest files (trial seed size) result = Unit {0}
 
 -- ---- searches
 
@@ -108,14 +117,24 @@ pub record EndsIn (files : Files) (n conflicts ticks : ℕ) (design_name : List 
   pub says : Says design.station n (budgets_of conflicts ticks) found
   pub fits : Fits design.station n found
 
--- where a search is asked for, it ends so, or for want of memory
+-- where a search is asked for, it ends so, or for want of memory; a trial too
 abbrev pub EndsWith : Files → Option Asked → Outcome → Type 0
 EndsWith files (Some (verify n conflicts ticks design proof)) found = (found ≡ outcome.Memory) ⊎ EndsIn files n conflicts ticks design found
+EndsWith files (Some (trial seed size)) found = EndsTrial seed size found
 EndsWith files _ found = Unit {0}
 
 -- the reply is the answer to what is asked, for an outcome with which a search may end
 abbrev pub RepliesSo : Result Reply Ending → Files → Option Asked → Type 0
 RepliesSo result files asked = (found : Outcome) × EndsWith files asked found × Replies result (answer_to files found asked)
+
+-- the reply is the answer to the trial, for an outcome with which its search may end
+abbrev pub RepliesTrial : Result Reply Ending → ℕ → ℕ → Type 0
+RepliesTrial result seed size = (found : Outcome) × EndsTrial seed size found × Replies result (tried seed size found)
+
+-- where a trial is asked for, it has such a reply
+abbrev pub Tries : Option Asked → Result Reply Ending → Type 0
+Tries (Some (trial seed size)) result = RepliesTrial result seed size
+Tries _ result = Unit {0}
 
 -- the bytes are stored under the name; for want of memory nothing is, and after a fault of the shelf it holds some bytes
 abbrev pub StoresFile : {X : Type 0} → Result X Ending → Files → List ℕ → List ℕ → Option Files → Type 0

@@ -1,5 +1,5 @@
 -- Searches for a plan: what they end with, what they leave on the shelf, and what their answers say of the design.
-use Rattle.std.specs.Prelude.{◌≡◌, ◌≤◌, ◌⊎◌, ℕ, List, ◌∷◌, length, Option, Some, Ok}
+use Rattle.std.specs.Prelude.{◌≡◌, ◌≤◌, ◌⊎◌, ℕ, ◌*◌, List, ◌∷◌, length, Option, Some, Ok}
 use Rattle.std.specs.List.{concat}
 use Rattle.infra_reader.specs.Design.{design_of}
 use Rattle.log_checker.specs.declared.shown.Shown.TheVariants.{Yes}
@@ -12,17 +12,18 @@ use Rattle.rail_spec.specs.Feasible.{IsFeasible, IsInfeasible}
 use Rattle.rail_spec.specs.Requirements.{cost}
 use Rattle.rail_spec.specs.Safety.{Clash}
 use Rattle.rail_spec.specs.Track.{routes_of}
-use Rattle.rail_words.specs.Requests.{Asked, verify, request_of}
+use Rattle.rail_words.specs.Requests.{Asked, verify, trial, request_of}
 use Rattle.timetable.specs.Lines.{met_line}
 use Rattle.timetable.specs.Timetable.{timetable_of}
 use Rattle.verify_loop.specs.declared.outcome.Budgets.{Budgets}
 use Rattle.verify_loop.specs.declared.outcome.Outcome.{Outcome}
 use Rattle.verify_loop.specs.Outcomes.{Says, Fits}
+use Rattle.workload.specs.Made.{made}
 use Rattle.rail_cli.specs.declared.status.Status.{Status}
 use Rattle.rail_cli.specs.declared.status.Status.TheVariants.{Done, No, Memory, ShelfFault, SinkFault}
 use Rattle.rail_cli.specs.declared.input.InputFile.TheVariants as file
 use Rattle.rail_cli.specs.Texts.{limit_of, yes_line, plan_steps_line, plan_line, infeasible_line}
-use Rattle.rail_cli.specs.Answers.{one_line, design_in, shown_by, checked}
+use Rattle.rail_cli.specs.Answers.{one_line, design_in, shown_by, checked, trial_conflicts, trial_ticks}
 
 -- ---- what a search ends with
 
@@ -30,9 +31,14 @@ use Rattle.rail_cli.specs.Answers.{one_line, design_in, shown_by, checked}
 abbrev pub budgets_of : ℕ → ℕ → Budgets
 budgets_of conflicts ticks = record { conflicts = conflicts; ticks = ticks; log_bytes = limit_of file.Proof }
 
--- where a search is asked for and the file spells a design, the outcome says what it is to say of that design and n, within the budgets
+-- the outcome says what it is to say of the station that the seed and the size make, for twice as many steps as its size; want of memory says nothing
+abbrev pub EndsTrial : ℕ → ℕ → Outcome → Type 0
+EndsTrial seed size found = Says (made seed size) (2 * size) (budgets_of trial_conflicts trial_ticks) found × Fits (made seed size) (2 * size) found
+
+-- where a search is asked for and the file spells a design, the outcome says what it is to say of that design and n, within the budgets; of a trial, that of the station that is made
 abbrev pub Finds : Files → Option Asked → Outcome → Type 0
 Finds files (Some (verify n conflicts ticks design proof)) found = (d : Station) → design_in (files design) ≡ Ok d → Says d n (budgets_of conflicts ticks) found × Fits d n found
+Finds files (Some (trial seed size)) found = EndsTrial seed size found
 Finds files _ found = Unit {0}
 
 -- ---- what a run leaves on the shelf

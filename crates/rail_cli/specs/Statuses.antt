@@ -1,7 +1,7 @@
 -- How a run of the program ends.
 use Rattle.std.specs.Prelude.{ℕ, Bool, true, false}
 use Rattle.rail_cli.specs.declared.status.Status.{Status}
-use Rattle.rail_cli.specs.declared.status.Status.TheVariants.{Done, No, Usage, DesignRefused, PlanRefused, ConflictsSpent, Memory, ShelfFault, SinkFault, TicksSpent, LogSpent, TooLong, Unrefuted}
+use Rattle.rail_cli.specs.declared.status.Status.TheVariants.{Done, No, Usage, DesignRefused, PlanRefused, ConflictsSpent, Memory, ShelfFault, SinkFault, TicksSpent, LogSpent, TooLong}
 
 -- the number of a status
 abbrev pub code_of : Status → ℕ
@@ -17,7 +17,6 @@ code_of SinkFault = 8
 code_of TicksSpent = 9
 code_of LogSpent = 10
 code_of TooLong = 11
-code_of Unrefuted = 12
 
 -- the run came to its answer: memory was there, and neither shelf nor sink failed
 abbrev pub is_answered : Status → Bool
@@ -33,7 +32,6 @@ is_answered TooLong = true
 is_answered ConflictsSpent = true
 is_answered TicksSpent = true
 is_answered LogSpent = true
-is_answered Unrefuted = true
 
 -- the answer refuses a file
 abbrev pub is_refusal : Status → Bool
@@ -49,7 +47,6 @@ is_refusal SinkFault = false
 is_refusal ConflictsSpent = false
 is_refusal TicksSpent = false
 is_refusal LogSpent = false
-is_refusal Unrefuted = false
 
 -- the answer is a verdict on a plan
 abbrev pub is_verdict : Status → Bool
@@ -65,4 +62,3 @@ is_verdict TooLong = false
 is_verdict ConflictsSpent = false
 is_verdict TicksSpent = false
 is_verdict LogSpent = false
-is_verdict Unrefuted = false

@@ -1,5 +1,5 @@
 -- The lines that are printed where there is no timetable, each with its LF.
-use Rattle.std.specs.Prelude.{ℕ, List, [], ◌++◌, codes, decimal}
+use Rattle.std.specs.Prelude.{ℕ, List, [], ◌++◌, length, codes, decimal}
 use Rattle.design_table.specs.declared.fault.Code.{Code}
 use Rattle.design_table.specs.declared.fault.Code.TheVariants as code
 use Rattle.design_table.specs.declared.place.EntryKind.{EntryKind}
@@ -18,6 +18,7 @@ use Rattle.rail_plan.specs.declared.fault.PlanCode.{PlanCode}
 use Rattle.rail_plan.specs.declared.fault.PlanCode.TheVariants as plan_code
 use Rattle.rail_plan.specs.declared.place.PlanPlace.{PlanPlace}
 use Rattle.rail_plan.specs.declared.place.PlanPlace.TheVariants as plan_place
+use Rattle.rail_spec.specs.Track.{routes_of}
 use Rattle.timetable.specs.Names.{train_name}
 use Rattle.rail_cli.specs.declared.input.InputFile.{InputFile}
 use Rattle.rail_cli.specs.declared.input.InputFile.TheVariants as file
@@ -122,9 +123,21 @@ ticks_spent_line sum ticks = codes "ticks spent " ++ decimal sum ++ codes " of "
 abbrev pub log_spent_line : ℕ → ℕ → List ℕ
 log_spent_line bytes next = codes "log spent " ++ decimal bytes ++ codes " next " ++ decimal next ++ codes "\n"
 
--- `unrefuted tick <tick>`
-abbrev pub unrefuted_line : ℕ → List ℕ
-unrefuted_line tick = codes "unrefuted tick " ++ decimal tick ++ codes "\n"
+-- ---- a trial
+
+-- `trial seed <seed> size <size>`
+abbrev pub trial_line : ℕ → ℕ → List ℕ
+trial_line seed size = codes "trial seed " ++ decimal seed ++ codes " size " ++ decimal size ++ codes "\n"
+
+-- `nodes <n> edges <e> signals <g> trains <t> routes <r>`
+abbrev pub counts_line : Station → List ℕ
+counts_line d =
+    codes "nodes " ++ decimal (length d.nodes) ++ codes " edges " ++ decimal (length d.edges) ++ codes " signals " ++ decimal (length d.signals)
+    ++ codes " trains " ++ decimal (length d.trains) ++ codes " routes " ++ decimal (length (routes_of d)) ++ codes "\n"
+
+-- `plan steps <number of steps> tick <k>`
+abbrev pub plan_tick_line : ℕ → ℕ → List ℕ
+plan_tick_line steps tick = codes "plan steps " ++ decimal steps ++ codes " tick " ++ decimal tick ++ codes "\n"
 
 -- ---- a refused plan
 

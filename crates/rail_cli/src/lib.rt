@@ -18,6 +18,7 @@ mod sure;
 #[cfg(test)]
 mod tests;
 mod texts;
+mod trial;
 
 pub use run::run_words;
 pub use status::Status;

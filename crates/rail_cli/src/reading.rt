@@ -58,7 +58,7 @@ fn read(alloc: Global, bytes: &[u8]) -> Result<Design, Ending>
 }
 
 /// The routes of a design.
-fn list_routes(alloc: Global, design: &Design) -> Result<RouteTable, Ending>
+pub(crate) fn list_routes(alloc: Global, design: &Design) -> Result<RouteTable, Ending>
     ensures reads { Reads (λ _. design.now.station) result (design_or_answer (with_routes design.now.station)) }
     ensures refuses { OnlyRefuses result }
     ensures routes { IfOk result (λ routes. routes ≡ routes_of design.now.station) }

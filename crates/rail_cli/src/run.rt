@@ -5,41 +5,30 @@ ghost use Rattle.rail_base.specs.declared.station.Station.{Station};
 ghost use Rattle.rail_base.specs.declared.plan.Command.{Command};
 ghost use Rattle.rail_outside.specs.Files.{Files};
 ghost use Rattle.rail_outside.specs.Growth.{Rose, GrowsByFront};
-ghost use Rattle.rail_words.specs.Requests.{IsInRange, request_of};
+ghost use Rattle.rail_words.specs.Requests.{IsInRange, request_of, trial};
 ghost use Rattle.rail_words.specs.Words.{texts_of, asked_of};
 ghost use Rattle.verify_loop.specs.declared.outcome.Outcome.{Outcome};
 ghost use Rattle.rail_cli.specs.Statuses.{is_answered};
 ghost use Rattle.rail_cli.specs.Answers.{answer_of, asks_to, asks_of};
 ghost use Rattle.rail_cli.specs.Checks.{Checks, TellsInfeasible};
 ghost use Rattle.rail_cli.specs.Prints.{Prints};
-ghost use Rattle.rail_cli.specs.Replies.{reply_seen, OnEnd, OnReply, RefusesFile, RepliesSo, DecidesRequest};
-ghost use Rattle.rail_cli.specs.Searches.{budgets_of, Finds, Leaves, Searches, TellsNone, TellsPlan};
+ghost use Rattle.rail_cli.specs.Replies.{reply_seen, OnEnd, OnReply, RefusesFile, RepliesSo, DecidesRequest, Tries};
+ghost use Rattle.rail_cli.specs.Searches.{Finds, Leaves, Searches, TellsNone, TellsPlan};
 ghost use Rattle.rail_cli.specs.Simulations.{Simulates, TellsFeasible, DoneWhereFeasible};
+ghost use Rattle.rail_cli.specs.Trials.{TellsTrial};
 
 use crate::checking::checked;
 use crate::ending::Ending;
-use crate::input::InputFile;
 use crate::listing::routes_listed;
 use crate::refusals::usage;
 use crate::reply::Reply;
-use crate::searching::searched;
+use crate::searching::{budgets, searched};
 use crate::simulation::simulated;
 use crate::status::Status;
+use crate::trial::tried;
 use rail_outside::{Shelf, Sink, SinkFault, put_lines};
 use rail_words::{Request, WordsFault, read_words};
 use std::alloc::Global;
-use verify_loop::Budgets;
-
-/// What a search may spend: so many derived clauses and ticks, and a log as long as a proof may be.
-fn budgets(conflicts: u64, ticks: u64) -> Budgets
-    ensures { result ≡ budgets_of conflicts ticks }
-{
-    Budgets {
-        conflicts,
-        ticks,
-        log_bytes: InputFile::Proof.limit(),
-    }
-}
 
 /// The reply to a request.
 fn requested<S: Shelf>(alloc: Global, shelf: &mut S, request: Request<'_>) -> Result<Reply, Ending>
@@ -47,6 +36,7 @@ fn requested<S: Shelf>(alloc: Global, shelf: &mut S, request: Request<'_>) -> Re
     ensures replies { (files : Files) → S.held shelf.old ≡ Some files → RepliesSo result files (Some (asked_of request.entry)) }
     ensures no_usage { IfOk result (λ reply. reply.status ≢ Status.Usage) }
     ensures refuses { RefusesFile result }
+    ensures tries { Tries (Some (asked_of request.entry)) result }
     ensures decides { (files : Files) → S.held shelf.old ≡ Some files → DecidesRequest files (asked_of request.entry) result }
     ensures cause { result ≡ Err Ending.ShelfFault → Rose (S.fault_count shelf.old) (S.fault_count shelf.new) }
     ensures never_falls { S.fault_count shelf.old ≤ S.fault_count shelf.new }
@@ -75,12 +65,14 @@ fn requested<S: Shelf>(alloc: Global, shelf: &mut S, request: Request<'_>) -> Re
             design,
             proof,
         } => checked(alloc, shelf, steps, design, proof),
+        Request::Trial { seed, size } => tried(alloc, seed, size),
     }
 }
 
 /// The reply to the words of a command line.
 fn reply<S: Shelf>(alloc: Global, words: &[String], shelf: &mut S) -> Result<Reply, Ending>
     ensures replies { (files : Files) → S.held shelf.old ≡ Some files → RepliesSo result files (request_of (texts_of words.now)) }
+    ensures tries { Tries (request_of (texts_of words.now)) result }
     ensures done { (files : Files) → S.held shelf.old ≡ Some files → OnReply result (λ reply. DoneWhereFeasible files (texts_of words.now) reply.status) }
     ensures usage { OnReply result (λ reply. (reply.status ≡ Status.Usage) ↔ (request_of (texts_of words.now) ≡ None)) }
     ensures cause { result ≡ Err Ending.ShelfFault → Rose (S.fault_count shelf.old) (S.fault_count shelf.new) }
@@ -127,6 +119,9 @@ pub fn run_words<S: Shelf, O: Sink>(
     // A search prints a plan only where it is feasible, and that there is none only where there is none.
     ensures planned { (files : Files) → S.held shelf.old ≡ Some files → (n : ℕ) (d : Station) → Searches files (texts_of words.now) n d → result ≡ Status.Done → TellsPlan n d (O.written out.old) (O.written out.new) }
     ensures proven { (files : Files) → S.held shelf.old ≡ Some files → (n : ℕ) (d : Station) → (s : Searches files (texts_of words.now) n d) → result ≡ Status.No → TellsNone files s.design_name s.proof_name n d (O.written out.old) (O.written out.new) (S.held shelf.new) }
+
+    // A trial asks nothing of the shelf, so this holds over any.
+    ensures tried { (seed size : ℕ) → request_of (texts_of words.now) ≡ Some (trial seed size) → TellsTrial seed size result (O.written out.old) (O.written out.new) }
     ensures usage { is_answered result ≡ true → (result ≡ Status.Usage) ↔ (request_of (texts_of words.now) ≡ None) }
 
     // A fault comes only where its side has counted one.

@@ -11,8 +11,8 @@ ghost use Rattle.verify_loop.specs.declared.outcome.Outcome.{Outcome};
 ghost use Rattle.verify_loop.specs.Outcomes.{Says, Fits};
 ghost use Rattle.rail_cli.specs.Answers.{design_in, one_line, plan_told, searched_in, shown_by, told_outcome};
 ghost use Rattle.rail_cli.specs.Replies.{reply_seen, KeepsLog, OnEnd, OnlyFails, RefusesFile, Replies, RepliesSo, StoresFile};
-ghost use Rattle.rail_cli.specs.Searches.{SearchLeaves};
-ghost use Rattle.rail_cli.specs.Texts.{limit_of, plan_steps_line, plan_line, infeasible_line, conflicts_spent_line, ticks_spent_line, log_spent_line, unrefuted_line};
+ghost use Rattle.rail_cli.specs.Searches.{budgets_of, SearchLeaves};
+ghost use Rattle.rail_cli.specs.Texts.{limit_of, plan_steps_line, plan_line, infeasible_line, conflicts_spent_line, ticks_spent_line, log_spent_line};
 
 use crate::ending::Ending;
 use crate::input::InputFile;
@@ -22,7 +22,7 @@ use crate::reply::Reply;
 use crate::status::Status;
 use crate::texts::{
     conflicts_spent_line, infeasible_line, log_spent_line, plan_line, plan_steps_line,
-    ticks_spent_line, unrefuted_line,
+    ticks_spent_line,
 };
 use rail_base::design::Design;
 use rail_base::history::Verdict;
@@ -32,6 +32,17 @@ use rail_outside::{Shelf, StoreFault};
 use std::alloc::{AllocError, Global};
 use timetable::timetable_lines;
 use verify_loop::{Budgets, Outcome, verify};
+
+/// What a search may spend: so many derived clauses and ticks, and a log as long as a proof may be.
+pub(crate) fn budgets(conflicts: u64, ticks: u64) -> Budgets
+    ensures { result ≡ budgets_of conflicts ticks }
+{
+    Budgets {
+        conflicts,
+        ticks,
+        log_bytes: InputFile::Proof.limit(),
+    }
+}
 
 /// The lines of a plan, before its timetable.
 fn plan_lines(alloc: Global, design: &Design, plan: &Plan) -> Result<Vec<Vec<u8>>, AllocError>
@@ -98,13 +109,6 @@ fn log_spent(alloc: Global, bytes: u64, next: u64) -> Result<Reply, AllocError>
     one_line(alloc, Status::LogSpent, log_spent_line(alloc, bytes, next)?)
 }
 
-/// A plan fails on time, and is not excluded.
-fn unrefuted(alloc: Global, tick: u64) -> Result<Reply, AllocError>
-    ensures { IfOk result (λ reply. reply_seen reply ≡ one_line Status.Unrefuted (unrefuted_line tick)) }
-{
-    one_line(alloc, Status::Unrefuted, unrefuted_line(alloc, tick)?)
-}
-
 /// The reply for what a search ended with.
 fn tell(
     alloc: Global,
@@ -122,7 +126,6 @@ fn tell(
         Outcome::ConflictsSpent { .. } => conflicts_spent(alloc, budgets.conflicts),
         Outcome::TicksSpent { sum, .. } => ticks_spent(alloc, *sum, budgets.ticks),
         Outcome::LogSpent { bytes, next, .. } => log_spent(alloc, *bytes, *next),
-        Outcome::Unrefuted { tick, .. } => unrefuted(alloc, *tick),
         Outcome::TooLarge { .. } => too_large(alloc),
         Outcome::Memory => Err(AllocError),
     }

@@ -31,8 +31,6 @@ pub enum Status {
     LogSpent,
     /// A file is longer than its limit.
     TooLong,
-    /// A search found a plan that fails on time, and such plans cannot be excluded yet.
-    Unrefuted,
 }
 
 impl Status {
@@ -53,7 +51,6 @@ impl Status {
             Status::TicksSpent => 9,
             Status::LogSpent => 10,
             Status::TooLong => 11,
-            Status::Unrefuted => 12,
         }
     }
 }

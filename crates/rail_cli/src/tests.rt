@@ -1,8 +1,10 @@
 //! Runs from their words to their text, over a shelf and a sink in memory.
 
+use crate::reading::admit;
 use crate::{Status, run_words, run_words_surely};
 use rail_outside::{Call, MemoryShelf, MemorySink, SureShelf, SureSink};
 use std::alloc::{AllocError, Global};
+use verify_loop::{Budgets, Outcome, verify};
 
 /// Two sections between two boundaries, with a signal between them.
 const TRACK: &str = r#"
@@ -25,6 +27,11 @@ const TWO_TRAINS: &str = r#"train = [
 
 const WITHIN: &str =
     r#"within = [ {from_train="A", from_visit=1, to_train="A", to_visit=2, max_ms=8000} ]
+"#;
+
+/// That A comes first, and that B is through so soon after it that it cannot be.
+const STRICT: &str = r#"order = [ {first_train="A", first_visit=1, then_train="B", then_visit=1} ]
+within = [ {from_train="A", from_visit=2, to_train="B", to_visit=2, max_ms=7999} ]
 "#;
 
 /// Two lines without a signal, and an order that asks for strictness.
@@ -483,6 +490,8 @@ fn proofs_are_judged(rt: HostRuntime) -> Result<(), AllocError> {
     let halt = design(alloc, 600_000, TRACK, ONE_TRAIN, "")?;
     let follow = design(alloc, 600_000, TRACK, TWO_TRAINS, "")?;
     let halt_within = design(alloc, 600_000, TRACK, ONE_TRAIN, WITHIN)?;
+    let strict = design(alloc, 600_000, TRACK, TWO_TRAINS, STRICT)?;
+    let short = design(alloc, 8000, TRACK, TWO_TRAINS, "")?;
     for (station, steps, proof, status, text) in [
         (&halt, "1", "rcvlog 1\nd 0 1 5 0\n", 0, "yes steps 1\n"),
         (
@@ -525,6 +534,41 @@ fn proofs_are_judged(rt: HostRuntime) -> Result<(), AllocError> {
             "no line 3 drop refused\n",
         ),
         (&halt, "2", BY_TIME, 1, "no line 2 path not in design\n"),
+        (
+            &strict,
+            "4",
+            "rcvlog 1\nr within 1 t 1 11 2 1 2 0 0 0 t 2 17 2 1 2 0 0 0 p 1 1 2 1 p 1 2 2 2\n",
+            1,
+            "no line 3 no final line\n",
+        ),
+        (
+            &strict,
+            "4",
+            "rcvlog 1\nr within 1 t 1 11 2 1 2 0 0 0 t 2 17 2 1 2 0 0 0 p 1 2 2 2\n",
+            1,
+            "no line 2 violation not shown\n",
+        ),
+        (
+            &strict,
+            "4",
+            "rcvlog 1\nr within 1 t 1 10 2 1 2 0 0 0 t 2 17 2 1 2 0 0 0 p 1 1 2 1 p 1 2 2 2\n",
+            1,
+            "no line 2 command not granted\n",
+        ),
+        (
+            &short,
+            "4",
+            "rcvlog 1\nr grant 2 1 t 1 7 2 1 2 0 0 0 t 2 8 0 1 0 1 1 p 1 1 2 1\n",
+            1,
+            "no line 3 no final line\n",
+        ),
+        (
+            &short,
+            "4",
+            "rcvlog 1\nr grant 2 1 t 1 6 2 1 2 0 0 0 t 2 8 0 1 0 1 1 p 1 1 2 1\n",
+            1,
+            "no line 2 holder not valid\n",
+        ),
     ] {
         let mut shelf = shelf_of(alloc, station.as_bytes(), proof)?;
         let mut out = MemorySink::new(alloc);
@@ -550,6 +594,7 @@ fn searches_that_find_no_plan_say_why(rt: HostRuntime) -> Result<(), AllocError>
     let alloc = rt.alloc();
     let halt_within = design(alloc, 600_000, TRACK, ONE_TRAIN, WITHIN)?;
     let follow = design(alloc, 600_000, TRACK, TWO_TRAINS, "")?;
+    let strict = design(alloc, 600_000, TRACK, TWO_TRAINS, STRICT)?;
     let ring = design(alloc, 600_000, RING, "", "")?;
     let searches = [
         Search {
@@ -565,10 +610,10 @@ fn searches_that_find_no_plan_say_why(rt: HostRuntime) -> Result<(), AllocError>
             text: "ticks spent 0 of 8\n",
         },
         Search {
-            design: &halt_within,
-            numbers: "--steps 2 --conflicts 1000 --ticks 9",
-            status: 12,
-            text: "unrefuted tick 9\n",
+            design: &strict,
+            numbers: "--steps 4 --conflicts 1000 --ticks 17",
+            status: 9,
+            text: "ticks spent 1 of 17\n",
         },
         Search {
             design: &ring,
@@ -590,32 +635,113 @@ fn searches_that_find_no_plan_say_why(rt: HostRuntime) -> Result<(), AllocError>
     Ok(())
 }
 
+/// A design that has no plan of so many steps, and a line of its proof.
+#[derive(Clone, Copy)]
+struct Hopeless<'a> {
+    design: &'a String,
+    steps: u32,
+    ticks: u32,
+    line: &'a str,
+}
+
 #[test]
-fn a_proof_is_stored_and_passes(rt: HostRuntime) -> Result<(), AllocError> {
+fn proofs_are_stored_and_pass(rt: HostRuntime) -> Result<(), AllocError> {
     let alloc = rt.alloc();
     let follow = design(alloc, 600_000, TRACK, TWO_TRAINS, "")?;
-    let mut shelf = shelf_of(alloc, follow.as_bytes(), "")?;
-    let mut out = MemorySink::new(alloc);
-    let status = run(
-        alloc,
-        "rcv verify --steps 3 --conflicts 1000 --ticks 1000 design.toml found.proof",
-        &mut shelf,
-        &mut out,
-    )?;
-    assert_eq!(rt; status, 1);
-    assert_eq!(rt; out.bytes(), b"infeasible steps 3\n".as_slice());
-    let stored =
-        matches!(shelf.calls().last(), Some(Call::Store(name)) if name.as_str() == "found.proof");
-    assert!(rt; stored);
-    let mut out = MemorySink::new(alloc);
-    let status = run(
-        alloc,
-        "rcv check --steps 3 design.toml found.proof",
-        &mut shelf,
-        &mut out,
-    )?;
-    assert_eq!(rt; status, 0);
-    assert_eq!(rt; out.bytes(), b"yes steps 3\n".as_slice());
+    let halt_within = design(alloc, 600_000, TRACK, ONE_TRAIN, WITHIN)?;
+    let parallel = design(alloc, 600_000, PARALLEL, "", "")?;
+    let strict = design(alloc, 600_000, TRACK, TWO_TRAINS, STRICT)?;
+    let short = design(alloc, 8000, TRACK, TWO_TRAINS, "")?;
+    let hopeless = [
+        Hopeless {
+            design: &follow,
+            steps: 3,
+            ticks: 1,
+            line: "d 0 ",
+        },
+        Hopeless {
+            design: &halt_within,
+            steps: 2,
+            ticks: 9,
+            line: "r within 1 t 1 9 2 1 2 0 0 0",
+        },
+        Hopeless {
+            design: &parallel,
+            steps: 2,
+            ticks: 1,
+            line: "r order 1 t 1 1 1 1 0 0 0 t 2 1 1 3 0 0 0",
+        },
+        Hopeless {
+            design: &strict,
+            steps: 4,
+            ticks: 18,
+            line: "r order 1 t 1 1 0 1 2 0 2 1 t 2 1 1 1 2 0 0 0 p 2 1 1 1",
+        },
+        Hopeless {
+            design: &strict,
+            steps: 4,
+            ticks: 18,
+            line: "r within 1 t 1 17 2 1 2 0 0 0 t 2 17 2 1 2 0 0 0 p 1 1 2 1 p 1 2 2 2",
+        },
+        Hopeless {
+            design: &short,
+            steps: 4,
+            ticks: 1000,
+            line: "r grant 2 1 t 1 8 2 1 2 0 0 0 t 2 8 0 1 2 0 1 1 p 1 1 2 1",
+        },
+    ];
+    for search in hopeless.iter() {
+        let Hopeless { steps, ticks, .. } = *search;
+        let mut shelf = shelf_of(alloc, search.design.as_bytes(), "")?;
+        let mut out = MemorySink::new(alloc);
+        let words = format!(in alloc;
+            "rcv verify --steps {steps} --conflicts 1000 --ticks {ticks} design.toml found.proof"
+        )?;
+        let status = run(alloc, words.as_str(), &mut shelf, &mut out)?;
+        let told = format!(in alloc; "infeasible steps {steps}\n")?;
+        assert_eq!(rt; status, 1);
+        assert_eq!(rt; out.bytes(), told.as_bytes());
+        let stored =
+            matches!(shelf.calls().last(), Some(Call::Store(name)) if name.as_str() == "found.proof");
+        assert!(rt; stored);
+        let line = format!(in alloc; "\n{}", search.line)?;
+        let has_line = match shelf.file("found.proof") {
+            Some(log) => match str::from_utf8(log) {
+                Ok(text) => text.contains(line.as_str()),
+                Err(_) => false,
+            },
+            None => false,
+        };
+        assert!(rt; has_line, "{line}");
+        let mut out = MemorySink::new(alloc);
+        let words = format!(in alloc; "rcv check --steps {steps} design.toml found.proof")?;
+        let status = run(alloc, words.as_str(), &mut shelf, &mut out)?;
+        let told = format!(in alloc; "yes steps {steps}\n")?;
+        assert_eq!(rt; status, 0);
+        assert_eq!(rt; out.bytes(), told.as_bytes());
+    }
+    Ok(())
+}
+
+#[test]
+fn a_log_without_room_tells_the_next_line(rt: HostRuntime) -> Result<(), AllocError> {
+    let alloc = rt.alloc();
+    let text = design(alloc, 600_000, TRACK, ONE_TRAIN, WITHIN)?;
+    let Ok((halt_within, routes)) = admit(alloc, text.as_bytes()) else {
+        return Err(AllocError);
+    };
+    for (log_bytes, bytes, next) in [(8, 0, 9), (9, 9, 29), (38, 38, 14)] {
+        let budgets = Budgets {
+            conflicts: 1000,
+            ticks: 1000,
+            log_bytes,
+        };
+        let found = match verify(alloc, &halt_within, &routes, 2, budgets) {
+            Outcome::LogSpent { bytes, next, .. } => Some((bytes, next)),
+            _ => None,
+        };
+        assert_eq!(rt; found, Some((bytes, next)));
+    }
     Ok(())
 }
 
@@ -671,6 +797,25 @@ fn plans_are_found(rt: HostRuntime) -> Result<(), AllocError> {
     let met =
         matches!(out.pieces().get(2), Some(line) if line.as_slice() == b"met tick 18\n".as_slice());
     assert!(rt; met);
+    Ok(())
+}
+
+#[test]
+fn made_stations_are_searched(rt: HostRuntime) -> Result<(), AllocError> {
+    let alloc = rt.alloc();
+    for seed in [0, u64::MAX] {
+        let mut shelf = MemoryShelf::new(alloc);
+        shelf.fail_at(1)?;
+        let mut out = MemorySink::new(alloc);
+        let line = format!(in alloc; "rcv trial {seed} 1")?;
+        let status = run(alloc, line.as_str(), &mut shelf, &mut out)?;
+        let want = format!(in alloc;
+            "trial seed {seed} size 1\nnodes 4 edges 3 signals 2 trains 1 routes 4\nplan steps 2 tick 50\n"
+        )?;
+        assert_eq!(rt; status, 0);
+        assert_eq!(rt; out.bytes(), want.as_bytes());
+        assert!(rt; shelf.calls().is_empty());
+    }
     Ok(())
 }
 

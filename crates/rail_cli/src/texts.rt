@@ -1,7 +1,8 @@
 //! The lines that are printed where there is no timetable, each with its LF. An error is want of memory.
 
 ghost use Rattle.std.specs.Prelude.{◌≡◌, ◌++◌, length, codes, decimal, IfOk, OnOk};
-ghost use Rattle.rail_cli.specs.Texts.{usage_line, file_text, limit_of, too_long_line, code_text, entry_text, place_text, design_refused_line, too_large_line, yes_line, no_line, plan_steps_line, plan_line, infeasible_line, conflicts_spent_line, ticks_spent_line, log_spent_line, unrefuted_line, plan_code_text, step_text, train_text, plan_place_text, plan_refused_line};
+ghost use Rattle.rail_spec.specs.Track.{routes_of};
+ghost use Rattle.rail_cli.specs.Texts.{usage_line, file_text, limit_of, too_long_line, code_text, entry_text, place_text, design_refused_line, too_large_line, yes_line, no_line, plan_steps_line, plan_line, infeasible_line, conflicts_spent_line, ticks_spent_line, log_spent_line, trial_line, counts_line, plan_tick_line, plan_code_text, step_text, train_text, plan_place_text, plan_refused_line};
 
 use crate::input::InputFile;
 use crate::names::{section_name, train_name};
@@ -10,6 +11,7 @@ use log_checker::Reason;
 use plan_text::writing::write_plan;
 use rail_base::design::Design;
 use rail_base::plan::Plan;
+use rail_base::route::RouteTable;
 use rail_base::station::TrainNo;
 use rail_plan::fault::PlanCode;
 use rail_plan::place::PlanPlace;
@@ -198,11 +200,53 @@ pub(crate) fn log_spent_line(alloc: Global, bytes: u64, next: u64) -> Result<Vec
     Ok(line)
 }
 
-/// `unrefuted tick <tick>`
-pub(crate) fn unrefuted_line(alloc: Global, tick: u64) -> Result<Vec<u8>, AllocError>
-    ensures { IfOk result (λ line. line.items ≡ unrefuted_line tick) }
+/// Appends words and a number.
+fn put_counted(line: &mut Vec<u8>, words: &[u8], number: u64) -> Result<(), AllocError>
+    ensures { OnOk result (line.new.items ≡ line.old.items ++ words.now ++ decimal number) }
 {
-    counted_line(alloc, b"unrefuted tick ", tick)
+    line.extend_from_slice(words)?;
+    put_number(line, number)
+}
+
+/// `trial seed <seed> size <size>`
+pub(crate) fn trial_line(alloc: Global, seed: u64, size: u32) -> Result<Vec<u8>, AllocError>
+    ensures { IfOk result (λ line. line.items ≡ trial_line seed size) }
+{
+    let mut line = Vec::new(alloc);
+    put_counted(&mut line, b"trial seed ", seed)?;
+    put_counted(&mut line, b" size ", u64::from(size))?;
+    line.push(b'\n')?;
+    Ok(line)
+}
+
+/// `nodes <n> edges <e> signals <g> trains <t> routes <r>`
+pub(crate) fn counts_line(
+    alloc: Global,
+    design: &Design,
+    routes: &RouteTable,
+) -> Result<Vec<u8>, AllocError>
+    requires { routes.now ≡ routes_of design.now.station }
+    ensures { IfOk result (λ line. line.items ≡ counts_line design.now.station) }
+{
+    let mut line = Vec::new(alloc);
+    put_counted(&mut line, b"nodes ", design.station.nodes.len() as u64)?;
+    put_counted(&mut line, b" edges ", design.station.edges.len() as u64)?;
+    put_counted(&mut line, b" signals ", design.station.signals.len() as u64)?;
+    put_counted(&mut line, b" trains ", design.station.trains.len() as u64)?;
+    put_counted(&mut line, b" routes ", routes.len() as u64)?;
+    line.push(b'\n')?;
+    Ok(line)
+}
+
+/// `plan steps <number of steps> tick <k>`
+pub(crate) fn plan_tick_line(alloc: Global, plan: &Plan, tick: u64) -> Result<Vec<u8>, AllocError>
+    ensures { IfOk result (λ line. line.items ≡ plan_tick_line (length plan.now.steps) tick) }
+{
+    let mut line = Vec::new(alloc);
+    put_counted(&mut line, b"plan steps ", plan.steps.len() as u64)?;
+    put_counted(&mut line, b" tick ", tick)?;
+    line.push(b'\n')?;
+    Ok(line)
 }
 
 /// The name of a code of a plan.

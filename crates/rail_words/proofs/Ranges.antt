@@ -1,9 +1,10 @@
--- The steps that are asked for are from 1 to 64.
-use Rattle.std.proofs.Common.{◌≡◌, ℕ, ◌≤◌, ◌&&◌, Bool, true, false, List, Option, Some, None, Result, Ok, Err, IfOk, nat_le, if◌then◌else◌, option_map, option_and_then, bytes_eq, codes, refl, subst, leb-true}
+-- The numbers that are asked for are in range.
+use Rattle.std.proofs.Common.{◌≡◌, ℕ, ◌≤◌, ◌^◌, ◌&&◌, Bool, true, false, List, Option, Some, None, Result, Ok, Err, IfOk, nat_le, nat_lt, if◌then◌else◌, option_map, option_and_then, bytes_eq, codes, refl, subst, leb-true, ltb-true, arith}
 use Rattle.clap.specs.Words.{Row, Text, first_of, subcommand_of}
-use Rattle.rail_text.specs.Numbers.{number_of}
+use Rattle.std.specs.Str.Parse.{digits_value}
+use Rattle.rail_text.specs.Numbers.{is_numeral, number_of}
 use Rattle.rail_words.specs.FixedCommand.{rcv_app, is_taken}
-use Rattle.rail_words.specs.Requests.{Asked, simulate, routes, verify, check, IsInRange, simulate_with, routes_with, verify_within, verify_with, check_with, steps_of, conflicts_of, ticks_of, asked_by, request_of}
+use Rattle.rail_words.specs.Requests.{Asked, simulate, routes, verify, check, trial, IsInRange, simulate_with, routes_with, verify_within, verify_with, check_with, trial_within, trial_with, steps_of, conflicts_of, ticks_of, seed_of, size_of, asked_by, request_of}
 use Rattle.rail_words.specs.Laws.{RequestsAreInRange}
 use Rattle.rail_words.specs.Words.{asked_of}
 use Rattle.rail_words.specs.declared.request.Request.{Request}
@@ -13,13 +14,24 @@ both : (a b : Bool) → (a && b) ≡ true → (a ≡ true) × (b ≡ true)
 both true b h = (refl, h)
 both false b h = absurd (cc)
 
-kept : (found : Option ℕ) (n : ℕ) → option_and_then (λ k. if nat_le 1 k && nat_le k 64 then Some k else None) found ≡ Some n → (1 ≤ n) × (n ≤ 64)
-kept None n e = absurd (cc)
-kept (Some k) n e = go (nat_le 1 k && nat_le k 64) refl e
+kept : (greatest : ℕ) (found : Option ℕ) (n : ℕ) → option_and_then (λ k. if nat_le 1 k && nat_le k greatest then Some k else None) found ≡ Some n → (1 ≤ n) × (n ≤ greatest)
+kept greatest None n e = absurd (cc)
+kept greatest (Some k) n e = go (nat_le 1 k && nat_le k greatest) refl e
   where
-    go : (b : Bool) → (nat_le 1 k && nat_le k 64) ≡ b → (if b then Some k else None) ≡ Some n → (1 ≤ n) × (n ≤ 64)
-    go true h e = (let same : k ≡ n = cc in let p = both (nat_le 1 k) (nat_le k 64) h in subst (λ m. (1 ≤ m) × (m ≤ 64)) same (leb-true 1 k p.0, leb-true k 64 p.1))
+    go : (b : Bool) → (nat_le 1 k && nat_le k greatest) ≡ b → (if b then Some k else None) ≡ Some n → (1 ≤ n) × (n ≤ greatest)
+    go true h e = (let same : k ≡ n = cc in let p = both (nat_le 1 k) (nat_le k greatest) h in subst (λ m. (1 ≤ m) × (m ≤ greatest)) same (leb-true 1 k p.0, leb-true k greatest p.1))
     go false h e = absurd (cc)
+
+-- a number fits 64 bits
+fits : (numeral : Bool) (value n : ℕ) → (if numeral && nat_lt value (2 ^ 64) then Some value else None) ≡ Some n → n ≤ 18446744073709551615
+fits numeral value n e = go (numeral && nat_lt value (2 ^ 64)) refl e
+  where
+    go : (b : Bool) → (numeral && nat_lt value (2 ^ 64)) ≡ b → (if b then Some value else None) ≡ Some n → n ≤ 18446744073709551615
+    go true h e = (let same : value ≡ n = cc in let below = ltb-true value (2 ^ 64) (both numeral (nat_lt value (2 ^ 64)) h).1 in subst (λ m. m ≤ 18446744073709551615) same (omega arith))
+    go false h e = absurd (cc)
+
+seed_fits : (text : Text) (n : ℕ) → seed_of text ≡ Some n → n ≤ 18446744073709551615
+seed_fits text n e = fits (is_numeral text) (digits_value 10 text) n e
 
 check_made : (steps : Option ℕ) (design proof : Text) (a : Asked) → ((n : ℕ) → steps ≡ Some n → (1 ≤ n) × (n ≤ 64)) → option_map (λ n. check n design proof) steps ≡ Some a → IsInRange a
 check_made None design proof a h e = absurd (cc)
@@ -29,7 +41,7 @@ checked_so : (steps design proof : Option Text) (a : Asked) → check_with steps
 checked_so None design proof a e = absurd (cc)
 checked_so (Some steps) None proof a e = absurd (cc)
 checked_so (Some steps) (Some design) None a e = absurd (cc)
-checked_so (Some steps) (Some design) (Some proof) a e = check_made (steps_of steps) design proof a (λ n h. kept (number_of steps) n h) e
+checked_so (Some steps) (Some design) (Some proof) a e = check_made (steps_of steps) design proof a (λ n h. kept 64 (number_of steps) n h) e
 
 verify_made : (steps conflicts ticks : Option ℕ) (design proof : Text) (a : Asked) → ((n : ℕ) → steps ≡ Some n → (1 ≤ n) × (n ≤ 64)) → verify_within steps conflicts ticks design proof ≡ Some a → IsInRange a
 verify_made None conflicts ticks design proof a h e = absurd (cc)
@@ -43,7 +55,7 @@ verified_so (Some s) None ticks design proof a e = absurd (cc)
 verified_so (Some s) (Some c) None design proof a e = absurd (cc)
 verified_so (Some s) (Some c) (Some t) None proof a e = absurd (cc)
 verified_so (Some s) (Some c) (Some t) (Some design) None a e = absurd (cc)
-verified_so (Some s) (Some c) (Some t) (Some design) (Some proof) a e = verify_made (steps_of s) (conflicts_of c) (ticks_of t) design proof a (λ n h. kept (number_of s) n h) e
+verified_so (Some s) (Some c) (Some t) (Some design) (Some proof) a e = verify_made (steps_of s) (conflicts_of c) (ticks_of t) design proof a (λ n h. kept 64 (number_of s) n h) e
 
 simulated_so : (design plan : Option Text) (a : Asked) → simulate_with design plan ≡ Some a → IsInRange a
 simulated_so None plan a e = absurd (cc)
@@ -54,20 +66,32 @@ routed_so : (design : Option Text) (a : Asked) → routes_with design ≡ Some a
 routed_so None a e = absurd (cc)
 routed_so (Some design) a e = let same : routes design ≡ a = cc in subst IsInRange same tt
 
-chosen : (first second third fourth : Bool) (design plan file steps conflicts ticks of proof : Option Text) (a : Asked)
-    → (if first then simulate_with design plan else if second then routes_with file else if third then verify_with steps conflicts ticks of proof else if fourth then check_with steps of proof else None) ≡ Some a → IsInRange a
-chosen true second third fourth design plan file steps conflicts ticks of proof a e = simulated_so design plan a e
-chosen false true third fourth design plan file steps conflicts ticks of proof a e = routed_so file a e
-chosen false false true fourth design plan file steps conflicts ticks of proof a e = verified_so steps conflicts ticks of proof a e
-chosen false false false true design plan file steps conflicts ticks of proof a e = checked_so steps of proof a e
-chosen false false false false design plan file steps conflicts ticks of proof a e = absurd (cc)
+trial_made : (seed size : Option ℕ) (a : Asked) → ((n : ℕ) → seed ≡ Some n → n ≤ 18446744073709551615) → ((n : ℕ) → size ≡ Some n → (1 ≤ n) × (n ≤ 6)) → trial_within seed size ≡ Some a → IsInRange a
+trial_made None size a h i e = absurd (cc)
+trial_made (Some s) None a h i e = absurd (cc)
+trial_made (Some s) (Some k) a h i e = let same : trial s k ≡ a = cc in subst IsInRange same (h s refl, (i k refl).0, (i k refl).1)
+
+tried_so : (seed size : Option Text) (a : Asked) → trial_with seed size ≡ Some a → IsInRange a
+tried_so None size a e = absurd (cc)
+tried_so (Some seed) None a e = absurd (cc)
+tried_so (Some seed) (Some size) a e = trial_made (seed_of seed) (size_of size) a (seed_fits seed) (λ n h. kept 6 (number_of size) n h) e
+
+chosen : (first second third fourth fifth : Bool) (design plan file steps conflicts ticks of proof seed size : Option Text) (a : Asked)
+    → (if first then simulate_with design plan else if second then routes_with file else if third then verify_with steps conflicts ticks of proof else if fourth then check_with steps of proof else if fifth then trial_with seed size else None) ≡ Some a → IsInRange a
+chosen true second third fourth fifth design plan file steps conflicts ticks of proof seed size a e = simulated_so design plan a e
+chosen false true third fourth fifth design plan file steps conflicts ticks of proof seed size a e = routed_so file a e
+chosen false false true fourth fifth design plan file steps conflicts ticks of proof seed size a e = verified_so steps conflicts ticks of proof a e
+chosen false false false true fifth design plan file steps conflicts ticks of proof seed size a e = checked_so steps of proof a e
+chosen false false false false true design plan file steps conflicts ticks of proof seed size a e = tried_so seed size a e
+chosen false false false false false design plan file steps conflicts ticks of proof seed size a e = absurd (cc)
 
 named : (entered : Option (Text × List Row)) (a : Asked) → option_and_then asked_by entered ≡ Some a → IsInRange a
 named None a e = absurd (cc)
 named (Some entered) a e =
-    chosen (bytes_eq entered.0 (codes "simulate")) (bytes_eq entered.0 (codes "routes")) (bytes_eq entered.0 (codes "verify")) (bytes_eq entered.0 (codes "check"))
+    chosen (bytes_eq entered.0 (codes "simulate")) (bytes_eq entered.0 (codes "routes")) (bytes_eq entered.0 (codes "verify")) (bytes_eq entered.0 (codes "check")) (bytes_eq entered.0 (codes "trial"))
     (first_of (codes "DESIGN") entered.1) (first_of (codes "PLAN") entered.1) (first_of (codes "DESIGN") entered.1)
-    (first_of (codes "steps") entered.1) (first_of (codes "conflicts") entered.1) (first_of (codes "ticks") entered.1) (first_of (codes "DESIGN") entered.1) (first_of (codes "PROOF") entered.1) a e
+    (first_of (codes "steps") entered.1) (first_of (codes "conflicts") entered.1) (first_of (codes "ticks") entered.1) (first_of (codes "DESIGN") entered.1) (first_of (codes "PROOF") entered.1)
+    (first_of (codes "SEED") entered.1) (first_of (codes "SIZE") entered.1) a e
 
 taken_so : (taken : Bool) (entered : Option (Text × List Row)) (a : Asked) → (if taken then option_and_then asked_by entered else None) ≡ Some a → IsInRange a
 taken_so true entered a e = named entered a e

@@ -3,14 +3,15 @@ use Rattle.std.proofs.Common.{◌≡◌, ◌==◌, ◌&&◌, ℕ, Bool, true, fa
 use Rattle.std.proofs.lemmas.Bool.{false≢true, eqb-true}
 use Rattle.std.specs.Char.{is_ascii_digit}
 use Rattle.std.specs.List.{list_all}
-use Rattle.rail_text.specs.Numbers.{is_numeral}
+use Rattle.rail_text.specs.Numbers.{is_numeral, number_of}
 use Rattle.clap.proofs.OnLiterals.{clap_on_literals}
 use Rattle.clap.specs.Words.{Row, Text, first_of, subcommand_of, fault_of}
 use Rattle.rail_words.specs.FixedCommand.{rcv_app}
-use Rattle.rail_words.specs.Requests.{request_of, number_to, steps_of, conflicts_of, ticks_of, verify, check}
+use Rattle.rail_words.specs.Requests.{request_of, number_to, steps_of, conflicts_of, ticks_of, seed_of, size_of, verify, check, trial}
 use Rattle.rail_words.proofs.Walks.{level, steps_read, design_read, proof_read, check_rows, check_top}
 use Rattle.rail_words.proofs.Searches as search
-use Rattle.rail_words.specs.Laws.{is_plain, SimulateIsRead, RoutesIsRead, VerifyIsRead, CheckIsRead}
+use Rattle.rail_words.proofs.Trials as trials
+use Rattle.rail_words.specs.Laws.{is_plain, SimulateIsRead, RoutesIsRead, VerifyIsRead, CheckIsRead, TrialIsRead}
 
 off : (b : Bool) → not b ≡ true → b ≡ false
 off true h = absurd (false≢true h)
@@ -35,20 +36,28 @@ and_off true b h = h
 and_off false b h = refl
 
 -- text that begins with a hyphen is no number
-hyphen : (greatest x : ℕ) (xs : Text) → (x == 45) ≡ true → number_to greatest (x ∷ xs) ≡ None
-hyphen greatest x xs h =
+hyphen : (x : ℕ) (xs : Text) → (x == 45) ≡ true → number_of (x ∷ xs) ≡ None
+hyphen x xs h =
     let is : x ≡ 45 = eqb-true x 45 h in
     let no_digit : list_all is_ascii_digit (x ∷ xs) ≡ false = rw is refl in
     let no_numeral : is_numeral (x ∷ xs) ≡ false = and_off _ _ no_digit in
     rw no_numeral refl
 
 -- a number does not
+number_plain : (text : Text) (n : ℕ) → number_of text ≡ Some n → is_plain text ≡ true
+number_plain [] n e = absurd (cc)
+number_plain (x ∷ xs) n e = go (x == 45) refl
+  where
+    go : (b : Bool) → (x == 45) ≡ b → not b ≡ true
+    go true h = (let f = hyphen x xs h in absurd (cc))
+    go false h = refl
+
 digits_plain : (greatest : ℕ) (text : Text) (n : ℕ) → number_to greatest text ≡ Some n → is_plain text ≡ true
 digits_plain greatest [] n e = absurd (cc)
 digits_plain greatest (x ∷ xs) n e = go (x == 45) refl
   where
     go : (b : Bool) → (x == 45) ≡ b → not b ≡ true
-    go true h = (let f = hyphen greatest x xs h in absurd (cc))
+    go true h = (let no = hyphen x xs h in let f : number_to greatest (x ∷ xs) ≡ None = rw no refl in absurd (cc))
     go false h = refl
 
 -- what is read of the rows
@@ -92,3 +101,19 @@ verify_read program (x ∷ xs) (u ∷ us) (v ∷ vs) (y ∷ ys) (z ∷ zs) n c t
     (search.verify_top program _ _ _ _ _ _ _ _ ∙ rw (search.level x xs u us v vs y ys z zs a b d f g) refl) (search.verify_rows program _ _ _ _ _ _ _ _)
     (search.steps_read x xs u us v vs y ys z zs a b d f g) (search.conflicts_read x xs u us v vs y ys z zs a b d f g) (search.ticks_read x xs u us v vs y ys z zs a b d f g)
     (search.design_read x xs u us v vs y ys z zs a b d f g) (search.proof_read x xs u us v vs y ys z zs a b d f g) p q r
+
+-- what is read of the rows of a trial
+trial_rows : (words : List Text) (rows : List Row) (seed size : Text) (s k : ℕ) → fault_of rcv_app words ≡ [] → subcommand_of rcv_app words ≡ Some (codes "trial", rows)
+    → first_of (codes "SEED") rows ≡ Some seed → first_of (codes "SIZE") rows ≡ Some size → seed_of seed ≡ Some s → size_of size ≡ Some k → request_of words ≡ Some (trial s k)
+unfolding request_of
+trial_rows words rows seed size s k taken named a b p q = rw (taken, named, a, b, p, q) refl
+
+pub trial_read : TrialIsRead
+trial_read program [] size s k p q = absurd (cc)
+trial_read program (x ∷ xs) [] s k p q = absurd (cc)
+trial_read program (x ∷ xs) (y ∷ ys) s k p q =
+    let e : (x == 45) ≡ false = off (x == 45) (number_plain (x ∷ xs) s p) in
+    let f : (y == 45) ≡ false = off (y == 45) (digits_plain 6 (y ∷ ys) k q) in
+    trial_rows (program ∷ codes "trial" ∷ (x ∷ xs) ∷ (y ∷ ys) ∷ []) _ (x ∷ xs) (y ∷ ys) s k
+    (trials.trial_top program _ _ ∙ rw (trials.level x xs y ys e f) refl) (trials.trial_rows program _ _)
+    (trials.seed_read x xs y ys e f) (trials.size_read x xs y ys e f) p q

@@ -30,6 +30,10 @@ verify_app = with_rule (with_rule verify_options_app (positional_rule (codes "DE
 abbrev pub check_app : App
 check_app = with_rule (with_rule (with_rule (new_app (codes "check")) (option_rule (codes "steps"))) (positional_rule (codes "DESIGN"))) (positional_rule (codes "PROOF"))
 
+-- `trial SEED SIZE`
+abbrev pub trial_app : App
+trial_app = with_rule (with_rule (new_app (codes "trial")) (positional_rule (codes "SEED"))) (positional_rule (codes "SIZE"))
+
 abbrev pub top_app : App
 top_app = record (new_app (codes "rcv")) { top = record (new_app (codes "rcv")).top { subcommand_required = true } }
 
@@ -37,8 +41,12 @@ top_app = record (new_app (codes "rcv")) { top = record (new_app (codes "rcv")).
 abbrev pub numberless_app : App
 numberless_app = with_subcommand (with_subcommand top_app simulate_app.top) routes_app.top
 
+-- with the commands that name files
+abbrev pub files_app : App
+files_app = with_subcommand (with_subcommand numberless_app verify_app.top) check_app.top
+
 abbrev pub rcv_app : App
-rcv_app = with_subcommand (with_subcommand numberless_app verify_app.top) check_app.top
+rcv_app = with_subcommand files_app trial_app.top
 
 -- the fixed command takes the words, the first of which is the program's name
 abbrev pub is_taken : List Text → Bool

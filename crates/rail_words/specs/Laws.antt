@@ -1,7 +1,7 @@
 -- Which words are taken.
 use Rattle.std.specs.Prelude.{ℕ, List, ◌≡◌, ◌==◌, not, Bool, true, false, [], ◌∷◌, Some, codes}
 use Rattle.clap.specs.Words.{Text}
-use Rattle.rail_words.specs.Requests.{Asked, IsInRange, request_of, steps_of, conflicts_of, ticks_of, simulate, routes, verify, check}
+use Rattle.rail_words.specs.Requests.{Asked, IsInRange, request_of, steps_of, conflicts_of, ticks_of, seed_of, size_of, simulate, routes, verify, check, trial}
 
 -- not empty, and not beginning with a hyphen
 abbrev pub is_plain : Text → Bool
@@ -23,6 +23,9 @@ VerifyIsRead = (program steps conflicts ticks design proof : Text) (n c t : ℕ)
 abbrev pub CheckIsRead : Type 0
 CheckIsRead = (program steps design proof : Text) (n : ℕ) → steps_of steps ≡ Some n → is_plain design ≡ true → is_plain proof ≡ true
     → request_of (program ∷ codes "check" ∷ codes "--steps" ∷ steps ∷ design ∷ proof ∷ []) ≡ Some (check n design proof)
+
+abbrev pub TrialIsRead : Type 0
+TrialIsRead = (program seed size : Text) (s k : ℕ) → seed_of seed ≡ Some s → size_of size ≡ Some k → request_of (program ∷ codes "trial" ∷ seed ∷ size ∷ []) ≡ Some (trial s k)
 
 -- what words ask for is in range
 abbrev pub RequestsAreInRange : Type 0

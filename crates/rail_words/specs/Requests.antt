@@ -20,19 +20,29 @@ conflicts_of = number_to 10_000_000
 abbrev pub ticks_of : Text → Option ℕ
 ticks_of = number_to 1_000_000_000_000
 
+-- the number that a station is made from: 0 to 18446744073709551615, in 1 to 20 digits
+abbrev pub seed_of : Text → Option ℕ
+seed_of = number_of
+
+-- how many tracks and trains it has
+abbrev pub size_of : Text → Option ℕ
+size_of = number_to 6
+
 -- a request, by the texts of its values
 pub data Asked : Type 0 where
   simulate : Text → Text → Asked
   routes : Text → Asked
   verify : ℕ → ℕ → ℕ → Text → Text → Asked
   check : ℕ → Text → Text → Asked
+  trial : ℕ → ℕ → Asked
 
--- its number of steps, where it has one, is from 1 to 64
+-- its number of steps, where it has one, is from 1 to 64; its seed fits 64 bits, and its size is from 1 to 6
 abbrev pub IsInRange : Asked → Type 0
 IsInRange (simulate design plan) = Unit {0}
 IsInRange (routes design) = Unit {0}
 IsInRange (verify n conflicts ticks design proof) = (1 ≤ n) × (n ≤ 64)
 IsInRange (check n design proof) = (1 ≤ n) × (n ≤ 64)
+IsInRange (trial seed size) = (seed ≤ 18446744073709551615) × (1 ≤ size) × (size ≤ 6)
 
 abbrev pub simulate_with : Option Text → Option Text → Option Asked
 simulate_with (Some design) (Some plan) = Some (simulate design plan)
@@ -54,6 +64,15 @@ abbrev pub check_with : Option Text → Option Text → Option Text → Option A
 check_with (Some steps) (Some design) (Some proof) = option_map (λ n. check n design proof) (steps_of steps)
 check_with _ _ _ = None
 
+-- a trial with these numbers, if both are there
+abbrev pub trial_within : Option ℕ → Option ℕ → Option Asked
+trial_within (Some seed) (Some size) = Some (trial seed size)
+trial_within _ _ = None
+
+abbrev pub trial_with : Option Text → Option Text → Option Asked
+trial_with (Some seed) (Some size) = trial_within (seed_of seed) (size_of size)
+trial_with _ _ = None
+
 -- what a subcommand asks for, by its name and the values of its arguments
 abbrev pub asked_by : Text × List Row → Option Asked
 asked_by entered =
@@ -61,6 +80,7 @@ asked_by entered =
     else if bytes_eq entered.0 (codes "routes") then routes_with (first_of (codes "DESIGN") entered.1)
     else if bytes_eq entered.0 (codes "verify") then verify_with (first_of (codes "steps") entered.1) (first_of (codes "conflicts") entered.1) (first_of (codes "ticks") entered.1) (first_of (codes "DESIGN") entered.1) (first_of (codes "PROOF") entered.1)
     else if bytes_eq entered.0 (codes "check") then check_with (first_of (codes "steps") entered.1) (first_of (codes "DESIGN") entered.1) (first_of (codes "PROOF") entered.1)
+    else if bytes_eq entered.0 (codes "trial") then trial_with (first_of (codes "SEED") entered.1) (first_of (codes "SIZE") entered.1)
     else None
 
 -- what the words ask for, where the fixed command takes them

@@ -3,7 +3,7 @@
 ghost use Rattle.std.specs.Prelude.{◌≡◌, IfOk, false};
 ghost use Rattle.clap.specs.Words.{app_of, rule_of};
 ghost use Rattle.clap.specs.declared.builder.command.Command.TheViews.{out-Command as fields_of};
-ghost use Rattle.rail_words.specs.FixedCommand.{option_rule, positional_rule, simulate_app, routes_app, numberless_app, verify_options_app, verify_app, check_app, rcv_app};
+ghost use Rattle.rail_words.specs.FixedCommand.{option_rule, positional_rule, simulate_app, routes_app, numberless_app, verify_options_app, verify_app, check_app, trial_app, files_app, rcv_app};
 
 use clap::{Arg, Command};
 use std::alloc::{AllocError, Global};
@@ -70,6 +70,15 @@ fn check_command<'a>(alloc: Global) -> Result<Command<'a>, AllocError>
         .arg(positional(alloc, "PROOF"))
 }
 
+fn trial_command<'a>(alloc: Global) -> Result<Command<'a>, AllocError>
+    ensures shape { IfOk result (λ command. app_of command ≡ trial_app) }
+    ensures local { IfOk result (λ command. (fields_of command).has_globals ≡ false) }
+{
+    Command::new(alloc, "trial")
+        .arg(positional(alloc, "SEED"))?
+        .arg(positional(alloc, "SIZE"))
+}
+
 /// The program's command with those that take no number.
 fn numberless<'a>(alloc: Global) -> Result<Command<'a>, AllocError>
     ensures shape { IfOk result (λ command. app_of command ≡ numberless_app) }
@@ -80,11 +89,18 @@ fn numberless<'a>(alloc: Global) -> Result<Command<'a>, AllocError>
         .subcommand(routes_command(alloc)?)
 }
 
-/// The fixed command.
-pub(crate) fn command<'a>(alloc: Global) -> Result<Command<'a>, AllocError>
-    ensures shape { IfOk result (λ command. app_of command ≡ rcv_app) }
+/// The program's command with those that name files.
+fn with_files<'a>(alloc: Global) -> Result<Command<'a>, AllocError>
+    ensures shape { IfOk result (λ command. app_of command ≡ files_app) }
 {
     numberless(alloc)?
         .subcommand(verify_command(alloc)?)?
         .subcommand(check_command(alloc)?)
+}
+
+/// The fixed command.
+pub(crate) fn command<'a>(alloc: Global) -> Result<Command<'a>, AllocError>
+    ensures shape { IfOk result (λ command. app_of command ≡ rcv_app) }
+{
+    with_files(alloc)?.subcommand(trial_command(alloc)?)
 }

@@ -1,6 +1,6 @@
 //! Which words are taken.
 
-ghost use Rattle.rail_words.specs.Laws.{SimulateIsRead, RoutesIsRead, VerifyIsRead, CheckIsRead, RequestsAreInRange};
+ghost use Rattle.rail_words.specs.Laws.{SimulateIsRead, RoutesIsRead, VerifyIsRead, CheckIsRead, TrialIsRead, RequestsAreInRange};
 
 /// `simulate DESIGN PLAN` after the program's name, no value empty or beginning with a hyphen, asks for that.
 pub fn simulate_is_read()
@@ -23,7 +23,13 @@ pub fn check_is_read()
     ensures { CheckIsRead }
 {}
 
-/// A request's number of steps is from 1 to 64.
+/// `trial SEED SIZE` after the program's name, SEED from 0 to 18446744073709551615 and SIZE from 1 to 6 in digits, asks for
+/// that.
+pub fn trial_is_read()
+    ensures { TrialIsRead }
+{}
+
+/// A request's number of steps is from 1 to 64, and its size from 1 to 6.
 pub fn requests_are_in_range()
     ensures { RequestsAreInRange }
 {}

@@ -3,7 +3,7 @@
 ghost use Rattle.std.specs.Prelude.{◌≡◌, ◌≢◌, IfOk, OnOk, Err, Some, None, true, false, option_map, option_and_then, codes};
 ghost use Rattle.clap.specs.Words.{first_of, rows_of, found_of, subcommand_of, subcommand_rows_of};
 ghost use Rattle.rail_words.specs.FixedCommand.{rcv_app, is_taken};
-ghost use Rattle.rail_words.specs.Requests.{IsInRange, asked_by, check_with, conflicts_of, number_to, request_of, simulate_with, steps_of, ticks_of, routes_with, verify_with, verify_within};
+ghost use Rattle.rail_words.specs.Requests.{IsInRange, asked_by, check_with, conflicts_of, number_to, request_of, simulate_with, steps_of, ticks_of, routes_with, seed_of, size_of, trial_with, trial_within, verify_with, verify_within};
 ghost use Rattle.rail_words.specs.Words.{asked_of, texts_of};
 ghost use Rattle.rail_words.specs.declared.request.WordsFault.TheVariants as fault;
 
@@ -40,6 +40,11 @@ pub enum Request<'a> {
         steps: u32,
         design: &'a str,
         proof: &'a str,
+    },
+    /// Make a station of so many tracks and trains, 1 to 6, from a seed, and look for a plan.
+    Trial {
+        seed: u64,
+        size: u32,
     },
 }
 
@@ -213,6 +218,49 @@ fn check<'a>(values: &ArgMatches<'a>) -> Option<Request<'a>>
     })
 }
 
+/// The seed that a text gives.
+fn seed_of(text: &str) -> Option<u64>
+    ensures { result ≡ seed_of text.now }
+{
+    number(text.as_bytes())
+}
+
+/// The size that a text gives, from 1 to 6.
+fn size_of(text: &str) -> Option<u32>
+    ensures { result ≡ size_of text.now }
+{
+    match number(text.as_bytes()) {
+        Some(size) if 1 <= size && size <= 6 => Some(size as u32),
+        _ => None,
+    }
+}
+
+/// What the numbers of `trial` ask for.
+fn trial_within<'a>(seed: &str, size: &str) -> Option<Request<'a>>
+    ensures { option_map asked_of result ≡ trial_within (seed_of seed.now) (size_of size.now) }
+{
+    let Some(seed) = seed_of(seed) else {
+        return None;
+    };
+    let Some(size) = size_of(size) else {
+        return None;
+    };
+    Some(Request::Trial { seed, size })
+}
+
+/// What the values of `trial` ask for.
+fn trial<'a>(values: &ArgMatches<'a>) -> Option<Request<'a>>
+    ensures { option_map asked_of result ≡ trial_with (first_of (codes "SEED") (rows_of (found_of values.now))) (first_of (codes "SIZE") (rows_of (found_of values.now))) }
+{
+    let Some(seed) = value(values, "SEED") else {
+        return None;
+    };
+    let Some(size) = value(values, "SIZE") else {
+        return None;
+    };
+    trial_within(seed, size)
+}
+
 /// What the matches ask for.
 fn request_in<'a>(matches: &ArgMatches<'a>) -> Option<Request<'a>>
     ensures { option_map asked_of result ≡ option_and_then asked_by (subcommand_rows_of matches.now) }
@@ -231,6 +279,9 @@ fn request_in<'a>(matches: &ArgMatches<'a>) -> Option<Request<'a>>
     }
     if name == "check" {
         return check(values);
+    }
+    if name == "trial" {
+        return trial(values);
     }
     None
 }

@@ -84,6 +84,18 @@ fn check_names_its_steps_and_files(rt: HostRuntime) -> Result<(), AllocError> {
 }
 
 #[test]
+fn trial_names_its_seed_and_size(rt: HostRuntime) -> Result<(), AllocError> {
+    let alloc = rt.alloc();
+    let words = words_of(alloc, "rcv trial 18446744073709551615 6")?;
+    let want = Request::Trial {
+        seed: 18_446_744_073_709_551_615,
+        size: 6,
+    };
+    assert!(rt; read_words(alloc, words.as_slice()) == Ok(want));
+    Ok(())
+}
+
+#[test]
 fn other_words_are_refused(rt: HostRuntime) -> Result<(), AllocError> {
     let alloc = rt.alloc();
     for line in [
@@ -103,6 +115,10 @@ fn other_words_are_refused(rt: HostRuntime) -> Result<(), AllocError> {
         "rcv check --steps 6x halt.toml halt.proof",
         "rcv check --steps 1 --steps 1 halt.toml halt.proof",
         "rcv routes halt.toml plan.json",
+        "rcv trial 0",
+        "rcv trial 0 0",
+        "rcv trial 0 7",
+        "rcv trial 18446744073709551616 1",
         "rcv help",
         "rcv --help",
         "rcv simulate --help",

@@ -1,4 +1,5 @@
 pub mod Lines
 pub mod Accepted
+pub mod Appending
 pub mod Forgetting
 pub mod Searched

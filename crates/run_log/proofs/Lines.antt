@@ -1,18 +1,24 @@
 -- The lines of a text that is written line by line.
-use Rattle.std.proofs.Common.{◌≡◌, ℕ, ◌+◌, ◌<◌, ◌≤◌, ◌^◌, Bool, true, false, not, ◌&&◌, List, [], ◌∷◌, ◌++◌, length, map, codes, decimal, refl, sym, ap, ◌∙◌, arith, lit<, append_assoc}
+use Rattle.std.proofs.Common.{◌≡◌, ℕ, ◌+◌, ◌<◌, ◌^◌, Bool, true, false, not, ◌&&◌, List, [], ◌∷◌, ◌++◌, length, map, flat_map, nat_le, Option, Some, None, codes, decimal, refl, ap, ◌∙◌, arith, lit<, append_assoc}
 use Rattle.std.specs.List.{list_all, slice_split, onto_first, join_with_byte}
 use Rattle.std.specs.Char.{is_ascii_digit}
 use Rattle.std.proofs.lemmas.Fmt.{digits_decimal}
 use Rattle.std.proofs.lemmas.List.Folds.{list_all-append}
 use Rattle.std.proofs.lemmas.List.Splits.{length-slice_split}
 use Rattle.std.proofs.lemmas.Bool.Decides.{nat_tests}
-use Rattle.rail_text.specs.Pieces.{Line, is_lf, pieces_of_parts, pieces_from}
+use Rattle.rail_text.specs.Pieces.{is_lf, pieces_of_parts, pieces_from}
+use Rattle.rail_base.specs.declared.plan.Command.{Command}
+use Rattle.rail_base.specs.declared.plan.Violation.{Violation}
+use Rattle.rail_base.specs.declared.plan.Violation.TheVariants.{Path, Within, Order, Grant, Visit}
+use Rattle.rail_cone.specs.declared.Cone.{Cone}
+use Rattle.rail_cone.specs.declared.ConeTrain.{ConeTrain}
 use Rattle.sat_clause.specs.declared.lit.Lit.{Lit}
 use Rattle.sat_core.specs.Texts.{ended}
-use Rattle.proof_log.specs.declared.line.Line.TheVariants.{Derive}
-use Rattle.proof_log.specs.Words.{greatest_variable, greatest_clause_number, is_from_1_to}
+use Rattle.proof_log.specs.declared.line.Line.TheVariants.{Derive, Refute}
+use Rattle.proof_log.specs.Words.{greatest_variable, greatest_clause_number, is_from_1_to, is_small}
+use Rattle.proof_log.specs.Parts.{has_member, is_nothing}
 use Rattle.proof_log.specs.Lines.{is_increasing}
-use Rattle.proof_log.specs.Text.{literal_word, text_of_line, keeps_grammar}
+use Rattle.proof_log.specs.Text.{literal_word, route_word, list_words, command_words, violation_words, holder_words, train_words, pair_words, cone_words, text_of_line, keeps_command, keeps_violation, keeps_holder, keeps_path, keeps_train, keeps_pair, keeps_grammar}
 use Rattle.proof_log.proofs.Spelled.{own}
 
 -- no LF is in the bytes
@@ -57,21 +63,42 @@ digits-apart (x ∷ xs) h =
     let p = both (is_ascii_digit x) (list_all is_ascii_digit xs) h in
     rw (digit-apart x p.0, digits-apart xs p.1) refl
 
-fits : (greatest number : ℕ) → greatest < 2 ^ 64 → is_from_1_to greatest number ≡ true → number < 2 ^ 64
-fits greatest number most h = grind (arith, nat_tests)
+decimal-apart : (number : ℕ) → number < 2 ^ 64 → is_one_line (decimal number) ≡ true
+decimal-apart number fits = digits-apart (decimal number) (digits_decimal own number fits)
 
-decimal-apart : (greatest number : ℕ) → greatest < 2 ^ 64 → is_from_1_to greatest number ≡ true → is_one_line (decimal number) ≡ true
-decimal-apart greatest number most h = digits-apart (decimal number) (digits_decimal own number (fits greatest number most h))
+up-to : (greatest number : ℕ) → greatest < 2 ^ 64 → nat_le number greatest ≡ true → is_one_line (decimal number) ≡ true
+up-to greatest number most h = decimal-apart number (below greatest number most h)
+  where
+    below : (greatest number : ℕ) → greatest < 2 ^ 64 → nat_le number greatest ≡ true → number < 2 ^ 64
+    below greatest number most h = grind (arith, nat_tests)
+
+from-1 : (greatest number : ℕ) → greatest < 2 ^ 64 → is_from_1_to greatest number ≡ true → is_one_line (decimal number) ≡ true
+from-1 greatest number most h = up-to greatest number most (both (nat_le 1 number) (nat_le number greatest) h).1
+
+small-apart : (number : ℕ) → is_small number ≡ true → is_one_line (decimal number) ≡ true
+small-apart number h = up-to greatest_variable number (lit< tt) h
 
 literal-apart : (var : ℕ) (negated : Bool) → is_from_1_to greatest_variable var ≡ true → is_one_line (literal_word (record { var = var; negated = negated })) ≡ true
-literal-apart var true h = decimal-apart greatest_variable var (lit< tt) h
-literal-apart var false h = decimal-apart greatest_variable var (lit< tt) h
+literal-apart var true h = from-1 greatest_variable var (lit< tt) h
+literal-apart var false h = from-1 greatest_variable var (lit< tt) h
 
 all-words : {X : Type 0} (word_of : X → List ℕ) (good : X → Bool) → ((x : X) → good x ≡ true → is_one_line (word_of x) ≡ true) → (xs : List X) → list_all good xs ≡ true → list_all is_one_line (map word_of xs) ≡ true
 all-words word_of good each [] h = refl
 all-words word_of good each (x ∷ xs) h =
     let p = both (good x) (list_all good xs) h in
     rw (each x p.0, all-words word_of good each xs p.1) refl
+
+append-apart : (words more : List (List ℕ)) → list_all is_one_line words ≡ true → list_all is_one_line more ≡ true → list_all is_one_line (words ++ more) ≡ true
+append-apart words more h g = list_all-append is_one_line words more ∙ rw (h, g) refl
+
+list-apart : {X : Type 0} (word_of : X → List ℕ) (good : X → Bool) → ((x : X) → good x ≡ true → is_one_line (word_of x) ≡ true) → (xs : List X) → list_all good xs ≡ true → list_all is_one_line (list_words word_of xs) ≡ true
+list-apart word_of good each xs h = append-apart (map word_of xs) (codes "0" ∷ []) (all-words word_of good each xs h) refl
+
+parts-apart : {X : Type 0} (write : X → List (List ℕ)) (good : X → Bool) → ((x : X) → good x ≡ true → list_all is_one_line (write x) ≡ true) → (xs : List X) → list_all good xs ≡ true → list_all is_one_line (flat_map write xs) ≡ true
+parts-apart write good each [] h = refl
+parts-apart write good each (x ∷ xs) h =
+    let p = both (good x) (list_all good xs) h in
+    append-apart (write x) (flat_map write xs) (each x p.0) (parts-apart write good each xs p.1)
 
 joined : (word : List ℕ) (more : List (List ℕ)) → is_one_line word ≡ true → list_all is_one_line more ≡ true → is_one_line (join_with_byte 32 (word ∷ more)) ≡ true
 joined word [] h rest = h
@@ -84,7 +111,47 @@ line-apart clause hints h =
     let p = both (is_increasing clause && list_all (λ l. is_from_1_to greatest_variable l.var) clause) (list_all (is_from_1_to greatest_clause_number) hints) h in
     let q = both (is_increasing clause) (list_all (λ l. is_from_1_to greatest_variable l.var) clause) p.0 in
     let literals : list_all is_one_line (map literal_word clause) ≡ true = all-words literal_word (λ l. is_from_1_to greatest_variable l.var) (λ l g. literal-apart l.var l.negated g) clause q.1 in
-    let numbers : list_all is_one_line (map decimal hints) ≡ true = all-words decimal (is_from_1_to greatest_clause_number) (λ n g. decimal-apart greatest_clause_number n (lit< tt) g) hints p.1 in
-    let all : list_all is_one_line (map literal_word clause ++ codes "0" ∷ (map decimal hints ++ codes "0" ∷ [])) ≡ true =
-    list_all-append is_one_line (map literal_word clause) (codes "0" ∷ (map decimal hints ++ codes "0" ∷ [])) ∙ rw (literals, list_all-append is_one_line (map decimal hints) (codes "0" ∷ []), numbers) refl in
-    joined (codes "d") (map literal_word clause ++ codes "0" ∷ (map decimal hints ++ codes "0" ∷ [])) refl all
+    let numbers : list_all is_one_line (list_words decimal hints) ≡ true = list-apart decimal (is_from_1_to greatest_clause_number) (λ n g. from-1 greatest_clause_number n (lit< tt) g) hints p.1 in
+    joined (codes "d") (map literal_word clause ++ codes "0" ∷ list_words decimal hints) refl (append-apart (map literal_word clause) (codes "0" ∷ list_words decimal hints) literals numbers)
+
+-- ---- the line of a cone is one line
+
+two-apart : (m n : ℕ) → (is_small m && is_small n) ≡ true → list_all is_one_line (decimal m ∷ decimal n ∷ []) ≡ true
+two-apart m n h = let p = both (is_small m) (is_small n) h in rw (small-apart m p.0, small-apart n p.1) refl
+
+violation-apart : (v : Violation) → keeps_violation v ≡ true → list_all is_one_line (violation_words v) ≡ true
+violation-apart (Path train visit) h = two-apart train.0 visit h
+violation-apart (Within within) h = rw (small-apart within h) refl
+violation-apart (Order order) h = rw (small-apart order h) refl
+violation-apart (Grant train command) h = two-apart train.0 command h
+violation-apart (Visit train visit) h = two-apart train.0 visit h
+
+holder-apart : (o : Option Command) → keeps_holder o ≡ true → list_all is_one_line (holder_words o) ≡ true
+holder-apart None h = refl
+holder-apart (Some c) h = two-apart c.train.0 c.route.0 (both (keeps_command c) (not (is_nothing c)) h).0
+
+train-apart : (c : ConeTrain) → keeps_train c ≡ true → list_all is_one_line (train_words c) ≡ true
+train-apart c h =
+    let front : Bool = is_small c.train.0 && (nat_le c.horizon greatest_clause_number && is_small c.free) in
+    let a = both front (keeps_path c.path && keeps_holder c.holder) h in
+    let b = both (keeps_path c.path) (keeps_holder c.holder) a.1 in
+    let f = both (is_small c.train.0) (nat_le c.horizon greatest_clause_number && is_small c.free) a.0 in
+    let g = both (nat_le c.horizon greatest_clause_number) (is_small c.free) f.1 in
+    let r = both (has_member c.path) (list_all (λ r. is_from_1_to greatest_variable r.0) c.path) b.0 in
+    let path : list_all is_one_line (list_words route_word c.path) ≡ true = list-apart route_word (λ r. is_from_1_to greatest_variable r.0) (λ r k. from-1 greatest_variable r.0 (lit< tt) k) c.path r.1 in
+    rw (small-apart c.train.0 f.0, up-to greatest_clause_number c.horizon (lit< tt) g.0, small-apart c.free g.1) (append-apart (list_words route_word c.path) (holder_words c.holder) path (holder-apart c.holder b.1))
+
+pair-apart : (p : Command × Command) → keeps_pair p ≡ true → list_all is_one_line (pair_words p) ≡ true
+pair-apart p h =
+    let a = both (keeps_command p.0) (keeps_command p.1) h in
+    append-apart (command_words p.0) (command_words p.1) (two-apart p.0.train.0 p.0.route.0 a.0) (two-apart p.1.train.0 p.1.route.0 a.1)
+
+pub cone-apart : (k : Cone) → keeps_grammar (Refute k) ≡ true → is_one_line (text_of_line (Refute k)) ≡ true
+cone-apart k h =
+    let a = both (keeps_violation k.violation) ((has_member k.trains && list_all keeps_train k.trains) && list_all keeps_pair k.pairs) h in
+    let b = both (has_member k.trains && list_all keeps_train k.trains) (list_all keeps_pair k.pairs) a.1 in
+    let c = both (has_member k.trains) (list_all keeps_train k.trains) b.0 in
+    let trains : list_all is_one_line (flat_map train_words k.trains) ≡ true = parts-apart train_words keeps_train train-apart k.trains c.1 in
+    let pairs : list_all is_one_line (flat_map pair_words k.pairs) ≡ true = parts-apart pair_words keeps_pair pair-apart k.pairs b.1 in
+    joined (codes "r") (cone_words k) refl
+    (append-apart (violation_words k.violation) _ (violation-apart k.violation a.0) (append-apart (flat_map train_words k.trains) (flat_map pair_words k.pairs) trains pairs))

@@ -1,8 +1,9 @@
 -- The lines that a solver records are a run log.
-use Rattle.std.proofs.Common.{◌≡◌, ℕ, zero, suc, ◌+◌, ◌-◌, ◌<◌, ◌≤◌, Bool, true, false, not, ◌&&◌, ◌||◌, List, [], ◌∷◌, ◌++◌, map, length, drop, nat_le, nat_lt, Option, Some, None, ◌⊎◌, inl, inr, refl, sym, ap, ◌∙◌, subst, arith, length-append, leb-true, if◌then◌else◌, slice_get, slice_index}
-use Rattle.std.specs.List.{list_all, list_any, zip}
-use Rattle.std.specs.List.Sorted.{IsStrictlyIncreasing}
+use Rattle.std.proofs.Common.{◌≡◌, ℕ, zero, suc, ◌+◌, ◌-◌, ◌<◌, ◌≤◌, Bool, true, false, ◌&&◌, List, [], ◌∷◌, ◌++◌, map, length, nat_le, nat_lt, Option, Some, None, Result, ◌⊎◌, inl, inr, refl, sym, subst, arith, length-append, if◌then◌else◌, slice_get, slice_index}
+use Rattle.std.specs.List.{list_all}
 use Rattle.std.proofs.lemmas.Bool.Decides.{nat_tests}
+use Rattle.rail_cone.specs.declared.Cone.{Cone}
+use Rattle.rail_cone.specs.declared.ConeFault.{ConeFault}
 use Rattle.sat_clause.specs.declared.lit.Lit.{Lit}
 use Rattle.sat_clause.specs.declared.follow.Follow.{Follow}
 use Rattle.sat_clause.specs.declared.follow.Follow.TheVariants.{Yes}
@@ -11,15 +12,13 @@ use Rattle.sat_clause.specs.Closed.{IsNew}
 use Rattle.sat_clause.specs.Hints.{same_lit, is_held, open_lits, unit_of, at_last, at_unit, at_clause, where_last, follow_from, follow_of}
 use Rattle.sat_trail.specs.Standing.{IsIncreasing, variables, AllStand}
 use Rattle.sat_trail.proofs.Members.{or-left, or-right, same-self, held-opposites}
-use Rattle.sat_core.specs.Answers.{IsFinal, IsLearnt, IsLearntBeyond}
+use Rattle.sat_core.specs.Answers.{IsFinal, IsLearntBeyond}
 use Rattle.sat_core.specs.Lines.{Derived, AllNew, with_lines}
 use Rattle.sat_core.specs.Runs.{MayFollow}
-use Rattle.proof_log.specs.declared.line.Line.TheVariants.{Derive}
 use Rattle.proof_log.specs.Lines.{is_increasing}
-use Rattle.proof_log.specs.Text.{keeps_grammar}
 use Rattle.proof_log.specs.Words.{greatest_variable, greatest_clause_number, is_from_1_to}
-use Rattle.log_checker.specs.Verdict.{steps_denied, step_denied}
-use Rattle.run_log.specs.Logs.{IsGoodLine, GoesOn, IsLast, AllGoOn, MayComeNext}
+use Rattle.log_checker.specs.Verdict.{steps_denied}
+use Rattle.run_log.specs.Logs.{LogLine, Learnt, with_log, IsGoodLine, GoesOn, IsLast, AllGoOn, MayComeNext}
 
 -- ---- the hints of a clause that follows are numbers of clauses
 
@@ -52,7 +51,7 @@ hints-numbered store greatest held (h ∷ hs) few y = hint-numbered store greate
 
 -- ---- the literals of live clauses are below the last variable
 
-abbrev IsBelow : ℕ → List Lit → Type 0
+abbrev pub IsBelow : ℕ → List Lit → Type 0
 IsBelow vars clause = (l : Lit) → is_held clause l ≡ true → (1 ≤ l.var) × (l.var < vars)
 
 -- so it is with each live clause
@@ -69,11 +68,17 @@ live-append : (store : Store) (c : List Lit) (id : ℕ) (d : List Lit) → live_
 live-append store c zero d e = inl e
 live-append store c (suc i) d e = at-append store c i d e
 
-below-more : (vars : ℕ) (store : Store) (c : List Lit) → AllBelow vars store → IsBelow vars c → AllBelow vars (store ++ (c, true) ∷ [])
+-- and with one clause more
+pub below-more : (vars : ℕ) (store : Store) (c : List Lit) → AllBelow vars store → IsBelow vars c → AllBelow vars (store ++ (c, true) ∷ [])
 below-more vars store c a b id d live = elim (live-append store c id d live) [ inl p ↦ a id d p | inr q ↦ subst (IsBelow vars) (sym q) b ]
 
 standing-below : (vars : ℕ) (store : Store) (clause : List Lit) → AllBelow vars store → AllStand store clause → IsBelow vars clause
 standing-below vars store clause a s l h = let t = s l h in a t.id t.clause t.is_live l t.member
+
+-- learnt clauses are of literals of the clauses before them
+pub all-below : (vars : ℕ) (assumptions : List Lit) (store : Store) (more : List Derived) → AllBelow vars store → AllNew assumptions store more → AllBelow vars (with_lines store more)
+all-below vars assumptions store [] a h = a
+all-below vars assumptions store (d ∷ ds) a h = all-below vars assumptions (store ++ (d.0, true) ∷ []) ds (below-more vars store d.0 a (standing-below vars store d.0 a h.0.0.stand)) h.1
 
 -- ---- a clause keeps the grammar
 
@@ -139,7 +144,8 @@ new-some store (l ∷ ls) n e = cc
 -- ---- one line
 
 module _ (vars n : ℕ) (most : vars ≤ greatest_variable) (some : 1 ≤ n) where
-  goes-on : (assumptions : List Lit) (store : Store) (d : Derived) → length store ≤ greatest_clause_number → AllBelow vars store → IsLearntBeyond store assumptions d.0 d.1 → GoesOn vars n store d
+  -- a learnt clause goes on
+  pub goes-on : (assumptions : List Lit) (store : Store) (d : Derived) → length store ≤ greatest_clause_number → AllBelow vars store → IsLearntBeyond store assumptions d.0 d.1 → GoesOn vars n store d
   goes-on assumptions store d few a l =
       let b = standing-below vars store d.0 a l.0.stand in record {
         good = good-line vars store d.0 d.1 most few b l.0.follows l.0.increasing;
@@ -152,6 +158,7 @@ module _ (vars n : ℕ) (most : vars ≤ greatest_variable) (some : 1 ≤ n) whe
   none-negated [] h = refl
   none-negated (l ∷ ls) h = let z = h (opposite l) (held-opposites (l ∷ ls) l (held-first l ls)) in absurd (cc)
 
+  -- a final clause is the last
   pub is-last : (store : Store) (d : Derived) → length store ≤ greatest_clause_number → IsFinal store [] d.0 d.1 → IsLast vars n store d
   is-last store (clause, hints) few f = subst (λ (c : List Lit). IsFinal store [] c hints → IsLast vars n store (c, hints)) (sym (none-negated clause f.only)) empty f
     where
@@ -167,18 +174,16 @@ module _ (vars n : ℕ) (most : vars ≤ greatest_variable) (some : 1 ≤ n) whe
   length-lines store [] = omega arith
   length-lines store (d ∷ ds) = let r = length-lines (store ++ (d.0, true) ∷ []) ds in let a = length-append store ((d.0, true) ∷ []) in omega arith
 
-  pub all-go-on : (assumptions : List Lit) (store : Store) (more : List Derived) → length (with_lines store more) ≤ greatest_clause_number → AllBelow vars store → AllNew assumptions store more → AllGoOn vars n store more
-  all-go-on assumptions store [] few a h = tt
-  all-go-on assumptions store (d ∷ ds) few a h =
+  -- learnt clauses go on, whatever cones are refuted
+  pub all-go-on : (refute : Cone → Result (List Lit) ConeFault) (assumptions : List Lit) (store : Store) (more : List Derived) → length (with_lines store more) ≤ greatest_clause_number → AllBelow vars store → AllNew assumptions store more → AllGoOn refute vars n store (map Learnt more)
+  all-go-on refute assumptions store [] few a h = tt
+  all-go-on refute assumptions store (d ∷ ds) few a h =
       let size = length-lines store (d ∷ ds) in (
         goes-on assumptions store d (omega arith) a h.0,
-        all-go-on assumptions (store ++ (d.0, true) ∷ []) ds few (below-more vars store d.0 a (standing-below vars store d.0 a h.0.0.stand)) h.1,
+        all-go-on refute assumptions (store ++ (d.0, true) ∷ []) ds few (below-more vars store d.0 a (standing-below vars store d.0 a h.0.0.stand)) h.1,
       )
 
-  all-below : (assumptions : List Lit) (store : Store) (more : List Derived) → AllBelow vars store → AllNew assumptions store more → AllBelow vars (with_lines store more)
-  all-below assumptions store [] a h = a
-  all-below assumptions store (d ∷ ds) a h = all-below assumptions (store ++ (d.0, true) ∷ []) ds (below-more vars store d.0 a (standing-below vars store d.0 a h.0.0.stand)) h.1
-
-  pub may-come : (base : Store) (more : List Derived) (clause : List Lit) (hints : List ℕ) → length (with_lines base more) ≤ greatest_clause_number → AllBelow vars base → AllNew [] base more → MayFollow (with_lines base more) [] clause hints → MayComeNext base vars n more (clause, hints)
-  may-come base more clause hints few a h (inl l) = inl (goes-on [] (with_lines base more) (clause, hints) few (all-below [] base more a h) l)
-  may-come base more clause hints few a h (inr f) = inr (is-last (with_lines base more) (clause, hints) few f)
+  -- a derived line that may follow the lines of a log may come next
+  pub may-come : (base : Store) (lines : List LogLine) (clause : List Lit) (hints : List ℕ) → length (with_log base lines) ≤ greatest_clause_number → AllBelow vars (with_log base lines) → MayFollow (with_log base lines) [] clause hints → MayComeNext base vars n lines (clause, hints)
+  may-come base lines clause hints few a (inl l) = inl (goes-on [] (with_log base lines) (clause, hints) few a l)
+  may-come base lines clause hints few a (inr f) = inr (is-last (with_log base lines) (clause, hints) few f)

@@ -1,20 +1,62 @@
--- The text of a search for a plan of n steps: the head, and a line for each derived clause.
-use Rattle.std.specs.Prelude.{ℕ, ◌≡◌, true, List, [], ◌∷◌, ◌++◌, flat_map, length, nat_le, Some, ◌⊎◌}
+-- The text of a search for a plan of n steps: the head, and a line for each derived clause and for each cone.
+use Rattle.std.specs.Prelude.{ℕ, ◌≡◌, Bool, true, false, List, [], ◌∷◌, ◌++◌, filter, flat_map, length, nat_le, Some, Result, Ok, ◌⊎◌}
 use Rattle.std.specs.List.{list_all}
+use Rattle.rail_cone.specs.declared.Cone.{Cone}
+use Rattle.rail_cone.specs.declared.ConeFault.{ConeFault}
+use Rattle.sat_clause.specs.declared.lit.Lit.{Lit}
 use Rattle.sat_clause.specs.declared.follow.Follow.TheVariants.{Yes}
 use Rattle.sat_clause.specs.Clauses.{Store}
 use Rattle.sat_clause.specs.Closed.{IsNew}
 use Rattle.sat_clause.specs.Hints.{follow_of}
-use Rattle.sat_core.specs.Lines.{Derived, text_of, with_lines}
+use Rattle.sat_core.specs.Lines.{Derived, text_of}
 use Rattle.sat_core.specs.Texts.{ended}
-use Rattle.proof_log.specs.declared.line.Line.TheVariants.{Derive}
+use Rattle.proof_log.specs.declared.line.Line.TheVariants.{Derive, Refute}
 use Rattle.proof_log.specs.Lines.{head}
-use Rattle.proof_log.specs.Text.{keeps_grammar}
+use Rattle.proof_log.specs.Text.{keeps_grammar, text_of_line}
 use Rattle.log_checker.specs.Verdict.{steps_denied}
 
+-- ---- lines
+
+-- a line of a search: a clause that was derived, or a cone with the clause that it shows
+pub data LogLine : Type 0 where
+  Learnt : Derived → LogLine
+  Refuted : Cone → List Lit → LogLine
+
+-- its clause
+abbrev pub clause_of : LogLine → List Lit
+clause_of (Learnt d) = d.0
+clause_of (Refuted cone clause) = clause
+
+-- its text, with its end
+abbrev pub line_text : LogLine → List ℕ
+line_text (Learnt d) = text_of d
+line_text (Refuted cone clause) = ended (text_of_line (Refute cone))
+
 -- the head, and then each line
-abbrev pub log_text : List Derived → List ℕ
-log_text lines = ended head ++ flat_map text_of lines
+abbrev pub log_text : List LogLine → List ℕ
+log_text lines = ended head ++ flat_map line_text lines
+
+-- the clauses, and then those of the lines, live
+abbrev pub with_log : Store → List LogLine → Store
+with_log store [] = store
+with_log store (l ∷ ls) = with_log (store ++ (clause_of l, true) ∷ []) ls
+
+-- a clause was derived
+abbrev pub is_learnt : LogLine → Bool
+is_learnt (Learnt d) = true
+is_learnt (Refuted cone clause) = false
+
+-- how many clauses were derived
+abbrev pub learnt_count : List LogLine → ℕ
+learnt_count lines = length (filter is_learnt lines)
+
+-- the cones, in order
+abbrev pub cones_of : List LogLine → List Cone
+cones_of [] = []
+cones_of (Learnt d ∷ ls) = cones_of ls
+cones_of (Refuted cone clause ∷ ls) = cone ∷ cones_of ls
+
+-- ---- which lines may stand where
 
 -- a good line over the clauses so far: it follows by its hints, keeps the grammar, and names no variable past the last one
 pub record IsGoodLine (vars : ℕ) (store : Store) (d : Derived) : Type 0 where
@@ -33,24 +75,36 @@ pub record IsLast (vars n : ℕ) (store : Store) (d : Derived) : Type 0 where
   pub good : IsGoodLine vars store d
   pub last : steps_denied vars n d.0 ≡ Some n
 
--- each line goes on over the clauses before it
-abbrev pub AllGoOn : ℕ → ℕ → Store → List Derived → Type 0
-AllGoOn vars n store [] = Unit {0}
-AllGoOn vars n store (d ∷ ds) = GoesOn vars n store d × AllGoOn vars n (store ++ (d.0, true) ∷ []) ds
+-- a cone that shows the clause, and keeps the grammar
+pub record IsGoodCone (refute : Cone → Result (List Lit) ConeFault) (cone : Cone) (clause : List Lit) : Type 0 where
+  pub shows : refute cone ≡ Ok clause
+  pub written : keeps_grammar (Refute cone) ≡ true
 
--- the bytes are a run log of these lines, over a base of clauses of so many variables: the head, and lines that go on
-pub record IsRunLog (base : Store) (vars n : ℕ) (lines : List Derived) (log : List ℕ) : Type 0 where
-  pub text : log ≡ log_text lines
-  pub go_on : AllGoOn vars n base lines
+-- ---- logs, where these cones are refuted, over a base of clauses of so many variables
 
--- a line that may come next: it goes on, or is the last
-abbrev pub MayComeNext : Store → ℕ → ℕ → List Derived → Derived → Type 0
-MayComeNext base vars n lines d = GoesOn vars n (with_lines base lines) d ⊎ IsLast vars n (with_lines base lines) d
+module _ (refute : Cone → Result (List Lit) ConeFault) (vars n : ℕ) where
+  -- the line may stand after these clauses
+  abbrev pub MayStand : Store → LogLine → Type 0
+  MayStand store (Learnt d) = GoesOn vars n store d
+  MayStand store (Refuted cone clause) = IsGoodCone refute cone clause
 
--- the bytes are a run log with the line that ends it
-pub record IsEndedLog (base : Store) (vars n : ℕ) (log : List ℕ) : Type 0 where
-  pub lines : List Derived
-  pub last : Derived
-  pub text : log ≡ log_text (lines ++ last ∷ [])
-  pub go_on : AllGoOn vars n base lines
-  pub is_last : IsLast vars n (with_lines base lines) last
+  -- each line may stand after the clauses before it
+  abbrev pub AllGoOn : Store → List LogLine → Type 0
+  AllGoOn store [] = Unit {0}
+  AllGoOn store (l ∷ ls) = MayStand store l × AllGoOn (store ++ (clause_of l, true) ∷ []) ls
+
+  -- the bytes are a run log of these lines: the head, and lines that go on
+  pub record IsRunLog (base : Store) (lines : List LogLine) (log : List ℕ) : Type 0 where
+    pub text : log ≡ log_text lines
+    pub go_on : AllGoOn base lines
+
+  -- the bytes are a run log of these lines, with the line that ends it
+  pub record IsEndedLog (base : Store) (lines : List LogLine) (log : List ℕ) : Type 0 where
+    pub last : Derived
+    pub text : log ≡ log_text (lines ++ Learnt last ∷ [])
+    pub go_on : AllGoOn base lines
+    pub is_last : IsLast vars n (with_log base lines) last
+
+-- a derived line that may come next: it goes on, or is the last
+abbrev pub MayComeNext : Store → ℕ → ℕ → List LogLine → Derived → Type 0
+MayComeNext base vars n lines d = GoesOn vars n (with_log base lines) d ⊎ IsLast vars n (with_log base lines) d

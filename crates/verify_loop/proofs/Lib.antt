@@ -1,5 +1,12 @@
-pub mod Timing
 pub mod Held
-pub mod Known
-pub mod Ending
 pub mod Made
+pub mod Timing
+pub mod Known
+pub mod Modelling
+pub mod Rounds
+pub mod Each
+pub mod Below
+pub mod Refuting
+pub mod Failure
+pub mod Written
+pub mod Answering

@@ -1,26 +1,46 @@
 -- What each end of a search says of a design, for plans of at most n steps.
-use Rattle.std.specs.Prelude.{ℕ, ◌≡◌, ◌+◌, ◌<◌, ◌≤◌, ◌⊎◌, true, false, List, [], length, Some, None}
+use Rattle.std.specs.Prelude.{ℕ, ◌≡◌, ◌+◌, ◌<◌, ◌≤◌, ◌⊎◌, true, List, [], ◌∷◌, ◌++◌, map, length, None, Some, sum_by}
 use Rattle.std.specs.List.{list_all}
+use Rattle.cone_clause.specs.Numbered.{numbered_clause}
 use Rattle.log_checker.specs.declared.shown.Shown.TheVariants.{Yes}
 use Rattle.plan_clauses.specs.Clauses.{base_clauses, past_limit}
 use Rattle.plan_clauses.specs.Models.{model_of}
 use Rattle.plan_clauses.specs.Variables.{variable_count}
-use Rattle.proof_judge.specs.Judged.{all_live, judged}
+use Rattle.proof_judge.specs.Judged.{all_live, judged, refuted}
+use Rattle.proof_log.specs.declared.line.Line.TheVariants.{Refute}
 use Rattle.proof_log.specs.Lines.{head}
+use Rattle.proof_log.specs.Text.{text_of_line}
+use Rattle.rail_base.specs.declared.history.TrainHistory.{TrainHistory}
+use Rattle.rail_base.specs.declared.history.Verdict.TheVariants.{Failed}
 use Rattle.rail_base.specs.declared.plan.Command.{Command}
+use Rattle.rail_base.specs.declared.plan.Plan.{Plan as PlanOf}
+use Rattle.rail_base.specs.declared.plan.Violation.{Violation}
 use Rattle.rail_base.specs.declared.station.Station.{Station}
 use Rattle.rail_base.specs.Stations.{horizon}
+use Rattle.rail_cone.specs.declared.Cone.{Cone}
+use Rattle.rail_slice.specs.Slices.{cone_of}
 use Rattle.rail_spec.specs.Feasible.{IsRunnable, IsFeasible, IsInfeasible}
 use Rattle.rail_spec.specs.Histories.{verdict_of}
-use Rattle.rail_spec.specs.Requirements.{meets, cost}
+use Rattle.rail_spec.specs.Requirements.{cost}
 use Rattle.rail_spec.specs.Track.{routes_of}
-use Rattle.run_log.specs.Logs.{IsRunLog, IsEndedLog, MayComeNext}
+use Rattle.run_log.specs.Logs.{LogLine, IsRunLog, IsEndedLog, MayComeNext, cones_of, learnt_count}
 use Rattle.sat_clause.specs.Clauses.{Store, clause_holds}
 use Rattle.sat_core.specs.Lines.{Derived, text_of}
 use Rattle.sat_core.specs.Texts.{ended}
 use Rattle.verify_loop.specs.declared.outcome.Budgets.{Budgets}
 use Rattle.verify_loop.specs.declared.outcome.Outcome.{Outcome}
-use Rattle.verify_loop.specs.declared.outcome.Outcome.TheVariants.{Plan, Infeasible, ConflictsSpent, TicksSpent, LogSpent, Unrefuted, TooLarge, Memory}
+use Rattle.verify_loop.specs.declared.outcome.Outcome.TheVariants.{Plan, Infeasible, ConflictsSpent, TicksSpent, LogSpent, TooLarge, Memory}
+
+-- a plan that failed, and the cone of its failure
+pub record Refutal : Type 0 where
+  pub plan : List (List Command)
+  pub cone : Cone
+
+abbrev pub plans_of : List Refutal → List (List (List Command))
+plans_of rs = map (λ (r : Refutal). r.plan) rs
+
+abbrev pub cones_in : List Refutal → List Cone
+cones_in rs = map (λ (r : Refutal). r.cone) rs
 
 module _ (d : Station) (n : ℕ) where
   -- the clauses that the model of each feasible plan makes true
@@ -31,33 +51,78 @@ module _ (d : Station) (n : ℕ) where
   abbrev pub vars : ℕ
   vars = variable_count d (routes_of d) n
 
-  -- a log of the search, with these lines
-  abbrev pub IsLog : List Derived → List ℕ → Type 0
-  IsLog = IsRunLog base vars n
+  -- ---- plans that fail
 
-  -- a line that the search may record next
-  abbrev pub IsNext : List Derived → Derived → Type 0
+  -- a plan that can be carried out, and whose model makes the clauses true, those of these cones too
+  pub record IsFound (cones : List Cone) (plan : List (List Command)) : Type 0 where
+    pub runnable : IsRunnable d (routes_of d) n plan
+    pub model : list_all (clause_holds (model_of d (routes_of d) n plan)) (base_clauses d (routes_of d) n ++ map (numbered_clause d (routes_of d) n) cones) ≡ true
+
+  -- the plan fails, and the cone is that of its failure
+  pub record IsConeOf (plan : List (List Command)) (cone : Cone) : Type 0 where
+    pub ticks : ℕ
+    pub history : List TrainHistory
+    pub tick : ℕ
+    pub violation : Violation
+    pub fails : verdict_of d (routes_of d) plan ticks ≡ Failed history tick violation
+    pub is_cone : cone ≡ cone_of d (routes_of d) plan tick violation
+
+  -- each plan fails, and was found where the cones of those before were known, besides these
+  abbrev pub AreRefuted : List Cone → List Refutal → Type 0
+  AreRefuted known [] = Unit {0}
+  AreRefuted known (r ∷ rs) = IsFound known r.plan × IsConeOf r.plan r.cone × AreRefuted (known ++ r.cone ∷ []) rs
+
+  -- how many ticks these plans cost
+  abbrev pub cost_of : List (List (List Command)) → ℕ
+  cost_of plans = sum_by (cost d (routes_of d)) plans
+
+  -- ---- logs
+
+  -- the cones of these lines are those of plans that failed
+  pub record AreShown (lines : List LogLine) (rs : List Refutal) : Type 0 where
+    pub cones : cones_of lines ≡ cones_in rs
+    pub refuted : AreRefuted [] rs
+
+  -- a log of the search, with these lines and plans that failed
+  pub record IsLog (lines : List LogLine) (rs : List Refutal) (log : List ℕ) : Type 0 where
+    pub run : IsRunLog (refuted d n) vars n base lines log
+    pub shown : AreShown lines rs
+
+  -- a derived line that the search may record next
+  abbrev pub IsNext : List LogLine → Derived → Type 0
   IsNext = MayComeNext base vars n
 
-  -- a plan that can be carried out, and whose model makes the clauses true
-  pub record IsFound (plan : List (List Command)) : Type 0 where
-    pub runnable : IsRunnable d (routes_of d) n plan
-    pub model : list_all (clause_holds (model_of d (routes_of d) n plan)) (base_clauses d (routes_of d) n) ≡ true
+  -- the next line has so many bytes: one that may be derived next, or that of the cone of a plan that is found next and fails
+  abbrev pub IsNextLine : List LogLine → List Refutal → ℕ → Type 0
+  IsNextLine lines rs next =
+      ((line : Derived) × IsNext lines line × (next ≡ length (text_of line)))
+      ⊎ ((r : Refutal) × IsFound (cones_in rs) r.plan × IsConeOf r.plan r.cone × (next ≡ length (ended (text_of_line (Refute r.cone)))))
 
   -- the log is empty, and there is no room for the head; or it is a log of the search, and there is none for a next line
   abbrev pub IsFull : ℕ → List ℕ → ℕ → ℕ → Type 0
   IsFull limit log bytes next =
       (bytes ≡ length log) × (limit < bytes + next)
-      × (((log ≡ []) × (next ≡ length (ended head))) ⊎ ((lines : List Derived) × (line : Derived) × IsLog lines log × IsNext lines line × (next ≡ length (text_of line))))
+      × (((log ≡ []) × (next ≡ length (ended head))) ⊎ ((lines : List LogLine) × (rs : List Refutal) × IsLog lines rs log × IsNextLine lines rs next))
+
+  -- a log of the search with the line that ends it, which is a file that shows that there is no plan of n steps
+  pub record IsProof (log : List ℕ) : Type 0 where
+    pub lines : List LogLine
+    pub rs : List Refutal
+    pub ended_log : IsEndedLog (refuted d n) vars n base lines log
+    pub shown : AreShown lines rs
+    pub accepted : judged d n log ≡ Yes n
+
+  -- ---- ends
 
   -- what the end of a search within these budgets says
   abbrev pub Says : Budgets → Outcome → Type 0
   Says b (Plan plan verdict) = IsFeasible d n plan.steps × (verdict ≡ verdict_of d (routes_of d) plan.steps (horizon d)) × (cost d (routes_of d) plan.steps ≤ b.ticks)
-  Says b (Infeasible log) = IsInfeasible d n × IsEndedLog base vars n log.items × (judged d n log.items ≡ Yes n) × (length log.items ≤ b.log_bytes)
-  Says b (ConflictsSpent log clause hints) = (lines : List Derived) × IsLog lines log.items × (length lines ≡ b.conflicts) × IsNext lines (clause.items, hints.items)
-  Says b (TicksSpent sum at_hand) = (sum ≡ 0) × IsFound at_hand.steps × (b.ticks < sum + cost d (routes_of d) at_hand.steps)
+  Says b (Infeasible log) = IsInfeasible d n × IsProof log.items × (length log.items ≤ b.log_bytes)
+  Says b (ConflictsSpent log clause hints) = (lines : List LogLine) × (rs : List Refutal) × IsLog lines rs log.items × (learnt_count lines ≡ b.conflicts) × IsNext lines (clause.items, hints.items)
+  Says b (TicksSpent failed sum at_hand) =
+      (rs : List Refutal) × AreRefuted [] rs × (map (λ (p : PlanOf). p.steps) failed.items ≡ plans_of rs) × (sum ≡ cost_of (plans_of rs)) × (sum ≤ b.ticks)
+      × IsFound (cones_in rs) at_hand.steps × (b.ticks < sum + cost d (routes_of d) at_hand.steps)
   Says b (LogSpent log bytes next) = IsFull b.log_bytes log.items bytes next
-  Says b (Unrefuted plan tick) = IsFound plan.steps × (meets d (routes_of d) plan.steps ≡ false) × (tick ≡ cost d (routes_of d) plan.steps) × (tick ≤ b.ticks)
   Says b (TooLarge literals) = past_limit 4000000 0 (base_clauses d (routes_of d) n) ≡ Some literals
   Says b Memory = Unit {0}
 

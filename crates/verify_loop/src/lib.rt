@@ -3,6 +3,7 @@
 
 mod loading;
 mod outcome;
+mod question;
 mod search;
 
 pub use outcome::{Budgets, Outcome};

@@ -1,4 +1,4 @@
-use Rattle.std.proofs.Common.{rules, Option, Some, Err, refl, sym, subst}
+use Rattle.std.proofs.Common.{rules, Option, None, Some, Err, refl, sym, subst}
 use Rattle.rail_words.specs.Requests.{Asked, request_of}
 use Rattle.rail_words.specs.Words.{texts_of, asked_of}
 use Rattle.rail_cli.specs.declared.ending.Ending.TheVariants.{Memory}
@@ -6,6 +6,7 @@ use Rattle.rail_cli.specs.Replies.{RepliesSo}
 use Rattle.rail_cli.proofs.Deciding.{done_where_feasible}
 use Rattle.rail_cli.proofs.Finding.{usage_so, want_so}
 use Rattle.rail_cli.proofs.Leaving.{asked_leaves}
+use Rattle.rail_cli.proofs.Trying.{tries_asked, tries_want}
 use Rattle.rail_cli.proofs.run.reply.Goals as goal
 
 pub returns-in-Ok-clause-replies : goal.returns-in-Ok-clause-replies
@@ -27,3 +28,15 @@ returns-in_ok-usage-in-Err-Usage-clause-replies g c = λ files told. usage_so fi
 
 pub returns-in-Err-Memory-clause-replies : goal.returns-in-Err-Memory-clause-replies
 returns-in-Err-Memory-clause-replies g c = λ files told. want_so (Err Memory) files (request_of (texts_of c.args.words.now)) refl
+
+pub returns-in-Ok-clause-tries : goal.returns-in-Ok-clause-tries
+returns-in-Ok-clause-tries g c = tries_asked c.requested.result (request_of (texts_of c.args.words.now)) (Some (asked_of c.in-Ok.request)) c.in-Ok.ensures.ok c.requested.ensures.tries
+
+pub returns-in_err-usage-in-Err-Usage-clause-tries : goal.returns-in_err-usage-in-Err-Usage-clause-tries
+returns-in_err-usage-in-Err-Usage-clause-tries g c = tries_want _ (request_of (texts_of c.args.words.now)) (search rules)
+
+pub returns-in_ok-usage-in-Err-Usage-clause-tries : goal.returns-in_ok-usage-in-Err-Usage-clause-tries
+returns-in_ok-usage-in-Err-Usage-clause-tries g c = tries_asked _ (request_of (texts_of c.args.words.now)) None (search rules) tt
+
+pub returns-in-Err-Memory-clause-tries : goal.returns-in-Err-Memory-clause-tries
+returns-in-Err-Memory-clause-tries g c = tries_want (Err Memory) (request_of (texts_of c.args.words.now)) refl

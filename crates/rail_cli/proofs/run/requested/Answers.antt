@@ -1,10 +1,13 @@
 use Rattle.std.proofs.Common.{rules, ap}
+use Rattle.rail_words.specs.Requests.{simulate, routes, verify, check, trial}
 use Rattle.rail_words.specs.Words.{asked_of}
 use Rattle.verify_loop.specs.declared.outcome.Budgets.{Budgets}
-use Rattle.rail_cli.proofs.Deciding.{decides_named, decides_routes, decides_verify, decides_check}
-use Rattle.rail_cli.proofs.Finding.{simulate_so, routes_so, check_so, verify_so, search_steps}
+use Rattle.rail_cli.proofs.Deciding.{decides_named, decides_routes, decides_verify, decides_check, decides_trial}
+use Rattle.rail_cli.proofs.Asking.{none_of}
+use Rattle.rail_cli.proofs.Finding.{simulate_so, routes_so, check_so, verify_so, trial_so, search_steps}
 use Rattle.rail_cli.proofs.Judging.{asked_steps}
-use Rattle.rail_cli.proofs.Leaving.{simulate_leaves, routes_leaves, check_leaves, verify_leaves}
+use Rattle.rail_cli.proofs.Leaving.{simulate_leaves, routes_leaves, check_leaves, verify_leaves, trial_leaves}
+use Rattle.rail_cli.proofs.Trying.{tries_other, trial_size}
 use Rattle.rail_cli.proofs.run.requested.Goals as goal
 
 pub returns-in-Simulate-clause-replies : goal.returns-in-Simulate-clause-replies
@@ -53,3 +56,35 @@ pub checked-requires : goal.checked-requires
 checked-requires g c =
     let steps = asked_steps (asked_of c.args.request) c.in-Check.steps c.in-Check.design.now c.in-Check.proof.now (search rules) c.requires.range in
     record { some = steps.0; most = steps.1 }
+
+pub returns-in-Simulate-clause-tries : goal.returns-in-Simulate-clause-tries
+returns-in-Simulate-clause-tries g c = tries_other c.simulated.result (asked_of c.args.request) (simulate c.in-Simulate.design.now c.in-Simulate.plan.now) (search rules) tt
+
+pub returns-in-Routes-clause-tries : goal.returns-in-Routes-clause-tries
+returns-in-Routes-clause-tries g c = tries_other c.routes_listed.result (asked_of c.args.request) (routes c.in-Routes.design.now) (search rules) tt
+
+pub returns-in-Verify-clause-tries : goal.returns-in-Verify-clause-tries
+returns-in-Verify-clause-tries g c = tries_other c.searched.result (asked_of c.args.request) (verify c.in-Verify.steps c.in-Verify.conflicts c.in-Verify.ticks c.in-Verify.design.now c.in-Verify.proof.now) (search rules) tt
+
+pub returns-in-Check-clause-tries : goal.returns-in-Check-clause-tries
+returns-in-Check-clause-tries g c = tries_other c.checked.result (asked_of c.args.request) (check c.in-Check.steps c.in-Check.design.now c.in-Check.proof.now) (search rules) tt
+
+pub returns-in-Trial-clause-replies : goal.returns-in-Trial-clause-replies
+returns-in-Trial-clause-replies g c = λ files told. trial_so c.tried.result files (asked_of c.args.request) c.in-Trial.seed c.in-Trial.size (search rules) c.tried.ensures.replies
+
+pub returns-in-Trial-clause-tries : goal.returns-in-Trial-clause-tries
+returns-in-Trial-clause-tries g c = tries_other c.tried.result (asked_of c.args.request) (trial c.in-Trial.seed c.in-Trial.size) (search rules) c.tried.ensures.replies
+
+pub returns-in-Trial-clause-decides : goal.returns-in-Trial-clause-decides
+returns-in-Trial-clause-decides g c = λ files told. decides_trial files (asked_of c.args.request) c.in-Trial.seed c.in-Trial.size c.tried.result (search rules)
+
+pub returns-in-Trial-clause-held : goal.returns-in-Trial-clause-held
+returns-in-Trial-clause-held g c = trial_leaves c.tried.result _ _ (asked_of c.args.request) c.in-Trial.seed c.in-Trial.size (search rules) (search rules)
+
+pub returns-in-Trial-clause-asks : goal.returns-in-Trial-clause-asks
+returns-in-Trial-clause-asks g c = none_of _ _
+
+pub tried-requires : goal.tried-requires
+tried-requires g c =
+    let size = trial_size (asked_of c.args.request) c.in-Trial.seed c.in-Trial.size (search rules) c.requires.range in
+    record { low = size.0; high = size.1 }

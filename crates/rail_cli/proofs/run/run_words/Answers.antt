@@ -1,3 +1,4 @@
+use Rattle.std.proofs.Common.{Err, Ok, refl}
 use Rattle.rail_words.specs.Words.{texts_of}
 use Rattle.rail_words.specs.Requests.{request_of}
 use Rattle.verify_loop.specs.declared.outcome.Outcome.TheVariants.{Memory}
@@ -7,6 +8,7 @@ use Rattle.rail_cli.specs.Simulations.{DoneWhereFeasible}
 use Rattle.rail_cli.proofs.Deciding.{told_reply}
 use Rattle.rail_cli.proofs.Finding.{may_want, finds_so, told_so, run_so, run_infeasible, run_met, tells_plan, tells_none}
 use Rattle.rail_cli.proofs.Leaving.{run_leaves, told_status}
+use Rattle.rail_cli.proofs.Trying.{tries_trial, told_trial_reply, tells_nothing, tells_trial}
 use Rattle.rail_cli.proofs.Silence.{silent_for_memory, silent_at_shelf}
 use Rattle.rail_cli.proofs.run.run_words.Goals as goal
 
@@ -53,3 +55,16 @@ returns-in-Err-Memory-clause-answer g c = λ files told. (Memory, finds_so files
 
 pub returns-in-Err-ShelfFault-clause-answer : goal.returns-in-Err-ShelfFault-clause-answer
 returns-in-Err-ShelfFault-clause-answer g c = λ files told. (Memory, finds_so files (request_of (texts_of c.args.words.now)) Memory (may_want files (request_of (texts_of c.args.words.now))), silent_at_shelf (answer_of files Memory (texts_of c.args.words.now)) _ _)
+
+pub returns-in-Ok-clause-tried : goal.returns-in-Ok-clause-tried
+returns-in-Ok-clause-tried g c = λ seed size asked. tells_trial seed size c.print.result _ _ _ _ c.in-Ok.reply (tries_trial (Ok c.in-Ok.reply) seed size (request_of (texts_of c.args.words.now)) asked c.in-Ok.ensures.tries) c.print.ensures.prints
+
+pub returns-in-Err-Told-clause-tried : goal.returns-in-Err-Told-clause-tried
+returns-in-Err-Told-clause-tried g c = λ seed size asked. tells_trial seed size c.print-in-Err-Told.result _ _ _ _ c.in-Err-Told.reply
+    (told_trial_reply c.in-Err-Told.field-0 c.in-Err-Told.reply seed size c.in-Err-Told.field-0-is (tries_trial (Err c.in-Err-Told.field-0) seed size (request_of (texts_of c.args.words.now)) asked c.in-Err-Told.ensures.tries)) c.print-in-Err-Told.ensures.prints
+
+pub returns-in-Err-Memory-clause-tried : goal.returns-in-Err-Memory-clause-tried
+returns-in-Err-Memory-clause-tried g c = λ seed size asked. tells_nothing seed size _ _ _ refl
+
+pub returns-in-Err-ShelfFault-clause-tried : goal.returns-in-Err-ShelfFault-clause-tried
+returns-in-Err-ShelfFault-clause-tried g c = λ seed size asked. tells_nothing seed size _ _ _ refl

@@ -1,0 +1,29 @@
+-- Trials, and what their answers say of the station that is made.
+use Rattle.std.specs.Prelude.{◌≡◌, ℕ, ◌*◌, List, length, Option}
+use Rattle.std.specs.List.{concat}
+use Rattle.rail_base.specs.declared.plan.Command.{Command}
+use Rattle.rail_outside.specs.Growth.{grown}
+use Rattle.rail_spec.specs.Feasible.{IsFeasible, IsInfeasible}
+use Rattle.rail_spec.specs.Requirements.{cost}
+use Rattle.rail_spec.specs.Track.{routes_of}
+use Rattle.workload.specs.Made.{made}
+use Rattle.rail_cli.specs.declared.status.Status.{Status}
+use Rattle.rail_cli.specs.declared.status.Status.TheVariants.{Done, No}
+use Rattle.rail_cli.specs.Texts.{plan_tick_line, infeasible_line}
+use Rattle.rail_cli.specs.Answers.{three_lines}
+
+-- the last line is `plan steps <s> tick <k>`: a plan of s steps is feasible for twice as many steps as the size, and k is its deciding tick
+pub record TellsTrialPlan (seed size : ℕ) (old new : Option (List ℕ)) : Type 0 where
+  pub plan : List (List Command)
+  pub text : new ≡ grown old (concat (three_lines seed size (made seed size) Done (plan_tick_line (length plan) (cost (made seed size) (routes_of (made seed size)) plan))).lines)
+  pub feasible : IsFeasible (made seed size) (2 * size) plan
+
+-- the last line is `infeasible steps <n>`: no plan of n steps is feasible, which are twice as many as the size
+pub record TellsTrialNone (seed size : ℕ) (old new : Option (List ℕ)) : Type 0 where
+  pub text : new ≡ grown old (concat (three_lines seed size (made seed size) No (infeasible_line (2 * size))).lines)
+  pub none : IsInfeasible (made seed size) (2 * size)
+
+-- what the text of a trial says of the station that the seed and the size make, where its status is 0 or 1
+pub record TellsTrial (seed size : ℕ) (s : Status) (old new : Option (List ℕ)) : Type 0 where
+  pub planned : s ≡ Done → TellsTrialPlan seed size old new
+  pub none : s ≡ No → TellsTrialNone seed size old new

@@ -1,0 +1,165 @@
+//! A station that is made from a seed, searched for a plan.
+
+ghost use Rattle.std.specs.Prelude.{◌≡◌, ◌≢◌, ◌≤◌, ◌*◌, true, length, IfOk};
+ghost use Rattle.rail_spec.specs.Feasible.{IsFeasible};
+ghost use Rattle.rail_spec.specs.Requirements.{cost};
+ghost use Rattle.rail_spec.specs.Track.{routes_of};
+ghost use Rattle.verify_loop.specs.declared.outcome.Outcome.{Outcome};
+ghost use Rattle.verify_loop.specs.Outcomes.{Says, Fits};
+ghost use Rattle.rail_cli.specs.Statuses.{is_answered};
+ghost use Rattle.rail_cli.specs.Answers.{shown_by, trial_conflicts, trial_ticks, three_lines, told_trial};
+ghost use Rattle.rail_cli.specs.Replies.{reply_seen, deciding_tick, OnlyRefuses, RepliesTrial};
+ghost use Rattle.rail_cli.specs.Searches.{budgets_of};
+ghost use Rattle.rail_cli.specs.Texts.{plan_tick_line};
+
+use crate::ending::Ending;
+use crate::reading::list_routes;
+use crate::refusals::too_large;
+use crate::reply::Reply;
+use crate::searching::budgets;
+use crate::status::Status;
+use crate::texts::{
+    conflicts_spent_line, counts_line, infeasible_line, log_spent_line, plan_tick_line,
+    ticks_spent_line, trial_line,
+};
+use rail_base::design::Design;
+use rail_base::history::Verdict;
+use rail_base::plan::Plan;
+use rail_base::route::RouteTable;
+use std::alloc::{AllocError, Global};
+use verify_loop::{Outcome, verify};
+use workload::make;
+
+/// How many clauses a trial may derive.
+const CONFLICTS: u64 = 1_000_000;
+
+/// How many ticks it may simulate.
+const TICKS: u64 = 1_000_000_000;
+
+/// The lines of a trial, with this last one.
+fn told(
+    alloc: Global,
+    seed: u64,
+    size: u32,
+    design: &Design,
+    routes: &RouteTable,
+    status: Status,
+    last: Vec<u8>,
+) -> Result<Reply, AllocError>
+    requires table { routes.now ≡ routes_of design.now.station }
+    requires answered { is_answered status ≡ true }
+    ensures { IfOk result (λ reply. reply_seen reply ≡ three_lines seed size design.now.station status last.items) }
+{
+    let mut lines = Vec::new(alloc);
+    lines.push(trial_line(alloc, seed, size)?)?;
+    lines.push(counts_line(alloc, design, routes)?)?;
+    lines.push(last)?;
+    Ok(Reply { status, lines })
+}
+
+/// The tick at which a verdict is decided; 0 where it is not.
+fn deciding_tick(verdict: &Verdict) -> u64
+    ensures { result ≡ deciding_tick verdict.now }
+{
+    match verdict {
+        Verdict::Met { tick, .. } | Verdict::Failed { tick, .. } => *tick,
+        Verdict::Undecided => 0,
+    }
+}
+
+/// The line of a plan that is found, with what its run shows.
+fn found_line(
+    alloc: Global,
+    design: &Design,
+    steps: u32,
+    plan: &Plan,
+    verdict: &Verdict,
+) -> Result<Vec<u8>, AllocError>
+    requires feasible { IsFeasible design.now.station steps plan.now.steps }
+    requires shown { verdict.now ≡ shown_by design.now.station plan.now.steps }
+    ensures { IfOk result (λ line. line.items ≡ plan_tick_line (length plan.now.steps) (cost design.now.station (routes_of design.now.station) plan.now.steps)) }
+{
+    plan_tick_line(alloc, plan, deciding_tick(verdict))
+}
+
+/// The reply for what the search of a trial ended with.
+fn tell(
+    alloc: Global,
+    seed: u64,
+    size: u32,
+    design: &Design,
+    routes: &RouteTable,
+    found: &Outcome,
+) -> Result<Reply, AllocError>
+    requires table { routes.now ≡ routes_of design.now.station }
+    requires high { size ≤ 6 }
+    requires says { Says design.now.station (2 * size) (budgets_of trial_conflicts trial_ticks) found.now }
+    ensures told { IfOk result (λ reply. reply_seen reply ≡ told_trial seed size design.now.station found.now) }
+    ensures no_usage { IfOk result (λ reply. reply.status ≢ Status.Usage) }
+{
+    match found {
+        Outcome::Plan { plan, verdict } => {
+            let last = found_line(alloc, design, 2 * size, plan, verdict)?;
+            told(alloc, seed, size, design, routes, Status::Done, last)
+        }
+        Outcome::Infeasible { .. } => {
+            let last = infeasible_line(alloc, 2 * size)?;
+            told(alloc, seed, size, design, routes, Status::No, last)
+        }
+        Outcome::ConflictsSpent { .. } => {
+            let last = conflicts_spent_line(alloc, CONFLICTS)?;
+            told(
+                alloc,
+                seed,
+                size,
+                design,
+                routes,
+                Status::ConflictsSpent,
+                last,
+            )
+        }
+        Outcome::TicksSpent { sum, .. } => {
+            let last = ticks_spent_line(alloc, *sum, TICKS)?;
+            told(alloc, seed, size, design, routes, Status::TicksSpent, last)
+        }
+        Outcome::LogSpent { bytes, next, .. } => {
+            let last = log_spent_line(alloc, *bytes, *next)?;
+            told(alloc, seed, size, design, routes, Status::LogSpent, last)
+        }
+        Outcome::TooLarge { .. } => too_large(alloc),
+        Outcome::Memory => Err(AllocError),
+    }
+}
+
+/// The reply to a trial of a station with its routes.
+fn tried_in(
+    alloc: Global,
+    seed: u64,
+    size: u32,
+    design: &Design,
+    routes: &RouteTable,
+) -> Result<Reply, AllocError>
+    requires table { routes.now ≡ routes_of design.now.station }
+    requires few { length routes.now ≤ 2000 }
+    requires low { 1 ≤ size }
+    requires high { size ≤ 6 }
+    ensures told { (found : Outcome) × Says design.now.station (2 * size) (budgets_of trial_conflicts trial_ticks) found × Fits design.now.station (2 * size) found × IfOk result (λ reply. reply_seen reply ≡ told_trial seed size design.now.station found) }
+    ensures no_usage { IfOk result (λ reply. reply.status ≢ Status.Usage) }
+{
+    let found = verify(alloc, design, routes, 2 * size, budgets(CONFLICTS, TICKS));
+    tell(alloc, seed, size, design, routes, &found)
+}
+
+/// The reply to a trial: the station of the seed and the size, 1 to 6, is searched for a plan of twice as many steps as its
+/// size. Nothing is asked of the shelf.
+pub(crate) fn tried(alloc: Global, seed: u64, size: u32) -> Result<Reply, Ending>
+    requires low { 1 ≤ size }
+    requires high { size ≤ 6 }
+    ensures replies { RepliesTrial result seed size }
+    ensures no_usage { IfOk result (λ reply. reply.status ≢ Status.Usage) }
+    ensures refuses { OnlyRefuses result }
+{
+    let design = make(alloc, seed, size)?;
+    let routes = list_routes(alloc, &design)?;
+    Ok(tried_in(alloc, seed, size, &design, &routes)?)
+}

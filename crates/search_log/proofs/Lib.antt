@@ -1,4 +1,0 @@
-pub mod Lines
-pub mod Accepted
-pub mod Appending
-pub mod Searched
