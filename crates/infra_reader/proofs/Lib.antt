@@ -6,12 +6,12 @@ mod Numbers
 mod AllOf
 mod Rates
 mod Placeless
-mod Apart
+pub mod Apart
 mod Sections
-mod EndCounts
+pub mod EndCounts
 mod Ranges
 mod Admitted
 mod Phases
-mod Spelling
+pub mod Spelling
 mod Resolved
 pub mod Reading

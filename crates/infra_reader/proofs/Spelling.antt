@@ -43,7 +43,7 @@ same_bytes : (text : List ℕ) → list_all is_table_byte text ≡ list_all is_n
 same_bytes [] = refl
 same_bytes (b ∷ bs) = ap₂ (λ p q. p && q) (same_byte b) (same_bytes bs)
 
-same_name : (text : List ℕ) → is_name_text text ≡ is_base_name text
+pub same_name : (text : List ℕ) → is_name_text text ≡ is_base_name text
 same_name text = ap (λ b. is_from 1 32 (length text) && b) (same_bytes text)
 
 good_value : (value : Data) → is_name_value value ≡ true → is_base_name (name_value value) ≡ true

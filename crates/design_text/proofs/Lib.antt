@@ -1,0 +1,13 @@
+mod Splitting
+mod Nowhere
+mod Distinct
+mod Sections
+mod Sheets
+mod Spelling
+mod Admitting
+mod Returning
+mod Rules
+mod ReadingBack
+mod Depths
+mod Growth
+mod Texts
