@@ -15,8 +15,6 @@ mod searching;
 mod simulation;
 mod status;
 mod sure;
-#[cfg(test)]
-mod tests;
 mod texts;
 mod trial;
 
