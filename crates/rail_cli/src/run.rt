@@ -6,6 +6,7 @@ ghost use Rattle.rail_base.specs.declared.plan.Command.{Command};
 ghost use Rattle.rail_outside.specs.Files.{Files};
 ghost use Rattle.rail_outside.specs.Growth.{Rose, GrowsByFront};
 ghost use Rattle.rail_words.specs.Requests.{IsInRange, request_of, trial};
+ghost use Rattle.rail_words.specs.Laws.{AsksForNothing};
 ghost use Rattle.rail_words.specs.Words.{texts_of, asked_of};
 ghost use Rattle.verify_loop.specs.declared.outcome.Outcome.{Outcome};
 ghost use Rattle.rail_cli.specs.Statuses.{is_answered};
@@ -123,6 +124,7 @@ pub fn run_words<S: Shelf, O: Sink>(
     // A trial asks nothing of the shelf, so this holds over any.
     ensures tried { (seed size : ℕ) → request_of (texts_of words.now) ≡ Some (trial seed size) → TellsTrial seed size result (O.written out.old) (O.written out.new) }
     ensures usage { is_answered result ≡ true → (result ≡ Status.Usage) ↔ (request_of (texts_of words.now) ≡ None) }
+    ensures usage_cause { result ≡ Status.Usage → AsksForNothing (texts_of words.now) }
 
     // A fault comes only where its side has counted one.
     ensures shelf_fault { result ≡ Status.ShelfFault → Rose (S.fault_count shelf.old) (S.fault_count shelf.new) }

@@ -5,3 +5,6 @@ pub mod Searches
 pub mod Trials
 pub mod Taken
 pub mod Ranges
+pub mod Values
+pub mod Entered
+pub mod Asks

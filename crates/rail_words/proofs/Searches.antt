@@ -1,7 +1,7 @@
 -- The words of `verify`, taken one by one.
-use Rattle.std.proofs.Common.{◌≡◌, ℕ, ◌==◌, false, List, [], ◌∷◌, codes, refl, Some, None, slice_index_or}
+use Rattle.std.proofs.Common.{◌≡◌, ℕ, ◌==◌, false, List, [], ◌∷◌, codes, refl, Some, slice_index_or}
 use Rattle.clap.specs.Kinds.{or_else}
-use Rattle.clap.specs.Walk.{Text, Held, Walk, Waiting, option, walk, walked, walk_from, nothing_held, rows_after, first_of, plain_word, after_step, settled}
+use Rattle.clap.specs.Walk.{Text, Held, Walk, option, walk, walked, walk_from, nothing_held, rows_after, first_of, plain_word, after_step, settled}
 use Rattle.clap.specs.Simple.{Shape, built}
 use Rattle.clap.specs.Faults.{walk_fault, turn_fault, level_fault, defaults_fault, fault_of}
 use Rattle.clap.specs.Words.{subcommand_of}

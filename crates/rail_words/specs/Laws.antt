@@ -1,6 +1,7 @@
 -- Which words are taken.
-use Rattle.std.specs.Prelude.{ℕ, List, ◌≡◌, ◌==◌, not, Bool, true, false, [], ◌∷◌, Some, codes}
-use Rattle.clap.specs.Words.{Text}
+use Rattle.std.specs.Prelude.{ℕ, List, ◌≡◌, ◌==◌, ◌⊎◌, not, Bool, true, false, [], ◌∷◌, Option, Some, None, codes}
+use Rattle.clap.specs.Words.{Row, Text, first_of, subcommand_of}
+use Rattle.rail_words.specs.FixedCommand.{rcv_app, is_taken}
 use Rattle.rail_words.specs.Requests.{Asked, IsInRange, request_of, steps_of, conflicts_of, ticks_of, seed_of, size_of, simulate, routes, verify, check, trial}
 
 -- not empty, and not beginning with a hyphen
@@ -30,3 +31,26 @@ TrialIsRead = (program seed size : Text) (s k : ℕ) → seed_of seed ≡ Some s
 -- what words ask for is in range
 abbrev pub RequestsAreInRange : Type 0
 RequestsAreInRange = (words : List Text) (asked : Asked) → request_of words ≡ Some asked → IsInRange asked
+
+-- the argument has a value, but no number in its range
+abbrev pub IsOutOfRange : (Text → Option ℕ) → Text → List Row → Type 0
+IsOutOfRange number_of_text name rows = (text : Text) × (first_of name rows ≡ Some text) × (number_of_text text ≡ None)
+
+-- a number of the subcommand is out of range, by its name and the values of its arguments
+abbrev pub LacksNumber : Text × List Row → Type 0
+LacksNumber entered =
+    (entered.0 ≡ codes "verify") × (IsOutOfRange steps_of (codes "steps") entered.1 ⊎ IsOutOfRange conflicts_of (codes "conflicts") entered.1 ⊎ IsOutOfRange ticks_of (codes "ticks") entered.1)
+    ⊎ (entered.0 ≡ codes "check") × IsOutOfRange steps_of (codes "steps") entered.1
+    ⊎ (entered.0 ≡ codes "trial") × (IsOutOfRange seed_of (codes "SEED") entered.1 ⊎ IsOutOfRange size_of (codes "SIZE") entered.1)
+
+-- a number of the subcommand that the words name is out of range
+abbrev pub HasNumberOutOfRange : List Text → Type 0
+HasNumberOutOfRange words = (entered : Text × List Row) × (subcommand_of rcv_app words ≡ Some entered) × LacksNumber entered
+
+-- the fixed command does not take the words, or a number among them is out of range
+abbrev pub AsksForNothing : List Text → Type 0
+AsksForNothing words = (is_taken words ≡ false) ⊎ HasNumberOutOfRange words
+
+-- words without a request ask for nothing: those that are taken name one, unless a number among them is out of range
+abbrev pub SilenceHasACause : Type 0
+SilenceHasACause = (words : List Text) → request_of words ≡ None → AsksForNothing words

@@ -1,6 +1,6 @@
 //! Which words are taken.
 
-ghost use Rattle.rail_words.specs.Laws.{SimulateIsRead, RoutesIsRead, VerifyIsRead, CheckIsRead, TrialIsRead, RequestsAreInRange};
+ghost use Rattle.rail_words.specs.Laws.{SimulateIsRead, RoutesIsRead, VerifyIsRead, CheckIsRead, TrialIsRead, RequestsAreInRange, SilenceHasACause};
 
 /// `simulate DESIGN PLAN` after the program's name, no value empty or beginning with a hyphen, asks for that.
 pub fn simulate_is_read()
@@ -32,4 +32,10 @@ pub fn trial_is_read()
 /// A request's number of steps is from 1 to 64, and its size from 1 to 6.
 pub fn requests_are_in_range()
     ensures { RequestsAreInRange }
+{}
+
+/// Words that ask for nothing are not taken, or a number among them is out of range: the value of `--steps`, `--conflicts`,
+/// `--ticks`, SEED or SIZE of the subcommand that they name.
+pub fn silence_has_a_cause()
+    ensures { SilenceHasACause }
 {}

@@ -1,6 +1,7 @@
-use Rattle.std.proofs.Common.{Err, Ok, refl}
+use Rattle.std.proofs.Common.{rules, ◌≡◌, Err, Ok, None, refl}
 use Rattle.rail_words.specs.Words.{texts_of}
 use Rattle.rail_words.specs.Requests.{request_of}
+use Rattle.rail_words.proofs.Asks.{silence_has_a_cause}
 use Rattle.verify_loop.specs.declared.outcome.Outcome.TheVariants.{Memory}
 use Rattle.rail_cli.specs.Answers.{answer_of}
 use Rattle.rail_cli.specs.Searches.{Leaves}
@@ -68,3 +69,13 @@ returns-in-Err-Memory-clause-tried g c = λ seed size asked. tells_nothing seed 
 
 pub returns-in-Err-ShelfFault-clause-tried : goal.returns-in-Err-ShelfFault-clause-tried
 returns-in-Err-ShelfFault-clause-tried g c = λ seed size asked. tells_nothing seed size _ _ _ refl
+
+pub returns-in-Ok-clause-usage_cause : goal.returns-in-Ok-clause-usage_cause
+returns-in-Ok-clause-usage_cause g c = λ is.
+    let none : request_of (texts_of c.args.words.now) ≡ None = search rules in
+    silence_has_a_cause (texts_of c.args.words.now) none
+
+pub returns-in-Err-Told-clause-usage_cause : goal.returns-in-Err-Told-clause-usage_cause
+returns-in-Err-Told-clause-usage_cause g c = λ is.
+    let none : request_of (texts_of c.args.words.now) ≡ None = search rules in
+    silence_has_a_cause (texts_of c.args.words.now) none

@@ -1,0 +1,145 @@
+-- Words that the fixed command takes ask for something, or a number among them is out of range.
+use Rattle.std.proofs.Common.{◌≡◌, ◌⊎◌, ◌∙◌, ◌<◌, ◌||◌, ℕ, Bool, true, false, List, [], ◌∷◌, length, Option, Some, None, IsSome, is_some, nat_eq, codes, refl, sym, subst, ap, arith, inl, inr, true≢false, slice_index_or}
+use Rattle.std.specs.Prelude.{option_and_then, option_map}
+use Rattle.std.specs.List.{list_all}
+use Rattle.std.specs.Str.{bytes_eq}
+use Rattle.std.proofs.lemmas.Bool.Decides.{nat_tests}
+use Rattle.std.proofs.lemmas.Slice.Eq.{bytes_eq-Decides}
+use Rattle.clap.specs.Kinds.{Kinds}
+use Rattle.clap.specs.Simple.{Shape, argument_words, built, label_of}
+use Rattle.clap.specs.Walk.{Row, Text, answers_to, rows_after}
+use Rattle.clap.specs.Words.{fault_of}
+use Rattle.rail_words.specs.FixedCommand.{rcv_app, is_taken, simulate_app, routes_app, verify_app, check_app, trial_app}
+use Rattle.rail_words.specs.Requests.{asked_by, check, check_with, conflicts_of, request_of, seed_of, size_of, steps_of, ticks_of, trial_with, trial_within, verify_with, verify_within}
+use Rattle.rail_words.specs.Laws.{LacksNumber, HasNumberOutOfRange, AsksForNothing, SilenceHasACause}
+use Rattle.rail_words.proofs.Entered.{IsAmong, IsNotHelp, level_enters}
+use Rattle.rail_words.proofs.Reading.{request_of-taken}
+use Rattle.rail_words.proofs.Values.{AreGiven, level_given, gives}
+
+-- ---- values that are there
+
+verify_numbers : (steps conflicts ticks : Option ℕ) (design proof : Text) → IsSome (verify_within steps conflicts ticks design proof) ⊎ (steps ≡ None) ⊎ (conflicts ≡ None) ⊎ (ticks ≡ None)
+verify_numbers None conflicts ticks design proof = inr (inl refl)
+verify_numbers (Some n) None ticks design proof = inr (inr (inl refl))
+verify_numbers (Some n) (Some c) None design proof = inr (inr (inr refl))
+verify_numbers (Some n) (Some c) (Some t) design proof = inl refl
+
+verify_values : (a b c d e : Option Text) (steps conflicts ticks design proof : Text) → a ≡ Some steps → b ≡ Some conflicts → c ≡ Some ticks → d ≡ Some design → e ≡ Some proof
+    → IsSome (verify_with a b c d e) ⊎ (steps_of steps ≡ None) ⊎ (conflicts_of conflicts ≡ None) ⊎ (ticks_of ticks ≡ None)
+verify_values a b c d e steps conflicts ticks design proof f g h i j = rw (f, g, h, i, j) (verify_numbers (steps_of steps) (conflicts_of conflicts) (ticks_of ticks) design proof)
+
+check_number : (steps : Option ℕ) (design proof : Text) → IsSome (option_map (λ n. check n design proof) steps) ⊎ (steps ≡ None)
+check_number None design proof = inr refl
+check_number (Some n) design proof = inl refl
+
+check_values : (a b c : Option Text) (steps design proof : Text) → a ≡ Some steps → b ≡ Some design → c ≡ Some proof → IsSome (check_with a b c) ⊎ (steps_of steps ≡ None)
+check_values a b c steps design proof f g h = rw (f, g, h) (check_number (steps_of steps) design proof)
+
+trial_numbers : (seed size : Option ℕ) → IsSome (trial_within seed size) ⊎ (seed ≡ None) ⊎ (size ≡ None)
+trial_numbers None size = inr (inl refl)
+trial_numbers (Some s) None = inr (inr refl)
+trial_numbers (Some s) (Some k) = inl refl
+
+trial_values : (a b : Option Text) (seed size : Text) → a ≡ Some seed → b ≡ Some size → IsSome (trial_with a b) ⊎ (seed_of seed ≡ None) ⊎ (size_of size ≡ None)
+trial_values a b seed size f g = rw (f, g) (trial_numbers (seed_of seed) (size_of size))
+
+-- ---- the subcommands
+
+-- the subcommand with its required arguments asks for something, or a number of it is out of range
+abbrev Asks : Shape → Type 0
+Asks s = (rows : List Row) → AreGiven s.rules rows → IsSome (asked_by (s.name, rows)) ⊎ LacksNumber (s.name, rows)
+
+simulate_asks : Asks (slice_index_or (built rcv_app).subs 0 simulate_app.top)
+simulate_asks rows given =
+    let design = given.0 refl in
+    let plan = given.1.0 refl in
+    inl (rw (design.1, plan.1) refl)
+
+routes_asks : Asks (slice_index_or (built rcv_app).subs 1 routes_app.top)
+routes_asks rows given = let design = given.0 refl in inl (rw design.1 refl)
+
+verify_asks : Asks (slice_index_or (built rcv_app).subs 2 verify_app.top)
+verify_asks rows given =
+    let steps = given.0 refl in
+    let conflicts = given.1.0 refl in
+    let ticks = given.1.1.0 refl in
+    let design = given.1.1.1.0 refl in
+    let proof = given.1.1.1.1.0 refl in
+    elim (verify_values _ _ _ _ _ steps.0 conflicts.0 ticks.0 design.0 proof.0 steps.1 conflicts.1 ticks.1 design.1 proof.1) [
+      | inl ok ↦ inl ok
+      | inr (inl none) ↦ inr (inl (refl, inl (steps.0, steps.1, none)))
+      | inr (inr (inl none)) ↦ inr (inl (refl, inr (inl (conflicts.0, conflicts.1, none))))
+      | inr (inr (inr none)) ↦ inr (inl (refl, inr (inr (ticks.0, ticks.1, none))))
+    ]
+
+check_asks : Asks (slice_index_or (built rcv_app).subs 3 check_app.top)
+check_asks rows given =
+    let steps = given.0 refl in
+    let design = given.1.0 refl in
+    let proof = given.1.1.0 refl in
+    elim (check_values _ _ _ steps.0 design.0 proof.0 steps.1 design.1 proof.1) [
+      | inl ok ↦ inl ok
+      | inr none ↦ inr (inr (inl (refl, (steps.0, steps.1, none))))
+    ]
+
+trial_asks : Asks (slice_index_or (built rcv_app).subs 4 trial_app.top)
+trial_asks rows given =
+    let seed = given.0 refl in
+    let size = given.1.0 refl in
+    elim (trial_values _ _ seed.0 size.0 seed.1 size.1) [
+      | inl ok ↦ inl ok
+      | inr (inl none) ↦ inr (inr (inr (refl, inl (seed.0, seed.1, none))))
+      | inr (inr none) ↦ inr (inr (inr (refl, inr (size.0, size.1, none))))
+    ]
+
+left_holds : (b : Bool) → (b || false) ≡ true → b ≡ true
+left_holds true e = refl
+left_holds false e = e
+
+-- the subcommand `help` is not entered
+no_help : (word : Text) (s : Shape) → s.name ≡ codes "help" → s.aliases ≡ [] → answers_to word (label_of s) ≡ true → IsNotHelp word → ⊥
+no_help word s name aliases answers not_help =
+    let named : (bytes_eq (codes "help") word || false) ≡ true = rw (name, aliases) at answers in
+    let is : codes "help" ≡ word = (bytes_eq-Decides (codes "help") word).0 (left_holds _ named) in
+    true≢false (subst IsNotHelp (sym is) not_help)
+
+abbrev GivesAndAsks : Shape → Type 0
+GivesAndAsks s = (list_all gives s.rules ≡ true) × Asks s
+
+each_asks : (word : Text) (s : Shape) → IsAmong s (built rcv_app).subs → answers_to word (label_of s) ≡ true → IsNotHelp word → GivesAndAsks s
+each_asks word s (inl is) answers not_help = subst GivesAndAsks (sym is) (refl, simulate_asks)
+each_asks word s (inr (inl is)) answers not_help = subst GivesAndAsks (sym is) (refl, routes_asks)
+each_asks word s (inr (inr (inl is))) answers not_help = subst GivesAndAsks (sym is) (refl, verify_asks)
+each_asks word s (inr (inr (inr (inl is)))) answers not_help = subst GivesAndAsks (sym is) (refl, check_asks)
+each_asks word s (inr (inr (inr (inr (inl is))))) answers not_help = subst GivesAndAsks (sym is) (refl, trial_asks)
+each_asks word s (inr (inr (inr (inr (inr (inl is)))))) answers not_help = absurd (no_help word s (ap (λ (x : Shape). x.name) is) (ap (λ (x : Shape). x.aliases) is) answers not_help)
+each_asks word s (inr (inr (inr (inr (inr (inr none)))))) answers not_help = absurd none
+
+-- ---- the words
+
+no_kinds : (kinds : Kinds) → nat_eq (length kinds) 0 ≡ true → kinds ≡ []
+no_kinds [] e = refl
+no_kinds (k ∷ ks) e = let more : 0 < length (k ∷ ks) = omega arith in absurd (grind (arith, nat_tests))
+
+-- words that the fixed command takes ask for something, or a number among them is out of range
+taken_words_ask : (words : List Text) → is_taken words ≡ true → IsSome (request_of words) ⊎ HasNumberOutOfRange words
+taken_words_ask words taken =
+    let in_sub = level_enters (built rcv_app) (argument_words rcv_app words) refl refl (no_kinds (fault_of rcv_app words) taken) in
+    let parts = each_asks in_sub.word in_sub.command in_sub.among in_sub.answers in_sub.not_help in
+    let rows = rows_after in_sub.command.rules [] in_sub.rest in
+    let read : request_of words ≡ asked_by (in_sub.command.name, rows) = request_of-taken words taken ∙ ap (option_and_then asked_by) in_sub.is in
+    elim (parts.1 rows (level_given in_sub.command in_sub.rest parts.0 in_sub.takes)) [
+      | inl asked ↦ inl (subst IsSome (sym read) asked)
+      | inr out ↦ inr ((in_sub.command.name, rows), in_sub.is, out)
+    ]
+
+-- words that ask for nothing are not taken, or a number among them is out of range
+pub silence_has_a_cause : SilenceHasACause
+silence_has_a_cause words none = go (is_taken words) refl
+  where
+    go : (b : Bool) → is_taken words ≡ b → (is_taken words ≡ false) ⊎ HasNumberOutOfRange words
+    go false e = inl e
+    go true e = elim (taken_words_ask words e) [
+      | inl asked ↦ absurd (true≢false (sym asked ∙ ap is_some none))
+      | inr out ↦ inr out
+    ]
