@@ -9,3 +9,4 @@ pub mod Judging
 pub mod Leaving
 pub mod Finding
 pub mod Trying
+pub mod Verdicts

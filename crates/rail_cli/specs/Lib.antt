@@ -7,5 +7,6 @@ pub mod Simulations
 pub mod Checks
 pub mod Searches
 pub mod Trials
+pub mod Verdicts
 pub mod Replies
 pub mod Prints

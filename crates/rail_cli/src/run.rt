@@ -17,6 +17,7 @@ ghost use Rattle.rail_cli.specs.Replies.{reply_seen, OnEnd, OnReply, RefusesFile
 ghost use Rattle.rail_cli.specs.Searches.{Finds, Leaves, Searches, TellsNone, TellsPlan};
 ghost use Rattle.rail_cli.specs.Simulations.{Simulates, TellsFeasible, DoneWhereFeasible};
 ghost use Rattle.rail_cli.specs.Trials.{TellsTrial};
+ghost use Rattle.rail_cli.specs.Verdicts.{IsUnrefused, ComesTo};
 
 use crate::checking::checked;
 use crate::ending::Ending;
@@ -123,8 +124,10 @@ pub fn run_words<S: Shelf, O: Sink>(
 
     // A trial asks nothing of the shelf, so this holds over any.
     ensures tried { (seed size : ℕ) → request_of (texts_of words.now) ≡ Some (trial seed size) → TellsTrial seed size result (O.written out.old) (O.written out.new) }
-    ensures usage { is_answered result ≡ true → (result ≡ Status.Usage) ↔ (request_of (texts_of words.now) ≡ None) }
-    ensures usage_cause { result ≡ Status.Usage → AsksForNothing (texts_of words.now) }
+
+    // Where nothing is refused, a run comes to a verdict, unless a search has spent a budget.
+    ensures comes_to { (files : Files) → S.held shelf.old ≡ Some files → IsUnrefused files (request_of (texts_of words.now)) → is_answered result ≡ true → ComesTo files (request_of (texts_of words.now)) result }
+    ensures usage { is_answered result ≡ true → (result ≡ Status.Usage) ↔ AsksForNothing (texts_of words.now) }
 
     // A fault comes only where its side has counted one.
     ensures shelf_fault { result ≡ Status.ShelfFault → Rose (S.fault_count shelf.old) (S.fault_count shelf.new) }

@@ -1,4 +1,4 @@
--- Words that the fixed command takes ask for something, or a number among them is out of range.
+-- Words ask for nothing exactly where the fixed command does not take them, or a number among them is out of range.
 use Rattle.std.proofs.Common.{◌≡◌, ◌⊎◌, ◌∙◌, ◌<◌, ◌||◌, ℕ, Bool, true, false, List, [], ◌∷◌, length, Option, Some, None, IsSome, is_some, nat_eq, codes, refl, sym, subst, ap, arith, inl, inr, true≢false, slice_index_or}
 use Rattle.std.specs.Prelude.{option_and_then, option_map}
 use Rattle.std.specs.List.{list_all}
@@ -7,13 +7,13 @@ use Rattle.std.proofs.lemmas.Bool.Decides.{nat_tests}
 use Rattle.std.proofs.lemmas.Slice.Eq.{bytes_eq-Decides}
 use Rattle.clap.specs.Kinds.{Kinds}
 use Rattle.clap.specs.Simple.{Shape, argument_words, built, label_of}
-use Rattle.clap.specs.Walk.{Row, Text, answers_to, rows_after}
+use Rattle.clap.specs.Walk.{Row, Text, answers_to, first_of, rows_after}
 use Rattle.clap.specs.Words.{fault_of}
 use Rattle.rail_words.specs.FixedCommand.{rcv_app, is_taken, simulate_app, routes_app, verify_app, check_app, trial_app}
 use Rattle.rail_words.specs.Requests.{asked_by, check, check_with, conflicts_of, request_of, seed_of, size_of, steps_of, ticks_of, trial_with, trial_within, verify_with, verify_within}
 use Rattle.rail_words.specs.Laws.{LacksNumber, HasNumberOutOfRange, AsksForNothing, SilenceHasACause}
 use Rattle.rail_words.proofs.Entered.{IsAmong, IsNotHelp, level_enters}
-use Rattle.rail_words.proofs.Reading.{request_of-taken}
+use Rattle.rail_words.proofs.Reading.{request_of-refused, request_of-taken}
 use Rattle.rail_words.proofs.Values.{AreGiven, level_given, gives}
 
 -- ---- values that are there
@@ -134,8 +134,8 @@ taken_words_ask words taken =
     ]
 
 -- words that ask for nothing are not taken, or a number among them is out of range
-pub silence_has_a_cause : SilenceHasACause
-silence_has_a_cause words none = go (is_taken words) refl
+pub asks_nothing : (words : List Text) → request_of words ≡ None → AsksForNothing words
+asks_nothing words none = go (is_taken words) refl
   where
     go : (b : Bool) → is_taken words ≡ b → (is_taken words ≡ false) ⊎ HasNumberOutOfRange words
     go false e = inl e
@@ -143,3 +143,63 @@ silence_has_a_cause words none = go (is_taken words) refl
       | inl asked ↦ absurd (true≢false (sym asked ∙ ap is_some none))
       | inr out ↦ inr out
     ]
+
+-- ---- a number out of range
+
+verify_lacks : (steps conflicts ticks : Option ℕ) (design proof : Text) → (steps ≡ None) ⊎ (conflicts ≡ None) ⊎ (ticks ≡ None) → verify_within steps conflicts ticks design proof ≡ None
+verify_lacks None conflicts ticks design proof out = refl
+verify_lacks (Some n) None ticks design proof out = refl
+verify_lacks (Some n) (Some c) None design proof out = refl
+verify_lacks (Some n) (Some c) (Some t) design proof out = grind arith
+
+-- the value is there, but is no number in its range
+abbrev IsOut : (Text → Option ℕ) → Option Text → Type 0
+IsOut number_of_text value = (text : Text) × (value ≡ Some text) × (number_of_text text ≡ None)
+
+unread : (number_of_text : Text → Option ℕ) (text : Text) → IsOut number_of_text (Some text) → number_of_text text ≡ None
+unread number_of_text text (other, is, none) = let same : text ≡ other = cc in ap number_of_text same ∙ none
+
+verify_unread : (a b c d e : Option Text) → IsOut steps_of a ⊎ IsOut conflicts_of b ⊎ IsOut ticks_of c → verify_with a b c d e ≡ None
+verify_unread None b c d e out = refl
+verify_unread (Some steps) None c d e out = refl
+verify_unread (Some steps) (Some conflicts) None d e out = refl
+verify_unread (Some steps) (Some conflicts) (Some ticks) None e out = refl
+verify_unread (Some steps) (Some conflicts) (Some ticks) (Some design) None out = refl
+verify_unread (Some steps) (Some conflicts) (Some ticks) (Some design) (Some proof) (inl out) = verify_lacks _ _ _ design proof (inl (unread steps_of steps out))
+verify_unread (Some steps) (Some conflicts) (Some ticks) (Some design) (Some proof) (inr (inl out)) = verify_lacks _ _ _ design proof (inr (inl (unread conflicts_of conflicts out)))
+verify_unread (Some steps) (Some conflicts) (Some ticks) (Some design) (Some proof) (inr (inr out)) = verify_lacks _ _ _ design proof (inr (inr (unread ticks_of ticks out)))
+
+check_unread : (a b c : Option Text) → IsOut steps_of a → check_with a b c ≡ None
+check_unread None b c out = refl
+check_unread (Some steps) None c out = refl
+check_unread (Some steps) (Some design) None out = refl
+check_unread (Some steps) (Some design) (Some proof) out = ap (option_map (λ n. check n design proof)) (unread steps_of steps out)
+
+trial_lacks : (seed size : Option ℕ) → (seed ≡ None) ⊎ (size ≡ None) → trial_within seed size ≡ None
+trial_lacks None size out = refl
+trial_lacks (Some s) None out = refl
+trial_lacks (Some s) (Some k) out = grind arith
+
+trial_unread : (a b : Option Text) → IsOut seed_of a ⊎ IsOut size_of b → trial_with a b ≡ None
+trial_unread None b out = refl
+trial_unread (Some seed) None out = refl
+trial_unread (Some seed) (Some size) (inl out) = trial_lacks _ _ (inl (unread seed_of seed out))
+trial_unread (Some seed) (Some size) (inr out) = trial_lacks _ _ (inr (unread size_of size out))
+
+-- a subcommand with a number out of range asks for nothing
+lacking : (name : Text) (rows : List Row) → LacksNumber (name, rows) → asked_by (name, rows) ≡ None
+lacking name rows (inl (is, out)) = rw is (verify_unread (first_of (codes "steps") rows) (first_of (codes "conflicts") rows) (first_of (codes "ticks") rows) (first_of (codes "DESIGN") rows) (first_of (codes "PROOF") rows) out)
+lacking name rows (inr (inl (is, out))) = rw is (check_unread (first_of (codes "steps") rows) (first_of (codes "DESIGN") rows) (first_of (codes "PROOF") rows) out)
+lacking name rows (inr (inr (is, out))) = rw is (trial_unread (first_of (codes "SEED") rows) (first_of (codes "SIZE") rows) out)
+
+-- words that are not taken, or with a number out of range, ask for nothing
+pub nothing_asked : (words : List Text) → AsksForNothing words → request_of words ≡ None
+nothing_asked words (inl refused) = request_of-refused words refused
+nothing_asked words (inr (in_sub, is, lacks)) = go (is_taken words) refl
+  where
+    go : (b : Bool) → is_taken words ≡ b → request_of words ≡ None
+    go false e = request_of-refused words e
+    go true e = request_of-taken words e ∙ ap (option_and_then asked_by) is ∙ lacking in_sub.0 in_sub.1 lacks
+
+pub silence_has_a_cause : SilenceHasACause
+silence_has_a_cause words = (asks_nothing words, nothing_asked words)

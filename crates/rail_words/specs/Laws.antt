@@ -1,5 +1,5 @@
 -- Which words are taken.
-use Rattle.std.specs.Prelude.{ℕ, List, ◌≡◌, ◌==◌, ◌⊎◌, not, Bool, true, false, [], ◌∷◌, Option, Some, None, codes}
+use Rattle.std.specs.Prelude.{ℕ, List, ◌≡◌, ◌↔◌, ◌==◌, ◌⊎◌, not, Bool, true, false, [], ◌∷◌, Option, Some, None, codes}
 use Rattle.clap.specs.Words.{Row, Text, first_of, subcommand_of}
 use Rattle.rail_words.specs.FixedCommand.{rcv_app, is_taken}
 use Rattle.rail_words.specs.Requests.{Asked, IsInRange, request_of, steps_of, conflicts_of, ticks_of, seed_of, size_of, simulate, routes, verify, check, trial}
@@ -51,6 +51,6 @@ HasNumberOutOfRange words = (entered : Text × List Row) × (subcommand_of rcv_a
 abbrev pub AsksForNothing : List Text → Type 0
 AsksForNothing words = (is_taken words ≡ false) ⊎ HasNumberOutOfRange words
 
--- words without a request ask for nothing: those that are taken name one, unless a number among them is out of range
+-- words make no request exactly where the fixed command does not take them, or a number among them is out of range
 abbrev pub SilenceHasACause : Type 0
-SilenceHasACause = (words : List Text) → request_of words ≡ None → AsksForNothing words
+SilenceHasACause = (words : List Text) → (request_of words ≡ None) ↔ AsksForNothing words

@@ -34,8 +34,8 @@ pub fn requests_are_in_range()
     ensures { RequestsAreInRange }
 {}
 
-/// Words that ask for nothing are not taken, or a number among them is out of range: the value of `--steps`, `--conflicts`,
-/// `--ticks`, SEED or SIZE of the subcommand that they name.
+/// Words make no request exactly where they are not taken, or a number among them is out of range: the value of `--steps`,
+/// `--conflicts`, `--ticks`, SEED or SIZE of the subcommand that they name.
 pub fn silence_has_a_cause()
     ensures { SilenceHasACause }
 {}

@@ -1,8 +1,9 @@
-use Rattle.std.proofs.Common.{rules, ◌≡◌, Err, Ok, None, refl}
+use Rattle.std.proofs.Common.{rules, ◌≡◌, ◌↔◌, Err, Ok, None, refl}
 use Rattle.rail_words.specs.Words.{texts_of}
 use Rattle.rail_words.specs.Requests.{request_of}
 use Rattle.rail_words.proofs.Asks.{silence_has_a_cause}
 use Rattle.verify_loop.specs.declared.outcome.Outcome.TheVariants.{Memory}
+use Rattle.rail_cli.specs.declared.status.Status.TheVariants.{Usage}
 use Rattle.rail_cli.specs.Answers.{answer_of}
 use Rattle.rail_cli.specs.Searches.{Leaves}
 use Rattle.rail_cli.specs.Simulations.{DoneWhereFeasible}
@@ -11,6 +12,7 @@ use Rattle.rail_cli.proofs.Finding.{may_want, finds_so, told_so, run_so, run_inf
 use Rattle.rail_cli.proofs.Leaving.{run_leaves, told_status}
 use Rattle.rail_cli.proofs.Trying.{tries_trial, told_trial_reply, tells_nothing, tells_trial}
 use Rattle.rail_cli.proofs.Silence.{silent_for_memory, silent_at_shelf}
+use Rattle.rail_cli.proofs.Verdicts.{run_comes, no_answer}
 use Rattle.rail_cli.proofs.run.run_words.Goals as goal
 
 pub returns-in-Ok-clause-answer : goal.returns-in-Ok-clause-answer
@@ -70,12 +72,27 @@ returns-in-Err-Memory-clause-tried g c = λ seed size asked. tells_nothing seed 
 pub returns-in-Err-ShelfFault-clause-tried : goal.returns-in-Err-ShelfFault-clause-tried
 returns-in-Err-ShelfFault-clause-tried g c = λ seed size asked. tells_nothing seed size _ _ _ refl
 
-pub returns-in-Ok-clause-usage_cause : goal.returns-in-Ok-clause-usage_cause
-returns-in-Ok-clause-usage_cause g c = λ is.
-    let none : request_of (texts_of c.args.words.now) ≡ None = search rules in
-    silence_has_a_cause (texts_of c.args.words.now) none
+pub returns-in-Ok-clause-usage : goal.returns-in-Ok-clause-usage
+returns-in-Ok-clause-usage g c = λ answered.
+    let same : (c.print.result ≡ Usage) ↔ (request_of (texts_of c.args.words.now) ≡ None) = search rules in
+    let law = silence_has_a_cause (texts_of c.args.words.now) in
+    (λ is. law.0 (same.0 is), λ nothing. same.1 (law.1 nothing))
 
-pub returns-in-Err-Told-clause-usage_cause : goal.returns-in-Err-Told-clause-usage_cause
-returns-in-Err-Told-clause-usage_cause g c = λ is.
-    let none : request_of (texts_of c.args.words.now) ≡ None = search rules in
-    silence_has_a_cause (texts_of c.args.words.now) none
+pub returns-in-Err-Told-clause-usage : goal.returns-in-Err-Told-clause-usage
+returns-in-Err-Told-clause-usage g c = λ answered.
+    let same : (c.print-in-Err-Told.result ≡ Usage) ↔ (request_of (texts_of c.args.words.now) ≡ None) = search rules in
+    let law = silence_has_a_cause (texts_of c.args.words.now) in
+    (λ is. law.0 (same.0 is), λ nothing. same.1 (law.1 nothing))
+
+pub returns-in-Ok-clause-comes_to : goal.returns-in-Ok-clause-comes_to
+returns-in-Ok-clause-comes_to g c = λ files told. run_comes files (texts_of c.args.words.now) c.print.result _ _ _ _ (run_so files (texts_of c.args.words.now) c.in-Ok.reply c.print.result _ _ _ _ (c.in-Ok.ensures.replies files told) c.print.ensures.prints)
+
+pub returns-in-Err-Told-clause-comes_to : goal.returns-in-Err-Told-clause-comes_to
+returns-in-Err-Told-clause-comes_to g c = λ files told. run_comes files (texts_of c.args.words.now) c.print-in-Err-Told.result _ _ _ _
+    (run_so files (texts_of c.args.words.now) c.in-Err-Told.reply c.print-in-Err-Told.result _ _ _ _ (told_so c.in-Err-Told.field-0 c.in-Err-Told.reply files (request_of (texts_of c.args.words.now)) c.in-Err-Told.field-0-is (c.in-Err-Told.ensures.replies files told)) c.print-in-Err-Told.ensures.prints)
+
+pub returns-in-Err-Memory-clause-comes_to : goal.returns-in-Err-Memory-clause-comes_to
+returns-in-Err-Memory-clause-comes_to g c = λ files told u answered. no_answer files (request_of (texts_of c.args.words.now)) _ refl answered
+
+pub returns-in-Err-ShelfFault-clause-comes_to : goal.returns-in-Err-ShelfFault-clause-comes_to
+returns-in-Err-ShelfFault-clause-comes_to g c = λ files told u answered. no_answer files (request_of (texts_of c.args.words.now)) _ refl answered

@@ -1,0 +1,165 @@
+-- What a run comes to, where nothing is refused.
+use Rattle.std.proofs.Common.{◌≡◌, ◌≤◌, ◌⊎◌, ◌+◌, ◌*◌, ℕ, true, false, List, [], ◌∷◌, length, Option, None, Some, Ok, refl, ap, sym, ◌∙◌, subst, inl, inr, arith}
+use Rattle.std.proofs.lemmas.Bool.{le-ltb}
+use Rattle.std.proofs.lemmas.List.Sums.{sum_by-cons}
+use Rattle.infra_reader.specs.Design.{design_of}
+use Rattle.log_checker.specs.declared.shown.Shown.{Shown}
+use Rattle.log_checker.specs.declared.shown.Shown.TheVariants.{Yes, No}
+use Rattle.plan_clauses.specs.Clauses.{base_clauses, literals, past_limit}
+use Rattle.proof_judge.specs.Judged.{judged}
+use Rattle.rail_base.specs.declared.history.Verdict.{Verdict}
+use Rattle.rail_base.specs.declared.history.Verdict.TheVariants as verdict
+use Rattle.rail_base.specs.declared.station.Station.{Station}
+use Rattle.rail_outside.specs.Files.{Files}
+use Rattle.rail_spec.specs.Track.{routes_of}
+use Rattle.rail_words.specs.Requests.{Asked, simulate, routes, verify, check, trial, request_of}
+use Rattle.verify_loop.specs.declared.outcome.Budgets.{Budgets}
+use Rattle.verify_loop.specs.declared.outcome.Outcome.{Outcome}
+use Rattle.verify_loop.specs.declared.outcome.Outcome.TheVariants as outcome
+use Rattle.verify_loop.specs.Outcomes.{Says, Fits}
+use Rattle.workload.specs.Made.{made}
+use Rattle.rail_cli.specs.declared.status.Status.{Status}
+use Rattle.rail_cli.specs.declared.status.Status.TheVariants as statuses
+use Rattle.rail_cli.specs.declared.input.InputFile.TheVariants as file
+use Rattle.rail_cli.specs.Statuses.{is_answered}
+use Rattle.rail_cli.specs.Texts.{limit_of}
+use Rattle.rail_cli.specs.Answers.{Answer, within_limit, with_routes, design_or_answer, design_in, plan_or_answer, plan_in, shown, shown_by, verdict_status, simulated, listed, routes_listed, with_clauses, told, checked_against, with_proof, checked, told_outcome, searched, trial_conflicts, trial_ticks, told_trial, tried_in, tried, unless_refused, answer_to, answer_of}
+use Rattle.rail_cli.specs.Searches.{budgets_of, Finds}
+use Rattle.rail_cli.specs.Prints.{Prints}
+use Rattle.rail_cli.specs.Verdicts.{HasRoutes, HasFewClauses, SpellsDesign, SpellsPlan, IsUnrefused, IsVerdict, SpendsBudget, ComesTo}
+use Rattle.rail_cli.proofs.Deciding.{answered_next, planned_so}
+use Rattle.rail_cli.proofs.Finding.{read_so}
+use Rattle.rail_cli.proofs.Judging.{small_passes}
+use Rattle.rail_cli.proofs.Refusing as refusing
+
+-- ---- what is read
+
+within : {X : Type 0} (limit sum : ℕ) (clauses : List (List X)) → sum + literals clauses ≤ limit → past_limit limit sum clauses ≡ None
+within limit sum [] few = refl
+within limit sum (c ∷ cs) few =
+    let all : literals (c ∷ cs) ≡ length c + literals cs = sum_by-cons length c cs in
+    rw (le-ltb limit (sum + length c) (omega arith)) (within limit (sum + length c) cs (omega arith))
+
+few_fit : (d : Station) (n : ℕ) → HasFewClauses d n → past_limit 4000000 0 (base_clauses d (routes_of d) n) ≡ None
+few_fit d n few = within 4000000 0 (base_clauses d (routes_of d) n) (omega arith)
+
+few_pass : (d : Station) (n : ℕ) → HasFewClauses d n → with_clauses n d ≡ Ok d
+few_pass d n few = small_passes n d (few_fit d n few)
+
+routes_pass : (d : Station) → HasRoutes d → with_routes d ≡ Ok d
+routes_pass d has = refusing.routes_listed d has.once has.few
+
+module _ (bytes : List ℕ) (d : Station) (s : SpellsDesign bytes d) where
+  fits : within_limit file.Design bytes ≡ Ok bytes
+  fits = refusing.file_fits file.Design bytes s.short
+
+  reads : design_in bytes ≡ Ok d
+  reads = refusing.design_read bytes d s.spells (routes_pass d s.routes)
+
+  -- ---- the answers to what is not refused
+
+  simulated_so : (plan_bytes : List ℕ) (p : SpellsPlan d plan_bytes) → simulated bytes plan_bytes ≡ shown d (shown_by d p.plan)
+  simulated_so plan_bytes p =
+      planned_so bytes plan_bytes bytes fits d reads plan_bytes (refusing.file_fits file.Plan plan_bytes p.short)
+      ∙ answered_next (plan_in d plan_bytes) p.plan (λ plan. shown d (shown_by d plan)) (ap (plan_or_answer d) p.spells)
+
+  listed_so : routes_listed bytes ≡ listed d
+  listed_so = answered_next (within_limit file.Design bytes) bytes (λ text. unless_refused (design_in text) listed) fits ∙ answered_next (design_in bytes) d listed reads
+
+  searched_so : (n conflicts ticks : ℕ) (found : Outcome) → HasFewClauses d n → searched n conflicts ticks bytes found ≡ told_outcome d n conflicts ticks found
+  searched_so n conflicts ticks found few =
+      read_so n conflicts ticks bytes found bytes fits d reads ∙ answered_next (with_clauses n d) d (λ same. told_outcome d n conflicts ticks found) (few_pass d n few)
+
+  checked_so : (n : ℕ) (proof_bytes : List ℕ) → HasFewClauses d n → length proof_bytes ≤ limit_of file.Proof → checked n bytes proof_bytes ≡ told (judged d n proof_bytes)
+  checked_so n proof_bytes few short =
+      answered_next (within_limit file.Design bytes) bytes (λ text. unless_refused (design_in text) (λ e. with_proof n e proof_bytes)) fits
+      ∙ (answered_next (design_in bytes) d (λ e. with_proof n e proof_bytes) reads
+      ∙ (answered_next (with_clauses n d) d (λ same. unless_refused (within_limit file.Proof proof_bytes) (checked_against d n)) (few_pass d n few)
+      ∙ answered_next (within_limit file.Proof proof_bytes) proof_bytes (checked_against d n) (refusing.file_fits file.Proof proof_bytes short)))
+
+tried_so : (seed size : ℕ) (found : Outcome) → HasRoutes (made seed size) → HasFewClauses (made seed size) (2 * size) → tried seed size found ≡ told_trial seed size (made seed size) found
+tried_so seed size found has few =
+    answered_next (design_or_answer (with_routes (made seed size))) (made seed size) (λ d. tried_in seed size d found) (ap design_or_answer (routes_pass (made seed size) has))
+    ∙ answered_next (with_clauses (2 * size) (made seed size)) (made seed size) (λ same. told_trial seed size (made seed size) found) (few_pass (made seed size) (2 * size) few)
+
+-- ---- their statuses
+
+shown_verdict : (v : Verdict) → IsVerdict (verdict_status v)
+shown_verdict (verdict.Met history tick) = inl refl
+shown_verdict (verdict.Failed history tick violation) = inr refl
+shown_verdict verdict.Undecided = inr refl
+
+told_verdict : (v : Shown) → IsVerdict (told v).status
+told_verdict (Yes k) = inl refl
+told_verdict (No line reason) = inr refl
+
+-- the status of each end of a search
+abbrev status_of : Outcome → Status
+status_of (outcome.Plan plan verdict) = statuses.Done
+status_of (outcome.Infeasible log) = statuses.No
+status_of (outcome.ConflictsSpent log clause hints) = statuses.ConflictsSpent
+status_of (outcome.TicksSpent failed sum at_hand) = statuses.TicksSpent
+status_of (outcome.LogSpent log bytes next) = statuses.LogSpent
+status_of (outcome.TooLarge literals) = statuses.DesignRefused
+status_of outcome.Memory = statuses.Memory
+
+search_status : (d : Station) (n conflicts ticks : ℕ) (found : Outcome) → (told_outcome d n conflicts ticks found).status ≡ status_of found
+search_status d n conflicts ticks (outcome.Plan plan verdict) = refl
+search_status d n conflicts ticks (outcome.Infeasible log) = refl
+search_status d n conflicts ticks (outcome.ConflictsSpent log clause hints) = refl
+search_status d n conflicts ticks (outcome.TicksSpent failed sum at_hand) = refl
+search_status d n conflicts ticks (outcome.LogSpent log bytes next) = refl
+search_status d n conflicts ticks (outcome.TooLarge literals) = refl
+search_status d n conflicts ticks outcome.Memory = refl
+
+trial_status : (seed size : ℕ) (d : Station) (found : Outcome) → (told_trial seed size d found).status ≡ status_of found
+trial_status seed size d (outcome.Plan plan verdict) = refl
+trial_status seed size d (outcome.Infeasible log) = refl
+trial_status seed size d (outcome.ConflictsSpent log clause hints) = refl
+trial_status seed size d (outcome.TicksSpent failed sum at_hand) = refl
+trial_status seed size d (outcome.LogSpent log bytes next) = refl
+trial_status seed size d (outcome.TooLarge literals) = refl
+trial_status seed size d outcome.Memory = refl
+
+-- a search with few clauses ends with a verdict or a budget spent, unless memory was wanting
+module _ (d : Station) (n : ℕ) (b : Budgets) (few : HasFewClauses d n) (s : Status) (answered : is_answered s ≡ true) where
+  ends_so : (found : Outcome) → Says d n b found × Fits d n found → s ≡ status_of found → IsVerdict s ⊎ SpendsBudget d n b s
+  ends_so (outcome.Plan plan verdict) ends is = inl (inl is)
+  ends_so (outcome.Infeasible log) ends is = inl (inr is)
+  ends_so (outcome.ConflictsSpent log clause hints) ends is = inr (record { found = outcome.ConflictsSpent log clause hints; spent = is; says = ends.0; fits = ends.1 })
+  ends_so (outcome.TicksSpent failed sum at_hand) ends is = inr (record { found = outcome.TicksSpent failed sum at_hand; spent = is; says = ends.0; fits = ends.1 })
+  ends_so (outcome.LogSpent log bytes next) ends is = inr (record { found = outcome.LogSpent log bytes next; spent = is; says = ends.0; fits = ends.1 })
+  ends_so (outcome.TooLarge k) ends is = (let many = ends.0 in let none = few_fit d n few in absurd (cc))
+  ends_so outcome.Memory ends is = (let kind : is_answered s ≡ is_answered statuses.Memory = ap is_answered is in absurd (cc))
+
+-- of a design that is spelled
+spent_in : (d : Station) (bytes : List ℕ) (n : ℕ) (b : Budgets) (s : Status) → design_of bytes ≡ Ok d → IsVerdict s ⊎ SpendsBudget d n b s → IsVerdict s ⊎ ((e : Station) × (design_of bytes ≡ Ok e) × SpendsBudget e n b s)
+spent_in d bytes n b s spells (inl verdict) = inl verdict
+spent_in d bytes n b s spells (inr spent) = inr (d, spells, spent)
+
+-- ---- the run
+
+status_so : (a b : Answer) (s : Status) → s ≡ a.status → a ≡ b → s ≡ b.status
+status_so a b s is same = is ∙ ap (λ (x : Answer). x.status) same
+
+comes_so : (files : Files) (asked : Option Asked) (found : Outcome) (s : Status) → Finds files asked found → s ≡ (answer_to files found asked).status → IsUnrefused files asked → is_answered s ≡ true → ComesTo files asked s
+comes_so files None found s finds is u answered = absurd u
+comes_so files (Some (simulate design plan)) found s finds is u answered =
+    subst IsVerdict (sym (status_so _ _ s is (simulated_so (files design) u.0 u.1 (files plan) u.2))) (shown_verdict (shown_by u.0 u.2.plan))
+comes_so files (Some (routes design)) found s finds is u answered = status_so _ _ s is (listed_so (files design) u.0 u.1)
+comes_so files (Some (verify n conflicts ticks design proof)) found s finds is u answered =
+    spent_in u.0 (files design) n (budgets_of conflicts ticks) s u.1.spells
+    (ends_so u.0 n (budgets_of conflicts ticks) u.2 s answered found (finds u.0 (reads (files design) u.0 u.1)) (status_so _ _ s is (searched_so (files design) u.0 u.1 n conflicts ticks found u.2) ∙ search_status u.0 n conflicts ticks found))
+comes_so files (Some (check n design proof)) found s finds is u answered =
+    subst IsVerdict (sym (status_so _ _ s is (checked_so (files design) u.0 u.1 n (files proof) u.2 u.3))) (told_verdict (judged u.0 n (files proof)))
+comes_so files (Some (trial seed size)) found s finds is u answered =
+    ends_so (made seed size) (2 * size) (budgets_of trial_conflicts trial_ticks) u.1 s answered found finds (status_so _ _ s is (tried_so seed size found u.0 u.1) ∙ trial_status seed size (made seed size) found)
+
+module _ (files : Files) (words : List (List ℕ)) (s : Status) (text new_text : Option (List ℕ)) (pieces new_pieces : Option (List (List ℕ))) where
+  -- the answer was printed
+  pub run_comes : (found : Outcome) × Finds files (request_of words) found × Prints (answer_of files found words) s text new_text pieces new_pieces → IsUnrefused files (request_of words) → is_answered s ≡ true → ComesTo files (request_of words) s
+  run_comes told u answered = comes_so files (request_of words) told.0 s told.1 (told.2.status answered) u answered
+
+-- a run without an answer comes to nothing
+pub no_answer : (files : Files) (asked : Option Asked) (s : Status) → is_answered s ≡ false → is_answered s ≡ true → ComesTo files asked s
+no_answer files asked s none answered = absurd (cc)

@@ -1,0 +1,82 @@
+-- Requests of which nothing is refused, and what a run of them comes to.
+use Rattle.std.specs.Prelude.{◌≡◌, ◌≤◌, ◌⊎◌, ℕ, ◌*◌, List, [], length, Option, None, Some, Ok}
+use Rattle.infra_reader.specs.Design.{design_of}
+use Rattle.plan_clauses.specs.Clauses.{base_clauses, literals}
+use Rattle.rail_base.specs.declared.plan.Command.{Command}
+use Rattle.rail_base.specs.declared.station.Station.{Station}
+use Rattle.rail_outside.specs.Files.{Files}
+use Rattle.rail_plan.specs.Reading.{plan_of}
+use Rattle.rail_spec.specs.Track.{routes_of, all_closings, edges_met_again}
+use Rattle.rail_words.specs.Requests.{Asked, simulate, routes, verify, check, trial}
+use Rattle.verify_loop.specs.declared.outcome.Budgets.{Budgets}
+use Rattle.verify_loop.specs.declared.outcome.Outcome.{Outcome}
+use Rattle.verify_loop.specs.declared.outcome.Outcome.TheVariants as outcome
+use Rattle.verify_loop.specs.Outcomes.{Says, Fits}
+use Rattle.workload.specs.Made.{made}
+use Rattle.rail_cli.specs.declared.status.Status.{Status}
+use Rattle.rail_cli.specs.declared.status.Status.TheVariants as status
+use Rattle.rail_cli.specs.declared.input.InputFile.TheVariants as file
+use Rattle.rail_cli.specs.Texts.{limit_of}
+use Rattle.rail_cli.specs.Answers.{trial_conflicts, trial_ticks}
+use Rattle.rail_cli.specs.Searches.{budgets_of}
+
+-- ---- where nothing is refused
+
+-- the routes of the design can be listed: no path of the first 2,001 meets an edge again, and at most 2,000 paths close
+pub record HasRoutes (d : Station) : Type 0 where
+  pub once : edges_met_again d ≡ []
+  pub few : length (all_closings d) ≤ 2000
+
+-- the clauses of the design for plans of n steps have at most 4,000,000 literals
+abbrev pub HasFewClauses : Station → ℕ → Type 0
+HasFewClauses d n = literals (base_clauses d (routes_of d) n) ≤ 4000000
+
+-- the file is within its limit and spells this design, whose routes can be listed
+pub record SpellsDesign (bytes : List ℕ) (d : Station) : Type 0 where
+  pub short : length bytes ≤ limit_of file.Design
+  pub spells : design_of bytes ≡ Ok d
+  pub routes : HasRoutes d
+
+-- the file is within its limit and spells a plan over the design
+pub record SpellsPlan (d : Station) (bytes : List ℕ) : Type 0 where
+  pub short : length bytes ≤ limit_of file.Plan
+  pub plan : List (List Command)
+  pub spells : plan_of d (routes_of d) bytes ≡ Ok plan
+
+-- something is asked for, and nothing of it is refused: each file that is read is within its limit, they spell a design and a plan, and the clauses of a search, a check or a trial are few; a trial reads no file
+abbrev pub IsUnrefused : Files → Option Asked → Type 0
+IsUnrefused files None = ⊥
+IsUnrefused files (Some (simulate design plan)) = (d : Station) × SpellsDesign (files design) d × SpellsPlan d (files plan)
+IsUnrefused files (Some (routes design)) = (d : Station) × SpellsDesign (files design) d
+IsUnrefused files (Some (verify n conflicts ticks design proof)) = (d : Station) × SpellsDesign (files design) d × HasFewClauses d n
+IsUnrefused files (Some (check n design proof)) = (d : Station) × SpellsDesign (files design) d × HasFewClauses d n × (length (files proof) ≤ limit_of file.Proof)
+IsUnrefused files (Some (trial seed size)) = HasRoutes (made seed size) × HasFewClauses (made seed size) (2 * size)
+
+-- ---- what a run comes to then
+
+-- a verdict: yes or no
+abbrev pub IsVerdict : Status → Type 0
+IsVerdict s = (s ≡ status.Done) ⊎ (s ≡ status.No)
+
+-- the search ended with a budget spent, and this is its status
+abbrev pub IsSpent : Outcome → Status → Type 0
+IsSpent (outcome.ConflictsSpent log clause hints) s = s ≡ status.ConflictsSpent
+IsSpent (outcome.TicksSpent failed sum at_hand) s = s ≡ status.TicksSpent
+IsSpent (outcome.LogSpent log bytes next) s = s ≡ status.LogSpent
+IsSpent _ s = ⊥
+
+-- a search for a plan of n steps has spent one of these budgets: what it ended with is so of the design, and this is its status
+pub record SpendsBudget (d : Station) (n : ℕ) (budgets : Budgets) (s : Status) : Type 0 where
+  pub found : Outcome
+  pub spent : IsSpent found s
+  pub says : Says d n budgets found
+  pub fits : Fits d n found
+
+-- a run comes to a verdict, and one that lists routes to yes; a search or a trial may have spent a budget in its place
+abbrev pub ComesTo : Files → Option Asked → Status → Type 0
+ComesTo files None s = ⊥
+ComesTo files (Some (simulate design plan)) s = IsVerdict s
+ComesTo files (Some (routes design)) s = s ≡ status.Done
+ComesTo files (Some (verify n conflicts ticks design proof)) s = IsVerdict s ⊎ ((d : Station) × (design_of (files design) ≡ Ok d) × SpendsBudget d n (budgets_of conflicts ticks) s)
+ComesTo files (Some (check n design proof)) s = IsVerdict s
+ComesTo files (Some (trial seed size)) s = IsVerdict s ⊎ SpendsBudget (made seed size) (2 * size) (budgets_of trial_conflicts trial_ticks) s
