@@ -7,7 +7,6 @@ pub mod design;
 pub mod history;
 pub mod list;
 pub mod plan;
-pub mod rates;
 pub mod route;
 pub mod state;
 pub mod station;
