@@ -13,6 +13,7 @@ pub mod Given
 pub mod Admits
 pub mod Keeping
 pub mod Moving
+pub mod Points
 pub mod Progress
 pub mod Lively
 pub mod Verdicts

@@ -1,11 +1,13 @@
 -- By when every command is granted.
-use Rattle.std.specs.Prelude.{ℕ, ◌+◌, ◌<◌, List, filter, length, Option, None, Some, sum_by}
+use Rattle.std.specs.Prelude.{◌≡◌, ℕ, ◌+◌, ◌≤◌, ◌<◌, true, List, filter, length, Option, None, Some, sum_by}
 use Rattle.std.specs.List.{list_any}
 use Rattle.rail_base.specs.declared.station.Station.{Station}
 use Rattle.rail_base.specs.declared.route.Route.{Route}
 use Rattle.rail_base.specs.declared.plan.Command.{Command}
 use Rattle.rail_spec.specs.Plans.{commands, path_routes, length_mm, exits}
 use Rattle.rail_base.specs.Stations.{trains, train_length}
+use Rattle.rail_base.specs.Members.{In}
+use Rattle.rail_spec.specs.Run.{is_granted, state_at}
 
 -- the end of authority is ahead, or there is none
 abbrev pub MayMove : Option ℕ → ℕ → Type 0
@@ -16,3 +18,8 @@ MayMove (Some end) x = x < end
 abbrev pub last_grant : Station → List Route → List (List Command) → ℕ
 last_grant d routes plan =
     length (commands plan) + sum_by (λ t. sum_by length_mm (path_routes routes plan t)) (trains d) + sum_by (train_length d) (filter (λ t. list_any exits (path_routes routes plan t)) (trains d))
+
+-- from then on each command of the plan is granted at every tick
+abbrev pub IsGrantedInTime : Station → List Route → List (List Command) → Type 0
+IsGrantedInTime d routes plan =
+    (c : Command) → In c (commands plan) → (k : ℕ) → last_grant d routes plan ≤ k → is_granted d routes plan (state_at d routes plan k) c ≡ true

@@ -1,7 +1,7 @@
 //! Laws of the definitions, each the contract of a function that does nothing.
 
-ghost use Rattle.std.specs.Prelude.{◌≡◌, ◌↔◌, ℕ, suc, ◌+◌, ◌-◌, ◌*◌, ◌≤◌, ◌<◌, true, false, List, Option, None, Some, take, length, sum_by, IsTrue};
-ghost use Rattle.rail_spec.specs.Motion.{Rates, Stretch, KeepsLimits, keeps_limits, may_stop, permitted, next_speed};
+ghost use Rattle.std.specs.Prelude.{◌≡◌, ◌↔◌, ℕ, ◌+◌, ◌-◌, ◌*◌, ◌≤◌, ◌<◌, true, false, List, Option, None, Some, length, sum_by};
+ghost use Rattle.rail_spec.specs.Motion.{Rates, Stretch, KeepsLimits, keeps_limits, permitted, next_speed, IsPermitted, IsGreatestPermitted};
 ghost use Rattle.rail_base.specs.declared.station.Station.{Station};
 ghost use Rattle.rail_base.specs.declared.station.TrainNo.{TrainNo};
 ghost use Rattle.rail_base.specs.declared.station.SectionNo.{SectionNo};
@@ -9,22 +9,41 @@ ghost use Rattle.rail_base.specs.declared.route.Route.{Route};
 ghost use Rattle.rail_base.specs.declared.route.Start.{Start};
 ghost use Rattle.rail_base.specs.declared.station.EdgeNo.{EdgeNo};
 ghost use Rattle.rail_base.specs.declared.plan.Command.{Command};
-ghost use Rattle.rail_spec.specs.Plans.{is_well_formed, is_executable, is_train, commands, path, path_routes, length_mm, exits};
+ghost use Rattle.rail_spec.specs.Plans.{is_well_formed, is_executable, is_train, path, path_routes, length_mm, exits};
 ghost use Rattle.rail_base.specs.Stations.{train_length, IsTrain, horizon};
-ghost use Rattle.rail_spec.specs.Safety.{holds, Clash};
+ghost use Rattle.rail_spec.specs.Safety.{holds, Clash, KeepsToTrack};
 ghost use Rattle.rail_base.specs.Members.{In, Pairs, Differ};
 ghost use Rattle.rail_spec.specs.Track.{routes_of, all_closings, Again};
 ghost use Rattle.rail_spec.specs.Elementary.{IsRouteOf, IsStart, ClosesBadly, RouteBefore, IsTold};
 ghost use Rattle.rail_base.specs.Admitted.{IsAdmitted};
 ghost use Rattle.rail_spec.specs.Feasible.{IsRunnable, IsWellFormed};
-ghost use Rattle.rail_spec.specs.Progress.{MayMove, last_grant};
-ghost use Rattle.rail_spec.specs.Run.{is_granted, state_at};
-ghost use Rattle.rail_spec.specs.Dispatches.{state_of, authority, rates, stretches};
+ghost use Rattle.rail_spec.specs.Progress.{MayMove, IsGrantedInTime, last_grant};
+ghost use Rattle.rail_spec.specs.Run.{state_at};
+ghost use Rattle.rail_spec.specs.Dispatches.{state_of};
 ghost use Rattle.rail_spec.specs.Requirements.{is_certain, meets, is_done, path_violation};
 ghost use Rattle.rail_spec.specs.Verdict.{failure, IsForTime, IsVerdict};
 ghost use Rattle.rail_base.specs.declared.plan.Violation.{Violation};
 ghost use Rattle.rail_base.specs.declared.plan.Violation.TheVariants as violation;
 ghost use Rattle.std.specs.List.{list_any};
+
+/// A move keeps the limits exactly where each point that it covers has a limit of at least its speed.
+pub fn limits_are_those_of_points()
+    ensures { (top : ℕ) (ss : List Stretch) (x y u : ℕ) → u ≤ top → (keeps_limits ss x y u ≡ true) ↔ KeepsLimits top ss x y u }
+{}
+
+/// A speed is permitted exactly where the train may reach it and can brake from there, point by point.
+pub fn permitted_speeds_are_those_of_points()
+    ensures { (m : Rates) (ss : List Stretch) (end : Option ℕ) (x v u : ℕ) → 1 ≤ m.brake
+        → (permitted m ss end x v u ≡ true) ↔ IsPermitted m ss end x v u }
+{}
+
+/// The next speed is the greatest permitted one where any is permitted, and else 0.
+pub fn next_speeds_are_greatest()
+    ensures greatest { (m : Rates) (ss : List Stretch) (end : Option ℕ) (x v w u : ℕ) → 1 ≤ m.brake
+        → IsPermitted m ss end x v w → (next_speed m ss end x v ≡ u) ↔ IsGreatestPermitted m ss end x v u }
+    ensures none { (m : Rates) (ss : List Stretch) (end : Option ℕ) (x v : ℕ) → 1 ≤ m.brake
+        → ((w : ℕ) → IsPermitted m ss end x v w → ⊥) → next_speed m ss end x v ≡ 0 }
+{}
 
 /// A speed below a permitted one is permitted.
 pub fn permitted_speeds_go_down()
@@ -75,7 +94,8 @@ pub fn trains_move_where_they_may()
 
 /// In every runnable plan of an admitted design each command is granted in time.
 pub fn every_command_is_granted()
-    ensures { (d : Station) → IsAdmitted d → (n : ℕ) (plan : List (List Command)) → IsRunnable d (routes_of d) n plan → (c : Command) → In c (commands plan) → (k : ℕ) → last_grant d (routes_of d) plan ≤ k → is_granted d (routes_of d) plan (state_at d (routes_of d) plan k) c ≡ true }
+    ensures { (d : Station) → IsAdmitted d → (n : ℕ) (plan : List (List Command))
+        → IsRunnable d (routes_of d) n plan → IsGrantedInTime d (routes_of d) plan }
 {}
 
 /// So a plan fails by a command that isn't granted only where the horizon comes before that tick.
@@ -111,6 +131,6 @@ pub fn numbers_stay_small()
 
 /// In every run of a well-formed plan a train never passes its end of authority, nor covers a point above its limit.
 pub fn trains_keep_to_their_track()
-    ensures authority { (d : Station) → IsAdmitted d → (n : ℕ) (plan : List (List Command)) → is_well_formed d (routes_of d) n plan ≡ true → (k : ℕ) (t : TrainNo) → let s = state_of (state_at d (routes_of d) plan k) t in 1 ≤ s.granted → may_stop (authority (take s.granted (path_routes (routes_of d) plan t))) s.x ≡ true }
-    ensures limits { (d : Station) → IsAdmitted d → (n : ℕ) (plan : List (List Command)) → is_well_formed d (routes_of d) n plan ≡ true → (k : ℕ) (t : TrainNo) → let old = state_of (state_at d (routes_of d) plan k) t in let new = state_of (state_at d (routes_of d) plan (suc k)) t in 1 ≤ new.granted → KeepsLimits (rates d t).top (stretches d (take new.granted (path_routes (routes_of d) plan t))) old.x new.x new.v }
+    ensures { (d : Station) → IsAdmitted d → (n : ℕ) (plan : List (List Command))
+        → is_well_formed d (routes_of d) n plan ≡ true → KeepsToTrack d (routes_of d) plan }
 {}
