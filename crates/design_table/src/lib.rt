@@ -14,8 +14,6 @@ mod kinds;
 mod place;
 mod read;
 mod sheet;
-#[cfg(test)]
-mod tests;
 mod visits;
 
 pub use document::toml_table;

@@ -11,8 +11,6 @@ mod limits;
 mod names;
 mod resolve;
 mod rules;
-#[cfg(test)]
-mod tests;
 mod walk;
 
 pub use design::read_design;

@@ -3,8 +3,6 @@
 
 mod decoding;
 mod laws;
-#[cfg(test)]
-mod tests;
 
 pub use decoding::decode;
 pub use laws::{lines_keep_the_front, live_clauses_are_true};

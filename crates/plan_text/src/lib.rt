@@ -2,7 +2,5 @@
 #![tactic(auto)]
 
 pub mod laws;
-#[cfg(test)]
-mod tests;
 mod values;
 pub mod writing;

@@ -75,5 +75,3 @@ pub fn is_done(history: &History) -> bool
         .all(|train| is_granted(train) && is_visited(train))
 }
 
-#[cfg(test)]
-mod tests;

@@ -10,8 +10,6 @@ mod route;
 mod search;
 mod starts;
 mod table;
-#[cfg(test)]
-mod tests;
 mod track;
 
 pub use fault::RouteFault;

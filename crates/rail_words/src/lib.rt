@@ -4,8 +4,6 @@
 mod command;
 mod laws;
 mod request;
-#[cfg(test)]
-mod tests;
 
 pub use laws::{
     check_is_read, requests_are_in_range, routes_is_read, silence_has_a_cause, simulate_is_read,

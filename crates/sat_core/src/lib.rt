@@ -8,8 +8,6 @@ mod listed;
 mod recorder;
 mod round;
 mod solver;
-#[cfg(test)]
-mod tests;
 
 pub use assignment::Assignment;
 pub use listed::{Line, Listed};

@@ -4,8 +4,6 @@
 mod found;
 mod scan;
 mod step;
-#[cfg(test)]
-mod tests;
 mod trail;
 mod walk;
 

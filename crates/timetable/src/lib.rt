@@ -4,9 +4,7 @@
 mod ending;
 mod events;
 mod names;
-#[cfg(test)]
-mod tests;
 mod text;
 mod trains;
 
-pub use text::{timetable, timetable_lines};
+pub use text::timetable_lines;

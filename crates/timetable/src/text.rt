@@ -2,7 +2,7 @@
 
 ghost use Rattle.std.specs.Prelude.{◌≡◌, IfOk};
 ghost use Rattle.timetable.specs.Lines.{lines_of};
-ghost use Rattle.timetable.specs.Timetable.{timetable_of, timetable_text};
+ghost use Rattle.timetable.specs.Timetable.{timetable_of};
 
 use crate::ending::{failure_line, is_path_failure, met_line};
 use crate::trains::push_history;
@@ -41,15 +41,4 @@ pub fn timetable_lines(
         Verdict::Undecided => {}
     }
     Ok(lines)
-}
-
-/// The text that tells what a run of a plan shows: its lines, one after the other.
-///
-/// `Err` is want of memory.
-pub fn timetable(alloc: Global, design: &Design, verdict: &Verdict) -> Result<Vec<u8>, AllocError>
-    ensures { IfOk result (λ text. text.items ≡ timetable_text design.now.station verdict.now) }
-{
-    timetable_lines(alloc, design, verdict)?
-        .as_slice()
-        .concat(alloc)
 }

@@ -6,8 +6,6 @@ mod draws;
 mod edges;
 mod names;
 mod nodes;
-#[cfg(test)]
-mod tests;
 mod traffic;
 
 pub use design::make;
