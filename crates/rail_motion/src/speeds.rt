@@ -1,11 +1,11 @@
 //! The speeds that are permitted, the greatest of them, and the move that it makes.
 
-ghost use Rattle.std.specs.Prelude.{◌≡◌, ◌<◌, ◌≤◌, ◌-◌, ◌+◌, ◌^◌, ◌≤ℤ◌, ◌<ℤ◌, ◌+ℤ◌, nat_abs, pos, true};
+ghost use Rattle.std.specs.Prelude.{◌≡◌, ◌↔◌, ◌<◌, ◌≤◌, ◌-◌, ◌+◌, ◌^◌, ◌≤ℤ◌, ◌<ℤ◌, ◌+ℤ◌, nat_abs, pos, true};
 ghost use Rattle.std.specs.Option.{ForSome};
 ghost use Rattle.rail_motion.specs.Motor.{rates_of};
 ghost use Rattle.rail_motion.specs.Track.{stretches_of, end_of};
 ghost use Rattle.rail_motion.specs.Ranges.{IsPlace, IsSpeed};
-ghost use Rattle.rail_spec.specs.Motion.{permitted, next_speed, reach, may_stop, KeepsLimits};
+ghost use Rattle.rail_spec.specs.Motion.{permitted, next_speed, reach, may_stop, KeepsLimits, IsPermitted, IsGreatestPermitted};
 
 use crate::limits::can_brake;
 use crate::{Ahead, Motor};
@@ -42,7 +42,9 @@ pub fn permitted(motor: &Motor, ahead: &Ahead, x: i64, v: i64, u: i64) -> bool
     requires x { IsPlace x }
     requires v { IsSpeed v }
     requires u { pos 0 ≤ℤ u }
-    ensures { result ≡ permitted (rates_of motor.now) (stretches_of ahead.now.spans.now) (end_of ahead.now.end) (nat_abs x) (nat_abs v) (nat_abs u) }
+    ensures test { result ≡ permitted (rates_of motor.now) (stretches_of ahead.now.spans.now) (end_of ahead.now.end) (nat_abs x) (nat_abs v) (nat_abs u) }
+    ensures points { let track = stretches_of ahead.now.spans.now in
+        (result ≡ true) ↔ IsPermitted (rates_of motor.now) track (end_of ahead.now.end) (nat_abs x) (nat_abs v) (nat_abs u) }
 {
     is_permitted(motor, ahead, x as u64, v as u64, u as u64)
 }
@@ -77,6 +79,8 @@ pub fn next_speed(motor: &Motor, ahead: &Ahead, x: i64, v: i64) -> i64
     requires braking { permitted (rates_of motor.now) (stretches_of ahead.now.spans.now) (end_of ahead.now.end) (nat_abs x) (nat_abs v) (nat_abs v - nat_abs motor.now.brake) ≡ true }
     ensures speed { result ≡ pos (next_speed (rates_of motor.now) (stretches_of ahead.now.spans.now) (end_of ahead.now.end) (nat_abs x) (nat_abs v)) }
     ensures range { IsSpeed result }
+    ensures greatest { let track = stretches_of ahead.now.spans.now in
+        IsGreatestPermitted (rates_of motor.now) track (end_of ahead.now.end) (nat_abs x) (nat_abs v) (nat_abs result) }
 {
     greatest_permitted(motor, ahead, x as u64, v as u64) as i64
 }
