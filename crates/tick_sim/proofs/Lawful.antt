@@ -1,4 +1,4 @@
--- No two trains are in one section, over the routes that the design has.
+-- The laws of runs, over the routes that the design has.
 use Rattle.std.proofs.Common.{◌≡◌, ℕ, true, List, sym, subst}
 use Rattle.rail_base.specs.declared.station.Station.{Station}
 use Rattle.rail_base.specs.declared.route.Route.{Route}
@@ -7,12 +7,31 @@ use Rattle.rail_base.specs.Admission.{is_admitted}
 use Rattle.rail_spec.specs.Track.{routes_of}
 use Rattle.rail_spec.specs.Plans.{is_executable, is_well_formed}
 use Rattle.rail_spec.specs.Feasible.{IsWellFormed}
-use Rattle.rail_spec.specs.Safety.{Clash}
+use Rattle.rail_spec.specs.Safety.{Clash, KeepsToTrack}
+use Rattle.rail_spec.specs.Progress.{IsGrantedInTime}
 use Rattle.rail_base.proofs.Admitting.{admitted}
 use Rattle.rail_spec.proofs.Admits.{never_clash}
+use Rattle.rail_spec.proofs.Keeping.{keeps_authority, keeps_all_limits}
+use Rattle.rail_spec.proofs.Lively.{no_deadlock}
 
-pub apart : (d : Station) → is_admitted d ≡ true → (routes : List Route) → routes ≡ routes_of d → (plan : List (List Command)) → IsWellFormed d routes 64 plan
-    → is_executable d routes plan ≡ true → (k : ℕ) → Clash d routes plan k → ⊥
-apart d good routes same plan formed executable =
-    subst (λ rs. (k : ℕ) → Clash d rs plan k → ⊥) (sym same)
-    (never_clash d (admitted d good) 64 plan (subst (λ rs. is_well_formed d rs 64 plan ≡ true) same formed.formed) (subst (λ rs. is_executable d rs plan ≡ true) same executable))
+module _ (d : Station) (good : is_admitted d ≡ true) (routes : List Route) (same : routes ≡ routes_of d) (plan : List (List Command)) (formed : IsWellFormed d routes 64 plan) where
+  over_these : IsWellFormed d (routes_of d) 64 plan
+  over_these = subst (λ rs. IsWellFormed d rs 64 plan) same formed
+
+  -- no two trains are in one section
+  pub apart : is_executable d routes plan ≡ true → (k : ℕ) → Clash d routes plan k → ⊥
+  apart executable =
+      subst (λ rs. (k : ℕ) → Clash d rs plan k → ⊥) (sym same)
+      (never_clash d (admitted d good) 64 plan over_these.formed (subst (λ rs. is_executable d rs plan ≡ true) same executable))
+
+  -- each is within its authority and its limits
+  pub keeps : KeepsToTrack d routes plan
+  keeps = subst (λ rs. KeepsToTrack d rs plan) (sym same) (record {
+    in_authority = keeps_authority d (admitted d good) 64 plan over_these.formed;
+    in_limits = keeps_all_limits d (admitted d good) 64 plan over_these.formed;
+  })
+
+  -- and each command is granted
+  pub granted : is_executable d routes plan ≡ true → IsGrantedInTime d routes plan
+  granted executable = subst (λ rs. IsGrantedInTime d rs plan) (sym same)
+      (no_deadlock d (admitted d good) 64 plan (record { well_formed = over_these; executable = subst (λ rs. is_executable d rs plan ≡ true) same executable }))

@@ -2,4 +2,4 @@ pub mod Reaching
 pub mod Fronting
 pub mod Marking
 pub mod Verdicting
-mod Apart
+mod Lawful

@@ -8,7 +8,8 @@ ghost use Rattle.rail_spec.specs.Feasible.{IsWellFormed};
 ghost use Rattle.rail_spec.specs.Run.{state_at};
 ghost use Rattle.rail_spec.specs.Requirements.{path_violation};
 ghost use Rattle.rail_spec.specs.Histories.{verdict_of};
-ghost use Rattle.rail_spec.specs.Safety.{Clash};
+ghost use Rattle.rail_spec.specs.Safety.{Clash, KeepsToTrack};
+ghost use Rattle.rail_spec.specs.Progress.{IsGrantedInTime};
 ghost use Rattle.tick_sim.specs.Runs.{IsRun};
 
 use crate::grants::IDLE;
@@ -111,7 +112,8 @@ impl Run<'_> {
 /// What so many ticks of a run show of a plan: that it meets the design, that it fails and why, or nothing yet. The
 /// history ends with the deciding tick.
 ///
-/// Where the plan is executable too, no two trains ever hold one section or stand on one, at whatever tick.
+/// At whatever tick each train is within its authority and its limits. Where the plan is executable too, no two trains
+/// ever hold one section or stand on one, and each command is granted in a bounded time.
 pub fn simulate(
     alloc: Global,
     design: &Design,
@@ -123,6 +125,9 @@ pub fn simulate(
     requires few { length routes.now ≤ 2000 }
     requires formed { IsWellFormed design.now.station routes.now 64 plan.now.steps }
     ensures value { IfOk result (λ v. v ≡ verdict_of design.now.station routes.now plan.now.steps ticks) }
+    ensures keeps { KeepsToTrack design.now.station routes.now plan.now.steps }
+    ensures granted { is_executable design.now.station routes.now plan.now.steps ≡ true
+        → IsGrantedInTime design.now.station routes.now plan.now.steps }
     ensures apart { is_executable design.now.station routes.now plan.now.steps ≡ true → (k : ℕ) → Clash design.now.station routes.now plan.now.steps k → ⊥ }
 {
     let courses = courses_of(alloc, design, routes, plan)?;
