@@ -4,7 +4,7 @@ ghost use Rattle.std.specs.Prelude.{◌≡◌, false, true, OnOk, OnErr, MatchOp
 ghost use Rattle.std.specs.Option.{option_copied};
 ghost use Rattle.rail_outside.specs.Files.{no_files, updated};
 ghost use Rattle.rail_outside.specs.Fetching.{FetchGives, FetchFits, FetchFailsWhere};
-ghost use Rattle.rail_outside.specs.Folders.{contents_of, first_named, lacks};
+ghost use Rattle.rail_outside.specs.Folders.{all_but, contents_of, first_named, lacks, no_name};
 
 use crate::shelf::FetchFault;
 use std::alloc::{AllocError, Global};
@@ -34,6 +34,7 @@ impl Folder {
     /// A folder with no file.
     pub(crate) fn new(alloc: Global) -> Self
         ensures contents { contents_of result ≡ no_files }
+        ensures lacks { lacks result ≡ no_name }
     {
         Folder {
             alloc,
@@ -65,6 +66,8 @@ impl Folder {
     pub(crate) fn put(&mut self, name: &str, bytes: &[u8]) -> Result<(), AllocError>
         ensures ok { OnOk result (contents_of self.new ≡ updated (contents_of self.old) name.now bytes.now) }
         ensures err { OnErr result (contents_of self.new ≡ contents_of self.old) }
+        ensures there { OnOk result (lacks self.new ≡ all_but (lacks self.old) name.now) }
+        ensures not_there { OnErr result (lacks self.new ≡ lacks self.old) }
     {
         let file = File {
             name: String::from_str(self.alloc, name)?,

@@ -1,10 +1,13 @@
 //! A shelf in memory, which keeps its calls and can be told to fail.
 
-ghost use Rattle.std.specs.Prelude.{◌≡◌, ◌≤◌, ◌++◌, ◌∷◌, ◌||◌, [], Some, OnOk, OnErr, MatchOption, true, false, map};
+ghost use Rattle.std.specs.Prelude.{◌≡◌, ◌≤◌, ◌++◌, ◌∷◌, ◌||◌, [], Some, OnOk, OnErr, Err, MatchOption, true, false, map};
 ghost use Rattle.rail_outside.specs.Files.{no_files, updated};
 ghost use Rattle.rail_outside.specs.Asks.{fetch_asks, store_asks};
 ghost use Rattle.rail_outside.specs.Fetching.{FetchGives, FetchFits, FetchHasCause, FetchFailsWhere};
 ghost use Rattle.rail_outside.specs.Storing.{StoreLeaves, StoreHasCause, StoreFailsWhere};
+ghost use Rattle.rail_outside.specs.Folders.{all_but, no_name};
+ghost use Rattle.rail_outside.specs.declared.shelf.FetchFault.TheVariants as fetch;
+ghost use Rattle.rail_outside.specs.declared.shelf.StoreFault.TheVariants as store;
 ghost use Rattle.rail_outside.specs.MemoryShelves.{ask_of, held_by, asked_of, failing_calls, faults_of, fails_next, misses};
 
 use crate::folder::{Folder, copied};
@@ -32,6 +35,7 @@ impl MemoryShelf {
     /// A shelf with no file, of which nothing was asked and no call is to fail.
     pub fn new(alloc: Global) -> Self
         ensures held { held_by result ≡ no_files }
+        ensures misses { misses result ≡ no_name }
         ensures asked { asked_of result ≡ [] }
         ensures failing { failing_calls result ≡ [] }
         ensures faults { faults_of result ≡ 0 }
@@ -49,6 +53,8 @@ impl MemoryShelf {
     pub fn add_file(&mut self, name: &str, bytes: &[u8]) -> Result<(), AllocError>
         ensures ok { OnOk result (held_by self.new ≡ updated (held_by self.old) name.now bytes.now) }
         ensures err { OnErr result (held_by self.new ≡ held_by self.old) }
+        ensures there { OnOk result (misses self.new ≡ all_but (misses self.old) name.now) }
+        ensures not_there { OnErr result (misses self.new ≡ misses self.old) }
         ensures asked { asked_of self.new ≡ asked_of self.old }
         ensures failing { failing_calls self.new ≡ failing_calls self.old }
         ensures faults { faults_of self.new ≡ faults_of self.old }
@@ -61,6 +67,7 @@ impl MemoryShelf {
         ensures ok { OnOk result (failing_calls self.new ≡ failing_calls self.old ++ call ∷ []) }
         ensures err { OnErr result (failing_calls self.new ≡ failing_calls self.old) }
         ensures held { held_by self.new ≡ held_by self.old }
+        ensures misses { misses self.new ≡ misses self.old }
         ensures asked { asked_of self.new ≡ asked_of self.old }
         ensures faults { faults_of self.new ≡ faults_of self.old }
     {
@@ -119,7 +126,9 @@ impl Shelf for MemoryShelf {
         ensures fails { FetchFailsWhere result (fails_next self.old || misses self.old name.now) }
         ensures cause { FetchHasCause result (faults_of self.old) (faults_of self.new) }
         ensures never_falls { faults_of self.old ≤ faults_of self.new }
+        ensures memory { result ≡ Err fetch.Memory → faults_of self.new ≡ faults_of self.old }
         ensures files_stay { held_by self.new ≡ held_by self.old }
+        ensures names_stay { misses self.new ≡ misses self.old }
         ensures failing_stay { failing_calls self.new ≡ failing_calls self.old }
         ensures asks { asked_of self.new ≡ asked_of self.old ++ fetch_asks result name.now }
     {
@@ -139,6 +148,9 @@ impl Shelf for MemoryShelf {
     fn store(&mut self, name: &str, bytes: &[u8]) -> Result<(), StoreFault>
         ensures leaves { StoreLeaves result (Some (held_by self.old)) (Some (held_by self.new)) name.now bytes.now }
         ensures err { OnErr result (held_by self.new ≡ held_by self.old) }
+        ensures there { OnOk result (misses self.new ≡ all_but (misses self.old) name.now) }
+        ensures not_there { OnErr result (misses self.new ≡ misses self.old) }
+        ensures memory { result ≡ Err store.Memory → faults_of self.new ≡ faults_of self.old }
         ensures fails { StoreFailsWhere result (fails_next self.old) }
         ensures cause { StoreHasCause result (faults_of self.old) (faults_of self.new) }
         ensures never_falls { faults_of self.old ≤ faults_of self.new }

@@ -1,8 +1,9 @@
 //! A sink in memory, which keeps its pieces and can be told to fail.
 
-ghost use Rattle.std.specs.Prelude.{◌≡◌, ◌≤◌, ◌++◌, ◌∷◌, [], Some, OnOk, OnErr, is_some};
+ghost use Rattle.std.specs.Prelude.{◌≡◌, ◌≤◌, ◌++◌, ◌∷◌, [], Some, OnOk, OnErr, Err, is_some};
 ghost use Rattle.rail_outside.specs.Lines.{lines_of};
 ghost use Rattle.rail_outside.specs.Putting.{PutHasCause, PutLeaves, PutFailsWhere, put_pieces};
+ghost use Rattle.rail_outside.specs.declared.sink.SinkFault.TheVariants.{Memory};
 ghost use Rattle.rail_outside.specs.MemorySinks.{written_to, pieces_of, failures_of, faults_in, next_failure, put_bytes};
 
 use crate::sink::{Sink, SinkFault};
@@ -112,6 +113,7 @@ impl Sink for MemorySink {
         ensures fails { PutFailsWhere result (is_some (next_failure self.old)) }
         ensures cause { PutHasCause result (faults_in self.old) (faults_in self.new) }
         ensures never_falls { faults_in self.old ≤ faults_in self.new }
+        ensures memory { result ≡ Err Memory → faults_in self.new ≡ faults_in self.old }
         ensures failures_stay { failures_of self.new ≡ failures_of self.old }
         ensures pieces { pieces_of self.new ≡ pieces_of self.old ++ put_pieces result bytes.now }
     {
