@@ -3,6 +3,7 @@ pub mod Made
 pub mod Timing
 pub mod Known
 pub mod Modelling
+pub mod Within
 pub mod Rounds
 pub mod Each
 pub mod Below
@@ -10,3 +11,4 @@ pub mod Refuting
 pub mod Failure
 pub mod Written
 pub mod Answering
+pub mod Differing

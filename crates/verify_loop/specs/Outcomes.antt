@@ -23,7 +23,7 @@ use Rattle.rail_spec.specs.Feasible.{IsRunnable, IsFeasible, IsInfeasible}
 use Rattle.rail_spec.specs.Histories.{verdict_of}
 use Rattle.rail_spec.specs.Requirements.{cost}
 use Rattle.rail_spec.specs.Track.{routes_of}
-use Rattle.run_log.specs.Logs.{LogLine, IsRunLog, IsEndedLog, MayComeNext, cones_of, learnt_count}
+use Rattle.run_log.specs.Logs.{LogLine, Learnt, IsRunLog, IsEndedLog, MayComeNext, cones_of, learnt_count, log_text}
 use Rattle.sat_clause.specs.Clauses.{Store, clause_holds}
 use Rattle.sat_core.specs.Lines.{Derived, text_of}
 use Rattle.sat_core.specs.Texts.{ended}
@@ -98,31 +98,51 @@ module _ (d : Station) (n : ℕ) where
       ((line : Derived) × IsNext lines line × (next ≡ length (text_of line)))
       ⊎ ((r : Refutal) × IsFound (cones_in rs) r.plan × IsConeOf r.plan r.cone × (next ≡ length (ended (text_of_line (Refute r.cone)))))
 
+  -- ---- budgets
+
+  -- so many clauses were derived as these lines have, and these plans were run: no more than may be spent
+  pub record IsWithin (b : Budgets) (lines : List LogLine) (plans : List (List (List Command))) : Type 0 where
+    pub derived : learnt_count lines ≤ b.conflicts
+    pub timed : cost_of plans ≤ b.ticks
+
+  -- the search came to this plan, and its run is within the budgets too
+  pub record IsReached (b : Budgets) (plan : List (List Command)) : Type 0 where
+    pub lines : List LogLine
+    pub rs : List Refutal
+    pub log : IsLog lines rs (log_text lines)
+    pub found : IsFound (cones_in rs) plan
+    pub within : IsWithin b lines (plans_of rs ++ plan ∷ [])
+
   -- the log is empty, and there is no room for the head; or it is a log of the search, and there is none for a next line
-  abbrev pub IsFull : ℕ → List ℕ → ℕ → ℕ → Type 0
-  IsFull limit log bytes next =
-      (bytes ≡ length log) × (limit < bytes + next)
-      × (((log ≡ []) × (next ≡ length (ended head))) ⊎ ((lines : List LogLine) × (rs : List Refutal) × IsLog lines rs log × IsNextLine lines rs next))
+  abbrev pub IsFull : Budgets → List ℕ → ℕ → ℕ → Type 0
+  IsFull b log bytes next =
+      (bytes ≡ length log) × (b.log_bytes < bytes + next)
+      × (((log ≡ []) × (next ≡ length (ended head)))
+      ⊎ ((lines : List LogLine) × (rs : List Refutal) × IsLog lines rs log × IsWithin b lines (plans_of rs) × IsNextLine lines rs next))
 
   -- a log of the search with the line that ends it, which is a file that shows that there is no plan of n steps
-  pub record IsProof (log : List ℕ) : Type 0 where
+  pub record IsProof (b : Budgets) (log : List ℕ) : Type 0 where
     pub lines : List LogLine
     pub rs : List Refutal
     pub ended_log : IsEndedLog (refuted d n) vars n base lines log
     pub shown : AreShown lines rs
     pub accepted : judged d n log ≡ Yes n
+    pub within : IsWithin b (lines ++ Learnt ended_log.last ∷ []) (plans_of rs)
 
   -- ---- ends
 
   -- what the end of a search within these budgets says
   abbrev pub Says : Budgets → Outcome → Type 0
-  Says b (Plan plan verdict) = IsFeasible d n plan.steps × (verdict ≡ verdict_of d (routes_of d) plan.steps (horizon d)) × (cost d (routes_of d) plan.steps ≤ b.ticks)
-  Says b (Infeasible log) = IsInfeasible d n × IsProof log.items × (length log.items ≤ b.log_bytes)
-  Says b (ConflictsSpent log clause hints) = (lines : List LogLine) × (rs : List Refutal) × IsLog lines rs log.items × (learnt_count lines ≡ b.conflicts) × IsNext lines (clause.items, hints.items)
+  Says b (Plan plan verdict) = IsFeasible d n plan.steps × (verdict ≡ verdict_of d (routes_of d) plan.steps (horizon d)) × IsReached b plan.steps
+  Says b (Infeasible log) = IsInfeasible d n × IsProof b log.items × (length log.items ≤ b.log_bytes)
+  Says b (ConflictsSpent log clause hints) =
+      (lines : List LogLine) × (rs : List Refutal) × IsLog lines rs log.items × IsWithin b lines (plans_of rs)
+      × (learnt_count lines ≡ b.conflicts) × IsNext lines (clause.items, hints.items)
   Says b (TicksSpent failed sum at_hand) =
-      (rs : List Refutal) × AreRefuted [] rs × (map (λ (p : PlanOf). p.steps) failed.items ≡ plans_of rs) × (sum ≡ cost_of (plans_of rs)) × (sum ≤ b.ticks)
+      (lines : List LogLine) × (rs : List Refutal) × IsLog lines rs (log_text lines) × IsWithin b lines (plans_of rs)
+      × (map (λ (p : PlanOf). p.steps) failed.items ≡ plans_of rs) × (sum ≡ cost_of (plans_of rs))
       × IsFound (cones_in rs) at_hand.steps × (b.ticks < sum + cost d (routes_of d) at_hand.steps)
-  Says b (LogSpent log bytes next) = IsFull b.log_bytes log.items bytes next
+  Says b (LogSpent log bytes next) = IsFull b log.items bytes next
   Says b (TooLarge literals) = past_limit 4000000 0 (base_clauses d (routes_of d) n) ≡ Some literals
   Says b Memory = Unit {0}
 

@@ -1,0 +1,6 @@
+use Rattle.std.proofs.Common.{[]}
+use Rattle.verify_loop.proofs.Differing.{plans_differ}
+use Rattle.verify_loop.proofs.laws.refuted_plans_differ.Goals as goal
+
+pub returns : goal.returns
+returns c = λ d good n some rs refuted. plans_differ d good n some [] rs refuted
