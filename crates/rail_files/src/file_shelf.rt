@@ -5,13 +5,21 @@ ghost use Rattle.rail_outside.specs.Fetching.{FetchFits};
 
 use crate::bytes::{read_within, write_whole};
 use rail_outside::{FetchFault, Shelf, StoreFault};
-use std::alloc::Global;
+use std::alloc::{AllocError, Global};
 use std::fs::{OpenFile, OpenOptions};
 use std::io::{ErrorKind, Write};
 use std::rt::Files;
 use std::{fs, io};
 
+/// How many names a part may have.
+const PARTS: u32 = 100;
+
 /// A shelf over the files of a runtime, which tells no content. Each call that fails raises the count.
+///
+/// A store of `NAME` writes a new file, `NAME.rcv-part`, and where there is one already `NAME.rcv-part2` and so on up to
+/// `NAME.rcv-part100`; it then takes the place of `NAME`. Where all of these names are taken the store fails. No file but
+/// `NAME` and the part that the store itself made is ever replaced or removed. If the machine stops in the middle, `NAME`
+/// has its old bytes or all of the new ones, and the part may be left, which no later store takes away.
 #[derive(Drop)]
 pub struct FileShelf<R: Files + Drop> {
     alloc: Global,
@@ -47,20 +55,61 @@ fn write_part(file: &mut (impl Write + OpenFile), bytes: &[u8]) -> io::Result<()
     file.sync_all()
 }
 
-/// Writes the bytes to a new file `part`, which then takes the name. An error leaves the name as it was.
+/// The name of a part: `.rcv-part` after the name, and from the second part on its number.
+fn part_name(alloc: Global, name: &str, number: u32) -> Result<String, AllocError> {
+    if number == 1 {
+        format!(in alloc; "{name}.rcv-part")
+    } else {
+        format!(in alloc; "{name}.rcv-part{number}")
+    }
+}
+
+/// How it went to write a file by way of a part.
+enum Attempt {
+    Written,
+    /// The part's name is taken; nothing was written.
+    Taken,
+    Failed,
+}
+
+/// Writes the bytes to a new file `part`, which then takes the name.
 ///
-/// A file `part` that an earlier run left is taken away first.
-fn write_file(files: &impl Files, part: &str, name: &str, bytes: &[u8]) -> io::Result<()> {
-    let _ = fs::remove_file(files, part);
-    let mut file = OpenOptions::new()
+/// `Failed` leaves the name as it was, and takes the part away if it was made here.
+fn write_by_part(files: &impl Files, part: &str, name: &str, bytes: &[u8]) -> Attempt {
+    let mut file = match OpenOptions::new()
         .write(true)
         .create_new(true)
-        .open(files, part)?;
-    let result = write_part(&mut file, bytes).and_then(|()| fs::rename(files, part, name));
-    if result.is_err() {
-        let _ = fs::remove_file(files, part);
+        .open(files, part)
+    {
+        Ok(file) => file,
+        Err(error) if error.kind() == ErrorKind::AlreadyExists => return Attempt::Taken,
+        Err(_) => return Attempt::Failed,
+    };
+    if write_part(&mut file, bytes).is_ok() && fs::rename(files, part, name).is_ok() {
+        return Attempt::Written;
     }
-    result
+    let _ = fs::remove_file(files, part);
+    Attempt::Failed
+}
+
+/// Writes the bytes under a name, by way of the first part whose name is free, and gives whether that was done.
+///
+/// `false` and want of memory leave the name as it was.
+fn write_file(
+    alloc: Global,
+    files: &impl Files,
+    name: &str,
+    bytes: &[u8],
+) -> Result<bool, AllocError> {
+    for number in 1..=PARTS {
+        let part = part_name(alloc, name, number)?;
+        match write_by_part(files, part.as_str(), name, bytes) {
+            Attempt::Written => return Ok(true),
+            Attempt::Taken => {}
+            Attempt::Failed => return Ok(false),
+        }
+    }
+    Ok(false)
 }
 
 impl<R: Files + Drop> FileShelf<R> {
@@ -92,14 +141,11 @@ impl<R: Files + Drop> Shelf for FileShelf<R> {
     }
 
     fn store(&mut self, name: &str, bytes: &[u8]) -> Result<(), StoreFault> {
-        let part = format!(in self.alloc; "{name}.rcv-part")?;
-        if !may_hold(&self.files, name)
-            || write_file(&self.files, part.as_str(), name, bytes).is_err()
-        {
-            self.faults = self.faults.saturating_add(1);
-            return Err(StoreFault::Failed);
+        if may_hold(&self.files, name) && write_file(self.alloc, &self.files, name, bytes)? {
+            return Ok(());
         }
-        Ok(())
+        self.faults = self.faults.saturating_add(1);
+        Err(StoreFault::Failed)
     }
 
     fn faults(&self) -> u64 {

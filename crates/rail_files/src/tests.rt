@@ -20,13 +20,12 @@ fn a_file_shelf_reads_within_the_limit(rt: HostRuntime) -> io::Result<()> {
     assert!(rt; matches!(shelf.fetch(alloc, "plan.json", 26), Err(FetchFault::Failed)));
     assert!(rt; matches!(shelf.fetch(alloc, ".", 26), Err(FetchFault::Failed)));
     assert_eq!(rt; shelf.faults(), 2);
-    Ok(())
+    fs::remove_file(&rt, "design.toml")
 }
 
 #[test]
 fn a_file_shelf_stores_whole_files(rt: HostRuntime) -> io::Result<()> {
     let alloc = rt.alloc();
-    fs::write(&rt, "proof.rcv-part", b"half")?;
     let mut shelf = FileShelf::new(alloc, &rt);
     for text in [
         b"rcvlog 1\n".as_slice(),
@@ -47,7 +46,51 @@ fn a_file_shelf_stores_whole_files(rt: HostRuntime) -> io::Result<()> {
     );
     assert_eq!(rt; shelf.faults(), 2);
     assert!(rt; fs::metadata(&rt, "proof.rcv-part").is_err());
-    Ok(())
+    fs::remove_file(&rt, "proof")
+}
+
+#[test]
+fn a_file_named_like_the_part_stays(rt: HostRuntime) -> io::Result<()> {
+    let alloc = rt.alloc();
+    fs::write(&rt, "log.rcv-part", DESIGN)?;
+    let mut shelf = FileShelf::new(alloc, &rt);
+    assert!(rt; shelf.store("log", b"rcvlog 1\n").is_ok());
+    let held = shelf.fetch(alloc, "log", 40);
+    assert!(rt; held.is_ok_and(|bytes| bytes.as_slice() == b"rcvlog 1\n".as_slice()));
+    let design = shelf.fetch(alloc, "log.rcv-part", 40);
+    assert!(rt; design.is_ok_and(|bytes| bytes.as_slice() == DESIGN));
+    assert!(rt; fs::metadata(&rt, "log.rcv-part2").is_err());
+    fs::remove_file(&rt, "log.rcv-part")?;
+    fs::remove_file(&rt, "log")
+}
+
+#[test]
+fn a_store_fails_where_all_parts_are_taken(rt: HostRuntime) -> io::Result<()> {
+    let alloc = rt.alloc();
+    fs::write(&rt, "last", b"old")?;
+    fs::write(&rt, "last.rcv-part", DESIGN)?;
+    for number in 2..101 {
+        let part = format!(in alloc; "last.rcv-part{number}")?;
+        fs::write(&rt, part.as_str(), DESIGN)?;
+    }
+    let mut shelf = FileShelf::new(alloc, &rt);
+    assert!(rt; matches!(shelf.store("last", b"rcvlog 1\n"), Err(StoreFault::Failed)));
+    assert_eq!(rt; shelf.faults(), 1);
+    for (name, text) in [
+        ("last", b"old".as_slice()),
+        ("last.rcv-part", DESIGN),
+        ("last.rcv-part100", DESIGN),
+    ] {
+        let held = shelf.fetch(alloc, name, 40);
+        assert!(rt; held.is_ok_and(|bytes| bytes.as_slice() == text));
+    }
+    assert!(rt; fs::metadata(&rt, "last.rcv-part101").is_err());
+    for number in 2..101 {
+        let part = format!(in alloc; "last.rcv-part{number}")?;
+        fs::remove_file(&rt, part.as_str())?;
+    }
+    fs::remove_file(&rt, "last.rcv-part")?;
+    fs::remove_file(&rt, "last")
 }
 
 /// A writer that takes one byte a turn, up to `room`, and then none.
