@@ -1,5 +1,5 @@
 -- What the answers of a solver say of the clauses of a text.
-use Rattle.std.proofs.Common.{◌≡◌, ℕ, zero, suc, ◌+◌, ◌≤◌, Bool, true, false, List, [], ◌∷◌, ◌++◌, flat_map, length, Option, Some, None, sym, ap, subst, ◌∙◌, arith, append_assoc, append-nil, length-append, slice_get}
+use Rattle.std.proofs.Common.{◌≡◌, ℕ, zero, suc, ◌+◌, ◌≤◌, ◌<◌, Bool, true, false, List, [], ◌∷◌, ◌++◌, flat_map, length, Option, Some, None, sym, ap, subst, ◌∙◌, arith, append_assoc, append-nil, length-append, slice_get}
 use Rattle.sat_clause.specs.declared.lit.Lit.{Lit}
 use Rattle.sat_clause.specs.declared.follow.Follow.TheVariants.{Yes}
 use Rattle.sat_clause.specs.Clauses.{Store, live_clause, if_live}
@@ -47,16 +47,16 @@ front-true values store (d ∷ ds) t =
     let more : MakesTrue values (store ++ (d.0, true) ∷ []) = front-true values (store ++ (d.0, true) ∷ []) ds t in
     λ id c live. more id c (still-live store (d.0, true) id c live)
 
--- a solver that held the clauses and no line, and what it listed by its end
-pub record IsRun (f : Formula) (old new : State) (listed : List Line) : Type 0 where
+-- a solver that held the clauses and no line, what it listed by its end, and what the check of it found
+pub record IsRun (f : Formula) (old new : State) (listed : List Line) (fault : Option ℕ) : Type 0 where
   pub clauses : old.clauses ≡ f.clauses
   pub text : old.text ≡ []
   pub limit : new.limit ≡ None
   pub derives : old.derives ≡ 0
   pub listed_is : new.text ≡ flat_map text_of_line listed
-  pub checked : fault_from f.clauses 1 listed ≡ None
+  pub checked : fault_from f.clauses 1 listed ≡ fault
 
-module _ (f : Formula) (old new : State) (listed : List Line) (r : IsRun f old new listed) where
+module _ (f : Formula) (old new : State) (listed : List Line) (fault : Option ℕ) (r : IsRun f old new listed fault) where
   module _ (now : State) (more : List Derived) (went : Went [] old now more) where
     clauses_are : now.clauses ≡ with_lines f.clauses more
     clauses_are = went.clauses ∙ ap (λ (z : Store). with_lines z more) r.clauses
@@ -70,7 +70,7 @@ module _ (f : Formula) (old new : State) (listed : List Line) (r : IsRun f old n
     count : now.derives ≡ length more
     count = let grown = went.derives in let none = r.derives in omega arith
 
-  recorded_so : (more : List Derived) → Went [] old new more → AreRecorded f.clauses new.derives
+  recorded_so : (more : List Derived) → Went [] old new more → AreRecorded f.clauses new.derives fault
   recorded_so more went = record {
     derived = more;
     listed = listed;
@@ -80,7 +80,7 @@ module _ (f : Formula) (old new : State) (listed : List Line) (r : IsRun f old n
     checked = r.checked;
   }
 
-  at_last_so : (now : State) (more : List Derived) (core : List Lit) (hints : List ℕ) → Went [] old now more → IsFinal now.clauses [] core hints → IsRecorded now new core hints → AreRecorded f.clauses new.derives
+  at_last_so : (now : State) (more : List Derived) (core : List Lit) (hints : List ℕ) → Went [] old now more → IsFinal now.clauses [] core hints → IsRecorded now new core hints → AreRecorded f.clauses new.derives fault
   at_last_so now more core hints went final recorded =
       let grown = length-append more ((core, hints) ∷ []) in
       let so_far = count now more went in
@@ -100,20 +100,28 @@ module _ (f : Formula) (old new : State) (listed : List Line) (r : IsRun f old n
     assumed = m.assumed;
   }
 
-  pub ends_so : (conflicts : ℕ) (a : Answer) → AnswerEnds old new [] f.vars conflicts a → Ends f conflicts (told_of a new.derives)
-  ends_so conflicts (answer.Sat values) e =
+  -- whatever it answers, what it recorded follows
+  pub recorded : (conflicts : ℕ) (a : Answer) → AnswerEnds old new [] f.vars conflicts a → AreRecorded f.clauses new.derives fault × (new.derives ≤ conflicts)
+  recorded conflicts (answer.Sat values) e =
       let so_far = count new e.0 e.1 in
       let few : length e.0 ≤ conflicts = e.2 in
-      (model_so e.0 values e.1 e.3, recorded_so e.0 e.1, omega arith)
-  ends_so conflicts (answer.Unsat core) e =
+      (recorded_so e.0 e.1, omega arith)
+  recorded conflicts (answer.Unsat core) e =
       let so_far = count e.1 e.0 e.3 in
       let last = e.6.derives in
-      (subst (λ (z : Store). HasNoModel z []) r.clauses e.7, at_last_so e.1 e.0 core.clause.items e.2 e.3 e.5 e.6, omega (arith, so_far, last, e.4))
-  ends_so conflicts (answer.Spent clause hints) e =
+      (at_last_so e.1 e.0 core.clause.items e.2 e.3 e.5 e.6, omega (arith, so_far, last, e.4))
+  recorded conflicts (answer.Spent clause hints) e =
       let so_far = count new e.0 e.1 in
-      (recorded_so e.0 e.1, so_far ∙ e.2)
-  ends_so conflicts (answer.Full bytes next) e = tt
-  ends_so conflicts answer.Memory e = tt
+      let all : length e.0 ≡ conflicts = e.2 in
+      (recorded_so e.0 e.1, omega arith)
+  recorded conflicts (answer.Full bytes next) e =
+      let so_far = count new e.0 e.3 in
+      let few : length e.0 < conflicts = e.4 in
+      (recorded_so e.0 e.3, omega arith)
+  recorded conflicts answer.Memory e =
+      let so_far = count new e.0 e.1 in
+      let few : length e.0 ≤ conflicts = e.2 in
+      (recorded_so e.0 e.1, omega arith)
 
   -- it is never full
   pub not_full : (conflicts bytes next : ℕ) → AnswerEnds old new [] f.vars conflicts (answer.Full bytes next) → ⊥
@@ -124,3 +132,17 @@ module _ (f : Formula) (old new : State) (listed : List Line) (r : IsRun f old n
       never : (limit : Option ℕ) → limit ≡ None → has_room limit (bytes + next) ≡ false → ⊥
       never None is h = cc
       never (Some n) is h = cc
+
+-- where the check found no fault the answer stands
+pub ends_so : (f : Formula) (old new : State) (listed : List Line) (r : IsRun f old new listed None) (conflicts : ℕ) (a : Answer) → AnswerEnds old new [] f.vars conflicts a → Ends f conflicts (told_of a new.derives)
+ends_so f old new listed r conflicts (answer.Sat values) e =
+    let so = recorded f old new listed None r conflicts (answer.Sat values) e in
+    (model_so f old new listed None r e.0 values e.1 e.3, so.0, so.1)
+ends_so f old new listed r conflicts (answer.Unsat core) e =
+    let so = recorded f old new listed None r conflicts (answer.Unsat core) e in
+    (subst (λ (z : Store). HasNoModel z []) r.clauses e.7, so.0, so.1)
+ends_so f old new listed r conflicts (answer.Spent clause hints) e =
+    let so = recorded f old new listed None r conflicts (answer.Spent clause hints) e in
+    (so.0, count f old new listed None r new e.0 e.1 ∙ e.2)
+ends_so f old new listed r conflicts (answer.Full bytes next) e = tt
+ends_so f old new listed r conflicts answer.Memory e = tt

@@ -1,5 +1,5 @@
 -- How a run ends.
-use Rattle.std.specs.Prelude.{ℕ, ◌≡◌, ◌≤◌, true, List, [], ◌∷◌, ◌++◌, length, flat_map, codes, decimal, Some, None, Result, Ok, Err, ◌⊎◌}
+use Rattle.std.specs.Prelude.{ℕ, ◌≡◌, ◌≤◌, true, List, [], ◌∷◌, ◌++◌, length, flat_map, codes, decimal, Option, Some, None, Result, Ok, Err, ◌⊎◌}
 use Rattle.sat_clause.specs.Clauses.{Store}
 use Rattle.sat_clause.specs.Hints.{follow_of}
 use Rattle.sat_clause.specs.declared.follow.Follow.TheVariants.{Yes}
@@ -19,14 +19,15 @@ abbrev pub AllFollow : Store → List Derived → Type 0
 AllFollow store [] = Unit {0}
 AllFollow store (d ∷ ds) = (follow_of store d.0 d.1 ≡ Yes) × AllFollow (store ++ (d.0, true) ∷ []) ds
 
--- so many lines were derived, each of which follows; lines with their text are listed, and the check of these found no fault
-pub record AreRecorded (store : Store) (lines : ℕ) : Type 0 where
+-- so many lines were derived, each of which follows; the lines that are kept have their text, and this is the first of them
+-- that the check found at fault, if one is
+pub record AreRecorded (store : Store) (lines : ℕ) (fault : Option ℕ) : Type 0 where
   pub derived : List Derived
   pub listed : List Line
   pub count : length derived ≡ lines
   pub follow : AllFollow store derived
   pub text : flat_map text_of_line listed ≡ flat_map text_of derived
-  pub checked : fault_from store 1 listed ≡ None
+  pub checked : fault_from store 1 listed ≡ fault
 
 -- what an answer and the number of derived lines tell; a recorder without a limit is never full
 abbrev pub told_of : Answer → ℕ → Outcome
@@ -38,10 +39,10 @@ told_of answer.Memory lines = Memory
 
 -- what the end of a run over these clauses says, where at most so many lines may be derived
 abbrev pub Ends : Formula → ℕ → Outcome → Type 0
-Ends f conflicts (Sat lines values) = IsModel f.clauses [] f.vars values × AreRecorded f.clauses lines × (lines ≤ conflicts)
-Ends f conflicts (Unsat lines) = HasNoModel f.clauses [] × AreRecorded f.clauses lines × (lines ≤ conflicts)
-Ends f conflicts (Spent lines) = AreRecorded f.clauses lines × (lines ≡ conflicts)
-Ends f conflicts (DoesNotFollow line) = (listed : List Line) × (fault_from f.clauses 1 listed ≡ Some line)
+Ends f conflicts (Sat lines values) = IsModel f.clauses [] f.vars values × AreRecorded f.clauses lines None × (lines ≤ conflicts)
+Ends f conflicts (Unsat lines) = HasNoModel f.clauses [] × AreRecorded f.clauses lines None × (lines ≤ conflicts)
+Ends f conflicts (Spent lines) = AreRecorded f.clauses lines None × (lines ≡ conflicts)
+Ends f conflicts (DoesNotFollow line) = (lines : ℕ) × AreRecorded f.clauses lines (Some line) × (lines ≤ conflicts)
 Ends f conflicts (Text line) = ⊥
 Ends f conflicts Memory = Unit {0}
 Ends f conflicts Usage = ⊥
