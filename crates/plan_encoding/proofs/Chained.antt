@@ -15,6 +15,20 @@ use Rattle.plan_clauses.specs.Variables.{pairs_of}
 use Rattle.plan_clauses.specs.Clauses.{onward, chain_length, chains, clearing, waits_for, waits}
 use Rattle.plan_encoding.specs.Waiting.{waits_over}
 use Rattle.plan_encoding.proofs.Gathering.{drop_next}
+use Rattle.std.proofs.Common.{cond, ◌||◌, ◌==◌, eqb, eqb-true, ap₂, subst, filter}
+use Rattle.std.specs.List.{list_any}
+use Rattle.rail_base.specs.Members.{In}
+use Rattle.rail_base.proofs.Lists.{in_filter_back}
+use Rattle.rail_base.specs.declared.route.Start.{Start}
+use Rattle.rail_base.specs.declared.route.Start.TheVariants as start
+use Rattle.rail_base.specs.declared.route.Finish.{Finish}
+use Rattle.rail_base.specs.declared.route.Finish.TheVariants as finish
+use Rattle.rail_spec.specs.Plans.{goes_on, is_start, route_numbers}
+use Rattle.plan_encoding.specs.Tables.{going_on}
+use Rattle.std.proofs.Common.{Vec, Global, inl}
+use Rattle.std.specs.Prelude.{Result, Ok, Err, IfOk}
+use Rattle.std.specs.declared.alloc.AllocError.{AllocError}
+use Rattle.plan_encoding.proofs.Tabled.{filter_both, route_known}
 use Rattle.plan_encoding.proofs.Listing.{Next}
 
 pub one_longer : (table : List Route) (before : List RouteNo) (w : RouteNo) → chain_length table (before ++ w ∷ []) ≡ chain_length table before + length_mm (route_at table w)
@@ -89,3 +103,88 @@ no_waits d table (e ∷ cs) = ap (λ xs. xs ++ flat_map (λ e. flat_map (waits d
     of : (ps : List (Command × Command)) → flat_map (waits d table 1) ps ≡ []
     of [] = refl
     of (p ∷ ps) = ap (λ xs. xs ++ flat_map (waits d table 1) ps) (over p.0 p.1 (chains table (length table) (clearing d table 1 p.0 p.1) [] p.0.route)) ∙ of ps
+
+-- nor has any where the first command's route exits
+pub no_waits_for : (d : Station) (table : List Route) (n : ℕ) (e : Command) (rivals : List Command) → exits (route_at table e.route) ≡ true → flat_map (waits d table n) (map (λ c. (e, c)) rivals) ≡ []
+no_waits_for d table n e [] h = refl
+no_waits_for d table n e (c ∷ cs) h =
+    ap (λ xs. xs ++ flat_map (waits d table n) (map (λ c. (e, c)) cs)) (ap (waits_over d table n e c) (stop_exit table (clearing d table n e c) [] e.route (length table) h))
+    ∙ no_waits_for d table n e cs h
+
+-- nor where there is no rival
+pub no_waits_of_none : (d : Station) (table : List Route) (n : ℕ) (e : Command) (rivals : List Command) → (length rivals == 0) ≡ true → flat_map (waits d table n) (map (λ c. (e, c)) rivals) ≡ []
+no_waits_of_none d table n e [] h = refl
+no_waits_of_none d table n e (c ∷ cs) h = let l = eqb-true (suc (length cs)) 0 h in absurd (omega arith)
+
+-- ---- with which routes a chain goes on
+
+abbrev no_routes : List RouteNo
+no_routes = []
+
+-- routes that go on from one place start at one place
+one_start : (f : Finish) (s t v : Start) → goes_on f s ≡ true → goes_on f t ≡ true → is_start v s ≡ is_start v t
+one_start (finish.Signal a) (start.Signal b) (start.Signal c) (start.Signal q) h k = let e = eqb-true a.0 b.0 h in let f = eqb-true a.0 c.0 k in ap (λ m. eqb q.0 m) (sym e ∙ f)
+one_start (finish.Signal a) (start.Signal b) (start.Signal c) (start.Boundary q) h k = refl
+one_start (finish.Signal a) (start.Boundary b) t v h k = absurd (cc)
+one_start (finish.Signal a) (start.Signal b) (start.Boundary c) v h k = absurd (cc)
+one_start (finish.Exit m) s t v h k = absurd (cc)
+one_start (finish.Dead m) s t v h k = absurd (cc)
+
+module _ (table : List Route) (chain : List RouteNo) (last : RouteNo) where
+  abbrev goes : RouteNo → Bool
+  goes w = goes_on (route_at table last).finish (route_at table w).start
+
+  abbrev met : RouteNo → Bool
+  met w = list_any (λ v. is_start (route_at table v).start (route_at table w).start) chain
+
+  one_met : (w x : RouteNo) → goes w ≡ true → goes x ≡ true → met w ≡ met x
+  one_met w x h k = go chain
+    where
+      go : (vs : List RouteNo) → list_any (λ v. is_start (route_at table v).start (route_at table w).start) vs ≡ list_any (λ v. is_start (route_at table v).start (route_at table x).start) vs
+      go [] = refl
+      go (v ∷ vs) = ap₂ (λ a b. a || b) (one_start (route_at table last).finish (route_at table w).start (route_at table x).start (route_at table v).start h k) (go vs)
+
+  -- all that go on from the last route are as one of them is
+  all_as_one : (x : RouteNo) → goes x ≡ true → (b : Bool) → met x ≡ b → (ws : List RouteNo) → filter (λ w. not (met w)) (filter goes ws) ≡ cond b [] (filter goes ws)
+  all_as_one x k b e [] = sides b
+    where
+      sides : (b : Bool) → no_routes ≡ cond b no_routes no_routes
+      sides true = refl
+      sides false = refl
+  all_as_one x k b e (w ∷ ws) = go (goes w) refl (all_as_one x k b e ws)
+    where
+      here : (b : Bool) → met w ≡ b → filter (λ w. not (met w)) (filter goes ws) ≡ cond b [] (filter goes ws) → cond (not (met w)) (w ∷ filter (λ w. not (met w)) (filter goes ws)) (filter (λ w. not (met w)) (filter goes ws)) ≡ cond b [] (w ∷ filter goes ws)
+      here true f r = ap (λ m. cond (not m) (w ∷ filter (λ w. not (met w)) (filter goes ws)) (filter (λ w. not (met w)) (filter goes ws))) f ∙ r
+      here false f r = ap (λ m. cond (not m) (w ∷ filter (λ w. not (met w)) (filter goes ws)) (filter (λ w. not (met w)) (filter goes ws))) f ∙ ap (λ vs. w ∷ vs) r
+
+      go : (g : Bool) → goes w ≡ g → filter (λ w. not (met w)) (filter goes ws) ≡ cond b [] (filter goes ws) → filter (λ w. not (met w)) (cond g (w ∷ filter goes ws) (filter goes ws)) ≡ cond b [] (cond g (w ∷ filter goes ws) (filter goes ws))
+      go true h r = here b (one_met w x h k ∙ e) r
+      go false h r = r
+
+  -- none goes on
+  pub onward_none : going_on table last ≡ [] → onward table chain last ≡ []
+  onward_none e = sym (filter_both goes (λ w. not (met w)) (route_numbers table)) ∙ ap (filter (λ w. not (met w))) e
+
+  -- all go on, or none does, as the first of them
+  pub onward_is : (row : List RouteNo) (x : RouteNo) (b : Bool) → row ≡ going_on table last → In x row → b ≡ met x → onward table chain last ≡ cond b [] row
+  onward_is row x b e m f =
+      let k = (in_filter_back goes (route_numbers table) x (subst (λ rs. In x rs) e m)).1 in
+      sym (filter_both goes (λ w. not (met w)) (route_numbers table)) ∙ (all_as_one x k b (sym f) (route_numbers table) ∙ ap (cond b []) (sym e))
+
+-- the first of a list is in it
+pub first_in : {X : Type 0} (xs : List X) (x : X) → (0 < length xs) × ((d : X) → x ≡ get_or xs 0 d) → In x xs
+first_in [] x h = absurd (let l = h.0 in omega arith)
+first_in (y ∷ ys) x h = inl (sym (h.1 x))
+
+pub none_within : {X : Type 0} (xs : List X) → length xs ≤ 0 → xs ≡ []
+none_within [] h = refl
+none_within (x ∷ xs) h = absurd (omega arith)
+
+-- the first route that goes on is one of the table
+pub first_known : (table : List Route) (row : List RouteNo) (x last : RouteNo) → row ≡ going_on table last → (0 < length row) × ((d : RouteNo) → x ≡ get_or row 0 d) → IsRoute table x
+first_known table row x last e h = route_known table x (in_filter_back (goes table [] last) (route_numbers table) x (subst (λ rs. In x rs) e (first_in row x h))).0
+
+-- a list that is another one's copy
+pub taken : (r : Result (Vec RouteNo Global) AllocError) (row all : List RouteNo) → IfOk r (λ v. v.items ≡ row) → row ≡ all → IfOk r (λ v. v.items ≡ all)
+taken (Ok v) row all h e = h ∙ e
+taken (Err x) row all h e = tt

@@ -1,9 +1,11 @@
+pub mod Bits
 pub mod Gathering
 pub mod Listing
 pub mod Sizes
 pub mod Tabled
 pub mod Sequences
 pub mod Chained
+pub mod Released
 pub mod Starting
 pub mod Ordering
 pub mod Based

@@ -4,3 +4,5 @@ pub mod Frames
 pub mod Tables
 pub mod Waiting
 pub mod Bases
+pub mod Sets
+pub mod Releases

@@ -7,6 +7,7 @@ use Rattle.rail_base.specs.Stations.{trains}
 use Rattle.rail_spec.specs.Plans.{all_commands, goes_on, route_at, route_numbers, share}
 use Rattle.plan_clauses.specs.Clauses.{exclude, later_pairs, leading_to}
 use Rattle.plan_encoding.specs.declared.frame.Frame.{Frame}
+use Rattle.plan_encoding.specs.Sets.{AreSectionSets}
 use Rattle.plan_encoding.specs.declared.tables.Tables.{Tables}
 
 -- the routes that go on where this one ends
@@ -32,6 +33,7 @@ pub record AreTables (f : Frame) (t : Tables) : Type 0 where
   pub commands : t.commands.items ≡ all_commands f.design.now.station f.routes.now
   pub leading : t.leading.items ≡ map (leading f.routes.now) (route_numbers f.routes.now)
   pub going_on : t.going_on.items ≡ map (going_on f.routes.now) (route_numbers f.routes.now)
+  pub sections : AreSectionSets f.routes.now t.sections.items
   pub sharing : t.sharing.items ≡ map (sharing f.routes.now) (route_numbers f.routes.now)
   pub exclusions : t.exclusions.items ≡ exclusions f.routes.now
 

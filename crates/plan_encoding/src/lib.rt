@@ -11,12 +11,12 @@ mod make;
 mod numbered;
 mod orders;
 mod relations;
+mod releases;
 mod rivals;
+mod sets;
 mod starts;
 mod stays;
 mod tables;
-#[cfg(test)]
-mod tests;
 mod visits;
 mod waits;
 

@@ -6,10 +6,12 @@ ghost use Rattle.rail_base.specs.Stations.{trains};
 ghost use Rattle.rail_spec.specs.Plans.{goes_on, route_numbers, share};
 ghost use Rattle.plan_clauses.specs.Clauses.{exclude, leading_to, later_pairs};
 ghost use Rattle.plan_encoding.specs.Frames.{IsFrame};
+ghost use Rattle.plan_encoding.specs.Sets.{AreSectionSets};
 ghost use Rattle.plan_encoding.specs.Tables.{AreTables, exclusions, going_on, leading, sharing};
 
 use crate::frame::Frame;
-use crate::links::{exclude, goes_on, push_if};
+use crate::links::{exclude, goes_on, push_if, row_of};
+use crate::sets::{meet, sections_of};
 use crate::tables::Tables;
 use rail_base::list::List;
 use rail_base::route::{Route, RouteNo, Start, route_at};
@@ -76,19 +78,34 @@ impl Frame<'_> {
         Ok(List::from_vec(found))
     }
 
+    /// For each route the set of its sections.
+    fn section_sets(&self, alloc: Global) -> Result<Vec<List<u64>>, AllocError>
+        ensures { IfOk result (λ sets. AreSectionSets self.now.routes.now sets.items) }
+    {
+        let mut sets = Vec::new(alloc);
+        for route in self.routes.as_slice() {
+            sets.push(sections_of(alloc, route)?)?;
+        }
+        Ok(sets)
+    }
+
     /// The routes that share a section with a route.
     fn sharing(
         &self,
         alloc: Global,
         numbers: &[RouteNo],
-        route: &Route,
+        sets: &[List<u64>],
+        route: RouteNo,
     ) -> Result<List<RouteNo>, AllocError>
         requires numbers { All (IsRoute self.now.routes.now) numbers.now }
-        ensures { IfOk result (λ rs. rs ≡ filter (λ q. share route.now (route_at self.now.routes.now q)) numbers.now) }
+        requires sets { AreSectionSets self.now.routes.now sets.now }
+        requires route { IsRoute self.now.routes.now route }
+        ensures { IfOk result (λ rs. rs ≡ filter (λ q. share (route_at self.now.routes.now route) (route_at self.now.routes.now q)) numbers.now) }
     {
+        let own = row_of(sets, route);
         let mut found = Vec::new(alloc);
         for number in numbers {
-            let shares = route.share(route_at(self.routes, *number));
+            let shares = meet(own, row_of(sets, *number));
             push_if(&mut found, *number, shares)?;
         }
         Ok(List::from_vec(found))
@@ -134,14 +151,16 @@ impl Frame<'_> {
         &self,
         alloc: Global,
         numbers: &[RouteNo],
+        sets: &[List<u64>],
     ) -> Result<Vec<List<RouteNo>>, AllocError>
         requires numbers { All (IsRoute self.now.routes.now) numbers.now }
         requires all { numbers.now ≡ route_numbers self.now.routes.now }
+        requires sets { AreSectionSets self.now.routes.now sets.now }
         ensures { IfOk result (λ rows. rows.items ≡ map (sharing self.now.routes.now) numbers.now) }
     {
         let mut rows = Vec::new(alloc);
         for number in numbers {
-            rows.push(self.sharing(alloc, numbers, route_at(self.routes, *number))?)?;
+            rows.push(self.sharing(alloc, numbers, sets, *number)?)?;
         }
         Ok(rows)
     }
@@ -188,13 +207,15 @@ impl Frame<'_> {
         ensures { IfOk result (AreTables self.now) }
     {
         let numbers = self.numbers(alloc)?;
+        let sections = self.section_sets(alloc)?;
         Ok(Tables {
             trains: self.trains(alloc)?,
             commands: self.commands(alloc)?,
             leading: self.all_leading(alloc, &numbers)?,
             going_on: self.all_going_on(alloc, &numbers)?,
-            sharing: self.all_sharing(alloc, &numbers)?,
+            sharing: self.all_sharing(alloc, &numbers, &sections)?,
             exclusions: self.exclusions(alloc, &numbers)?,
+            sections,
             numbers,
         })
     }

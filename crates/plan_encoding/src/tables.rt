@@ -15,6 +15,8 @@ pub struct Tables {
     pub leading: Vec<List<RouteNo>>,
     /// The routes that go on where it ends.
     pub going_on: Vec<List<RouteNo>>,
+    /// The set of its sections.
+    pub sections: Vec<List<u64>>,
     /// The routes that share a section with it.
     pub sharing: Vec<List<RouteNo>>,
     /// Each two routes that exclude each other.

@@ -5,7 +5,8 @@ ghost use Rattle.std.specs.List.{list_any};
 ghost use Rattle.rail_base.specs.Numbering.{after_first, entry, one_to};
 ghost use Rattle.rail_base.specs.Routes.{IsRoute, route_at};
 ghost use Rattle.rail_base.specs.Stations.{IsTrain, train_of};
-ghost use Rattle.rail_spec.specs.Plans.{has_node, route_numbers};
+ghost use Rattle.rail_spec.specs.Plans.{route_numbers};
+ghost use Rattle.plan_encoding.specs.Sets.{has, IsNodeSet};
 ghost use Rattle.plan_clauses.specs.Variables.{Given, yes, numbered};
 ghost use Rattle.plan_clauses.specs.Clauses.{leads_to, makes_visits, may_visit, visited};
 ghost use Rattle.plan_encoding.specs.Drafts.{Listed, listed, FaultSays};
@@ -13,7 +14,8 @@ ghost use Rattle.plan_encoding.specs.Frames.{IsFrame, IsCommand, told};
 
 use crate::draft::{BaseFault, Draft};
 use crate::frame::Frame;
-use crate::links::{has_node, push_if, starts_in};
+use crate::links::{push_if, starts_in};
+use crate::sets::{has, nodes_of};
 use rail_base::list::List;
 use rail_base::plan::Command;
 use rail_base::route::{Route, RouteNo, route_at};
@@ -22,9 +24,10 @@ use sat_clause::Lit;
 use std::alloc::{AllocError, Global};
 
 impl Frame<'_> {
-    /// Whether a visit of a number may be made on a route.
-    fn may_visit(&self, number: u32, set: &List<NodeNo>, route: RouteNo) -> bool
+    /// Whether a visit of a number may be made on a route. Its nodes are passed as a list and as a set.
+    fn may_visit(&self, number: u32, set: &List<NodeNo>, nodes: &[u64], route: RouteNo) -> bool
         requires first { 1 ≤ number }
+        requires nodes { IsNodeSet nodes.now set.now }
         requires route { IsRoute self.now.routes.now route }
         ensures { result ≡ may_visit self.now.design.now.station self.now.routes.now self.now.steps number set.now route }
     {
@@ -32,7 +35,7 @@ impl Frame<'_> {
         if number == 1 {
             return starts_in(set, route.start);
         }
-        leads_to(set, route)
+        leads_to(nodes, route)
     }
 
     /// The clause that one of the routes is given on which a visit may be made.
@@ -50,6 +53,7 @@ impl Frame<'_> {
         requires first { 1 ≤ number }
         ensures { IfOk result (λ clause. clause.items ≡ map (numbered self.now.design.now.station self.now.routes.now self.now.steps) (map (λ r. yes (Given (record { train = train; route = r }) self.now.steps)) (filter (may_visit self.now.design.now.station self.now.routes.now self.now.steps number set.now) numbers.now))) }
     {
+        let nodes = nodes_of(alloc, set)?;
         let mut clause = Vec::new(alloc);
         for route in numbers {
             let command = Command {
@@ -57,7 +61,8 @@ impl Frame<'_> {
                 route: *route,
             };
             let literal = self.given(command, self.steps);
-            push_if(&mut clause, literal, self.may_visit(number, set, *route))?;
+            let visits = self.may_visit(number, set, &nodes, *route);
+            push_if(&mut clause, literal, visits)?;
         }
         Ok(clause)
     }
@@ -107,11 +112,11 @@ impl Frame<'_> {
 }
 
 /// Whether a node of the set is at the end of an edge of a route.
-fn leads_to(set: &List<NodeNo>, route: &Route) -> bool
-    ensures { result ≡ list_any (λ p. has_node set.now p.0) (after_first route.now.nodes) }
+fn leads_to(nodes: &[u64], route: &Route) -> bool
+    ensures { result ≡ list_any (λ p. has nodes.now p.0.0) (after_first route.now.nodes) }
 {
     match route.nodes.as_slice().split_first() {
-        Some((_, later)) => later.iter().any(|place| has_node(set, place.0)),
+        Some((_, later)) => later.iter().any(|place| has(nodes, place.0.0)),
         None => false,
     }
 }

@@ -1,24 +1,26 @@
 //! A command waits until enough track is given to a contending train to clear the shared sections.
 
-ghost use Rattle.std.specs.Prelude.{◌≡◌, ◌≤◌, ◌<◌, ◌+◌, ◌-◌, ◌^◌, ◌++◌, ◌∷◌, [], All, IfOk, OnOk, IfErr, flat_map, filter, fold, length, map, max, not};
+ghost use Rattle.std.specs.Prelude.{◌≡◌, ◌≤◌, ◌<◌, ◌+◌, ◌-◌, ◌^◌, ◌++◌, ◌∷◌, [], All, IfOk, OnOk, IfErr, flat_map, filter, length, map, not};
 ghost use Rattle.std.specs.List.{list_any};
 ghost use Rattle.rail_base.specs.Routes.{IsRoute, route_at};
 ghost use Rattle.rail_base.specs.Stations.{IsTrain};
 ghost use Rattle.plan_encoding.specs.Waiting.{waits_over};
-ghost use Rattle.rail_spec.specs.Plans.{is_start, release_offset, shared};
+ghost use Rattle.rail_spec.specs.Plans.{is_start};
 ghost use Rattle.plan_clauses.specs.Variables.{Given, yes, no, numbered, pairs_of};
 ghost use Rattle.plan_clauses.specs.Clauses.{chain_length, chains, clearing, onward, waits, waits_for};
+ghost use Rattle.plan_encoding.specs.Releases.{AreReleases};
 ghost use Rattle.plan_encoding.specs.Drafts.{Listed, listed, FaultSays};
 ghost use Rattle.plan_encoding.specs.Frames.{IsFrame, IsCommand, told};
 ghost use Rattle.plan_encoding.specs.Tables.{AreTables, going_on};
 
 use crate::draft::{BaseFault, Draft};
 use crate::frame::Frame;
-use crate::links::{push_if, row_of};
+use crate::links::row_of;
+use crate::releases::{last_release, releases};
 use crate::tables::Tables;
 use rail_base::plan::Command;
-use rail_base::route::{Route, RouteNo, Start, route_at};
-use rail_base::station::TrainNo;
+use rail_base::route::{RouteNo, Start, route_at};
+use rail_base::station::{SectionNo, TrainNo};
 use sat_clause::Lit;
 use std::alloc::{AllocError, Global};
 
@@ -28,20 +30,6 @@ struct Wait {
     first: Command,
     second: Command,
     bound: u128,
-}
-
-/// Where a route has released all sections that another has too, in mm from its start.
-fn last_release(first: &Route, second: &Route) -> u64
-    ensures { result ≡ fold max 0 (map (release_offset first.now) (shared first.now second.now)) }
-{
-    first
-        .sections
-        .as_slice()
-        .iter()
-        .map(|part| part.0)
-        .filter(|section| second.has_section(*section))
-        .map(|section| first.release_offset(section))
-        .fold(0, |most, offset| most.max(offset))
 }
 
 impl Frame<'_> {
@@ -58,7 +46,7 @@ impl Frame<'_> {
         false
     }
 
-    /// The routes with which a chain goes on.
+    /// The routes with which a chain goes on. They all start where its last one ends: at a place where none of it starts.
     fn onward(
         &self,
         alloc: Global,
@@ -72,12 +60,14 @@ impl Frame<'_> {
         requires last { IsRoute self.now.routes.now last }
         ensures { IfOk result (λ rs. rs.items ≡ onward self.now.routes.now chain.now last) }
     {
-        let mut further = Vec::new(alloc);
-        for route in row_of(&tables.going_on, last) {
-            let met = self.start_there(chain, route_at(self.routes, *route).start);
-            push_if(&mut further, *route, !met)?;
+        let row = row_of(&tables.going_on, last);
+        let Some(first) = row.first() else {
+            return Ok(Vec::new(alloc));
+        };
+        if self.start_there(chain, route_at(self.routes, *first).start) {
+            return Ok(Vec::new(alloc));
         }
-        Ok(further)
+        Vec::from_slice(alloc, row)
     }
 
     /// Puts at the end of a clause that a train is given routes by a step.
@@ -225,26 +215,25 @@ impl Frame<'_> {
         Ok(())
     }
 
-    /// Lists that a command waits for another.
+    /// Lists that a command waits for another. The sections of the first one's route are passed as they are released.
     fn put_waits_of(
         &self,
         alloc: Global,
         draft: &mut Draft,
         tables: &Tables,
+        parts: &[(SectionNo, i64)],
         first: Command,
         second: Command,
     ) -> Result<(), BaseFault>
         requires frame { IsFrame self.now }
         requires tables { AreTables self.now tables.now }
+        requires parts { AreReleases parts.now (route_at self.now.routes.now first.route) }
         requires first { IsCommand self.now first }
         requires second { IsCommand self.now second }
         ensures ok { OnOk result (listed draft.old (told self.now (waits self.now.design.now.station self.now.routes.now self.now.steps (first, second))) ≡ Listed draft.new) }
         ensures err { IfErr result (FaultSays (listed draft.old (told self.now (waits self.now.design.now.station self.now.routes.now self.now.steps (first, second))))) }
     {
-        let release = last_release(
-            route_at(self.routes, first.route),
-            route_at(self.routes, second.route),
-        );
+        let release = last_release(parts, row_of(&tables.sections, second.route));
         let length = self.design.vehicle_of(first.train).length_mm;
         let wait = Wait {
             first,
@@ -264,7 +253,7 @@ impl Frame<'_> {
         )
     }
 
-    /// Lists that rivals wait for a command.
+    /// Lists that rivals wait for a command; for one whose route exits no chain is listed.
     fn put_waits_for(
         &self,
         alloc: Global,
@@ -280,8 +269,16 @@ impl Frame<'_> {
         ensures ok { OnOk result (listed draft.old (told self.now (flat_map (waits self.now.design.now.station self.now.routes.now self.now.steps) (map (λ c. (first, c)) rivals.now))) ≡ Listed draft.new) }
         ensures err { IfErr result (FaultSays (listed draft.old (told self.now (flat_map (waits self.now.design.now.station self.now.routes.now self.now.steps) (map (λ c. (first, c)) rivals.now))))) }
     {
+        if rivals.is_empty() {
+            return Ok(());
+        }
+        let route = route_at(self.routes, first.route);
+        if route.exits() {
+            return Ok(());
+        }
+        let parts = releases(alloc, route)?;
         for second in rivals {
-            self.put_waits_of(alloc, draft, tables, first, *second)?;
+            self.put_waits_of(alloc, draft, tables, &parts, first, *second)?;
         }
         Ok(())
     }
