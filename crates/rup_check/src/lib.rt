@@ -4,8 +4,6 @@
 mod check;
 mod held;
 mod marks;
-#[cfg(test)]
-mod tests;
 
 pub use check::{Marks, follows};
 pub use sat_clause::Follow;
