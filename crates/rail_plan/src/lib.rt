@@ -9,6 +9,4 @@ mod names;
 pub mod paths;
 pub mod place;
 pub mod reading;
-#[cfg(test)]
-mod tests;
 mod text;
