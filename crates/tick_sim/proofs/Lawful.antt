@@ -5,7 +5,7 @@ use Rattle.rail_base.specs.declared.route.Route.{Route}
 use Rattle.rail_base.specs.declared.plan.Command.{Command}
 use Rattle.rail_base.specs.Admission.{is_admitted}
 use Rattle.rail_spec.specs.Track.{routes_of}
-use Rattle.rail_spec.specs.Plans.{is_executable, is_well_formed}
+use Rattle.rail_spec.specs.Plans.{is_executable}
 use Rattle.rail_spec.specs.Feasible.{IsWellFormed}
 use Rattle.rail_spec.specs.Safety.{Clash, KeepsToTrack}
 use Rattle.rail_spec.specs.Progress.{IsGrantedInTime}
