@@ -7,8 +7,6 @@ mod laws;
 mod line;
 mod refuter;
 mod shown;
-#[cfg(test)]
-mod tests;
 
 pub use judge::judge_log;
 pub use laws::shown_is_so;
