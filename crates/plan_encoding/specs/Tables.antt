@@ -1,5 +1,5 @@
 -- What is found once of a frame.
-use Rattle.std.specs.Prelude.{◌≡◌, List, map, filter}
+use Rattle.std.specs.Prelude.{◌≡◌, Bool, List, map, filter}
 use Rattle.rail_base.specs.declared.route.Route.{Route}
 use Rattle.rail_base.specs.declared.route.RouteNo.{RouteNo}
 use Rattle.rail_base.specs.Routes.{IsRoute}
@@ -18,9 +18,13 @@ going_on routes r = filter (λ q. goes_on (route_at routes r).finish (route_at r
 abbrev pub leading : List Route → RouteNo → List RouteNo
 leading routes r = leading_to routes (route_at routes r).start
 
+-- the two routes share a section
+abbrev pub shares : List Route → RouteNo → RouteNo → Bool
+shares routes r q = share (route_at routes r) (route_at routes q)
+
 -- the routes that share a section with this one
 abbrev pub sharing : List Route → RouteNo → List RouteNo
-sharing routes r = filter (λ q. share (route_at routes r) (route_at routes q)) (route_numbers routes)
+sharing routes r = filter (shares routes r) (route_numbers routes)
 
 -- each two routes that exclude each other
 abbrev pub exclusions : List Route → List (RouteNo × RouteNo)

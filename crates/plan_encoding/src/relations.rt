@@ -3,11 +3,11 @@
 ghost use Rattle.std.specs.Prelude.{◌≡◌, ◌++◌, ◌∷◌, [], All, IfOk, OnOk, map, filter};
 ghost use Rattle.rail_base.specs.Routes.{IsRoute, route_at};
 ghost use Rattle.rail_base.specs.Stations.{trains};
-ghost use Rattle.rail_spec.specs.Plans.{goes_on, route_numbers, share};
+ghost use Rattle.rail_spec.specs.Plans.{goes_on, route_numbers};
 ghost use Rattle.plan_clauses.specs.Clauses.{exclude, leading_to, later_pairs};
 ghost use Rattle.plan_encoding.specs.Frames.{IsFrame};
 ghost use Rattle.plan_encoding.specs.Sets.{AreSectionSets};
-ghost use Rattle.plan_encoding.specs.Tables.{AreTables, exclusions, going_on, leading, sharing};
+ghost use Rattle.plan_encoding.specs.Tables.{AreTables, exclusions, going_on, leading, shares, sharing};
 
 use crate::frame::Frame;
 use crate::links::{exclude, goes_on, push_if, row_of};
@@ -100,7 +100,7 @@ impl Frame<'_> {
         requires numbers { All (IsRoute self.now.routes.now) numbers.now }
         requires sets { AreSectionSets self.now.routes.now sets.now }
         requires route { IsRoute self.now.routes.now route }
-        ensures { IfOk result (λ rs. rs ≡ filter (λ q. share (route_at self.now.routes.now route) (route_at self.now.routes.now q)) numbers.now) }
+        ensures { IfOk result (λ rs. rs ≡ filter (shares self.now.routes.now route) numbers.now) }
     {
         let own = row_of(sets, route);
         let mut found = Vec::new(alloc);

@@ -46,7 +46,7 @@ impl Frame<'_> {
         false
     }
 
-    /// The routes with which a chain goes on. They all start where its last one ends: at a place where none of it starts.
+    /// The routes with which a chain goes on: all that start where its last one ends, unless one of the chain starts there.
     fn onward(
         &self,
         alloc: Global,
