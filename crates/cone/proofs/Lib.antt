@@ -3,3 +3,4 @@ pub mod Ranging
 pub mod Riding
 pub mod Telling
 pub mod Looking
+pub mod Listing

@@ -13,6 +13,7 @@ use Rattle.rail_course.specs.declared.waits.Wait.{Wait}
 use Rattle.rail_course.specs.Waits.{wait_for}
 use Rattle.rail_course.specs.Tracks.{IsInRange}
 use Rattle.rail_course.specs.Courses.{AreCourses, IsCourse}
+use Rattle.plan_clauses.specs.Variables.{pairs}
 use Rattle.rail_cone.specs.declared.ConeTrain.{ConeTrain}
 use Rattle.rail_cone.specs.declared.Cone.{Cone}
 use Rattle.rail_cone.specs.Cones.{named, free_path, of_cone}
@@ -69,6 +70,7 @@ module _ (d : Station) (routes : List Route) (k : Cone) where
 pub record IsLayout (l : Layout) : Type 0 where
   pub table : l.run.routes.now ≡ routes_of l.run.design.now.station
   pub few : length l.run.routes.now ≤ 2000
+  pub contending : l.pairs.now ≡ pairs l.run.design.now.station l.run.routes.now
   pub known : in_design l.run.design.now.station l.run.routes.now l.cone.now ≡ true
   pub given : l.run.plan.now.steps ≡ free_plan l.cone.now
   pub range : IsInRange l.run.design.now.station l.run.routes.now (free_plan l.cone.now)

@@ -3,6 +3,7 @@
 ghost use Rattle.std.specs.Prelude.{◌≡◌, ◌≤◌, true, IfOk, length};
 ghost use Rattle.std.specs.List.{list_all};
 ghost use Rattle.rail_spec.specs.Track.{routes_of};
+ghost use Rattle.plan_clauses.specs.Variables.{pairs as contending};
 ghost use Rattle.rail_cone.specs.Validity.{fault_of, first_fault, free_granted, held, shown};
 ghost use Rattle.cone.specs.Runs.{IsLayout};
 ghost use Rattle.cone.specs.Checks.{IsConeRun};
@@ -12,6 +13,7 @@ use crate::free::free_plan;
 use crate::layout::Layout;
 use cone_design::is_in_design;
 use rail_base::design::Design;
+use rail_base::plan::Command;
 use rail_base::route::RouteTable;
 use rail_cone::{Cone, ConeFault};
 use rail_course::courses_of;
@@ -52,18 +54,22 @@ impl Layout<'_> {
     }
 }
 
-/// The first of the reasons for which a cone shows nothing, or None where it is valid.
+/// The first of the reasons for which a cone shows nothing, or None where it is valid. `pairs` are the contending pairs of
+/// commands in order.
 pub fn fault_of(
     alloc: Global,
     design: &Design,
     routes: &RouteTable,
+    pairs: &[(Command, Command)],
     cone: &Cone,
 ) -> Result<Option<ConeFault>, AllocError>
     requires table { routes.now ≡ routes_of design.now.station }
     requires few { length routes.now ≤ 2000 }
+    requires pairs { pairs.now ≡ contending design.now.station routes.now }
     ensures value { IfOk result (λ f. f ≡ fault_of design.now.station routes.now cone.now) }
 {
-    if !is_in_design(design, routes, cone) {
+    let fits = is_in_design(alloc, design, routes, pairs, cone)?;
+    if !fits {
         return Ok(Some(ConeFault::PathNotInDesign));
     }
     let plan = free_plan(alloc, cone)?;
@@ -77,6 +83,7 @@ pub fn fault_of(
     let layout = Layout {
         run,
         cone,
+        pairs,
         courses: courses.as_slice(),
     };
     layout.fault(alloc)

@@ -12,7 +12,7 @@ ghost use Rattle.cone.specs.Checks.{IsConeRun, IsEntry};
 
 use crate::checked::ConeRun;
 use crate::waits::horizon_of;
-use cone_design::is_listed;
+use cone_design::is_among;
 use rail_base::plan::Command;
 use rail_base::route::RouteNo;
 use rail_cone::ConeTrain;
@@ -106,7 +106,7 @@ impl ConeRun<'_> {
             train: entry.train,
             route,
         };
-        if !is_listed(self.layout.cone, holder, waiting) {
+        if !is_among(self.layout.cone.pairs.as_slice(), holder, waiting) {
             return false;
         }
         if horizon_of(self.layout.cone, holder.train) < entry.horizon - 1 {

@@ -3,6 +3,7 @@
 ghost use Rattle.std.specs.Prelude.{◌≡◌, ◌-◌, ◌≤◌, ◌∷◌, [], true, IfOk, length, map};
 ghost use Rattle.rail_spec.specs.Track.{routes_of};
 ghost use Rattle.rail_spec.specs.Dispatches.{state_at, tick};
+ghost use Rattle.plan_clauses.specs.Variables.{pairs as contending};
 ghost use Rattle.rail_cone.specs.Cones.{of_cone};
 ghost use Rattle.rail_cone.specs.Validity.{in_design};
 ghost use Rattle.cone.specs.Runs.{AreFollowers, IsFollower, IsLayout, IsUnderWay, cone_states, last_tick, next_state};
@@ -11,6 +12,7 @@ use crate::free::free_plan;
 use crate::layout::Layout;
 use crate::waits::Follower;
 use rail_base::design::Design;
+use rail_base::plan::Command;
 use rail_base::route::RouteTable;
 use rail_base::state::TrainState;
 use rail_cone::Cone;
@@ -110,16 +112,19 @@ impl Layout<'_> {
     }
 }
 
-/// The states of all trains in the run of a cone, at each tick from 0 up to the greatest horizon.
+/// The states of all trains in the run of a cone, at each tick from 0 up to the greatest horizon. `pairs` are the
+/// contending pairs of commands in order.
 pub fn cone_run(
     alloc: Global,
     design: &Design,
     routes: &RouteTable,
+    pairs: &[(Command, Command)],
     cone: &Cone,
 ) -> Result<Vec<Vec<TrainState>>, AllocError>
     requires table { routes.now ≡ routes_of design.now.station }
     requires few { length routes.now ≤ 2000 }
     requires known { in_design design.now.station routes.now cone.now ≡ true }
+    requires pairs { pairs.now ≡ contending design.now.station routes.now }
     ensures { IfOk result (λ s. map (λ v. v.items) s.items ≡ cone_states design.now.station routes.now cone.now) }
 {
     let plan = free_plan(alloc, cone)?;
@@ -133,6 +138,7 @@ pub fn cone_run(
     let layout = Layout {
         run,
         cone,
+        pairs,
         courses: courses.as_slice(),
     };
     layout.states(alloc)

@@ -7,6 +7,7 @@ ghost use Rattle.rail_cone.specs.Cones.{named};
 ghost use Rattle.cone.specs.Runs.{AreFollowers, IsLayout, free_plan, listed_waits, waits_of_train};
 
 use crate::layout::Layout;
+use cone_design::{is_among, pairs_from};
 use rail_base::plan::Command;
 use rail_base::station::TrainNo;
 use rail_cone::Cone;
@@ -48,7 +49,7 @@ pub(crate) fn free_of(cone: &Cone, train: TrainNo) -> u32
 }
 
 impl<'a> Layout<'a> {
-    /// The waits of a command for those that are listed before it.
+    /// The waits of a command for those that are listed before it. They are among those that contend with it.
     fn waits_of(&self, alloc: Global, command: Command) -> Result<Vec<Wait>, AllocError>
         requires layout { IsLayout self.now }
         requires command { IsRoute self.now.run.routes.now command.route }
@@ -56,15 +57,15 @@ impl<'a> Layout<'a> {
     {
         let run = self.run;
         let mut waits = Vec::new(alloc);
-        for (first, second) in self.cone.pairs.as_slice() {
-            if *second == command {
+        for (_, other) in pairs_from(self.pairs, command) {
+            if is_among(self.cone.pairs.as_slice(), *other, command) {
                 waits.push(wait_for(
                     run.design,
                     run.routes,
                     run.plan,
                     self.courses,
                     command,
-                    *first,
+                    *other,
                 ))?;
             }
         }

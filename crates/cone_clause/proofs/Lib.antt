@@ -1,5 +1,4 @@
 pub mod Known
-pub mod Sorted
 pub mod ClauseOrder
 pub mod Ordered
 pub mod Agreeing
@@ -8,4 +7,6 @@ pub mod Gathering
 pub mod Signing
 pub mod Walked
 pub mod Further
+pub mod Adding
+pub mod Said
 mod Rows

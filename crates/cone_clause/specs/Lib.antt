@@ -1,3 +1,4 @@
 -- The clause of a cone as literals of the base.
 pub mod Numbered
+pub mod Places
 pub mod Laws

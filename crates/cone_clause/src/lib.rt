@@ -5,6 +5,7 @@ pub mod laws;
 mod listing;
 mod onward;
 mod pairs;
+mod places;
 mod signs;
 mod used;
 

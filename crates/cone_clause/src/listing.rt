@@ -36,7 +36,7 @@ pub fn clause_of(
     ensures { IfOk result (λ clause. clause.items ≡ numbered_clause design.now.station routes.now steps cone.now) }
 {
     let mut clause = Vec::new(alloc);
-    push_used(&mut clause, design, routes, steps, cone)?;
-    push_before(&mut clause, design, routes, steps, pairs, cone)?;
+    push_used(alloc, &mut clause, design, routes, steps, cone)?;
+    push_before(alloc, &mut clause, design, routes, steps, pairs, cone)?;
     Ok(clause)
 }

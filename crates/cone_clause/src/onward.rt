@@ -1,6 +1,6 @@
 //! Where a train goes no further than its path in a cone.
 
-ghost use Rattle.std.specs.Prelude.{◌≡◌, List, All, map};
+ghost use Rattle.std.specs.Prelude.{◌≡◌, List, All, false, map};
 ghost use Rattle.rail_base.specs.declared.station.Station.{Station};
 ghost use Rattle.rail_base.specs.declared.route.Route.{Route};
 ghost use Rattle.rail_cone.specs.declared.Cone.{Cone};
@@ -46,8 +46,28 @@ fn is_start(one: Start, other: Start) -> bool
     one == other
 }
 
+/// Whether a route starts where a path ends, at a signal.
+fn is_next(routes: &RouteTable, path: &[RouteNo], route: &Route) -> bool
+    requires { All (IsRoute routes.now) path.now }
+    ensures { result ≡ false → goes_further (map (route_at routes.now) path.now) route.now ≡ false }
+{
+    if path.is_empty() {
+        return false;
+    }
+    let last = route_at(routes, path[path.len() - 1]);
+    goes_on(last.finish, route.start)
+}
+
 /// Whether a route starts at the signal where a path ends, which is not a start of one of the path's routes.
 pub fn goes_further(routes: &RouteTable, path: &[RouteNo], route: &Route) -> bool
+    requires { All (IsRoute routes.now) path.now }
+    ensures { result ≡ goes_further (map (route_at routes.now) path.now) route.now }
+{
+    is_next(routes, path, route) && starts_no_other(routes, path, route)
+}
+
+/// The same, by the whole path.
+fn starts_no_other(routes: &RouteTable, path: &[RouteNo], route: &Route) -> bool
     requires { All (IsRoute routes.now) path.now }
     ensures { result ≡ goes_further (map (route_at routes.now) path.now) route.now }
 {

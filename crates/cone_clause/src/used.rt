@@ -1,27 +1,26 @@
 //! What the clause of a cone says of single commands.
 
 ghost use Rattle.std.specs.Prelude.{◌≡◌, ◌≤◌, ◌*◌, ◌++◌, ◌&&◌, true, false, All, OnOk, Some, None, if◌then◌else◌, flat_map, length, map};
-ghost use Rattle.rail_base.specs.declared.station.Station.{Station};
-ghost use Rattle.rail_base.specs.declared.plan.Command.{Command};
 ghost use Rattle.rail_base.specs.Routes.{IsRoute, route_at};
 ghost use Rattle.rail_base.specs.Stations.{IsTrain};
 ghost use Rattle.rail_spec.specs.Plans.{all_commands, commands_of};
 ghost use Rattle.plan_clauses.specs.Variables.{Given, number_of};
-ghost use Rattle.rail_cone.specs.Cones.{is_named, named};
+ghost use Rattle.rail_cone.specs.Cones.{has_route, named};
+ghost use Rattle.cone_design.specs.Marks.{MarksPath};
 ghost use Rattle.rail_cone.specs.Validity.{in_design};
-ghost use Rattle.rail_cone.specs.Clauses.{goes_further, is_closed, used_literals};
+ghost use Rattle.rail_cone.specs.Clauses.{goes_further, used_literals};
 ghost use Rattle.cone_clause.specs.Numbered.{lit_of};
 
 use crate::onward::{goes_further, is_closed};
 use crate::signs::push_signed;
-use cone_design::{is_named, path};
+use cone_design::{has_mark, marks_of, path};
 use rail_base::design::Design;
 use rail_base::plan::Command;
 use rail_base::route::{RouteNo, RouteTable, route_at};
 use rail_base::station::TrainNo;
 use rail_cone::Cone;
 use sat_clause::Lit;
-use std::alloc::AllocError;
+use std::alloc::{AllocError, Global};
 
 /// How many variables say that a command is given by a step.
 pub fn used_count(design: &Design, routes: &RouteTable, steps: u32) -> u32
@@ -44,29 +43,31 @@ fn used_number(design: &Design, routes: &RouteTable, steps: u32, command: Comman
     ((command.train.0 - 1) * routes.len() as u32 + (command.route.0 - 1)) * steps + steps
 }
 
-/// Whether the clause says that a command is not used, or that it is, or neither.
-fn used_sign(routes: &RouteTable, cone: &Cone, command: Command) -> Option<bool>
-    requires path { All (IsRoute routes.now) (named cone.now command.train).path }
-    requires route { IsRoute routes.now command.route }
-    ensures { (d : Station) → result ≡ (if is_named cone.now command then Some true else if is_closed d routes.now cone.now command.train && goes_further (map (route_at routes.now) (named cone.now command.train).path) (route_at routes.now command.route) then Some false else None) }
+/// Whether the clause says that a route of a train with this path is not used, or that it is, or neither.
+fn used_sign(
+    routes: &RouteTable,
+    path: &[RouteNo],
+    marks: &[bool],
+    closed: bool,
+    route: RouteNo,
+) -> Option<bool>
+    requires path { All (IsRoute routes.now) path.now }
+    requires marks { MarksPath path.now marks.now }
+    requires route { IsRoute routes.now route }
+    ensures { result ≡ (if has_route path.now route then Some true else if closed && goes_further (map (route_at routes.now) path.now) (route_at routes.now route) then Some false else None) }
 {
-    if is_named(cone, command) {
+    if has_mark(marks, route) {
         return Some(true);
     }
-    if is_closed(cone, command.train)
-        && goes_further(
-            routes,
-            path(cone, command.train),
-            route_at(routes, command.route),
-        )
-    {
+    if closed && goes_further(routes, path, route_at(routes, route)) {
         return Some(false);
     }
     None
 }
 
-/// Puts what the clause says of the commands of a train at its end.
+/// Puts what the clause says of the commands of a train with a path at its end.
 fn push_used_of(
+    alloc: Global,
     clause: &mut Vec<Lit>,
     design: &Design,
     routes: &RouteTable,
@@ -80,19 +81,22 @@ fn push_used_of(
     requires most { steps ≤ 64 }
     ensures { OnOk result (clause.new.items ≡ clause.old.items ++ map (lit_of design.now.station routes.now steps) (flat_map (used_literals design.now.station routes.now cone.now) (commands_of routes.now train))) }
 {
+    let path = path(cone, train);
+    let marks = marks_of(alloc, routes, path)?;
+    let closed = is_closed(cone, train);
     for number in 1..routes.len() as u32 + 1 {
-        let command = Command {
-            train,
-            route: RouteNo(number),
-        };
-        let sign = used_sign(routes, cone, command);
+        let route = RouteNo(number);
+        let sign = used_sign(routes, path, &marks, closed, route);
+        let command = Command { train, route };
         push_signed(clause, used_number(design, routes, steps, command), sign)?;
     }
     Ok(())
 }
 
-/// Puts what the clause says of all commands at its end, by train and then by route.
+/// Puts what the clause says of all commands at its end, by train and then by route. It says nothing of a train without a
+/// path.
 pub fn push_used(
+    alloc: Global,
     clause: &mut Vec<Lit>,
     design: &Design,
     routes: &RouteTable,
@@ -105,7 +109,10 @@ pub fn push_used(
     ensures { OnOk result (clause.new.items ≡ clause.old.items ++ map (lit_of design.now.station routes.now steps) (flat_map (used_literals design.now.station routes.now cone.now) (all_commands design.now.station routes.now))) }
 {
     for number in 1..design.station.trains.len() as u32 + 1 {
-        push_used_of(clause, design, routes, steps, cone, TrainNo(number))?;
+        let train = TrainNo(number);
+        if !path(cone, train).is_empty() {
+            push_used_of(alloc, clause, design, routes, steps, cone, train)?;
+        }
     }
     Ok(())
 }

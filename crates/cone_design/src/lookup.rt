@@ -2,7 +2,7 @@
 
 ghost use Rattle.std.specs.Prelude.{◌≡◌, MatchOption, find, option_map, take};
 ghost use Rattle.rail_spec.specs.Plans.{is_command, is_train};
-ghost use Rattle.rail_cone.specs.Cones.{free_path, has_route, is_free, is_listed, is_named, is_pair, named, unnamed};
+ghost use Rattle.rail_cone.specs.Cones.{free_path, has_route, is_free, is_named, named, unnamed};
 
 use rail_base::plan::Command;
 use rail_base::route::RouteNo;
@@ -75,11 +75,4 @@ pub(crate) fn is_command(one: Command, other: Command) -> bool
     ensures { result ≡ is_command one other }
 {
     one == other
-}
-
-/// Whether the cone lists that the second command waits for the first.
-pub fn is_listed(cone: &Cone, first: Command, second: Command) -> bool
-    ensures { result ≡ is_listed cone.now first second }
-{
-    cone.pairs.as_slice().iter().any(|pair| is_command(pair.0, first) && is_command(pair.1, second))
 }

@@ -21,7 +21,7 @@ pub fn trains_in_order(entries: &[ConeTrain]) -> bool
 }
 
 /// Whether a command is less than another: by train, and then by route.
-fn is_before(first: Command, second: Command) -> bool
+pub(crate) fn is_before(first: Command, second: Command) -> bool
     ensures { result ≡ is_before first second }
 {
     first.train.0 < second.train.0
@@ -29,7 +29,7 @@ fn is_before(first: Command, second: Command) -> bool
 }
 
 /// Whether a pair is less than another: by its first command, and then by its second.
-fn is_pair_before(first: (Command, Command), second: (Command, Command)) -> bool
+pub(crate) fn is_pair_before(first: (Command, Command), second: (Command, Command)) -> bool
     ensures { result ≡ is_pair_before first second }
 {
     is_before(first.0, second.0) || is_command(first.0, second.0) && is_before(first.1, second.1)

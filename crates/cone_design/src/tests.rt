@@ -3,7 +3,7 @@
 ghost use Rattle.std.specs.Prelude.{◌≡◌, [], ◌∷◌, false, true, IfOk};
 ghost use Rattle.rail_base.specs.Admission.{is_admitted};
 
-use crate::{is_free, is_in_design};
+use crate::{is_among, is_free, is_in_design, trains_fit};
 use rail_base::design::Design;
 use rail_base::list::{List, Name};
 use rail_base::plan::{Command, Violation};
@@ -232,8 +232,48 @@ fn free_commands(rt: HostRuntime) -> Result<(), AllocError> {
     let routes = table(alloc)?;
     for (free, fits) in [(0, true), (2, true), (3, false)] {
         let cone = cone_of(alloc, free)?;
-        assert_eq!(rt; is_in_design(&design, &routes, &cone), fits, "{free}");
+        assert_eq!(rt; trains_fit(&design, &routes, &cone), fits, "{free}");
         assert_eq!(rt; is_free(&cone, first_route(1)), free > 0, "{free}");
     }
     Ok(())
+}
+
+/// A cone of no train, which says that train A does not make a visit.
+fn no_trains(alloc: Global, visit: u32) -> Cone {
+    Cone {
+        trains: List::new(alloc),
+        pairs: List::new(alloc),
+        violation: Violation::Visit {
+            train: TrainNo(1),
+            visit,
+        },
+    }
+}
+
+fn no_routes(alloc: Global) -> RouteTable
+    ensures { result ≡ [] }
+{
+    List::new(alloc)
+}
+
+#[test]
+fn without_routes(rt: HostRuntime) -> Result<(), AllocError> {
+    let alloc = rt.alloc();
+    let design = Design {
+        station: follow(alloc)?,
+    };
+    let routes = no_routes(alloc);
+    let second = no_trains(alloc, 2);
+    assert!(rt; is_in_design(alloc, &design, &routes, &[], &second)?);
+    let third = no_trains(alloc, 3);
+    assert!(rt; !is_in_design(alloc, &design, &routes, &[], &third)?);
+    Ok(())
+}
+
+#[test]
+fn pairs_by_halves(rt: HostRuntime) {
+    let one = first_route(1);
+    let two = first_route(2);
+    assert!(rt; is_among(&[(one, two)], one, two));
+    assert!(rt; !is_among(&[(one, two)], two, one));
 }

@@ -1,25 +1,26 @@
 //! Whether what a cone says of its trains is possible in a design.
 
-ghost use Rattle.std.specs.Prelude.{◌≡◌, ◌&&◌, true, List, length, nat_le};
+ghost use Rattle.std.specs.Prelude.{◌≡◌, ◌&&◌, true, IfOk, List, length, map, nat_le};
 ghost use Rattle.std.specs.List.{list_all};
 ghost use Rattle.rail_base.specs.declared.station.Station.{Station};
 ghost use Rattle.rail_base.specs.Admission.{is_from};
-ghost use Rattle.rail_base.specs.Routes.{IsRoute};
 ghost use Rattle.rail_base.specs.Stations.{horizon};
-ghost use Rattle.rail_spec.specs.Plans.{contend};
 ghost use Rattle.rail_base.specs.declared.route.Route.{Route};
-ghost use Rattle.rail_base.specs.declared.plan.Command.{Command};
 ghost use Rattle.rail_cone.specs.declared.Cone.{Cone};
-ghost use Rattle.rail_cone.specs.Cones.{is_named};
-ghost use Rattle.rail_cone.specs.Validity.{holder_in_path, pair_in_design, train_in_design};
+ghost use Rattle.rail_cone.specs.Validity.{holder_in_path, is_pair_before, pair_in_design, train_in_design};
+ghost use Rattle.rail_base.specs.Members.{all_pairs};
+ghost use Rattle.plan_clauses.specs.Variables.{pairs as contending};
+ghost use Rattle.cone_design.specs.Marks.{marked_pair};
 
 use crate::lookup::is_named;
+use crate::marks::{is_marked, rows_of};
+use crate::places::is_among;
 use crate::ways::is_way;
 use rail_base::design::Design;
 use rail_base::plan::Command;
-use rail_base::route::{RouteNo, RouteTable, route_at};
-use rail_base::station::TrainNo;
+use rail_base::route::{RouteNo, RouteTable};
 use rail_cone::{Cone, ConeTrain};
+use std::alloc::{AllocError, Global};
 
 /// Whether a number is one of `many`, counted from 1.
 pub(crate) fn is_one_of(number: u32, many: usize) -> bool
@@ -88,33 +89,41 @@ pub fn holders_in_paths(cone: &Cone) -> bool
     true
 }
 
-/// Whether two commands are of different trains and share a section.
-fn contend(routes: &RouteTable, first: Command, second: Command) -> bool
-    requires first { IsRoute routes.now first.route }
-    requires second { IsRoute routes.now second.route }
-    ensures { result ≡ contend routes.now first second }
+/// Whether two commands are marked and are one of the contending pairs.
+fn is_pair(rows: &[Vec<bool>], pairs: &[(Command, Command)], pair: (Command, Command)) -> bool
+    requires { all_pairs is_pair_before pairs.now ≡ true }
+    ensures { result ≡ marked_pair (map (λ row. row.items) rows.now) pairs.now pair }
 {
-    first.train.0 != second.train.0
-        && route_at(routes, first.route).share(route_at(routes, second.route))
+    is_marked(rows, pair.0) && is_marked(rows, pair.1) && is_among(pairs, pair.0, pair.1)
 }
 
-/// Whether a pair is of two commands of the cone that contend.
-fn pair_in_design(routes: &RouteTable, cone: &Cone, pair: (Command, Command)) -> bool
-    requires { (c : Command) → is_named cone.now c ≡ true → IsRoute routes.now c.route }
-    ensures { (d : Station) → result ≡ pair_in_design d routes.now cone.now pair }
+/// Whether each of these pairs is.
+fn are_pairs(
+    rows: &[Vec<bool>],
+    pairs: &[(Command, Command)],
+    listed: &[(Command, Command)],
+) -> bool
+    requires { all_pairs is_pair_before pairs.now ≡ true }
+    ensures { result ≡ list_all (marked_pair (map (λ row. row.items) rows.now) pairs.now) listed.now }
 {
-    is_named(cone, pair.0) && is_named(cone, pair.1) && contend(routes, pair.0, pair.1)
+    listed.iter().all(|pair| is_pair(rows, pairs, *pair))
 }
 
-/// Whether each pair is.
-pub fn pairs_in_design(design: &Design, routes: &RouteTable, cone: &Cone) -> bool
-    requires { list_all (train_in_design design.now.station routes.now cone.now) cone.now.trains ≡ true }
-    ensures { result ≡ list_all (pair_in_design design.now.station routes.now cone.now) cone.now.pairs }
+/// Whether each pair is of two commands of the cone that contend. `pairs` are the contending pairs in order.
+pub fn pairs_in_design(
+    alloc: Global,
+    design: &Design,
+    routes: &RouteTable,
+    pairs: &[(Command, Command)],
+    cone: &Cone,
+) -> Result<bool, AllocError>
+    requires pairs { pairs.now ≡ contending design.now.station routes.now }
+    requires trains { list_all (train_in_design design.now.station routes.now cone.now) cone.now.trains ≡ true }
+    ensures { IfOk result (λ b. b ≡ list_all (pair_in_design design.now.station routes.now cone.now) cone.now.pairs) }
 {
-    for pair in cone.pairs.as_slice() {
-        if !pair_in_design(routes, cone, *pair) {
-            return false;
-        }
+    if cone.pairs.is_empty() {
+        return Ok(true);
     }
-    true
+    let rows = rows_of(alloc, design, routes, cone)?;
+    Ok(are_pairs(rows.as_slice(), pairs, cone.pairs.as_slice()))
 }

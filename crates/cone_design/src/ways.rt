@@ -65,7 +65,7 @@ fn starts_differ(routes: &RouteTable, path: &[RouteNo]) -> bool
 {
     for index in 0..path.len() {
         let route = route_at(routes, path[index]);
-        if starts_again(routes, &path[index + 1..], route) {
+        if starts_again(routes, &path[..index], route) {
             return false;
         }
     }

@@ -34,7 +34,7 @@ impl Refuter for Cones<'_> {
     ghost refute = { λ c. refuted c.design.now.station c.steps };
 
     fn clause_of(&self, alloc: Global, cone: &Cone) -> Result<Vec<Lit>, RefuteFault> {
-        match fault_of(alloc, self.design, self.routes, cone) {
+        match fault_of(alloc, self.design, self.routes, self.pairs, cone) {
             Ok(None) => {}
             Ok(Some(fault)) => return Err(RefuteFault::NotRefuted(fault)),
             Err(_) => return Err(RefuteFault::Memory),

@@ -23,6 +23,7 @@ states-requires c =
     record {
       table = c.requires.table;
       few = c.requires.few;
+      contending = c.requires.pairs;
       known = c.requires.known;
       given = c.in_ok-plan.ensures;
       range = cone_in_range d (admitted d c.args.design.now.admitted) routes c.requires.table cone c.requires.few c.requires.known;

@@ -1,10 +1,13 @@
-use Rattle.std.proofs.Common.{ℕ, ◌+◌, ◌<◌, ◌++◌, length, map, flat_map, ap, arith}
+use Rattle.std.proofs.Common.{ℕ, ◌+◌, ◌<◌, ◌++◌, Vec, Global, List, length, map, flat_map, sym, ap, ◌∙◌, arith, append-nil}
+use Rattle.sat_clause.specs.declared.lit.Lit.{Lit}
 use Rattle.rail_base.specs.declared.station.TrainNo.{TrainNo}
 use Rattle.rail_spec.specs.Plans.{commands_of}
-use Rattle.rail_cone.specs.Clauses.{used_literals}
+use Rattle.rail_cone.specs.Clauses.{Literal, used_literals}
 use Rattle.cone_clause.specs.Numbered.{lit_of}
 use Rattle.cone_clause.proofs.Gathering.{count_next, mapped_next}
 use Rattle.cone_clause.proofs.Walked.{path_routes, used_whole}
+use Rattle.cone_clause.proofs.Further.{empty_list, nothing_said}
+use Rattle.cone_clause.proofs.used.push_used.Goals.{then-not-is_empty+in_ok-push_used_of, else-not-is_empty}
 use Rattle.cone_clause.proofs.used.push_used.Goals as goal
 
 pub loop-number-init : goal.loop-number-init
@@ -19,5 +22,11 @@ loop-number-preserved c =
     let routes = c.args.routes.now in
     let numbered : ℕ → TrainNo = λ n. record { 0 = n } in
     let within : c.loop-number.number < length d.trains + 1 = (let e = c.len.ensures in let l = c.loop-number-test.true in omega arith) in
-    mapped_next (λ (t : TrainNo). flat_map (used_literals d routes c.args.cone.now) (commands_of routes t)) (lit_of d routes c.args.steps) c.loop-number.clause.items c.push_used_of.new.clause.items _ _ _ (numbered c.loop-number.number)
-    (ap (map numbered) (count_next c.loop-number.number (length d.trains + 1) within)) c.in_ok-push_used_of.ensures c.loop-number.invariant
+    let said : TrainNo → List Literal = λ t. flat_map (used_literals d routes c.args.cone.now) (commands_of routes t) in
+    let train : TrainNo = numbered c.loop-number.number in
+    let next = mapped_next said (lit_of d routes c.args.steps) c.loop-number.clause.items c.if-not-is_empty.clause.items _ _ _ train (ap (map numbered) (count_next c.loop-number.number (length d.trains + 1) within)) in
+    elim c.if-not-is_empty.branch [
+      | then-not-is_empty+in_ok-push_used_of w ↦ next (ap (λ (v : Vec Lit Global). v.items) w.clause-is ∙ w.in_ok-push_used_of.ensures) c.loop-number.invariant
+      | else-not-is_empty w ↦ next (ap (λ (v : Vec Lit Global). v.items) w.clause-is ∙ (sym (append-nil c.loop-number.clause.items)
+          ∙ ap (λ (ls : List Literal). c.loop-number.clause.items ++ map (lit_of d routes c.args.steps) ls) (sym (nothing_said d routes c.args.cone.now train (sym c.path.ensures ∙ empty_list c.path.result.now (sym c.is_empty.ensures ∙ w.if-not-is_empty.false)))))) c.loop-number.invariant
+    ]

@@ -1,18 +1,23 @@
-use Rattle.std.proofs.Common.{List, sym, ap, ◌∙◌}
+use Rattle.std.proofs.Common.{◌≡◌, true, Bool, Vec, Global, List, map, sym, ap, ap₂, subst, ◌∙◌}
 use Rattle.std.specs.List.{list_all}
 use Rattle.rail_base.specs.declared.plan.Command.{Command}
-use Rattle.rail_cone.specs.Validity.{pair_in_design}
-use Rattle.cone_design.proofs.Walks.{read_stop, read_next}
-use Rattle.cone_design.proofs.Ranges.{named_routes}
+use Rattle.rail_base.specs.Members.{all_pairs}
+use Rattle.rail_spec.specs.Plans.{contend}
+use Rattle.plan_clauses.specs.Variables.{pairs}
+use Rattle.rail_cone.specs.Validity.{is_pair_before}
+use Rattle.cone_design.specs.Marks.{marked_pair}
+use Rattle.cone_design.proofs.Sorted.{pairs_sorted}
+use Rattle.cone_design.proofs.Contending.{pairs_are}
 use Rattle.cone_design.proofs.trains.pairs_in_design.Goals as goal
 
-pub pair_in_design-requires : goal.pair_in_design-requires
-pair_in_design-requires c = named_routes c.args.design.now.station c.args.routes.now c.args.cone.now c.requires
+pub are_pairs-requires : goal.are_pairs-requires
+are_pairs-requires c = subst (λ (ps : List (Command × Command)). all_pairs is_pair_before ps ≡ true) (sym c.requires.pairs) (pairs_sorted c.args.design.now.station c.args.routes.now (contend c.args.routes.now))
 
-pub returns-then-not-pair_in_design : goal.returns-then-not-pair_in_design
-returns-then-not-pair_in_design c =
-    read_stop (pair_in_design c.args.design.now.station c.args.routes.now c.args.cone.now) c.as_slice-pair-items.result.now c.loop-pair.pair-index _ c.loop-pair-test.true (sym (c.pair_in_design.ensures c.args.design.now.station) ∙ c.if-not-pair_in_design.true) c.loop-pair.invariant
-    ∙ ap (λ (ps : List (Command × Command)). list_all (pair_in_design c.args.design.now.station c.args.routes.now c.args.cone.now) ps) c.as_slice-pair-items.ensures
-
-pub loop-pair-preserved : goal.loop-pair-preserved
-loop-pair-preserved c = read_next (pair_in_design c.args.design.now.station c.args.routes.now c.args.cone.now) c.as_slice-pair-items.result.now c.loop-pair.pair-index _ c.loop-pair-test.true (sym (c.pair_in_design.ensures c.args.design.now.station) ∙ c.if-not-pair_in_design.false) c.loop-pair.invariant
+pub returns : goal.returns
+returns c =
+    let items : Vec Bool Global → List Bool = λ row. row.items in
+    let rows : List (Vec Bool Global) = c.in_ok-rows.rows.items in
+    c.are_pairs.ensures
+    ∙ (ap₂ (λ (rs : List (Vec Bool Global)) (ps : List (Command × Command)). list_all (marked_pair (map items rs) ps) c.as_slice-2.result.now) c.as_slice.ensures.value c.requires.pairs
+    ∙ (ap (λ (ps : List (Command × Command)). list_all (marked_pair (map items rows) (pairs c.args.design.now.station c.args.routes.now)) ps) c.as_slice-2.ensures
+    ∙ pairs_are c.args.design.now.station c.args.routes.now c.args.cone.now c.requires.trains (map items rows) c.in_ok-rows.ensures c.args.cone.now.pairs))

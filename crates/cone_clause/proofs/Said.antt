@@ -1,0 +1,284 @@
+-- The places of which a cone's clause says something, and what it says of the pairs before the next of them.
+use Rattle.std.proofs.Common.{◌≡◌, ℕ, zero, suc, ◌+◌, ◌*◌, ◌≤◌, ◌<◌, ◌⊎◌, inl, inr, Bool, true, false, ◌&&◌, ◌==◌, if◌then◌else◌, List, [], ◌∷◌, ◌++◌, map, filter, flat_map, take, drop, get_or, length, Some, None, refl, sym, ap, ap₂, subst, ◌∙◌, arith, true≢false, append-nil, eqb-true, eq-eqb, le_refl}
+use Rattle.std.proofs.lemmas.List.{take_more, take_all, append_assoc, map-append}
+use Rattle.std.proofs.lemmas.Grind.{flat_map-append}
+use Rattle.std.proofs.lemmas.Option.{slice_get-get_or}
+use Rattle.std.proofs.lemmas.List.Sorted.{list_any-IsPermutation}
+use Rattle.std.specs.List.{list_any, slice_get}
+use Rattle.std.specs.List.Sorted.{IsNonDecreasing, IsPermutation}
+use Rattle.rail_base.specs.declared.station.Station.{Station}
+use Rattle.rail_base.specs.declared.route.Route.{Route}
+use Rattle.rail_base.specs.declared.plan.Command.{Command}
+use Rattle.rail_base.proofs.Members.{In, in_filter, list_any_from, list_any_gives, false_unless, below_or_not}
+use Rattle.rail_base.proofs.Lists.{in_filter_back}
+use Rattle.rail_spec.specs.Plans.{is_command, contend}
+use Rattle.plan_clauses.specs.Variables.{pairs}
+use Rattle.rail_cone.specs.declared.Cone.{Cone}
+use Rattle.rail_cone.specs.declared.ConeTrain.{ConeTrain}
+use Rattle.rail_cone.specs.Cones.{unnamed, first_named, free_path, is_free, is_listed, is_pair}
+use Rattle.rail_cone.specs.Validity.{in_design}
+use Rattle.rail_cone.specs.Clauses.{Before, Literal, before_literals}
+use Rattle.rail_cone.proofs.Naming.{IsNamed, named_or_not, has_route_in, in_has_route}
+use Rattle.rail_cone.proofs.Saying.{is_command_same, is_command_self}
+use Rattle.cone_design.proofs.Placed.{to_place, is_pair_same, pair_itself}
+use Rattle.sat_clause.specs.declared.lit.Lit.{Lit}
+use Rattle.rail_spec.specs.Plans.{all_commands}
+use Rattle.cone_clause.specs.Numbered.{lit_of}
+use Rattle.cone_clause.proofs.Gathering.{drop_next, drop_end}
+use Rattle.cone_clause.proofs.Walked.{walked, pair_step}
+use Rattle.cone_clause.specs.Places.{Adds, AreSaid, IsMirrored, IsPlaceOf, IsPlaceBefore, IsPlaceBeforeFree, IsSaid}
+
+some_same : {X : Type 0} {a b : X} → Some a ≡ Some b → a ≡ b
+some_same h = cc
+
+-- ---- the place of one pair
+
+-- the pair that stands before a command in a run stands with it the other way round
+pub before_from : (ps : List (Command × Command)) → IsMirrored ps → (c : Command) (p : Command × Command) → In p (filter (λ p. is_command p.0 c) ps) → In (p.1, c) ps
+before_from ps turn c p m =
+    let k = in_filter_back (λ p. is_command p.0 c) ps p m in
+    let s = is_command_same p.0 c k.1 in
+    turn c p.1 (subst (λ x. In (x, p.1) ps) s k.0)
+
+-- the place of each pair with this second command is that of one of the run
+module _ (ps : List (Command × Command)) (c : Command) where
+  pub from_run : (i : ℕ) → ((p : Command × Command) × In p (filter (λ p. is_command p.0 c) ps) × IsPlaceOf ps (p.1, c) i) → IsPlaceBefore ps c i
+  from_run i (p, m, e) = (p.1, e)
+
+  pub to_run : IsMirrored ps → (i : ℕ) → IsPlaceBefore ps c i → (p : Command × Command) × In p (filter (λ p. is_command p.0 c) ps) × IsPlaceOf ps (p.1, c) i
+  to_run turn i (e, h) = ((c, e), kept ps (turn e c (there ps i h)), h)
+    where
+      there : (xs : List (Command × Command)) (i : ℕ) → slice_get xs i ≡ Some (e, c) → In (e, c) xs
+      there [] i h = cc
+      there (x ∷ xs) zero h = inl (some_same h)
+      there (x ∷ xs) (suc i) h = inr (there xs i h)
+
+      kept : (xs : List (Command × Command)) → In (c, e) xs → In (c, e) (filter (λ p. is_command p.0 c) xs)
+      kept xs m = in_filter (λ p. is_command p.0 c) xs (c, e) m (is_command_self c)
+
+-- two numbers of one place
+pub one_place : (ps : List (Command × Command)) (p : Command × Command) (place : ℕ) → ((i : ℕ) → slice_get ps i ≡ Some p → place ≡ i) → In p ps → IsPlaceOf ps p place
+one_place ps p place index m = let k = to_place ps p m in subst (λ i. slice_get ps i ≡ Some p) (sym (index k.0 k.1)) k.1
+
+pub place_inside : (ps : List (Command × Command)) (i : ℕ) (p : Command × Command) → slice_get ps i ≡ Some p → i < length ps
+place_inside [] i p h = cc
+place_inside (x ∷ xs) zero p h = omega arith
+place_inside (x ∷ xs) (suc i) p h = let l = place_inside xs i p h in omega arith
+
+-- ---- all places
+
+module _ (ps : List (Command × Command)) (k : Cone) where
+  pub said_free : (i : ℕ) → ((e : ConeTrain) × In e k.trains × IsPlaceBeforeFree ps k e.train i) → IsSaid ps k i
+  said_free i (e, m, (r, n, (f, h))) = ((f, record { train = e.train; route = r }), h, inr (in_has_route (free_path k e.train) r n))
+
+  pub said_listed : (i : ℕ) → ((p : Command × Command) × In p k.pairs × IsPlaceOf ps p i) → IsSaid ps k i
+  said_listed i (p, m, h) = (p, h, inl (list_any_from (is_pair p.0 p.1) k.pairs p m (pair_itself p.0 p.1)))
+
+  pub free_or_listed : (i : ℕ) → IsSaid ps k i → ((e : ConeTrain) × In e k.trains × IsPlaceBeforeFree ps k e.train i) ⊎ ((p : Command × Command) × In p k.pairs × IsPlaceOf ps p i)
+  free_or_listed i (p, h, inl l) = let f = list_any_gives (is_pair p.0 p.1) k.pairs l in inr (p, subst (λ x. In x k.pairs) (is_pair_same p.0 p.1 f.0 f.2) f.1, h)
+  free_or_listed i (p, h, inr l) = inl (go (named_or_not k.trains p.1.train))
+    where
+      member : In p.1.route (free_path k p.1.train)
+      member = has_route_in (free_path k p.1.train) p.1.route l
+
+      of_train : (e : ConeTrain) → e.train ≡ p.1.train → IsPlaceBeforeFree ps k e.train i
+      of_train e s = subst (λ t. IsPlaceBeforeFree ps k t i) (sym s) (p.1.route, member, (p.0, h))
+
+      nowhere : first_named p.1.train k.trains ≡ unnamed p.1.train → ⊥
+      nowhere e = empty (unnamed p.1.train).free (subst (λ (x : ConeTrain). In p.1.route (take x.free x.path)) e member)
+        where
+          empty : (n : ℕ) → In p.1.route (take n []) → ⊥
+          empty zero m = m
+          empty (suc n) m = m
+
+      go : IsNamed k.trains p.1.train ⊎ (first_named p.1.train k.trains ≡ unnamed p.1.train) → (e : ConeTrain) × In e k.trains × IsPlaceBeforeFree ps k e.train i
+      go (inl n) = (first_named p.1.train k.trains, n.member, of_train (first_named p.1.train k.trains) n.train)
+      go (inr e) = absurd (nowhere e)
+
+-- what is added for free commands and for listed pairs, in order, is all of it
+pub said_all : (ps : List (Command × Command)) (k : Cone) (old mid new places : List ℕ) → old ≡ []
+    → Adds (λ i. (e : ConeTrain) × In e k.trains × IsPlaceBeforeFree ps k e.train i) old mid → Adds (λ i. (p : Command × Command) × In p k.pairs × IsPlaceOf ps p i) mid new
+    → IsPermutation new places → IsNonDecreasing places → AreSaid ps k places
+said_all ps k old mid new places none free listed moved rising = record {
+  rising = rising;
+  all = λ i h. to i (added i (free_or_listed ps k i h));
+  only = λ i m. from i (listed.no_more i (back i m));
+}
+  where
+    at : (xs : List ℕ) (i : ℕ) → list_any (λ j. j == i) xs ≡ true → In i xs
+    at xs i h = let f = list_any_gives (λ j. j == i) xs h in subst (λ j. In j xs) (eqb-true f.0 i f.2) f.1
+
+    has : (xs : List ℕ) (i : ℕ) → In i xs → list_any (λ j. j == i) xs ≡ true
+    has xs i m = list_any_from (λ j. j == i) xs i m (eq-eqb i i refl)
+
+    to : (i : ℕ) → In i new → In i places
+    to i m = at places i (sym (list_any-IsPermutation (λ j. j == i) new places moved) ∙ has new i m)
+
+    back : (i : ℕ) → In i places → In i new
+    back i m = at new i (list_any-IsPermutation (λ j. j == i) new places moved ∙ has places i m)
+
+    added : (i : ℕ) → ((e : ConeTrain) × In e k.trains × IsPlaceBeforeFree ps k e.train i) ⊎ ((p : Command × Command) × In p k.pairs × IsPlaceOf ps p i) → In i new
+    added i (inl f) = listed.kept i (free.added i f)
+    added i (inr l) = listed.added i l
+
+    first : (i : ℕ) → In i old ⊎ ((e : ConeTrain) × In e k.trains × IsPlaceBeforeFree ps k e.train i) → IsSaid ps k i
+    first i (inl m) = absurd (subst (In i) none m)
+    first i (inr f) = said_free ps k i f
+
+    from : (i : ℕ) → In i mid ⊎ ((p : Command × Command) × In p k.pairs × IsPlaceOf ps p i) → IsSaid ps k i
+    from i (inl m) = first i (free.no_more i m)
+    from i (inr l) = said_listed ps k i l
+
+module _ (d : Station) (routes : List Route) (k : Cone) (fits : in_design d routes k ≡ true) where
+  abbrev said_of : Command × Command → List Literal
+  said_of p = before_literals d routes k p.0 p.1
+
+  -- nothing is said of a place that is not one of those
+  quiet_at : (i : ℕ) (other : Command × Command) → i < length (pairs d routes) → (IsSaid (pairs d routes) k i → ⊥) → said_of (get_or (pairs d routes) i other) ≡ []
+  quiet_at i other l none = go (is_listed k p.0 p.1) (is_free k p.1) (false_unless (is_listed k p.0 p.1) (λ t. none (p, at, inl t))) (false_unless (is_free k p.1) (λ t. none (p, at, inr t)))
+    where
+      p : Command × Command
+      p = get_or (pairs d routes) i other
+
+      at : slice_get (pairs d routes) i ≡ Some p
+      at = slice_get-get_or (pairs d routes) i other l
+
+      go : (a b : Bool) → a ≡ false → b ≡ false → ◌≡◌ {A = List Literal} (if a then record { fact = Before p.0 p.1; negated = true } ∷ [] else if b && contend routes p.0 p.1 then record { fact = Before p.0 p.1; negated = false } ∷ [] else []) []
+      go true b e f = absurd (true≢false e)
+      go false true e f = absurd (true≢false f)
+      go false false e f = refl
+
+  -- nothing is said of the pairs between two places with no such place between them
+  quiet : (a b : ℕ) (other : Command × Command) → a ≤ b → b ≤ length (pairs d routes) → ((i : ℕ) → a ≤ i → i < b → IsSaid (pairs d routes) k i → ⊥) → flat_map said_of (take b (pairs d routes)) ≡ flat_map said_of (take a (pairs d routes))
+  quiet a zero other l m none = let e : zero ≡ a = omega arith in ap (λ n. flat_map said_of (take n (pairs d routes))) e
+  quiet a (suc b) other l m none = go (λ f. quiet a b other f (omega arith) (λ i x y. none i x (omega arith))) (below_or_not b a)
+    where
+      go : (a ≤ b → flat_map said_of (take b (pairs d routes)) ≡ flat_map said_of (take a (pairs d routes))) → (b < a) ⊎ (a ≤ b) → flat_map said_of (take (suc b) (pairs d routes)) ≡ flat_map said_of (take a (pairs d routes))
+      go before (inl f) = let e : suc b ≡ a = omega arith in ap (λ n. flat_map said_of (take n (pairs d routes))) e
+      go before (inr f) =
+          let on : suc b ≡ b + 1 = omega arith in
+          let last : said_of (get_or (pairs d routes) b other) ++ [] ≡ [] = ap (λ ls. ls ++ []) (quiet_at b other (omega arith) (none b f (omega arith))) in
+          ap (λ n. flat_map said_of (take n (pairs d routes))) on
+          ∙ (ap (flat_map said_of) (take_more (pairs d routes) b other (omega arith))
+          ∙ (flat_map-append said_of (take b (pairs d routes)) (get_or (pairs d routes) b other ∷ [])
+          ∙ (ap (λ ls. flat_map said_of (take b (pairs d routes)) ++ ls) last
+          ∙ (append-nil (flat_map said_of (take b (pairs d routes))) ∙ before f))))
+
+  -- the literal of a place of which something is said
+  one_said : (n : ℕ) (i : ℕ) (other : Command × Command) → IsSaid (pairs d routes) k i → (v : ℕ) (negated : Bool) → v ≡ length d.trains * length routes * n + i + 1 → negated ≡ is_listed k (get_or (pairs d routes) i other).0 (get_or (pairs d routes) i other).1
+      → record { var = v; negated = negated } ∷ [] ≡ map (lit_of d routes n) (said_of (get_or (pairs d routes) i other))
+  one_said n i other (p, at, why) v negated is h = pair_step d routes k fits n (pairs d routes) refl i other inside v (Some negated) is (by negated (is_listed k q.0 q.1) (is_free k q.1) h (free_else why))
+    where
+      inside : i < length (pairs d routes)
+      inside = place_inside (pairs d routes) i p at
+
+      q : Command × Command
+      q = get_or (pairs d routes) i other
+
+      same : p ≡ q
+      same = some_same (sym at ∙ slice_get-get_or (pairs d routes) i other inside)
+
+      free_else : (is_listed k p.0 p.1 ≡ true) ⊎ (is_free k p.1 ≡ true) → (is_listed k q.0 q.1 ≡ true) ⊎ (is_free k q.1 ≡ true)
+      free_else (inl t) = inl (subst (λ (x : Command × Command). is_listed k x.0 x.1 ≡ true) same t)
+      free_else (inr t) = inr (subst (λ (x : Command × Command). is_free k x.1 ≡ true) same t)
+
+      by : (r a b : Bool) → r ≡ a → (a ≡ true) ⊎ (b ≡ true) → Some r ≡ (if a then Some true else if b then Some false else None)
+      by r true b e w = ap Some e
+      by r false true e w = ap Some e
+      by r false false e (inl w) = absurd (true≢false (sym w))
+      by r false false e (inr w) = absurd (true≢false (sym w))
+
+  module _ (n : ℕ) (old : List Lit) where
+    -- the clause says all of the pairs up to a place
+    abbrev pub SaysUpTo : List (Command × Command) → ℕ → List Lit → Type 0
+    SaysUpTo ps next now = now ≡ old ++ map (lit_of d routes n) (flat_map said_of (take next ps))
+
+    abbrev More : List (Command × Command) → Type 0
+    More ps = (next i : ℕ) (other : Command × Command) (now new : List Lit) → next ≤ i → IsSaid ps k i → ((j : ℕ) → next ≤ j → j < i → IsSaid ps k j → ⊥)
+        → (v : ℕ) (negated : Bool) → v ≡ length d.trains * length routes * n + i + 1 → negated ≡ is_listed k (get_or ps i other).0 (get_or ps i other).1
+        → new ≡ now ++ record { var = v; negated = negated } ∷ [] → SaysUpTo ps next now → SaysUpTo ps (i + 1) new
+
+    abbrev Whole : List (Command × Command) → Type 0
+    Whole ps = (next : ℕ) (other : Command × Command) (now : List Lit) → next ≤ length ps → ((j : ℕ) → next ≤ j → IsSaid ps k j → ⊥) → SaysUpTo ps next now
+        → now ≡ old ++ map (lit_of d routes n) (flat_map (λ e. flat_map (before_literals d routes k e) (all_commands d routes)) (all_commands d routes))
+
+    more : More (pairs d routes)
+    more next i other now new l said none v negated is h grown before =
+        let inside : i < length (pairs d routes) = place_inside (pairs d routes) i said.0 said.1 in
+        let p : Command × Command = get_or (pairs d routes) i other in
+        let front : List Literal = flat_map said_of (take next (pairs d routes)) in
+        let parts : flat_map said_of (take (i + 1) (pairs d routes)) ≡ front ++ said_of p =
+        ap (flat_map said_of) (take_more (pairs d routes) i other inside)
+        ∙ (flat_map-append said_of (take i (pairs d routes)) (p ∷ [])
+        ∙ ap₂ (λ xs ys. xs ++ ys) (quiet next i other l (omega arith) none) (append-nil (said_of p))) in
+        grown ∙ (ap₂ (λ xs ys. xs ++ ys) before (one_said n i other said v negated is h)
+        ∙ (append_assoc old (map (lit_of d routes n) front) (map (lit_of d routes n) (said_of p))
+        ∙ ap (λ ls. old ++ ls) (sym (ap (map (lit_of d routes n)) parts ∙ map-append (lit_of d routes n) front (said_of p)))))
+
+    whole : Whole (pairs d routes)
+    whole next other now l none before =
+        before ∙ ap (λ ls. old ++ map (lit_of d routes n) ls)
+        (sym (walked d routes k fits ∙ (ap (flat_map said_of) (sym (take_all (length (pairs d routes)) (pairs d routes) (le_refl (length (pairs d routes))))) ∙ quiet next (length (pairs d routes)) other l (le_refl (length (pairs d routes))) (λ j x y. none j x))))
+
+    pub says_more : (ps : List (Command × Command)) → ps ≡ pairs d routes → More ps
+    says_more ps is = subst More (sym is) more
+
+    pub says_all : (ps : List (Command × Command)) → ps ≡ pairs d routes → Whole ps
+    says_all ps is = subst Whole (sym is) whole
+
+-- ---- what is left of the places
+
+module _ (ps : List (Command × Command)) (k : Cone) (places : List ℕ) (said : AreSaid ps k places) where
+  -- from a number on, those of which something is said are among the places that are left
+  abbrev pub AreLeft : ℕ → ℕ → Type 0
+  AreLeft next j = (i : ℕ) → next ≤ i → IsSaid ps k i → In i (drop j places)
+
+  after : (j : ℕ) (x : ℕ) → In x (drop j places) → (m : ℕ) × (j ≤ m) × (m < length places) × ((other : ℕ) → get_or places m other ≡ x)
+  after = go places
+    where
+      go : (xs : List ℕ) (j : ℕ) (x : ℕ) → In x (drop j xs) → (m : ℕ) × (j ≤ m) × (m < length xs) × ((other : ℕ) → get_or xs m other ≡ x)
+      go [] zero x m = absurd m
+      go [] (suc j) x m = absurd m
+      go (y ∷ ys) zero x (inl e) = (zero, omega arith, omega arith, λ other. e)
+      go (y ∷ ys) zero x (inr m) = later (go ys zero x m)
+        where
+          later : (m : ℕ) × (zero ≤ m) × (m < length ys) × ((other : ℕ) → get_or ys m other ≡ x) → (m : ℕ) × (zero ≤ m) × (m < length (y ∷ ys)) × ((other : ℕ) → get_or (y ∷ ys) m other ≡ x)
+          later (m, a, b, f) = (suc m, omega arith, omega arith, f)
+      go (y ∷ ys) (suc j) x m = later (go ys j x m)
+        where
+          later : (m : ℕ) × (j ≤ m) × (m < length ys) × ((other : ℕ) → get_or ys m other ≡ x) → (m : ℕ) × (suc j ≤ m) × (m < length (y ∷ ys)) × ((other : ℕ) → get_or (y ∷ ys) m other ≡ x)
+          later (m, a, b, f) = (suc m, omega arith, omega arith, f)
+
+  module _ (next j other : ℕ) (inside : j < length places) (left : AreLeft next j) where
+    split : (i : ℕ) → next ≤ i → IsSaid ps k i → (get_or places j other ≡ i) ⊎ In i (drop (j + 1) places)
+    split i l s = subst (In i) (drop_next places j other inside) (left i l s)
+
+    pub none_between : (i : ℕ) → next ≤ i → i < get_or places j other → IsSaid ps k i → ⊥
+    none_between i l m s = go (split i l s)
+      where
+        go : (get_or places j other ≡ i) ⊎ In i (drop (j + 1) places) → ⊥
+        go (inl e) = absurd (omega arith)
+        go (inr n) = at (after (j + 1) i n)
+          where
+            at : (q : ℕ) × (j + 1 ≤ q) × (q < length places) × ((other : ℕ) → get_or places q other ≡ i) → ⊥
+            at (q, a, b, f) =
+                let e : get_or places q other ≡ i = f other in
+                let r : get_or places j other ≤ get_or places q other = said.rising j q other (omega arith) b in
+                absurd (omega arith)
+
+    pub left_after : next ≤ get_or places j other → AreLeft (get_or places j other + 1) (j + 1)
+    left_after m i l s = go (split i (omega arith) s)
+      where
+        go : (get_or places j other ≡ i) ⊎ In i (drop (j + 1) places) → In i (drop (j + 1) places)
+        go (inl e) = absurd (omega arith)
+        go (inr n) = n
+
+    pub left_same : get_or places j other < next → AreLeft next (j + 1)
+    left_same m i l s = go (split i l s)
+      where
+        go : (get_or places j other ≡ i) ⊎ In i (drop (j + 1) places) → In i (drop (j + 1) places)
+        go (inl e) = absurd (omega arith)
+        go (inr n) = n
+
+  pub none_left : (next j : ℕ) → length places ≤ j → AreLeft next j → (i : ℕ) → next ≤ i → IsSaid ps k i → ⊥
+  none_left next j end left i l s = subst (In i) (drop_end places j end) (left i l s)
