@@ -13,12 +13,13 @@ use Rattle.rail_cli.specs.declared.ending.Ending.{Ending}
 use Rattle.rail_cli.specs.declared.ending.Ending.TheVariants as ending
 use Rattle.rail_cli.specs.declared.input.InputFile.TheVariants as file
 use Rattle.rail_cli.specs.Statuses.{is_refusal, is_answered}
-use Rattle.rail_cli.specs.Answers.{Answer, within_limit, design_in, plan_or_answer, plan_in, verdict_status, unless_refused, planned, shown, shown_by, simulated, answer_to, answer_of}
+use Rattle.rail_cli.specs.Answers.{Answer, within_limit, design_in, plan_or_answer, plan_in, verdict_status, unless_refused, planned, shown, simulated, answer_to, answer_of}
+use Rattle.rail_cli.specs.Shows.{shown_by}
 use Rattle.rail_cli.specs.Replies.{reply_seen, Replies, RefusesFile, OnReply, DecidesPlan, Decides, DecidesRequest}
 use Rattle.rail_cli.specs.Simulations.{Settles, Simulates, TellsFeasible, DoneWhereFeasible}
 use Rattle.rail_cli.specs.Prints.{Prints}
 use Rattle.rail_cli.proofs.Refusing.{routes_listed, design_read, file_fits, file_is}
-use Rattle.rail_cli.proofs.Showing.{verdict_refuses_nothing, no_unless_done, met_first}
+use Rattle.rail_cli.proofs.Showing.{verdict_refuses_nothing, no_unless_done, met_first, done_begins, met_done, first_done}
 
 -- ---- one reading after the other
 
@@ -97,7 +98,7 @@ module _ (files : Files) (words : List (List ℕ)) (d : Station) (plan : List (L
         let design : dec.design ≡ d = cc in
         let two : Ok dec.decided.plan ≡ Ok plan = sym dec.decided.spelled ∙ ap (λ e. plan_in e (files plan_name)) design ∙ ap (λ n. plan_in d (files n)) (sym same_plan) ∙ reads_plan in
         let steps : dec.decided.plan ≡ plan = cc in
-        let settled : Settles dec.design dec.decided.plan t = record { done = dec.decided.exactly; apart = dec.decided.apart } in
+        let settled : Settles dec.design dec.decided.plan t = record { done = dec.decided.exactly; safe = dec.decided.safe } in
         let at_design : Settles d dec.decided.plan t = subst (λ (e : Station). Settles e dec.decided.plan t) design settled in
         subst (λ (p : List (List Command)). Settles d p t) steps at_design
 
@@ -156,9 +157,10 @@ tells_feasible files found words d plan t text new_text pieces new_pieces prints
     record {
       done = done;
       failed = ((λ e f. let yes = done.1 f in absurd (cc)), (λ no. kind ∙ no_unless_done (shown_by d plan) (λ e. no (done.0 (kind ∙ e)))));
-      met = λ f. met_first d plan (sym kind ∙ done.1 f);
+      met = ((λ line. done.0 (kind ∙ first_done d (shown_by d plan) _ line.0 line.1)), (λ f. met_first d plan (sym kind ∙ done.1 f)));
+      begins = ((λ front. done.0 (kind ∙ met_done d (shown_by d plan) front)), (λ f. done_begins d (shown_by d plan) (sym kind ∙ done.1 f)));
       text = prints.written answered ∙ ap (λ (a : Answer). grown text (concat a.lines)) so;
-      apart = settled.apart;
+      safe = settled.safe;
     }
 
 -- a reply that was made

@@ -19,7 +19,6 @@ use Rattle.rail_outside.specs.Files.{Files}
 use Rattle.rail_outside.specs.Growth.{grown}
 use Rattle.rail_spec.specs.Feasible.{IsFeasible}
 use Rattle.rail_spec.specs.Track.{routes_of}
-use Rattle.rail_spec.proofs.Admits.{never_clash}
 use Rattle.rail_words.specs.Requests.{Asked, simulate, routes, verify, check, trial, request_of, IsInRange}
 use Rattle.rail_words.proofs.Ranges.{requests_in_range}
 use Rattle.verify_loop.specs.declared.outcome.Budgets.{Budgets}
@@ -44,7 +43,7 @@ use Rattle.rail_cli.proofs.Passing.{passed, long_refuses, design_refuses, clause
 use Rattle.rail_cli.proofs.Refusing.{file_is, file_fits}
 use Rattle.rail_cli.proofs.Deciding.{answered_next, answered_refusal, prints_answer, tells_of_reply}
 use Rattle.rail_cli.proofs.Judging.{small_passes, too_large_refused, tells_infeasible}
-use Rattle.rail_cli.proofs.Showing.{done_exactly, met_first}
+use Rattle.rail_cli.proofs.Showing.{done_exactly, met_first, runs_safely}
 
 -- ---- what a search ends with
 
@@ -159,7 +158,7 @@ module _ (n conflicts ticks : ℕ) (design_bytes : List ℕ) (found : Outcome) w
 
 -- ---- the replies to a search
 
-within_budgets : (d : Station) (n : ℕ) (b : Budgets) (found : Outcome) → b.log_bytes ≡ limit_of file.Proof → Says d n b found → Says d n (budgets_of b.conflicts b.ticks) found
+pub within_budgets : (d : Station) (n : ℕ) (b : Budgets) (found : Outcome) → b.log_bytes ≡ limit_of file.Proof → Says d n b found → Says d n (budgets_of b.conflicts b.ticks) found
 within_budgets d n b found room says = subst (λ (k : ℕ). Says d n (record { conflicts = b.conflicts; ticks = b.ticks; log_bytes = k }) found) room says
 
 module _ (files : Files) (n : ℕ) (b : Budgets) (design proof : List ℕ) where
@@ -331,7 +330,7 @@ module _ (files : Files) (words : List (List ℕ)) (n : ℕ) (d : Station) (s : 
         text = prints.written answered ∙ ap (λ (a : Answer). grown text (concat a.lines)) lines;
         feasible = feasible;
         met = met_first d p.plan.steps ((done_exactly d n p.plan.steps good feasible.runnable).1 feasible);
-        apart = never_clash d good n p.plan.steps feasible.runnable.well_formed.formed feasible.runnable.executable;
+        safe = runs_safely d n p.plan.steps good feasible.runnable;
       }
 
   -- what a check says of the stored log
@@ -359,7 +358,7 @@ module _ (files : Files) (words : List (List ℕ)) (n : ℕ) (d : Station) (s : 
       let some : 1 ≤ n = (requests_in_range words (verify n s.conflicts s.ticks s.design_name s.proof_name) s.asked).0 in
       record {
         text = prints.written answered ∙ (ap (λ (a : Answer). grown text (concat a.lines)) line ∙ ap (grown text) (append-nil (infeasible_line n)));
-        none = (yes_infeasible d (spelled_admitted (files s.design_name) d s.spells_design) n n log.log some log.shows).1;
+        none = (yes_infeasible d (spelled_admitted (files s.design_name) d s.spells_design) n n log.log some log.proves.shows).1;
         stored = log;
-        passes = log_passes q log.log log.short log.shows;
+        passes = log_passes q log.log log.proves.short log.proves.shows;
       }

@@ -1,8 +1,7 @@
 -- What a run leaves on the shelf.
-use Rattle.std.proofs.Common.{◌≡◌, ◌⊎◌, ℕ, true, List, Option, None, Some, Result, Ok, Err, refl, ap, sym, ◌∙◌, subst, inl, inr}
+use Rattle.std.proofs.Common.{◌≡◌, ◌⊎◌, ℕ, true, List, Option, None, Some, Result, Ok, Err, Vec, Global, refl, ap, sym, ◌∙◌, subst, inl, inr}
 use Rattle.rail_base.specs.declared.station.Station.{Station}
 use Rattle.rail_outside.specs.Files.{Files}
-use Rattle.rail_outside.proofs.Kept.{updated-kept}
 use Rattle.rail_words.specs.Requests.{Asked, simulate, routes, verify, check, trial}
 use Rattle.verify_loop.specs.declared.outcome.Budgets.{Budgets}
 use Rattle.verify_loop.specs.declared.outcome.Outcome.{Outcome}
@@ -18,7 +17,7 @@ use Rattle.rail_cli.specs.Statuses.{is_answered, is_refusal}
 use Rattle.rail_cli.specs.Texts.{limit_of}
 use Rattle.rail_cli.specs.Answers.{Answer, design_in, told_outcome}
 use Rattle.rail_cli.specs.Replies.{reply_seen, OnEnd, RefusesFile, StoresFile, KeepsLog}
-use Rattle.rail_cli.specs.Searches.{HoldsProof, SearchLeaves, Leaves}
+use Rattle.rail_cli.specs.Searches.{ShowsNone, HoldsProof, SearchLeaves, Leaves}
 
 -- ---- a search
 
@@ -79,30 +78,35 @@ module _ (files : Files) (n : ℕ) (design proof : List ℕ) (held : Option File
       go : (e : Ending) → RefusesFile {X = Reply} (Err e) → OnEnd (Err e) left
       go (ending.Told reply) refuses = refusal_leaves reply.status refuses same
       go ending.Memory refuses = inr same
-      go ending.ShelfFault refuses = (files proof, same ∙ ap (λ (f : Files). Some f) (updated-kept files proof))
+      go ending.ShelfFault refuses = inr same
 
-  -- the log was not stored
-  unstored_leaves : (e : Ending) (log : List ℕ) → StoresFile {X = Unit {0}} (Err e) files proof log held → OnEnd (Err e) left
-  unstored_leaves (ending.Told reply) log h = absurd h
-  unstored_leaves ending.Memory log h = inr h
-  unstored_leaves ending.ShelfFault log h = h
-
-  unkept_leaves : (e : Ending) (found : Outcome) → KeepsLog {X = Unit {0}} (Err e) files proof found held → OnEnd (Err e) left
-  unkept_leaves e (outcome.Infeasible log) h = unstored_leaves e log.items h
-  unkept_leaves e (outcome.Plan plan verdict) h = absurd (let no = h.0 in cc)
-  unkept_leaves e (outcome.ConflictsSpent log clause hints) h = absurd (let no = h.0 in cc)
-  unkept_leaves e (outcome.TicksSpent failed sum at_hand) h = absurd (let no = h.0 in cc)
-  unkept_leaves e (outcome.LogSpent log bytes next) h = absurd (let no = h.0 in cc)
-  unkept_leaves e (outcome.TooLarge literals) h = absurd (let no = h.0 in cc)
-  unkept_leaves e outcome.Memory h = absurd (let no = h.0 in cc)
-
-  pub failed_leaves : (r : Result Reply Ending) (e : Ending) (found : Outcome) → r ≡ Err e → KeepsLog {X = Unit {0}} (Err e) files proof found held → OnEnd r left
-  failed_leaves r e found is h = subst (λ (x : Result Reply Ending). OnEnd x left) (sym is) (unkept_leaves e found h)
-
-  -- what the search ended with is told, and a log that shows that there is no plan is stored
+  -- what a search in the design that the file spells leaves
   module _ (d : Station) (spelled : design_in (files design) ≡ Ok d) (b : Budgets) (room : b.log_bytes ≡ limit_of file.Proof) where
+    -- the log of a search shows that there is no plan
+    log_shows : (log : Vec ℕ Global) → Says d n b (outcome.Infeasible log) → ShowsNone d n log.items
+    log_shows log says = record { short = rw (← room) says.2; shows = says.1.accepted }
+
+    -- it was not stored
+    unstored_leaves : (e : Ending) (log : List ℕ) → ShowsNone d n log → StoresFile {X = Unit {0}} (Err e) files proof log held → OnEnd (Err e) left
+    unstored_leaves (ending.Told reply) log shows h = absurd h
+    unstored_leaves ending.Memory log shows h = inr h
+    unstored_leaves ending.ShelfFault log shows h = inl (d, spelled, record { log = log; proves = shows; some = h.0; holds = h.1 })
+
+    unkept_leaves : (e : Ending) (found : Outcome) → Says d n b found → KeepsLog {X = Unit {0}} (Err e) files proof found held → OnEnd (Err e) left
+    unkept_leaves e (outcome.Infeasible log) says h = unstored_leaves e log.items (log_shows log says) h
+    unkept_leaves e (outcome.Plan plan verdict) says h = absurd (let no = h.0 in cc)
+    unkept_leaves e (outcome.ConflictsSpent log clause hints) says h = absurd (let no = h.0 in cc)
+    unkept_leaves e (outcome.TicksSpent failed sum at_hand) says h = absurd (let no = h.0 in cc)
+    unkept_leaves e (outcome.LogSpent log bytes next) says h = absurd (let no = h.0 in cc)
+    unkept_leaves e (outcome.TooLarge literals) says h = absurd (let no = h.0 in cc)
+    unkept_leaves e outcome.Memory says h = absurd (let no = h.0 in cc)
+
+    pub failed_leaves : (r : Result Reply Ending) (e : Ending) (found : Outcome) → r ≡ Err e → Says d n b found → KeepsLog {X = Unit {0}} (Err e) files proof found held → OnEnd r left
+    failed_leaves r e found is says h = subst (λ (x : Result Reply Ending). OnEnd x left) (sym is) (unkept_leaves e found says h)
+
+    -- what the search ended with is told, and a log that shows that there is no plan is stored
     told_leaves : (found : Outcome) → Says d n b found → KeepsLog {X = Unit {0}} (Ok tt) files proof found held → is_answered (told_outcome d n b.conflicts b.ticks found).status ≡ true → left (told_outcome d n b.conflicts b.ticks found).status
-    told_leaves (outcome.Infeasible log) says kept answered = (d, spelled, record { log = log.items; short = rw (← room) says.2; shows = says.1.accepted; holds = kept })
+    told_leaves (outcome.Infeasible log) says kept answered = (d, spelled, record { log = log.items; proves = log_shows log says; holds = kept })
     told_leaves (outcome.Plan plan verdict) says kept answered = kept.1
     told_leaves (outcome.ConflictsSpent log clause hints) says kept answered = kept.1
     told_leaves (outcome.TicksSpent failed sum at_hand) says kept answered = kept.1

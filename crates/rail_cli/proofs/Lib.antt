@@ -7,6 +7,8 @@ pub mod Numbered
 pub mod Passing
 pub mod Judging
 pub mod Leaving
+pub mod Stored
 pub mod Finding
+pub mod Untold
 pub mod Trying
 pub mod Verdicts

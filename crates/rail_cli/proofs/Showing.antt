@@ -1,10 +1,12 @@
 -- What a timetable says of the plan.
-use Rattle.std.proofs.Common.{◌≡◌, ◌↔◌, ℕ, Bool, true, false, List, ◌∷◌, nat_lt, Option, None, Some, if◌then◌else◌, refl, ap, ap₂, sym, ◌∙◌}
+use Rattle.std.proofs.Common.{◌≡◌, ◌↔◌, ℕ, Bool, true, false, List, [], ◌∷◌, codes, nat_lt, Option, None, Some, if◌then◌else◌, refl, ap, ap₂, sym, ◌∙◌, arith}
+use Rattle.std.specs.List.{concat}
 use Rattle.std.proofs.lemmas.Bool.{le-ltb}
 use Rattle.rail_base.specs.declared.station.Station.{Station}
 use Rattle.rail_base.specs.declared.route.Route.{Route}
 use Rattle.rail_base.specs.declared.plan.Command.{Command}
 use Rattle.rail_base.specs.declared.plan.Violation.{Violation}
+use Rattle.rail_base.specs.declared.plan.Violation.TheVariants.{Path, Within, Order, Grant, Visit}
 use Rattle.rail_base.specs.declared.history.Verdict.{Verdict}
 use Rattle.rail_base.specs.declared.history.Verdict.TheVariants.{Met, Failed, Undecided}
 use Rattle.rail_base.specs.Admitted.{IsAdmitted}
@@ -14,13 +16,18 @@ use Rattle.rail_spec.specs.Feasible.{IsRunnable, IsFeasible}
 use Rattle.rail_spec.specs.Histories.{decided}
 use Rattle.rail_spec.specs.Requirements.{meets, cost, path_violation, violation_at}
 use Rattle.rail_spec.specs.Verdict.{failure, or_else}
+use Rattle.rail_spec.proofs.Admits.{never_clash}
+use Rattle.rail_spec.proofs.Keeping.{keeps_authority, keeps_all_limits}
+use Rattle.rail_spec.proofs.Lively.{no_deadlock}
 use Rattle.rail_spec.proofs.Verdicts.{met_exactly, verdict}
 use Rattle.timetable.specs.Lines.{met_line}
-use Rattle.timetable.specs.Timetable.{timetable_of}
+use Rattle.timetable.specs.Timetable.{timetable_of, timetable_text}
 use Rattle.rail_cli.specs.declared.status.Status.{Status}
 use Rattle.rail_cli.specs.declared.status.Status.TheVariants as statuses
 use Rattle.rail_cli.specs.Statuses.{is_verdict, is_refusal, is_answered}
-use Rattle.rail_cli.specs.Answers.{verdict_status, shown, shown_by}
+use Rattle.rail_cli.specs.Answers.{verdict_status, shown}
+use Rattle.rail_cli.specs.Shows.{shown_by}
+use Rattle.rail_cli.specs.Simulations.{BeginsWith, RunsSafely}
 
 -- ---- the status of a verdict
 
@@ -63,6 +70,17 @@ done_exactly d n plan admitted runnable =
     let same = ap verdict_status (told_by_horizon d plan admitted) in
     ((λ e. record { runnable = runnable; met = exact.1 (told.0 (sym same ∙ e)) }), (λ f. same ∙ told.1 (exact.0 f.met)))
 
+-- ---- its run
+
+pub runs_safely : (d : Station) (n : ℕ) (plan : List (List Command)) → IsAdmitted d → IsRunnable d (routes_of d) n plan → RunsSafely d plan
+runs_safely d n plan good able =
+    let formed = able.well_formed.formed in
+    record {
+      apart = never_clash d good n plan formed able.executable;
+      keeps = record { in_authority = keeps_authority d good n plan formed; in_limits = keeps_all_limits d good n plan formed };
+      granted = no_deadlock d good n plan able;
+    }
+
 -- ---- its first line
 
 first_line : (d : Station) (routes : List Route) (plan : List (List Command)) (late : Bool) (path run : Option Violation) → verdict_status (if late then Undecided else decided d routes plan path run) ≡ statuses.Done
@@ -74,6 +92,39 @@ first_line d routes plan false None None e = (_, refl)
 
 pub met_first : (d : Station) (plan : List (List Command)) → verdict_status (shown_by d plan) ≡ statuses.Done → (more : List (List ℕ)) × (timetable_of d (shown_by d plan) ≡ met_line (cost d (routes_of d) plan) ∷ more)
 met_first d plan e = first_line d (routes_of d) plan (nat_lt (horizon d) (cost d (routes_of d) plan)) (path_violation d (routes_of d) plan) (violation_at d (routes_of d) plan (cost d (routes_of d) plan)) e
+
+-- ---- the front of its text
+
+abbrev first : List ℕ → ℕ
+first [] = 0
+first (x ∷ xs) = x
+
+pub done_begins : (d : Station) (v : Verdict) → verdict_status v ≡ statuses.Done → BeginsWith (codes "met tick") (timetable_text d v)
+done_begins d (Met h k) e = (_, refl)
+done_begins d (Failed h k x) e = absurd (cc)
+done_begins d Undecided e = absurd (cc)
+
+-- no other text begins with an `m`
+apart : (n : ℕ) → n ≡ 102 → n ≡ 109 → ⊥
+apart n one other = omega arith
+
+nothing : (n : ℕ) → n ≡ 0 → n ≡ 109 → ⊥
+nothing n one other = omega arith
+
+begins_done : (d : Station) (v : Verdict) → first (timetable_text d v) ≡ 109 → verdict_status v ≡ statuses.Done
+begins_done d (Met h k) e = refl
+begins_done d (Failed h k (Path t j)) e = absurd (apart (first (timetable_text d (Failed h k (Path t j)))) refl e)
+begins_done d (Failed h k (Within w)) e = absurd (apart (first (timetable_text d (Failed h k (Within w)))) refl e)
+begins_done d (Failed h k (Order o)) e = absurd (apart (first (timetable_text d (Failed h k (Order o)))) refl e)
+begins_done d (Failed h k (Grant t j)) e = absurd (apart (first (timetable_text d (Failed h k (Grant t j)))) refl e)
+begins_done d (Failed h k (Visit t j)) e = absurd (apart (first (timetable_text d (Failed h k (Visit t j)))) refl e)
+begins_done d Undecided e = absurd (nothing (first (timetable_text d Undecided)) refl e)
+
+pub met_done : (d : Station) (v : Verdict) → BeginsWith (codes "met tick") (timetable_text d v) → verdict_status v ≡ statuses.Done
+met_done d v h = begins_done d v (ap first h.1)
+
+pub first_done : (d : Station) (v : Verdict) (k : ℕ) (more : List (List ℕ)) → timetable_of d v ≡ met_line k ∷ more → verdict_status v ≡ statuses.Done
+first_done d v k more e = begins_done d v (ap (λ (lines : List (List ℕ)). first (concat lines)) e)
 
 -- ---- the reply
 

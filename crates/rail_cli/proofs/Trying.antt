@@ -24,7 +24,8 @@ use Rattle.rail_cli.specs.declared.reply.Reply.{Reply}
 use Rattle.rail_cli.specs.declared.ending.Ending.{Ending}
 use Rattle.rail_cli.specs.declared.ending.Ending.TheVariants as ending
 use Rattle.rail_cli.specs.Statuses.{is_answered, is_verdict}
-use Rattle.rail_cli.specs.Answers.{Answer, with_routes, design_or_answer, with_clauses, unless_refused, verdict_status, shown_by, trial_conflicts, trial_ticks, told_trial, tried_in, tried}
+use Rattle.rail_cli.specs.Answers.{Answer, with_routes, design_or_answer, with_clauses, unless_refused, verdict_status, trial_conflicts, trial_ticks, told_trial, tried_in, tried}
+use Rattle.rail_cli.specs.Shows.{shown_by}
 use Rattle.rail_cli.specs.Replies.{reply_seen, deciding_tick, Reads, Replies, RepliesTrial, Tries}
 use Rattle.rail_cli.specs.Searches.{budgets_of, EndsTrial}
 use Rattle.rail_cli.specs.Prints.{Prints}

@@ -23,7 +23,8 @@ use Rattle.rail_cli.specs.declared.status.Status.TheVariants as statuses
 use Rattle.rail_cli.specs.declared.input.InputFile.TheVariants as file
 use Rattle.rail_cli.specs.Statuses.{is_answered}
 use Rattle.rail_cli.specs.Texts.{limit_of}
-use Rattle.rail_cli.specs.Answers.{Answer, within_limit, with_routes, design_or_answer, design_in, plan_or_answer, plan_in, shown, shown_by, verdict_status, simulated, listed, routes_listed, with_clauses, told, checked_against, with_proof, checked, told_outcome, searched, trial_conflicts, trial_ticks, told_trial, tried_in, tried, unless_refused, answer_to, answer_of}
+use Rattle.rail_cli.specs.Answers.{Answer, within_limit, with_routes, design_or_answer, design_in, plan_or_answer, plan_in, shown, verdict_status, simulated, listed, routes_listed, with_clauses, told, checked_against, with_proof, checked, told_outcome, searched, trial_conflicts, trial_ticks, told_trial, tried_in, tried, unless_refused, answer_to, answer_of}
+use Rattle.rail_cli.specs.Shows.{shown_by}
 use Rattle.rail_cli.specs.Searches.{budgets_of, Finds}
 use Rattle.rail_cli.specs.Prints.{Prints}
 use Rattle.rail_cli.specs.Verdicts.{HasRoutes, HasFewClauses, SpellsDesign, SpellsPlan, IsUnrefused, IsVerdict, SpendsBudget, ComesTo}

@@ -16,14 +16,12 @@ use Rattle.rail_base.specs.declared.station.EdgeNo.{EdgeNo}
 use Rattle.rail_base.specs.declared.plan.Command.{Command}
 use Rattle.rail_base.specs.declared.history.Verdict.{Verdict}
 use Rattle.rail_base.specs.declared.history.Verdict.TheVariants as verdict
-use Rattle.rail_base.specs.Stations.{horizon}
 use Rattle.rail_outside.specs.Files.{Files}
 use Rattle.rail_outside.specs.Asks.{Ask, fetched, stored}
 use Rattle.rail_plan.specs.declared.fault.PlanCode.{PlanCode}
 use Rattle.rail_plan.specs.declared.place.PlanPlace.{PlanPlace}
 use Rattle.rail_plan.specs.Reading.{plan_of}
 use Rattle.rail_spec.specs.Track.{routes_of, all_closings, edges_met_again}
-use Rattle.rail_spec.specs.Histories.{verdict_of}
 use Rattle.rail_spec.specs.Requirements.{cost}
 use Rattle.rail_words.specs.Requests.{Asked, simulate, routes, verify, check, trial, request_of}
 use Rattle.timetable.specs.Timetable.{timetable_of}
@@ -35,6 +33,7 @@ use Rattle.rail_cli.specs.declared.status.Status.TheVariants as status
 use Rattle.rail_cli.specs.declared.input.InputFile.{InputFile}
 use Rattle.rail_cli.specs.declared.input.InputFile.TheVariants as file
 use Rattle.rail_cli.specs.Listings.{routes_text}
+use Rattle.rail_cli.specs.Shows.{shown_by}
 use Rattle.rail_cli.specs.Texts.{usage_line, limit_of, too_long_line, design_refused_line, too_large_line, yes_line, no_line, plan_refused_line, plan_steps_line, plan_line, infeasible_line, conflicts_spent_line, ticks_spent_line, log_spent_line, trial_line, counts_line, plan_tick_line}
 
 -- what the program answers: the status to end with, and the lines to print
@@ -86,10 +85,6 @@ abbrev pub plan_in : Station → List ℕ → Result (List (List Command)) Answe
 plan_in d bytes = plan_or_answer d (plan_of d (routes_of d) bytes)
 
 -- ---- answers
-
--- what the run of a plan shows by the horizon
-abbrev pub shown_by : Station → List (List Command) → Verdict
-shown_by d plan = verdict_of d (routes_of d) plan (horizon d)
 
 -- 0 where the plan meets the design
 abbrev pub verdict_status : Verdict → Status
@@ -222,6 +217,15 @@ answer_to files found (Some (routes design)) = routes_listed (files design)
 answer_to files found (Some (verify n conflicts ticks design proof)) = searched n conflicts ticks (files design) found
 answer_to files found (Some (check n design proof)) = checked n (files design) (files proof)
 answer_to files found (Some (trial seed size)) = tried seed size found
+
+-- the answer to a request for the bytes of its files, DESIGN and then PLAN or PROOF, as each is fetched; of a search, by what it ended with
+abbrev pub answer_given : List ℕ → List ℕ → Outcome → Option Asked → Answer
+answer_given design_bytes other_bytes found None = one_line status.Usage usage_line
+answer_given design_bytes other_bytes found (Some (simulate design plan)) = simulated design_bytes other_bytes
+answer_given design_bytes other_bytes found (Some (routes design)) = routes_listed design_bytes
+answer_given design_bytes other_bytes found (Some (verify n conflicts ticks design proof)) = searched n conflicts ticks design_bytes found
+answer_given design_bytes other_bytes found (Some (check n design proof)) = checked n design_bytes other_bytes
+answer_given design_bytes other_bytes found (Some (trial seed size)) = tried seed size found
 
 -- the answer to the words of a command line, the first of which is the program's name
 abbrev pub answer_of : Files → Outcome → List (List ℕ) → Answer

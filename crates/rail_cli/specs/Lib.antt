@@ -2,10 +2,12 @@
 pub mod Statuses
 pub mod Texts
 pub mod Listings
+pub mod Shows
 pub mod Answers
 pub mod Simulations
 pub mod Checks
 pub mod Searches
+pub mod Passes
 pub mod Trials
 pub mod Verdicts
 pub mod Replies

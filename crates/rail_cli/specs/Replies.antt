@@ -8,8 +8,6 @@ use Rattle.rail_base.specs.declared.history.Verdict.{Verdict}
 use Rattle.rail_base.specs.declared.history.Verdict.TheVariants as verdict
 use Rattle.rail_outside.specs.Lines.{lines_of}
 use Rattle.rail_spec.specs.Feasible.{IsFeasible}
-use Rattle.rail_spec.specs.Safety.{Clash}
-use Rattle.rail_spec.specs.Track.{routes_of}
 use Rattle.rail_outside.specs.Files.{Files, updated}
 use Rattle.rail_words.specs.Requests.{Asked, simulate, routes, verify, check, trial}
 use Rattle.verify_loop.specs.declared.outcome.Outcome.{Outcome}
@@ -21,8 +19,9 @@ use Rattle.rail_cli.specs.declared.reply.Reply.{Reply}
 use Rattle.rail_cli.specs.declared.ending.Ending.{Ending}
 use Rattle.rail_cli.specs.declared.ending.Ending.TheVariants as ending
 use Rattle.rail_cli.specs.Statuses.{is_refusal}
-use Rattle.rail_cli.specs.Answers.{Answer, design_in, plan_in, tried, answer_to}
-use Rattle.rail_cli.specs.Searches.{budgets_of, EndsTrial}
+use Rattle.rail_cli.specs.Answers.{Answer, design_in, plan_in, tried, answer_to, answer_given}
+use Rattle.rail_cli.specs.Simulations.{RunsSafely}
+use Rattle.rail_cli.specs.Searches.{budgets_of, EndsTrial, FindsGiven}
 
 -- a reply, by its status and the bytes of its lines
 abbrev pub reply_seen : Reply → Answer
@@ -87,12 +86,12 @@ deciding_tick verdict.Undecided = 0
 
 -- ---- simulations
 
--- the bytes spell a plan over the design in whose run no two trains ever clash, and the status is 0 exactly where it is feasible
+-- the bytes spell a plan over the design whose run is safe, and the status is 0 exactly where it is feasible
 pub record DecidesPlan (d : Station) (bytes : List ℕ) (s : Status) : Type 0 where
   pub plan : List (List Command)
   pub spelled : plan_in d bytes ≡ Ok plan
   pub exactly : (s ≡ statuses.Done) ↔ IsFeasible d 64 plan
-  pub apart : (k : ℕ) → Clash d (routes_of d) plan k → ⊥
+  pub safe : RunsSafely d plan
 
 -- the one file spells a design, the other a plan over it, and the status is 0 exactly where that is feasible
 pub record Decides (design_bytes plan_bytes : List ℕ) (s : Status) : Type 0 where
@@ -126,6 +125,14 @@ EndsWith files _ found = Unit {0}
 -- the reply is the answer to what is asked, for an outcome with which a search may end
 abbrev pub RepliesSo : Result Reply Ending → Files → Option Asked → Type 0
 RepliesSo result files asked = (found : Outcome) × EndsWith files asked found × Replies result (answer_to files found asked)
+
+-- the reply is the answer to what is asked for some bytes of its files, and for an outcome with which a search may end
+pub record RepliesSome (result : Result Reply Ending) (asked : Option Asked) : Type 0 where
+  pub design_bytes : List ℕ
+  pub other_bytes : List ℕ
+  pub found : Outcome
+  pub finds : FindsGiven design_bytes asked found
+  pub replies : Replies result (answer_given design_bytes other_bytes found asked)
 
 -- the reply is the answer to the trial, for an outcome with which its search may end
 abbrev pub RepliesTrial : Result Reply Ending → ℕ → ℕ → Type 0

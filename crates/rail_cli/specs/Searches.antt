@@ -10,7 +10,6 @@ use Rattle.rail_outside.specs.Files.{Files, updated}
 use Rattle.rail_outside.specs.Growth.{grown}
 use Rattle.rail_spec.specs.Feasible.{IsFeasible, IsInfeasible}
 use Rattle.rail_spec.specs.Requirements.{cost}
-use Rattle.rail_spec.specs.Safety.{Clash}
 use Rattle.rail_spec.specs.Track.{routes_of}
 use Rattle.rail_words.specs.Requests.{Asked, verify, trial, request_of}
 use Rattle.timetable.specs.Lines.{met_line}
@@ -23,7 +22,9 @@ use Rattle.rail_cli.specs.declared.status.Status.{Status}
 use Rattle.rail_cli.specs.declared.status.Status.TheVariants.{Done, No, Memory, ShelfFault, SinkFault}
 use Rattle.rail_cli.specs.declared.input.InputFile.TheVariants as file
 use Rattle.rail_cli.specs.Texts.{limit_of, yes_line, plan_steps_line, plan_line, infeasible_line}
-use Rattle.rail_cli.specs.Answers.{one_line, design_in, shown_by, checked, trial_conflicts, trial_ticks}
+use Rattle.rail_cli.specs.Answers.{one_line, design_in, checked, trial_conflicts, trial_ticks}
+use Rattle.rail_cli.specs.Shows.{shown_by}
+use Rattle.rail_cli.specs.Simulations.{RunsSafely}
 
 -- ---- what a search ends with
 
@@ -35,31 +36,58 @@ budgets_of conflicts ticks = record { conflicts = conflicts; ticks = ticks; log_
 abbrev pub EndsTrial : ℕ → ℕ → Outcome → Type 0
 EndsTrial seed size found = Says (made seed size) (2 * size) (budgets_of trial_conflicts trial_ticks) found × Fits (made seed size) (2 * size) found
 
--- where a search is asked for and the file spells a design, the outcome says what it is to say of that design and n, within the budgets; of a trial, that of the station that is made
+-- where the bytes spell a design, the outcome says what it is to say of that design and n, within the budgets
+abbrev pub EndsSearch : List ℕ → ℕ → ℕ → ℕ → Outcome → Type 0
+EndsSearch design_bytes n conflicts ticks found = (d : Station) → design_in design_bytes ≡ Ok d → Says d n (budgets_of conflicts ticks) found × Fits d n found
+
+-- a search that is asked for ends so for the design's file, and a trial for the station that is made
 abbrev pub Finds : Files → Option Asked → Outcome → Type 0
-Finds files (Some (verify n conflicts ticks design proof)) found = (d : Station) → design_in (files design) ≡ Ok d → Says d n (budgets_of conflicts ticks) found × Fits d n found
+Finds files (Some (verify n conflicts ticks design proof)) found = EndsSearch (files design) n conflicts ticks found
 Finds files (Some (trial seed size)) found = EndsTrial seed size found
 Finds files _ found = Unit {0}
 
+-- the same for the bytes of the design's file
+abbrev pub FindsGiven : List ℕ → Option Asked → Outcome → Type 0
+FindsGiven design_bytes (Some (verify n conflicts ticks design proof)) found = EndsSearch design_bytes n conflicts ticks found
+FindsGiven design_bytes (Some (trial seed size)) found = EndsTrial seed size found
+FindsGiven design_bytes _ found = Unit {0}
+
 -- ---- what a run leaves on the shelf
 
--- the shelf holds these files with a log under the proof's name, no longer than a proof may be, which shows that the design has no plan of n steps
-pub record HoldsLog (files : Files) (proof : List ℕ) (d : Station) (n : ℕ) (held : Option Files) : Type 0 where
-  pub log : List ℕ
+-- the log is no longer than a proof may be, and shows that the design has no plan of n steps
+pub record ShowsNone (d : Station) (n : ℕ) (log : List ℕ) : Type 0 where
   pub short : length log ≤ limit_of file.Proof
   pub shows : judged d n log ≡ Yes n
+
+-- the shelf holds these files with such a log under the proof's name
+pub record HoldsLog (files : Files) (proof : List ℕ) (d : Station) (n : ℕ) (held : Option Files) : Type 0 where
+  pub log : List ℕ
+  pub proves : ShowsNone d n log
   pub holds : held ≡ Some (updated files proof log)
+
+-- such a log was to be stored, and the shelf holds these files with some bytes under the proof's name
+pub record SpoilsLog (files : Files) (proof : List ℕ) (d : Station) (n : ℕ) (held : Option Files) : Type 0 where
+  pub log : List ℕ
+  pub proves : ShowsNone d n log
+  pub some : List ℕ
+  pub holds : held ≡ Some (updated files proof some)
 
 -- the design that the file spelled has no plan of n steps, and the shelf holds a log that shows it
 abbrev pub HoldsProof : Files → ℕ → List ℕ → List ℕ → Option Files → Type 0
 HoldsProof files n design proof held = (d : Station) × (design_in (files design) ≡ Ok d) × HoldsLog files proof d n held
 
--- what the shelf holds after a search, by its status: after 1 such a log; for want of memory or after a fault of the sink, that or the files as they were; after a fault of the shelf the other files as they were; else all as they were
+-- the design that the file spelled has no plan of n steps, and the store of a log that shows it has failed
+abbrev pub SpoilsProof : Files → ℕ → List ℕ → List ℕ → Option Files → Type 0
+SpoilsProof files n design proof held = (d : Station) × (design_in (files design) ≡ Ok d) × SpoilsLog files proof d n held
+
+-- what the shelf holds after a search, by its status: after 1 such a log; for want of memory or after a fault of the sink
+-- that, or the files as they were; after a fault of the shelf the files as they were, or where the store of such a log has
+-- failed some bytes in its place; else all as they were
 abbrev pub SearchLeaves : Files → ℕ → List ℕ → List ℕ → Status → Option Files → Type 0
 SearchLeaves files n design proof No held = HoldsProof files n design proof held
 SearchLeaves files n design proof Memory held = HoldsProof files n design proof held ⊎ (held ≡ Some files)
 SearchLeaves files n design proof SinkFault held = HoldsProof files n design proof held ⊎ (held ≡ Some files)
-SearchLeaves files n design proof ShelfFault held = (some : List ℕ) × (held ≡ Some (updated files proof some))
+SearchLeaves files n design proof ShelfFault held = SpoilsProof files n design proof held ⊎ (held ≡ Some files)
 SearchLeaves files n design proof _ held = held ≡ Some files
 
 -- what the shelf holds after a request with this status: only a search changes it
@@ -78,13 +106,13 @@ pub record Searches (files : Files) (words : List (List ℕ)) (n : ℕ) (d : Sta
   pub asked : request_of words ≡ Some (verify n conflicts ticks design_name proof_name)
   pub spells_design : design_of (files design_name) ≡ Ok d
 
--- the lines printed are `plan steps <number of steps>`, the plan and its timetable; the plan is feasible for n steps; and at no tick of its run, past the horizon too, do two trains hold one section or stand on one
+-- the lines printed are `plan steps <number of steps>`, the plan and its timetable; the plan is feasible for n steps; and its run is safe
 pub record TellsPlan (n : ℕ) (d : Station) (old new : Option (List ℕ)) : Type 0 where
   pub plan : List (List Command)
   pub text : new ≡ grown old (concat (plan_steps_line (length plan) ∷ plan_line d plan ∷ timetable_of d (shown_by d plan)))
   pub feasible : IsFeasible d n plan
   pub met : (more : List (List ℕ)) × (timetable_of d (shown_by d plan) ≡ met_line (cost d (routes_of d) plan) ∷ more)
-  pub apart : (k : ℕ) → Clash d (routes_of d) plan k → ⊥
+  pub safe : RunsSafely d plan
 
 -- what is printed is `infeasible steps <n>`; no plan of n steps is feasible; and the shelf holds a log under the proof's name, every other name as before, to which with the design's bytes a check answers `yes steps <n>`
 pub record TellsNone (files : Files) (design proof : List ℕ) (n : ℕ) (d : Station) (old new : Option (List ℕ)) (held : Option Files) : Type 0 where

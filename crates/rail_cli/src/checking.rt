@@ -1,6 +1,6 @@
 //! A proof checked against a design.
 
-ghost use Rattle.std.specs.Prelude.{◌≡◌, ◌≤◌, [], ◌∷◌, true, length, IfOk, OnOk, Some};
+ghost use Rattle.std.specs.Prelude.{◌≡◌, ◌≤◌, [], ◌∷◌, true, length, IfOk, OnOk, Some, ℕ, List};
 ghost use Rattle.rail_outside.specs.Asks.{fetched};
 ghost use Rattle.rail_outside.specs.Files.{Files};
 ghost use Rattle.rail_outside.specs.Growth.{Rose, GrowsByFront};
@@ -10,7 +10,8 @@ ghost use Rattle.proof_judge.specs.Judged.{judged};
 ghost use Rattle.plan_encoding.specs.Bases.{IsBaseOf};
 ghost use Rattle.rail_cli.specs.Statuses.{is_verdict};
 ghost use Rattle.rail_cli.specs.Answers.{with_clauses, told, with_proof, checked};
-ghost use Rattle.rail_cli.specs.Replies.{reply_seen, Reads, RefusesFile, OnlyRefuses, Replies};
+ghost use Rattle.rail_cli.specs.Replies.{reply_seen, Reads, RefusesFile, OnlyRefuses, Replies, RepliesSome};
+ghost use Rattle.rail_words.specs.Requests.{check};
 
 use crate::ending::Ending;
 use crate::input::InputFile;
@@ -69,6 +70,7 @@ fn checked_proof<S: Shelf>(
     requires some { 1 ≤ steps }
     requires most { steps ≤ 64 }
     ensures replies { (files : Files) → S.held shelf.old ≡ Some files → Replies result (with_proof steps design.now.station (files proof.now)) }
+    ensures some { (bytes : List ℕ) × Replies result (with_proof steps design.now.station bytes) }
     ensures verdict { IfOk result (λ reply. is_verdict reply.status ≡ true) }
     ensures refuses { RefusesFile result }
     ensures cause { result ≡ Err Ending.ShelfFault → Rose (S.fault_count shelf.old) (S.fault_count shelf.new) }
@@ -94,6 +96,7 @@ pub(crate) fn checked<S: Shelf>(
     requires some { 1 ≤ steps }
     requires most { steps ≤ 64 }
     ensures replies { (files : Files) → S.held shelf.old ≡ Some files → Replies result (checked steps (files design.now) (files proof.now)) }
+    ensures some { RepliesSome result (Some (check steps design.now proof.now)) }
     ensures verdict { IfOk result (λ reply. is_verdict reply.status ≡ true) }
     ensures refuses { RefusesFile result }
     ensures cause { result ≡ Err Ending.ShelfFault → Rose (S.fault_count shelf.old) (S.fault_count shelf.new) }

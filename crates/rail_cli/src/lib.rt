@@ -5,6 +5,7 @@
 mod checking;
 mod ending;
 mod input;
+mod laws;
 mod listing;
 mod names;
 mod reading;
@@ -18,6 +19,7 @@ mod sure;
 mod texts;
 mod trial;
 
+pub use laws::stored_proofs_pass;
 pub use run::run_words;
 pub use status::Status;
 pub use sure::run_words_surely;

@@ -8,10 +8,11 @@ ghost use Rattle.rail_outside.specs.Files.{Files};
 ghost use Rattle.rail_outside.specs.Growth.{Rose, GrowsByFront};
 ghost use Rattle.rail_outside.specs.Lines.{lines_of};
 ghost use Rattle.rail_spec.specs.Track.{routes_of};
+ghost use Rattle.rail_words.specs.Requests.{routes};
 ghost use Rattle.rail_cli.specs.Statuses.{is_verdict};
 ghost use Rattle.rail_cli.specs.Answers.{listed, routes_listed};
 ghost use Rattle.rail_cli.specs.Listings.{start_text, finish_text, release_text, route_line, routes_text};
-ghost use Rattle.rail_cli.specs.Replies.{reply_seen, RefusesFile, Replies};
+ghost use Rattle.rail_cli.specs.Replies.{reply_seen, RefusesFile, Replies, RepliesSome};
 
 use crate::ending::Ending;
 use crate::input::InputFile;
@@ -144,6 +145,7 @@ pub(crate) fn routes_listed<S: Shelf>(
     design: &str,
 ) -> Result<Reply, Ending>
     ensures replies { (files : Files) → S.held shelf.old ≡ Some files → Replies result (routes_listed (files design.now)) }
+    ensures some { RepliesSome result (Some (routes design.now)) }
     ensures verdict { IfOk result (λ reply. is_verdict reply.status ≡ true) }
     ensures refuses { RefusesFile result }
     ensures cause { result ≡ Err Ending.ShelfFault → Rose (S.fault_count shelf.old) (S.fault_count shelf.new) }

@@ -1,6 +1,6 @@
 //! The files of a command, read.
 
-ghost use Rattle.std.specs.Prelude.{◌≡◌, ◌≤◌, [], ◌∷◌, length, IfOk, OnOk, Some};
+ghost use Rattle.std.specs.Prelude.{◌≡◌, ◌≤◌, [], ◌∷◌, length, IfOk, OnOk, Some, ℕ, List};
 ghost use Rattle.rail_outside.specs.Asks.{fetched};
 ghost use Rattle.rail_outside.specs.Files.{Files};
 ghost use Rattle.rail_outside.specs.Growth.{Rose, grown, GrowsByFront};
@@ -28,6 +28,7 @@ pub(crate) fn fetch<S: Shelf>(
     name: &str,
 ) -> Result<Vec<u8>, Ending>
     ensures reads { (files : Files) → S.held shelf.old ≡ Some files → Reads (λ v. v.items) result (within_limit file (files name.now)) }
+    ensures some { (bytes : List ℕ) × Reads (λ v. v.items) result (within_limit file bytes) }
     ensures refuses { RefusesFile result }
     ensures cause { result ≡ Err Ending.ShelfFault → Rose (S.fault_count shelf.old) (S.fault_count shelf.new) }
     ensures never_falls { S.fault_count shelf.old ≤ S.fault_count shelf.new }

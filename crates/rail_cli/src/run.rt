@@ -12,8 +12,8 @@ ghost use Rattle.verify_loop.specs.declared.outcome.Outcome.{Outcome};
 ghost use Rattle.rail_cli.specs.Statuses.{is_answered};
 ghost use Rattle.rail_cli.specs.Answers.{answer_of, asks_to, asks_of};
 ghost use Rattle.rail_cli.specs.Checks.{Checks, TellsInfeasible};
-ghost use Rattle.rail_cli.specs.Prints.{Prints};
-ghost use Rattle.rail_cli.specs.Replies.{reply_seen, OnEnd, OnReply, RefusesFile, RepliesSo, DecidesRequest, Tries};
+ghost use Rattle.rail_cli.specs.Prints.{Prints, PrintsSome};
+ghost use Rattle.rail_cli.specs.Replies.{reply_seen, OnEnd, OnReply, RefusesFile, RepliesSo, RepliesSome, DecidesRequest, Tries};
 ghost use Rattle.rail_cli.specs.Searches.{Finds, Leaves, Searches, TellsNone, TellsPlan};
 ghost use Rattle.rail_cli.specs.Simulations.{Simulates, TellsFeasible, DoneWhereFeasible};
 ghost use Rattle.rail_cli.specs.Trials.{TellsTrial};
@@ -36,6 +36,7 @@ use std::alloc::Global;
 fn requested<S: Shelf>(alloc: Global, shelf: &mut S, request: Request<'_>) -> Result<Reply, Ending>
     requires range { IsInRange (asked_of request) }
     ensures replies { (files : Files) → S.held shelf.old ≡ Some files → RepliesSo result files (Some (asked_of request.entry)) }
+    ensures some { RepliesSome result (Some (asked_of request.entry)) }
     ensures no_usage { IfOk result (λ reply. reply.status ≢ Status.Usage) }
     ensures refuses { RefusesFile result }
     ensures tries { Tries (Some (asked_of request.entry)) result }
@@ -74,6 +75,7 @@ fn requested<S: Shelf>(alloc: Global, shelf: &mut S, request: Request<'_>) -> Re
 /// The reply to the words of a command line.
 fn reply<S: Shelf>(alloc: Global, words: &[String], shelf: &mut S) -> Result<Reply, Ending>
     ensures replies { (files : Files) → S.held shelf.old ≡ Some files → RepliesSo result files (request_of (texts_of words.now)) }
+    ensures some { RepliesSome result (request_of (texts_of words.now)) }
     ensures tries { Tries (request_of (texts_of words.now)) result }
     ensures done { (files : Files) → S.held shelf.old ≡ Some files → OnReply result (λ reply. DoneWhereFeasible files (texts_of words.now) reply.status) }
     ensures usage { OnReply result (λ reply. (reply.status ≡ Status.Usage) ↔ (request_of (texts_of words.now) ≡ None)) }
@@ -115,6 +117,12 @@ pub fn run_words<S: Shelf, O: Sink>(
     out: &mut O,
 ) -> Status
     ensures answer { (files : Files) → S.held shelf.old ≡ Some files → (found : Outcome) × Finds files (request_of (texts_of words.now)) found × Prints (answer_of files found (texts_of words.now)) result (O.written out.old) (O.written out.new) (O.puts out.old) (O.puts out.new) }
+
+    // Over any shelf, also one that tells nothing, that answer is printed for some bytes of the files.
+    ensures for_some_files { PrintsSome (request_of (texts_of words.now)) result
+        (O.written out.old) (O.written out.new) (O.puts out.old) (O.puts out.new) }
+
+    // A simulation answers yes exactly where the plan is feasible, and a check only where the design has no plan.
     ensures met { (files : Files) → S.held shelf.old ≡ Some files → (d : Station) (plan : List (List Command)) → Simulates files (texts_of words.now) d plan → is_answered result ≡ true → TellsFeasible d plan result (O.written out.old) (O.written out.new) }
     ensures infeasible { (files : Files) → S.held shelf.old ≡ Some files → (n : ℕ) (d : Station) → Checks files (texts_of words.now) n d → result ≡ Status.Done → TellsInfeasible n d (O.written out.old) (O.written out.new) }
 

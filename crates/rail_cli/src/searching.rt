@@ -9,8 +9,9 @@ ghost use Rattle.rail_spec.specs.Track.{routes_of};
 ghost use Rattle.rail_words.specs.Requests.{verify};
 ghost use Rattle.verify_loop.specs.declared.outcome.Outcome.{Outcome};
 ghost use Rattle.verify_loop.specs.Outcomes.{Says, Fits};
-ghost use Rattle.rail_cli.specs.Answers.{design_in, one_line, plan_told, searched_in, shown_by, told_outcome};
-ghost use Rattle.rail_cli.specs.Replies.{reply_seen, KeepsLog, OnEnd, OnlyFails, RefusesFile, Replies, RepliesSo, StoresFile};
+ghost use Rattle.rail_cli.specs.Answers.{design_in, one_line, plan_told, searched_in, told_outcome};
+ghost use Rattle.rail_cli.specs.Shows.{shown_by};
+ghost use Rattle.rail_cli.specs.Replies.{reply_seen, KeepsLog, OnEnd, OnlyFails, RefusesFile, Replies, RepliesSo, RepliesSome, StoresFile};
 ghost use Rattle.rail_cli.specs.Searches.{budgets_of, SearchLeaves};
 ghost use Rattle.rail_cli.specs.Texts.{limit_of, plan_steps_line, plan_line, infeasible_line, conflicts_spent_line, ticks_spent_line, log_spent_line};
 
@@ -227,6 +228,7 @@ pub(crate) fn searched<S: Shelf>(
     requires most { steps ≤ 64 }
     requires room { budgets.log_bytes ≡ limit_of InputFile.Proof }
     ensures replies { (files : Files) → S.held shelf.old ≡ Some files → RepliesSo result files (Some (verify steps budgets.conflicts budgets.ticks design.now proof.now)) }
+    ensures some { RepliesSome result (Some (verify steps budgets.conflicts budgets.ticks design.now proof.now)) }
     ensures no_usage { IfOk result (λ reply. reply.status ≢ Status.Usage) }
     ensures refuses { RefusesFile result }
     ensures held { (files : Files) → S.held shelf.old ≡ Some files → OnEnd result (λ s. SearchLeaves files steps design.now proof.now s (S.held shelf.new)) }

@@ -6,11 +6,13 @@ ghost use Rattle.rail_outside.specs.Asks.{fetched};
 ghost use Rattle.rail_outside.specs.Files.{Files};
 ghost use Rattle.rail_outside.specs.Growth.{Rose, grown, GrowsByFront};
 ghost use Rattle.rail_spec.specs.Feasible.{IsRunnable, IsFeasible};
-ghost use Rattle.rail_spec.specs.Safety.{Clash};
 ghost use Rattle.rail_spec.specs.Track.{routes_of};
 ghost use Rattle.rail_cli.specs.Statuses.{is_verdict};
-ghost use Rattle.rail_cli.specs.Answers.{within_limit, design_in, plan_in, with_routes, design_or_answer, planned, shown, shown_by, verdict_status, simulated};
-ghost use Rattle.rail_cli.specs.Replies.{reply_seen, Reads, RefusesFile, OnlyRefuses, Replies, DecidesPlan, Decides};
+ghost use Rattle.rail_cli.specs.Answers.{within_limit, design_in, plan_in, with_routes, design_or_answer, planned, shown, verdict_status, simulated};
+ghost use Rattle.rail_cli.specs.Shows.{shown_by};
+ghost use Rattle.rail_cli.specs.Simulations.{RunsSafely};
+ghost use Rattle.rail_cli.specs.Replies.{reply_seen, Reads, RefusesFile, OnlyRefuses, Replies, RepliesSome, DecidesPlan, Decides};
+ghost use Rattle.rail_words.specs.Requests.{simulate};
 ghost use Rattle.infra_reader.specs.Design.{design_of};
 
 use crate::ending::Ending;
@@ -75,7 +77,7 @@ fn show(
     ensures shown { IfOk result (λ reply. reply_seen reply ≡ shown design.now.station (shown_by design.now.station plan.now.steps)) }
     ensures verdict { IfOk result (λ reply. is_verdict reply.status ≡ true) }
     ensures exactly { IfOk result (λ reply. (reply.status ≡ Status.Done) ↔ IsFeasible design.now.station 64 plan.now.steps) }
-    ensures apart { OnOk result ((k : ℕ) → Clash design.now.station (routes_of design.now.station) plan.now.steps k → ⊥) }
+    ensures safe { OnOk result (RunsSafely design.now.station plan.now.steps) }
 {
     let verdict = simulate(alloc, design, routes, plan, design.horizon())?;
     let lines = timetable_lines(alloc, design, &verdict)?;
@@ -111,6 +113,7 @@ pub(crate) fn simulated<S: Shelf>(
     plan: &str,
 ) -> Result<Reply, Ending>
     ensures replies { (files : Files) → S.held shelf.old ≡ Some files → Replies result (simulated (files design.now) (files plan.now)) }
+    ensures some { RepliesSome result (Some (simulate design.now plan.now)) }
     ensures verdict { IfOk result (λ reply. is_verdict reply.status ≡ true) }
     ensures refuses { RefusesFile result }
     ensures decides { (files : Files) → S.held shelf.old ≡ Some files → IfOk result (λ reply. Decides (files design.now) (files plan.now) reply.status) }

@@ -1,6 +1,6 @@
 //! How a run of the program ends.
 
-ghost use Rattle.std.specs.Prelude.{◌≡◌};
+ghost use Rattle.std.specs.Prelude.{◌≡◌, [], ◌∷◌, map};
 ghost use Rattle.rail_cli.specs.Statuses.{code_of};
 
 /// How a run of the program ends.
@@ -34,6 +34,26 @@ pub enum Status {
 }
 
 impl Status {
+    /// Every status, by its number.
+    pub fn all() -> [Status; 12]
+        ensures { map code_of result ≡ 0 ∷ 1 ∷ 2 ∷ 3 ∷ 4 ∷ 5 ∷ 6 ∷ 7 ∷ 8 ∷ 9 ∷ 10 ∷ 11 ∷ [] }
+    {
+        [
+            Status::Done,
+            Status::No,
+            Status::Usage,
+            Status::DesignRefused,
+            Status::PlanRefused,
+            Status::ConflictsSpent,
+            Status::Memory,
+            Status::ShelfFault,
+            Status::SinkFault,
+            Status::TicksSpent,
+            Status::LogSpent,
+            Status::TooLong,
+        ]
+    }
+
     /// The number with which the program ends.
     pub fn code(self) -> u8
         ensures { result ≡ code_of self }

@@ -1,9 +1,10 @@
-use Rattle.std.proofs.Common.{ℕ, ap, sym, subst, ◌∙◌}
-use Rattle.plan_encoding.specs.Bases.{IsBaseOf}
+use Rattle.std.proofs.Common.{rules, ℕ, ap, sym, subst, ◌∙◌}
+use Rattle.plan_encoding.specs.Bases.{IsBaseOf, Numbered}
 use Rattle.rail_spec.specs.Track.{routes_of}
 use Rattle.proof_judge.specs.Judged.{judged}
 use Rattle.rail_cli.proofs.Asking.{none_of}
 use Rattle.rail_cli.proofs.Judging.{proof_shown}
+use Rattle.rail_cli.proofs.Untold.{no_base, no_proof, no_memory}
 use Rattle.rail_cli.proofs.checking.checked_proof.Goals as goal
 
 pub returns-in_err-base-clause-asks : goal.returns-in_err-base-clause-asks
@@ -19,3 +20,24 @@ pub judge-requires-clause-base : goal.judge-requires-clause-base
 judge-requires-clause-base g c =
     let d = c.args.design.now.station in
     subst (λ (m : ℕ). IsBaseOf d (routes_of d) m c.in_ok-base.base) (sym c.in_ok-base.ensures.base.steps) c.in_ok-base.ensures.base
+
+pub returns-in_err-base-clause-some : goal.returns-in_err-base-clause-some
+returns-in_err-base-clause-some g c = no_base c.from_residual.result c.args.steps c.args.design.now.station (λ (b : Numbered). c.args.design.now.station) c.in_err-base.field-0.0 (search rules) c.in_err-base.ensures.reads
+
+pub returns-in_err-bytes-clause-some : goal.returns-in_err-bytes-clause-some
+returns-in_err-bytes-clause-some g c = no_proof c.from_residual-in_err-bytes.result c.args.steps c.args.design.now.station c.in_err-bytes.field-0.0 (search rules) c.in_ok-base.ensures.reads c.in_err-bytes.ensures.some
+
+pub returns-in_err-shown-clause-some : goal.returns-in_err-shown-clause-some
+returns-in_err-shown-clause-some g c = no_memory c.from_residual-in_err-shown.result c.args.steps c.args.design.now.station (search rules)
+
+pub returns-in_err-reply-clause-some : goal.returns-in_err-reply-clause-some
+returns-in_err-reply-clause-some g c = no_memory c.from_residual-in_err-reply.result c.args.steps c.args.design.now.station (search rules)
+
+pub returns-clause-some : goal.returns-clause-some
+returns-clause-some g c =
+    let d = c.args.design.now.station in
+    let some = c.in_ok-bytes.ensures.some in (
+      some.0,
+      proof_shown c.args.steps d some.0 c.in_ok-bytes.bytes.items c.in_ok-shown.shown c.in_ok-reply.reply c.in_ok-base.ensures.reads some.1
+          (c.in_ok-shown.ensures.value ∙ (ap (λ n. judged d n c.as_slice.result.now) c.in_ok-base.ensures.base.steps ∙ ap (judged d c.args.steps) c.as_slice.ensures.value)) c.in_ok-reply.ensures.told,
+    )

@@ -7,6 +7,7 @@ use Rattle.rail_cli.proofs.Deciding.{done_where_feasible}
 use Rattle.rail_cli.proofs.Finding.{usage_so, want_so}
 use Rattle.rail_cli.proofs.Leaving.{asked_leaves}
 use Rattle.rail_cli.proofs.Trying.{tries_asked, tries_want}
+use Rattle.rail_cli.proofs.Untold.{asks_some, some_usage, some_wanting}
 use Rattle.rail_cli.proofs.run.reply.Goals as goal
 
 pub returns-in-Ok-clause-replies : goal.returns-in-Ok-clause-replies
@@ -40,3 +41,15 @@ returns-in_ok-usage-in-Err-Usage-clause-tries g c = tries_asked _ (request_of (t
 
 pub returns-in-Err-Memory-clause-tries : goal.returns-in-Err-Memory-clause-tries
 returns-in-Err-Memory-clause-tries g c = tries_want (Err Memory) (request_of (texts_of c.args.words.now)) refl
+
+pub returns-in-Ok-clause-some : goal.returns-in-Ok-clause-some
+returns-in-Ok-clause-some g c = asks_some c.requested.result (request_of (texts_of c.args.words.now)) (Some (asked_of c.in-Ok.request)) c.in-Ok.ensures.ok c.requested.ensures.some
+
+pub returns-in_err-usage-in-Err-Usage-clause-some : goal.returns-in_err-usage-in-Err-Usage-clause-some
+returns-in_err-usage-in-Err-Usage-clause-some g c = some_wanting _ (request_of (texts_of c.args.words.now)) (search rules)
+
+pub returns-in_ok-usage-in-Err-Usage-clause-some : goal.returns-in_ok-usage-in-Err-Usage-clause-some
+returns-in_ok-usage-in-Err-Usage-clause-some g c = asks_some _ (request_of (texts_of c.args.words.now)) None (search rules) (some_usage _ c.in_ok-usage-in-Err-Usage.field-0 refl (search rules))
+
+pub returns-in-Err-Memory-clause-some : goal.returns-in-Err-Memory-clause-some
+returns-in-Err-Memory-clause-some g c = some_wanting (Err Memory) (request_of (texts_of c.args.words.now)) refl

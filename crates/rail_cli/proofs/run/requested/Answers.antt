@@ -8,6 +8,7 @@ use Rattle.rail_cli.proofs.Finding.{simulate_so, routes_so, check_so, verify_so,
 use Rattle.rail_cli.proofs.Judging.{asked_steps}
 use Rattle.rail_cli.proofs.Leaving.{simulate_leaves, routes_leaves, check_leaves, verify_leaves, trial_leaves}
 use Rattle.rail_cli.proofs.Trying.{tries_other, trial_size}
+use Rattle.rail_cli.proofs.Untold.{asks_named, some_search, some_trial}
 use Rattle.rail_cli.proofs.run.requested.Goals as goal
 
 pub returns-in-Simulate-clause-replies : goal.returns-in-Simulate-clause-replies
@@ -88,3 +89,20 @@ pub tried-requires : goal.tried-requires
 tried-requires g c =
     let size = trial_size (asked_of c.args.request) c.in-Trial.seed c.in-Trial.size (search rules) c.requires.range in
     record { low = size.0; high = size.1 }
+
+pub returns-in-Simulate-clause-some : goal.returns-in-Simulate-clause-some
+returns-in-Simulate-clause-some g c = asks_named c.simulated.result (asked_of c.args.request) (simulate c.in-Simulate.design.now c.in-Simulate.plan.now) (search rules) c.simulated.ensures.some
+
+pub returns-in-Routes-clause-some : goal.returns-in-Routes-clause-some
+returns-in-Routes-clause-some g c = asks_named c.routes_listed.result (asked_of c.args.request) (routes c.in-Routes.design.now) (search rules) c.routes_listed.ensures.some
+
+pub returns-in-Verify-clause-some : goal.returns-in-Verify-clause-some
+returns-in-Verify-clause-some g c =
+    asks_named c.searched.result (asked_of c.args.request) (verify c.in-Verify.steps c.in-Verify.conflicts c.in-Verify.ticks c.in-Verify.design.now c.in-Verify.proof.now) (search rules)
+    (some_search c.searched.result c.in-Verify.steps c.in-Verify.conflicts c.in-Verify.ticks c.budgets.result c.in-Verify.design.now c.in-Verify.proof.now c.budgets.ensures c.searched.ensures.some)
+
+pub returns-in-Check-clause-some : goal.returns-in-Check-clause-some
+returns-in-Check-clause-some g c = asks_named c.checked.result (asked_of c.args.request) (check c.in-Check.steps c.in-Check.design.now c.in-Check.proof.now) (search rules) c.checked.ensures.some
+
+pub returns-in-Trial-clause-some : goal.returns-in-Trial-clause-some
+returns-in-Trial-clause-some g c = asks_named c.tried.result (asked_of c.args.request) (trial c.in-Trial.seed c.in-Trial.size) (search rules) (some_trial c.tried.result c.in-Trial.seed c.in-Trial.size c.tried.ensures.replies)

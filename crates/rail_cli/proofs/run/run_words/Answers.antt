@@ -13,6 +13,7 @@ use Rattle.rail_cli.proofs.Leaving.{run_leaves, told_status}
 use Rattle.rail_cli.proofs.Trying.{tries_trial, told_trial_reply, tells_nothing, tells_trial}
 use Rattle.rail_cli.proofs.Silence.{silent_for_memory, silent_at_shelf}
 use Rattle.rail_cli.proofs.Verdicts.{run_comes, no_answer}
+use Rattle.rail_cli.proofs.Untold.{prints_some, prints_told, want_prints, fault_prints}
 use Rattle.rail_cli.proofs.run.run_words.Goals as goal
 
 pub returns-in-Ok-clause-answer : goal.returns-in-Ok-clause-answer
@@ -96,3 +97,15 @@ returns-in-Err-Memory-clause-comes_to g c = λ files told u answered. no_answer 
 
 pub returns-in-Err-ShelfFault-clause-comes_to : goal.returns-in-Err-ShelfFault-clause-comes_to
 returns-in-Err-ShelfFault-clause-comes_to g c = λ files told u answered. no_answer files (request_of (texts_of c.args.words.now)) _ refl answered
+
+pub returns-in-Ok-clause-for_some_files : goal.returns-in-Ok-clause-for_some_files
+returns-in-Ok-clause-for_some_files g c = prints_some (request_of (texts_of c.args.words.now)) c.print.result _ _ _ _ c.in-Ok.reply c.in-Ok.ensures.some c.print.ensures.prints
+
+pub returns-in-Err-Told-clause-for_some_files : goal.returns-in-Err-Told-clause-for_some_files
+returns-in-Err-Told-clause-for_some_files g c = prints_told (request_of (texts_of c.args.words.now)) c.print-in-Err-Told.result _ _ _ _ c.in-Err-Told.field-0 c.in-Err-Told.reply c.in-Err-Told.field-0-is c.in-Err-Told.ensures.some c.print-in-Err-Told.ensures.prints
+
+pub returns-in-Err-Memory-clause-for_some_files : goal.returns-in-Err-Memory-clause-for_some_files
+returns-in-Err-Memory-clause-for_some_files g c = want_prints (request_of (texts_of c.args.words.now)) _ _
+
+pub returns-in-Err-ShelfFault-clause-for_some_files : goal.returns-in-Err-ShelfFault-clause-for_some_files
+returns-in-Err-ShelfFault-clause-for_some_files g c = fault_prints (request_of (texts_of c.args.words.now)) _ _

@@ -5,6 +5,7 @@ use Rattle.rail_cli.specs.Answers.{design_in}
 use Rattle.rail_cli.proofs.Asking.{first_of_two, second_of_two}
 use Rattle.rail_cli.proofs.Finding.{unfetched_so, unread_so, spelled_so, ended_so}
 use Rattle.rail_cli.proofs.Leaving.{early_leaves}
+use Rattle.rail_cli.proofs.Untold.{unsearched, unsearched_design, all_searched}
 use Rattle.rail_cli.proofs.searching.searched.Goals as goal
 
 pub returns-in_err-bytes-clause-replies : goal.returns-in_err-bytes-clause-replies
@@ -34,3 +35,15 @@ returns-clause-held g c = λ files told.
 
 pub returns-clause-asks : goal.returns-clause-asks
 returns-clause-asks g c = second_of_two _ _ _ _ _ c.in_ok-bytes.ensures.asked c.searched_in.ensures.asks
+
+pub returns-in_err-bytes-clause-some : goal.returns-in_err-bytes-clause-some
+returns-in_err-bytes-clause-some g c = unsearched c.from_residual.result c.args.steps c.args.budgets c.args.design.now c.args.proof.now c.in_err-bytes.field-0.0 (search rules) c.in_err-bytes.ensures.some
+
+pub returns-in_err-design-clause-some : goal.returns-in_err-design-clause-some
+returns-in_err-design-clause-some g c =
+    unsearched_design c.from_residual-in_err-design.result c.args.steps c.args.budgets c.args.design.now c.args.proof.now c.in_ok-bytes.bytes.items c.in_ok-bytes.ensures.some (λ (found : Design × List Route). found.0.station) c.in_err-design.field-0.0 (search rules) (rw c.as_slice.ensures.value at c.in_err-design.ensures.reads)
+
+pub returns-clause-some : goal.returns-clause-some
+returns-clause-some g c =
+    all_searched c.searched_in.result c.args.steps c.args.budgets c.args.design.now c.args.proof.now c.in_ok-bytes.bytes.items c.in_ok-bytes.ensures.some c.in_ok-design.design.station c.requires.room
+    (ap design_in (sym c.as_slice.ensures.value) ∙ c.in_ok-design.ensures.reads) c.searched_in.ensures.replies

@@ -1,0 +1,34 @@
+-- Checks of proofs that a search has stored.
+use Rattle.std.proofs.Common.{◌≡◌, ◌≢◌, false, ℕ, List, Option, Some, bytes_eq, if◌then◌else◌, refl, ap, sym, ◌∙◌}
+use Rattle.std.proofs.lemmas.Bool.{false_from_ne_true}
+use Rattle.std.proofs.lemmas.Slice.Eq.{bytes_eq-Decides}
+use Rattle.rail_base.specs.declared.station.Station.{Station}
+use Rattle.rail_outside.specs.Files.{Files, updated}
+use Rattle.rail_words.specs.Requests.{check}
+use Rattle.rail_words.proofs.Taken.{verify_read, check_read}
+use Rattle.rail_cli.specs.Answers.{checked, answer_to}
+use Rattle.rail_cli.specs.Passes.{StoredProofsPass, VerifyPassesCheck, verify_words}
+use Rattle.rail_cli.specs.Searches.{Searches}
+
+-- the bytes under the name are the new ones
+stored_there : (files : Files) (name bytes : List ℕ) → updated files name bytes name ≡ bytes
+stored_there files name bytes = rw ((bytes_eq-Decides name name).1 refl) refl
+
+-- every other name stays
+stored_apart : (files : Files) (name bytes other : List ℕ) → other ≢ name → updated files name bytes other ≡ files other
+stored_apart files name bytes other differ = rw (false_from_ne_true (bytes_eq name other) (λ same. differ (sym ((bytes_eq-Decides name other).0 same)))) refl
+
+pub passes_asked : StoredProofsPass
+passes_asked files left design proof n d old new tells differ found words asked =
+    let log = tells.stored in
+    let held : Some left ≡ Some (updated files proof log.log) = log.holds in
+    let now : left ≡ updated files proof log.log = cc in
+    ap (answer_to left found) asked
+    ∙ (ap (λ (bytes : List ℕ). checked n bytes (left proof)) (ap (λ (f : Files). f design) now ∙ stored_apart files proof log.log design differ)
+    ∙ (ap (checked n (files design)) (ap (λ (f : Files). f proof) now ∙ stored_there files proof log.log) ∙ tells.passes))
+
+pub passes_words : VerifyPassesCheck
+passes_words files left program steps conflicts ticks design proof n c t d old new n_is c_is t_is plain_design plain_proof differ spells tells found =
+    let asked = verify_read program steps conflicts ticks design proof n c t n_is c_is t_is plain_design plain_proof in
+    let search : Searches files (verify_words program steps conflicts ticks design proof) n d = record { conflicts = c; ticks = t; design_name = design; proof_name = proof; asked = asked; spells_design = spells } in
+    passes_asked files left design proof n d old new (tells search) differ found _ (check_read program steps design proof n n_is plain_design plain_proof)
