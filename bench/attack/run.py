@@ -1,0 +1,199 @@
+#!/usr/bin/env python3
+"""Checks files that someone wrote to keep `rcv` busy, and says how long and how much memory each takes.
+
+Designs have at most 300 KB and proof lines at most 10 MB. Each case has a bar in seconds; the status is 1 where one is missed.
+"""
+
+import argparse
+import os
+import pathlib
+import subprocess
+import sys
+import tempfile
+import time
+
+TOP = pathlib.Path(__file__).resolve().parent.parent.parent
+
+
+class Station:
+    """A design that grows entry by entry."""
+
+    def __init__(self):
+        self.nodes = []
+        self.edges = []
+        self.signals = []
+        self.trains = []
+
+    def node(self, boundary=False):
+        """A new node."""
+        name = f"n{len(self.nodes)}"
+        self.nodes.append(f'{{name="{name}"{",boundary=true" if boundary else ""}}}')
+        return name
+
+    def edge(self, start, end, section=None):
+        """A new edge from side b of a node to side a of another, in a section of its own where none is named."""
+        name = f"e{len(self.edges)}"
+        self.edges.append(
+            f'{{name="{name}",from="{start}",from_side="b",to="{end}",to_side="a",length_mm=1000,speed_mm_s=100,'
+            f'section="{section or name}"}}'
+        )
+
+    def signal(self, node, toward="b"):
+        """A new signal."""
+        self.signals.append(f'{{name="s{len(self.signals)}",node="{node}",toward="{toward}"}}')
+
+    def train(self, *visits):
+        """A new train with these visits."""
+        places = ",".join(f'["{node}"]' for node in visits)
+        self.trains.append(f'{{name="t{len(self.trains)}",vehicle="v",visits=[{places}]}}')
+
+    def line(self, start, many, section=None):
+        """So many edges one after the other; the last node."""
+        for _ in range(many):
+            end = self.node()
+            self.edge(start, end, section)
+            start = end
+        return start
+
+    def diamonds(self, start, many):
+        """Places with two ways each, so that there are two to the power of so many ways through all of them; the last node."""
+        for _ in range(many):
+            end = self.node()
+            self.edge(start, end)
+            self.edge(start, end)
+            start = self.line(end, 1)
+        return start
+
+    def text(self):
+        """The design."""
+        parts = ["version = 1", "tick_ms = 1000", "horizon_ms = 86400000"]
+        for name, entries in (("node", self.nodes), ("edge", self.edges), ("signal", self.signals), ("train", self.trains)):
+            parts.append(f"{name} = [{','.join(entries)}]")
+        parts.append('vehicle = [{name="v",length_mm=2000,accel_mm_s2=500,brake_mm_s2=700,speed_mm_s=2000}]')
+        return "\n".join(parts) + "\n"
+
+
+def ways(diamonds, sections, lines, trains, exits=False):
+    """Lines that have nothing in common, each with many ways that share all but the first sections."""
+    station = Station()
+    starts = []
+    for _ in range(lines):
+        start = station.node(boundary=True)
+        end = station.line(station.diamonds(station.line(start, 1), diamonds), sections)
+        last = station.node(boundary=exits)
+        station.edge(end, last)
+        starts.append((start, last))
+    for number in range(trains):
+        station.train(*starts[number % lines])
+    return station.text()
+
+
+def ladder(routes, trains):
+    """A line of so many routes of one edge each, all in one section."""
+    station = Station()
+    first = station.node(boundary=True)
+    node = station.line(first, 1, "z")
+    for _ in range(routes - 1):
+        station.signal(node)
+        node = station.line(node, 1, "z")
+    for _ in range(trains):
+        station.train(first, node)
+    return station.text()
+
+
+def fan(signals, routes):
+    """Signals one after the other, from the last of which many routes go on, for two trains."""
+    station = Station()
+    first = station.node(boundary=True)
+    node = station.line(first, 1)
+    for _ in range(signals):
+        station.signal(node)
+        node = station.line(node, 1)
+    station.signal(node)
+    end = station.line(station.diamonds(node, routes), 1)
+    for _ in range(2):
+        station.train(first, end)
+    return station.text()
+
+
+def proof(*lines):
+    """A proof file of these lines."""
+    return "rcvlog 1\n" + "".join(line + "\n" for line in lines)
+
+
+def listed(routes):
+    """A line of a cone that lists all pairs of two trains, each of which has all routes."""
+    path = " ".join(str(number) for number in range(1, routes + 1))
+    pairs = []
+    for first, second in ((1, 2), (2, 1)):
+        pairs += [f"p {first} {one} {second} {other}" for one in range(1, routes + 1) for other in range(1, routes + 1)]
+    return f"r grant 1 1 t 1 1 1 {path} 0 0 0 t 2 1 0 {path} 0 1 1 " + " ".join(pairs)
+
+
+def cases():
+    """The name, the bar in seconds, the design, the steps and the proof of each."""
+    end = proof("d 0 1 0")
+    yield "one train, ways that share nothing", 2, ways(9, 900, 2, 1), 2, end
+    yield "one train, ways that share all", 2, ways(10, 1900, 1, 1), 2, end
+    yield "two trains, ways that share all", 2, ways(9, 1900, 1, 2), 1, end
+    yield "two trains, ways that share nothing", 2, ways(8, 900, 2, 2), 1, end
+    yield "32 trains, ways that share all and exit", 2, ways(3, 1900, 1, 32, exits=True), 1, end
+    yield "32 trains, ways that share all, two steps", 2, ways(3, 1900, 1, 32), 2, end
+    yield "two trains, many routes in one section", 2, ladder(600, 2), 1, end
+    yield "a fan of routes behind a row of signals", 2, fan(900, 9), 2, end
+    long_line = listed(600)
+    yield "one line, 720,000 listed pairs", 2, ladder(600, 2), 1, proof(long_line, "d 0 1 0")
+    yield "100,000 lines of paths", 5, ladder(600, 2), 1, proof(*["r path 1 2 t 1 0 0 1 2 3 0 0 0"] * 100_000)
+    cone = "r grant 1 1 t 1 3 0 1 0 0 0"
+    yield "100,000 lines of short cones", 5, ladder(600, 2), 1, proof(*[cone] * 100_000)
+    yield "one line that forgets 1,000,000 clauses", 2, ladder(2, 2), 1, proof("x " + " ".join(["1"] * 1_000_000) + " 0")
+    yield "one line of 1,000,000 hints", 2, ladder(2, 2), 1, proof("d 0 " + " ".join(["1"] * 1_000_000) + " 0")
+
+
+def run(program, words, limit):
+    """The status, the text, the seconds and the greatest memory in KB; the status is None past the limit."""
+    begin = time.monotonic()
+    with tempfile.TemporaryFile() as out:
+        child = subprocess.Popen([program, *words], stdin=subprocess.DEVNULL, stdout=out, stderr=subprocess.STDOUT)
+        while True:
+            done, status, usage = os.wait4(child.pid, os.WNOHANG)
+            if done:
+                break
+            if time.monotonic() - begin > limit:
+                child.kill()
+                os.wait4(child.pid, 0)
+                child.returncode = -9
+                return None, "", time.monotonic() - begin, 0
+            time.sleep(0.005)
+        child.returncode = os.waitstatus_to_exitcode(status)
+        seconds = time.monotonic() - begin
+        out.seek(0)
+        return child.returncode, out.read().decode(errors="replace"), seconds, usage.ru_maxrss
+
+
+def main():
+    words = argparse.ArgumentParser(description=__doc__)
+    words.add_argument("--program", default=str(TOP / "rcv"), help="the program to run")
+    words.add_argument("--limit", type=float, default=60, help="how many seconds a case may take, after which it is killed")
+    words.add_argument("--only", default="", help="cases whose names have these words")
+    given = words.parse_args()
+    missed = 0
+    print(f"{'name':45} {'design':>7} {'proof':>9} {'bar':>4} {'seconds':>8} {'MB':>6}  answer")
+    with tempfile.TemporaryDirectory() as folder:
+        design = pathlib.Path(folder) / "design.toml"
+        file = pathlib.Path(folder) / "proof.txt"
+        for name, bar, text, steps, told in cases():
+            if given.only not in name:
+                continue
+            design.write_text(text)
+            file.write_text(told)
+            status, answer, seconds, memory = run(given.program, ["check", "--steps", str(steps), str(design), str(file)], given.limit)
+            shown = "killed" if status is None else f"{status} {answer.strip()[:60]}"
+            missed += status is None or seconds > bar
+            print(f"{name:45} {len(text) // 1000:>4} KB {len(told) // 1000:>6} KB {bar:>4} {seconds:>8.2f} {memory // 1000:>6}  {shown}", flush=True)
+    print(f"{missed} bars missed")
+    return missed > 0
+
+
+if __name__ == "__main__":
+    sys.exit(main())
