@@ -74,4 +74,3 @@ pub fn is_done(history: &History) -> bool
         .iter()
         .all(|train| is_granted(train) && is_visited(train))
 }
-
