@@ -11,7 +11,7 @@ returns-in_err-routes-clause-replies c =
     unlisted_so c.args.seed c.args.size (λ (routes : List Route). c.in_ok-design.design.station) c.in_ok-design.design.station c.in_err-routes.field-0.0 c.from_residual-in_err-routes.result c.in_ok-design.ensures (search rules) c.in_err-routes.ensures.reads
 
 pub returns-in_err-tried_in-clause-replies : goal.returns-in_err-tried_in-clause-replies
-returns-in_err-tried_in-clause-replies c = want_trial c.args.seed c.args.size c.from_residual-in_err-tried_in.result (search rules)
+returns-in_err-tried_in-clause-replies c = want_trial c.args.seed c.args.size c.from_residual-in_err-tried_in.result (search (rules, c.from_residual-in_err-tried_in.ensures))
 
 pub returns-clause-replies : goal.returns-clause-replies
 returns-clause-replies c =
