@@ -18,7 +18,9 @@ TOP = pathlib.Path(__file__).resolve().parent.parent.parent
 class Station:
     """A design that grows entry by entry."""
 
-    def __init__(self):
+    def __init__(self, ticks=86_400, length=2_000):
+        self.ticks = ticks
+        self.length = length
         self.nodes = []
         self.edges = []
         self.signals = []
@@ -43,8 +45,9 @@ class Station:
         self.signals.append(f'{{name="s{len(self.signals)}",node="{node}",toward="{toward}"}}')
 
     def train(self, *visits):
-        """A new train with these visits."""
-        places = ",".join(f'["{node}"]' for node in visits)
+        """A new train with these visits, each a node or some of which one is to be passed."""
+        sets = [[visit] if isinstance(visit, str) else visit for visit in visits]
+        places = ",".join("[" + ",".join(f'"{node}"' for node in nodes) + "]" for nodes in sets)
         self.trains.append(f'{{name="t{len(self.trains)}",vehicle="v",visits=[{places}]}}')
 
     def line(self, start, many, section=None):
@@ -66,10 +69,10 @@ class Station:
 
     def text(self):
         """The design."""
-        parts = ["version = 1", "tick_ms = 1000", "horizon_ms = 86400000"]
+        parts = ["version = 1", "tick_ms = 1000", f"horizon_ms = {1000 * self.ticks}"]
         for name, entries in (("node", self.nodes), ("edge", self.edges), ("signal", self.signals), ("train", self.trains)):
             parts.append(f"{name} = [{','.join(entries)}]")
-        parts.append('vehicle = [{name="v",length_mm=2000,accel_mm_s2=500,brake_mm_s2=700,speed_mm_s=2000}]')
+        parts.append(f'vehicle = [{{name="v",length_mm={self.length},accel_mm_s2=500,brake_mm_s2=700,speed_mm_s=2000}}]')
         return "\n".join(parts) + "\n"
 
 
@@ -88,9 +91,9 @@ def ways(diamonds, sections, lines, trains, exits=False):
     return station.text()
 
 
-def ladder(routes, trains):
+def ladder(routes, trains, ticks=86_400):
     """A line of so many routes of one edge each, all in one section."""
-    station = Station()
+    station = Station(ticks)
     first = station.node(boundary=True)
     node = station.line(first, 1, "z")
     for _ in range(routes - 1):
@@ -101,18 +104,38 @@ def ladder(routes, trains):
     return station.text()
 
 
-def fan(signals, routes):
-    """Signals one after the other, from the last of which many routes go on, for two trains."""
-    station = Station()
+def waiting(before, behind, length):
+    """Many ways to a signal, and many from there on, for two trains that are as long as many of them."""
+    station = Station(length=length)
     first = station.node(boundary=True)
-    node = station.line(first, 1)
-    for _ in range(signals):
-        station.signal(node)
-        node = station.line(node, 1)
+    node = station.diamonds(station.line(first, 1, "z"), before)
     station.signal(node)
-    end = station.line(station.diamonds(node, routes), 1)
+    end = station.line(station.diamonds(node, behind), 1, "z")
     for _ in range(2):
         station.train(first, end)
+    return station.text()
+
+
+def side_by_side(lines, sections):
+    """Lines side by side, each with a train that is slow enough to be on its way for a day."""
+    station = Station()
+    for _ in range(lines):
+        first = station.node(boundary=True)
+        station.train(first, station.line(first, sections))
+    return station.text().replace("length_mm=1000,", "length_mm=10000000,")
+
+
+def visits(diamonds, sections, many):
+    """One train whose visits name places that no way meets."""
+    station = Station()
+    first = station.node(boundary=True)
+    end = station.line(station.diamonds(station.line(first, 1), diamonds), sections)
+    siding = station.node()
+    names = [siding]
+    for _ in range(64):
+        siding = station.line(siding, 1)
+        names.append(siding)
+    station.train(first, *[names[1:]] * (many - 2), end)
     return station.text()
 
 
@@ -122,12 +145,36 @@ def proof(*lines):
 
 
 def listed(routes):
-    """A line of a cone that lists all pairs of two trains, each of which has all routes."""
+    """A valid cone of two trains that lists all pairs but those that would hold up the first command."""
     path = " ".join(str(number) for number in range(1, routes + 1))
-    pairs = []
-    for first, second in ((1, 2), (2, 1)):
-        pairs += [f"p {first} {one} {second} {other}" for one in range(1, routes + 1) for other in range(1, routes + 1)]
-    return f"r grant 1 1 t 1 1 1 {path} 0 0 0 t 2 1 0 {path} 0 1 1 " + " ".join(pairs)
+    pairs = [f"p 1 {one} 2 {other}" for one in range(1, routes + 1) for other in range(1, routes + 1)]
+    pairs += [f"p 2 {one} 1 {other}" for one in range(1, routes + 1) for other in range(2, routes + 1)]
+    return f"r grant 2 1 t 1 1 1 {path} 0 0 0 t 2 1 0 {path} 0 1 1 " + " ".join(pairs)
+
+
+def ring(routes, more):
+    """A line of so many routes that leads into a ring of more of them."""
+    station = Station()
+    first = station.node(boundary=True)
+    node = station.line(first, 1)
+    for _ in range(routes - 1):
+        station.signal(node)
+        node = station.line(node, 1)
+    entry = node
+    for _ in range(more - 1):
+        station.signal(node)
+        node = station.line(node, 1)
+    station.signal(node)
+    station.edge(node, entry)
+    station.train(first, entry)
+    return station.text()
+
+
+def again(routes, more, times):
+    """A cone of a path that goes round the ring so many times."""
+    line = " ".join(str(number) for number in range(1, routes + 1))
+    round_ = " " + " ".join(str(number) for number in range(routes + 1, routes + more + 1))
+    return f"r grant 1 1 t 1 0 0 {line}{round_ * times} 0 0 0"
 
 
 def cases():
@@ -135,17 +182,20 @@ def cases():
     end = proof("d 0 1 0")
     yield "one train, ways that share nothing", 2, ways(9, 900, 2, 1), 2, end
     yield "one train, ways that share all", 2, ways(10, 1900, 1, 1), 2, end
+    yield "one train, visits that no way makes", 2, visits(10, 1700, 16), 2, end
     yield "two trains, ways that share all", 2, ways(9, 1900, 1, 2), 1, end
     yield "two trains, ways that share nothing", 2, ways(8, 900, 2, 2), 1, end
-    yield "32 trains, ways that share all and exit", 2, ways(3, 1900, 1, 32, exits=True), 1, end
-    yield "32 trains, ways that share all, two steps", 2, ways(3, 1900, 1, 32), 2, end
+    yield "two long trains at a signal with many ways", 2, waiting(7, 8, 2_000_000), 2, end
     yield "two trains, many routes in one section", 2, ladder(600, 2), 1, end
-    yield "a fan of routes behind a row of signals", 2, fan(900, 9), 2, end
-    long_line = listed(600)
-    yield "one line, 720,000 listed pairs", 2, ladder(600, 2), 1, proof(long_line, "d 0 1 0")
+    yield "32 trains, ways that share all and exit", 2, ways(3, 1900, 1, 32, exits=True), 2, end
+    yield "32 trains, ways that share all", 2, ways(3, 1900, 1, 32), 2, end
+    yield "one line, 719,400 listed pairs", 2, ladder(600, 2, ticks=1), 1, proof(listed(600), "d 0 1 0")
+    yield "one line, round a ring 1,000,000 times", 2, ring(900, 2), 1, proof(again(900, 2, 1_000_000))
     yield "100,000 lines of paths", 5, ladder(600, 2), 1, proof(*["r path 1 2 t 1 0 0 1 2 3 0 0 0"] * 100_000)
-    cone = "r grant 1 1 t 1 3 0 1 0 0 0"
-    yield "100,000 lines of short cones", 5, ladder(600, 2), 1, proof(*[cone] * 100_000)
+    yield "10,000 lines of one free command", 5, ladder(600, 2, ticks=1), 1, proof(*["r grant 1 2 t 1 1 1 1 2 0 0 0"] * 10_000)
+    yield "1,000 lines that are followed for 1,000 ticks", 5, ladder(600, 2, ticks=1000), 1, proof(*["r visit 1 2 t 1 1000 1 1 0 0 0"] * 1_000)
+    day = " ".join(f"t {number} 86400 1 {number} 0 0 0" for number in range(1, 33))
+    yield "one line, 32 trains that are followed for a day", 2, side_by_side(32, 50), 1, proof(f"r visit 1 2 {day}")
     yield "one line that forgets 1,000,000 clauses", 2, ladder(2, 2), 1, proof("x " + " ".join(["1"] * 1_000_000) + " 0")
     yield "one line of 1,000,000 hints", 2, ladder(2, 2), 1, proof("d 0 " + " ".join(["1"] * 1_000_000) + " 0")
 
@@ -178,7 +228,7 @@ def main():
     words.add_argument("--only", default="", help="cases whose names have these words")
     given = words.parse_args()
     missed = 0
-    print(f"{'name':45} {'design':>7} {'proof':>9} {'bar':>4} {'seconds':>8} {'MB':>6}  answer")
+    print(f"{'name':48} {'design':>7} {'proof':>9} {'bar':>4} {'seconds':>8} {'MB':>6}  answer")
     with tempfile.TemporaryDirectory() as folder:
         design = pathlib.Path(folder) / "design.toml"
         file = pathlib.Path(folder) / "proof.txt"
@@ -190,7 +240,7 @@ def main():
             status, answer, seconds, memory = run(given.program, ["check", "--steps", str(steps), str(design), str(file)], given.limit)
             shown = "killed" if status is None else f"{status} {answer.strip()[:60]}"
             missed += status is None or seconds > bar
-            print(f"{name:45} {len(text) // 1000:>4} KB {len(told) // 1000:>6} KB {bar:>4} {seconds:>8.2f} {memory // 1000:>6}  {shown}", flush=True)
+            print(f"{name:48} {len(text) // 1000:>4} KB {len(told) // 1000:>6} KB {bar:>4} {seconds:>8.2f} {memory // 1000:>6}  {shown}", flush=True)
     print(f"{missed} bars missed")
     return missed > 0
 
