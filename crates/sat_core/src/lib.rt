@@ -5,9 +5,16 @@ mod assignment;
 mod found;
 mod keep;
 mod listed;
+mod order;
 mod recorder;
+mod restarts;
 mod round;
 mod solver;
+mod spans;
+mod targets;
+#[cfg(test)]
+mod tests;
+mod units;
 
 pub use assignment::Assignment;
 pub use listed::{Line, Listed};

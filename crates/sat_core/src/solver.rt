@@ -1,4 +1,4 @@
-ghost use Rattle.std.specs.Prelude.{◌≡◌, ◌≤◌, ◌+◌, ◌++◌, ◌∷◌, [], true, length, OnOk, OnErr, IfOk, IfErr};
+ghost use Rattle.std.specs.Prelude.{◌≡◌, ◌≤◌, ◌+◌, ◌++◌, ◌∷◌, [], true, length, IsTrue, IsFalse, OnOk, OnErr, IfOk, IfErr};
 ghost use Rattle.sat_clause.specs.declared.follow.Follow.TheVariants.{Yes};
 ghost use Rattle.sat_clause.specs.Hints.{follow_of};
 ghost use Rattle.sat_clause.specs.Closed.{IsConsistent};
@@ -7,12 +7,19 @@ ghost use Rattle.sat_trail.specs.Standing.{IsIncreasing};
 ghost use Rattle.sat_core.specs.Kept.{Holds};
 ghost use Rattle.sat_core.specs.Texts.{added_line, derive_line, has_room};
 ghost use Rattle.sat_core.specs.Faults.{IsFault};
+ghost use Rattle.sat_core.specs.Units.{HasUnit};
+ghost use Rattle.sat_core.specs.Lines.{ascends, live_among};
+ghost use Rattle.sat_clause.specs.Clauses.{opposite};
 
 use crate::assignment::Assignment;
 use crate::found::Found;
 use crate::keep::keep;
+use crate::order::Order;
 use crate::recorder::{RecordFault, Recorder};
-use crate::round::look;
+use crate::restarts::Restarts;
+use crate::round::{look, resume};
+use crate::spans::Spans;
+use crate::units::{has_unit, is_idle};
 use sat_clause::{Arena, Lit};
 use sat_trail::{Learnt, Trail};
 use std::alloc::{AllocError, Global};
@@ -23,13 +30,28 @@ pub struct Solver<R: Recorder> {
     alloc: Global,
     arena: Arena,
     trail: Trail,
+    order: Order,
+    restarts: Restarts,
     recorder: R,
     vars: u32,
     derives: u64,
+    learnt: Vec<u64>,
+    spans: Spans,
+    live: u64,
+    room: u64,
     ghost same: { R.clauses recorder ≡ arena },
     ghost holds: { Holds arena trail vars },
     ghost counted: { derives ≤ length arena },
+    ghost listed: { R.learnt recorder ≡ learnt.items },
+    ghost ascending: { ascends 0 learnt.items (length arena) ≡ true },
+    ghost alive: { live ≤ live_among arena learnt.items },
 }
+
+/// A clause of at most so many literals is not forgotten.
+const SHORT: usize = 4;
+
+/// How many derived clauses are kept before some are forgotten.
+const FEWEST: u64 = 1000;
 
 /// A clause of negated assumptions that follows from the clauses.
 #[derive(Drop)]
@@ -67,19 +89,27 @@ impl<R: Recorder> Solver<R> {
     /// No clause yet. The recorder may not have one either; it is dropped where there is no memory.
     pub fn new(alloc: Global, recorder: R, vars: u32) -> Result<Solver<R>, AllocError>
         requires none { R.clauses recorder ≡ [] }
+        requires unlearnt { R.learnt recorder ≡ [] }
         ensures recorder { IfOk result (λ s. s.recorder ≡ recorder) }
         ensures vars { IfOk result (λ s. s.vars ≡ vars) }
         ensures derives { IfOk result (λ s. s.derives ≡ 0) }
         ensures level { IfOk result (λ s. depth s.trail.steps ≡ 0) }
     {
         let trail = Trail::new(alloc, vars)?;
+        let order = Order::new(alloc, vars)?;
         Ok(Solver {
             alloc,
             arena: Arena::new(alloc),
             trail,
+            order,
+            restarts: Restarts::new(),
             recorder,
             vars,
             derives: 0,
+            learnt: Vec::new(alloc),
+            spans: Spans::new(alloc),
+            live: 0,
+            room: FEWEST,
         })
     }
 
@@ -104,6 +134,20 @@ impl<R: Recorder> Solver<R> {
         self.derives
     }
 
+    /// Whether a live clause is the one literal that negates this one. Then no model makes the literal true.
+    pub fn refuted(&self, lit: Lit) -> bool
+        ensures yes { IsTrue result → HasUnit (R.clauses self.now.recorder) (opposite lit) }
+        ensures no { IsFalse result → HasUnit (R.clauses self.now.recorder) (opposite lit) → ⊥ }
+    {
+        has_unit(
+            &self.arena,
+            Lit {
+                var: lit.var,
+                negated: !lit.negated,
+            },
+        )
+    }
+
     /// Adds a clause with its line, and gives the clause's number, in solver and recorder alike.
     /// Where there is no memory neither has it. The recorder has to have room for the line.
     pub fn add_clause(&mut self, line: &[u8], clause: &[Lit]) -> Result<u64, AllocError>
@@ -114,6 +158,7 @@ impl<R: Recorder> Solver<R> {
         ensures text { OnOk result (R.text self.new.recorder ≡ R.text self.old.recorder ++ added_line line.now) }
         ensures err { OnErr result ((R.clauses self.new.recorder ≡ R.clauses self.old.recorder) × (R.text self.new.recorder ≡ R.text self.old.recorder)) }
         ensures limit { R.limit self.new.recorder ≡ R.limit self.old.recorder }
+        ensures learnt { R.learnt self.new.recorder ≡ R.learnt self.old.recorder }
         ensures vars { self.new.vars ≡ self.old.vars }
         ensures level { depth self.new.trail.steps ≡ depth self.old.trail.steps }
         ensures derives { self.new.derives ≡ self.old.derives }
@@ -132,19 +177,45 @@ impl<R: Recorder> Solver<R> {
 }
 
 impl<R: Recorder> Solver<R> {
-    ghost use Rattle.sat_core.specs.Runs.{IsFound, Ends, IsEnd, IsStep, IsRecorded, state_of};
+    ghost use Rattle.sat_core.specs.Runs.{IsFound, Ends, IsEnd, IsStep, IsRecorded, IsForgot, Forgot, state_of};
+    ghost use Rattle.sat_core.specs.Lines.{MayForget};
+    ghost use Rattle.sat_trail.specs.Attached.{is_among, IsBehindNone};
     ghost use Rattle.sat_core.specs.Answers.{IsFinal, IsLearntBeyond};
 
+    /// Takes off the levels above the one given.
+    fn go_back(&mut self, level: u32)
+        ensures state { state_of (R.clauses self.new.recorder) (R.text self.new.recorder) (R.limit self.new.recorder) (R.learnt self.new.recorder) self.new.derives ≡ state_of (R.clauses self.old.recorder) (R.text self.old.recorder) (R.limit self.old.recorder) (R.learnt self.old.recorder) self.old.derives }
+        ensures recorder { self.new.recorder ≡ self.old.recorder }
+        ensures listed { self.new.learnt.items ≡ self.old.learnt.items }
+        ensures vars { self.new.vars ≡ self.old.vars }
+        ensures depth { depth self.new.trail.steps ≤ level }
+    {
+        self.order.free(self.trail.steps(), level);
+        self.trail.back(level);
+    }
+
     /// Adds a clause that follows by its hints, and records it.
-    fn record(&mut self, clause: &[Lit], hints: &[u64]) -> Result<(), RecordFault>
+    fn record(
+        &mut self,
+        clause: &[Lit],
+        hints: &[u64],
+        level: u32,
+        levels: u32,
+    ) -> Result<(), RecordFault>
         requires follows { follow_of (R.clauses self.old.recorder) clause.now hints.now ≡ Yes }
         requires increasing { IsIncreasing clause.now }
         requires in_vars { AllIn self.old.vars clause.now }
-        ensures recorded { OnOk result (IsRecorded (state_of (R.clauses self.old.recorder) (R.text self.old.recorder) (R.limit self.old.recorder) self.old.derives) (state_of (R.clauses self.new.recorder) (R.text self.new.recorder) (R.limit self.new.recorder) self.new.derives) clause.now hints.now) }
-        ensures err { OnErr result (state_of (R.clauses self.new.recorder) (R.text self.new.recorder) (R.limit self.new.recorder) self.new.derives ≡ state_of (R.clauses self.old.recorder) (R.text self.old.recorder) (R.limit self.old.recorder) self.old.derives) }
+        ensures recorded { OnOk result (IsRecorded (state_of (R.clauses self.old.recorder) (R.text self.old.recorder) (R.limit self.old.recorder) (R.learnt self.old.recorder) self.old.derives) (state_of (R.clauses self.new.recorder) (R.text self.new.recorder) (R.limit self.new.recorder) (R.learnt self.new.recorder) self.new.derives) clause.now hints.now) }
+        ensures err { OnErr result (state_of (R.clauses self.new.recorder) (R.text self.new.recorder) (R.limit self.new.recorder) (R.learnt self.new.recorder) self.new.derives ≡ state_of (R.clauses self.old.recorder) (R.text self.old.recorder) (R.limit self.old.recorder) (R.learnt self.old.recorder) self.old.derives) }
         ensures fault { IfErr result (IsFault (R.limit self.old.recorder) (length (R.text self.old.recorder)) (length (derive_line clause.now hints.now))) }
         ensures vars { self.new.vars ≡ self.old.vars }
     {
+        self.order.raise_all(&self.arena, hints);
+        let level = if self.restarts.begins() { 0 } else { level };
+        self.go_back(level);
+        if self.learnt.reserve(1).is_err() {
+            return Err(RecordFault::Memory);
+        }
         let Ok(id) = keep(&mut self.arena, &mut self.trail, clause) else {
             return Err(RecordFault::Memory);
         };
@@ -153,8 +224,89 @@ impl<R: Recorder> Solver<R> {
             self.arena.pop();
             return Err(fault);
         }
+        self.spans.note(self.learnt.len(), levels);
+        self.learnt.push_reserved(id);
+        self.live = self.live.saturating_add(1);
         self.derives += 1;
         Ok(())
+    }
+
+    /// Whether a derived clause is long, behind no literal, and at least half of the derived ones stay live without it.
+    fn may_forget(&self, id: u64) -> bool
+        requires { is_among self.now.learnt.items id ≡ true }
+        ensures may { IsTrue result → MayForget (R.clauses self.now.recorder) (R.learnt self.now.recorder) id }
+        ensures idle { IsTrue result → IsBehindNone self.now.trail.steps id }
+    {
+        if !self.arena.live(id) {
+            return false;
+        }
+        if self.arena.clause(id).len() <= SHORT {
+            return false;
+        }
+        let rest = self.live.saturating_sub(1);
+        let half = self.learnt.len() as u64 / 2;
+        if half >= rest {
+            return false;
+        }
+        is_idle(self.trail.steps(), id)
+    }
+
+    /// Forgets a derived clause.
+    fn forget(&mut self, id: u64) -> Result<(), RecordFault>
+        requires may { MayForget (R.clauses self.old.recorder) (R.learnt self.old.recorder) id }
+        requires idle { IsBehindNone self.old.trail.steps id }
+        ensures gone { OnOk result (IsForgot (state_of (R.clauses self.old.recorder) (R.text self.old.recorder) (R.limit self.old.recorder) (R.learnt self.old.recorder) self.old.derives) (state_of (R.clauses self.new.recorder) (R.text self.new.recorder) (R.limit self.new.recorder) (R.learnt self.new.recorder) self.new.derives) id) }
+        ensures err { OnErr result ((state_of (R.clauses self.new.recorder) (R.text self.new.recorder) (R.limit self.new.recorder) (R.learnt self.new.recorder) self.new.derives) ≡ (state_of (R.clauses self.old.recorder) (R.text self.old.recorder) (R.limit self.old.recorder) (R.learnt self.old.recorder) self.old.derives)) }
+        ensures listed { self.new.learnt.items ≡ self.old.learnt.items }
+        ensures vars { self.new.vars ≡ self.old.vars }
+    {
+        self.recorder.forgot(id)?;
+        self.trail.detach(&self.arena, id);
+        self.arena.forget(id);
+        self.live = self.live.saturating_sub(1);
+        Ok(())
+    }
+
+    /// Forgets the derived clause at a place where it may be forgotten.
+    fn forget_if_long(&mut self, place: usize) -> Result<(), RecordFault>
+        ensures gone { (assumptions : _) → Forgot assumptions (state_of (R.clauses self.old.recorder) (R.text self.old.recorder) (R.limit self.old.recorder) (R.learnt self.old.recorder) self.old.derives) (state_of (R.clauses self.new.recorder) (R.text self.new.recorder) (R.limit self.new.recorder) (R.learnt self.new.recorder) self.new.derives) }
+        ensures listed { self.new.learnt.items ≡ self.old.learnt.items }
+        ensures vars { self.new.vars ≡ self.old.vars }
+    {
+        if place >= self.learnt.len() {
+            return Ok(());
+        }
+        let id = self.learnt[place];
+        if !self.may_forget(id) {
+            return Ok(());
+        }
+        self.forget(id)
+    }
+
+    /// Forgets long derived clauses, those of most levels first, where there are many. It ends where the recorder has no room.
+    fn forget_some(&mut self)
+        ensures gone { (assumptions : _) → Forgot assumptions (state_of (R.clauses self.old.recorder) (R.text self.old.recorder) (R.limit self.old.recorder) (R.learnt self.old.recorder) self.old.derives) (state_of (R.clauses self.new.recorder) (R.text self.new.recorder) (R.limit self.new.recorder) (R.learnt self.new.recorder) self.new.derives) }
+        ensures vars { self.new.vars ≡ self.old.vars }
+    {
+        if self.live <= self.room {
+            return;
+        }
+        self.room = self.live.saturating_add(FEWEST);
+        self.go_back(0);
+        let Ok(places) = self
+            .spans
+            .least_worth(self.alloc, &self.arena, &self.learnt)
+        else {
+            return;
+        };
+        let mut done = 0;
+        'old: while done < places.len() {
+            if self.forget_if_long(places[done]).is_err() {
+                return;
+            }
+            done += 1;
+        }
+        self.room = self.live.saturating_add(self.live / 8 + FEWEST);
     }
 
     /// Looks for values under which all clauses and assumptions are true, recording at most `left` lines.
@@ -162,12 +314,12 @@ impl<R: Recorder> Solver<R> {
     pub fn solve(&mut self, assumptions: &[Lit], left: u64) -> Answer
         requires assumed { AllIn self.old.vars assumptions.now }
         requires consistent { IsConsistent assumptions.now }
-        ensures run { Ends (state_of (R.clauses self.old.recorder) (R.text self.old.recorder) (R.limit self.old.recorder) self.old.derives) (state_of (R.clauses self.new.recorder) (R.text self.new.recorder) (R.limit self.new.recorder) self.new.derives) assumptions.now self.old.vars left result }
+        ensures run { Ends (state_of (R.clauses self.old.recorder) (R.text self.old.recorder) (R.limit self.old.recorder) (R.learnt self.old.recorder) self.old.derives) (state_of (R.clauses self.new.recorder) (R.text self.new.recorder) (R.limit self.new.recorder) (R.learnt self.new.recorder) self.new.derives) assumptions.now self.old.vars left result }
         ensures vars { self.new.vars ≡ self.old.vars }
         ensures level { depth self.new.trail.steps ≡ 0 }
     {
         let answer = self.search(assumptions, left);
-        self.trail.back(0);
+        self.go_back(0);
         answer
     }
 
@@ -175,7 +327,7 @@ impl<R: Recorder> Solver<R> {
     fn search(&mut self, assumptions: &[Lit], left: u64) -> Answer
         requires assumed { AllIn self.old.vars assumptions.now }
         requires consistent { IsConsistent assumptions.now }
-        ensures run { Ends (state_of (R.clauses self.old.recorder) (R.text self.old.recorder) (R.limit self.old.recorder) self.old.derives) (state_of (R.clauses self.new.recorder) (R.text self.new.recorder) (R.limit self.new.recorder) self.new.derives) assumptions.now self.old.vars left result }
+        ensures run { Ends (state_of (R.clauses self.old.recorder) (R.text self.old.recorder) (R.limit self.old.recorder) (R.learnt self.old.recorder) self.old.derives) (state_of (R.clauses self.new.recorder) (R.text self.new.recorder) (R.limit self.new.recorder) (R.learnt self.new.recorder) self.new.derives) assumptions.now self.old.vars left result }
         ensures vars { self.new.vars ≡ self.old.vars }
     {
         'derive: for done in 0..=left {
@@ -190,7 +342,7 @@ impl<R: Recorder> Solver<R> {
     fn step(&mut self, assumptions: &[Lit], last: bool) -> Option<Answer>
         requires assumed { AllIn self.old.vars assumptions.now }
         requires consistent { IsConsistent assumptions.now }
-        ensures step { IsStep (state_of (R.clauses self.old.recorder) (R.text self.old.recorder) (R.limit self.old.recorder) self.old.derives) (state_of (R.clauses self.new.recorder) (R.text self.new.recorder) (R.limit self.new.recorder) self.new.derives) assumptions.now self.old.vars last result }
+        ensures step { IsStep (state_of (R.clauses self.old.recorder) (R.text self.old.recorder) (R.limit self.old.recorder) (R.learnt self.old.recorder) self.old.derives) (state_of (R.clauses self.new.recorder) (R.text self.new.recorder) (R.limit self.new.recorder) (R.learnt self.new.recorder) self.new.derives) assumptions.now self.old.vars last result }
         ensures vars { self.new.vars ≡ self.old.vars }
     {
         match self.round(assumptions) {
@@ -205,7 +357,7 @@ impl<R: Recorder> Solver<R> {
     fn finish(&mut self, why: Learnt, _assumptions: &[Lit], last: bool) -> Answer
         requires assumed { AllIn self.old.vars _assumptions.now }
         requires final_ { IsFinal (R.clauses self.old.recorder) _assumptions.now why.clause.items why.hints.items }
-        ensures end { IsEnd (state_of (R.clauses self.old.recorder) (R.text self.old.recorder) (R.limit self.old.recorder) self.old.derives) (state_of (R.clauses self.new.recorder) (R.text self.new.recorder) (R.limit self.new.recorder) self.new.derives) _assumptions.now self.old.vars last result }
+        ensures end { IsEnd (state_of (R.clauses self.old.recorder) (R.text self.old.recorder) (R.limit self.old.recorder) (R.learnt self.old.recorder) self.old.derives) (state_of (R.clauses self.new.recorder) (R.text self.new.recorder) (R.limit self.new.recorder) (R.learnt self.new.recorder) self.new.derives) _assumptions.now self.old.vars last result }
         ensures vars { self.new.vars ≡ self.old.vars }
     {
         if last {
@@ -214,7 +366,12 @@ impl<R: Recorder> Solver<R> {
                 hints: why.hints,
             };
         }
-        match self.record(&why.clause, &why.hints) {
+        match self.record(
+            &why.clause,
+            &why.hints,
+            why.level.saturating_sub(1),
+            why.levels,
+        ) {
             Ok(()) => Answer::Unsat(Core { clause: why.clause }),
             Err(RecordFault::Full { bytes, next }) => Answer::Full { bytes, next },
             Err(RecordFault::Memory) => Answer::Memory,
@@ -225,7 +382,7 @@ impl<R: Recorder> Solver<R> {
     fn learn(&mut self, why: Learnt, _assumptions: &[Lit], last: bool) -> Option<Answer>
         requires in_vars { AllIn self.old.vars why.clause.items }
         requires learnt { IsLearntBeyond (R.clauses self.old.recorder) _assumptions.now why.clause.items why.hints.items }
-        ensures step { IsStep (state_of (R.clauses self.old.recorder) (R.text self.old.recorder) (R.limit self.old.recorder) self.old.derives) (state_of (R.clauses self.new.recorder) (R.text self.new.recorder) (R.limit self.new.recorder) self.new.derives) _assumptions.now self.old.vars last result }
+        ensures step { IsStep (state_of (R.clauses self.old.recorder) (R.text self.old.recorder) (R.limit self.old.recorder) (R.learnt self.old.recorder) self.old.derives) (state_of (R.clauses self.new.recorder) (R.text self.new.recorder) (R.limit self.new.recorder) (R.learnt self.new.recorder) self.new.derives) _assumptions.now self.old.vars last result }
         ensures vars { self.new.vars ≡ self.old.vars }
     {
         if last {
@@ -234,8 +391,16 @@ impl<R: Recorder> Solver<R> {
                 hints: why.hints,
             });
         }
-        match self.record(&why.clause, &why.hints) {
-            Ok(()) => None,
+        match self.record(
+            &why.clause,
+            &why.hints,
+            why.level.saturating_sub(1),
+            why.levels,
+        ) {
+            Ok(()) => {
+                self.forget_some();
+                None
+            }
             Err(RecordFault::Full { bytes, next }) => Some(Answer::Full { bytes, next }),
             Err(RecordFault::Memory) => Some(Answer::Memory),
         }
@@ -245,15 +410,26 @@ impl<R: Recorder> Solver<R> {
     fn round(&mut self, assumptions: &[Lit]) -> Result<Found, AllocError>
         requires assumed { AllIn self.old.vars assumptions.now }
         requires consistent { IsConsistent assumptions.now }
-        ensures state { state_of (R.clauses self.new.recorder) (R.text self.new.recorder) (R.limit self.new.recorder) self.new.derives ≡ state_of (R.clauses self.old.recorder) (R.text self.old.recorder) (R.limit self.old.recorder) self.old.derives }
+        ensures state { state_of (R.clauses self.new.recorder) (R.text self.new.recorder) (R.limit self.new.recorder) (R.learnt self.new.recorder) self.new.derives ≡ state_of (R.clauses self.old.recorder) (R.text self.old.recorder) (R.limit self.old.recorder) (R.learnt self.old.recorder) self.old.derives }
         ensures vars { self.new.vars ≡ self.old.vars }
         ensures found { IfOk result (λ f. IsFound (R.clauses self.old.recorder) assumptions.now self.old.vars f) }
     {
-        self.trail.back(0);
+        if let Some(found) = resume(
+            self.alloc,
+            &self.arena,
+            &mut self.trail,
+            &mut self.order,
+            self.vars,
+            assumptions,
+        )? {
+            return Ok(found);
+        }
+        self.go_back(0);
         look(
             self.alloc,
             &self.arena,
             &mut self.trail,
+            &mut self.order,
             self.vars,
             assumptions,
         )

@@ -9,3 +9,8 @@ pub mod Table
 pub mod Levels
 pub mod Standing
 pub mod Stores
+pub mod Rows
+pub mod Standby
+pub mod Watched
+pub mod Attaching
+pub mod Settling

@@ -1,8 +1,12 @@
 pub mod Attached
 pub mod Forced
+pub mod Marks
 pub mod Scans
 pub mod Standing
+pub mod Stores
 pub mod Table
 pub mod Trails
 pub mod View
 pub mod Walks
+pub mod Watches
+pub mod Settled

@@ -1,11 +1,18 @@
 //! Assigned literals in order, and why a clause that is false follows from what was decided.
 #![tactic(auto)]
 
+mod assigned;
 mod found;
+mod needed;
+mod pair;
 mod scan;
+mod settled;
 mod step;
+#[cfg(test)]
+mod tests;
 mod trail;
 mod walk;
+mod watch;
 
 pub use step::Step;
 pub use trail::Trail;

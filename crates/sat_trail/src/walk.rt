@@ -8,6 +8,7 @@ ghost use Rattle.sat_trail.specs.Standing.{IsApart, IsIncreasing, Stands, AllSta
 ghost use Rattle.sat_trail.specs.Walks.{Walk, IsConflict, KeepsOf, decided, NegatesOnly, Beyond};
 ghost use Rattle.sat_clause.specs.declared.follow.Follow.TheVariants.{Yes};
 
+use crate::needed::Needed;
 use crate::step::Step;
 use sat_clause::{Arena, Lit};
 use std::alloc::{AllocError, Global};
@@ -29,28 +30,18 @@ pub fn negated(l: Lit) -> Lit
     }
 }
 
-/// Whether a literal is one of these.
-fn holds(held: &[Lit], l: Lit) -> bool
-    ensures { result ≡ is_held held.now l }
-{
-    held.iter().any(|h| same(l, *h))
-}
-
-/// Adds the opposites of a clause's literals.
-fn add_opposites(needed: &mut Vec<Lit>, clause: &[Lit]) -> Result<(), AllocError>
-    ensures { OnOk result (needed.new.items ≡ needed.old.items ++ map opposite clause.now) }
-{
-    for l in clause {
-        needed.push(negated(*l))?;
-    }
-    Ok(())
-}
-
-/// Whether the literal of one of the steps is needed.
-fn some_needed(needed: &[Lit], steps: &[Step]) -> bool
+/// Whether the literal of one of the steps is needed. The last steps are looked at first.
+fn some_needed(needed: &Needed, steps: &[Step]) -> bool
     ensures { result ≡ list_any (λ s. is_held needed.now s.lit) steps.now }
 {
-    steps.iter().any(|s| holds(needed, s.lit))
+    let mut i = steps.len();
+    while i > 0 {
+        i -= 1;
+        if needed.has(steps[i].lit) {
+            return true;
+        }
+    }
+    false
 }
 
 /// Goes back to the first step of the last level through which every way to the conflict leads, and gives its literal.
@@ -58,19 +49,19 @@ fn to_unique(
     arena: &Arena,
     steps: &[Step],
     base: usize,
-    needed: &mut Vec<Lit>,
+    needed: &mut Needed,
     back: &mut Vec<u64>,
 ) -> Result<Lit, AllocError>
     requires trail { IsTrail arena.now steps.now }
     requires closed { IsClosed arena.now (take base (lits steps.now)) }
     requires base { base ≤ length steps.now }
     requires reasoned { (i : ℕ) (d : _) → base < i → i < length steps.now → IsSome (slice_index_or steps.now i d).reason }
-    requires walk { Walk arena.now (lits steps.now) [] needed.old.items (reverse back.old.items) }
+    requires walk { Walk arena.now (lits steps.now) [] needed.old (reverse back.old.items) }
     requires some { 0 < length back.old.items }
-    requires stands { NegationsStand arena.now needed.old.items }
-    ensures stands { OnOk result (NegationsStand arena.now needed.new.items) }
+    requires stands { NegationsStand arena.now needed.old }
+    ensures stands { OnOk result (NegationsStand arena.now needed.new) }
     ensures stands_too { IfOk result (λ u. Stands arena.now (opposite u)) }
-    ensures walk { IfOk result (λ u. Walk arena.now (take base (lits steps.now)) (u ∷ []) needed.new.items (reverse back.new.items)) }
+    ensures walk { IfOk result (λ u. Walk arena.now (take base (lits steps.now)) (u ∷ []) needed.new (reverse back.new.items)) }
     ensures some { OnOk result (0 < length back.new.items) }
     ensures member { IfOk result (λ u. is_held (lits steps.now) u ≡ true) }
 {
@@ -78,7 +69,7 @@ fn to_unique(
     while i > base {
         i -= 1;
         let step = steps[i];
-        if holds(needed, step.lit) {
+        if needed.has(step.lit) {
             if !some_needed(needed, &steps[base..i]) {
                 return Ok(step.lit);
             }
@@ -86,61 +77,139 @@ fn to_unique(
                 unreachable!()
             };
             back.push(id)?;
-            add_opposites(needed, arena.clause(id))?;
+            needed.add_opposites(arena.clause(id))?;
         }
     }
     unreachable!()
 }
 
+/// Whether all other literals of the clause behind a step are needed anyway, or implied by needed ones.
+fn is_covered(arena: &Arena, needed: &Needed, implied: &Needed, step: Step) -> bool {
+    let Some(id) = step.reason else {
+        return false;
+    };
+    if !arena.live(id) {
+        return false;
+    }
+    for l in arena.clause(id) {
+        let before = negated(*l);
+        if !same(*l, step.lit) && !needed.has(before) && !implied.has(before) {
+            return false;
+        }
+    }
+    true
+}
+
+/// For each step whether its literal is implied by needed ones before it.
+fn covered_steps(
+    alloc: Global,
+    arena: &Arena,
+    steps: &[Step],
+    needed: &Needed,
+) -> Result<Vec<bool>, AllocError> {
+    let mut implied = Needed::new(alloc);
+    let mut covered = Vec::new(alloc);
+    for step in steps {
+        let is_implied = is_covered(arena, needed, &implied, *step);
+        if is_implied {
+            implied.push(step.lit)?;
+        }
+        covered.push(is_implied)?;
+    }
+    Ok(covered)
+}
+
+/// Whether the step at a place is covered.
+fn is_marked(covered: &[bool], place: usize) -> bool {
+    match covered.get(place) {
+        Some(mark) => *mark,
+        None => false,
+    }
+}
+
+/// The first and the last of the levels that were met, and how many there were.
+#[derive(Clone, Copy)]
+struct Levels {
+    first: u32,
+    last: u32,
+    count: u32,
+}
+
+/// The levels with one more, which is the last one again or lower.
+fn with_level(levels: Levels, next: u32) -> Levels {
+    if next == levels.last {
+        return levels;
+    }
+    Levels {
+        first: if levels.count == 0 {
+            next
+        } else {
+            levels.first
+        },
+        last: next,
+        count: levels.count.saturating_add(1),
+    }
+}
+
 /// The clause behind a literal that gives way to others.
-fn resolved_by(step: Step, only_decided: bool) -> Option<u64>
+fn resolved_by(step: Step, only_decided: bool, covered: bool) -> Option<u64>
     ensures taken { IfSome result (λ id. step.reason ≡ Some id) }
     ensures kept { IfNone result (IsTrue only_decided → step.reason ≡ None) }
 {
-    if only_decided || step.level == 0 {
+    if only_decided || covered || step.level == 0 {
         step.reason
     } else {
         None
     }
 }
 
-/// Goes back to the trail's beginning and keeps what is of an open level, or only what was decided.
+/// Goes back to the trail's beginning and keeps what is of an open level, or only what was decided. What follows from other
+/// needed literals is not kept. The answer is the levels of the literals that are kept.
 fn to_start(
     arena: &Arena,
     steps: &[Step],
     only_decided: bool,
+    covered: &[bool],
     kept: &mut Vec<Lit>,
-    needed: &mut Vec<Lit>,
+    needed: &mut Needed,
     back: &mut Vec<u64>,
-) -> Result<(), AllocError>
+) -> Result<Levels, AllocError>
     requires trail { IsTrail arena.now steps.now }
-    requires walk { Walk arena.now (lits steps.now) kept.old.items needed.old.items (reverse back.old.items) }
+    requires walk { Walk arena.now (lits steps.now) kept.old.items needed.old (reverse back.old.items) }
     requires some { 0 < length back.old.items }
-    requires stands { NegationsStand arena.now needed.old.items }
+    requires stands { NegationsStand arena.now needed.old }
     requires apart { IsApart kept.old.items }
-    ensures stands { OnOk result (NegationsStand arena.now needed.new.items) }
+    ensures stands { OnOk result (NegationsStand arena.now needed.new) }
     ensures apart { OnOk result (IsApart kept.new.items) }
-    ensures needed { OnOk result (KeepsOf kept.old.items kept.new.items needed.new.items) }
-    ensures walk { OnOk result (Walk arena.now [] kept.new.items needed.new.items (reverse back.new.items)) }
+    ensures needed { OnOk result (KeepsOf kept.old.items kept.new.items needed.new) }
+    ensures walk { OnOk result (Walk arena.now [] kept.new.items needed.new (reverse back.new.items)) }
     ensures kept { OnOk result (KeepsOf kept.old.items kept.new.items (lits steps.now)) }
     ensures grows { OnOk result ((l : _) → is_held kept.old.items l ≡ true → is_held kept.new.items l ≡ true) }
     ensures decided { OnOk result (IsTrue only_decided → KeepsOf kept.old.items kept.new.items (decided steps.now)) }
 {
+    let mut levels = Levels {
+        first: 0,
+        last: 0,
+        count: 0,
+    };
     let mut i = steps.len();
     while i > 0 {
         i -= 1;
         let step = steps[i];
-        if holds(needed, step.lit) {
-            match resolved_by(step, only_decided) {
+        if needed.has(step.lit) {
+            match resolved_by(step, only_decided, is_marked(covered, i)) {
                 Some(id) => {
                     back.push(id)?;
-                    add_opposites(needed, arena.clause(id))?;
+                    needed.add_opposites(arena.clause(id))?;
                 }
-                None => kept.push(step.lit)?,
+                None => {
+                    kept.push(step.lit)?;
+                    levels = with_level(levels, step.level);
+                }
             }
         }
     }
-    Ok(())
+    Ok(levels)
 }
 
 /// A clause and the hints by which it follows.
@@ -150,6 +219,10 @@ pub struct Learnt {
     pub clause: Vec<Lit>,
     /// The numbers of the clauses that give a literal each in turn, and then of one that is false.
     pub hints: Vec<u64>,
+    /// A level at which the clause leaves one literal, or 0.
+    pub level: u32,
+    /// How many levels below the last one the literals have.
+    pub levels: u32,
 }
 
 /// The clause that negates what was kept.
@@ -194,17 +267,19 @@ pub fn learn(
     ensures beyond { IfOk result (λ r. Beyond r.clause.items (take base (lits steps.now))) }
     ensures only { IfOk result (λ r. NegatesOnly r.clause.items (lits steps.now)) }
 {
-    let mut needed = Vec::new(alloc);
-    add_opposites(&mut needed, arena.clause(conflict))?;
+    let mut needed = Needed::new(alloc);
+    needed.add_opposites(arena.clause(conflict))?;
     let mut back = Vec::new(alloc);
     back.push(conflict)?;
     let unique = to_unique(arena, steps, base, &mut needed, &mut back)?;
     let mut kept = Vec::new(alloc);
     kept.push(unique)?;
-    to_start(
+    let covered = covered_steps(alloc, arena, &steps[..base], &needed)?;
+    let levels = to_start(
         arena,
         &steps[..base],
         false,
+        covered.as_slice(),
         &mut kept,
         &mut needed,
         &mut back,
@@ -213,6 +288,8 @@ pub fn learn(
     Ok(Learnt {
         clause,
         hints: in_turn(back),
+        level: levels.first,
+        levels: levels.count,
     })
 }
 
@@ -229,16 +306,18 @@ pub fn refute(
     ensures increasing { IfOk result (λ r. IsIncreasing r.clause.items) }
     ensures only { IfOk result (λ r. NegatesOnly r.clause.items (decided steps.now)) }
 {
-    let mut needed = Vec::new(alloc);
-    add_opposites(&mut needed, arena.clause(conflict))?;
+    let mut needed = Needed::new(alloc);
+    needed.add_opposites(arena.clause(conflict))?;
     let mut back = Vec::new(alloc);
     back.push(conflict)?;
     let mut kept = Vec::new(alloc);
-    to_start(arena, steps, true, &mut kept, &mut needed, &mut back)?;
+    let levels = to_start(arena, steps, true, &[], &mut kept, &mut needed, &mut back)?;
     let clause = negate_kept(alloc, &kept)?;
     Ok(Learnt {
         clause,
         hints: in_turn(back),
+        level: levels.first,
+        levels: levels.count,
     })
 }
 
@@ -274,16 +353,17 @@ pub fn refute_choice(
     let Some(id) = steps[place].reason else {
         unreachable!()
     };
-    let mut needed = Vec::new(alloc);
-    add_opposites(&mut needed, arena.clause(id))?;
+    let mut needed = Needed::new(alloc);
+    needed.add_opposites(arena.clause(id))?;
     let mut back = Vec::new(alloc);
     back.push(id)?;
     let mut kept = Vec::new(alloc);
     kept.push(l)?;
-    to_start(
+    let levels = to_start(
         arena,
         &steps[..place],
         true,
+        &[],
         &mut kept,
         &mut needed,
         &mut back,
@@ -292,5 +372,7 @@ pub fn refute_choice(
     Ok(Learnt {
         clause,
         hints: in_turn(back),
+        level: levels.first,
+        levels: levels.count,
     })
 }

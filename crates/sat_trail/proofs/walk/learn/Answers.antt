@@ -22,7 +22,7 @@ pub to_unique-requires-clause-walk : goal.to_unique-requires-clause-walk
 to_unique-requires-clause-walk c =
     let f = c.requires.conflict in
     let e : f.clause ≡ c.clause.result.now = some-same f.clause c.clause.result.now (sym f.is_live ∙ c.clause.ensures) in
-    let n : c.add_opposites.new.needed.items ≡ map opposite c.clause.result.now = grind (arith, common_steps) in
+    let n : c.add_opposites.new.self ≡ map opposite c.clause.result.now = grind (arith, common_steps) in
     let b : c.push.new.self.items ≡ c.args.conflict ∷ [] = grind (arith, common_steps) in
     rw (n, b, ← e) (walk-start c.args.arena.now (lits c.args.steps.now) c.args.conflict f.clause f.is_live (λ l m. none-open (lits c.args.steps.now) f.clause l f.none_open m))
 
@@ -45,8 +45,8 @@ returns-clause-new c =
     new-clause c.args.arena.now (take c.args.base (lits c.args.steps.now)) kept c.in_ok-clause.clause.items u c.requires.closed
     (trail-consistent c.args.arena.now c.args.steps.now c.args.base c.requires.trail c.requires.base)
     fresh.not_negated
-    (c.in_ok-to_start.ensures.grows u (rw k (held-self u)))
-    (λ l m. elim (c.in_ok-to_start.ensures.kept l m) [
+    (c.in_ok-levels.ensures.grows u (rw k (held-self u)))
+    (λ l m. elim (c.in_ok-levels.ensures.kept l m) [
       | inl q ↦ inl (held-one u l (subst (λ z. is_held z l ≡ true) k q))
       | inr q ↦ inr (subst (λ z. is_held z l ≡ true) (sym (front c.args.steps.now c.args.base)) q)
     ])
@@ -58,7 +58,7 @@ returns-clause-only c = λ l m.
     let u = c.in_ok-unique.unique in
     let k : c.push-2.new.self.items ≡ u ∷ [] = grind (arith, common_steps) in
     let kept : is_held c.to_start.new.kept.items l ≡ true = sym (c.in_ok-clause.ensures.names l ∙ ap (λ z. is_held z l) c.deref.ensures.value) ∙ m in
-    elim (c.in_ok-to_start.ensures.kept l kept) [
+    elim (c.in_ok-levels.ensures.kept l kept) [
       | inl q ↦ subst (λ z. is_held (lits c.args.steps.now) z ≡ true) (sym (held-one u l (subst (λ z. is_held z l ≡ true) k q))) c.in_ok-unique.ensures.member
       | inr q ↦ front-held c.args.steps.now c.args.base l q
     ]
@@ -68,13 +68,13 @@ returns-clause-beyond c =
     let u = c.in_ok-unique.unique in
     let k : c.push-2.new.self.items ≡ u ∷ [] = grind (arith, common_steps) in
     let fresh = c.in_ok-unique.ensures.walk.apart u (held-self u) in
-    let kept : is_held c.to_start.new.kept.items u ≡ true = c.in_ok-to_start.ensures.grows u (rw k (held-self u)) in
+    let kept : is_held c.to_start.new.kept.items u ≡ true = c.in_ok-levels.ensures.grows u (rw k (held-self u)) in
     let named : is_held (map opposite c.in_ok-clause.clause.items) u ≡ true = c.in_ok-clause.ensures.names u ∙ ap (λ z. is_held z u) c.deref.ensures.value ∙ kept in
     (opposite u, opposites-held c.in_ok-clause.clause.items u named, ap (λ z. is_held (take c.args.base (lits c.args.steps.now)) z) (opposite-twice u) ∙ fresh.not_held)
 
 pub to_unique-requires-clause-stands : goal.to_unique-requires-clause-stands
 to_unique-requires-clause-stands c =
-    let n : c.add_opposites.new.needed.items ≡ map opposite c.clause.result.now = grind (arith, common_steps) in
+    let n : c.add_opposites.new.self ≡ map opposite c.clause.result.now = grind (arith, common_steps) in
     stands-start c.args.arena.now _ c.clause.result.now c.args.conflict c.clause.ensures n
 
 pub to_start-requires-clause-apart : goal.to_start-requires-clause-apart
@@ -88,5 +88,5 @@ returns-clause-stand c =
     let k : c.push-2.new.self.items ≡ u ∷ [] = grind (arith, common_steps) in
     let kept = c.to_start.new.kept.items in
     let names : (l : Lit) → is_held (map opposite c.in_ok-clause.clause.items) l ≡ is_held kept l = λ l. (c.in_ok-clause.ensures.names l ∙ ap (λ z. is_held z l) c.deref.ensures.value) in
-    let P : List Lit → Type 0 = λ z. KeepsOf z kept c.to_start.new.needed.items in
-    all-stand c.args.arena.now kept c.in_ok-clause.clause.items c.to_start.new.needed.items u names (subst P k c.in_ok-to_start.ensures.needed) c.in_ok-unique.ensures.stands_too c.in_ok-to_start.ensures.stands
+    let P : List Lit → Type 0 = λ z. KeepsOf z kept c.to_start.new.needed in
+    all-stand c.args.arena.now kept c.in_ok-clause.clause.items c.to_start.new.needed u names (subst P k c.in_ok-levels.ensures.needed) c.in_ok-unique.ensures.stands_too c.in_ok-levels.ensures.stands

@@ -38,7 +38,7 @@ to_start-requires-clause-walk c =
     let k = c.place_of-place.result in
     let s = get_or c.args.steps.now k no_step in
     let e : s.lit ≡ opposite c.args.l = c.place_of-place.ensures.there no_step ∙ c.negated.ensures in
-    let n : c.add_opposites.new.needed.items ≡ map opposite c.clause.result.now = grind (arith, common_steps) in
+    let n : c.add_opposites.new.self ≡ map opposite c.clause.result.now = grind (arith, common_steps) in
     let b : c.push.new.self.items ≡ c.in-Some.id ∷ [] = grind (arith, common_steps) in
     let o : c.push-2.new.self.items ≡ c.args.l ∷ [] = grind (arith, common_steps) in
     rw (n, b, o) (choice-walk c.args.arena.now c.args.steps.now k c.in-Some.id s c.args.l c.clause.result.now c.place_of-place.ensures.within (get_or_default c.args.steps.now k no_step s c.place_of-place.ensures.within) e c.in-Some.is c.requires.trail c.clause.ensures)
@@ -47,14 +47,14 @@ pub returns-clause-only : goal.returns-clause-only
 returns-clause-only c = λ k m.
     let o : c.push-2.new.self.items ≡ c.args.l ∷ [] = grind (arith, common_steps) in
     let kept : is_held c.to_start.new.kept.items k ≡ true = sym (c.in_ok-clause.ensures.names k ∙ ap (λ z. is_held z k) c.deref.ensures.value) ∙ m in
-    elim (c.in_ok-to_start.ensures.decided refl k kept) [
+    elim (c.in_ok-levels.ensures.decided refl k kept) [
       | inl q ↦ (let e = held-one c.args.l k (subst (λ z. is_held z k ≡ true) o q) in or-left (same_lit k c.args.l) (is_held (decided c.args.steps.now) k) (subst (λ z. same_lit k z ≡ true) e (same-self k)))
       | inr q ↦ or-right (same_lit k c.args.l) (is_held (decided c.args.steps.now) k) (decided-take c.args.steps.now c.place_of-place.result k q)
     ]
 
 pub to_start-requires-clause-stands : goal.to_start-requires-clause-stands
 to_start-requires-clause-stands c =
-    let n : c.add_opposites.new.needed.items ≡ map opposite c.clause.result.now = grind (arith, common_steps) in
+    let n : c.add_opposites.new.self ≡ map opposite c.clause.result.now = grind (arith, common_steps) in
     stands-start c.args.arena.now _ c.clause.result.now c.in-Some.id c.clause.ensures n
 
 pub to_start-requires-clause-apart : goal.to_start-requires-clause-apart

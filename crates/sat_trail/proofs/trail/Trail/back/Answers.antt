@@ -1,31 +1,13 @@
-use Rattle.std.proofs.Common.{List, ◌≡◌, take, length, subst, refl, sym, ap, ◌∙◌}
-use Rattle.std.specs.List.{filter}
-use Rattle.sat_trail.specs.declared.step.Step.{Step}
-use Rattle.sat_trail.specs.View.{View}
-use Rattle.sat_trail.proofs.Levels.{view-same, up_to, take-all, front-front}
+use Rattle.std.proofs.Common.{ap, arith, length}
+use Rattle.sat_trail.specs.Watches.{rows}
+use Rattle.sat_trail.proofs.Attaching.{watching-back}
+use Rattle.sat_trail.proofs.Settling.{settled-back}
 use Rattle.sat_trail.proofs.trail.Trail.back.Goals as goal
 
-pub above-init : goal.above-init
-above-init c = record { vars = refl; attached = refl; front = sym (take-all c.args.self.now.steps); kept = refl }
-
-pub above-smaller : goal.above-smaller
-above-smaller c = (c.above-test.ensures.yes refl).0
-
-pub above-preserved : goal.above-preserved
-above-preserved c = record {
-  vars = c.above-test.ensures.same.0 ∙ c.above.invariant.vars;
-  attached = c.above-test.ensures.same.1 ∙ c.above.invariant.attached;
-  front = front-front _ _ _ (c.above-test.ensures.front refl) c.above.invariant.front (c.above-test.ensures.yes refl).0;
-  kept = (c.above-test.ensures.yes refl).1 ∙ c.above.invariant.kept;
-}
-
-pub returns-clause-front : goal.returns-clause-front
-returns-clause-front c =
-    let same = ap (λ (v : View). v.steps) (c.above-test.ensures.kept refl) in
-    let P : List Step → Type 0 = λ z. z ≡ take (length z) c.args.self.now.steps in
-    subst P (sym same) c.above.invariant.front
-
-pub returns-clause-kept : goal.returns-clause-kept
-returns-clause-kept c =
-    view-same _ _ (c.above-test.ensures.same.0 ∙ c.above.invariant.vars) (c.above-test.ensures.same.1 ∙ c.above.invariant.attached)
-    (sym (c.above-test.ensures.no refl) ∙ ap (λ (v : View). filter (up_to c.args.level) v.steps) (c.above-test.ensures.kept refl) ∙ c.above.invariant.kept)
+pub invariant_of-self : goal.invariant_of-self
+invariant_of-self c =
+    let m = c.min-self-inside.ensures in
+    let n = ap length c.steps-count.ensures.steps in (
+      watching-back c.self.inside.assigned c.back.new.self c.self.inside.watches.loose.items (rows c.self.inside.watches.lists.items) c.self.inside.watches.pairs.items c.args.level c.self.inside.head c.min-self-inside.result c.back.ensures.kept c.back.ensures.front (omega arith) (omega arith) c.self.invariant.0,
+      settled-back c.self.inside.assigned c.back.new.self c.self.inside.watches.loose.items c.self.inside.settled.count c.self.inside.settled.top c.args.level c.back.ensures.kept c.self.invariant.1,
+    )

@@ -1,12 +1,10 @@
-use Rattle.std.proofs.Common.{rules, ◌∙◌, ap, not, nat_eq}
-use Rattle.std.specs.List.{filter}
-use Rattle.std.proofs.lemmas.Fn.{filter_same}
-use Rattle.sat_trail.specs.View.{View}
-use Rattle.sat_trail.proofs.Levels.{view-same}
+use Rattle.sat_trail.specs.Watches.{rows}
+use Rattle.sat_trail.proofs.Attaching.{watching-detached}
+use Rattle.sat_trail.proofs.Settling.{settled-detached}
 use Rattle.sat_trail.proofs.trail.Trail.detach.Goals as goal
 
-pub returns : goal.returns
-returns c =
-    view-same _ _ (ap (λ (v : View). v.vars) c.self.view_is)
-    (filter_same _ (λ k. not (nat_eq k c.args.id)) _ (λ x b f' k. search rules) _ _ c.retain.ensures.filtered ∙ ap (λ (v : View). filter (λ k. not (nat_eq k c.args.id)) v.attached) c.self.view_is)
-    (ap (λ (v : View). v.steps) c.self.view_is)
+pub invariant_of-self : goal.invariant_of-self
+invariant_of-self c = (
+  watching-detached c.self.inside.assigned c.detach.new.self c.self.inside.watches.loose.items (rows c.self.inside.watches.lists.items) c.self.inside.watches.pairs.items c.self.inside.head c.args.id c.detach.ensures c.self.invariant.0,
+  settled-detached c.self.inside.assigned c.detach.new.self c.self.inside.watches.loose.items c.self.inside.settled.count c.self.inside.settled.top c.args.id c.detach.ensures c.self.invariant.1,
+)

@@ -1,0 +1,125 @@
+use Rattle.std.proofs.Common.{◌≡◌, ℕ, List, refl, ap, sym, ◌∙◌, subst, arith, length, drop, get_or, None, false}
+use Rattle.sat_trail.specs.declared.step.Step.{Step}
+use Rattle.sat_trail.specs.declared.found.Visit.{Visit}
+use Rattle.sat_trail.specs.Attached.{Seen, AreLive}
+use Rattle.sat_trail.specs.Watches.{rows, row_at, code_of, IsCut, Todo, Looked}
+use Rattle.sat_trail.proofs.Grows.{forced-none, forced-then, forced-at, forced-depth, forced-held, forced-length, step-held}
+use Rattle.sat_trail.proofs.Rows.{among-end}
+use Rattle.sat_trail.proofs.Watched.{todo-start, todo-next, todo-cut, watching-cut, watching-next}
+use Rattle.sat_clause.specs.Clauses.{opposite}
+use Rattle.sat_trail.proofs.watch.look_at_all.Goals as goal
+
+abbrev no_step : Step
+no_step = record { lit = record { var = 0; negated = false }; level = 0; reason = None }
+
+pub list-init : goal.list-init
+list-init c = record {
+  is_false = step-held c.args.trail.now.steps c.args.head no_step (opposite c.args.w) c.requires.within (c.requires.there no_step);
+  trail = c.requires.trail;
+  forced = forced-none c.args.trail.now;
+  watching = c.requires.watching;
+  loose = refl;
+  todo = todo-start c.args.trail.now c.args.watches.now.loose.items (rows c.args.watches.now.lists.items) c.args.watches.now.pairs.items c.args.w c.args.head c.requires.watching;
+}
+
+pub look_at-requires-clause-attached : goal.look_at-requires-clause-attached
+look_at-requires-clause-attached c = let P : Seen → Type 0 = λ z. AreLive c.args.arena.now z in subst P (sym c.list.invariant.forced.attached) c.requires.attached
+
+pub overflow_add-i : goal.overflow_add-i
+overflow_add-i c = omega (arith, c.in-Some.ensures.bound)
+
+pub list-preserved : goal.list-preserved
+list-preserved c =
+    let R = row_at (rows c.list.watches.lists.items) (code_of c.args.w) in
+    let same : row_at (rows c.deref.result.now) c.code-place.result ≡ R = ap (λ z. row_at (rows z) c.code-place.result) c.deref.ensures.value ∙ ap (λ z. row_at (rows c.list.watches.lists.items) z) c.code-place.ensures in
+    let v = c.look_at.new.trail in
+    let loose = c.look_at.new.watches.loose.items in
+    let pairs = c.look_at.new.watches.pairs.items in
+    let new = rows c.look_at.new.watches.lists.items in
+    let here : c.in-Some.id ≡ get_or (row_at new (code_of c.args.w)) c.list.i 0 = c.in-Some.ensures.some.1 ∙ ap (λ z. get_or z c.list.i 0) (same ∙ sym c.look_at.ensures.row) in
+    let T : List ℕ → Type 0 = λ z. Todo v loose pairs c.args.w (drop c.list.i z) in
+    let todo : T (row_at new (code_of c.args.w)) = subst T (sym c.look_at.ensures.row) (c.look_at.ensures.todo (drop c.list.i R) c.list.invariant.todo) in
+    let L : Visit → Type 0 = λ z. Looked v loose pairs c.args.arena.now c.args.w c.in-Some.id z in
+    record {
+      is_false = forced-held c.list.trail v (opposite c.args.w) c.look_at.ensures.forced c.list.invariant.is_false;
+      trail = c.look_at.ensures.trail;
+      forced = forced-then c.args.trail.now c.list.trail v c.list.invariant.forced c.look_at.ensures.forced;
+      watching = c.look_at.ensures.watching;
+      loose = c.look_at.ensures.loose ∙ c.list.invariant.loose;
+      todo = todo-next v loose pairs c.args.w (row_at new (code_of c.args.w)) c.list.i c.in-Some.id here (subst L c.in-Kept.is c.in_ok-look_at.ensures.looked) todo;
+    }
+
+pub list-preserved-in-Gone : goal.list-preserved-in-Gone
+list-preserved-in-Gone c =
+    let R = row_at (rows c.list.watches.lists.items) (code_of c.args.w) in
+    let same : row_at (rows c.deref.result.now) c.code-place.result ≡ R = ap (λ z. row_at (rows z) c.code-place.result) c.deref.ensures.value ∙ ap (λ z. row_at (rows c.list.watches.lists.items) z) c.code-place.ensures in
+    let v = c.look_at.new.trail in
+    let loose = c.look_at.new.watches.loose.items in
+    let pairs = c.look_at.new.watches.pairs.items in
+    let new = rows c.look_at.new.watches.lists.items in
+    let here : c.in-Some.id ≡ get_or (row_at new (code_of c.args.w)) c.list.i 0 = c.in-Some.ensures.some.1 ∙ ap (λ z. get_or z c.list.i 0) (same ∙ sym c.look_at.ensures.row) in
+    let T : List ℕ → Type 0 = λ z. Todo v loose pairs c.args.w (drop c.list.i z) in
+    let todo : T (row_at new (code_of c.args.w)) = subst T (sym c.look_at.ensures.row) (c.look_at.ensures.todo (drop c.list.i R) c.list.invariant.todo) in
+    let L : Visit → Type 0 = λ z. Looked v loose pairs c.args.arena.now c.args.w c.in-Some.id z in
+    let not = subst L c.in-Gone.is c.in_ok-look_at.ensures.looked in
+    let C : ℕ → Type 0 = λ z. IsCut new (rows c.cut_id.new.lists.items) z c.list.i in
+    let cut : C (code_of c.args.w) = subst C c.code-place.ensures c.cut_id.ensures in
+    record {
+      is_false = forced-held c.list.trail v (opposite c.args.w) c.look_at.ensures.forced c.list.invariant.is_false;
+      trail = c.look_at.ensures.trail;
+      forced = forced-then c.args.trail.now c.list.trail v c.list.invariant.forced c.look_at.ensures.forced;
+      loose = c.look_at.ensures.loose ∙ c.list.invariant.loose;
+      watching = watching-cut v loose pairs c.args.w new (rows c.cut_id.new.lists.items) c.list.i c.in-Some.id c.args.head here not cut c.look_at.ensures.watching;
+      todo = todo-cut v loose pairs c.args.w new (rows c.cut_id.new.lists.items) c.list.i c.in-Some.id here not cut todo;
+    }
+
+pub cut_id-requires : goal.cut_id-requires
+cut_id-requires c =
+    let R = row_at (rows c.list.watches.lists.items) (code_of c.args.w) in
+    let same : row_at (rows c.deref.result.now) c.code-place.result ≡ R = ap (λ z. row_at (rows z) c.code-place.result) c.deref.ensures.value ∙ ap (λ z. row_at (rows c.list.watches.lists.items) z) c.code-place.ensures in
+    let a = ap length same in
+    let b = ap length c.look_at.ensures.row in
+    let p = ap (λ z. length (row_at (rows c.look_at.new.watches.lists.items) z)) c.code-place.ensures in
+    let h = c.in-Some.ensures.some.0 in
+    omega arith
+
+pub list-smaller-in-Gone : goal.list-smaller-in-Gone
+list-smaller-in-Gone c =
+    let R = row_at (rows c.list.watches.lists.items) (code_of c.args.w) in
+    let same : row_at (rows c.deref.result.now) c.code-place.result ≡ R = ap (λ z. row_at (rows z) c.code-place.result) c.deref.ensures.value ∙ ap (λ z. row_at (rows c.list.watches.lists.items) z) c.code-place.ensures in
+    let a = ap length same in
+    let b = ap length c.look_at.ensures.row in
+    let p = ap (λ z. length (row_at (rows c.look_at.new.watches.lists.items) z)) c.code-place.ensures in
+    let q = ap (λ z. length (row_at (rows c.cut_id.new.lists.items) z)) c.code-place.ensures in
+    let h = c.in-Some.ensures.some.0 in
+    let s = c.cut_id.ensures.shorter in
+    omega arith
+
+pub list-smaller : goal.list-smaller
+list-smaller c =
+    let R = row_at (rows c.list.watches.lists.items) (code_of c.args.w) in
+    let same : row_at (rows c.deref.result.now) c.code-place.result ≡ R = ap (λ z. row_at (rows z) c.code-place.result) c.deref.ensures.value ∙ ap (λ z. row_at (rows c.list.watches.lists.items) z) c.code-place.ensures in
+    let a = ap length same in
+    let b = ap length c.look_at.ensures.row in
+    let h = c.in-Some.ensures.some.0 in
+    omega arith
+
+pub returns-in_err-look_at-clause-forced : goal.returns-in_err-look_at-clause-forced
+returns-in_err-look_at-clause-forced c = forced-then c.args.trail.now c.list.trail c.look_at.new.trail c.list.invariant.forced c.look_at.ensures.forced
+
+pub returns-in-False-clause-forced : goal.returns-in-False-clause-forced
+returns-in-False-clause-forced c = forced-then c.args.trail.now c.list.trail c.look_at.new.trail c.list.invariant.forced c.look_at.ensures.forced
+
+pub returns-clause-next : goal.returns-clause-next
+returns-clause-next c =
+    let R = row_at (rows c.list.watches.lists.items) (code_of c.args.w) in
+    let same : row_at (rows c.deref.result.now) c.code-place.result ≡ R = ap (λ z. row_at (rows z) c.code-place.result) c.deref.ensures.value ∙ ap (λ z. row_at (rows c.list.watches.lists.items) z) c.code-place.ensures in
+    let v = c.list.trail in
+    let f = c.list.invariant.forced in
+    let w = c.requires.within in
+    let n = forced-length c.args.trail.now v f in
+    let a = ap length same in
+    let d = c.in_default.ensures.none in
+    let lit = ap (λ (s : Step). s.lit) (forced-at c.args.trail.now v c.args.head no_step f w) ∙ c.requires.there no_step in
+    let level = ap (λ (s : Step). s.level) (forced-at c.args.trail.now v c.args.head no_step f w) ∙ c.requires.level no_step ∙ sym (forced-depth c.args.trail.now v f) in
+    watching-next v c.list.watches.loose.items (rows c.list.watches.lists.items) c.list.watches.pairs.items c.args.w (drop c.list.i R) c.args.head no_step c.list.invariant.watching c.list.invariant.todo (λ k m. among-end R c.list.i k (omega arith) m) (omega arith) lit level

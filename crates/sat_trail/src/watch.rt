@@ -1,0 +1,406 @@
+ghost use Rattle.std.specs.Prelude.{◌≡◌, ◌++◌, ◌∷◌, [], ◌<◌, ◌≤◌, ◌+◌, ◌⊎◌, ℕ, List, true, false, length, IfOk, OnOk, OnErr, IfSome, IfNone, Some, None, IsSome, MatchOption, take, drop, slice_get, slice_index_or};
+ghost use Rattle.sat_clause.specs.Clauses.{opposite, live_clause};
+ghost use Rattle.sat_clause.specs.Hints.{same_lit, is_held};
+ghost use Rattle.sat_clause.specs.Closed.{IsClosed};
+ghost use Rattle.sat_trail.specs.Trails.{lits, IsTrail, AllIn, depth};
+ghost use Rattle.sat_trail.specs.Attached.{AreLive, attached_clause};
+ghost use Rattle.sat_trail.specs.Forced.{IsForced, VarsUpTo};
+ghost use Rattle.sat_trail.specs.Walks.{IsConflict};
+ghost use Rattle.sat_trail.specs.Watches.{code_of, row_at, edit, rows, IsCut, other_in, IsWatching, IsOpenPair, IsLooseOrWatched, Todo, Looked};
+ghost use Rattle.sat_trail.specs.Scans.{Says};
+ghost use Rattle.sat_trail.specs.Settled.{IsSettled};
+
+use crate::assigned::Assigned;
+use crate::found::{Look, Next, Visit};
+use crate::pair::Pair;
+use crate::scan::{look, scan, scan_among};
+use crate::settled::{Settled, unsettled};
+use crate::walk::{negated, same};
+use sat_clause::{Arena, Lit};
+use std::alloc::{AllocError, Global};
+
+/// Two literals of each clause, the clauses of each literal, and clauses that are looked at each time.
+#[derive(Drop)]
+pub struct Watches {
+    /// The two literals by which each clause is watched.
+    pub pairs: Vec<Pair>,
+    /// For each clause the place from which on another literal is looked for.
+    pub starts: Vec<usize>,
+    /// For each literal the clauses that it watches. Some may no longer be watched by it.
+    pub lists: Vec<Vec<u64>>,
+    /// Clauses that are not watched.
+    pub loose: Vec<u64>,
+}
+
+/// The place of a literal's list.
+pub fn code(l: Lit) -> usize
+    ensures { result ≡ code_of l }
+{
+    let twice = l.var as usize * 2;
+    if l.negated { twice + 1 } else { twice }
+}
+
+/// Puts a clause at the end of a list.
+pub fn put_id(lists: &mut Vec<Vec<u64>>, place: usize, id: u64) -> Result<(), AllocError>
+    requires { place < length lists.old.items }
+    ensures ok { OnOk result (rows lists.new.items ≡ edit (λ r. r ++ id ∷ []) (rows lists.old.items) place) }
+    ensures err { OnErr result (rows lists.new.items ≡ rows lists.old.items) }
+{
+    lists[place].push(id)?;
+    Ok(())
+}
+
+/// Takes a clause out of a list. The last one takes its place.
+fn cut_id(lists: &mut Vec<Vec<u64>>, place: usize, i: usize)
+    requires { i < length (row_at (rows lists.old.items) place) }
+    ensures { IsCut (rows lists.old.items) (rows lists.new.items) place i }
+{
+    lists[place].swap_remove(i);
+}
+
+/// The number at an index of a list.
+fn listed(lists: &[Vec<u64>], place: usize, i: usize) -> Option<u64>
+    ensures some { IfSome result (λ id. (i < length (row_at (rows lists.now) place)) × (id ≡ slice_index_or (row_at (rows lists.now) place) i 0)) }
+    ensures none { IfNone result (length (row_at (rows lists.now) place) ≤ i) }
+    ensures bound { IfSome result (λ _. i + 1 < 18446744073709551616) }
+{
+    let Some(list) = lists.get(place) else {
+        return None;
+    };
+    if i < list.len() { Some(list[i]) } else { None }
+}
+
+/// The other literal of a clause's pair, where this is one of them.
+fn other_watch(pairs: &[Pair], id: u64, w: Lit) -> Option<Lit>
+    ensures { result ≡ other_in (slice_get pairs.now id) w }
+{
+    match pairs.get(id as usize) {
+        None => None,
+        Some(pair) => {
+            if same(pair.first, w) {
+                Some(pair.second)
+            } else if same(pair.second, w) {
+                Some(pair.first)
+            } else {
+                None
+            }
+        }
+    }
+}
+
+/// A literal of the clause other than one, that isn't false. Its place is written down.
+fn open_literal(trail: &Assigned, clause: &[Lit], other: Lit, place: &mut usize) -> Option<Lit>
+    ensures member { IfSome result (λ l. is_held clause.now l ≡ true) }
+    ensures apart { IfSome result (λ l. same_lit l other ≡ false) }
+    ensures not_false { IfSome result (λ l. is_held (lits trail.now.steps) (opposite l) ≡ false) }
+    ensures none { IfNone result ((l : _) → is_held clause.now l ≡ true → same_lit l other ≡ false → is_held (lits trail.now.steps) (opposite l) ≡ true) }
+{
+    for (i, l) in clause.iter().enumerate() {
+        if !trail.holds(negated(*l)) && !same(*l, other) {
+            *place = i;
+            return Some(*l);
+        }
+    }
+    None
+}
+
+/// The literals of a clause before a place.
+fn before(clause: &[Lit], place: usize) -> &[Lit]
+    requires { place ≤ length clause.now }
+    ensures { result.now ≡ take place clause.now }
+{
+    &clause[..place]
+}
+
+/// The literals of a clause from a place on.
+fn from_place(clause: &[Lit], place: usize) -> &[Lit]
+    requires { place ≤ length clause.now }
+    ensures { result.now ≡ drop place clause.now }
+{
+    &clause[place..]
+}
+
+/// A literal of the clause other than one, that isn't false. The search begins where the last one ended.
+fn replacement(trail: &Assigned, clause: &[Lit], other: Lit, start: &mut usize) -> Option<Lit>
+    ensures member { IfSome result (λ l. is_held clause.now l ≡ true) }
+    ensures apart { IfSome result (λ l. same_lit l other ≡ false) }
+    ensures not_false { IfSome result (λ l. is_held (lits trail.now.steps) (opposite l) ≡ false) }
+    ensures none { IfNone result ((l : _) → is_held clause.now l ≡ true → same_lit l other ≡ false → is_held (lits trail.now.steps) (opposite l) ≡ true) }
+{
+    let first = if *start < clause.len() { *start } else { 0 };
+    let mut place = 0;
+    if let Some(l) = open_literal(trail, from_place(clause, first), other, &mut place) {
+        *start = first.saturating_add(place);
+        return Some(l);
+    }
+    open_literal(trail, before(clause, first), other, start)
+}
+
+/// Where the search for a literal of a clause begins.
+fn start_of(starts: &[usize], id: u64) -> usize {
+    match starts.get(id as usize) {
+        Some(start) => *start,
+        None => 0,
+    }
+}
+
+/// Remembers where the search for a literal of a clause begins. Where there is no memory it does not.
+fn set_start(starts: &mut Vec<usize>, id: u64, start: usize) {
+    'far: while starts.len() as u64 <= id {
+        if starts.push(0).is_err() {
+            return;
+        }
+    }
+    starts[id as usize] = start;
+}
+
+/// Watches a clause by this pair from now on.
+fn set_pair(pairs: &mut Vec<Pair>, id: u64, pair: Pair)
+    requires { id < length pairs.old.items }
+    ensures same { (k : ℕ) → (k ≡ id → ⊥) → slice_get pairs.new.items k ≡ slice_get pairs.old.items k }
+    ensures there { slice_get pairs.new.items id ≡ Some pair }
+{
+    pairs[id as usize] = pair;
+}
+
+/// Looks at a clause that a literal watches which has become false: watches it by another one, or adds what it forces.
+fn look_at(
+    trail: &mut Assigned,
+    watches: &mut Watches,
+    arena: &Arena,
+    w: Lit,
+    head: usize,
+    id: u64,
+) -> Result<Visit, AllocError>
+    requires attached { AreLive arena.now trail.old.attached }
+    requires trail { IsTrail arena.now trail.old.steps }
+    requires in_vars { VarsUpTo arena.now trail.old.vars }
+    requires watching { IsWatching trail.old watches.old.loose.items (rows watches.old.lists.items) watches.old.pairs.items head }
+    requires is_false { is_held (lits trail.old.steps) (opposite w) ≡ true }
+    ensures trail { IsTrail arena.now trail.new.steps }
+    ensures forced { IsForced trail.old trail.new }
+    ensures watching { IsWatching trail.new watches.new.loose.items (rows watches.new.lists.items) watches.new.pairs.items head }
+    ensures loose { watches.new.loose.items ≡ watches.old.loose.items }
+    ensures row { row_at (rows watches.new.lists.items) (code_of w) ≡ row_at (rows watches.old.lists.items) (code_of w) }
+    ensures todo { (left : List ℕ) → Todo trail.old watches.old.loose.items watches.old.pairs.items w left → Todo trail.new watches.new.loose.items watches.new.pairs.items w left }
+    ensures looked { IfOk result (Looked trail.new watches.new.loose.items watches.new.pairs.items arena.now w id) }
+{
+    let Some(other) = other_watch(&watches.pairs, id, w) else {
+        return Ok(Visit::Gone);
+    };
+    let _ = trail.steps();
+    if trail.holds(other) {
+        return Ok(Visit::Kept);
+    }
+    if !arena.live(id) {
+        return Ok(Visit::Gone);
+    }
+    let clause = arena.clause(id);
+    let mut start = start_of(&watches.starts, id);
+    if let Some(l) = replacement(trail, clause, other, &mut start) {
+        put_id(&mut watches.lists, code(l), id)?;
+        set_pair(
+            &mut watches.pairs,
+            id,
+            Pair {
+                first: l,
+                second: other,
+            },
+        );
+        set_start(&mut watches.starts, id, start);
+        return Ok(Visit::Gone);
+    }
+    match look(trail, clause) {
+        Look::Quiet => Ok(Visit::Kept),
+        Look::False => Ok(Visit::False),
+        Look::Unit(l) => {
+            trail.force(l, id);
+            Ok(Visit::Kept)
+        }
+    }
+}
+
+/// Looks at each clause that a literal watches which has become false. The answer is a clause that is false.
+fn look_at_all(
+    trail: &mut Assigned,
+    watches: &mut Watches,
+    arena: &Arena,
+    w: Lit,
+    head: usize,
+) -> Result<Option<u64>, AllocError>
+    requires attached { AreLive arena.now trail.old.attached }
+    requires trail { IsTrail arena.now trail.old.steps }
+    requires in_vars { VarsUpTo arena.now trail.old.vars }
+    requires watching { IsWatching trail.old watches.old.loose.items (rows watches.old.lists.items) watches.old.pairs.items head }
+    requires within { head < length trail.old.steps }
+    requires there { (d : _) → (slice_index_or trail.old.steps head d).lit ≡ opposite w }
+    requires level { (d : _) → (slice_index_or trail.old.steps head d).level ≡ depth trail.old.steps }
+    ensures trail { IsTrail arena.now trail.new.steps }
+    ensures forced { IsForced trail.old trail.new }
+    ensures watching { IsWatching trail.new watches.new.loose.items (rows watches.new.lists.items) watches.new.pairs.items head }
+    ensures loose { watches.new.loose.items ≡ watches.old.loose.items }
+    ensures next { IfOk result (λ o. IfNone o (IsWatching trail.new watches.new.loose.items (rows watches.new.lists.items) watches.new.pairs.items (head + 1))) }
+    ensures found { IfOk result (λ o. IfSome o (IsConflict arena.now (lits trail.new.steps))) }
+{
+    let place = code(w);
+    let mut i = 0;
+    'list: while let Some(id) = listed(&watches.lists, place, i) {
+        match look_at(trail, watches, arena, w, head, id)? {
+            Visit::Gone => cut_id(&mut watches.lists, place, i),
+            Visit::Kept => i += 1,
+            Visit::False => return Ok(Some(id)),
+        }
+    }
+    Ok(None)
+}
+
+/// The opposite of the literal at a place of the trail, where it is of the last level.
+fn next_false(trail: &Assigned, head: usize) -> Option<Lit>
+    ensures within { IfSome result (λ _. head < length trail.now.steps) }
+    ensures bound { IfSome result (λ _. head < trail.now.vars) }
+    ensures there { IfSome result (λ w. (d : _) → (slice_index_or trail.now.steps head d).lit ≡ opposite w) }
+    ensures level { IfSome result (λ _. (d : _) → (slice_index_or trail.now.steps head d).level ≡ depth trail.now.steps) }
+{
+    let depth = trail.depth();
+    let steps = trail.steps();
+    if head < steps.len() {
+        let step = steps[head];
+        if step.level == depth {
+            return Some(negated(step.lit));
+        }
+    }
+    None
+}
+
+/// Looks at the clauses of one literal after another, while these are of the last level. The answer is a clause that is false.
+fn advance(
+    trail: &mut Assigned,
+    watches: &mut Watches,
+    head: &mut usize,
+    arena: &Arena,
+) -> Result<Option<u64>, AllocError>
+    requires attached { AreLive arena.now trail.old.attached }
+    requires trail { IsTrail arena.now trail.old.steps }
+    requires in_vars { VarsUpTo arena.now trail.old.vars }
+    requires watching { IsWatching trail.old watches.old.loose.items (rows watches.old.lists.items) watches.old.pairs.items head.old }
+    ensures trail { IsTrail arena.now trail.new.steps }
+    ensures forced { IsForced trail.old trail.new }
+    ensures watching { IsWatching trail.new watches.new.loose.items (rows watches.new.lists.items) watches.new.pairs.items head.new }
+    ensures loose { watches.new.loose.items ≡ watches.old.loose.items }
+    ensures found { IfOk result (λ o. IfSome o (IsConflict arena.now (lits trail.new.steps))) }
+{
+    'ahead: while let Some(w) = next_false(trail, *head) {
+        if let Some(id) = look_at_all(trail, watches, arena, w, *head)? {
+            return Ok(Some(id));
+        }
+        *head += 1;
+    }
+    Ok(None)
+}
+
+/// What is found without the watches: in the loose clauses that are not settled, or in all of them where a literal of a lower level is still to be looked at.
+fn rest(trail: &Assigned, watches: &Watches, settled: Settled, head: usize, arena: &Arena) -> Next
+    requires attached { AreLive arena.now trail.now.attached }
+    requires trail { IsTrail arena.now trail.now.steps }
+    requires watching { IsWatching trail.now watches.now.loose.items (rows watches.now.lists.items) watches.now.pairs.items head }
+    requires settled { IsSettled trail.now watches.now.loose.items settled.count settled.top }
+    ensures { Says arena.now (lits trail.now.steps) result }
+{
+    if head < trail.steps().len() {
+        return scan(trail, arena);
+    }
+    scan_among(trail, arena, unsettled(&watches.loose, settled.count))
+}
+
+/// Adds what the live clauses force, until one of them is false or nothing more is forced.
+pub fn propagate_all(
+    trail: &mut Assigned,
+    watches: &mut Watches,
+    settled: Settled,
+    head: &mut usize,
+    arena: &Arena,
+) -> Result<Option<u64>, AllocError>
+    requires attached { AreLive arena.now trail.old.attached }
+    requires trail { IsTrail arena.now trail.old.steps }
+    requires in_vars { VarsUpTo arena.now trail.old.vars }
+    requires watching { IsWatching trail.old watches.old.loose.items (rows watches.old.lists.items) watches.old.pairs.items head.old }
+    requires settled { IsSettled trail.old watches.old.loose.items settled.count settled.top }
+    ensures trail { IsTrail arena.now trail.new.steps }
+    ensures forced { IsForced trail.old trail.new }
+    ensures watching { IsWatching trail.new watches.new.loose.items (rows watches.new.lists.items) watches.new.pairs.items head.new }
+    ensures loose { watches.new.loose.items ≡ watches.old.loose.items }
+    ensures closed { IfOk result (λ r. MatchOption r (IsClosed arena.now (lits trail.new.steps)) (IsConflict arena.now (lits trail.new.steps))) }
+{
+    'forced: loop {
+        if let Some(id) = advance(trail, watches, head, arena)? {
+            return Ok(Some(id));
+        }
+        match rest(trail, watches, settled, *head, arena) {
+            Next::Closed => return Ok(None),
+            Next::False(id) => return Ok(Some(id)),
+            Next::Unit(l, id) => trail.force(l, id),
+        }
+    }
+}
+
+/// Makes the list of pairs reach up to a number.
+fn reach(pairs: &mut Vec<Pair>, id: u64, pair: Pair) -> Result<(), AllocError>
+    ensures same { (k : ℕ) (p : _) → slice_get pairs.old.items k ≡ Some p → slice_get pairs.new.items k ≡ Some p }
+    ensures ok { OnOk result (id < length pairs.new.items) }
+{
+    'far: while pairs.len() as u64 <= id {
+        pairs.push(pair)?;
+    }
+    Ok(())
+}
+
+/// Two literals of a clause that aren't false.
+fn choose(trail: &Assigned, clause: &[Lit]) -> Option<Pair>
+    ensures { IfSome result (λ p. IsOpenPair clause.now (lits trail.now.steps) p) }
+{
+    let nowhere = Lit {
+        var: 0,
+        negated: false,
+    };
+    let mut place = 0;
+    let second = open_literal(trail, clause, nowhere, &mut place)?;
+    let first = open_literal(trail, clause, second, &mut place)?;
+    Some(Pair { first, second })
+}
+
+/// Watches a clause of this number, or keeps it among the loose ones.
+pub fn watch(
+    trail: &Assigned,
+    watches: &mut Watches,
+    _head: usize,
+    clause: &[Lit],
+    id: u64,
+) -> Result<(), AllocError>
+    requires watching { IsWatching trail.now watches.old.loose.items (rows watches.old.lists.items) watches.old.pairs.items _head }
+    requires apart { attached_clause trail.now.attached id ≡ None }
+    requires in_vars { AllIn trail.now.vars clause.now }
+    ensures watching { IsWatching trail.now watches.new.loose.items (rows watches.new.lists.items) watches.new.pairs.items _head }
+    ensures loose { (watches.new.loose.items ≡ watches.old.loose.items) ⊎ (watches.new.loose.items ≡ watches.old.loose.items ++ id ∷ []) }
+    ensures ok { OnOk result (IsLooseOrWatched clause.now id watches.new.loose.items (rows watches.new.lists.items) watches.new.pairs.items (take _head trail.now.steps) trail.now.steps) }
+{
+    let Some(pair) = choose(trail, clause) else {
+        watches.loose.push(id)?;
+        return Ok(());
+    };
+    reach(&mut watches.pairs, id, pair)?;
+    put_id(&mut watches.lists, code(pair.first), id)?;
+    put_id(&mut watches.lists, code(pair.second), id)?;
+    set_pair(&mut watches.pairs, id, pair);
+    Ok(())
+}
+
+/// This many lists, with nothing in them.
+pub fn empty_lists(alloc: Global, count: usize) -> Result<Vec<Vec<u64>>, AllocError>
+    ensures { IfOk result (λ lists. length (rows lists.items) ≡ count) }
+{
+    let mut lists = Vec::with_capacity(alloc, count)?;
+    'more: while lists.len() < count {
+        lists.push(Vec::new(alloc))?;
+    }
+    Ok(lists)
+}
