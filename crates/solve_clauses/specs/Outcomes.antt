@@ -1,9 +1,10 @@
 -- How a run ends.
-use Rattle.std.specs.Prelude.{ℕ, ◌≡◌, ◌≤◌, true, List, [], ◌∷◌, ◌++◌, length, flat_map, codes, decimal, Option, Some, None, Result, Ok, Err, ◌⊎◌}
-use Rattle.sat_clause.specs.Clauses.{Store}
+use Rattle.std.specs.Prelude.{ℕ, ◌≡◌, ◌≤◌, List, [], ◌∷◌, ◌++◌, flat_map, codes, decimal, Option, Some, None, Result, Ok, Err, IsSome, ◌⊎◌}
+use Rattle.std.proofs.Common.{inl, inr}
+use Rattle.sat_clause.specs.Clauses.{Store, live_clause}
 use Rattle.sat_clause.specs.Hints.{follow_of}
 use Rattle.sat_clause.specs.declared.follow.Follow.TheVariants.{Yes}
-use Rattle.sat_core.specs.Lines.{Derived, text_of}
+use Rattle.sat_core.specs.Lines.{Entry, entry_text, after_entry, derive_count}
 use Rattle.sat_core.specs.Listing.{text_of_line}
 use Rattle.sat_core.specs.Models.{IsModel, HasNoModel}
 use Rattle.sat_core.specs.declared.listed.Line.{Line}
@@ -14,19 +15,24 @@ use Rattle.solve_clauses.specs.declared.outcome.Outcome.{Outcome}
 use Rattle.solve_clauses.specs.declared.outcome.Outcome.TheVariants.{Sat, Unsat, Spent, DoesNotFollow, Text, Memory, Usage, File, TooLong}
 use Rattle.solve_clauses.specs.Replays.{fault_from}
 
--- each clause follows from those before it
-abbrev pub AllFollow : Store → List Derived → Type 0
-AllFollow store [] = Unit {0}
-AllFollow store (d ∷ ds) = (follow_of store d.0 d.1 ≡ Yes) × AllFollow (store ++ (d.0, true) ∷ []) ds
+-- a derived clause follows, or a forgotten one is live
+abbrev pub Follows : Store → Entry → Type 0
+Follows store (inl d) = follow_of store d.0 d.1 ≡ Yes
+Follows store (inr id) = IsSome (live_clause store id)
 
--- so many lines were derived, each of which follows; the lines that are kept have their text, and this is the first of them
--- that the check found at fault, if one is
+-- so it is with each entry, over the clauses after those before it
+abbrev pub AllFollow : Store → List Entry → Type 0
+AllFollow store [] = Unit {0}
+AllFollow store (e ∷ es) = Follows store e × AllFollow (after_entry store e) es
+
+-- so many lines were derived, each of which follows, and live clauses were forgotten; the lines that are kept have their text,
+-- and this is the first of them that the check found at fault, if one is
 pub record AreRecorded (store : Store) (lines : ℕ) (fault : Option ℕ) : Type 0 where
-  pub derived : List Derived
+  pub entries : List Entry
   pub listed : List Line
-  pub count : length derived ≡ lines
-  pub follow : AllFollow store derived
-  pub text : flat_map text_of_line listed ≡ flat_map text_of derived
+  pub count : derive_count entries ≡ lines
+  pub follow : AllFollow store entries
+  pub text : flat_map text_of_line listed ≡ flat_map entry_text entries
   pub checked : fault_from store 1 listed ≡ fault
 
 -- what an answer and the number of derived lines tell; a recorder without a limit is never full
