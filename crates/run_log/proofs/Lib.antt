@@ -1,5 +1,6 @@
 pub mod Lines
 pub mod Accepted
 pub mod Appending
-pub mod Forgetting
+pub mod Denying
 pub mod Searched
+pub mod Staying

@@ -14,7 +14,7 @@ use Rattle.rail_cone.specs.declared.Cone.{Cone}
 use Rattle.rail_cone.specs.declared.ConeTrain.{ConeTrain}
 use Rattle.sat_clause.specs.declared.lit.Lit.{Lit}
 use Rattle.sat_core.specs.Texts.{ended}
-use Rattle.proof_log.specs.declared.line.Line.TheVariants.{Derive, Refute}
+use Rattle.proof_log.specs.declared.line.Line.TheVariants.{Derive, Refute, Forget}
 use Rattle.proof_log.specs.Words.{greatest_variable, greatest_clause_number, is_from_1_to, is_small}
 use Rattle.proof_log.specs.Parts.{has_member, is_nothing}
 use Rattle.proof_log.specs.Lines.{is_increasing}
@@ -113,6 +113,13 @@ line-apart clause hints h =
     let literals : list_all is_one_line (map literal_word clause) ≡ true = all-words literal_word (λ l. is_from_1_to greatest_variable l.var) (λ l g. literal-apart l.var l.negated g) clause q.1 in
     let numbers : list_all is_one_line (list_words decimal hints) ≡ true = list-apart decimal (is_from_1_to greatest_clause_number) (λ n g. from-1 greatest_clause_number n (lit< tt) g) hints p.1 in
     joined (codes "d") (map literal_word clause ++ codes "0" ∷ list_words decimal hints) refl (append-apart (map literal_word clause) (codes "0" ∷ list_words decimal hints) literals numbers)
+
+-- ---- the line of forgotten clauses is one line
+
+pub forget-apart : (ids : List ℕ) → keeps_grammar (Forget ids) ≡ true → is_one_line (text_of_line (Forget ids)) ≡ true
+forget-apart ids h =
+    let p = both (has_member ids) (list_all (is_from_1_to greatest_clause_number) ids) h in
+    joined (codes "x") (list_words decimal ids) refl (list-apart decimal (is_from_1_to greatest_clause_number) (λ n g. from-1 greatest_clause_number n (lit< tt) g) ids p.1)
 
 -- ---- the line of a cone is one line
 

@@ -1,49 +1,70 @@
--- The text of a search for a plan of n steps: the head, and a line for each derived clause and for each cone.
-use Rattle.std.specs.Prelude.{ℕ, ◌≡◌, Bool, true, false, List, [], ◌∷◌, ◌++◌, filter, flat_map, length, nat_le, Some, Result, Ok, ◌⊎◌}
+-- The text of a search for a plan of n steps: the head, and a line for each clause that is derived or forgotten, and for each cone.
+use Rattle.std.specs.Prelude.{ℕ, ◌≡◌, ◌+◌, ◌-◌, Bool, true, false, List, [], ◌∷◌, ◌++◌, filter, flat_map, length, nat_le, Some, Result, Ok, ◌⊎◌}
+use Rattle.std.proofs.Common.{inl, inr}
 use Rattle.std.specs.List.{list_all}
 use Rattle.rail_cone.specs.declared.Cone.{Cone}
 use Rattle.rail_cone.specs.declared.ConeFault.{ConeFault}
 use Rattle.sat_clause.specs.declared.lit.Lit.{Lit}
 use Rattle.sat_clause.specs.declared.follow.Follow.TheVariants.{Yes}
-use Rattle.sat_clause.specs.Clauses.{Store}
+use Rattle.sat_clause.specs.Clauses.{Store, live_clause, without}
 use Rattle.sat_clause.specs.Closed.{IsNew}
 use Rattle.sat_clause.specs.Hints.{follow_of}
-use Rattle.sat_core.specs.Lines.{Derived, text_of}
-use Rattle.sat_core.specs.Texts.{ended}
-use Rattle.proof_log.specs.declared.line.Line.TheVariants.{Derive, Refute}
+use Rattle.sat_core.specs.Lines.{Derived, Entry, MayForget, text_of}
+use Rattle.sat_core.specs.Texts.{ended, forget_line}
+use Rattle.proof_log.specs.declared.line.Line.TheVariants.{Derive, Refute, Forget}
 use Rattle.proof_log.specs.Lines.{head}
 use Rattle.proof_log.specs.Text.{keeps_grammar, text_of_line}
 use Rattle.log_checker.specs.Verdict.{steps_denied}
 
 -- ---- lines
 
--- a line of a search: a clause that was derived, or a cone with the clause that it shows
+-- a line of a search: a clause that was derived, the number of one that was forgotten, or a cone with the clause that it shows
 pub data LogLine : Type 0 where
   Learnt : Derived → LogLine
+  Forgot : ℕ → LogLine
   Refuted : Cone → List Lit → LogLine
 
--- its clause
-abbrev pub clause_of : LogLine → List Lit
-clause_of (Learnt d) = d.0
-clause_of (Refuted cone clause) = clause
+-- the line of what a solver records
+abbrev pub line_of : Entry → LogLine
+line_of (inl d) = Learnt d
+line_of (inr id) = Forgot id
 
 -- its text, with its end
 abbrev pub line_text : LogLine → List ℕ
 line_text (Learnt d) = text_of d
+line_text (Forgot id) = forget_line id
 line_text (Refuted cone clause) = ended (text_of_line (Refute cone))
 
 -- the head, and then each line
 abbrev pub log_text : List LogLine → List ℕ
 log_text lines = ended head ++ flat_map line_text lines
 
--- the clauses, and then those of the lines, live
+-- the clauses after a line
+abbrev pub with_line : Store → LogLine → Store
+with_line store (Learnt d) = store ++ (d.0, true) ∷ []
+with_line store (Forgot id) = without store id
+with_line store (Refuted cone clause) = store ++ (clause, true) ∷ []
+
+-- the clauses after all lines
 abbrev pub with_log : Store → List LogLine → Store
 with_log store [] = store
-with_log store (l ∷ ls) = with_log (store ++ (clause_of l, true) ∷ []) ls
+with_log store (l ∷ ls) = with_log (with_line store l) ls
+
+-- the numbers of the derived clauses after a line
+abbrev pub learnt_by : Store → List ℕ → LogLine → List ℕ
+learnt_by store learnt (Learnt d) = learnt ++ length (store ++ (d.0, true) ∷ []) ∷ []
+learnt_by store learnt (Forgot id) = learnt
+learnt_by store learnt (Refuted cone clause) = learnt
+
+-- the numbers of the derived clauses after all lines
+abbrev pub learnt_in : Store → List ℕ → List LogLine → List ℕ
+learnt_in store learnt [] = learnt
+learnt_in store learnt (l ∷ ls) = learnt_in (with_line store l) (learnt_by store learnt l) ls
 
 -- a clause was derived
 abbrev pub is_learnt : LogLine → Bool
 is_learnt (Learnt d) = true
+is_learnt (Forgot id) = false
 is_learnt (Refuted cone clause) = false
 
 -- how many clauses were derived
@@ -54,6 +75,7 @@ learnt_count lines = length (filter is_learnt lines)
 abbrev pub cones_of : List LogLine → List Cone
 cones_of [] = []
 cones_of (Learnt d ∷ ls) = cones_of ls
+cones_of (Forgot id ∷ ls) = cones_of ls
 cones_of (Refuted cone clause ∷ ls) = cone ∷ cones_of ls
 
 -- ---- which lines may stand where
@@ -64,16 +86,31 @@ pub record IsGoodLine (vars : ℕ) (store : Store) (d : Derived) : Type 0 where
   pub written : keeps_grammar (Derive d.0 d.1) ≡ true
   pub within : list_all (λ l. nat_le l.var vars) d.0 ≡ true
 
--- a good line that goes on: its clause is new, and doesn't say that there is no plan of n steps
+-- e(k), the literal that all is given by step k
+abbrev pub by_step : ℕ → ℕ → ℕ → Lit
+by_step vars n k = record { var = vars - n + k; negated = false }
+
+-- the clause says that there is no plan of some number of steps, and no live clause is the same
+pub record IsDenial (vars n : ℕ) (store : Store) (clause : List Lit) : Type 0 where
+  pub steps : ℕ
+  pub denied : steps_denied vars n clause ≡ Some steps
+  pub unknown : (id : ℕ) → live_clause store id ≡ Some clause → ⊥
+
+-- a good line that goes on: its clause is new, or denies some number of steps for the first time, but not n steps
 pub record GoesOn (vars n : ℕ) (store : Store) (d : Derived) : Type 0 where
   pub good : IsGoodLine vars store d
-  pub is_new : IsNew store d.0
+  pub is_new : IsNew store d.0 ⊎ IsDenial vars n store d.0
   pub not_last : steps_denied vars n d.0 ≡ Some n → ⊥
 
 -- a good line that says that there is no plan of n steps
 pub record IsLast (vars n : ℕ) (store : Store) (d : Derived) : Type 0 where
   pub good : IsGoodLine vars store d
   pub last : steps_denied vars n d.0 ≡ Some n
+
+-- a derived clause that may be forgotten, so that at least half of those derived so far stay live
+pub record IsGoodForget (store : Store) (learnt : List ℕ) (id : ℕ) : Type 0 where
+  pub may : MayForget store learnt id
+  pub written : keeps_grammar (Forget (id ∷ [])) ≡ true
 
 -- a cone that shows the clause, and keeps the grammar
 pub record IsGoodCone (refute : Cone → Result (List Lit) ConeFault) (cone : Cone) (clause : List Lit) : Type 0 where
@@ -83,26 +120,27 @@ pub record IsGoodCone (refute : Cone → Result (List Lit) ConeFault) (cone : Co
 -- ---- logs, where these cones are refuted, over a base of clauses of so many variables
 
 module _ (refute : Cone → Result (List Lit) ConeFault) (vars n : ℕ) where
-  -- the line may stand after these clauses
-  abbrev pub MayStand : Store → LogLine → Type 0
-  MayStand store (Learnt d) = GoesOn vars n store d
-  MayStand store (Refuted cone clause) = IsGoodCone refute cone clause
+  -- the line may stand after these clauses, of which those of these numbers were derived
+  abbrev pub MayStand : Store → List ℕ → LogLine → Type 0
+  MayStand store learnt (Learnt d) = GoesOn vars n store d
+  MayStand store learnt (Forgot id) = IsGoodForget store learnt id
+  MayStand store learnt (Refuted cone clause) = IsGoodCone refute cone clause
 
   -- each line may stand after the clauses before it
-  abbrev pub AllGoOn : Store → List LogLine → Type 0
-  AllGoOn store [] = Unit {0}
-  AllGoOn store (l ∷ ls) = MayStand store l × AllGoOn (store ++ (clause_of l, true) ∷ []) ls
+  abbrev pub AllGoOn : Store → List ℕ → List LogLine → Type 0
+  AllGoOn store learnt [] = Unit {0}
+  AllGoOn store learnt (l ∷ ls) = MayStand store learnt l × AllGoOn (with_line store l) (learnt_by store learnt l) ls
 
   -- the bytes are a run log of these lines: the head, and lines that go on
   pub record IsRunLog (base : Store) (lines : List LogLine) (log : List ℕ) : Type 0 where
     pub text : log ≡ log_text lines
-    pub go_on : AllGoOn base lines
+    pub go_on : AllGoOn base [] lines
 
   -- the bytes are a run log of these lines, with the line that ends it
   pub record IsEndedLog (base : Store) (lines : List LogLine) (log : List ℕ) : Type 0 where
     pub last : Derived
     pub text : log ≡ log_text (lines ++ Learnt last ∷ [])
-    pub go_on : AllGoOn base lines
+    pub go_on : AllGoOn base [] lines
     pub is_last : IsLast vars n (with_log base lines) last
 
 -- a derived line that may come next: it goes on, or is the last

@@ -1,6 +1,6 @@
-//! What a finished search shows.
+//! What a search shows, finished or not.
 
-ghost use Rattle.run_log.specs.Laws.{EndedRunsAreAccepted};
+ghost use Rattle.run_log.specs.Laws.{DenialsAreSo, EndedRunsAreAccepted};
 
 use proof_log::lines_read_back;
 
@@ -10,3 +10,8 @@ pub fn ended_runs_are_accepted()
 {
     lines_read_back();
 }
+
+/// A live clause of a run log that says that there is no plan of so many steps is right.
+pub fn denials_are_so()
+    ensures { DenialsAreSo }
+{}

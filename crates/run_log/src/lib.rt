@@ -4,5 +4,5 @@
 mod laws;
 mod text;
 
-pub use laws::ended_runs_are_accepted;
+pub use laws::{denials_are_so, ended_runs_are_accepted};
 pub use text::Text;
