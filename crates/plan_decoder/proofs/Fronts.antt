@@ -1,13 +1,11 @@
 -- A store that begins with the clauses of a base.
-use Rattle.std.proofs.Common.{ℕ, zero, suc, Bool, true, List, [], ◌∷◌, ◌++◌, map, refl, ap, ◌∙◌}
-use Rattle.std.proofs.lemmas.List.{append_assoc}
+use Rattle.std.proofs.Common.{ℕ, zero, suc, Bool, true, List, [], ◌∷◌, ◌++◌, map, refl}
 use Rattle.std.specs.List.{list_all}
 use Rattle.rail_base.proofs.Members.{and_both}
 use Rattle.sat_clause.specs.declared.lit.Lit.{Lit}
 use Rattle.sat_clause.specs.Clauses.{Store, clause_holds}
-use Rattle.sat_core.specs.Lines.{with_lines}
 use Rattle.sat_core.specs.Models.{MakesTrue}
-use Rattle.plan_decoder.specs.Laws.{FrontIsTrue, FrontStays}
+use Rattle.plan_decoder.specs.Laws.{FrontIsTrue}
 
 -- values that make a store true make it true without its first clause
 after : (values : ℕ → Bool) (e : List Lit × Bool) (store : Store) → MakesTrue values (e ∷ store) → MakesTrue values store
@@ -17,7 +15,3 @@ after values e store t (suc i) c live = t (suc (suc i)) c live
 pub front_is_true : FrontIsTrue
 front_is_true values [] rest t = refl
 front_is_true values (c ∷ cs) rest t = and_both (clause_holds values c) (list_all (clause_holds values) cs) (t 1 c refl) (front_is_true values cs rest (after values (c, true) (map (λ c. (c, true)) cs ++ rest) t))
-
-pub front_stays : FrontStays
-front_stays front rest [] = refl
-front_stays front rest (l ∷ ls) = ap (λ s. with_lines s ls) (append_assoc front rest ((l.0, true) ∷ [])) ∙ front_stays front (rest ++ (l.0, true) ∷ []) ls

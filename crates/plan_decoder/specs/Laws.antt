@@ -3,13 +3,8 @@ use Rattle.std.specs.Prelude.{ℕ, ◌≡◌, ◌++◌, Bool, true, List, map}
 use Rattle.std.specs.List.{list_all}
 use Rattle.sat_clause.specs.declared.lit.Lit.{Lit}
 use Rattle.sat_clause.specs.Clauses.{Store, clause_holds}
-use Rattle.sat_core.specs.Lines.{Derived, with_lines}
 use Rattle.sat_core.specs.Models.{MakesTrue}
 
 -- values that make all live clauses of a store true make those clauses true with which it begins
 abbrev pub FrontIsTrue : Type 0
 FrontIsTrue = (values : ℕ → Bool) (clauses : List (List Lit)) (rest : Store) → MakesTrue values (map (λ c. (c, true)) clauses ++ rest) → list_all (clause_holds values) clauses ≡ true
-
--- the lines of a solver come after the clauses with which its store begins
-abbrev pub FrontStays : Type 0
-FrontStays = (front rest : Store) (lines : List Derived) → with_lines (front ++ rest) lines ≡ front ++ with_lines rest lines

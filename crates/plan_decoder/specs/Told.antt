@@ -1,9 +1,9 @@
 -- What values of a base's variables say.
-use Rattle.std.specs.Prelude.{ℕ, ◌-◌, Bool, not, ◌&&◌, List}
+use Rattle.std.specs.Prelude.{ℕ, ◌≡◌, ◌≤◌, ◌-◌, Bool, true, not, ◌&&◌, List, length}
 use Rattle.rail_base.specs.declared.station.Station.{Station}
 use Rattle.rail_base.specs.declared.route.Route.{Route}
 use Rattle.rail_base.specs.declared.plan.Command.{Command}
-use Rattle.plan_clauses.specs.Variables.{Variable, number_of}
+use Rattle.plan_clauses.specs.Variables.{Variable, By, number_of}
 use Rattle.plan_clauses.specs.Models.{given_by}
 use Rattle.sat_core.specs.Models.{value_in}
 
@@ -15,3 +15,7 @@ module _ (d : Station) (routes : List Route) (n : ℕ) (values : List Bool) wher
   -- a command is given by a step and not by the one before
   abbrev pub is_new : ℕ → Command → Bool
   is_new i c = given_by says c i && not (given_by says c (i - 1))
+
+  -- where the values say that all is given by step k, there are at most k steps
+  abbrev pub EndsAsSaid : List (List Command) → Type 0
+  EndsAsSaid steps = (k : ℕ) → 1 ≤ k → k ≤ n → says (By k) ≡ true → length steps ≤ k

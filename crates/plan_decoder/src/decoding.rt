@@ -12,7 +12,7 @@ ghost use Rattle.plan_clauses.specs.Clauses.{base_clauses};
 ghost use Rattle.plan_clauses.specs.Laws.{Agrees};
 ghost use Rattle.plan_clauses.specs.Models.{cut_off, decoded, given_by, given_in, model_of};
 ghost use Rattle.plan_encoding.specs.Bases.{HasCommand, IsBaseOf};
-ghost use Rattle.plan_decoder.specs.Told.{is_new, says};
+ghost use Rattle.plan_decoder.specs.Told.{EndsAsSaid, is_new, says};
 
 use plan_encoding::Base;
 use rail_base::list::List;
@@ -137,6 +137,7 @@ pub fn decode(alloc: Global, base: &Base, values: &Assignment) -> Result<Plan, A
     ensures value { (d : Station) (routes : List Route) (n : ℕ) → IsBaseOf d routes n base.now → IfOk result (λ plan. plan.steps ≡ decoded d routes n (value_in values.now)) }
     ensures runnable { (d : Station) (routes : List Route) (n : ℕ) → IsBaseOf d routes n base.now → 1 ≤ n → list_all (clause_holds (value_in values.now)) (base_clauses d routes n) ≡ true → IfOk result (λ plan. IsRunnable d routes n plan.steps) }
     ensures agrees { (d : Station) (routes : List Route) (n : ℕ) → IsBaseOf d routes n base.now → 1 ≤ n → list_all (clause_holds (value_in values.now)) (base_clauses d routes n) ≡ true → IfOk result (λ plan. Agrees d routes n (model_of d routes n plan.steps) (value_in values.now)) }
+    ensures ends { (d : Station) (routes : List Route) (n : ℕ) → IsBaseOf d routes n base.now → list_all (clause_holds (value_in values.now)) (base_clauses d routes n) ≡ true → IfOk result (λ plan. EndsAsSaid d routes n values.now plan.steps) }
 {
     let mut steps = Vec::new(alloc);
     for step in 1..=base.counts().steps {

@@ -5,4 +5,4 @@ mod decoding;
 mod laws;
 
 pub use decoding::decode;
-pub use laws::{lines_keep_the_front, live_clauses_are_true};
+pub use laws::live_clauses_are_true;

@@ -6,7 +6,8 @@ use Rattle.sat_core.specs.Models.{value_in}
 use Rattle.plan_clauses.specs.Laws.{Agrees}
 use Rattle.plan_clauses.specs.Models.{cut_off, given_in, model_of}
 use Rattle.plan_clauses.proofs.Theorems.{models_are_plans}
-use Rattle.plan_decoder.specs.Told.{says}
+use Rattle.plan_decoder.specs.Told.{EndsAsSaid, says}
+use Rattle.plan_decoder.proofs.Ends.{ends_as_said}
 use Rattle.plan_decoder.proofs.Puts.{put_next, put_all}
 use Rattle.plan_decoder.proofs.decoding.decode.Goals as goal
 use Rattle.plan_decoder.proofs.decoding.decode.Goals.{else-loop-step-test, then-loop-step-test+in_ok-given_in+in_ok-push+else-step-step-end}
@@ -37,3 +38,6 @@ returns-clause-runnable c = λ d routes n is some holds. subst (IsRunnable d rou
 pub returns-clause-agrees : goal.returns-clause-agrees
 returns-clause-agrees c = λ d routes n is some holds.
     subst (λ steps. Agrees d routes n (model_of d routes n steps) (value_in c.args.values.now)) (sym (returns-clause-value c d routes n is)) (models_are_plans d routes n (value_in c.args.values.now) some holds).1
+
+pub returns-clause-ends : goal.returns-clause-ends
+returns-clause-ends c = λ d routes n is holds. subst (EndsAsSaid d routes n c.args.values.now) (sym (returns-clause-value c d routes n is)) (ends_as_said d routes n c.args.values.now holds)
