@@ -12,16 +12,16 @@ use Rattle.verify_loop.specs.declared.outcome.Budgets.{Budgets}
 use Rattle.verify_loop.specs.Outcomes.{plans_of, IsLog, IsWithin, IsReached}
 use Rattle.verify_loop.specs.Searching.{IsSearch, IsAtPlan}
 
-module _ (d : Station) (n : ℕ) (b : Budgets) (recorder : Text) (solver_vars derives : ℕ) (failed : List Plan) (sum : ℕ) where
-  pub within_so : (s : IsSearch d n b recorder solver_vars derives failed sum) → IsWithin d n b s.lines (plans_of s.rs)
+module _ (d : Station) (n : ℕ) (b : Budgets) (recorder : Text) (solver_vars derives : ℕ) (failed : List Plan) (sum steps : ℕ) where
+  pub within_so : (s : IsSearch d n b recorder solver_vars derives failed sum steps) → IsWithin d n b s.lines (plans_of s.rs)
   within_so s = record { derived = s.learnt; timed = (let so = s.cost in let left = s.left in omega arith) }
 
   -- its log, as the text of its lines
-  pub log_told : (s : IsSearch d n b recorder solver_vars derives failed sum) → IsLog d n s.lines s.rs (log_text s.lines)
+  pub log_told : (s : IsSearch d n b recorder solver_vars derives failed sum steps) → IsLog d n s.lines s.rs (log_text s.lines)
   log_told s = subst (IsLog d n s.lines s.rs) s.log.run.text s.log
 
   -- the plan at hand, where its run costs no more than is left
-  pub reached_so : (plan : List (List Command)) → IsAtPlan d n b recorder solver_vars derives failed sum plan → cost d (routes_of d) plan + sum ≤ b.ticks → IsReached d n b plan
+  pub reached_so : (plan : List (List Command)) → IsAtPlan d n b recorder solver_vars derives failed sum steps plan → cost d (routes_of d) plan + sum ≤ b.ticks → IsReached d n b plan
   reached_so plan a cheap = record {
     lines = a.search.lines;
     rs = a.search.rs;

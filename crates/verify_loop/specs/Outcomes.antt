@@ -131,9 +131,13 @@ module _ (d : Station) (n : ℕ) where
 
   -- ---- ends
 
+  -- no plan of fewer steps is feasible
+  abbrev pub HasFewestSteps : List (List Command) → Type 0
+  HasFewestSteps plan = (s : ℕ) → s < length plan → IsInfeasible d s
+
   -- what the end of a search within these budgets says
   abbrev pub Says : Budgets → Outcome → Type 0
-  Says b (Plan plan verdict) = IsFeasible d n plan.steps × (verdict ≡ verdict_of d (routes_of d) plan.steps (horizon d)) × IsReached b plan.steps
+  Says b (Plan plan verdict) = IsFeasible d n plan.steps × HasFewestSteps plan.steps × (verdict ≡ verdict_of d (routes_of d) plan.steps (horizon d)) × IsReached b plan.steps
   Says b (Infeasible log) = IsInfeasible d n × IsProof b log.items × (length log.items ≤ b.log_bytes)
   Says b (ConflictsSpent log clause hints) =
       (lines : List LogLine) × (rs : List Refutal) × IsLog lines rs log.items × IsWithin b lines (plans_of rs)
