@@ -329,6 +329,7 @@ module _ (files : Files) (words : List (List ℕ)) (n : ℕ) (d : Station) (s : 
         plan = p.plan.steps;
         text = prints.written answered ∙ ap (λ (a : Answer). grown text (concat a.lines)) lines;
         feasible = feasible;
+        fewest = says.1;
         met = met_first d p.plan.steps ((done_exactly d n p.plan.steps good feasible.runnable).1 feasible);
         safe = runs_safely d n p.plan.steps good feasible.runnable;
       }

@@ -139,7 +139,7 @@ module _ (seed size : ℕ) (t : Status) (text new_text : Option (List ℕ)) (pie
 
   told_tells : (found : Outcome) → EndsTrial seed size found → Prints (told_trial seed size (made seed size) found) t text new_text pieces new_pieces → tells
   told_tells (outcome.Plan plan verdict) ends prints = record {
-    planned = λ e. record { plan = plan.steps; text = prints.written (ap is_answered e); feasible = ends.0.0 };
+    planned = λ e. record { plan = plan.steps; text = prints.written (ap is_answered e); feasible = ends.0.0; fewest = ends.0.1 };
     none = λ e. (let same = prints.status (ap is_answered e) in let clash = sym same ∙ e in absurd (cc));
   }
   told_tells (outcome.Infeasible log) ends prints = record {

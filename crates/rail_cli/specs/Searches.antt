@@ -1,5 +1,5 @@
 -- Searches for a plan: what they end with, what they leave on the shelf, and what their answers say of the design.
-use Rattle.std.specs.Prelude.{◌≡◌, ◌≤◌, ◌⊎◌, ℕ, ◌*◌, List, ◌∷◌, length, Option, Some, Ok}
+use Rattle.std.specs.Prelude.{◌≡◌, ◌≤◌, ◌<◌, ◌⊎◌, ℕ, ◌*◌, List, ◌∷◌, length, Option, Some, Ok}
 use Rattle.std.specs.List.{concat}
 use Rattle.infra_reader.specs.Design.{design_of}
 use Rattle.log_checker.specs.declared.shown.Shown.TheVariants.{Yes}
@@ -106,11 +106,12 @@ pub record Searches (files : Files) (words : List (List ℕ)) (n : ℕ) (d : Sta
   pub asked : request_of words ≡ Some (verify n conflicts ticks design_name proof_name)
   pub spells_design : design_of (files design_name) ≡ Ok d
 
--- the lines printed are `plan steps <number of steps>`, the plan and its timetable; the plan is feasible for n steps; and its run is safe
+-- the lines printed are `plan steps <number of steps>`, the plan and its timetable; the plan is feasible for n steps, and none of fewer steps is; and its run is safe
 pub record TellsPlan (n : ℕ) (d : Station) (old new : Option (List ℕ)) : Type 0 where
   pub plan : List (List Command)
   pub text : new ≡ grown old (concat (plan_steps_line (length plan) ∷ plan_line d plan ∷ timetable_of d (shown_by d plan)))
   pub feasible : IsFeasible d n plan
+  pub fewest : (s : ℕ) → s < length plan → IsInfeasible d s
   pub met : (more : List (List ℕ)) × (timetable_of d (shown_by d plan) ≡ met_line (cost d (routes_of d) plan) ∷ more)
   pub safe : RunsSafely d plan
 

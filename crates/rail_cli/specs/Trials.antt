@@ -1,5 +1,5 @@
 -- Trials, and what their answers say of the station that is made.
-use Rattle.std.specs.Prelude.{◌≡◌, ℕ, ◌*◌, List, length, Option}
+use Rattle.std.specs.Prelude.{◌≡◌, ℕ, ◌*◌, ◌<◌, List, length, Option}
 use Rattle.std.specs.List.{concat}
 use Rattle.rail_base.specs.declared.plan.Command.{Command}
 use Rattle.rail_outside.specs.Growth.{grown}
@@ -12,11 +12,12 @@ use Rattle.rail_cli.specs.declared.status.Status.TheVariants.{Done, No}
 use Rattle.rail_cli.specs.Texts.{plan_tick_line, infeasible_line}
 use Rattle.rail_cli.specs.Answers.{three_lines}
 
--- the last line is `plan steps <s> tick <k>`: a plan of s steps is feasible for twice as many steps as the size, and k is its deciding tick
+-- the last line is `plan steps <s> tick <k>`: a plan of s steps is feasible for twice as many steps as the size, and none of fewer steps is; and k is its deciding tick
 pub record TellsTrialPlan (seed size : ℕ) (old new : Option (List ℕ)) : Type 0 where
   pub plan : List (List Command)
   pub text : new ≡ grown old (concat (three_lines seed size (made seed size) Done (plan_tick_line (length plan) (cost (made seed size) (routes_of (made seed size)) plan))).lines)
   pub feasible : IsFeasible (made seed size) (2 * size) plan
+  pub fewest : (s : ℕ) → s < length plan → IsInfeasible (made seed size) s
 
 -- the last line is `infeasible steps <n>`: no plan of n steps is feasible, which are twice as many as the size
 pub record TellsTrialNone (seed size : ℕ) (old new : Option (List ℕ)) : Type 0 where
