@@ -1,0 +1,63 @@
+//! The runs and searches of a worked example.
+
+use crate::row::fields::Fields;
+use anyhow::Result;
+use std::alloc::Global;
+use toml::Value;
+
+/// Some ticks of the plan's run, and what they show.
+#[derive(Clone, Copy)]
+pub(crate) struct Run {
+    pub(crate) ticks: u64,
+    /// The deciding tick, where the plan is met by then.
+    pub(crate) met: Option<u64>,
+}
+
+/// A search for a plan of so many steps whose log may have so many bytes, and has no room for its next line.
+#[derive(Clone, Copy)]
+pub(crate) struct Search {
+    pub(crate) steps: u32,
+    pub(crate) log_bytes: u64,
+    /// The bytes of the log.
+    pub(crate) bytes: u64,
+    /// The bytes of the next line, where they are known.
+    pub(crate) next: Option<u64>,
+}
+
+/// A run.
+fn run_of(value: &Value) -> Result<Run> {
+    let fields = Fields::of(value, &["ticks", "met"])?;
+    Ok(Run {
+        ticks: fields.needed_number("ticks")?,
+        met: fields.number("met")?,
+    })
+}
+
+/// A search.
+fn search_of(value: &Value) -> Result<Search> {
+    let fields = Fields::of(value, &["steps", "log_bytes", "bytes", "next"])?;
+    Ok(Search {
+        steps: u32::try_from(fields.needed_number("steps")?)?,
+        log_bytes: fields.needed_number("log_bytes")?,
+        bytes: fields.needed_number("bytes")?,
+        next: fields.number("next")?,
+    })
+}
+
+/// The runs of a worked example.
+pub(crate) fn runs_of(alloc: Global, row: Fields<'_>) -> Result<Vec<Run>> {
+    let mut runs = Vec::new(alloc);
+    for entry in row.entries("run")? {
+        runs.push(run_of(entry)?)?;
+    }
+    Ok(runs)
+}
+
+/// The searches of a worked example.
+pub(crate) fn searches_of(alloc: Global, row: Fields<'_>) -> Result<Vec<Search>> {
+    let mut searches = Vec::new(alloc);
+    for entry in row.entries("search")? {
+        searches.push(search_of(entry)?)?;
+    }
+    Ok(searches)
+}
