@@ -1,0 +1,82 @@
+#!/usr/bin/env python3
+"""Looks for plans of the stations of `bench/stations`, and says what `rcv verify` answers, how long it takes and what it derives.
+
+Each line: the station, the steps, the answer, the seconds and, where a proof is stored, its derived lines, its cones (each of a
+plan that failed) and its bytes. `--figures FILE` names a file with a line `<station> <steps> <answer> <lines>` each, where `lines`
+may be `-`; the status is 1 where an answer differs from it, a search takes longer than its seconds, or derives more than three
+times the lines.
+"""
+
+import argparse
+import os
+import pathlib
+import re
+import subprocess
+import sys
+import tempfile
+import time
+
+TOP = pathlib.Path(__file__).resolve().parent.parent.parent
+STATIONS = TOP / "bench" / "stations"
+FIGURES = pathlib.Path(__file__).resolve().parent / "figures"
+
+
+def asked():
+    """The stations, each with its steps, its answer and the lines that a search may take."""
+    for line in FIGURES.read_text().splitlines():
+        station, steps, answer, lines = line.split()
+        answer = answer.replace("_", " ")
+        yield station, int(steps), answer, None if lines == "-" else int(lines)
+
+
+def verify(program, station, steps, seconds, folder):
+    """The status and first line of one search, its seconds, and the text of its proof."""
+    proof = pathlib.Path(folder) / "proof"
+    proof.unlink(missing_ok=True)
+    begin = time.monotonic()
+    try:
+        done = subprocess.run(
+            [program, "verify", "--steps", str(steps), STATIONS / f"{station}.toml", proof],
+            stdin=subprocess.DEVNULL, stdout=subprocess.PIPE, stderr=subprocess.DEVNULL, timeout=seconds,
+        )
+    except subprocess.TimeoutExpired:
+        return None, "late", seconds, ""
+    passed = time.monotonic() - begin
+    first = done.stdout.decode().split("\n", 1)[0]
+    return done.returncode, first, passed, proof.read_text() if proof.exists() else ""
+
+
+def main():
+    words = argparse.ArgumentParser(description=__doc__)
+    words.add_argument("--program", default=TOP / "crates" / "rcv" / "out" / "rcv", help="the program, as ./rcv builds it")
+    words.add_argument("--seconds", type=float, default=20, help="how long a search may take before it is stopped")
+    words.add_argument("--bar", type=float, default=10, help="how long a search should take at most")
+    words.add_argument("stations", nargs="*", help="the stations, all of them if none is named")
+    given = words.parse_args()
+    if not os.access(given.program, os.X_OK):
+        subprocess.run([TOP / "rcv", "routes", TOP / "stations" / "halt.toml"], stdout=subprocess.DEVNULL, check=True)
+    missed = 0
+    with tempfile.TemporaryDirectory() as folder:
+        for station, steps, answer, most in asked():
+            if given.stations and station not in given.stations:
+                continue
+            status, first, passed, proof = verify(given.program, station, steps, given.seconds, folder)
+            derived = len(re.findall(r"^d ", proof, re.M))
+            cones = len(re.findall(r"^r ", proof, re.M))
+            forgot = len(re.findall(r"^x ", proof, re.M))
+            told = f"{derived} lines {cones} cones {forgot} forgotten {len(proof)} bytes" if proof else "-"
+            faults = []
+            if answer != "open":
+                if not first.startswith(answer):
+                    faults.append("other answer")
+                if passed > given.bar:
+                    faults.append("late")
+                if most is not None and proof and derived > 3 * most:
+                    faults.append("many lines")
+            missed += bool(faults)
+            print(f"{station:18} {steps:3} {first:22} {passed:7.2f} s  {told}{'  MISSED: ' + ', '.join(faults) if faults else ''}", flush=True)
+    print(f"{missed} missed")
+    sys.exit(1 if missed else 0)
+
+
+main()
