@@ -2,18 +2,22 @@
 """Solves made clauses with the solver of the project, and says how many lines and seconds each takes.
 
 The program `solve_clauses` is proved and built first where it is not built yet or a source is newer. The instances are
-made from fixed seeds in a temporary folder. The status is 1 where an instance fails, as where a recorded line does not
-follow; one that is late has not failed.
+made from fixed seeds in a temporary folder, and from stations of `bench/stations`. With `--peers`, `minisat` and `cadical` solve
+each instance too, one after the other, where they are on the path. The status is 1 where an instance fails, as where a recorded
+line does not follow, or where two answers differ; one that is late has not failed.
 """
 
 import argparse
 import pathlib
 import random
 import re
+import shutil
 import subprocess
 import sys
 import tempfile
 import time
+
+import clauses as stations
 
 TOP = pathlib.Path(__file__).resolve().parent.parent.parent
 CRATE = TOP / "crates" / "solve_clauses"
@@ -64,18 +68,25 @@ def random_clauses(seed, variables, count):
     return variables, clauses
 
 
-def instances():
-    """The name, the number of variables and the clauses of each."""
-    yield ("pigeons 7 in 6", *pigeons(7, 6))
-    for seed in range(20):
-        yield (f"random 120 seed {seed}", *random_clauses(seed, 120, 504))
+# Stations with the steps that are asked for and those of the shortest plan.
+STATIONS = (
+    ("cross-3-slack", 6, 6), ("cross-4-slack", 8, 8), ("meet-5-slack", 6, 6), ("meet-7-slack", 8, 8), ("meet-8-slack", 9, 8),
+    ("line-3-slack", 12, 9), ("longline-4-slack", 13, 13), ("terminus-5-slack", 11, 10), ("yard-8-slack", 6, 5),
+)
 
 
-def dimacs(variables, clauses):
-    """The text that the program reads."""
-    lines = [f"p cnf {variables} {len(clauses)}"]
-    lines += [" ".join(map(str, clause + [0])) for clause in clauses]
-    return "\n".join(lines) + "\n"
+def instances(most):
+    """The name, the number of variables and the clauses of each; random ones have at most so many variables."""
+    for birds in (7, 8, 9):
+        yield (f"pigeons {birds} in {birds - 1}", *pigeons(birds, birds - 1))
+    for variables in (120, 150, 175, 200, 250):
+        if variables <= most:
+            for seed in range(20 if variables == 120 else 10):
+                yield (f"random {variables} seed {seed}", *random_clauses(seed, variables, round(4.2 * variables)))
+    for station, steps, fewest in STATIONS:
+        path = TOP / "bench" / "stations" / f"{station}.toml"
+        yield (f"{station} by {fewest}", *stations.formula(path, steps, fewest))
+        yield (f"{station} by {fewest - 1}", *stations.formula(path, steps, fewest - 1))
 
 
 def solve(path, conflicts, limit):
@@ -92,28 +103,45 @@ def solve(path, conflicts, limit):
     return found[1], found[2], seconds
 
 
+def peer(name, path, limit):
+    """What another solver answers, and its seconds."""
+    begin = time.monotonic()
+    try:
+        done = subprocess.run([name, path], stdin=subprocess.DEVNULL, stdout=subprocess.DEVNULL, stderr=subprocess.DEVNULL, timeout=limit)
+    except subprocess.TimeoutExpired:
+        return "late", limit
+    return {10: "sat", 20: "unsat"}.get(done.returncode, "failed"), time.monotonic() - begin
+
+
 def main():
     words = argparse.ArgumentParser(description=__doc__)
     words.add_argument("--conflicts", type=int, default=200_000, help="how many lines an instance may derive")
     words.add_argument("--limit", type=float, default=60, help="how many seconds an instance may take, after which it is late")
+    words.add_argument("--most", type=int, default=200, help="how many variables random clauses may have")
+    words.add_argument("--peers", action="store_true", help="whether minisat and cadical solve each instance too")
     given = words.parse_args()
+    peers = [name for name in ("minisat", "cadical") if given.peers and shutil.which(name)]
     build()
     counts = {"sat": 0, "unsat": 0, "spent": 0, "late": 0}
     failed = 0
     total = 0.0
-    print(f"{'name':<22}{'answer':<8}{'lines':>8}{'seconds':>10}")
+    print(f"{'name':<24}{'answer':<8}{'lines':>8}{'seconds':>10}" + "".join(f"{name:>10}" for name in peers))
     with tempfile.TemporaryDirectory() as folder:
         path = pathlib.Path(folder) / "clauses.cnf"
-        for name, variables, clauses in instances():
-            path.write_text(dimacs(variables, clauses))
+        for name, variables, clauses in instances(given.most):
+            path.write_text(stations.written(variables, clauses))
             answer, lines, seconds = solve(path, given.conflicts, given.limit)
             total += seconds
             if answer is None:
                 failed += 1
-                print(f"{name:<22}failed: {lines} ({seconds:.2f} seconds)", flush=True)
+                print(f"{name:<24}failed: {lines} ({seconds:.2f} seconds)", flush=True)
             else:
                 counts[answer] += 1
-                print(f"{name:<22}{answer:<8}{lines:>8}{seconds:>10.2f}", flush=True)
+                others = [peer(other, path, given.limit) for other in peers]
+                if {answer, *(other for other, _ in others)} >= {"sat", "unsat"}:
+                    failed += 1
+                told = "".join(f"{passed:>10.2f}" for _, passed in others)
+                print(f"{name:<24}{answer:<8}{lines:>8}{seconds:>10.2f}{told}", flush=True)
     told = ", ".join(f"{answer} {count}" for answer, count in counts.items())
     print(f"{told}, failed {failed}, all {sum(counts.values()) + failed}, seconds {total:.2f}")
     sys.exit(1 if failed else 0)

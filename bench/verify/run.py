@@ -36,7 +36,7 @@ def verify(program, station, steps, seconds, folder):
     begin = time.monotonic()
     try:
         done = subprocess.run(
-            [program, "verify", "--steps", str(steps), STATIONS / f"{station}.toml", proof],
+            [program, "verify", "--steps", str(steps), "--conflicts", "10000000", "--ticks", "1000000000000", STATIONS / f"{station}.toml", proof],
             stdin=subprocess.DEVNULL, stdout=subprocess.PIPE, stderr=subprocess.DEVNULL, timeout=seconds,
         )
     except subprocess.TimeoutExpired:
