@@ -25,8 +25,8 @@ module _ (d : Station) (good : IsAdmitted d) (n : ℕ) (some : 1 ≤ n) where
   -- the cone of a found plan that fails refutes it
   cone_refutes : (known : List Cone) (plan : List (List Command)) (cone : Cone) → IsFound d n known plan → IsConeOf d n plan cone → Refutes d (routes_of d) n cone plan
   cone_refutes known plan cone found is =
-      subst (λ (k : Cone). Refutes d (routes_of d) n k plan) (sym is.is_cone)
-      (refutes_of d (routes_of d) plan is.history is.tick is.violation good (kind_of d (routes_of d) plan is.history is.tick is.violation is.ticks is.fails) (each_given d n good some known plan found) n found.runnable.well_formed)
+      let kind = kind_of d (routes_of d) plan is.history is.tick is.violation is.ticks is.fails in
+      refutes_of d (routes_of d) plan is.history is.tick is.violation good kind (each_given d n good some known plan found) cone is.is_cone n found.runnable.well_formed
 
   -- so its clause is false in the plan's model
   own_false : (known : List Cone) (plan : List (List Command)) (cone : Cone) → IsFound d n known plan → IsConeOf d n plan cone → clause_holds (model_of d (routes_of d) n plan) (numbered_clause d (routes_of d) n cone) ≡ false

@@ -18,7 +18,7 @@ use Rattle.rail_base.specs.declared.plan.Violation.{Violation}
 use Rattle.rail_base.specs.declared.station.Station.{Station}
 use Rattle.rail_base.specs.Stations.{horizon}
 use Rattle.rail_cone.specs.declared.Cone.{Cone}
-use Rattle.rail_slice.specs.Slices.{cone_of}
+use Rattle.rail_slice.specs.Leasts.{IsSliceOf}
 use Rattle.rail_spec.specs.Feasible.{IsRunnable, IsFeasible, IsInfeasible}
 use Rattle.rail_spec.specs.Histories.{verdict_of}
 use Rattle.rail_spec.specs.Requirements.{cost}
@@ -58,14 +58,14 @@ module _ (d : Station) (n : ℕ) where
     pub runnable : IsRunnable d (routes_of d) n plan
     pub model : list_all (clause_holds (model_of d (routes_of d) n plan)) (base_clauses d (routes_of d) n ++ map (numbered_clause d (routes_of d) n) cones) ≡ true
 
-  -- the plan fails, and the cone is that of its failure
+  -- the plan fails, and the cone is the slice of its failure
   pub record IsConeOf (plan : List (List Command)) (cone : Cone) : Type 0 where
     pub ticks : ℕ
     pub history : List TrainHistory
     pub tick : ℕ
     pub violation : Violation
     pub fails : verdict_of d (routes_of d) plan ticks ≡ Failed history tick violation
-    pub is_cone : cone ≡ cone_of d (routes_of d) plan tick violation
+    pub is_cone : IsSliceOf d (routes_of d) plan tick violation cone
 
   -- each plan fails, and was found where the cones of those before were known, besides these
   abbrev pub AreRefuted : List Cone → List Refutal → Type 0
