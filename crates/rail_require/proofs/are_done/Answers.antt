@@ -6,7 +6,7 @@ use Rattle.std.proofs.lemmas.Iterator.Search.{all_from_yields_List}
 use Rattle.rail_base.specs.declared.history.TrainHistory.{TrainHistory}
 use Rattle.rail_require.specs.Violations.{is_done_in}
 use Rattle.rail_require.proofs.Doing.{done_told}
-use Rattle.rail_require.proofs.is_done.Goals as goal
+use Rattle.rail_require.proofs.are_done.Goals as goal
 
 pub returns-clause-run : goal.returns-clause-run
 returns-clause-run c = λ d routes plan k low told.
