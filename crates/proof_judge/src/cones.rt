@@ -5,8 +5,8 @@ ghost use Rattle.rail_spec.specs.Track.{routes_of};
 ghost use Rattle.plan_clauses.specs.Variables.{pairs as contending};
 ghost use Rattle.proof_judge.specs.Judged.{refuted};
 
-use cone::fault_of;
 use cone_clause::clause_of;
+use cone_run::fault_of;
 use log_checker::{RefuteFault, Refuter};
 use rail_base::design::Design;
 use rail_base::plan::Command;

@@ -21,6 +21,7 @@ use crate::reading::{admit, fetch};
 use crate::refusals::{ended, plan_refused};
 use crate::reply::Reply;
 use crate::status::Status;
+use plan_run::simulate;
 use rail_base::design::Design;
 use rail_base::history::Verdict;
 use rail_base::plan::Plan;
@@ -29,7 +30,6 @@ use rail_outside::Shelf;
 use rail_plan::fault::PlanFault;
 use rail_plan::reading::read_plan;
 use std::alloc::{AllocError, Global};
-use tick_sim::simulate;
 use timetable::timetable_lines;
 
 /// The plan over a design that the bytes spell.

@@ -1,6 +1,6 @@
 pub mod Finding
-mod Missing
-mod Telling
-mod Agreeing
-mod Doing
+pub mod Missing
+pub mod Telling
+pub mod Agreeing
+pub mod Doing
 pub mod Numbered

@@ -20,9 +20,10 @@ use crate::ways::{broken_order, late_within, missing_grant, missing_visit};
 use rail_base::design::Design;
 pub use rail_base::history::{History, TrainHistory, Verdict};
 pub use rail_base::plan::Violation;
+pub use ticks::visit_tick;
 
 /// At the horizon, the first command that isn't granted, or else the first visit that isn't made.
-fn first_missing(design: &Design, history: &History, tick: u64) -> Option<Violation>
+fn first_missing(design: &Design, history: &[TrainHistory], tick: u64) -> Option<Violation>
     requires { HasNumbers history.now }
     ensures { result ≡ find (is_certain design.now.station history.now tick) (grant_ways history.now ++ visit_ways history.now) }
 {
@@ -35,6 +36,16 @@ fn first_missing(design: &Design, history: &History, tick: u64) -> Option<Violat
 /// The first violation that is certain at the tick: withins in file order, orders in file order, and at the horizon
 /// grants by train and command, then visits by train and visit. A path's is not looked for here.
 pub fn first_violation(design: &Design, history: &History, tick: u64) -> Option<Violation>
+    requires { HasNumbers history.now }
+    ensures value { result ≡ violation_in design.now.station history.now tick }
+    ensures run { (routes : List Route) (plan : List (List Command)) → 1 ≤ tick
+        → history.now ≡ history_at design.now.station routes plan tick → result ≡ violation_at design.now.station routes plan tick }
+{
+    violation_shown(design, history.as_slice(), tick)
+}
+
+/// The same of the trains that are not made a history yet.
+pub fn violation_shown(design: &Design, history: &[TrainHistory], tick: u64) -> Option<Violation>
     requires { HasNumbers history.now }
     ensures value { result ≡ violation_in design.now.station history.now tick }
     ensures run { (routes : List Route) (plan : List (List Command)) → 1 ≤ tick
@@ -69,8 +80,16 @@ pub fn is_done(history: &History) -> bool
     ensures run { (d : Station) (routes : List Route) (plan : List (List Command)) (k : ℕ) → 1 ≤ k
         → history.now ≡ history_at d routes plan k → result ≡ is_done d routes plan k }
 {
+    are_done(history.as_slice())
+}
+
+/// The same of the trains that are not made a history yet.
+pub fn are_done(history: &[TrainHistory]) -> bool
+    ensures value { result ≡ is_done_in history.now }
+    ensures run { (d : Station) (routes : List Route) (plan : List (List Command)) (k : ℕ) → 1 ≤ k
+        → history.now ≡ history_at d routes plan k → result ≡ is_done d routes plan k }
+{
     history
-        .as_slice()
         .iter()
         .all(|train| is_granted(train) && is_visited(train))
 }

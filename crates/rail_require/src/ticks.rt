@@ -4,14 +4,14 @@ ghost use Rattle.std.specs.Prelude.{◌≡◌};
 ghost use Rattle.rail_require.specs.Ticks.{is_before, is_by, visit_tick};
 ghost use Rattle.rail_spec.specs.Requirements.{is_after};
 
-use rail_base::history::History;
+use rail_base::history::TrainHistory;
 use rail_base::station::TrainNo;
 
 /// The tick at which a train makes a visit. None where it hasn't been made, or the history has no such visit.
-pub(crate) fn visit_tick(history: &History, train: TrainNo, visit: u32) -> Option<u64>
+pub fn visit_tick(history: &[TrainHistory], train: TrainNo, visit: u32) -> Option<u64>
     ensures { result ≡ visit_tick history.now train visit }
 {
-    let train = history.as_slice().get((train.0 as usize).checked_sub(1)?)?;
+    let train = history.get((train.0 as usize).checked_sub(1)?)?;
     let made = train
         .visits
         .as_slice()

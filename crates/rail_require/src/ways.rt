@@ -9,12 +9,12 @@ ghost use Rattle.rail_require.specs.Violations.{is_broken, is_late, is_certain, 
 
 use crate::ticks::{is_after, is_before, is_by, visit_tick};
 use rail_base::design::Design;
-use rail_base::history::{History, TrainHistory};
+use rail_base::history::TrainHistory;
 use rail_base::plan::Violation;
 use rail_base::station::{Order, TrainNo, Within};
 
 /// Whether a within's greatest time ends at the tick, up to the horizon, and the other visit isn't made by then.
-fn is_late(design: &Design, history: &History, tick: u64, within: &Within) -> bool
+fn is_late(design: &Design, history: &[TrainHistory], tick: u64, within: &Within) -> bool
     ensures { result ≡ is_late design.now.station history.now tick within.now }
 {
     let most = u64::from(within.max_ms / design.station.tick_ms);
@@ -24,7 +24,7 @@ fn is_late(design: &Design, history: &History, tick: u64, within: &Within) -> bo
 }
 
 /// Whether the later-named visit of an order is made at the tick, and the first isn't made before it.
-fn is_broken(history: &History, tick: u64, order: &Order) -> bool
+fn is_broken(history: &[TrainHistory], tick: u64, order: &Order) -> bool
     ensures { result ≡ is_broken history.now tick order.now }
 {
     let first = visit_tick(history, order.first_train, order.first_visit);
@@ -33,7 +33,7 @@ fn is_broken(history: &History, tick: u64, order: &Order) -> bool
 }
 
 /// The first within that fails at the tick.
-pub(crate) fn late_within(design: &Design, history: &History, tick: u64) -> Option<Violation>
+pub(crate) fn late_within(design: &Design, history: &[TrainHistory], tick: u64) -> Option<Violation>
     ensures { result ≡ find (is_certain design.now.station history.now tick) (within_ways design.now.station) }
 {
     let withins = design.station.withins.as_slice();
@@ -46,7 +46,11 @@ pub(crate) fn late_within(design: &Design, history: &History, tick: u64) -> Opti
 }
 
 /// The first order that fails at the tick.
-pub(crate) fn broken_order(design: &Design, history: &History, tick: u64) -> Option<Violation>
+pub(crate) fn broken_order(
+    design: &Design,
+    history: &[TrainHistory],
+    tick: u64,
+) -> Option<Violation>
     ensures { result ≡ find (is_certain design.now.station history.now tick) (order_ways design.now.station) }
 {
     let orders = design.station.orders.as_slice();
@@ -85,11 +89,11 @@ fn unvisited(train: &TrainHistory, tick: u64) -> Option<u32>
 }
 
 /// The first command, by train, that isn't granted by the end of the tick, which is the horizon.
-pub(crate) fn missing_grant(history: &History, tick: u64) -> Option<Violation>
+pub(crate) fn missing_grant(history: &[TrainHistory], tick: u64) -> Option<Violation>
     requires { HasNumbers history.now }
     ensures { (d : Station) → tick ≡ horizon d → result ≡ find (is_certain d history.now tick) (grant_ways history.now) }
 {
-    for (place, train) in history.as_slice().iter().enumerate() {
+    for (place, train) in history.iter().enumerate() {
         if let Some(command) = ungranted(train, tick) {
             return Some(Violation::Grant {
                 train: TrainNo(place as u32 + 1),
@@ -101,11 +105,11 @@ pub(crate) fn missing_grant(history: &History, tick: u64) -> Option<Violation>
 }
 
 /// The first visit, by train, that isn't made by the end of the tick, which is the horizon.
-pub(crate) fn missing_visit(history: &History, tick: u64) -> Option<Violation>
+pub(crate) fn missing_visit(history: &[TrainHistory], tick: u64) -> Option<Violation>
     requires { HasNumbers history.now }
     ensures { (d : Station) → tick ≡ horizon d → result ≡ find (is_certain d history.now tick) (visit_ways history.now) }
 {
-    for (place, train) in history.as_slice().iter().enumerate() {
+    for (place, train) in history.iter().enumerate() {
         if let Some(visit) = unvisited(train, tick) {
             return Some(Violation::Visit {
                 train: TrainNo(place as u32 + 1),

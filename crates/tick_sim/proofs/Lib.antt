@@ -2,4 +2,4 @@ pub mod Reaching
 pub mod Fronting
 pub mod Marking
 pub mod Verdicting
-mod Lawful
+pub mod Lawful

@@ -1,0 +1,7 @@
+pub mod Pathing
+pub mod Ranging
+pub mod Riding
+pub mod Leading
+pub mod Looking
+pub mod Asking
+pub mod Listing

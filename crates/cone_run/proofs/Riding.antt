@@ -1,0 +1,190 @@
+-- In the run of a cone each train moves as the plan of its free commands says, and may brake at any tick.
+use Rattle.std.proofs.Common.{◌≡◌, ℕ, zero, suc, ◌+◌, ◌-◌, ◌*◌, ◌/◌, ◌≤◌, ◌<◌, ◌⊎◌, inl, inr, Bool, true, false, if◌then◌else◌, ◌&&◌, nat_le, nat_lt, List, [], ◌∷◌, map, take, length, slice_get, sum_by, Option, None, Some, option_map, refl, sym, ap, subst, ◌∙◌, arith, mul-le-mul, le_refl, suc-mul, div-lt_iff_lt-mul, fold, max}
+use Rattle.std.specs.List.{list_all}
+use Rattle.std.proofs.lemmas.List.Folds.{list_all-map}
+use Rattle.std.proofs.lemmas.Option.{slice_get-map}
+use Rattle.rail_base.specs.declared.station.Station.{Station}
+use Rattle.rail_base.specs.declared.station.TrainNo.{TrainNo}
+use Rattle.rail_base.specs.declared.route.Route.{Route}
+use Rattle.rail_base.specs.declared.route.RouteNo.{RouteNo}
+use Rattle.rail_base.specs.declared.plan.Command.{Command}
+use Rattle.rail_base.specs.declared.state.TrainState.{TrainState}
+use Rattle.rail_base.specs.Admitted.{IsAdmitted}
+use Rattle.rail_base.specs.Members.{In}
+use Rattle.rail_base.specs.Numbering.{before_first, greatest}
+use Rattle.rail_base.specs.Routes.{route_at, shared, share, release_offset, length_mm}
+use Rattle.rail_base.specs.Stations.{IsTrain, horizon, train_length, vehicle_of}
+use Rattle.rail_spec.specs.Track.{routes_of}
+use Rattle.rail_spec.specs.Motion.{permitted, next_speed, reach}
+use Rattle.rail_spec.specs.Plans.{is_route, path, path_routes}
+use Rattle.rail_spec.specs.Dispatches.{state_of, state_at, rates, stretches, authority, has_cleared, is_ready, granted_with, granted_after, speed_with, moved}
+use Rattle.rail_spec.specs.Run as run
+use Rattle.rail_spec.proofs.MotionLaws.{permitted_after, next_speed_permitted}
+use Rattle.rail_spec.proofs.UnderWay.{IsSound, Travels, still}
+use Rattle.rail_course.specs.declared.waits.Wait.{Wait}
+use Rattle.rail_course.specs.Waits.{is_over, wait_for}
+use Rattle.rail_course.proofs.Waiting.{list_all-same, over_when_cleared}
+use Rattle.rail_cone.specs.declared.Cone.{Cone}
+use Rattle.rail_cone.specs.declared.ConeTrain.{ConeTrain}
+use Rattle.rail_cone.specs.Cones.{named, free_path, of_cone}
+use Rattle.rail_cone.specs.Validity.{in_design}
+use Rattle.rail_cone.proofs.Naming.{of_design, proper, listed_is, waits_listed}
+use Rattle.rail_cone.proofs.Running.{Moves, Idles, after_tick, idle_at_first, granted_after_most, granted_on_path}
+use Rattle.dispatch_run.specs.Followers.{CanMove}
+use Rattle.cone_run.specs.Runs.{free_plan, last_tick}
+use Rattle.cone_run.proofs.Ranging.{given_path, cone_sound}
+
+greatest_within : (test : ℕ → Bool) (n : ℕ) → greatest test n ≤ n
+greatest_within test zero = omega arith
+greatest_within test (suc n) = go (test (suc n)) (greatest_within test n)
+  where
+    go : (b : Bool) → greatest test n ≤ n → (if b then suc n else greatest test n) ≤ suc n
+    go true l = omega arith
+    go false l = omega arith
+
+top_speed : (d : Station) → IsAdmitted d → (t : TrainNo) → IsTrain d t → (rates d t).top ≤ 100000
+top_speed d adm t h =
+    let v = (adm.vehicle _ (adm.train t h).vehicle).speed.1 in
+    let tick = adm.tick.1 in
+    let product : (vehicle_of d t).speed_mm_s * d.tick_ms ≤ 100000 * 1000 = mul-le-mul v tick in
+    let less : (vehicle_of d t).speed_mm_s * d.tick_ms / 1000 < 100001 = (div-lt_iff_lt-mul {k = 1000} {x = (vehicle_of d t).speed_mm_s * d.tick_ms} {y = 100001} (omega arith)).1 (omega arith) in
+    omega arith
+
+module _ (d : Station) (routes : List Route) (k : Cone) (known : in_design d routes k ≡ true) where
+  same : (t : TrainNo) → path (free_plan k) t ≡ free_path k t
+  same = given_path d routes k known
+
+  -- ---- what moves and grants look at is the same
+
+  pub moved_same : (t : TrainNo) (old : TrainState) (n : ℕ) → run.moved d routes (free_plan k) t old n ≡ moved d routes (of_cone k) t old n
+  moved_same t old zero = refl
+  moved_same t old (suc n) = ap (λ ps. with ps) (same t)
+    where
+      with : List RouteNo → TrainState
+      with ps =
+          let given = take (suc n) (map (route_at routes) ps) in
+          let u = next_speed (rates d t) (stretches d given) (authority given) old.x old.v in
+          record { granted = suc n; x = old.x + u; v = u }
+
+  next_grants : (s : List TrainState) (t : TrainNo) → (granted_after d routes (of_cone k) s t ≡ (state_of s t).granted) ⊎ (granted_after d routes (of_cone k) s t ≡ (state_of s t).granted + 1)
+  next_grants s t = go (slice_get (free_path k t) (state_of s t).granted)
+    where
+      step : (b : Bool) (g : ℕ) → ((if b then g + 1 else g) ≡ g) ⊎ ((if b then g + 1 else g) ≡ g + 1)
+      step true g = inr refl
+      step false g = inl refl
+
+      go : (o : Option RouteNo) → (granted_with d routes (of_cone k) s t o ≡ (state_of s t).granted) ⊎ (granted_with d routes (of_cone k) s t o ≡ (state_of s t).granted + 1)
+      go None = inl refl
+      go (Some r) = step (is_ready d routes (of_cone k) s (record { train = t; route = r })) (state_of s t).granted
+
+  -- ---- braking
+
+  abbrev given : TrainNo → ℕ → List Route
+  given t g = take g (path_routes routes (free_plan k) t)
+
+  module _ (sound : IsSound d routes (free_plan k)) where
+    travels_on : (t : TrainNo) (named : IsTrain d t) (old : TrainState) (n : ℕ) → 1 ≤ (rates d t).brake → Travels d routes (free_plan k) t old → (n ≡ old.granted) ⊎ (n ≡ old.granted + 1) → Travels d routes (free_plan k) t (run.moved d routes (free_plan k) t old n)
+    travels_on t named old zero slows h (inl e) = h
+    travels_on t named old zero slows h (inr e) = absurd (omega arith)
+    travels_on t named old (suc n) slows h e =
+        let now = still d routes (free_plan k) sound t named old n h e in
+        let u = next_speed (rates d t) (stretches d (given t (suc n))) (authority (given t (suc n))) old.x old.v in
+        record {
+          waits = λ z. absurd (omega arith);
+          braking = λ l. permitted_after (rates d t) (stretches d (given t (suc n))) (authority (given t (suc n))) old.x old.v u slows (next_speed_permitted (rates d t) (stretches d (given t (suc n))) (authority (given t (suc n))) old.x old.v _ now);
+        }
+
+    travels : (n : ℕ) (t : TrainNo) → Travels d routes (free_plan k) t (state_of (state_at d routes (of_cone k) n) t)
+    travels zero t = subst (Travels d routes (free_plan k) t) (sym (idle_at_first d routes (of_cone k) t)) (record { waits = λ z. (refl, refl); braking = λ l. absurd (omega arith) })
+    travels (suc n) t = go (after_tick d routes (of_cone k) n t) (travels n t)
+      where
+        brakes_of : (i : ℕ) → 1 ≤ i → i ≤ length d.trains → 1 ≤ (rates d (record { 0 = i })).brake
+        brakes_of zero low high = absurd (omega arith)
+        brakes_of (suc i) low high = sound.slows i high
+
+        step : (b : Bool) → IsTrain d t → Travels d routes (free_plan k) t (state_of (state_at d routes (of_cone k) n) t)
+            → Travels d routes (free_plan k) t (if b then moved d routes (of_cone k) t (state_of (state_at d routes (of_cone k) n) t) (granted_after d routes (of_cone k) (state_at d routes (of_cone k) n) t) else state_of (state_at d routes (of_cone k) n) t)
+        step false there h = h
+        step true there h =
+            subst (Travels d routes (free_plan k) t) (moved_same t (state_of (state_at d routes (of_cone k) n) t) (granted_after d routes (of_cone k) (state_at d routes (of_cone k) n) t))
+            (travels_on t there (state_of (state_at d routes (of_cone k) n) t) (granted_after d routes (of_cone k) (state_at d routes (of_cone k) n) t) (brakes_of t.0 there.0 there.1) h (next_grants (state_at d routes (of_cone k) n) t))
+
+        go : Moves d routes (of_cone k) n t ⊎ Idles d routes (of_cone k) n t → Travels d routes (free_plan k) t (state_of (state_at d routes (of_cone k) n) t) → Travels d routes (free_plan k) t (state_of (state_at d routes (of_cone k) (suc n)) t)
+        go (inl m) h = subst (Travels d routes (free_plan k) t) (sym m.by_rule) (step ((of_cone k).concerns (suc n) t) (m.first, m.last) h)
+        go (inr i) h = subst (Travels d routes (free_plan k) t) (i.old ∙ sym i.new) h
+
+  -- ---- places and speeds stay small
+
+  record IsSmall (n : ℕ) (s : TrainState) : Type 0 where
+    pub x : s.x ≤ n * 100000
+    pub v : s.v ≤ 100000
+
+  moved_small : (t : TrainNo) (n : ℕ) (old : TrainState) (g : ℕ) → (rates d t).top ≤ 100000 → IsSmall n old → IsSmall (suc n) (moved d routes (of_cone k) t old g)
+  moved_small t n old zero top h = let a = h.x in let s = suc-mul n 100000 in record { x = omega arith; v = h.v }
+  moved_small t n old (suc g) top h =
+      let given = take (suc g) (map (route_at routes) (free_path k t)) in
+      let u : speed_with d routes (of_cone k) (suc g) t old ≤ reach (rates d t) old.v = greatest_within (permitted (rates d t) (stretches d given) (authority given) old.x old.v) (reach (rates d t) old.v) in
+      let a = h.x in
+      let s = suc-mul n 100000 in
+      record { x = omega arith; v = omega arith }
+
+  stays_small : IsAdmitted d → (n : ℕ) (t : TrainNo) → IsSmall n (state_of (state_at d routes (of_cone k) n) t)
+  stays_small adm zero t = subst (IsSmall zero) (sym (idle_at_first d routes (of_cone k) t)) (record { x = omega arith; v = omega arith })
+  stays_small adm (suc n) t = go (after_tick d routes (of_cone k) n t) (stays_small adm n t)
+    where
+      step : (b : Bool) → IsTrain d t → IsSmall n (state_of (state_at d routes (of_cone k) n) t)
+          → IsSmall (suc n) (if b then moved d routes (of_cone k) t (state_of (state_at d routes (of_cone k) n) t) (granted_after d routes (of_cone k) (state_at d routes (of_cone k) n) t) else state_of (state_at d routes (of_cone k) n) t)
+      step true there h = moved_small t n _ _ (top_speed d adm t there) h
+      step false there h = let a = h.x in let s = suc-mul n 100000 in record { x = omega arith; v = h.v }
+
+      go : Moves d routes (of_cone k) n t ⊎ Idles d routes (of_cone k) n t → IsSmall n (state_of (state_at d routes (of_cone k) n) t) → IsSmall (suc n) (state_of (state_at d routes (of_cone k) (suc n)) t)
+      go (inl m) h = subst (IsSmall (suc n)) (sym m.by_rule) (step ((of_cone k).concerns (suc n) t) (m.first, m.last) h)
+      go (inr i) h = subst (IsSmall (suc n)) (sym i.new) (record { x = omega arith; v = omega arith })
+
+  -- ---- every train may move on
+
+  pub can_move_at : IsAdmitted d → IsSound d routes (free_plan k) → (n : ℕ) → n ≤ 86400 → (t : TrainNo) → IsTrain d t
+      → CanMove d routes (run.of_plan routes (free_plan k)) t (granted_after d routes (of_cone k) (state_at d routes (of_cone k) n) t) (state_of (state_at d routes (of_cone k) n) t)
+  can_move_at adm sound n early t there = record {
+    within = subst (λ ps. granted_after d routes (of_cone k) (state_at d routes (of_cone k) n) t ≤ length ps) (sym (same t)) (granted_after_most d routes (of_cone k) (state_at d routes (of_cone k) n) t (granted_on_path d routes (of_cone k) n t));
+    braking = go (granted_after d routes (of_cone k) (state_at d routes (of_cone k) n) t) (next_grants (state_at d routes (of_cone k) n) t);
+    near = let x = small.x in let m : n * 100000 ≤ 86400 * 100000 = mul-le-mul early (le_refl 100000) in omega arith;
+    slow = small.v;
+  }
+    where
+      old : TrainState
+      old = state_of (state_at d routes (of_cone k) n) t
+
+      small : IsSmall n old
+      small = stays_small adm n t
+
+      go : (g : ℕ) → (g ≡ old.granted) ⊎ (g ≡ old.granted + 1) → 1 ≤ g → permitted (rates d t) (stretches d (given t g)) (authority (given t g)) old.x old.v (old.v - (rates d t).brake) ≡ true
+      go zero e l = absurd (omega arith)
+      go (suc g) e l = still d routes (free_plan k) sound t there old g (travels sound n t) e
+
+  pub can_go_at : IsAdmitted d → IsSound d routes (free_plan k) → (n : ℕ) → n ≤ 86400 → (t : TrainNo) → IsTrain d t
+      → CanMove d routes (run.of_plan routes (free_plan k)) t (state_of (state_at d routes (of_cone k) n) t).granted (state_of (state_at d routes (of_cone k) n) t)
+  can_go_at adm sound n early t there = record {
+    within = subst (λ ps. (state_of (state_at d routes (of_cone k) n) t).granted ≤ length ps) (sym (same t)) (granted_on_path d routes (of_cone k) n t);
+    braking = go old.granted refl;
+    near = let x = small.x in let m : n * 100000 ≤ 86400 * 100000 = mul-le-mul early (le_refl 100000) in omega arith;
+    slow = small.v;
+  }
+    where
+      old : TrainState
+      old = state_of (state_at d routes (of_cone k) n) t
+
+      small : IsSmall n old
+      small = stays_small adm n t
+
+      go : (g : ℕ) → g ≡ old.granted → 1 ≤ g → permitted (rates d t) (stretches d (given t g)) (authority (given t g)) old.x old.v (old.v - (rates d t).brake) ≡ true
+      go zero e l = absurd (omega arith)
+      go (suc g) e l = still d routes (free_plan k) sound t there old g (travels sound n t) (inl e)
+
+-- the horizons are within that of the design
+fold_within : (f m : ℕ) (cs : List ConeTrain) → f ≤ m → ((c : ConeTrain) → In c cs → c.horizon ≤ m) → fold max f (map (λ (c : ConeTrain). c.horizon) cs) ≤ m
+fold_within f m [] low h = low
+fold_within f m (c ∷ cs) low h = let a = h c (inl refl) in fold_within (max f c.horizon) m cs (omega arith) (λ x i. h x (inr i))
+
+pub last_within : (d : Station) (routes : List Route) (k : Cone) → in_design d routes k ≡ true → last_tick k ≤ horizon d
+last_within d routes k known = fold_within 0 (horizon d) k.trains (omega arith) (λ c m. (proper d routes k (of_design d routes k known) c m).horizon)

@@ -1,0 +1,29 @@
+use Rattle.std.proofs.Common.{ap, ap₂, ◌∙◌}
+use Rattle.std.specs.List.{list_all}
+use Rattle.rail_base.specs.Routes.{route_at, shared}
+use Rattle.rail_require.specs.Ticks.{history_of, is_by}
+use Rattle.rail_cone.specs.Cones.{of_cone}
+use Rattle.cone_run.specs.Asked.{release_in}
+use Rattle.cone_run.specs.Runs.{last_tick}
+use Rattle.cone_run.proofs.Asking.{cleared_asked}
+use Rattle.cone_run.proofs.Looking.{listed_there}
+use Rattle.cone_run.proofs.checked.ConeRun.has_cleared.Goals as goal
+
+pub route_at-requires : goal.route_at-requires
+route_at-requires c =
+    let l = c.args.self.now.layout in
+    (listed_there l.design.now.station l.routes.now l.cone.now c.requires.run.layout.known c.args.first c.args.second c.requires.listed).0.1
+
+pub returns : goal.returns
+returns c =
+    let l = c.args.self.now.layout in
+    let d = l.design.now.station in
+    let routes = l.routes.now in
+    let p = of_cone l.cone.now in
+    let last = last_tick l.cone.now in
+    let first = c.args.first in
+    let there = (listed_there d routes l.cone.now c.requires.run.layout.known first c.args.second c.requires.listed).0.0 in
+    c.all_released.ensures
+    ∙ ap₂ (λ r q. list_all (λ z. is_by c.args.tick (release_in (history_of c.args.self.now.history.now first.train).releases first.route z)) (shared r q)) c.route_at.ensures c.route_at-2.ensures
+    ∙ ap (λ h. list_all (λ z. is_by c.args.tick (release_in (history_of h first.train).releases first.route z)) (shared (route_at routes first.route) (route_at routes c.args.second.route))) c.requires.run.told
+    ∙ cleared_asked d routes p last first there c.args.tick c.args.second c.requires.tick

@@ -1,0 +1,10 @@
+use Rattle.std.proofs.Common.{arith}
+use Rattle.cone_run.proofs.Looking.{named_until}
+use Rattle.cone_run.proofs.checked.ConeRun.visit_shown.Goals as goal
+
+pub visit_tick-requires-clause-last : goal.visit_tick-requires-clause-last
+visit_tick-requires-clause-last c =
+    let l = c.args.self.now.layout in
+    let until = named_until l.design.now.station l.routes.now l.cone.now c.requires.run.layout.known c.args.train in
+    let horizon = c.horizon_of-last.ensures in
+    omega arith

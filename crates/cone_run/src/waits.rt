@@ -1,0 +1,132 @@
+//! What the free commands of a cone wait for.
+
+ghost use Rattle.std.specs.Prelude.{◌≡◌, IfOk, map};
+ghost use Rattle.rail_base.specs.Routes.{IsRoute};
+ghost use Rattle.rail_course.specs.Courses.{IsCourse};
+ghost use Rattle.rail_cone.specs.Cones.{named};
+ghost use Rattle.rail_course.specs.Journeys.{AreJourneys};
+ghost use Rattle.rail_cone.specs.Cones.{of_cone};
+ghost use Rattle.dispatch_run.specs.Followers.{AreFollowers};
+ghost use Rattle.cone_run.specs.Runs.{AreLed, IsLayout, free_plan, listed_waits, waits_of_train};
+
+use crate::layout::Layout;
+use cone_design::{is_among, pairs_from};
+use dispatch_run::Follower;
+use rail_base::plan::Command;
+use rail_base::station::TrainNo;
+use rail_cone::Cone;
+use rail_course::{Course, Journey, Release, Wait, wait_for};
+use std::alloc::{AllocError, Global};
+
+/// The horizon of a train; of one that is not named it is 0.
+pub(crate) fn horizon_of(cone: &Cone, train: TrainNo) -> u64
+    ensures { result ≡ (named cone.now train).horizon }
+{
+    for entry in cone.trains.as_slice() {
+        if entry.train == train {
+            return entry.horizon;
+        }
+    }
+    0
+}
+
+/// How many commands of a train are free; of one that is not named none is.
+pub(crate) fn free_of(cone: &Cone, train: TrainNo) -> u32
+    ensures { result ≡ (named cone.now train).free }
+{
+    for entry in cone.trains.as_slice() {
+        if entry.train == train {
+            return entry.free;
+        }
+    }
+    0
+}
+
+/// The same releases once more.
+fn copied(alloc: Global, releases: &[Release]) -> Result<Vec<Release>, AllocError>
+    ensures { IfOk result (λ r. r.items ≡ releases.now) }
+{
+    releases.iter().copied().collect(alloc)
+}
+
+impl<'a> Layout<'a> {
+    /// The waits of a command for those that are listed before it. They are among those that contend with it.
+    fn waits_of(&self, alloc: Global, command: Command) -> Result<Vec<Wait>, AllocError>
+        requires layout { IsLayout self.now }
+        requires command { IsRoute self.now.routes.now command.route }
+        ensures { IfOk result (λ w. w.items ≡ listed_waits self.now.design.now.station self.now.routes.now self.now.cone.now command) }
+    {
+        let mut waits = Vec::new(alloc);
+        for (_, other) in pairs_from(self.pairs, command) {
+            if is_among(self.cone.pairs.as_slice(), *other, command) {
+                waits.push(wait_for(
+                    self.design,
+                    self.routes,
+                    self.plan,
+                    self.courses,
+                    command,
+                    *other,
+                ))?;
+            }
+        }
+        Ok(waits)
+    }
+
+    /// The waits of each free command of a train.
+    fn waits_of_train(&self, alloc: Global, course: &Course) -> Result<Vec<Vec<Wait>>, AllocError>
+        requires layout { IsLayout self.now }
+        requires course { IsCourse self.now.design.now.station self.now.routes.now (free_plan self.now.cone.now) course.now }
+        ensures { IfOk result (λ w. map (λ v. v.items) w.items ≡ waits_of_train self.now.design.now.station self.now.routes.now self.now.cone.now course.now.train) }
+    {
+        let mut waits = Vec::new(alloc);
+        for route in &course.path {
+            let command = Command {
+                train: course.train,
+                route: *route,
+            };
+            waits.push(self.waits_of(alloc, command)?)?;
+        }
+        Ok(waits)
+    }
+
+    /// The journeys of all trains, in file order, of which the plain ones have all but the waits.
+    pub(crate) fn journeys(
+        &self,
+        alloc: Global,
+        plain: &[Journey<'a>],
+    ) -> Result<Vec<Journey<'a>>, AllocError>
+        requires layout { IsLayout self.now }
+        requires plain { AreJourneys self.now.design.now.station self.now.routes.now (free_plan self.now.cone.now) plain.now }
+        ensures { IfOk result (λ j. AreLed self.now.design.now.station self.now.routes.now self.now.cone.now j.items) }
+    {
+        let mut journeys = Vec::new(alloc);
+        for journey in plain {
+            journeys.push(Journey {
+                course: journey.course,
+                waits: self.waits_of_train(alloc, journey.course)?,
+                releases: copied(alloc, journey.releases.as_slice())?,
+            })?;
+        }
+        Ok(journeys)
+    }
+
+    /// The followers of all trains, in file order, each up to the horizon of its train.
+    pub(crate) fn followers<'b>(
+        &self,
+        alloc: Global,
+        journeys: &'b [Journey<'a>],
+    ) -> Result<Vec<Follower<'b>>, AllocError>
+        requires layout { IsLayout self.now }
+        requires journeys { AreLed self.now.design.now.station self.now.routes.now self.now.cone.now journeys.now }
+        ensures { IfOk result (λ f. AreFollowers self.now.design.now.station self.now.routes.now (of_cone self.now.cone.now) f.items) }
+    {
+        let mut followers = Vec::new(alloc);
+        for journey in journeys {
+            followers.push(Follower {
+                journey,
+                until: Some(horizon_of(self.cone, journey.course.train)),
+            })?;
+        }
+        Ok(followers)
+    }
+}

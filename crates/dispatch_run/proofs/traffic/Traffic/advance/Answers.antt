@@ -1,0 +1,70 @@
+use Rattle.std.proofs.Common.{◌≡◌, ◌≤◌, map, ap₂, sym, subst, ◌∙◌, arith}
+use Rattle.rail_base.specs.Members.{In}
+use Rattle.rail_base.specs.Stations.{trains}
+use Rattle.dispatch_run.specs.Turns.{IsTurn, looked_state, AreLookedAt, AreToBeTold}
+use Rattle.dispatch_run.proofs.Turning.{looks_ahead, turn_of, nothing_before, all_looked, all_told}
+use Rattle.dispatch_run.proofs.traffic.Traffic.advance.Goals as goal
+
+pub next_tick-tick-requires-clause-looks : goal.next_tick-tick-requires-clause-looks
+next_tick-tick-requires-clause-looks g c =
+    let d = c.args.self.now.design.now.station in
+    let routes = c.args.self.now.routes.now in
+    λ l m. looks_ahead d routes g.dispatch c.args.progress.tick c.args.progress.states.items c.args.progress.looks.items c.requires.1.0.known l (subst (In l) c.as_slice.ensures.value m)
+
+pub next_states-requires : goal.next_states-requires
+next_states-requires g c =
+    let d = c.args.self.now.design.now.station in
+    let routes = c.args.self.now.routes.now in
+    let old = c.args.progress in
+    let progress = c.requires.1.0 in
+    let tick = c.next_tick-tick.result in
+    let found = c.next_tick-tick.ensures in
+    let early : tick ≤ 86400 = (let w = found.within in let m = c.requires.1.1.1 in omega arith) in
+    let turn = turn_of d routes g.dispatch old.tick tick old.states.items old.looks.items progress.known found.after early (λ l m. found.least l (subst (In l) (sym c.as_slice.ensures.value) m)) in
+    (c.requires.0, subst (λ s. IsTurn d routes g.dispatch tick s c.as_slice-3.result.now) (sym c.as_slice-2.ensures.value) (subst (λ l. IsTurn d routes g.dispatch tick old.states.items l) (sym c.as_slice-3.ensures.value) turn))
+
+pub next_histories-requires : goal.next_histories-requires
+next_histories-requires g c =
+    let d = c.args.self.now.design.now.station in
+    let routes = c.args.self.now.routes.now in
+    let old = c.args.progress in
+    let progress = c.requires.1.0 in
+    let tick = c.next_tick-tick.result in
+    let found = c.next_tick-tick.ensures in
+    let early : tick ≤ 86400 = (let w = found.within in let m = c.requires.1.1.1 in omega arith) in
+    let turn = turn_of d routes g.dispatch old.tick tick old.states.items old.looks.items progress.known found.after early (λ l m. found.least l (subst (In l) (sym c.as_slice.ensures.value) m)) in
+    let states : c.in_ok-states.states.items ≡ map (looked_state d routes g.dispatch tick old.states.items old.looks.items) (trains d) =
+    c.in_ok-states.ensures ∙ ap₂ (λ s l. map (looked_state d routes g.dispatch tick s l) (trains d)) c.as_slice-2.ensures.value c.as_slice-3.ensures.value in (
+      c.requires.0,
+      subst (λ s. AreToBeTold d routes g.dispatch tick s c.as_slice-5.result.now old.histories.items) (sym c.as_slice-4.ensures.value)
+          (subst (λ l. AreToBeTold d routes g.dispatch tick c.in_ok-states.states.items l old.histories.items) (sym c.as_slice-5.ensures.value)
+          (all_told d routes g.dispatch tick old.states.items old.looks.items turn c.in_ok-states.states.items states old.histories.items progress.told)),
+    )
+
+pub next_looks-requires : goal.next_looks-requires
+next_looks-requires g c =
+    let d = c.args.self.now.design.now.station in
+    let routes = c.args.self.now.routes.now in
+    let old = c.args.progress in
+    let progress = c.requires.1.0 in
+    let tick = c.next_tick-tick.result in
+    let found = c.next_tick-tick.ensures in
+    let early : tick ≤ 86400 = (let w = found.within in let m = c.requires.1.1.1 in omega arith) in
+    let turn = turn_of d routes g.dispatch old.tick tick old.states.items old.looks.items progress.known found.after early (λ l m. found.least l (subst (In l) (sym c.as_slice.ensures.value) m)) in
+    let states : c.in_ok-states.states.items ≡ map (looked_state d routes g.dispatch tick old.states.items old.looks.items) (trains d) =
+    c.in_ok-states.ensures ∙ ap₂ (λ s l. map (looked_state d routes g.dispatch tick s l) (trains d)) c.as_slice-2.ensures.value c.as_slice-3.ensures.value in (
+      c.requires.0,
+      subst (λ s. AreLookedAt d routes g.dispatch tick s c.as_slice-7.result.now) (sym c.as_slice-6.ensures.value)
+          (subst (λ l. AreLookedAt d routes g.dispatch tick c.in_ok-states.states.items l) (sym c.as_slice-7.ensures.value)
+          (all_looked d routes g.dispatch tick old.states.items old.looks.items turn c.in_ok-states.states.items states)),
+    )
+
+pub returns-clause-quiet : goal.returns-clause-quiet
+returns-clause-quiet g c =
+    let d = c.args.self.now.design.now.station in
+    let routes = c.args.self.now.routes.now in
+    let old = c.args.progress in
+    let progress = c.requires.1.0 in
+    let tick = c.next_tick-tick.result in
+    let found = c.next_tick-tick.ensures in
+    λ k low high. nothing_before d routes g.dispatch old.tick tick old.states.items old.looks.items progress.known found.after found.first (λ l m. found.least l (subst (In l) (sym c.as_slice.ensures.value) m)) k low high ∙ sym progress.told

@@ -1,0 +1,13 @@
+-- How far a run has come.
+use Rattle.std.specs.Prelude.{◌≡◌, List}
+use Rattle.rail_base.specs.declared.station.Station.{Station}
+use Rattle.rail_base.specs.declared.route.Route.{Route}
+use Rattle.rail_spec.specs.Dispatches.{Dispatch}
+use Rattle.dispatch_quiet.specs.Histories.{history_at}
+use Rattle.dispatch_run.specs.declared.run.Progress.{Progress}
+use Rattle.dispatch_run.specs.Looks.{IsKnown}
+
+-- what is known at the tick of all trains, and what has happened to them by then
+pub record IsProgress (d : Station) (routes : List Route) (dispatch : Dispatch) (g : Progress) : Type 0 where
+  pub known : IsKnown d routes dispatch g.tick g.states.items g.looks.items
+  pub told : g.histories.items ≡ history_at d routes dispatch g.tick

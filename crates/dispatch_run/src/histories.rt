@@ -1,0 +1,113 @@
+//! The histories of trains in a run.
+
+ghost use Rattle.std.specs.Prelude.{◌≡◌, ◌-◌, ◌≤◌, IfOk};
+ghost use Rattle.rail_spec.specs.Dispatches.{Dispatch, state_at, state_of};
+ghost use Rattle.dispatch_quiet.specs.Histories.{history_at, train_history};
+ghost use Rattle.dispatch_run.specs.Followers.{IsFollower, IsTraffic};
+
+use crate::grants::IDLE;
+use crate::marks::{
+    mark_grants, mark_passes, mark_releases, mark_visits, none_granted, none_passed, none_released,
+    none_visited,
+};
+use crate::traffic::{Follower, Traffic};
+use rail_base::history::TrainHistory;
+use rail_base::list::List;
+use rail_base::state::TrainState;
+use std::alloc::{AllocError, Global};
+
+impl Traffic<'_> {
+    /// What has happened to a train before the first tick: nothing.
+    fn first_history(&self, alloc: Global, follower: &Follower) -> Result<TrainHistory, AllocError>
+        ghost dispatch: { Dispatch }
+        requires { IsFollower self.now.design.now.station self.now.routes.now dispatch follower.now }
+        ensures { IfOk result (λ h. h ≡ train_history self.now.design.now.station self.now.routes.now dispatch 0 follower.now.journey.now.course.now.train) }
+    {
+        let journey = follower.journey;
+        let course = journey.course;
+        let grants = none_granted(alloc, course.path.as_slice())?;
+        let passes = none_passed(alloc, course.stops.as_slice())?;
+        let releases = none_released(alloc, journey.releases.as_slice())?;
+        let visits = none_visited(alloc, course.visits.as_slice())?;
+        Ok(TrainHistory {
+            grants: List::from_vec(grants),
+            passes: List::from_vec(passes),
+            releases: List::from_vec(releases),
+            visits: List::from_vec(visits),
+        })
+    }
+
+    /// What has happened to each train before the first tick.
+    pub(crate) fn first_histories(&self, alloc: Global) -> Result<Vec<TrainHistory>, AllocError>
+        ghost dispatch: { Dispatch }
+        requires { IsTraffic dispatch self.now }
+        ensures { IfOk result (λ h. h.items ≡ history_at self.now.design.now.station self.now.routes.now dispatch 0) }
+    {
+        let mut histories = Vec::new(alloc);
+        for follower in self.followers {
+            histories.push(self.first_history(alloc, follower)?)?;
+        }
+        Ok(histories)
+    }
+
+    /// All trains before the first tick.
+    pub(crate) fn first_states(&self, alloc: Global) -> Result<Vec<TrainState>, AllocError>
+        ghost dispatch: { Dispatch }
+        requires { IsTraffic dispatch self.now }
+        ensures { IfOk result (λ s. s.items ≡ state_at self.now.design.now.station self.now.routes.now dispatch 0) }
+    {
+        let mut states = Vec::new(alloc);
+        for _follower in self.followers {
+            states.push(IDLE)?;
+        }
+        Ok(states)
+    }
+
+    /// What has happened to a train by a tick, at which it is in this state.
+    pub(crate) fn history_with(
+        &self,
+        alloc: Global,
+        follower: &Follower,
+        old: &TrainHistory,
+        state: TrainState,
+        tick: u64,
+    ) -> Result<TrainHistory, AllocError>
+        ghost dispatch: { Dispatch }
+        requires follower { IsFollower self.now.design.now.station self.now.routes.now dispatch follower.now }
+        requires first { 1 ≤ tick }
+        requires now { state ≡ state_of (state_at self.now.design.now.station self.now.routes.now dispatch tick) follower.now.journey.now.course.now.train }
+        requires before { old.now ≡ train_history self.now.design.now.station self.now.routes.now dispatch (tick - 1) follower.now.journey.now.course.now.train }
+        ensures { IfOk result (λ h. h ≡ train_history self.now.design.now.station self.now.routes.now dispatch tick follower.now.journey.now.course.now.train) }
+    {
+        let journey = follower.journey;
+        let course = journey.course;
+        let grants = mark_grants(alloc, state.granted, tick, old.grants.as_slice())?;
+        let passes = mark_passes(
+            alloc,
+            state,
+            tick,
+            course.stops.as_slice(),
+            old.passes.as_slice(),
+        )?;
+        let releases = mark_releases(
+            alloc,
+            state,
+            tick,
+            journey.releases.as_slice(),
+            old.releases.as_slice(),
+        )?;
+        let visits = mark_visits(
+            alloc,
+            state,
+            tick,
+            course.visits.as_slice(),
+            old.visits.as_slice(),
+        )?;
+        Ok(TrainHistory {
+            grants: List::from_vec(grants),
+            passes: List::from_vec(passes),
+            releases: List::from_vec(releases),
+            visits: List::from_vec(visits),
+        })
+    }
+}

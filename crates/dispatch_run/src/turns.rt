@@ -1,0 +1,195 @@
+//! A tick at which something may happen.
+
+ghost use Rattle.std.specs.Prelude.{◌≡◌, ◌≤◌, ◌<◌, ◌+◌, ℕ, IfOk, length, map};
+ghost use Rattle.rail_base.specs.Stations.{trains};
+ghost use Rattle.rail_spec.specs.Dispatches.{Dispatch, state_of};
+ghost use Rattle.dispatch_quiet.specs.Histories.{history_at, train_history};
+ghost use Rattle.dispatch_quiet.specs.Forecasts.{IsSeen};
+ghost use Rattle.dispatch_run.specs.Followers.{IsFollower, IsTraffic};
+ghost use Rattle.dispatch_run.specs.Looks.{IsKnown, look_of};
+ghost use Rattle.dispatch_run.specs.Turns.{AreLookedAt, AreToBeTold, IsLook, IsLookedAt, IsToBeTold, IsTurn, looked_state};
+
+use crate::grants::{granted_on, state_of};
+use crate::looks::{Look, look_of};
+use crate::moves::is_followed;
+use crate::traffic::{Follower, Traffic};
+use rail_base::history::TrainHistory;
+use rail_base::state::TrainState;
+use std::alloc::{AllocError, Global};
+
+/// The last tick that a run may have.
+const LAST: u64 = 86_400;
+
+impl Traffic<'_> {
+    /// A train after a tick, where it is looked at then; else as it was looked at last. What it sees of the others is
+    /// what they had come to by the tick before.
+    fn next_state(
+        &self,
+        follower: &Follower,
+        states: &[TrainState],
+        looks: &[Look],
+        tick: u64,
+    ) -> TrainState
+        ghost dispatch: { Dispatch }
+        requires traffic { IsTraffic dispatch self.now }
+        requires follower { IsFollower self.now.design.now.station self.now.routes.now dispatch follower.now }
+        requires turn { IsTurn self.now.design.now.station self.now.routes.now dispatch tick states.now looks.now }
+        ensures { result ≡ looked_state self.now.design.now.station self.now.routes.now dispatch tick states.now looks.now follower.now.journey.now.course.now.train }
+    {
+        let train = follower.journey.course.train;
+        let state = state_of(states, train);
+        let look = look_of(looks, train);
+        if look.until != tick {
+            return state;
+        }
+        let before = self.drifted(follower, state, look.since, tick - 1 - look.since);
+        if !is_followed(follower.until, tick) {
+            return before;
+        }
+        let granted = granted_on(states, state.granted, follower.journey.waits.as_slice());
+        self.moved(follower, before, granted)
+    }
+
+    /// The states of all trains, each as it is looked at last, after a tick.
+    pub(crate) fn next_states(
+        &self,
+        alloc: Global,
+        states: &[TrainState],
+        looks: &[Look],
+        tick: u64,
+    ) -> Result<Vec<TrainState>, AllocError>
+        ghost dispatch: { Dispatch }
+        requires traffic { IsTraffic dispatch self.now }
+        requires turn { IsTurn self.now.design.now.station self.now.routes.now dispatch tick states.now looks.now }
+        ensures { IfOk result (λ s. s.items ≡ map (looked_state self.now.design.now.station self.now.routes.now dispatch tick states.now looks.now) (trains self.now.design.now.station)) }
+    {
+        let mut next = Vec::new(alloc);
+        for follower in self.followers {
+            next.push(self.next_state(follower, states, looks, tick))?;
+        }
+        Ok(next)
+    }
+
+    /// What has happened to a train by a tick; it is marked where the train is looked at then.
+    fn next_told(
+        &self,
+        alloc: Global,
+        follower: &Follower,
+        old: TrainHistory,
+        state: TrainState,
+        look: Look,
+        tick: u64,
+    ) -> Result<TrainHistory, AllocError>
+        ghost dispatch: { Dispatch }
+        requires follower { IsFollower self.now.design.now.station self.now.routes.now dispatch follower.now }
+        requires some { 1 ≤ tick }
+        requires told { IsToBeTold self.now.design.now.station self.now.routes.now dispatch tick follower.now.journey.now.course.now.train state look old }
+        ensures { IfOk result (λ h. h ≡ train_history self.now.design.now.station self.now.routes.now dispatch tick follower.now.journey.now.course.now.train) }
+    {
+        if look.until != tick {
+            return Ok(old);
+        }
+        self.history_with(alloc, follower, &old, state, tick)
+    }
+
+    /// The histories of all trains after a tick.
+    pub(crate) fn next_histories(
+        &self,
+        alloc: Global,
+        histories: Vec<TrainHistory>,
+        states: &[TrainState],
+        looks: &[Look],
+        tick: u64,
+    ) -> Result<Vec<TrainHistory>, AllocError>
+        ghost dispatch: { Dispatch }
+        requires traffic { IsTraffic dispatch self.now }
+        requires told { AreToBeTold self.now.design.now.station self.now.routes.now dispatch tick states.now looks.now histories.items }
+        ensures { IfOk result (λ h. h.items ≡ history_at self.now.design.now.station self.now.routes.now dispatch tick) }
+    {
+        let mut olds = histories;
+        let mut told = Vec::new(alloc);
+        for i in 0..self.followers.len() {
+            let follower = &self.followers[i];
+            let train = follower.journey.course.train;
+            let old = olds.remove(0);
+            told.push(self.next_told(
+                alloc,
+                follower,
+                old,
+                state_of(states, train),
+                look_of(looks, train),
+                tick,
+            )?)?;
+        }
+        Ok(told)
+    }
+
+    /// The next look at a train that is granted nothing in the next tick.
+    fn far_look(&self, follower: &Follower, state: TrainState, look: Look, tick: u64) -> Look
+        ghost dispatch: { Dispatch }
+        requires traffic { IsTraffic dispatch self.now }
+        requires follower { IsFollower self.now.design.now.station self.now.routes.now dispatch follower.now }
+        requires some { 1 ≤ tick }
+        requires early { tick ≤ 86400 }
+        requires looked { IsLookedAt self.now.design.now.station self.now.routes.now dispatch tick follower.now.journey.now.course.now.train state look }
+        ensures seen { IsSeen self.now.design.now.station self.now.routes.now dispatch tick follower.now.journey.now.course.now.train state result.since result.until }
+        ensures begun { 1 ≤ result.since }
+    {
+        if look.until != tick {
+            return look;
+        }
+        Look {
+            since: tick,
+            until: tick + 1 + self.idle_ticks(follower, state, tick, LAST - tick),
+        }
+    }
+
+    /// The next look at a train after a tick: at the next one, where it is granted a command then.
+    fn next_look(
+        &self,
+        follower: &Follower,
+        states: &[TrainState],
+        looks: &[Look],
+        tick: u64,
+    ) -> Look
+        ghost dispatch: { Dispatch }
+        requires traffic { IsTraffic dispatch self.now }
+        requires follower { IsFollower self.now.design.now.station self.now.routes.now dispatch follower.now }
+        requires looked { AreLookedAt self.now.design.now.station self.now.routes.now dispatch tick states.now looks.now }
+        ensures { IsLook self.now.design.now.station self.now.routes.now dispatch tick states.now follower.now.journey.now.course.now.train result }
+    {
+        let train = follower.journey.course.train;
+        let state = state_of(states, train);
+        let look = self.far_look(follower, state, look_of(looks, train), tick);
+        if !is_followed(follower.until, tick + 1) {
+            return look;
+        }
+        if granted_on(states, state.granted, follower.journey.waits.as_slice()) == state.granted {
+            return look;
+        }
+        Look {
+            since: look.since,
+            until: tick + 1,
+        }
+    }
+
+    /// The next looks at all trains after a tick.
+    pub(crate) fn next_looks(
+        &self,
+        alloc: Global,
+        states: &[TrainState],
+        looks: &[Look],
+        tick: u64,
+    ) -> Result<Vec<Look>, AllocError>
+        ghost dispatch: { Dispatch }
+        requires traffic { IsTraffic dispatch self.now }
+        requires looked { AreLookedAt self.now.design.now.station self.now.routes.now dispatch tick states.now looks.now }
+        ensures { IfOk result (λ looks. IsKnown self.now.design.now.station self.now.routes.now dispatch tick states.now looks.items) }
+    {
+        let mut next = Vec::new(alloc);
+        for follower in self.followers {
+            next.push(self.next_look(follower, states, looks, tick))?;
+        }
+        Ok(next)
+    }
+}

@@ -1,0 +1,118 @@
+//! The verdict of a plan.
+
+ghost use Rattle.std.specs.Prelude.{◌≡◌, ◌≤◌, ℕ, true, IfOk, None, length};
+ghost use Rattle.rail_spec.specs.Track.{routes_of};
+ghost use Rattle.rail_spec.specs.Plans.{is_executable};
+ghost use Rattle.rail_spec.specs.Feasible.{IsWellFormed};
+ghost use Rattle.rail_spec.specs.Requirements.{path_violation};
+ghost use Rattle.rail_spec.specs.Histories.{verdict_of};
+ghost use Rattle.rail_spec.specs.Safety.{Clash, KeepsToTrack};
+ghost use Rattle.rail_spec.specs.Progress.{IsGrantedInTime};
+ghost use Rattle.rail_spec.specs.Dispatches.{Dispatch};
+ghost use Rattle.plan_run.specs.Planned.{IsPlanned, IsRun};
+
+use crate::due::next_due;
+use crate::planned::followers;
+use crate::run::Run;
+use dispatch_run::Traffic;
+use rail_base::design::Design;
+use rail_base::history::Verdict;
+use rail_base::list::List;
+use rail_base::plan::Plan;
+use rail_base::route::RouteTable;
+use rail_course::{courses_of, journeys_of};
+use rail_require::{are_done, violation_shown};
+use std::alloc::{AllocError, Global};
+
+/// The verdict of a plan whose paths make all visits: it is asked at each tick at which something happens to a train or a
+/// greatest time may end.
+fn verdict_by_events(
+    traffic: &Traffic,
+    plan: &Plan,
+    alloc: Global,
+    ticks: u64,
+) -> Result<Verdict, AllocError>
+    ghost dispatch: { Dispatch }
+    requires planned { IsPlanned dispatch traffic.now plan.now.steps }
+    requires paths { path_violation traffic.now.design.now.station traffic.now.routes.now plan.now.steps ≡ None }
+    ensures { IfOk result (λ v. v ≡ verdict_of traffic.now.design.now.station traffic.now.routes.now plan.now.steps ticks) }
+{
+    let design = traffic.design;
+    let last = ticks.min(design.horizon());
+    let mut progress = traffic.begin(alloc)?;
+    while progress.tick < last {
+        let due = next_due(design, progress.histories.as_slice(), progress.tick, last);
+        progress = traffic.advance(alloc, progress, due)?;
+        let tick = progress.tick;
+        if let Some(violation) = violation_shown(design, progress.histories.as_slice(), tick) {
+            return Ok(Verdict::Failed {
+                history: List::from_vec(progress.histories),
+                tick,
+                violation,
+            });
+        }
+        if are_done(progress.histories.as_slice()) {
+            return Ok(Verdict::Met {
+                history: List::from_vec(progress.histories),
+                tick,
+            });
+        }
+    }
+    Ok(Verdict::Undecided)
+}
+
+/// The verdict of the plan that is run.
+fn verdict(run: &Run, alloc: Global, ticks: u64) -> Result<Verdict, AllocError>
+    requires { IsRun run.now }
+    ensures { IfOk result (λ v. v ≡ verdict_of run.now.design.now.station run.now.routes.now run.now.plan.now.steps ticks) }
+{
+    let Some(violation) = run.path_violation() else {
+        let followers = followers(run, alloc)?;
+        let traffic = Traffic {
+            design: run.design,
+            routes: run.routes,
+            followers: followers.as_slice(),
+        };
+        return verdict_by_events(&traffic, run.plan, alloc, ticks);
+    };
+    if ticks == 0 {
+        return Ok(Verdict::Undecided);
+    }
+    Ok(Verdict::Failed {
+        history: List::new(alloc),
+        tick: 1,
+        violation,
+    })
+}
+
+/// What so many ticks of a run show of a plan: that it meets the design, that it fails and why, or nothing yet. The
+/// history ends with the deciding tick.
+///
+/// At whatever tick each train is within its authority and its limits. Where the plan is executable too, no two trains
+/// ever hold one section or stand on one, and each command is granted in a bounded time.
+pub fn simulate(
+    alloc: Global,
+    design: &Design,
+    routes: &RouteTable,
+    plan: &Plan,
+    ticks: u64,
+) -> Result<Verdict, AllocError>
+    requires table { routes.now ≡ routes_of design.now.station }
+    requires few { length routes.now ≤ 2000 }
+    requires formed { IsWellFormed design.now.station routes.now 64 plan.now.steps }
+    ensures value { IfOk result (λ v. v ≡ verdict_of design.now.station routes.now plan.now.steps ticks) }
+    ensures keeps { KeepsToTrack design.now.station routes.now plan.now.steps }
+    ensures granted { is_executable design.now.station routes.now plan.now.steps ≡ true
+        → IsGrantedInTime design.now.station routes.now plan.now.steps }
+    ensures apart { is_executable design.now.station routes.now plan.now.steps ≡ true → (k : ℕ) → Clash design.now.station routes.now plan.now.steps k → ⊥ }
+{
+    let courses = courses_of(alloc, design, routes, plan)?;
+    let journeys = journeys_of(alloc, design, routes, plan, courses.as_slice())?;
+    let run = Run {
+        design,
+        routes,
+        plan,
+        journeys: journeys.as_slice(),
+    };
+    verdict(&run, alloc, ticks)
+}
