@@ -1,38 +1,30 @@
 -- In the run of a cone each train moves as the plan of its free commands says, and may brake at any tick.
-use Rattle.std.proofs.Common.{◌≡◌, ℕ, zero, suc, ◌+◌, ◌-◌, ◌*◌, ◌/◌, ◌≤◌, ◌<◌, ◌⊎◌, inl, inr, Bool, true, false, if◌then◌else◌, ◌&&◌, nat_le, nat_lt, List, [], ◌∷◌, map, take, length, slice_get, sum_by, Option, None, Some, option_map, refl, sym, ap, subst, ◌∙◌, arith, mul-le-mul, le_refl, suc-mul, div-lt_iff_lt-mul, fold, max}
-use Rattle.std.specs.List.{list_all}
-use Rattle.std.proofs.lemmas.List.Folds.{list_all-map}
-use Rattle.std.proofs.lemmas.Option.{slice_get-map}
+use Rattle.std.proofs.Common.{◌≡◌, ℕ, zero, suc, ◌+◌, ◌-◌, ◌*◌, ◌/◌, ◌≤◌, ◌<◌, ◌⊎◌, inl, inr, Bool, true, false, if◌then◌else◌, List, [], ◌∷◌, map, take, length, slice_get, Option, None, Some, refl, sym, ap, subst, ◌∙◌, arith, mul-le-mul, le_refl, suc-mul, div-lt_iff_lt-mul, fold, max}
 use Rattle.rail_base.specs.declared.station.Station.{Station}
 use Rattle.rail_base.specs.declared.station.TrainNo.{TrainNo}
 use Rattle.rail_base.specs.declared.route.Route.{Route}
 use Rattle.rail_base.specs.declared.route.RouteNo.{RouteNo}
-use Rattle.rail_base.specs.declared.plan.Command.{Command}
 use Rattle.rail_base.specs.declared.state.TrainState.{TrainState}
 use Rattle.rail_base.specs.Admitted.{IsAdmitted}
 use Rattle.rail_base.specs.Members.{In}
-use Rattle.rail_base.specs.Numbering.{before_first, greatest}
-use Rattle.rail_base.specs.Routes.{route_at, shared, share, release_offset, length_mm}
-use Rattle.rail_base.specs.Stations.{IsTrain, horizon, train_length, vehicle_of}
-use Rattle.rail_spec.specs.Track.{routes_of}
+use Rattle.rail_base.specs.Numbering.{greatest}
+use Rattle.rail_base.specs.Routes.{route_at}
+use Rattle.rail_base.specs.Stations.{IsTrain, horizon, vehicle_of}
 use Rattle.rail_spec.specs.Motion.{permitted, next_speed, reach}
-use Rattle.rail_spec.specs.Plans.{is_route, path, path_routes}
-use Rattle.rail_spec.specs.Dispatches.{state_of, state_at, rates, stretches, authority, has_cleared, is_ready, granted_with, granted_after, speed_with, moved}
+use Rattle.rail_spec.specs.Plans.{path, path_routes}
+use Rattle.rail_spec.specs.Dispatches.{state_of, state_at, rates, stretches, authority, is_ready, granted_with, granted_after, speed_with, moved}
 use Rattle.rail_spec.specs.Run as run
 use Rattle.rail_spec.proofs.MotionLaws.{permitted_after, next_speed_permitted}
 use Rattle.rail_spec.proofs.UnderWay.{IsSound, Travels, still}
-use Rattle.rail_course.specs.declared.waits.Wait.{Wait}
-use Rattle.rail_course.specs.Waits.{is_over, wait_for}
-use Rattle.rail_course.proofs.Waiting.{list_all-same, over_when_cleared}
 use Rattle.rail_cone.specs.declared.Cone.{Cone}
 use Rattle.rail_cone.specs.declared.ConeTrain.{ConeTrain}
 use Rattle.rail_cone.specs.Cones.{named, free_path, of_cone}
 use Rattle.rail_cone.specs.Validity.{in_design}
-use Rattle.rail_cone.proofs.Naming.{of_design, proper, listed_is, waits_listed}
+use Rattle.rail_cone.proofs.Naming.{of_design, proper}
 use Rattle.rail_cone.proofs.Running.{Moves, Idles, after_tick, idle_at_first, granted_after_most, granted_on_path}
 use Rattle.dispatch_run.specs.Followers.{CanMove}
 use Rattle.cone_run.specs.Runs.{free_plan, last_tick}
-use Rattle.cone_run.proofs.Ranging.{given_path, cone_sound}
+use Rattle.cone_run.proofs.Ranging.{given_path}
 
 greatest_within : (test : ℕ → Bool) (n : ℕ) → greatest test n ≤ n
 greatest_within test zero = omega arith

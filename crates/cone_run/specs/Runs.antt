@@ -1,4 +1,4 @@
--- The run of a cone: its free commands as a plan, what each of them waits for, and the states at all its ticks.
+-- The run of a cone: its free commands as a plan, what each of them waits for, and the journeys of its trains.
 use Rattle.std.specs.Prelude.{◌≡◌, ℕ, ◌≤◌, true, List, [], ◌∷◌, All, map, flat_map, fold, max, take, length}
 use Rattle.rail_base.specs.declared.station.Station.{Station}
 use Rattle.rail_base.specs.declared.station.TrainNo.{TrainNo}

@@ -6,7 +6,7 @@ use rail_base::route::RouteTable;
 use rail_cone::Cone;
 use rail_course::Course;
 
-/// A cone over a design, its free commands as a plan, and the courses that they give the trains.
+/// A cone over a design, its free commands, and the courses that they give the trains.
 #[derive(Clone, Copy)]
 pub(crate) struct Layout<'a> {
     pub design: &'a Design,
