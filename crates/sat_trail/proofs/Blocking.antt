@@ -1,5 +1,5 @@
 -- Literals that stand beside the clauses in the lists.
-use Rattle.std.proofs.Common.{◌≡◌, ◌≢◌, ◌+◌, ◌-◌, ℕ, zero, suc, ◌<◌, ◌≤◌, true, false, not, List, [], ◌∷◌, ◌++◌, Some, refl, sym, ap, ◌∙◌, subst, arith, inl, inr, length, get_or, map, set}
+use Rattle.std.proofs.Common.{◌≡◌, ◌≢◌, ◌+◌, ◌-◌, ℕ, zero, suc, ◌<◌, ◌≤◌, true, not, List, [], ◌∷◌, ◌++◌, Some, refl, sym, ap, ◌∙◌, subst, arith, inl, inr, length, get_or, map, set}
 use Rattle.std.specs.Prelude.{nat_eq, None, slice_get}
 use Rattle.sat_trail.specs.declared.pair.Pair.{Pair}
 use Rattle.std.specs.List.{All, filter}
@@ -10,12 +10,11 @@ use Rattle.std.proofs.lemmas.List.{map-set, length-map, get_or-map}
 use Rattle.std.proofs.lemmas.List.Elements.{All-set}
 use Rattle.sat_clause.specs.declared.lit.Lit.{Lit}
 use Rattle.sat_clause.specs.Clauses.{Store, live_clause}
-use Rattle.sat_clause.specs.Hints.{is_held}
 use Rattle.sat_trail.specs.declared.entry.Entry.{Entry}
 use Rattle.sat_trail.specs.Attached.{Seen, is_among, attached_clause, with_attached, without_attached, IsSameBut}
 use Rattle.sat_trail.specs.Blockers.{IsOf, IsBlocked, AllBlocked}
 use Rattle.sat_trail.specs.View.{View}
-use Rattle.sat_trail.specs.Watches.{row_at, entries, ids, rows}
+use Rattle.sat_trail.specs.Watches.{row_at, entries, ids}
 use Rattle.sat_trail.proofs.Members.{told, or-left, or-right, either}
 use Rattle.sat_trail.proofs.Rows.{among-before}
 use Rattle.sat_trail.proofs.Stores.{attached-same, attached-other, detached-same, detached-other}

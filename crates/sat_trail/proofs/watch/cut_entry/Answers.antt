@@ -1,8 +1,7 @@
-use Rattle.std.proofs.Common.{◌≡◌, ◌+◌, ◌-◌, ◌<◌, arith, ap, ◌∙◌, ℕ, length, get_or}
+use Rattle.std.proofs.Common.{◌≡◌, ◌+◌, ◌-◌, ◌<◌, arith, ap, ◌∙◌, length, get_or}
 use Rattle.std.specs.Global.{Vec}
 use Rattle.std.specs.Prelude.{vec_len}
 use Rattle.sat_trail.specs.declared.entry.Entry.{Entry}
-use Rattle.sat_trail.specs.Watches.{ids}
 use Rattle.sat_trail.specs.Blockers.{IsBlocked}
 use Rattle.sat_trail.proofs.Blocking.{each-get, each-set, all-cut}
 use Rattle.sat_trail.proofs.Rows.{row-get, rows-cut, rows-within, ids-length}
