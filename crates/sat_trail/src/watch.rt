@@ -42,14 +42,19 @@ pub fn code(l: Lit) -> usize
     if l.negated { twice + 1 } else { twice }
 }
 
-/// Puts a clause at the end of a list.
-pub fn put_entry(lists: &mut Vec<Vec<Entry>>, place: usize, entry: Entry) -> Result<(), AllocError>
+/// Puts a clause at the end of a list, with one of its literals.
+pub fn put_entry(
+    lists: &mut Vec<Vec<Entry>>,
+    place: usize,
+    id: u64,
+    blocker: Lit,
+) -> Result<(), AllocError>
     requires { place < length lists.old.items }
-    ensures ok { OnOk result (rows lists.new.items ≡ edit (λ r. r ++ entry.id ∷ []) (rows lists.old.items) place) }
+    ensures ok { OnOk result (rows lists.new.items ≡ edit (λ r. r ++ id ∷ []) (rows lists.old.items) place) }
     ensures err { OnErr result (rows lists.new.items ≡ rows lists.old.items) }
-    ensures blocked { (seen : Seen) (loose : List ℕ) (count : ℕ) → IsBlocked seen loose count entry → AllBlocked seen loose count lists.old.items → AllBlocked seen loose count lists.new.items }
+    ensures blocked { (seen : Seen) (loose : List ℕ) (count : ℕ) → IsBlocked seen loose count (record { id = id; blocker = blocker }) → AllBlocked seen loose count lists.old.items → AllBlocked seen loose count lists.new.items }
 {
-    lists[place].push(entry)?;
+    lists[place].push(Entry { id, blocker })?;
     Ok(())
 }
 
@@ -263,14 +268,7 @@ fn look_at(
     let clause = arena.clause(entry.id);
     let mut start = start_of(&watches.pairs, entry.id);
     if let Some(l) = replacement(trail, clause, other, &mut start) {
-        put_entry(
-            &mut watches.lists,
-            code(l),
-            Entry {
-                id: entry.id,
-                blocker: other,
-            },
-        )?;
+        put_entry(&mut watches.lists, code(l), entry.id, other)?;
         set_pair(
             &mut watches.pairs,
             entry.id,
@@ -478,22 +476,8 @@ pub fn watch(
         return Ok(());
     };
     reach(&mut watches.pairs, id, pair)?;
-    put_entry(
-        &mut watches.lists,
-        code(pair.first),
-        Entry {
-            id,
-            blocker: pair.second,
-        },
-    )?;
-    put_entry(
-        &mut watches.lists,
-        code(pair.second),
-        Entry {
-            id,
-            blocker: pair.first,
-        },
-    )?;
+    put_entry(&mut watches.lists, code(pair.first), id, pair.second)?;
+    put_entry(&mut watches.lists, code(pair.second), id, pair.first)?;
     set_pair(&mut watches.pairs, id, pair);
     Ok(())
 }
