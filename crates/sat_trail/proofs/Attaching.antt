@@ -147,6 +147,31 @@ watching-reach v loose rows pairs after h same x = record {
   ];
 }
 
+-- other numbers stay in the lists
+pub watching-freed : (v : View) (loose : List ℕ) (old new : List (List ℕ)) (pairs : List Pair) (h id : ℕ) → length new ≡ length old → ((k x : ℕ) → (x ≡ id → ⊥) → is_among (row_at old k) x ≡ true → is_among (row_at new k) x ≡ true) → attached_clause v.attached id ≡ None → IsWatching v loose old pairs h → IsWatching v loose new pairs h
+watching-freed v loose old new pairs h id size others none x = record {
+  size = size ∙ x.size;
+  within = x.within;
+  all = λ j c f. elim (x.all j c f) [
+    | inl q ↦ inl q
+    | inr q ↦ (
+        let ne : j ≡ id → ⊥ = λ e. (let z : None ≡ Some c = sym none ∙ ap (λ y. attached_clause v.attached y) (sym e) ∙ f in cc) in
+        inr (record {
+          pair = q.pair;
+          kept = q.kept;
+          by = record {
+            first_in = q.by.first_in;
+            second_in = q.by.second_in;
+            apart = q.by.apart;
+            first_listed = others (code_of q.pair.first) j ne q.by.first_listed;
+            second_listed = others (code_of q.pair.second) j ne q.by.second_listed;
+            first_guarded = q.by.first_guarded;
+            second_guarded = q.by.second_guarded;
+          };
+        }))
+  ];
+}
+
 pub watching-put : (v : View) (loose : List ℕ) (old new : List (List ℕ)) (pairs : List Pair) (h k id : ℕ) → k < length old → new ≡ edit (λ r. r ++ id ∷ []) old k → IsWatching v loose old pairs h → IsWatching v loose new pairs h
 watching-put v loose old new pairs h k id n e x = record {
   size = ap length e ∙ edit-length (λ r. r ++ id ∷ []) old k ∙ x.size;

@@ -10,6 +10,7 @@ pub mod Levels
 pub mod Standing
 pub mod Stores
 pub mod Rows
+pub mod Blocking
 pub mod Standby
 pub mod Watched
 pub mod Attaching

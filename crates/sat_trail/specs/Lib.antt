@@ -1,4 +1,5 @@
 pub mod Attached
+pub mod Blockers
 pub mod Forced
 pub mod Marks
 pub mod Scans

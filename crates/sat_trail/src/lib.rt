@@ -2,6 +2,7 @@
 #![tactic(auto)]
 
 mod assigned;
+mod entry;
 mod found;
 mod needed;
 mod pair;

@@ -35,8 +35,10 @@ impl Model for Trail {
 
     ghost use Rattle.sat_trail.specs.Watches.{rows, IsWatching};
     ghost use Rattle.sat_trail.specs.Settled.{IsSettled};
+    ghost use Rattle.sat_trail.specs.Blockers.{AllBlocked};
+    ghost use Rattle.std.specs.Prelude.{length};
 
-    ghost invariant = { λ t. IsWatching t.assigned t.watches.loose.items (rows t.watches.lists.items) t.watches.pairs.items t.head × IsSettled t.assigned t.watches.loose.items t.settled.count t.settled.top };
+    ghost invariant = { λ t. IsWatching t.assigned t.watches.loose.items (rows t.watches.lists.items) t.watches.pairs.items t.head × IsSettled t.assigned t.watches.loose.items t.settled.count t.settled.top × AllBlocked t.assigned.attached t.watches.loose.items (length t.watches.pairs.items) t.watches.lists.items };
 }
 
 impl Trail {
@@ -51,7 +53,6 @@ impl Trail {
             assigned,
             watches: Watches {
                 pairs: Vec::new(alloc),
-                starts: Vec::new(alloc),
                 lists,
                 loose: Vec::new(alloc),
             },

@@ -1,19 +1,23 @@
-ghost use Rattle.std.specs.Prelude.{◌≡◌, ◌++◌, ◌∷◌, [], ◌<◌, ◌≤◌, ◌+◌, ◌⊎◌, ℕ, List, true, false, length, IfOk, OnOk, OnErr, IfSome, IfNone, Some, None, IsSome, MatchOption, take, drop, slice_get, slice_index_or};
+ghost use Rattle.std.specs.Prelude.{◌≡◌, ◌++◌, ◌∷◌, [], ◌<◌, ◌≤◌, ◌+◌, ◌⊎◌, ℕ, List, true, false, not, nat_eq, map, length, IfOk, OnOk, OnErr, IfSome, IfNone, Some, None, IsSome, IsTrue, IsFalse, MatchOption, take, drop, set, slice_get, slice_index_or};
+ghost use Rattle.std.specs.List.{All, filter};
+ghost use Rattle.sat_clause.specs.declared.lit.Lit.{Lit};
 ghost use Rattle.sat_clause.specs.Clauses.{opposite, live_clause};
-ghost use Rattle.sat_clause.specs.Hints.{same_lit, is_held};
+ghost use Rattle.sat_clause.specs.Hints.{same_lit, is_held, open_lits, unit_of};
 ghost use Rattle.sat_clause.specs.Closed.{IsClosed};
 ghost use Rattle.sat_trail.specs.Trails.{lits, IsTrail, AllIn, depth};
-ghost use Rattle.sat_trail.specs.Attached.{AreLive, attached_clause};
+ghost use Rattle.sat_trail.specs.Attached.{Seen, AreLive, IsSameBut, attached_clause, is_among};
+ghost use Rattle.sat_trail.specs.Blockers.{IsBlocked, AllBlocked};
 ghost use Rattle.sat_trail.specs.Forced.{IsForced, VarsUpTo};
 ghost use Rattle.sat_trail.specs.Walks.{IsConflict};
-ghost use Rattle.sat_trail.specs.Watches.{code_of, row_at, edit, rows, IsCut, other_in, IsWatching, IsOpenPair, IsLooseOrWatched, Todo, Looked};
+ghost use Rattle.sat_trail.specs.Watches.{code_of, row_at, edit, entries, rows, IsCut, other_in, IsWatching, IsOpenPair, IsLooseOrWatched, Pending, Looked};
 ghost use Rattle.sat_trail.specs.Scans.{Says};
 ghost use Rattle.sat_trail.specs.Settled.{IsSettled};
 
 use crate::assigned::Assigned;
-use crate::found::{Look, Next, Visit};
+use crate::entry::Entry;
+use crate::found::{Next, Visit};
 use crate::pair::Pair;
-use crate::scan::{look, scan, scan_among};
+use crate::scan::{scan, scan_among};
 use crate::settled::{Settled, unsettled};
 use crate::walk::{negated, same};
 use sat_clause::{Arena, Lit};
@@ -24,10 +28,8 @@ use std::alloc::{AllocError, Global};
 pub struct Watches {
     /// The two literals by which each clause is watched.
     pub pairs: Vec<Pair>,
-    /// For each clause the place from which on another literal is looked for.
-    pub starts: Vec<usize>,
     /// For each literal the clauses that it watches. Some may no longer be watched by it.
-    pub lists: Vec<Vec<u64>>,
+    pub lists: Vec<Vec<Entry>>,
     /// Clauses that are not watched.
     pub loose: Vec<u64>,
 }
@@ -40,34 +42,87 @@ pub fn code(l: Lit) -> usize
     if l.negated { twice + 1 } else { twice }
 }
 
-/// Puts a clause at the end of a list.
-pub fn put_id(lists: &mut Vec<Vec<u64>>, place: usize, id: u64) -> Result<(), AllocError>
+/// Puts a clause at the end of a list, with one of its literals.
+pub fn put_entry(
+    lists: &mut Vec<Vec<Entry>>,
+    place: usize,
+    id: u64,
+    blocker: Lit,
+) -> Result<(), AllocError>
     requires { place < length lists.old.items }
     ensures ok { OnOk result (rows lists.new.items ≡ edit (λ r. r ++ id ∷ []) (rows lists.old.items) place) }
     ensures err { OnErr result (rows lists.new.items ≡ rows lists.old.items) }
+    ensures blocked { (seen : Seen) (loose : List ℕ) (count : ℕ) → IsBlocked seen loose count (record { id = id; blocker = blocker }) → AllBlocked seen loose count lists.old.items → AllBlocked seen loose count lists.new.items }
 {
-    lists[place].push(id)?;
+    lists[place].push(Entry { id, blocker })?;
     Ok(())
 }
 
 /// Takes a clause out of a list. The last one takes its place.
-fn cut_id(lists: &mut Vec<Vec<u64>>, place: usize, i: usize)
+fn cut_entry(lists: &mut Vec<Vec<Entry>>, place: usize, i: usize)
     requires { i < length (row_at (rows lists.old.items) place) }
-    ensures { IsCut (rows lists.old.items) (rows lists.new.items) place i }
+    ensures cut { IsCut (rows lists.old.items) (rows lists.new.items) place i }
+    ensures blocked { (seen : Seen) (loose : List ℕ) (count : ℕ) → AllBlocked seen loose count lists.old.items → AllBlocked seen loose count lists.new.items }
 {
     lists[place].swap_remove(i);
 }
 
-/// The number at an index of a list.
-fn listed(lists: &[Vec<u64>], place: usize, i: usize) -> Option<u64>
-    ensures some { IfSome result (λ id. (i < length (row_at (rows lists.now) place)) × (id ≡ slice_index_or (row_at (rows lists.now) place) i 0)) }
+/// Writes an entry in the place of another.
+fn put_at(list: &mut Vec<Entry>, i: usize, entry: Entry)
+    requires { i < length list.old.items }
+    ensures { list.new.items ≡ set list.old.items i entry }
+{
+    list[i] = entry;
+}
+
+/// Names another literal beside a clause in a list.
+fn set_blocker(lists: &mut Vec<Vec<Entry>>, place: usize, i: usize, entry: Entry)
+    requires within { i < length (row_at (rows lists.old.items) place) }
+    requires same { entry.id ≡ slice_index_or (row_at (rows lists.old.items) place) i 0 }
+    ensures rows { rows lists.new.items ≡ rows lists.old.items }
+    ensures blocked { (seen : Seen) (loose : List ℕ) (count : ℕ) → IsBlocked seen loose count entry → AllBlocked seen loose count lists.old.items → AllBlocked seen loose count lists.new.items }
+{
+    put_at(&mut lists[place], i, entry);
+}
+
+/// The entry at an index of a list.
+fn listed(lists: &[Vec<Entry>], place: usize, i: usize) -> Option<Entry>
+    ensures some { IfSome result (λ e. (i < length (row_at (rows lists.now) place)) × (e.id ≡ slice_index_or (row_at (rows lists.now) place) i 0)) }
     ensures none { IfNone result (length (row_at (rows lists.now) place) ≤ i) }
     ensures bound { IfSome result (λ _. i + 1 < 18446744073709551616) }
+    ensures blocked { IfSome result (λ e. (seen : Seen) (loose : List ℕ) (count : ℕ) → AllBlocked seen loose count lists.now → IsBlocked seen loose count e) }
 {
     let Some(list) = lists.get(place) else {
         return None;
     };
     if i < list.len() { Some(list[i]) } else { None }
+}
+
+/// Takes a clause out of a list, wherever it stands there.
+fn take_out(list: &mut Vec<Entry>, id: u64)
+    ensures { list.new.items ≡ filter (λ e. not (nat_eq e.id id)) list.old.items }
+{
+    list.retain(|entry| entry.id != id);
+}
+
+/// Takes a clause out of all lists.
+fn take_out_all(lists: &mut Vec<Vec<Entry>>, id: u64)
+    ensures { entries lists.new.items ≡ map (filter (λ e. not (nat_eq e.id id))) (entries lists.old.items) }
+{
+    for i in 0..lists.len() {
+        take_out(&mut lists[i], id);
+    }
+}
+
+/// Takes a clause out of all lists before its number is used for another one. It stands in none where no number is this high.
+fn make_free(lists: &mut Vec<Vec<Entry>>, count: usize, id: u64)
+    ensures size { length (rows lists.new.items) ≡ length (rows lists.old.items) }
+    ensures others { (k x : ℕ) → (x ≡ id → ⊥) → is_among (row_at (rows lists.old.items) k) x ≡ true → is_among (row_at (rows lists.new.items) k) x ≡ true }
+    ensures blocked { (seen now : Seen) (loose : List ℕ) (c : List Lit) → IsSameBut seen now id c → AllBlocked seen loose count lists.old.items → AllBlocked now loose count lists.new.items }
+{
+    if id < count as u64 {
+        take_out_all(lists, id);
+    }
 }
 
 /// The other literal of a clause's pair, where this is one of them.
@@ -136,22 +191,12 @@ fn replacement(trail: &Assigned, clause: &[Lit], other: Lit, start: &mut usize) 
     open_literal(trail, before(clause, first), other, start)
 }
 
-/// Where the search for a literal of a clause begins.
-fn start_of(starts: &[usize], id: u64) -> usize {
-    match starts.get(id as usize) {
-        Some(start) => *start,
+/// Where the search for another literal of a clause begins.
+fn start_of(pairs: &[Pair], id: u64) -> usize {
+    match pairs.get(id as usize) {
+        Some(pair) => pair.start,
         None => 0,
     }
-}
-
-/// Remembers where the search for a literal of a clause begins. Where there is no memory it does not.
-fn set_start(starts: &mut Vec<usize>, id: u64, start: usize) {
-    'far: while starts.len() as u64 <= id {
-        if starts.push(0).is_err() {
-            return;
-        }
-    }
-    starts[id as usize] = start;
 }
 
 /// Watches a clause by this pair from now on.
@@ -159,8 +204,26 @@ fn set_pair(pairs: &mut Vec<Pair>, id: u64, pair: Pair)
     requires { id < length pairs.old.items }
     ensures same { (k : ℕ) → (k ≡ id → ⊥) → slice_get pairs.new.items k ≡ slice_get pairs.old.items k }
     ensures there { slice_get pairs.new.items id ≡ Some pair }
+    ensures size { length pairs.new.items ≡ length pairs.old.items }
 {
     pairs[id as usize] = pair;
+}
+
+/// Whether a literal is one of the clause.
+fn has(clause: &[Lit], l: Lit) -> bool
+    ensures { result ≡ is_held clause.now l }
+{
+    clause.iter().any(|k| same(l, *k))
+}
+
+/// Whether a clause is false. All its literals but one are, and that one isn't true.
+fn is_false(trail: &Assigned, clause: &[Lit], other: Lit) -> bool
+    requires not_true { is_held (lits trail.now.steps) other ≡ false }
+    requires others { (l : _) → is_held clause.now l ≡ true → same_lit l other ≡ false → is_held (lits trail.now.steps) (opposite l) ≡ true }
+    ensures yes { IsTrue result → open_lits (lits trail.now.steps) clause.now ≡ [] }
+    ensures no { IsFalse result → unit_of (lits trail.now.steps) clause.now ≡ Some other }
+{
+    trail.holds(negated(other)) || !has(clause, other)
 }
 
 /// Looks at a clause that a literal watches which has become false: watches it by another one, or adds what it forces.
@@ -170,54 +233,58 @@ fn look_at(
     arena: &Arena,
     w: Lit,
     head: usize,
-    id: u64,
+    entry: Entry,
 ) -> Result<Visit, AllocError>
     requires attached { AreLive arena.now trail.old.attached }
     requires trail { IsTrail arena.now trail.old.steps }
     requires in_vars { VarsUpTo arena.now trail.old.vars }
     requires watching { IsWatching trail.old watches.old.loose.items (rows watches.old.lists.items) watches.old.pairs.items head }
+    requires blocked { AllBlocked trail.old.attached watches.old.loose.items (length watches.old.pairs.items) watches.old.lists.items }
+    requires entry { IsBlocked trail.old.attached watches.old.loose.items (length watches.old.pairs.items) entry }
     requires is_false { is_held (lits trail.old.steps) (opposite w) ≡ true }
     ensures trail { IsTrail arena.now trail.new.steps }
     ensures forced { IsForced trail.old trail.new }
     ensures watching { IsWatching trail.new watches.new.loose.items (rows watches.new.lists.items) watches.new.pairs.items head }
+    ensures blocked { AllBlocked trail.new.attached watches.new.loose.items (length watches.new.pairs.items) watches.new.lists.items }
     ensures loose { watches.new.loose.items ≡ watches.old.loose.items }
+    ensures count { length watches.new.pairs.items ≡ length watches.old.pairs.items }
     ensures row { row_at (rows watches.new.lists.items) (code_of w) ≡ row_at (rows watches.old.lists.items) (code_of w) }
-    ensures todo { (left : List ℕ) → Todo trail.old watches.old.loose.items watches.old.pairs.items w left → Todo trail.new watches.new.loose.items watches.new.pairs.items w left }
-    ensures looked { IfOk result (Looked trail.new watches.new.loose.items watches.new.pairs.items arena.now w id) }
+    ensures pending { (left : List ℕ) → Pending trail.old watches.old.loose.items watches.old.pairs.items w left → Pending trail.new watches.new.loose.items watches.new.pairs.items w left }
+    ensures looked { IfOk result (Looked trail.new watches.new.loose.items watches.new.pairs.items arena.now w entry.id) }
 {
-    let Some(other) = other_watch(&watches.pairs, id, w) else {
+    let _ = trail.steps();
+    if trail.holds(entry.blocker) {
+        return Ok(Visit::Blocked);
+    }
+    let Some(other) = other_watch(&watches.pairs, entry.id, w) else {
         return Ok(Visit::Gone);
     };
-    let _ = trail.steps();
     if trail.holds(other) {
-        return Ok(Visit::Kept);
+        return Ok(Visit::Kept(other));
     }
-    if !arena.live(id) {
+    if !arena.live(entry.id) {
         return Ok(Visit::Gone);
     }
-    let clause = arena.clause(id);
-    let mut start = start_of(&watches.starts, id);
+    let clause = arena.clause(entry.id);
+    let mut start = start_of(&watches.pairs, entry.id);
     if let Some(l) = replacement(trail, clause, other, &mut start) {
-        put_id(&mut watches.lists, code(l), id)?;
+        put_entry(&mut watches.lists, code(l), entry.id, other)?;
         set_pair(
             &mut watches.pairs,
-            id,
+            entry.id,
             Pair {
                 first: l,
                 second: other,
+                start,
             },
         );
-        set_start(&mut watches.starts, id, start);
         return Ok(Visit::Gone);
     }
-    match look(trail, clause) {
-        Look::Quiet => Ok(Visit::Kept),
-        Look::False => Ok(Visit::False),
-        Look::Unit(l) => {
-            trail.force(l, id);
-            Ok(Visit::Kept)
-        }
+    if is_false(trail, clause, other) {
+        return Ok(Visit::False);
     }
+    trail.force(other, entry.id);
+    Ok(Visit::Kept(other))
 }
 
 /// Looks at each clause that a literal watches which has become false. The answer is a clause that is false.
@@ -232,23 +299,33 @@ fn look_at_all(
     requires trail { IsTrail arena.now trail.old.steps }
     requires in_vars { VarsUpTo arena.now trail.old.vars }
     requires watching { IsWatching trail.old watches.old.loose.items (rows watches.old.lists.items) watches.old.pairs.items head }
+    requires blocked { AllBlocked trail.old.attached watches.old.loose.items (length watches.old.pairs.items) watches.old.lists.items }
     requires within { head < length trail.old.steps }
     requires there { (d : _) → (slice_index_or trail.old.steps head d).lit ≡ opposite w }
     requires level { (d : _) → (slice_index_or trail.old.steps head d).level ≡ depth trail.old.steps }
     ensures trail { IsTrail arena.now trail.new.steps }
     ensures forced { IsForced trail.old trail.new }
     ensures watching { IsWatching trail.new watches.new.loose.items (rows watches.new.lists.items) watches.new.pairs.items head }
+    ensures blocked { AllBlocked trail.new.attached watches.new.loose.items (length watches.new.pairs.items) watches.new.lists.items }
     ensures loose { watches.new.loose.items ≡ watches.old.loose.items }
     ensures next { IfOk result (λ o. IfNone o (IsWatching trail.new watches.new.loose.items (rows watches.new.lists.items) watches.new.pairs.items (head + 1))) }
     ensures found { IfOk result (λ o. IfSome o (IsConflict arena.now (lits trail.new.steps))) }
 {
     let place = code(w);
     let mut i = 0;
-    'list: while let Some(id) = listed(&watches.lists, place, i) {
-        match look_at(trail, watches, arena, w, head, id)? {
-            Visit::Gone => cut_id(&mut watches.lists, place, i),
-            Visit::Kept => i += 1,
-            Visit::False => return Ok(Some(id)),
+    'list: while let Some(entry) = listed(&watches.lists, place, i) {
+        match look_at(trail, watches, arena, w, head, entry)? {
+            Visit::Gone => cut_entry(&mut watches.lists, place, i),
+            Visit::Blocked => i += 1,
+            Visit::Kept(blocker) => {
+                let kept = Entry {
+                    id: entry.id,
+                    blocker,
+                };
+                set_blocker(&mut watches.lists, place, i, kept);
+                i += 1;
+            }
+            Visit::False => return Ok(Some(entry.id)),
         }
     }
     Ok(None)
@@ -283,9 +360,11 @@ fn advance(
     requires trail { IsTrail arena.now trail.old.steps }
     requires in_vars { VarsUpTo arena.now trail.old.vars }
     requires watching { IsWatching trail.old watches.old.loose.items (rows watches.old.lists.items) watches.old.pairs.items head.old }
+    requires blocked { AllBlocked trail.old.attached watches.old.loose.items (length watches.old.pairs.items) watches.old.lists.items }
     ensures trail { IsTrail arena.now trail.new.steps }
     ensures forced { IsForced trail.old trail.new }
     ensures watching { IsWatching trail.new watches.new.loose.items (rows watches.new.lists.items) watches.new.pairs.items head.new }
+    ensures blocked { AllBlocked trail.new.attached watches.new.loose.items (length watches.new.pairs.items) watches.new.lists.items }
     ensures loose { watches.new.loose.items ≡ watches.old.loose.items }
     ensures found { IfOk result (λ o. IfSome o (IsConflict arena.now (lits trail.new.steps))) }
 {
@@ -324,10 +403,12 @@ pub fn propagate_all(
     requires trail { IsTrail arena.now trail.old.steps }
     requires in_vars { VarsUpTo arena.now trail.old.vars }
     requires watching { IsWatching trail.old watches.old.loose.items (rows watches.old.lists.items) watches.old.pairs.items head.old }
+    requires blocked { AllBlocked trail.old.attached watches.old.loose.items (length watches.old.pairs.items) watches.old.lists.items }
     requires settled { IsSettled trail.old watches.old.loose.items settled.count settled.top }
     ensures trail { IsTrail arena.now trail.new.steps }
     ensures forced { IsForced trail.old trail.new }
     ensures watching { IsWatching trail.new watches.new.loose.items (rows watches.new.lists.items) watches.new.pairs.items head.new }
+    ensures blocked { AllBlocked trail.new.attached watches.new.loose.items (length watches.new.pairs.items) watches.new.lists.items }
     ensures loose { watches.new.loose.items ≡ watches.old.loose.items }
     ensures closed { IfOk result (λ r. MatchOption r (IsClosed arena.now (lits trail.new.steps)) (IsConflict arena.now (lits trail.new.steps))) }
 {
@@ -365,7 +446,11 @@ fn choose(trail: &Assigned, clause: &[Lit]) -> Option<Pair>
     let mut place = 0;
     let second = open_literal(trail, clause, nowhere, &mut place)?;
     let first = open_literal(trail, clause, second, &mut place)?;
-    Some(Pair { first, second })
+    Some(Pair {
+        first,
+        second,
+        start: 0,
+    })
 }
 
 /// Watches a clause of this number, or keeps it among the loose ones.
@@ -377,26 +462,30 @@ pub fn watch(
     id: u64,
 ) -> Result<(), AllocError>
     requires watching { IsWatching trail.now watches.old.loose.items (rows watches.old.lists.items) watches.old.pairs.items _head }
+    requires blocked { AllBlocked trail.now.attached watches.old.loose.items (length watches.old.pairs.items) watches.old.lists.items }
     requires apart { attached_clause trail.now.attached id ≡ None }
     requires in_vars { AllIn trail.now.vars clause.now }
     ensures watching { IsWatching trail.now watches.new.loose.items (rows watches.new.lists.items) watches.new.pairs.items _head }
+    ensures blocked { (seen : Seen) → IsSameBut trail.now.attached seen id clause.now → AllBlocked seen watches.new.loose.items (length watches.new.pairs.items) watches.new.lists.items }
     ensures loose { (watches.new.loose.items ≡ watches.old.loose.items) ⊎ (watches.new.loose.items ≡ watches.old.loose.items ++ id ∷ []) }
     ensures ok { OnOk result (IsLooseOrWatched clause.now id watches.new.loose.items (rows watches.new.lists.items) watches.new.pairs.items (take _head trail.now.steps) trail.now.steps) }
 {
+    make_free(&mut watches.lists, watches.pairs.len(), id);
     let Some(pair) = choose(trail, clause) else {
         watches.loose.push(id)?;
         return Ok(());
     };
     reach(&mut watches.pairs, id, pair)?;
-    put_id(&mut watches.lists, code(pair.first), id)?;
-    put_id(&mut watches.lists, code(pair.second), id)?;
+    put_entry(&mut watches.lists, code(pair.first), id, pair.second)?;
+    put_entry(&mut watches.lists, code(pair.second), id, pair.first)?;
     set_pair(&mut watches.pairs, id, pair);
     Ok(())
 }
 
 /// This many lists, with nothing in them.
-pub fn empty_lists(alloc: Global, count: usize) -> Result<Vec<Vec<u64>>, AllocError>
-    ensures { IfOk result (λ lists. length (rows lists.items) ≡ count) }
+pub fn empty_lists(alloc: Global, count: usize) -> Result<Vec<Vec<Entry>>, AllocError>
+    ensures size { IfOk result (λ lists. length (rows lists.items) ≡ count) }
+    ensures empty { IfOk result (λ lists. All (λ es. es ≡ []) (entries lists.items)) }
 {
     let mut lists = Vec::with_capacity(alloc, count)?;
     'more: while lists.len() < count {

@@ -18,6 +18,7 @@ ahead-preserved c =
       trail = c.look_at_all.ensures.trail;
       forced = forced-then c.args.trail.now c.ahead.trail c.look_at_all.new.trail c.ahead.invariant.forced c.look_at_all.ensures.forced;
       watching = subst P c.in_default-2.is c.in_ok-id.ensures.next;
+      blocked = c.look_at_all.ensures.blocked;
       loose = c.look_at_all.ensures.loose ∙ c.ahead.invariant.loose;
     }
 

@@ -4,6 +4,7 @@ use Rattle.sat_trail.specs.View.{View}
 use Rattle.sat_trail.specs.Watches.{rows}
 use Rattle.sat_trail.proofs.Grows.{forced-then, forced-push, behind-fresh, behind-var, trail-forced}
 use Rattle.sat_trail.proofs.Watched.{watching-more}
+use Rattle.sat_trail.proofs.Blocking.{blocked-same}
 use Rattle.sat_trail.specs.Settled.{IsSettled}
 use Rattle.sat_trail.proofs.Settling.{settled-forced}
 use Rattle.sat_trail.proofs.watch.propagate_all.Goals as goal
@@ -38,6 +39,7 @@ forced-preserved c =
       trail = trail-forced c.args.arena.now v.steps _ c.in-Unit.l (depth v.steps) c.in-Unit.id c.advance.ensures.trail c.in-Unit.ensures (ap (λ (x : View). x.steps) e);
       forced = forced-push c.args.trail.now v _ _ f (record { reasoned = refl; at_level = refl }) e;
       watching = watching-more v c.force.new.self c.advance.new.watches.loose.items (rows c.advance.new.watches.lists.items) c.advance.new.watches.pairs.items c.advance.new.head _ e c.advance.ensures.watching;
+      blocked = blocked-same v c.force.new.self c.advance.new.watches.loose.items _ c.advance.new.watches.lists.items (ap (λ (x : View). x.attached) e) c.advance.ensures.blocked;
       loose = c.advance.ensures.loose ∙ c.forced.invariant.loose;
     }
 

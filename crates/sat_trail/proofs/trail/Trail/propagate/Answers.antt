@@ -12,7 +12,7 @@ pub invariant_of-self : goal.invariant_of-self
 invariant_of-self c =
     let v = c.propagate_all.new.trail in
     let P : List ℕ → Type 0 = λ z. IsSettled v z c.self.inside.settled.count c.self.inside.settled.top in
-    (c.propagate_all.ensures.watching, subst P (sym c.propagate_all.ensures.loose) (settled-forced c.self.inside.assigned v c.self.inside.watches.loose.items c.self.inside.settled.count c.self.inside.settled.top c.propagate_all.ensures.forced c.self.invariant.1))
+    (c.propagate_all.ensures.watching, subst P (sym c.propagate_all.ensures.loose) (settled-forced c.self.inside.assigned v c.self.inside.watches.loose.items c.self.inside.settled.count c.self.inside.settled.top c.propagate_all.ensures.forced c.self.invariant.1), c.propagate_all.ensures.blocked)
 
 pub settle-self-inside-requires-clause-settled : goal.settle-self-inside-requires-clause-settled
 settle-self-inside-requires-clause-settled c =
