@@ -30,8 +30,8 @@ impl Model for Needed {
     ghost invariant = { λ a. Marks a.marks.items a.lits.items };
 }
 
-/// Makes room for a literal's mark. All marks stay, also where there is no memory.
-fn widen(marks: &mut Vec<bool>, place: usize) -> Result<(), AllocError>
+/// Makes room for a mark at a place. All marks stay, also where there is no memory.
+pub fn widen(marks: &mut Vec<bool>, place: usize) -> Result<(), AllocError>
     ensures same { (l : _) → marked marks.new.items l ≡ marked marks.old.items l }
     ensures room { OnOk result (place < length marks.new.items) }
 {

@@ -8,7 +8,7 @@ ghost use Rattle.sat_trail.specs.Standing.{IsApart, IsIncreasing, Stands, AllSta
 ghost use Rattle.sat_trail.specs.Walks.{Walk, IsConflict, KeepsOf, decided, NegatesOnly, Beyond};
 ghost use Rattle.sat_clause.specs.declared.follow.Follow.TheVariants.{Yes};
 
-use crate::needed::Needed;
+use crate::needed::{Needed, widen};
 use crate::step::Step;
 use sat_clause::{Arena, Lit};
 use std::alloc::{AllocError, Global};
@@ -100,17 +100,39 @@ fn is_covered(arena: &Arena, needed: &Needed, implied: &Needed, step: Step) -> b
     true
 }
 
-/// For each step whether its literal is implied by needed ones before it.
+/// Marks a level.
+fn mark_level(levels: &mut Vec<bool>, level: u32) -> Result<(), AllocError> {
+    let place = level as usize;
+    widen(levels, place)?;
+    levels[place] = true;
+    Ok(())
+}
+
+/// For each level whether the literal of one of its steps is needed.
+fn needed_levels(alloc: Global, steps: &[Step], needed: &Needed) -> Result<Vec<bool>, AllocError> {
+    let mut levels = Vec::new(alloc);
+    for step in steps {
+        if needed.has(step.lit) {
+            mark_level(&mut levels, step.level)?;
+        }
+    }
+    Ok(levels)
+}
+
+/// For each step whether its literal is implied by needed ones before it. Of a level of which none is needed, none is implied.
 fn covered_steps(
     alloc: Global,
     arena: &Arena,
     steps: &[Step],
     needed: &Needed,
 ) -> Result<Vec<bool>, AllocError> {
+    let levels = needed_levels(alloc, steps, needed)?;
     let mut implied = Needed::new(alloc);
     let mut covered = Vec::new(alloc);
     for step in steps {
-        let is_implied = is_covered(arena, needed, &implied, *step);
+        let is_implied = step.level == 0
+            || is_marked(&levels, step.level as usize)
+                && is_covered(arena, needed, &implied, *step);
         if is_implied {
             implied.push(step.lit)?;
         }
@@ -119,9 +141,9 @@ fn covered_steps(
     Ok(covered)
 }
 
-/// Whether the step at a place is covered.
-fn is_marked(covered: &[bool], place: usize) -> bool {
-    match covered.get(place) {
+/// Whether a place is marked.
+fn is_marked(marks: &[bool], place: usize) -> bool {
+    match marks.get(place) {
         Some(mark) => *mark,
         None => false,
     }
