@@ -2,9 +2,9 @@
 """Looks for plans of the stations of `bench/stations`, and says what `rcv verify` answers, how long it takes and what it derives.
 
 Each line: the station, the steps, the answer, the seconds and, where a proof is stored, its derived lines, its cones (each of a
-plan that failed) and its bytes. `--figures FILE` names a file with a line `<station> <steps> <answer> <lines>` each, where `lines`
-may be `-`; the status is 1 where an answer differs from it, a search takes longer than its seconds, or derives more than three
-times the lines.
+plan that failed), how many literals their clauses have on average, and its bytes. The file `figures` has a line
+`<station> <steps> <answer> <lines>` for each, where `lines` may be `-`; the status is 1 where an answer differs from it, a search
+takes longer than its seconds, or derives more than three times the lines.
 """
 
 import argparse
@@ -19,6 +19,9 @@ import time
 TOP = pathlib.Path(__file__).resolve().parent.parent.parent
 STATIONS = TOP / "bench" / "stations"
 FIGURES = pathlib.Path(__file__).resolve().parent / "figures"
+sys.path.append(str(TOP / "bench" / "solver"))
+
+from clauses import Station  # noqa: E402
 
 
 def asked():
@@ -46,6 +49,50 @@ def verify(program, station, steps, seconds, folder):
     return done.returncode, first, passed, proof.read_text() if proof.exists() else ""
 
 
+def cone_of(line):
+    """The trains of a cone, each with its path and how many commands of it are free, and its listed pairs."""
+    numbers = line.split()
+    place = next(i for i, word in enumerate(numbers) if word in "tp")
+    trains, pairs = {}, set()
+    while place < len(numbers):
+        if numbers[place] == "p":
+            first, second = numbers[place + 1:place + 3], numbers[place + 3:place + 5]
+            pairs.add((tuple(map(int, first)), tuple(map(int, second))))
+            place += 5
+        else:
+            train, _, free = map(int, numbers[place + 1:place + 4])
+            end = numbers.index("0", place + 4)
+            trains[train] = (free, [int(route) for route in numbers[place + 4:end]])
+            place = end + 3
+    return trains, pairs
+
+
+def literals(station, line):
+    """How many literals the clause of a cone has."""
+    trains, pairs = cone_of(line)
+    routes = station.routes
+    count = len(pairs) + sum(len(path) for _, path in trains.values())
+    for train, (free, path) in trains.items():
+        for route in path[:free]:
+            own = routes[route - 1].sections.keys()
+            count += sum(
+                ((other, number), (train, route)) not in pairs and bool(own & known.sections.keys())
+                for other in range(1, len(station.trains) + 1) if other != train
+                for number, known in enumerate(routes, 1)
+            )
+        if free == len(path) or line.startswith("r path"):
+            last = routes[path[-1] - 1].finish
+            if last not in {routes[route - 1].start for route in path}:
+                count += sum(route.start == last for route in routes)
+    return count
+
+
+def average(station, lines):
+    """How many literals the clauses of these cones have on average."""
+    read = Station(STATIONS / f"{station}.toml")
+    return sum(literals(read, line) for line in lines) // len(lines) if lines else 0
+
+
 def main():
     words = argparse.ArgumentParser(description=__doc__)
     words.add_argument("--program", default=TOP / "crates" / "rcv" / "out" / "rcv", help="the program, as ./rcv builds it")
@@ -62,9 +109,9 @@ def main():
                 continue
             status, first, passed, proof = verify(given.program, station, steps, given.seconds, folder)
             derived = len(re.findall(r"^d ", proof, re.M))
-            cones = len(re.findall(r"^r ", proof, re.M))
+            cones = re.findall(r"^r .*", proof, re.M)
             forgot = len(re.findall(r"^x ", proof, re.M))
-            told = f"{derived} lines {cones} cones {forgot} forgotten {len(proof)} bytes" if proof else "-"
+            told = f"{derived} lines {len(cones)} cones of {average(station, cones)} {forgot} forgotten {len(proof)} bytes" if proof else "-"
             faults = []
             if answer != "open":
                 if not first.startswith(answer):

@@ -1,0 +1,170 @@
+#!/usr/bin/env python3
+"""Runs plans and cones that are on their way for a day, and says how long each takes.
+
+Each case has a bar in seconds, of the whole command with the reading of its files; the status is 1 where one is missed or an answer
+is not the one that is told.
+"""
+
+import argparse
+import json
+import pathlib
+import subprocess
+import sys
+import tempfile
+import time
+
+TOP = pathlib.Path(__file__).resolve().parent.parent.parent
+DAY = 86_400
+
+
+class Design:
+    """A design that grows entry by entry."""
+
+    def __init__(self, vehicle, ticks=DAY):
+        self.entries = {"node": [], "edge": [], "signal": [], "train": [], "order": [], "within": []}
+        self.vehicle = vehicle
+        self.ticks = ticks
+
+    def add(self, kind, **keys):
+        """A new entry with a name of its own; the name."""
+        entries = self.entries[kind]
+        if kind not in ("order", "within"):
+            keys["name"] = f"{kind}{len(entries)}"
+        entries.append(keys)
+        return keys.get("name")
+
+    def line(self, edges, length, speed, signal_each):
+        """A line of so many edges from a boundary to a boundary, with a signal after each so many of them; its nodes."""
+        nodes = [self.add("node", boundary=True)]
+        for number in range(1, edges + 1):
+            nodes.append(self.add("node", boundary=number == edges))
+            section = self.add("edge", **{"from": nodes[-2]}, from_side="b", to=nodes[-1], to_side="a",
+                               length_mm=length, speed_mm_s=speed, section=f"section{len(self.entries['edge'])}")
+            if number < edges and number % signal_each == 0:
+                self.add("signal", node=nodes[-1], toward="b")
+            assert section
+        return nodes
+
+    def text(self):
+        """The design as TOML."""
+        def value(told):
+            if isinstance(told, bool):
+                return "true" if told else "false"
+            return json.dumps(told)
+
+        parts = ["version = 1", "tick_ms = 1000", f"horizon_ms = {1000 * self.ticks}"]
+        parts += [f"vehicle = [{{{', '.join(f'{key}={value(told)}' for key, told in self.vehicle.items())}}}]"]
+        for kind, entries in self.entries.items():
+            rows = ", ".join("{" + ", ".join(f"{key}={value(told)}" for key, told in entry.items()) + "}" for entry in entries)
+            parts.append(f"{kind} = [{rows}]")
+        return "\n".join(parts) + "\n"
+
+
+def routes_by_start(program, path):
+    """The number of the route from each start, as `rcv routes` lists them."""
+    listed = subprocess.run([program, "routes", path], stdout=subprocess.PIPE, text=True, check=True).stdout
+    return {row.split()[2]: int(row.split()[1]) for row in listed.splitlines()}
+
+
+def vehicle(speed, length=100_000):
+    """A vehicle of this speed."""
+    return {"name": "v", "length_mm": length, "accel_mm_s2": 500, "brake_mm_s2": 700, "speed_mm_s": speed}
+
+
+def following(lines, routes, length, speed):
+    """On each line two trains, the second two steps behind the first: the design, and of each train its line and its first step."""
+    design = Design(vehicle(speed, min(length, 100_000)))
+    starts = []
+    for _ in range(lines):
+        first_signal = len(design.entries["signal"])
+        nodes = design.line(routes, length, speed, 1)
+        for behind in (0, 2):
+            design.add("train", vehicle="v", visits=[[nodes[0]], [nodes[-1]]])
+            starts.append((nodes[0], first_signal, routes, behind))
+    return design, starts
+
+
+def in_turn(trains, edges, length, speed):
+    """One line of many edges and two routes, over which all trains go in turn, with as many demands as a design may have."""
+    design = Design(vehicle(speed))
+    nodes = design.line(edges, length, speed, edges // 2 + 1)
+    starts = []
+    inner = nodes[1:-1]
+    for number in range(trains):
+        visits = [[nodes[0]]] + [inner[64 * place:64 * place + 64] for place in range(14)] + [[nodes[-1]]]
+        design.add("train", vehicle="v", visits=visits)
+        starts.append((nodes[0], 0, 2, 2 * number))
+    for number in range(256):
+        train = number % (trains - 1)
+        visit = number // (trains - 1) + 1
+        design.add("order", first_train=f"train{train}", first_visit=visit, then_train=f"train{train + 1}", then_visit=visit)
+        design.add("within", from_train=f"train{train}", from_visit=1, to_train=f"train{train}", to_visit=16, max_ms=86_400_000)
+    return design, starts
+
+
+def plan(starts, numbers):
+    """The plan in which each train is given its routes step by step, from its first step on."""
+    steps = [[] for _ in range(max(routes + behind for _, _, routes, behind in starts))]
+    for train, (boundary, first_signal, routes, behind) in enumerate(starts):
+        places = [f"boundary:{boundary}"] + [f"signal:signal{first_signal + place}" for place in range(routes - 1)]
+        for step, place in enumerate(places):
+            steps[behind + step].append([f"train{train}", numbers[place]])
+    return json.dumps({"steps": steps})
+
+
+def simulated(program, folder, told):
+    """The words and the first line of a simulation of a design with its plan."""
+    design, starts = told
+    path = folder / "design.toml"
+    path.write_text(design.text())
+    (folder / "plan.json").write_text(plan(starts, routes_by_start(program, path)))
+    return ["simulate", path, folder / "plan.json"]
+
+
+def checked(program, folder, lines, line):
+    """The words of a check of so many lines of one cone."""
+    design = Design(vehicle(2_000))
+    nodes = design.line(600, 1_000, 100, 1)
+    design.add("train", vehicle="v", visits=[[nodes[0]], [nodes[-1]]])
+    design.add("train", vehicle="v", visits=[[nodes[0]], [nodes[-1]]])
+    (folder / "design.toml").write_text(design.text())
+    (folder / "proof").write_text("rcvlog 1\n" + f"{line}\n" * lines)
+    return ["check", "--steps", "1", folder / "design.toml", folder / "proof"]
+
+
+def cases(program, folder):
+    """The name, the bar in seconds, how the answer begins, and the words of each."""
+    yield "32 trains over 62 routes each, a day", 0.5, "met", simulated(program, folder, following(16, 62, 1_300_000, 1_000))
+    yield "32 trains over 62 short routes each, a day", 0.5, "met", simulated(program, folder, following(16, 62, 10_000, 1_000))
+    yield "32 trains in turn over 1,998 nodes each, all demands", 2, "met", simulated(program, folder, in_turn(32, 1_998, 1_000, 1_000))
+    yield "32 trains in turn over long edges, all demands", 2, "", simulated(program, folder, in_turn(32, 1_998, 100_000, 100_000))
+    yield "100,000 cones of a train that is followed for a day", 10, "no line 100002", checked(program, folder, 100_000, "r visit 1 2 t 1 86400 1 1 0 0 0")
+
+
+def main():
+    words = argparse.ArgumentParser(description=__doc__)
+    words.add_argument("--program", default=str(TOP / "rcv"), help="the program to run")
+    words.add_argument("--limit", type=float, default=120, help="how many seconds a case may take, after which it is killed")
+    words.add_argument("--only", default="", help="cases whose names have these words")
+    given = words.parse_args()
+    missed = 0
+    with tempfile.TemporaryDirectory() as made:
+        for name, bar, begins, told in cases(given.program, pathlib.Path(made)):
+            if given.only not in name:
+                continue
+            begin = time.monotonic()
+            try:
+                done = subprocess.run([given.program, *told], stdin=subprocess.DEVNULL, stdout=subprocess.PIPE, text=True, timeout=given.limit)
+                answer = done.stdout.splitlines()[0] if done.stdout else f"status {done.returncode}"
+            except subprocess.TimeoutExpired:
+                answer = "killed"
+            seconds = time.monotonic() - begin
+            bad = seconds > bar or not answer.startswith(begins)
+            missed += bad
+            print(f"{name:56} {bar:>4} {seconds:>8.2f} s  {answer[:60]}{'  MISSED' if bad else ''}", flush=True)
+    print(f"{missed} missed")
+    return missed > 0
+
+
+if __name__ == "__main__":
+    sys.exit(main())
