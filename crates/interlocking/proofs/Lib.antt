@@ -1,0 +1,2 @@
+-- Lemmas on the sections of routes.
+pub mod Sectioned

@@ -1,0 +1,2 @@
+-- The sections of routes.
+pub mod Sections

@@ -1,0 +1,2 @@
+-- Lemmas on words of bits.
+pub mod Words

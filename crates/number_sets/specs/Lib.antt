@@ -1,0 +1,3 @@
+-- Sets of numbers.
+pub mod Words
+pub mod Sets

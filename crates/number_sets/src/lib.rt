@@ -1,0 +1,6 @@
+//! Sets of numbers.
+#![tactic(auto)]
+
+mod set;
+
+pub use set::NumberSet;
