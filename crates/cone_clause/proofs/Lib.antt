@@ -10,3 +10,5 @@ pub mod Further
 pub mod Adding
 pub mod Said
 mod Rows
+mod Small
+mod Turning

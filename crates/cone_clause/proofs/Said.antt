@@ -26,12 +26,16 @@ use Rattle.rail_spec.specs.Plans.{all_commands}
 use Rattle.cone_clause.specs.Numbered.{lit_of}
 use Rattle.cone_clause.proofs.Gathering.{drop_next, drop_end}
 use Rattle.cone_clause.proofs.Walked.{walked, pair_step}
-use Rattle.cone_clause.specs.Places.{Adds, AreSaid, IsMirrored, IsPlaceOf, IsPlaceBefore, IsPlaceBeforeFree, IsSaid}
+use Rattle.cone_clause.specs.Places.{Adds, AreSaid, IsPlaceOf, IsPlaceBefore, IsPlaceBeforeFree, IsSaid}
 
 some_same : {X : Type 0} {a b : X} → Some a ≡ Some b → a ≡ b
 some_same h = cc
 
 -- ---- the place of one pair
+
+-- each pair is there the other way round too
+abbrev pub IsMirrored : List (Command × Command) → Type 0
+IsMirrored ps = (e c : Command) → In (e, c) ps → In (c, e) ps
 
 -- the pair that stands before a command in a run stands with it the other way round
 pub before_from : (ps : List (Command × Command)) → IsMirrored ps → (c : Command) (p : Command × Command) → In p (filter (λ p. is_command p.0 c) ps) → In (p.1, c) ps

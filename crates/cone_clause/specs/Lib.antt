@@ -2,3 +2,4 @@
 pub mod Numbered
 pub mod Places
 pub mod Laws
+pub mod Spoken

@@ -2,6 +2,7 @@
 use Rattle.std.specs.Prelude.{ℕ, Bool, List, [], ◌∷◌, map, Option, None, Some}
 use Rattle.rail_base.specs.declared.station.Station.{Station}
 use Rattle.rail_base.specs.declared.route.Route.{Route}
+use Rattle.interlocking.specs.declared.railway.Interlocking.{Interlocking}
 use Rattle.rail_cone.specs.declared.Cone.{Cone}
 use Rattle.sat_clause.specs.declared.lit.Lit.{Lit}
 use Rattle.plan_clauses.specs.Variables.{Variable, Given, Before as BeforeIn, number_of}
@@ -25,3 +26,7 @@ module _ (d : Station) (routes : List Route) (n : ℕ) where
   -- the cone's clause, with the numbers of the base
   abbrev pub numbered_clause : Cone → List Lit
   numbered_clause k = map lit_of (clause_of_cone d routes k)
+
+-- the clause of a cone of an interlocking, over the base for plans of so many steps
+abbrev pub clause_in : Interlocking → ℕ → Cone → List Lit
+clause_in i n k = numbered_clause i.design.station i.routes n k

@@ -6,6 +6,7 @@ use Rattle.rail_base.specs.declared.route.RouteNo.{RouteNo}
 use Rattle.rail_base.specs.declared.station.TrainNo.{TrainNo}
 use Rattle.rail_base.specs.Members.{In}
 use Rattle.rail_cone.specs.declared.Cone.{Cone}
+use Rattle.rail_cone.specs.declared.ConeTrain.{ConeTrain}
 use Rattle.rail_cone.specs.Cones.{free_path, is_free, is_listed}
 
 -- exactly the numbers of which it holds are added
@@ -15,10 +16,6 @@ pub record Adds (P : ℕ → Type 0) (old new : List ℕ) : Type 0 where
   pub no_more : (i : ℕ) → In i new → In i old ⊎ P i
 
 module _ (pairs : List (Command × Command)) where
-  -- each pair is there the other way round too
-  abbrev pub IsMirrored : Type 0
-  IsMirrored = (e c : Command) → In (e, c) pairs → In (c, e) pairs
-
   -- the place of this pair
   abbrev pub IsPlaceOf : Command × Command → ℕ → Type 0
   IsPlaceOf p i = slice_get pairs i ≡ Some p
@@ -30,6 +27,14 @@ module _ (pairs : List (Command × Command)) where
   -- the place of a pair whose second command is a free one of the train
   abbrev pub IsPlaceBeforeFree : Cone → TrainNo → ℕ → Type 0
   IsPlaceBeforeFree k t i = (r : RouteNo) × In r (free_path k t) × IsPlaceBefore (record { train = t; route = r }) i
+
+  -- the place of a pair whose second command is free
+  abbrev pub IsPlaceBeforeAny : Cone → ℕ → Type 0
+  IsPlaceBeforeAny k i = (e : ConeTrain) × In e k.trains × IsPlaceBeforeFree k e.train i
+
+  -- the place of a pair that is listed
+  abbrev pub IsListedPlace : Cone → ℕ → Type 0
+  IsListedPlace k i = (p : Command × Command) × In p k.pairs × IsPlaceOf p i
 
   -- the clause says something of the pair of this place: it is listed, or its second command is free
   abbrev pub IsSaid : Cone → ℕ → Type 0

@@ -3,6 +3,7 @@
 
 pub mod laws;
 mod listing;
+mod numbered;
 mod onward;
 mod pairs;
 mod places;

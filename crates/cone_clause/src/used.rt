@@ -1,47 +1,22 @@
 //! What the clause of a cone says of single commands.
 
-ghost use Rattle.std.specs.Prelude.{◌≡◌, ◌≤◌, ◌*◌, ◌++◌, ◌&&◌, true, false, All, OnOk, Some, None, if◌then◌else◌, flat_map, length, map};
-ghost use Rattle.rail_base.specs.Routes.{IsRoute, route_at};
+ghost use Rattle.std.specs.Prelude.{◌≡◌, ◌≤◌, ◌++◌, All, OnOk};
+ghost use Rattle.rail_base.specs.Routes.{IsRoute};
 ghost use Rattle.rail_base.specs.Stations.{IsTrain};
-ghost use Rattle.rail_spec.specs.Plans.{all_commands, commands_of};
-ghost use Rattle.plan_clauses.specs.Variables.{Given, number_of};
-ghost use Rattle.rail_cone.specs.Cones.{has_route, named};
+ghost use Rattle.rail_cone.specs.Cones.{named};
 ghost use Rattle.cone_design.specs.Marks.{MarksPath};
-ghost use Rattle.rail_cone.specs.Validity.{in_design};
-ghost use Rattle.rail_cone.specs.Clauses.{goes_further, used_literals};
-ghost use Rattle.cone_clause.specs.Numbered.{lit_of};
+ghost use Rattle.cone_clause.specs.Spoken.{given_count, given_number, used_sign};
+ghost use Rattle.cone_clause.specs.Spoken.{routes_in, said_of_commands, said_of_train, station_of};
 
+use crate::numbered::NumberedCone;
 use crate::onward::{goes_further, is_closed};
 use crate::signs::push_signed;
 use cone_design::{has_mark, marks_of, path};
-use rail_base::design::Design;
 use rail_base::plan::Command;
 use rail_base::route::{RouteNo, RouteTable, route_at};
 use rail_base::station::TrainNo;
-use rail_cone::Cone;
 use sat_clause::Lit;
 use std::alloc::{AllocError, Global};
-
-/// How many variables say that a command is given by a step.
-pub fn used_count(design: &Design, routes: &RouteTable, steps: u32) -> u32
-    requires few { length routes.now ≤ 2000 }
-    requires most { steps ≤ 64 }
-    ensures value { result ≡ length design.now.station.trains * length routes.now * steps }
-    ensures bound { result ≤ 4096000 }
-{
-    design.station.trains.len() as u32 * routes.len() as u32 * steps
-}
-
-/// The number of the variable that a command is given by the last step.
-fn used_number(design: &Design, routes: &RouteTable, steps: u32, command: Command) -> u32
-    requires train { IsTrain design.now.station command.train }
-    requires route { IsRoute routes.now command.route }
-    requires few { length routes.now ≤ 2000 }
-    requires most { steps ≤ 64 }
-    ensures { result ≡ number_of design.now.station routes.now steps (Given command steps) }
-{
-    ((command.train.0 - 1) * routes.len() as u32 + (command.route.0 - 1)) * steps + steps
-}
 
 /// Whether the clause says that a route of a train with this path is not used, or that it is, or neither.
 fn used_sign(
@@ -54,7 +29,7 @@ fn used_sign(
     requires path { All (IsRoute routes.now) path.now }
     requires marks { MarksPath path.now marks.now }
     requires route { IsRoute routes.now route }
-    ensures { result ≡ (if has_route path.now route then Some true else if closed && goes_further (map (route_at routes.now) path.now) (route_at routes.now route) then Some false else None) }
+    ensures { result ≡ used_sign routes.now path.now closed route }
 {
     if has_mark(marks, route) {
         return Some(true);
@@ -65,54 +40,63 @@ fn used_sign(
     None
 }
 
-/// Puts what the clause says of the commands of a train with a path at its end.
-fn push_used_of(
-    alloc: Global,
-    clause: &mut Vec<Lit>,
-    design: &Design,
-    routes: &RouteTable,
-    steps: u32,
-    cone: &Cone,
-    train: TrainNo,
-) -> Result<(), AllocError>
-    requires path { All (IsRoute routes.now) (named cone.now train).path }
-    requires train { IsTrain design.now.station train }
-    requires few { length routes.now ≤ 2000 }
-    requires most { steps ≤ 64 }
-    ensures { OnOk result (clause.new.items ≡ clause.old.items ++ map (lit_of design.now.station routes.now steps) (flat_map (used_literals design.now.station routes.now cone.now) (commands_of routes.now train))) }
-{
-    let path = path(cone, train);
-    let marks = marks_of(alloc, routes, path)?;
-    let closed = is_closed(cone, train);
-    for number in 1..routes.len() as u32 + 1 {
-        let route = RouteNo(number);
-        let sign = used_sign(routes, path, &marks, closed, route);
-        let command = Command { train, route };
-        push_signed(clause, used_number(design, routes, steps, command), sign)?;
+impl NumberedCone<'_> {
+    /// How many variables say that a command is given by a step.
+    pub(crate) fn used_count(&self) -> u32
+        ensures value { result ≡ given_count self.now }
+        ensures bound { result ≤ 4096000 }
+    {
+        let interlocking = self.contention.interlocking;
+        let trains = interlocking.design.station.trains.len() as u32;
+        trains * interlocking.routes.len() as u32 * self.steps.count
     }
-    Ok(())
-}
 
-/// Puts what the clause says of all commands at its end, by train and then by route. It says nothing of a train without a
-/// path.
-pub fn push_used(
-    alloc: Global,
-    clause: &mut Vec<Lit>,
-    design: &Design,
-    routes: &RouteTable,
-    steps: u32,
-    cone: &Cone,
-) -> Result<(), AllocError>
-    requires fits { in_design design.now.station routes.now cone.now ≡ true }
-    requires few { length routes.now ≤ 2000 }
-    requires most { steps ≤ 64 }
-    ensures { OnOk result (clause.new.items ≡ clause.old.items ++ map (lit_of design.now.station routes.now steps) (flat_map (used_literals design.now.station routes.now cone.now) (all_commands design.now.station routes.now))) }
-{
-    for number in 1..design.station.trains.len() as u32 + 1 {
-        let train = TrainNo(number);
-        if !path(cone, train).is_empty() {
-            push_used_of(alloc, clause, design, routes, steps, cone, train)?;
-        }
+    /// The number of the variable that a command is given by the last step.
+    fn used_number(&self, command: Command) -> u32
+        requires train { IsTrain (station_of self.now) command.train }
+        requires route { IsRoute (routes_in self.now) command.route }
+        ensures { result ≡ given_number self.now command }
+    {
+        let routes = self.contention.interlocking.routes.len() as u32;
+        let steps = self.steps.count;
+        ((command.train.0 - 1) * routes + (command.route.0 - 1)) * steps + steps
     }
-    Ok(())
+
+    /// Puts what the clause says of the commands of a train with a path at its end.
+    fn push_used_of(
+        &self,
+        alloc: Global,
+        clause: &mut Vec<Lit>,
+        train: TrainNo,
+    ) -> Result<(), AllocError>
+        requires path { All (IsRoute (routes_in self.now)) (named self.now.cone.now train).path }
+        requires train { IsTrain (station_of self.now) train }
+        ensures { OnOk result (clause.new.items ≡ clause.old.items ++ said_of_train self.now train) }
+    {
+        let routes = &self.contention.interlocking.routes;
+        let path = path(self.cone, train);
+        let marks = marks_of(alloc, routes, path)?;
+        let closed = is_closed(self.cone, train);
+        for number in 1..routes.len() as u32 + 1 {
+            let route = RouteNo(number);
+            let sign = used_sign(routes, path, &marks, closed, route);
+            push_signed(clause, self.used_number(Command { train, route }), sign)?;
+        }
+        Ok(())
+    }
+
+    /// Puts what the clause says of all commands at its end, by train and then by route. It says nothing of a train
+    /// without a path.
+    pub(crate) fn push_used(&self, alloc: Global, clause: &mut Vec<Lit>) -> Result<(), AllocError>
+        ensures { OnOk result (clause.new.items ≡ clause.old.items ++ said_of_commands self.now) }
+    {
+        let trains = self.contention.interlocking.design.station.trains.len();
+        for number in 1..trains as u32 + 1 {
+            let train = TrainNo(number);
+            if !path(self.cone, train).is_empty() {
+                self.push_used_of(alloc, clause, train)?;
+            }
+        }
+        Ok(())
+    }
 }

@@ -8,4 +8,3 @@ pub mod Marked
 pub mod Starts
 pub mod Contending
 mod Joined
-mod NoRoutes

@@ -11,8 +11,8 @@ use rail_cone::{Cone, ConeTrain};
 
 /// What the cone says of a train; None where it doesn't name it, so that its horizon is 0 and it has no command.
 pub fn named(cone: &Cone, train: TrainNo) -> Option<&ConeTrain>
-    ensures entry { MatchOption result (named cone.now train ≡ unnamed train) (λ entry. entry.now ≡ named cone.now train) }
-    ensures first { option_map (λ entry. entry.now) result ≡ find (λ entry. is_train entry.train train) cone.now.trains }
+    ensures entry { MatchOption result (named cone.now train ≡ unnamed train) (λ e. e.now ≡ named cone.now train) }
+    ensures first { option_map (λ e. e.now) result ≡ find (λ e. is_train e.train train) cone.now.trains }
 {
     for entry in cone.trains.as_slice() {
         if entry.train == train {

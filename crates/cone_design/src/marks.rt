@@ -1,14 +1,13 @@
 //! Routes of paths and commands of cones, marked by their numbers.
 
 ghost use Rattle.std.specs.Prelude.{◌≡◌, All, IfOk, false, map, true};
-ghost use Rattle.std.specs.List.{list_all};
 ghost use Rattle.rail_base.specs.Numbering.{entry};
 ghost use Rattle.rail_base.specs.Routes.{IsRoute};
-ghost use Rattle.rail_cone.specs.Validity.{train_in_design};
+ghost use Rattle.cone_design.specs.Fits.{each_train_fits};
 ghost use Rattle.cone_design.specs.Marks.{MarksCone, MarksPath, mark_of};
 
 use crate::lookup::path;
-use rail_base::design::Design;
+use interlocking::Interlocking;
 use rail_base::plan::Command;
 use rail_base::route::{RouteNo, RouteTable};
 use rail_base::station::TrainNo;
@@ -50,16 +49,16 @@ pub fn has_mark(marks: &[bool], route: RouteNo) -> bool
 /// For each train, by its number, the marks of its path in the cone.
 pub(crate) fn rows_of(
     alloc: Global,
-    design: &Design,
-    routes: &RouteTable,
+    interlocking: &Interlocking,
     cone: &Cone,
 ) -> Result<Vec<Vec<bool>>, AllocError>
-    requires { list_all (train_in_design design.now.station routes.now cone.now) cone.now.trains ≡ true }
+    requires { each_train_fits interlocking.now cone.now ≡ true }
     ensures { IfOk result (λ rows. MarksCone cone.now (map (λ row. row.items) rows.items)) }
 {
     let mut rows = Vec::new(alloc);
-    for number in 1..design.station.trains.len() as u32 + 1 {
-        rows.push(marks_of(alloc, routes, path(cone, TrainNo(number)))?)?;
+    for number in 1..interlocking.design.station.trains.len() as u32 + 1 {
+        let path = path(cone, TrainNo(number));
+        rows.push(marks_of(alloc, &interlocking.routes, path)?)?;
     }
     Ok(rows)
 }

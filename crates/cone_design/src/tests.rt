@@ -1,16 +1,20 @@
-//! Cones over a station of two sections in a row, with a signal between them and two trains that follow one another.
+//! Cones over a station with a boundary, from which an edge leads to a dead end, and one train.
 
-ghost use Rattle.std.specs.Prelude.{◌≡◌, [], ◌∷◌, false, true, IfOk};
+ghost use Rattle.std.specs.Prelude.{◌≡◌, [], ◌∷◌, false, true, pos, IfOk};
+ghost use Rattle.plan_clauses.specs.Variables.{pairs};
 ghost use Rattle.rail_base.specs.Admission.{is_admitted};
+ghost use Rattle.rail_base.specs.declared.route.Finish.TheVariants as finish;
+ghost use Rattle.rail_base.specs.declared.route.Start.TheVariants as start;
+ghost use Rattle.rail_spec.specs.Track.{routes_of};
 
-use crate::{is_among, is_free, is_in_design, trains_fit};
+use crate::{Contention, SortedPairs, is_free, is_in_design};
+use interlocking::Interlocking;
 use rail_base::design::Design;
 use rail_base::list::{List, Name};
 use rail_base::plan::{Command, Violation};
 use rail_base::route::{Finish, Route, RouteNo, RouteTable, Start};
 use rail_base::station::{
-    Edge, End, Node, NodeNo, SectionNo, Side, Signal, SignalNo, Station, Train, TrainNo, Vehicle,
-    VehicleNo,
+    Edge, EdgeNo, End, Node, NodeNo, SectionNo, Side, Station, Train, TrainNo, Vehicle, VehicleNo,
 };
 use rail_cone::{Cone, ConeTrain};
 use std::alloc::{AllocError, Global};
@@ -38,14 +42,6 @@ fn two<T: Drop>(alloc: Global, first: T, second: T) -> Result<List<T>, AllocErro
     Ok(list)
 }
 
-fn three<T: Drop>(alloc: Global, first: T, second: T, third: T) -> Result<List<T>, AllocError>
-    ensures { IfOk result (λ l. l ≡ first ∷ second ∷ third ∷ []) }
-{
-    let mut list = two(alloc, first, second)?;
-    list.push(third)?;
-    Ok(list)
-}
-
 fn node(alloc: Global, letter: u8, boundary: bool) -> Result<Node, AllocError>
     ensures { IfOk result (λ n. n ≡ record { name = letter ∷ []; boundary = boundary }) }
 {
@@ -55,38 +51,41 @@ fn node(alloc: Global, letter: u8, boundary: bool) -> Result<Node, AllocError>
     })
 }
 
-/// An edge from side b of a node to side a of the next.
-fn edge(alloc: Global, letter: u8, from: u32, to: u32, length_mm: u32) -> Result<Edge, AllocError>
-    ensures { IfOk result (λ e. e ≡ record { name = letter ∷ []; from = record { node = record { 0 = from }; side = Side.B }; to = record { node = record { 0 = to }; side = Side.A }; length_mm = length_mm; speed_mm_s = 2000; section = record { 0 = from } }) }
+/// The edge from side b of the first node to side a of the second.
+fn edge(alloc: Global) -> Result<Edge, AllocError>
+    ensures { IfOk result (λ e. e ≡ record {
+      name = 102 ∷ [];
+      from = record { node = record { 0 = 1 }; side = Side.B };
+      to = record { node = record { 0 = 2 }; side = Side.A };
+      length_mm = 10000;
+      speed_mm_s = 2000;
+      section = record { 0 = 1 };
+    }) }
 {
     Ok(Edge {
-        name: name(alloc, letter)?,
+        name: name(alloc, b'f')?,
         from: End {
-            node: NodeNo(from),
+            node: NodeNo(1),
             side: Side::B,
         },
         to: End {
-            node: NodeNo(to),
+            node: NodeNo(2),
             side: Side::A,
         },
-        length_mm,
+        length_mm: 10_000,
         speed_mm_s: 2000,
-        section: SectionNo(from),
-    })
-}
-
-fn signal(alloc: Global) -> Result<Signal, AllocError>
-    ensures { IfOk result (λ s. s ≡ record { name = 115 ∷ []; node = record { 0 = 2 }; toward = Side.B }) }
-{
-    Ok(Signal {
-        name: name(alloc, b's')?,
-        node: NodeNo(2),
-        toward: Side::B,
+        section: SectionNo(1),
     })
 }
 
 fn vehicle(alloc: Global) -> Result<Vehicle, AllocError>
-    ensures { IfOk result (λ v. v ≡ record { name = 118 ∷ []; length_mm = 2000; accel_mm_s2 = 500; brake_mm_s2 = 700; speed_mm_s = 2000 }) }
+    ensures { IfOk result (λ v. v ≡ record {
+      name = 118 ∷ [];
+      length_mm = 2000;
+      accel_mm_s2 = 500;
+      brake_mm_s2 = 700;
+      speed_mm_s = 2000;
+    }) }
 {
     Ok(Vehicle {
         name: name(alloc, b'v')?,
@@ -97,38 +96,45 @@ fn vehicle(alloc: Global) -> Result<Vehicle, AllocError>
     })
 }
 
-/// A train from the first node to the third.
-fn train(alloc: Global, letter: u8) -> Result<Train, AllocError>
-    ensures { IfOk result (λ t. t ≡ record { name = letter ∷ []; vehicle = record { 0 = 1 }; visits = (record { 0 = 1 } ∷ []) ∷ (record { 0 = 3 } ∷ []) ∷ [] }) }
+/// A train from the first node to the second.
+fn train(alloc: Global) -> Result<Train, AllocError>
+    ensures { IfOk result (λ t. t ≡ record {
+      name = 65 ∷ [];
+      vehicle = record { 0 = 1 };
+      visits = (record { 0 = 1 } ∷ []) ∷ (record { 0 = 2 } ∷ []) ∷ [];
+    }) }
 {
     Ok(Train {
-        name: name(alloc, letter)?,
+        name: name(alloc, b'A')?,
         vehicle: VehicleNo(1),
-        visits: two(alloc, one(alloc, NodeNo(1))?, one(alloc, NodeNo(3))?)?,
+        visits: two(alloc, one(alloc, NodeNo(1))?, one(alloc, NodeNo(2))?)?,
     })
 }
 
-/// Two sections of 10 m and 6 m, and trains A and B.
-fn follow(alloc: Global) -> Result<Station, AllocError>
-    ensures { IfOk result (λ d. is_admitted d ≡ true) }
+/// A section of 10 m.
+fn dead_end(alloc: Global) -> Result<Station, AllocError>
+    ensures admitted { IfOk result (λ d. is_admitted d ≡ true) }
+    ensures routes { IfOk result (λ d. routes_of d ≡ record {
+      start = start.Boundary (record { 0 = 1 });
+      finish = finish.Dead (record { 0 = 2 });
+      length = pos 10000;
+      edges = record { 0 = 1 } ∷ [];
+      nodes = (record { 0 = 1 }, pos 0) ∷ (record { 0 = 2 }, pos 10000) ∷ [];
+      sections = (record { 0 = 1 }, pos 10000) ∷ [];
+    } ∷ []) }
+    ensures pairs { IfOk result (λ d. pairs d (routes_of d) ≡ []) }
 {
     let west = node(alloc, b'w', true)?;
-    let middle = node(alloc, b'm', false)?;
-    let east = node(alloc, b'e', true)?;
-    let nodes = three(alloc, west, middle, east)?;
-    let first_edge = edge(alloc, b'f', 1, 2, 10_000)?;
-    let second_edge = edge(alloc, b'g', 2, 3, 6_000)?;
-    let edges = two(alloc, first_edge, second_edge)?;
-    let first_section = name(alloc, b'y')?;
-    let second_section = name(alloc, b'z')?;
-    let sections = two(alloc, first_section, second_section)?;
-    let signal = signal(alloc)?;
-    let signals = one(alloc, signal)?;
+    let east = node(alloc, b'e', false)?;
+    let nodes = two(alloc, west, east)?;
+    let edge = edge(alloc)?;
+    let edges = one(alloc, edge)?;
+    let section = name(alloc, b'y')?;
+    let sections = one(alloc, section)?;
     let vehicle = vehicle(alloc)?;
     let vehicles = one(alloc, vehicle)?;
-    let first_train = train(alloc, b'A')?;
-    let second_train = train(alloc, b'B')?;
-    let trains = two(alloc, first_train, second_train)?;
+    let train = train(alloc)?;
+    let trains = one(alloc, train)?;
     Ok(Station {
         version: 1,
         tick_ms: 1000,
@@ -136,7 +142,7 @@ fn follow(alloc: Global) -> Result<Station, AllocError>
         nodes,
         edges,
         sections,
-        signals,
+        signals: List::new(alloc),
         vehicles,
         trains,
         orders: List::new(alloc),
@@ -144,38 +150,36 @@ fn follow(alloc: Global) -> Result<Station, AllocError>
     })
 }
 
-/// A route with these sections; what plans need of it and no more.
-fn route(
-    alloc: Global,
-    start: Start,
-    finish: Finish,
-    length: i64,
-    sections: List<(SectionNo, i64)>,
-) -> Route {
-    Route {
-        start,
-        finish,
-        length,
-        edges: List::new(alloc),
-        nodes: List::new(alloc),
-        sections,
-    }
+/// Its one route, to the dead end.
+fn table(alloc: Global) -> Result<RouteTable, AllocError>
+    ensures { IfOk result (λ rs. rs ≡ record {
+      start = start.Boundary (record { 0 = 1 });
+      finish = finish.Dead (record { 0 = 2 });
+      length = pos 10000;
+      edges = record { 0 = 1 } ∷ [];
+      nodes = (record { 0 = 1 }, pos 0) ∷ (record { 0 = 2 }, pos 10000) ∷ [];
+      sections = (record { 0 = 1 }, pos 10000) ∷ [];
+    } ∷ []) }
+{
+    let nodes = two(alloc, (NodeNo(1), 0), (NodeNo(2), 10_000))?;
+    let route = Route {
+        start: Start::Boundary(NodeNo(1)),
+        finish: Finish::Dead(NodeNo(2)),
+        length: 10_000,
+        edges: one(alloc, EdgeNo(1))?,
+        nodes,
+        sections: one(alloc, (SectionNo(1), 10_000))?,
+    };
+    one(alloc, route)
 }
 
-/// Its routes: to the signal, on to the exit, and the whole way back.
-fn table(alloc: Global) -> Result<RouteTable, AllocError> {
-    let west = Start::Boundary(NodeNo(1));
-    let signal = Start::Signal(SignalNo(1));
-    let east = Start::Boundary(NodeNo(3));
-    let to_signal = one(alloc, (SectionNo(1), 10_000))?;
-    let to_exit = one(alloc, (SectionNo(2), 6_000))?;
-    let way_back = two(alloc, (SectionNo(2), 6_000), (SectionNo(1), 16_000))?;
-    three(
-        alloc,
-        route(alloc, west, Finish::Signal(SignalNo(1)), 10_000, to_signal),
-        route(alloc, signal, Finish::Exit(NodeNo(3)), 6_000, to_exit),
-        route(alloc, east, Finish::Exit(NodeNo(1)), 16_000, way_back),
-    )
+/// Its interlocking, in which no commands contend.
+fn one_route(alloc: Global) -> Result<Interlocking, AllocError>
+    ensures { IfOk result (λ i. pairs i.design.station i.routes ≡ []) }
+{
+    let station = dead_end(alloc)?;
+    let routes = table(alloc)?;
+    Interlocking::new(alloc, Design { station }, routes)
 }
 
 /// A command for the first route.
@@ -186,56 +190,23 @@ fn first_route(train: u32) -> Command {
     }
 }
 
-/// Train A is given its two routes by tick 9, and so many of them are free.
-fn leader(alloc: Global, free: u32) -> Result<ConeTrain, AllocError> {
-    Ok(ConeTrain {
+/// Train A has a path of one route by tick 9, and so many of its commands are free.
+fn cone_of(alloc: Global, free: u32) -> Result<Cone, AllocError> {
+    let entry = ConeTrain {
         train: TrainNo(1),
         horizon: 9,
         free,
-        path: two(alloc, RouteNo(1), RouteNo(2))?,
-        holder: None,
-    })
-}
-
-/// Train B waits before its first route.
-fn follower(alloc: Global) -> Result<ConeTrain, AllocError> {
-    Ok(ConeTrain {
-        train: TrainNo(2),
-        horizon: 8,
-        free: 0,
         path: one(alloc, RouteNo(1))?,
-        holder: Some(first_route(1)),
-    })
-}
-
-/// Train B waits for train A, and is not let in in time.
-fn cone_of(alloc: Global, free: u32) -> Result<Cone, AllocError> {
-    let leader = leader(alloc, free)?;
-    let follower = follower(alloc)?;
-    let trains = two(alloc, leader, follower)?;
+        holder: None,
+    };
     Ok(Cone {
-        trains,
-        pairs: one(alloc, (first_route(1), first_route(2)))?,
+        trains: one(alloc, entry)?,
+        pairs: List::new(alloc),
         violation: Violation::Grant {
-            train: TrainNo(2),
+            train: TrainNo(1),
             command: 1,
         },
     })
-}
-
-#[test]
-fn free_commands(rt: HostRuntime) -> Result<(), AllocError> {
-    let alloc = rt.alloc();
-    let design = Design {
-        station: follow(alloc)?,
-    };
-    let routes = table(alloc)?;
-    for (free, fits) in [(0, true), (2, true), (3, false)] {
-        let cone = cone_of(alloc, free)?;
-        assert_eq!(rt; trains_fit(&design, &routes, &cone), fits, "{free}");
-        assert_eq!(rt; is_free(&cone, first_route(1)), free > 0, "{free}");
-    }
-    Ok(())
 }
 
 /// A cone of no train, which says that train A does not make a visit.
@@ -250,23 +221,23 @@ fn no_trains(alloc: Global, visit: u32) -> Cone {
     }
 }
 
-fn no_routes(alloc: Global) -> RouteTable
-    ensures { result ≡ [] }
-{
-    List::new(alloc)
-}
-
 #[test]
-fn without_routes(rt: HostRuntime) -> Result<(), AllocError> {
+fn cones_of_a_design(rt: HostRuntime) -> Result<(), AllocError> {
     let alloc = rt.alloc();
-    let design = Design {
-        station: follow(alloc)?,
+    let interlocking = one_route(alloc)?;
+    let contention = Contention {
+        interlocking: &interlocking,
+        pairs: &[],
     };
-    let routes = no_routes(alloc);
-    let second = no_trains(alloc, 2);
-    assert!(rt; is_in_design(alloc, &design, &routes, &[], &second)?);
-    let third = no_trains(alloc, 3);
-    assert!(rt; !is_in_design(alloc, &design, &routes, &[], &third)?);
+    for (free, fits) in [(0, true), (1, true), (2, false)] {
+        let cone = cone_of(alloc, free)?;
+        assert_eq!(rt; is_in_design(alloc, &contention, &cone)?, fits, "{free}");
+        assert_eq!(rt; is_free(&cone, first_route(1)), free > 0, "{free}");
+    }
+    for (visit, fits) in [(2, true), (3, false)] {
+        let cone = no_trains(alloc, visit);
+        assert_eq!(rt; is_in_design(alloc, &contention, &cone)?, fits, "{visit}");
+    }
     Ok(())
 }
 
@@ -274,6 +245,9 @@ fn without_routes(rt: HostRuntime) -> Result<(), AllocError> {
 fn pairs_by_halves(rt: HostRuntime) {
     let one = first_route(1);
     let two = first_route(2);
-    assert!(rt; is_among(&[(one, two)], one, two));
-    assert!(rt; !is_among(&[(one, two)], two, one));
+    let pairs = SortedPairs {
+        items: &[(one, two)],
+    };
+    assert!(rt; pairs.is_among(one, two));
+    assert!(rt; !pairs.is_among(two, one));
 }

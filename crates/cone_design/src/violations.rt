@@ -3,13 +3,14 @@
 ghost use Rattle.std.specs.Prelude.{◌≡◌, List};
 ghost use Rattle.rail_base.specs.declared.station.Station.{Station};
 ghost use Rattle.rail_base.specs.declared.route.Route.{Route};
-ghost use Rattle.rail_base.specs.declared.plan.Violation.TheVariants as violation;
 ghost use Rattle.rail_base.specs.Admission.{is_visit};
 ghost use Rattle.rail_cone.specs.declared.Cone.{Cone};
-ghost use Rattle.rail_cone.specs.Validity.{only_path, violation_in_design};
+ghost use Rattle.rail_cone.specs.Validity.{only_path};
+ghost use Rattle.cone_design.specs.Fits.{path_fits, violation_fits};
 
 use crate::lookup::path;
 use crate::trains::is_one_of;
+use interlocking::Interlocking;
 use rail_base::design::Design;
 use rail_base::plan::Violation;
 use rail_base::station::TrainNo;
@@ -39,27 +40,27 @@ fn only_path(train: TrainNo, entries: &[ConeTrain]) -> bool
 }
 
 /// Whether the train has the visit, and the cone says nothing but its path.
-fn path_in_design(design: &Design, cone: &Cone, train: TrainNo, visit: u32) -> bool
-    ensures { (routes : List Route) → result ≡ violation_in_design design.now.station routes cone.now (violation.Path train visit) }
+fn path_in_design(interlocking: &Interlocking, cone: &Cone, train: TrainNo, visit: u32) -> bool
+    ensures { result ≡ path_fits interlocking.now cone.now train visit }
 {
-    if !is_visit(design, train, visit) {
+    if !is_visit(&interlocking.design, train, visit) {
         return false;
     }
     only_path(train, cone.trains.as_slice()) && cone.pairs.is_empty()
 }
 
 /// Whether the violation names what there is.
-pub fn violation_in_design(design: &Design, cone: &Cone) -> bool
-    ensures { (routes : List Route) → result ≡ violation_in_design design.now.station routes cone.now cone.now.violation }
+pub fn violation_in_design(interlocking: &Interlocking, cone: &Cone) -> bool
+    ensures { result ≡ violation_fits interlocking.now cone.now }
 {
-    let station = &design.station;
+    let station = &interlocking.design.station;
     match cone.violation {
-        Violation::Path { train, visit } => { path_in_design(design, cone, train, visit) }
+        Violation::Path { train, visit } => { path_in_design(interlocking, cone, train, visit) }
         Violation::Within { within } => is_one_of(within, station.withins.len()),
         Violation::Order { order } => is_one_of(order, station.orders.len()),
         Violation::Grant { train, command } => {
             is_one_of(train.0, station.trains.len()) && is_one_of(command, path(cone, train).len())
         }
-        Violation::Visit { train, visit } => is_visit(design, train, visit),
+        Violation::Visit { train, visit } => is_visit(&interlocking.design, train, visit),
     }
 }

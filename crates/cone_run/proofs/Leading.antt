@@ -16,6 +16,7 @@ use Rattle.rail_spec.specs.Plans.{is_route, path}
 use Rattle.rail_spec.specs.Visits.{stops, visits_on}
 use Rattle.rail_spec.specs.Dispatches.{rates, stretches, authority}
 use Rattle.rail_spec.specs.Run.{of_plan}
+use Rattle.interlocking.specs.Sections.{last_release}
 use Rattle.rail_course.specs.declared.course.Course.{Course}
 use Rattle.rail_course.specs.declared.journey.Release.{Release}
 use Rattle.rail_course.specs.declared.waits.Wait.{Wait}
@@ -63,7 +64,7 @@ module _ (d : Station) (routes : List Route) (k : Cone) (known : in_design d rou
       with : List RouteNo → Wait
       with ps =
           let earlier = map (route_at routes) (before_first (λ r. is_route r e.route) ps) in
-          record { train = e.train; number = length earlier; place = sum_by length_mm earlier + waits.last_release (route_at routes e.route) (route_at routes c.route) + train_length d e.train }
+          record { train = e.train; number = length earlier; place = sum_by length_mm earlier + last_release (route_at routes e.route) (route_at routes c.route) + train_length d e.train }
 
   waits_are : (t : TrainNo) → runs.waits_of_train d routes k t ≡ waits_of_train d routes (of_cone k) t
   waits_are t = map-each _ _ (free_path k t) (λ r. map-each _ _ ((of_cone k).before (record { train = t; route = r })) (wait_is (record { train = t; route = r })))

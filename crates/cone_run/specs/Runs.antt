@@ -1,23 +1,23 @@
 -- The run of a cone: its free commands as a plan, what each of them waits for, and the journeys of its trains.
-use Rattle.std.specs.Prelude.{◌≡◌, ℕ, ◌≤◌, true, List, [], ◌∷◌, All, map, flat_map, fold, max, take, length}
+use Rattle.std.specs.Prelude.{◌≡◌, ℕ, List, [], ◌∷◌, All, map, flat_map, fold, max, take, Option}
 use Rattle.rail_base.specs.declared.station.Station.{Station}
 use Rattle.rail_base.specs.declared.station.TrainNo.{TrainNo}
 use Rattle.rail_base.specs.declared.route.Route.{Route}
 use Rattle.rail_base.specs.declared.plan.Command.{Command}
 use Rattle.rail_base.specs.Stations.{trains}
-use Rattle.rail_spec.specs.Track.{routes_of}
 use Rattle.rail_course.specs.declared.waits.Wait.{Wait}
 use Rattle.rail_course.specs.Waits.{wait_for}
 use Rattle.rail_course.specs.declared.journey.Journey.{Journey}
 use Rattle.rail_course.specs.Releases.{releases_of_train}
-use Rattle.rail_course.specs.Tracks.{IsInRange}
-use Rattle.rail_course.specs.Courses.{AreCourses, IsCourse}
-use Rattle.plan_clauses.specs.Variables.{pairs}
+use Rattle.rail_course.specs.Courses.{IsCourse}
+use Rattle.interlocking.specs.declared.railway.Interlocking.{Interlocking}
 use Rattle.rail_cone.specs.declared.ConeTrain.{ConeTrain}
 use Rattle.rail_cone.specs.declared.Cone.{Cone}
+use Rattle.rail_cone.specs.declared.ConeFault.{ConeFault}
 use Rattle.rail_cone.specs.Cones.{free_path, of_cone}
-use Rattle.rail_cone.specs.Validity.{in_design}
-use Rattle.cone_run.specs.declared.layout.Layout.{Layout}
+use Rattle.rail_cone.specs.Validity.{fault_of}
+use Rattle.dispatch_quiet.specs.Histories.{history_at}
+use Rattle.rail_base.specs.declared.history.TrainHistory.{TrainHistory}
 
 -- the free commands of a train
 abbrev pub free_commands : ConeTrain → List Command
@@ -30,6 +30,15 @@ free_plan k = flat_map free_commands k.trains ∷ []
 -- the last tick of a cone's run: the greatest horizon
 abbrev pub last_tick : Cone → ℕ
 last_tick k = fold max 0 (map (λ (c : ConeTrain). c.horizon) k.trains)
+
+module _ (i : Interlocking) (k : Cone) where
+  -- the first reason against the cone
+  abbrev pub first_reason : Option ConeFault
+  first_reason = fault_of i.design.station i.routes k
+
+  -- what happens to each train in the run, up to the greatest horizon
+  abbrev pub run_of : List TrainHistory
+  run_of = history_at i.design.station i.routes (of_cone k) (last_tick k)
 
 module _ (d : Station) (routes : List Route) (k : Cone) where
   -- what a command waits for: those that are listed before it
@@ -50,13 +59,3 @@ module _ (d : Station) (routes : List Route) (k : Cone) where
   pub record AreLed (js : List Journey) : Type 0 where
     pub all : map (λ (j : Journey). j.course.now.train) js ≡ trains d
     pub each : All IsLed js
-
--- a cone of the design, over its routes, with its free commands as a plan and their courses
-pub record IsLayout (l : Layout) : Type 0 where
-  pub table : l.routes.now ≡ routes_of l.design.now.station
-  pub few : length l.routes.now ≤ 2000
-  pub contending : l.pairs.now ≡ pairs l.design.now.station l.routes.now
-  pub known : in_design l.design.now.station l.routes.now l.cone.now ≡ true
-  pub given : l.plan.now.steps ≡ free_plan l.cone.now
-  pub range : IsInRange l.design.now.station l.routes.now (free_plan l.cone.now)
-  pub courses : AreCourses l.design.now.station l.routes.now (free_plan l.cone.now) l.courses.now

@@ -1,10 +1,9 @@
 //! What is asked of a history.
 
 ghost use Rattle.std.specs.Prelude.{◌≡◌};
-ghost use Rattle.std.specs.List.{list_all};
 ghost use Rattle.rail_base.specs.Routes.{shared};
 ghost use Rattle.rail_require.specs.Ticks.{grant_tick, history_of, is_by};
-ghost use Rattle.cone_run.specs.Asked.{release_in, up_to};
+ghost use Rattle.cone_run.specs.Asked.{release_in, released_by, up_to};
 
 use rail_base::history::TrainHistory;
 use rail_base::plan::Command;
@@ -75,7 +74,7 @@ pub(crate) fn all_released(
     route: &Route,
     other: &Route,
 ) -> bool
-    ensures { result ≡ list_all (λ z. is_by tick (release_in (history_of history.now command.train).releases command.route z)) (shared route.now other.now) }
+    ensures { result ≡ released_by history.now command tick (shared route.now other.now) }
 {
     route
         .sections

@@ -1,18 +1,16 @@
 //! Whether the free commands of a cone are granted, and its waiting ones held up.
 
 ghost use Rattle.std.specs.Prelude.{◌≡◌, ◌≤◌, true, Some};
-ghost use Rattle.std.specs.List.{list_all};
 ghost use Rattle.rail_base.specs.Routes.{IsRoute};
-ghost use Rattle.rail_spec.specs.Dispatches.{has_cleared, state_at};
-ghost use Rattle.rail_cone.specs.Cones.{all_free, is_listed, of_cone};
-ghost use Rattle.rail_cone.specs.Validity.{free_granted, held, holder_needed, holds_up, just_granted};
+ghost use Rattle.rail_cone.specs.Cones.{all_free, is_listed};
 ghost use Rattle.cone_run.specs.Runs.{last_tick};
-ghost use Rattle.cone_run.specs.Checks.{IsConeRun, IsEntry};
+ghost use Rattle.cone_run.specs.Layouts.{all_granted, all_held, free_granted, has_cleared, held};
+ghost use Rattle.cone_run.specs.Layouts.{holder_needed, holds_up, just_granted, routes_in};
 
 use crate::asked::{all_released, grant_tick, is_by};
 use crate::checked::ConeRun;
+use crate::train::TrainRun;
 use crate::waits::horizon_of;
-use cone_design::is_among;
 use rail_base::plan::Command;
 use rail_base::route::{RouteNo, route_at};
 use rail_cone::ConeTrain;
@@ -24,72 +22,95 @@ fn all_free(entry: &ConeTrain) -> bool
     entry.path.len() <= entry.free as usize
 }
 
-impl ConeRun<'_> {
-    /// Whether a train's free commands are granted by its horizon.
-    fn free_granted(&self, entry: &ConeTrain) -> bool
-        requires run { IsConeRun self.now }
-        requires entry { IsEntry self.now.layout.design.now.station self.now.layout.routes.now self.now.layout.cone.now entry.now }
-        ensures { result ≡ free_granted self.now.layout.design.now.station self.now.layout.routes.now self.now.layout.cone.now entry.now }
+impl TrainRun<'_> {
+    /// Whether the train's free commands are granted by its horizon.
+    fn free_granted(&self) -> bool
+        ensures { result ≡ free_granted self.now.run.layout self.now.said.now }
     {
-        if entry.free == 0 {
+        let said = self.said;
+        if said.free == 0 {
             return true;
         }
         is_by(
-            grant_tick(self.history, entry.train, entry.free),
-            entry.horizon,
+            grant_tick(self.run.history, said.train, said.free),
+            said.horizon,
         )
     }
 
-    /// Whether all free commands are granted.
-    pub(crate) fn all_granted(&self) -> bool
-        requires { IsConeRun self.now }
-        ensures { result ≡ list_all (free_granted self.now.layout.design.now.station self.now.layout.routes.now self.now.layout.cone.now) self.now.layout.cone.now.trains }
+    /// Whether the train's last free command is granted exactly at its horizon, which is not 0.
+    fn just_granted(&self) -> bool
+        requires { 1 ≤ self.now.said.now.horizon }
+        ensures { result ≡ just_granted self.now.run.layout self.now.said.now }
     {
-        for entry in self.layout.cone.trains.as_slice() {
-            if !self.free_granted(entry) {
-                return false;
-            }
-        }
-        true
-    }
-
-    /// Whether a train's last free command is granted exactly at its horizon, which is not 0.
-    fn just_granted(&self, entry: &ConeTrain) -> bool
-        requires run { IsConeRun self.now }
-        requires entry { IsEntry self.now.layout.design.now.station self.now.layout.routes.now self.now.layout.cone.now entry.now }
-        requires later { 1 ≤ entry.now.horizon }
-        ensures { result ≡ just_granted self.now.layout.design.now.station self.now.layout.routes.now self.now.layout.cone.now entry.now }
-    {
-        if entry.free == 0 {
+        let said = self.said;
+        if said.free == 0 {
             return false;
         }
         !is_by(
-            grant_tick(self.history, entry.train, entry.free),
-            entry.horizon - 1,
+            grant_tick(self.run.history, said.train, said.free),
+            said.horizon - 1,
         )
     }
 
-    /// Whether a train needs a holder.
-    fn holder_needed(&self, entry: &ConeTrain) -> bool
-        requires run { IsConeRun self.now }
-        requires entry { IsEntry self.now.layout.design.now.station self.now.layout.routes.now self.now.layout.cone.now entry.now }
-        ensures { result ≡ holder_needed self.now.layout.design.now.station self.now.layout.routes.now self.now.layout.cone.now entry.now }
+    /// Whether the train needs a holder.
+    fn holder_needed(&self) -> bool
+        ensures { result ≡ holder_needed self.now.run.layout self.now.said.now }
     {
-        if all_free(entry) || entry.horizon == 0 {
+        if all_free(self.said) || self.said.horizon == 0 {
             return false;
         }
-        !self.just_granted(entry)
+        !self.just_granted()
     }
 
+    /// Whether a command holds up the train, whose first waiting command has this route.
+    fn holds_up(&self, holder: Command, route: RouteNo) -> bool
+        requires later { 1 ≤ self.now.said.now.horizon }
+        requires route { IsRoute (routes_in self.now.run.layout) route }
+        ensures { result ≡ holds_up self.now.run.layout self.now.said.now holder (Some route) }
+    {
+        let layout = self.run.layout;
+        let waiting = Command {
+            train: self.said.train,
+            route,
+        };
+        let listed = layout.contention.listed(layout.cone);
+        if !listed.is_among(holder, waiting) {
+            return false;
+        }
+        let last = self.said.horizon - 1;
+        if horizon_of(layout.cone, holder.train) < last {
+            return false;
+        }
+        !self.run.has_cleared(last, holder, waiting)
+    }
+
+    /// Whether the train has a holder where it needs one, which holds it up, and has none where it needs none.
+    fn held(&self) -> bool
+        ensures { result ≡ held self.now.run.layout self.now.said.now self.now.said.now.holder }
+    {
+        let needed = self.holder_needed();
+        match self.said.holder {
+            None => !needed,
+            Some(holder) => {
+                if !needed {
+                    return false;
+                }
+                let path = self.said.path.as_slice();
+                self.holds_up(holder, path[self.said.free as usize])
+            }
+        }
+    }
+}
+
+impl ConeRun<'_> {
     /// Whether a command has released by a tick all sections that it shares with one that waits for it.
     fn has_cleared(&self, tick: u64, first: Command, second: Command) -> bool
-        requires run { IsConeRun self.now }
         requires tick { tick ≤ last_tick self.now.layout.cone.now }
-        requires second { IsRoute self.now.layout.routes.now second.route }
+        requires second { IsRoute (routes_in self.now.layout) second.route }
         requires listed { is_listed self.now.layout.cone.now first second ≡ true }
-        ensures { result ≡ has_cleared self.now.layout.design.now.station self.now.layout.routes.now (of_cone self.now.layout.cone.now) (state_at self.now.layout.design.now.station self.now.layout.routes.now (of_cone self.now.layout.cone.now) tick) second first }
+        ensures { result ≡ has_cleared self.now.layout tick second first }
     {
-        let routes = self.layout.routes;
+        let routes = &self.layout.contention.interlocking.routes;
         all_released(
             self.history,
             first,
@@ -99,53 +120,32 @@ impl ConeRun<'_> {
         )
     }
 
-    /// Whether a command holds up a train whose first waiting command has this route.
-    fn holds_up(&self, entry: &ConeTrain, holder: Command, route: RouteNo) -> bool
-        requires run { IsConeRun self.now }
-        requires entry { IsEntry self.now.layout.design.now.station self.now.layout.routes.now self.now.layout.cone.now entry.now }
-        requires later { 1 ≤ entry.now.horizon }
-        requires route { IsRoute self.now.layout.routes.now route }
-        ensures { result ≡ holds_up self.now.layout.design.now.station self.now.layout.routes.now self.now.layout.cone.now entry.now holder (Some route) }
-    {
-        let waiting = Command {
-            train: entry.train,
-            route,
-        };
-        if !is_among(self.layout.cone.pairs.as_slice(), holder, waiting) {
-            return false;
-        }
-        if horizon_of(self.layout.cone, holder.train) < entry.horizon - 1 {
-            return false;
-        }
-        !self.has_cleared(entry.horizon - 1, holder, waiting)
-    }
-
-    /// Whether a train has a holder where it needs one, which holds it up, and has none where it needs none.
-    fn held(&self, entry: &ConeTrain) -> bool
-        requires run { IsConeRun self.now }
-        requires entry { IsEntry self.now.layout.design.now.station self.now.layout.routes.now self.now.layout.cone.now entry.now }
-        ensures { result ≡ held self.now.layout.design.now.station self.now.layout.routes.now self.now.layout.cone.now entry.now entry.now.holder }
-    {
-        let needed = self.holder_needed(entry);
-        match entry.holder {
-            None => !needed,
-            Some(holder) => {
-                if !needed {
-                    return false;
-                }
-                let path = entry.path.as_slice();
-                self.holds_up(entry, holder, path[entry.free as usize])
-            }
-        }
-    }
-
-    /// Whether it is so with all trains.
-    pub(crate) fn all_held(&self) -> bool
-        requires { IsConeRun self.now }
-        ensures { result ≡ list_all (λ c. held self.now.layout.design.now.station self.now.layout.routes.now self.now.layout.cone.now c c.holder) self.now.layout.cone.now.trains }
+    /// Whether all free commands are granted.
+    pub(crate) fn all_granted(&self) -> bool
+        ensures { result ≡ all_granted self.now.layout }
     {
         for entry in self.layout.cone.trains.as_slice() {
-            if !self.held(entry) {
+            let train = TrainRun {
+                run: *self,
+                said: entry,
+            };
+            if !train.free_granted() {
+                return false;
+            }
+        }
+        true
+    }
+
+    /// Whether each train has a holder where it needs one, which holds it up, and has none where it needs none.
+    pub(crate) fn all_held(&self) -> bool
+        ensures { result ≡ all_held self.now.layout }
+    {
+        for entry in self.layout.cone.trains.as_slice() {
+            let train = TrainRun {
+                run: *self,
+                said: entry,
+            };
+            if !train.held() {
                 return false;
             }
         }

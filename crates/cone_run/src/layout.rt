@@ -1,20 +1,20 @@
 //! A cone with what is worked out of it once.
 
-use rail_base::design::Design;
-use rail_base::plan::{Command, Plan};
-use rail_base::route::RouteTable;
-use rail_cone::Cone;
-use rail_course::Course;
+ghost use Rattle.std.specs.Prelude.{◌≡◌, true};
+ghost use Rattle.cone_design.specs.Fits.{fits};
+ghost use Rattle.cone_run.specs.Runs.{free_plan};
 
-/// A cone over a design, its free commands, and the courses that they give the trains.
+use cone_design::Contention;
+use rail_cone::Cone;
+use rail_course::Courses;
+
+/// A cone that speaks of the design, and the courses that its free commands, as a plan of one step, give the trains.
 #[derive(Clone, Copy)]
 pub(crate) struct Layout<'a> {
-    pub design: &'a Design,
-    pub routes: &'a RouteTable,
+    pub contention: Contention<'a>,
     pub cone: &'a Cone,
-    /// The contending pairs of commands, in order.
-    pub pairs: &'a [(Command, Command)],
-    /// The free commands as a plan of one step.
-    pub plan: &'a Plan,
-    pub courses: &'a [Course],
+    pub courses: Courses<'a>,
+    pub ghost known: { fits contention.interlocking.now cone.now ≡ true },
+    pub ghost over: { courses.given.interlocking.now ≡ contention.interlocking.now },
+    pub ghost given: { courses.given.plan.now.steps ≡ free_plan cone.now },
 }

@@ -1,25 +1,22 @@
 //! The run of a cone, from event to event.
 
-ghost use Rattle.std.specs.Prelude.{◌≡◌, ◌≤◌, true, IfOk, length};
-ghost use Rattle.rail_spec.specs.Track.{routes_of};
-ghost use Rattle.plan_clauses.specs.Variables.{pairs as contending};
+ghost use Rattle.std.specs.Prelude.{◌≡◌, ◌≤◌, true, IfOk};
 ghost use Rattle.rail_cone.specs.Cones.{of_cone};
-ghost use Rattle.rail_cone.specs.Validity.{in_design};
 ghost use Rattle.dispatch_quiet.specs.Histories.{history_at};
 ghost use Rattle.rail_spec.specs.Dispatches.{Dispatch};
 ghost use Rattle.dispatch_run.specs.Followers.{IsTraffic};
-ghost use Rattle.cone_run.specs.Runs.{IsLayout, last_tick};
+ghost use Rattle.cone_design.specs.Fits.{fits};
+ghost use Rattle.cone_run.specs.Layouts.{history_in};
+ghost use Rattle.cone_run.specs.Runs.{last_tick, run_of};
 
 use crate::free::free_plan;
 use crate::layout::Layout;
+use cone_design::Contention;
 use dispatch_run::Traffic;
-use rail_base::design::Design;
 use rail_base::history::{History, TrainHistory};
 use rail_base::list::List;
-use rail_base::plan::Command;
-use rail_base::route::RouteTable;
 use rail_cone::Cone;
-use rail_course::{courses_of, journeys_of};
+use rail_course::{Courses, Itineraries};
 use std::alloc::{AllocError, Global};
 
 /// The last tick of a cone's run: the greatest of its horizons.
@@ -36,15 +33,14 @@ fn last_tick(cone: &Cone) -> u64
 impl Layout<'_> {
     /// What happens to each train in the run of the cone.
     pub(crate) fn history(&self, alloc: Global) -> Result<Vec<TrainHistory>, AllocError>
-        requires { IsLayout self.now }
-        ensures { IfOk result (λ h. h.items ≡ history_at self.now.design.now.station self.now.routes.now (of_cone self.now.cone.now) (last_tick self.now.cone.now)) }
+        ensures { IfOk result (λ h. h.items ≡ history_in self.now) }
     {
-        let plain = journeys_of(alloc, self.design, self.routes, self.plan, self.courses)?;
+        let interlocking = self.contention.interlocking;
+        let plain = self.courses.journeys(alloc)?;
         let journeys = self.journeys(alloc, plain.as_slice())?;
         let followers = self.followers(alloc, journeys.as_slice())?;
         let traffic = Traffic {
-            design: self.design,
-            routes: self.routes,
+            interlocking,
             followers: followers.as_slice(),
         };
         history_of(&traffic, self.cone, alloc, last_tick(self.cone))
@@ -62,36 +58,37 @@ fn history_of(
     requires traffic { IsTraffic dispatch traffic.now }
     requires same { dispatch ≡ of_cone cone.now }
     requires early { last ≤ 86400 }
-    ensures { IfOk result (λ h. h.items ≡ history_at traffic.now.design.now.station traffic.now.routes.now (of_cone cone.now) last) }
+    ensures { IfOk result (λ h. h.items
+        ≡ history_at traffic.now.interlocking.now.design.station traffic.now.interlocking.now.routes
+        (of_cone cone.now) last) }
 {
     let progress = traffic.run(alloc, last)?;
     Ok(progress.histories)
 }
 
-/// What happens to each train in the run of a cone, up to the greatest horizon. `pairs` are the contending pairs of
-/// commands in order.
-pub fn cone_history(
+/// What happens to each train in the run of a cone, up to the greatest horizon.
+pub fn cone_history<'a>(
     alloc: Global,
-    design: &Design,
-    routes: &RouteTable,
-    pairs: &[(Command, Command)],
-    cone: &Cone,
+    contention: &Contention<'a>,
+    cone: &'a Cone,
 ) -> Result<History, AllocError>
-    requires table { routes.now ≡ routes_of design.now.station }
-    requires few { length routes.now ≤ 2000 }
-    requires known { in_design design.now.station routes.now cone.now ≡ true }
-    requires pairs { pairs.now ≡ contending design.now.station routes.now }
-    ensures { IfOk result (λ h. h ≡ history_at design.now.station routes.now (of_cone cone.now) (last_tick cone.now)) }
+    requires known { fits contention.now.interlocking.now cone.now ≡ true }
+    ensures { IfOk result (λ h. h ≡ run_of contention.now.interlocking.now cone.now) }
 {
     let plan = free_plan(alloc, cone)?;
-    let courses = courses_of(alloc, design, routes, &plan)?;
-    let layout = Layout {
-        design,
-        routes,
-        cone,
-        pairs,
+    let given = Itineraries {
+        interlocking: contention.interlocking,
         plan: &plan,
+    };
+    let courses = given.courses(alloc)?;
+    let courses = Courses {
+        given,
         courses: courses.as_slice(),
+    };
+    let layout = Layout {
+        contention: *contention,
+        cone,
+        courses,
     };
     Ok(List::from_vec(layout.history(alloc)?))
 }

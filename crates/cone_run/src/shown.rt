@@ -1,14 +1,12 @@
 //! Whether the violation of a cone is certain in its run.
 
-ghost use Rattle.std.specs.Prelude.{◌≡◌, ◌+◌, ◌-◌, ◌≤◌, ◌==◌, ◌&&◌, ◌||◌, true, nat_le, is_none, IfOk, length, ℕ};
-ghost use Rattle.rail_base.specs.Stations.{IsTrain, order_of, within_of, horizon};
+ghost use Rattle.std.specs.Prelude.{◌≡◌, ◌≤◌, ℕ, IfOk};
+ghost use Rattle.rail_base.specs.Stations.{IsTrain, order_of, within_of};
 ghost use Rattle.rail_base.specs.declared.plan.Violation.TheVariants as violation;
-ghost use Rattle.rail_spec.specs.Requirements.{most_ticks};
-ghost use Rattle.rail_cone.specs.Cones.{named};
-ghost use Rattle.rail_cone.specs.Validity.{at_its_tick, cone_visit, shown};
-ghost use Rattle.cone_run.specs.Checks.{IsConeRun};
+ghost use Rattle.cone_run.specs.Layouts.{comes_after, comes_late, shown, station_of};
 
-use crate::checked::{ConeRun, place_of};
+use crate::checked::ConeRun;
+use crate::visits::place_of;
 use crate::waits::{free_of, horizon_of};
 use cone_design::path;
 use rail_base::plan::Violation;
@@ -19,25 +17,26 @@ use std::alloc::{AllocError, Global};
 impl ConeRun<'_> {
     /// Whether a train's path misses a visit.
     fn path_shown(&self, alloc: Global, train: TrainNo, visit: u32) -> Result<bool, AllocError>
-        requires run { IsConeRun self.now }
-        requires train { IsTrain self.now.layout.design.now.station train }
-        ensures { IfOk result (λ b. b ≡ shown self.now.layout.design.now.station self.now.layout.routes.now self.now.layout.cone.now (violation.Path train visit)) }
+        requires { IsTrain (station_of self.now.layout) train }
+        ensures { IfOk result (λ b. b ≡ shown self.now.layout (violation.Path train visit)) }
     {
-        let layout = self.layout;
+        let interlocking = self.layout.contention.interlocking;
         let routes = path(self.layout.cone, train);
-        let stops = stops_of(alloc, layout.design, layout.routes, routes)?;
-        let visits = visits_of(alloc, layout.design.train(train).visits.as_slice(), &stops)?;
+        let stops = stops_of(alloc, interlocking, routes)?;
+        let visits = interlocking.design.train(train).visits.as_slice();
+        let visits = visits_of(alloc, visits, &stops)?;
         Ok(place_of(visits.as_slice(), visit).is_none())
     }
 
     /// Whether the second visit of a within, whose first is made at this tick, is certain to come too late.
     fn comes_late(&self, within: &Within, tick: u64) -> bool
-        requires run { IsConeRun self.now }
-        requires train { IsTrain self.now.layout.design.now.station within.now.to_train }
+        requires train { IsTrain (station_of self.now.layout) within.now.to_train }
         requires tick { tick ≤ 86400 }
-        ensures { result ≡ (nat_le (tick + most_ticks self.now.layout.design.now.station within.now) (named self.now.layout.cone.now within.now.to_train).horizon && is_none (cone_visit self.now.layout.design.now.station self.now.layout.routes.now self.now.layout.cone.now (tick + most_ticks self.now.layout.design.now.station within.now) within.now.to_train within.now.to_visit)) }
+        ensures { result ≡ comes_late self.now.layout within.now tick }
     {
-        let most = u64::from(within.max_ms / self.layout.design.station.tick_ms);
+        let most = u64::from(
+            within.max_ms / self.layout.contention.interlocking.design.station.tick_ms,
+        );
         let last = tick + most;
         if horizon_of(self.layout.cone, within.to_train) < last {
             return false;
@@ -48,10 +47,10 @@ impl ConeRun<'_> {
 
     /// Whether a within is certain to fail.
     fn within_shown(&self, within: &Within) -> bool
-        requires run { IsConeRun self.now }
-        requires from { IsTrain self.now.layout.design.now.station within.now.from_train }
-        requires to { IsTrain self.now.layout.design.now.station within.now.to_train }
-        ensures { (w : ℕ) → within_of self.now.layout.design.now.station w ≡ within.now → result ≡ shown self.now.layout.design.now.station self.now.layout.routes.now self.now.layout.cone.now (violation.Within w) }
+        requires from { IsTrain (station_of self.now.layout) within.now.from_train }
+        requires to { IsTrain (station_of self.now.layout) within.now.to_train }
+        ensures { (w : ℕ) → within_of (station_of self.now.layout) w ≡ within.now
+            → result ≡ shown self.now.layout (violation.Within w) }
     {
         let last = horizon_of(self.layout.cone, within.from_train);
         match self.visit_tick(last, within.from_train, within.from_visit) {
@@ -62,10 +61,9 @@ impl ConeRun<'_> {
 
     /// Whether the first visit of an order, whose second is made at this tick, is certain not to come before it.
     fn comes_after(&self, order: &Order, tick: u64) -> bool
-        requires run { IsConeRun self.now }
-        requires train { IsTrain self.now.layout.design.now.station order.now.first_train }
+        requires train { IsTrain (station_of self.now.layout) order.now.first_train }
         requires tick { 1 ≤ tick }
-        ensures { result ≡ (nat_le tick ((named self.now.layout.cone.now order.now.first_train).horizon + 1) && is_none (cone_visit self.now.layout.design.now.station self.now.layout.routes.now self.now.layout.cone.now (tick - 1) order.now.first_train order.now.first_visit)) }
+        ensures { result ≡ comes_after self.now.layout order.now tick }
     {
         if horizon_of(self.layout.cone, order.first_train) < tick - 1 {
             return false;
@@ -76,10 +74,10 @@ impl ConeRun<'_> {
 
     /// Whether an order is certain to fail.
     fn order_shown(&self, order: &Order) -> bool
-        requires run { IsConeRun self.now }
-        requires first { IsTrain self.now.layout.design.now.station order.now.first_train }
-        requires then_ { IsTrain self.now.layout.design.now.station order.now.then_train }
-        ensures { (o : ℕ) → order_of self.now.layout.design.now.station o ≡ order.now → result ≡ shown self.now.layout.design.now.station self.now.layout.routes.now self.now.layout.cone.now (violation.Order o) }
+        requires first { IsTrain (station_of self.now.layout) order.now.first_train }
+        requires then_ { IsTrain (station_of self.now.layout) order.now.then_train }
+        ensures { (o : ℕ) → order_of (station_of self.now.layout) o ≡ order.now
+            → result ≡ shown self.now.layout (violation.Order o) }
     {
         let last = horizon_of(self.layout.cone, order.then_train);
         match self.visit_tick(last, order.then_train, order.then_visit) {
@@ -90,21 +88,20 @@ impl ConeRun<'_> {
 
     /// Whether a command waits up to the horizon of the design.
     fn grant_shown(&self, train: TrainNo, command: u32) -> bool
-        requires { IsConeRun self.now }
-        ensures { result ≡ shown self.now.layout.design.now.station self.now.layout.routes.now self.now.layout.cone.now (violation.Grant train command) }
+        ensures { result ≡ shown self.now.layout (violation.Grant train command) }
     {
         let cone = self.layout.cone;
-        horizon_of(cone, train) == self.layout.design.horizon() && free_of(cone, train) < command
+        let last = self.layout.contention.interlocking.design.horizon();
+        horizon_of(cone, train) == last && free_of(cone, train) < command
     }
 
     /// Whether a visit is not made up to the horizon of the design.
     fn visit_shown(&self, train: TrainNo, visit: u32) -> bool
-        requires run { IsConeRun self.now }
-        requires train { IsTrain self.now.layout.design.now.station train }
-        ensures { result ≡ shown self.now.layout.design.now.station self.now.layout.routes.now self.now.layout.cone.now (violation.Visit train visit) }
+        requires { IsTrain (station_of self.now.layout) train }
+        ensures { result ≡ shown self.now.layout (violation.Visit train visit) }
     {
         let last = horizon_of(self.layout.cone, train);
-        if last != self.layout.design.horizon() {
+        if last != self.layout.contention.interlocking.design.horizon() {
             return false;
         }
         self.visit_tick(last, train, visit).is_none()
@@ -112,10 +109,9 @@ impl ConeRun<'_> {
 
     /// Whether the violation is certain.
     pub(crate) fn shown(&self, alloc: Global) -> Result<bool, AllocError>
-        requires { IsConeRun self.now }
-        ensures { IfOk result (λ b. b ≡ shown self.now.layout.design.now.station self.now.layout.routes.now self.now.layout.cone.now self.now.layout.cone.now.violation) }
+        ensures { IfOk result (λ b. b ≡ shown self.now.layout self.now.layout.cone.now.violation) }
     {
-        let station = &self.layout.design.station;
+        let station = &self.layout.contention.interlocking.design.station;
         match self.layout.cone.violation {
             Violation::Path { train, visit } => self.path_shown(alloc, train, visit),
             Violation::Within { within } => {

@@ -2,20 +2,17 @@
 
 ghost use Rattle.std.specs.Prelude.{◌≡◌, IfOk, map};
 ghost use Rattle.rail_base.specs.Routes.{IsRoute};
-ghost use Rattle.rail_course.specs.Courses.{IsCourse};
+ghost use Rattle.rail_base.specs.Stations.{IsTrain};
 ghost use Rattle.rail_cone.specs.Cones.{named};
-ghost use Rattle.rail_course.specs.Journeys.{AreJourneys};
-ghost use Rattle.rail_cone.specs.Cones.{of_cone};
-ghost use Rattle.dispatch_run.specs.Followers.{AreFollowers};
-ghost use Rattle.cone_run.specs.Runs.{AreLed, IsLayout, free_plan, listed_waits, waits_of_train};
+ghost use Rattle.cone_run.specs.Layouts.{AreFollowersOf, AreLedIn, ArePlain};
+ghost use Rattle.cone_run.specs.Layouts.{routes_in, station_of, waits_in, waits_of_train};
 
 use crate::layout::Layout;
-use cone_design::{is_among, pairs_from};
 use dispatch_run::Follower;
 use rail_base::plan::Command;
 use rail_base::station::TrainNo;
 use rail_cone::Cone;
-use rail_course::{Course, Journey, Release, Wait, wait_for};
+use rail_course::{Journey, Release, Wait};
 use std::alloc::{AllocError, Global};
 
 /// The horizon of a train; of one that is not named it is 0.
@@ -52,36 +49,30 @@ fn copied(alloc: Global, releases: &[Release]) -> Result<Vec<Release>, AllocErro
 impl<'a> Layout<'a> {
     /// The waits of a command for those that are listed before it. They are among those that contend with it.
     fn waits_of(&self, alloc: Global, command: Command) -> Result<Vec<Wait>, AllocError>
-        requires layout { IsLayout self.now }
-        requires command { IsRoute self.now.routes.now command.route }
-        ensures { IfOk result (λ w. w.items ≡ listed_waits self.now.design.now.station self.now.routes.now self.now.cone.now command) }
+        requires { IsRoute (routes_in self.now) command.route }
+        ensures { IfOk result (λ w. w.items ≡ waits_in self.now command) }
     {
+        let pairs = self.contention.sorted();
+        let listed = self.contention.listed(self.cone);
         let mut waits = Vec::new(alloc);
-        for (_, other) in pairs_from(self.pairs, command) {
-            if is_among(self.cone.pairs.as_slice(), *other, command) {
-                waits.push(wait_for(
-                    self.design,
-                    self.routes,
-                    self.plan,
-                    self.courses,
-                    command,
-                    *other,
-                ))?;
+        for (_, other) in pairs.pairs_from(command) {
+            if listed.is_among(*other, command) {
+                waits.push(self.courses.wait_for(command, *other))?;
             }
         }
         Ok(waits)
     }
 
     /// The waits of each free command of a train.
-    fn waits_of_train(&self, alloc: Global, course: &Course) -> Result<Vec<Vec<Wait>>, AllocError>
-        requires layout { IsLayout self.now }
-        requires course { IsCourse self.now.design.now.station self.now.routes.now (free_plan self.now.cone.now) course.now }
-        ensures { IfOk result (λ w. map (λ v. v.items) w.items ≡ waits_of_train self.now.design.now.station self.now.routes.now self.now.cone.now course.now.train) }
+    fn waits_of_train(&self, alloc: Global, train: TrainNo) -> Result<Vec<Vec<Wait>>, AllocError>
+        requires { IsTrain (station_of self.now) train }
+        ensures { IfOk result (λ w. map (λ v. v.items) w.items ≡ waits_of_train self.now train) }
     {
         let mut waits = Vec::new(alloc);
+        let course = self.courses.course(train);
         for route in &course.path {
             let command = Command {
-                train: course.train,
+                train,
                 route: *route,
             };
             waits.push(self.waits_of(alloc, command)?)?;
@@ -95,15 +86,14 @@ impl<'a> Layout<'a> {
         alloc: Global,
         plain: &[Journey<'a>],
     ) -> Result<Vec<Journey<'a>>, AllocError>
-        requires layout { IsLayout self.now }
-        requires plain { AreJourneys self.now.design.now.station self.now.routes.now (free_plan self.now.cone.now) plain.now }
-        ensures { IfOk result (λ j. AreLed self.now.design.now.station self.now.routes.now self.now.cone.now j.items) }
+        requires { ArePlain self.now plain.now }
+        ensures { IfOk result (λ j. AreLedIn self.now j.items) }
     {
         let mut journeys = Vec::new(alloc);
         for journey in plain {
             journeys.push(Journey {
                 course: journey.course,
-                waits: self.waits_of_train(alloc, journey.course)?,
+                waits: self.waits_of_train(alloc, journey.course.train)?,
                 releases: copied(alloc, journey.releases.as_slice())?,
             })?;
         }
@@ -116,9 +106,8 @@ impl<'a> Layout<'a> {
         alloc: Global,
         journeys: &'b [Journey<'a>],
     ) -> Result<Vec<Follower<'b>>, AllocError>
-        requires layout { IsLayout self.now }
-        requires journeys { AreLed self.now.design.now.station self.now.routes.now self.now.cone.now journeys.now }
-        ensures { IfOk result (λ f. AreFollowers self.now.design.now.station self.now.routes.now (of_cone self.now.cone.now) f.items) }
+        requires { AreLedIn self.now journeys.now }
+        ensures { IfOk result (λ f. AreFollowersOf self.now f.items) }
     {
         let mut followers = Vec::new(alloc);
         for journey in journeys {

@@ -20,8 +20,8 @@ impl Traffic<'_> {
     /// What has happened to a train before the first tick: nothing.
     fn first_history(&self, alloc: Global, follower: &Follower) -> Result<TrainHistory, AllocError>
         ghost dispatch: { Dispatch }
-        requires { IsFollower self.now.design.now.station self.now.routes.now dispatch follower.now }
-        ensures { IfOk result (λ h. h ≡ train_history self.now.design.now.station self.now.routes.now dispatch 0 follower.now.journey.now.course.now.train) }
+        requires { IsFollower self.now.interlocking.now.design.station self.now.interlocking.now.routes dispatch follower.now }
+        ensures { IfOk result (λ h. h ≡ train_history self.now.interlocking.now.design.station self.now.interlocking.now.routes dispatch 0 follower.now.journey.now.course.now.train) }
     {
         let journey = follower.journey;
         let course = journey.course;
@@ -41,7 +41,7 @@ impl Traffic<'_> {
     pub(crate) fn first_histories(&self, alloc: Global) -> Result<Vec<TrainHistory>, AllocError>
         ghost dispatch: { Dispatch }
         requires { IsTraffic dispatch self.now }
-        ensures { IfOk result (λ h. h.items ≡ history_at self.now.design.now.station self.now.routes.now dispatch 0) }
+        ensures { IfOk result (λ h. h.items ≡ history_at self.now.interlocking.now.design.station self.now.interlocking.now.routes dispatch 0) }
     {
         let mut histories = Vec::new(alloc);
         for follower in self.followers {
@@ -54,7 +54,7 @@ impl Traffic<'_> {
     pub(crate) fn first_states(&self, alloc: Global) -> Result<Vec<TrainState>, AllocError>
         ghost dispatch: { Dispatch }
         requires { IsTraffic dispatch self.now }
-        ensures { IfOk result (λ s. s.items ≡ state_at self.now.design.now.station self.now.routes.now dispatch 0) }
+        ensures { IfOk result (λ s. s.items ≡ state_at self.now.interlocking.now.design.station self.now.interlocking.now.routes dispatch 0) }
     {
         let mut states = Vec::new(alloc);
         for _follower in self.followers {
@@ -68,40 +68,36 @@ impl Traffic<'_> {
         &self,
         alloc: Global,
         follower: &Follower,
-        old: &TrainHistory,
+        old: TrainHistory,
         state: TrainState,
         tick: u64,
     ) -> Result<TrainHistory, AllocError>
         ghost dispatch: { Dispatch }
-        requires follower { IsFollower self.now.design.now.station self.now.routes.now dispatch follower.now }
+        requires follower { IsFollower self.now.interlocking.now.design.station self.now.interlocking.now.routes dispatch follower.now }
         requires first { 1 ≤ tick }
-        requires now { state ≡ state_of (state_at self.now.design.now.station self.now.routes.now dispatch tick) follower.now.journey.now.course.now.train }
-        requires before { old.now ≡ train_history self.now.design.now.station self.now.routes.now dispatch (tick - 1) follower.now.journey.now.course.now.train }
-        ensures { IfOk result (λ h. h ≡ train_history self.now.design.now.station self.now.routes.now dispatch tick follower.now.journey.now.course.now.train) }
+        requires now { state ≡ state_of (state_at self.now.interlocking.now.design.station self.now.interlocking.now.routes dispatch tick) follower.now.journey.now.course.now.train }
+        requires before { old ≡ train_history self.now.interlocking.now.design.station self.now.interlocking.now.routes dispatch (tick - 1) follower.now.journey.now.course.now.train }
+        ensures { IfOk result (λ h. h ≡ train_history self.now.interlocking.now.design.station self.now.interlocking.now.routes dispatch tick follower.now.journey.now.course.now.train) }
     {
         let journey = follower.journey;
         let course = journey.course;
-        let grants = mark_grants(alloc, state.granted, tick, old.grants.as_slice())?;
-        let passes = mark_passes(
-            alloc,
-            state,
-            tick,
-            course.stops.as_slice(),
-            old.passes.as_slice(),
-        )?;
-        let releases = mark_releases(
-            alloc,
-            state,
-            tick,
-            journey.releases.as_slice(),
-            old.releases.as_slice(),
-        )?;
+        let TrainHistory {
+            grants,
+            passes,
+            releases,
+            visits,
+        } = old;
+        let grants = mark_grants(alloc, state.granted, tick, grants.as_slice())?;
+        let mut passes = passes.into_vec();
+        mark_passes(state, tick, course.stops.as_slice(), &mut passes);
+        let mut releases = releases.into_vec();
+        mark_releases(state, tick, journey.releases.as_slice(), &mut releases);
         let visits = mark_visits(
             alloc,
             state,
             tick,
             course.visits.as_slice(),
-            old.visits.as_slice(),
+            visits.as_slice(),
         )?;
         Ok(TrainHistory {
             grants: List::from_vec(grants),

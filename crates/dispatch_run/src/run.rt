@@ -28,7 +28,7 @@ impl Traffic<'_> {
         ghost dispatch: { Dispatch }
         requires { IsTraffic dispatch self.now }
         ensures tick { IfOk result (λ g. g.tick ≡ 0) }
-        ensures is { IfOk result (λ g. IsProgress self.now.design.now.station self.now.routes.now dispatch g) }
+        ensures is { IfOk result (λ g. IsProgress self.now.interlocking.now.design.station self.now.interlocking.now.routes dispatch g) }
     {
         Ok(Progress {
             tick: 0,
@@ -47,14 +47,14 @@ impl Traffic<'_> {
     ) -> Result<Progress, AllocError>
         ghost dispatch: { Dispatch }
         requires traffic { IsTraffic dispatch self.now }
-        requires progress { IsProgress self.now.design.now.station self.now.routes.now dispatch progress }
+        requires progress { IsProgress self.now.interlocking.now.design.station self.now.interlocking.now.routes dispatch progress }
         requires ahead { progress.tick < most }
         requires early { most ≤ 86400 }
         ensures after { IfOk result (λ g. progress.tick < g.tick) }
         ensures within { IfOk result (λ g. g.tick ≤ most) }
         ensures first { IfOk result (λ g. progress.tick ≡ 0 → g.tick ≡ 1) }
-        ensures is { IfOk result (λ g. IsProgress self.now.design.now.station self.now.routes.now dispatch g) }
-        ensures quiet { IfOk result (λ g. (k : ℕ) → progress.tick ≤ k → k < g.tick → history_at self.now.design.now.station self.now.routes.now dispatch k ≡ progress.histories.items) }
+        ensures is { IfOk result (λ g. IsProgress self.now.interlocking.now.design.station self.now.interlocking.now.routes dispatch g) }
+        ensures quiet { IfOk result (λ g. (k : ℕ) → progress.tick ≤ k → k < g.tick → history_at self.now.interlocking.now.design.station self.now.interlocking.now.routes dispatch k ≡ progress.histories.items) }
     {
         let tick = next_tick(progress.looks.as_slice(), progress.tick, most);
         let states = self.next_states(
@@ -85,7 +85,7 @@ impl Traffic<'_> {
         requires traffic { IsTraffic dispatch self.now }
         requires early { last ≤ 86400 }
         ensures tick { IfOk result (λ g. g.tick ≡ last) }
-        ensures is { IfOk result (λ g. IsProgress self.now.design.now.station self.now.routes.now dispatch g) }
+        ensures is { IfOk result (λ g. IsProgress self.now.interlocking.now.design.station self.now.interlocking.now.routes dispatch g) }
     {
         let mut progress = self.begin(alloc)?;
         while progress.tick < last {

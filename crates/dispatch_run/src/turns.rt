@@ -32,9 +32,9 @@ impl Traffic<'_> {
     ) -> TrainState
         ghost dispatch: { Dispatch }
         requires traffic { IsTraffic dispatch self.now }
-        requires follower { IsFollower self.now.design.now.station self.now.routes.now dispatch follower.now }
-        requires turn { IsTurn self.now.design.now.station self.now.routes.now dispatch tick states.now looks.now }
-        ensures { result ≡ looked_state self.now.design.now.station self.now.routes.now dispatch tick states.now looks.now follower.now.journey.now.course.now.train }
+        requires follower { IsFollower self.now.interlocking.now.design.station self.now.interlocking.now.routes dispatch follower.now }
+        requires turn { IsTurn self.now.interlocking.now.design.station self.now.interlocking.now.routes dispatch tick states.now looks.now }
+        ensures { result ≡ looked_state self.now.interlocking.now.design.station self.now.interlocking.now.routes dispatch tick states.now looks.now follower.now.journey.now.course.now.train }
     {
         let train = follower.journey.course.train;
         let state = state_of(states, train);
@@ -60,8 +60,8 @@ impl Traffic<'_> {
     ) -> Result<Vec<TrainState>, AllocError>
         ghost dispatch: { Dispatch }
         requires traffic { IsTraffic dispatch self.now }
-        requires turn { IsTurn self.now.design.now.station self.now.routes.now dispatch tick states.now looks.now }
-        ensures { IfOk result (λ s. s.items ≡ map (looked_state self.now.design.now.station self.now.routes.now dispatch tick states.now looks.now) (trains self.now.design.now.station)) }
+        requires turn { IsTurn self.now.interlocking.now.design.station self.now.interlocking.now.routes dispatch tick states.now looks.now }
+        ensures { IfOk result (λ s. s.items ≡ map (looked_state self.now.interlocking.now.design.station self.now.interlocking.now.routes dispatch tick states.now looks.now) (trains self.now.interlocking.now.design.station)) }
     {
         let mut next = Vec::new(alloc);
         for follower in self.followers {
@@ -81,15 +81,15 @@ impl Traffic<'_> {
         tick: u64,
     ) -> Result<TrainHistory, AllocError>
         ghost dispatch: { Dispatch }
-        requires follower { IsFollower self.now.design.now.station self.now.routes.now dispatch follower.now }
+        requires follower { IsFollower self.now.interlocking.now.design.station self.now.interlocking.now.routes dispatch follower.now }
         requires some { 1 ≤ tick }
-        requires told { IsToBeTold self.now.design.now.station self.now.routes.now dispatch tick follower.now.journey.now.course.now.train state look old }
-        ensures { IfOk result (λ h. h ≡ train_history self.now.design.now.station self.now.routes.now dispatch tick follower.now.journey.now.course.now.train) }
+        requires told { IsToBeTold self.now.interlocking.now.design.station self.now.interlocking.now.routes dispatch tick follower.now.journey.now.course.now.train state look old }
+        ensures { IfOk result (λ h. h ≡ train_history self.now.interlocking.now.design.station self.now.interlocking.now.routes dispatch tick follower.now.journey.now.course.now.train) }
     {
         if look.until != tick {
             return Ok(old);
         }
-        self.history_with(alloc, follower, &old, state, tick)
+        self.history_with(alloc, follower, old, state, tick)
     }
 
     /// The histories of all trains after a tick.
@@ -103,8 +103,8 @@ impl Traffic<'_> {
     ) -> Result<Vec<TrainHistory>, AllocError>
         ghost dispatch: { Dispatch }
         requires traffic { IsTraffic dispatch self.now }
-        requires told { AreToBeTold self.now.design.now.station self.now.routes.now dispatch tick states.now looks.now histories.items }
-        ensures { IfOk result (λ h. h.items ≡ history_at self.now.design.now.station self.now.routes.now dispatch tick) }
+        requires told { AreToBeTold self.now.interlocking.now.design.station self.now.interlocking.now.routes dispatch tick states.now looks.now histories.items }
+        ensures { IfOk result (λ h. h.items ≡ history_at self.now.interlocking.now.design.station self.now.interlocking.now.routes dispatch tick) }
     {
         let mut olds = histories;
         let mut told = Vec::new(alloc);
@@ -128,11 +128,11 @@ impl Traffic<'_> {
     fn far_look(&self, follower: &Follower, state: TrainState, look: Look, tick: u64) -> Look
         ghost dispatch: { Dispatch }
         requires traffic { IsTraffic dispatch self.now }
-        requires follower { IsFollower self.now.design.now.station self.now.routes.now dispatch follower.now }
+        requires follower { IsFollower self.now.interlocking.now.design.station self.now.interlocking.now.routes dispatch follower.now }
         requires some { 1 ≤ tick }
         requires early { tick ≤ 86400 }
-        requires looked { IsLookedAt self.now.design.now.station self.now.routes.now dispatch tick follower.now.journey.now.course.now.train state look }
-        ensures seen { IsSeen self.now.design.now.station self.now.routes.now dispatch tick follower.now.journey.now.course.now.train state result.since result.until }
+        requires looked { IsLookedAt self.now.interlocking.now.design.station self.now.interlocking.now.routes dispatch tick follower.now.journey.now.course.now.train state look }
+        ensures seen { IsSeen self.now.interlocking.now.design.station self.now.interlocking.now.routes dispatch tick follower.now.journey.now.course.now.train state result.since result.until }
         ensures begun { 1 ≤ result.since }
     {
         if look.until != tick {
@@ -154,9 +154,9 @@ impl Traffic<'_> {
     ) -> Look
         ghost dispatch: { Dispatch }
         requires traffic { IsTraffic dispatch self.now }
-        requires follower { IsFollower self.now.design.now.station self.now.routes.now dispatch follower.now }
-        requires looked { AreLookedAt self.now.design.now.station self.now.routes.now dispatch tick states.now looks.now }
-        ensures { IsLook self.now.design.now.station self.now.routes.now dispatch tick states.now follower.now.journey.now.course.now.train result }
+        requires follower { IsFollower self.now.interlocking.now.design.station self.now.interlocking.now.routes dispatch follower.now }
+        requires looked { AreLookedAt self.now.interlocking.now.design.station self.now.interlocking.now.routes dispatch tick states.now looks.now }
+        ensures { IsLook self.now.interlocking.now.design.station self.now.interlocking.now.routes dispatch tick states.now follower.now.journey.now.course.now.train result }
     {
         let train = follower.journey.course.train;
         let state = state_of(states, train);
@@ -183,8 +183,8 @@ impl Traffic<'_> {
     ) -> Result<Vec<Look>, AllocError>
         ghost dispatch: { Dispatch }
         requires traffic { IsTraffic dispatch self.now }
-        requires looked { AreLookedAt self.now.design.now.station self.now.routes.now dispatch tick states.now looks.now }
-        ensures { IfOk result (λ looks. IsKnown self.now.design.now.station self.now.routes.now dispatch tick states.now looks.items) }
+        requires looked { AreLookedAt self.now.interlocking.now.design.station self.now.interlocking.now.routes dispatch tick states.now looks.now }
+        ensures { IfOk result (λ looks. IsKnown self.now.interlocking.now.design.station self.now.interlocking.now.routes dispatch tick states.now looks.items) }
     {
         let mut next = Vec::new(alloc);
         for follower in self.followers {

@@ -14,25 +14,34 @@ ghost use Rattle.plan_clauses.specs.Laws.{VisitsAll, Agrees, NoneBy, IsInRange};
 
 /// The model of a plan that can be carried out, and whose paths make all visits, makes the base true.
 pub fn plans_are_models()
-    ensures { (d : Station) (routes : List Route) (n : ℕ) (plan : List (List Command)) → 1 ≤ n → IsRunnable d routes n plan → VisitsAll d routes plan → list_all (clause_holds (model_of d routes n plan)) (base_clauses d routes n) ≡ true }
+    ensures { (d : Station) (routes : List Route) (n : ℕ) (plan : List (List Command)) → 1 ≤ n
+        → IsRunnable d routes n plan → VisitsAll d routes plan
+        → list_all (clause_holds (model_of d routes n plan)) (base_clauses d routes n) ≡ true }
 {}
 
 /// So does the model of each feasible plan.
 pub fn feasible_plans_are_models()
-    ensures { (d : Station) (n : ℕ) (plan : List (List Command)) → 1 ≤ n → IsFeasible d n plan → list_all (clause_holds (model_of d (routes_of d) n plan)) (base_clauses d (routes_of d) n) ≡ true }
+    ensures { (d : Station) (n : ℕ) (plan : List (List Command)) → 1 ≤ n → IsFeasible d n plan
+        → list_all (clause_holds (model_of d (routes_of d) n plan)) (base_clauses d (routes_of d) n) ≡ true }
 {}
 
 /// Values that make the base true tell of a plan that can be carried out, and whose model has them.
 pub fn models_are_plans()
-    ensures { (d : Station) (routes : List Route) (n : ℕ) (values : ℕ → Bool) → 1 ≤ n → list_all (clause_holds values) (base_clauses d routes n) ≡ true → IsRunnable d routes n (decoded d routes n values) × Agrees d routes n (model_of d routes n (decoded d routes n values)) values }
+    ensures { (d : Station) (routes : List Route) (n : ℕ) (values : ℕ → Bool) → 1 ≤ n
+        → list_all (clause_holds values) (base_clauses d routes n) ≡ true
+        → IsRunnable d routes n (decoded d routes n values) ×
+        Agrees d routes n (model_of d routes n (decoded d routes n values)) values }
 {}
 
 /// Its model makes the base true, too.
 pub fn told_plans_are_models()
-    ensures { (d : Station) (routes : List Route) (n : ℕ) (values : ℕ → Bool) → 1 ≤ n → list_all (clause_holds values) (base_clauses d routes n) ≡ true → list_all (clause_holds (model_of d routes n (decoded d routes n values))) (base_clauses d routes n) ≡ true }
+    ensures { (d : Station) (routes : List Route) (n : ℕ) (values : ℕ → Bool) → 1 ≤ n
+        → list_all (clause_holds values) (base_clauses d routes n) ≡ true
+        → list_all (clause_holds (model_of d routes n (decoded d routes n values))) (base_clauses d routes n) ≡ true }
 {}
 
-/// The variables of the base are numbered from 1, and none of its clauses says by which step all is given at the latest.
+/// The variables of the base are numbered from 1, and none of its clauses says by which step all is given at the
+/// latest.
 pub fn literals_are_in_range()
     ensures { (d : Station) (routes : List Route) (n : ℕ) → 1 ≤ n → IsInRange d routes n }
 {}

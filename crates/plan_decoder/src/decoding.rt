@@ -26,7 +26,8 @@ use std::alloc::{AllocError, Global};
 fn is_given(base: &Base, values: &Assignment, command: Command, step: u32) -> bool
     requires command { HasCommand base.now command }
     requires step { step ≤ base.now.steps }
-    ensures { (d : Station) (routes : List Route) (n : ℕ) → IsBaseOf d routes n base.now → result ≡ given_by (says d routes n values.now) command step }
+    ensures { (d : Station) (routes : List Route) (n : ℕ) → IsBaseOf d routes n base.now
+        → result ≡ given_by (says d routes n values.now) command step }
 {
     if step == 0 {
         return false;
@@ -39,7 +40,8 @@ fn is_new(base: &Base, values: &Assignment, command: Command, step: u32) -> bool
     requires command { HasCommand base.now command }
     requires first { 1 ≤ step }
     requires last { step ≤ base.now.steps }
-    ensures { (d : Station) (routes : List Route) (n : ℕ) → IsBaseOf d routes n base.now → result ≡ is_new d routes n values.now step command }
+    ensures { (d : Station) (routes : List Route) (n : ℕ) → IsBaseOf d routes n base.now
+        → result ≡ is_new d routes n values.now step command }
 {
     is_given(base, values, command, step) && !is_given(base, values, command, step - 1)
 }
@@ -55,7 +57,9 @@ fn add_if_new(
     requires command { HasCommand base.now command }
     requires first { 1 ≤ step }
     requires last { step ≤ base.now.steps }
-    ensures { (d : Station) (routes : List Route) (n : ℕ) → IsBaseOf d routes n base.now → OnOk result (commands.new.items ≡ commands.old.items ++ filter (is_new d routes n values.now step) (command ∷ [])) }
+    ensures { (d : Station) (routes : List Route) (n : ℕ) → IsBaseOf d routes n base.now
+        → OnOk result (commands.new.items ≡ commands.old.items
+        ++ filter (is_new d routes n values.now step) (command ∷ [])) }
 {
     if is_new(base, values, command, step) {
         commands.push(command)?;
@@ -75,7 +79,9 @@ fn add_new(
     requires last_train { train.0 ≤ base.now.trains }
     requires first { 1 ≤ step }
     requires last { step ≤ base.now.steps }
-    ensures { (d : Station) (routes : List Route) (n : ℕ) → IsBaseOf d routes n base.now → OnOk result (commands.new.items ≡ commands.old.items ++ filter (is_new d routes n values.now step) (commands_of routes train)) }
+    ensures { (d : Station) (routes : List Route) (n : ℕ) → IsBaseOf d routes n base.now
+        → OnOk result (commands.new.items ≡ commands.old.items
+        ++ filter (is_new d routes n values.now step) (commands_of routes train)) }
 {
     for route in 1..=base.counts().routes {
         let command = Command {
@@ -96,7 +102,8 @@ fn given_in(
 ) -> Result<List<Command>, AllocError>
     requires first { 1 ≤ step }
     requires last { step ≤ base.now.steps }
-    ensures { (d : Station) (routes : List Route) (n : ℕ) → IsBaseOf d routes n base.now → IfOk result (λ commands. commands ≡ given_in d routes n (says d routes n values.now) step) }
+    ensures { (d : Station) (routes : List Route) (n : ℕ) → IsBaseOf d routes n base.now
+        → IfOk result (λ commands. commands ≡ given_in d routes n (says d routes n values.now) step) }
 {
     let mut commands = Vec::new(alloc);
     for train in 1..=base.counts().trains {
@@ -134,10 +141,17 @@ fn cut_off(steps: &mut Vec<List<Command>>)
 ///
 /// Want of memory.
 pub fn decode(alloc: Global, base: &Base, values: &Assignment) -> Result<Plan, AllocError>
-    ensures value { (d : Station) (routes : List Route) (n : ℕ) → IsBaseOf d routes n base.now → IfOk result (λ plan. plan.steps ≡ decoded d routes n (value_in values.now)) }
-    ensures runnable { (d : Station) (routes : List Route) (n : ℕ) → IsBaseOf d routes n base.now → 1 ≤ n → list_all (clause_holds (value_in values.now)) (base_clauses d routes n) ≡ true → IfOk result (λ plan. IsRunnable d routes n plan.steps) }
-    ensures agrees { (d : Station) (routes : List Route) (n : ℕ) → IsBaseOf d routes n base.now → 1 ≤ n → list_all (clause_holds (value_in values.now)) (base_clauses d routes n) ≡ true → IfOk result (λ plan. Agrees d routes n (model_of d routes n plan.steps) (value_in values.now)) }
-    ensures ends { (d : Station) (routes : List Route) (n : ℕ) → IsBaseOf d routes n base.now → list_all (clause_holds (value_in values.now)) (base_clauses d routes n) ≡ true → IfOk result (λ plan. EndsAsSaid d routes n values.now plan.steps) }
+    ensures value { (d : Station) (routes : List Route) (n : ℕ) → IsBaseOf d routes n base.now
+        → IfOk result (λ plan. plan.steps ≡ decoded d routes n (value_in values.now)) }
+    ensures runnable { (d : Station) (routes : List Route) (n : ℕ) → IsBaseOf d routes n base.now → 1 ≤ n
+        → list_all (clause_holds (value_in values.now)) (base_clauses d routes n) ≡ true
+        → IfOk result (λ plan. IsRunnable d routes n plan.steps) }
+    ensures agrees { (d : Station) (routes : List Route) (n : ℕ) → IsBaseOf d routes n base.now → 1 ≤ n
+        → list_all (clause_holds (value_in values.now)) (base_clauses d routes n) ≡ true
+        → IfOk result (λ plan. Agrees d routes n (model_of d routes n plan.steps) (value_in values.now)) }
+    ensures ends { (d : Station) (routes : List Route) (n : ℕ) → IsBaseOf d routes n base.now
+        → list_all (clause_holds (value_in values.now)) (base_clauses d routes n) ≡ true
+        → IfOk result (λ plan. EndsAsSaid d routes n values.now plan.steps) }
 {
     let mut steps = Vec::new(alloc);
     for step in 1..=base.counts().steps {

@@ -1,5 +1,5 @@
 -- The clauses of chains: a chain's own, and those of the chains that go on from it.
-use Rattle.std.proofs.Common.{◌≡◌, ℕ, zero, suc, ◌+◌, ◌-◌, ◌<◌, ◌≤◌, Bool, true, false, not, ◌&&◌, if◌then◌else◌, nat_lt, List, [], ◌∷◌, ◌++◌, map, flat_map, length, drop, get_or, refl, sym, ap, ◌∙◌, arith, le-leb, leb-true, append-nil}
+use Rattle.std.proofs.Common.{◌≡◌, ℕ, zero, suc, ◌+◌, ◌-◌, ◌<◌, ◌≤◌, Bool, true, false, not, ◌&&◌, if◌then◌else◌, nat_lt, List, [], ◌∷◌, ◌++◌, map, flat_map, length, drop, get_or, refl, sym, ap, ◌∙◌, arith, le-leb, leb-true}
 use Rattle.std.specs.Prelude.{All}
 use Rattle.std.proofs.lemmas.List.Elements.{All-append}
 use Rattle.std.proofs.lemmas.Grind.{flat_map-append}
@@ -13,6 +13,7 @@ use Rattle.rail_base.specs.Routes.{IsRoute}
 use Rattle.rail_spec.specs.Plans.{route_at, exits, length_mm}
 use Rattle.plan_clauses.specs.Variables.{pairs_of}
 use Rattle.plan_clauses.specs.Clauses.{onward, chain_length, chains, clearing, waits_for, waits}
+use Rattle.plan_encoding.specs.Families.{waiting}
 use Rattle.plan_encoding.specs.Waiting.{waits_over}
 use Rattle.plan_encoding.proofs.Gathering.{drop_next}
 use Rattle.std.proofs.Common.{cond, ◌||◌, ◌==◌, eqb, eqb-true, ap₂, subst, filter}
@@ -66,11 +67,11 @@ module _ (table : List Route) (bound : ℕ) (before : List RouteNo) (w : RouteNo
 module _ (d : Station) (table : List Route) (n : ℕ) (e c : Command) where
   -- what is told of a chain, and then of those that go on from it
   pub next_chain : (bound more : ℕ) (before chain ws : List RouteNo) (w : RouteNo) → 1 ≤ more → exits (route_at table w) ≡ false → chain_length table before + length_mm (route_at table w) < bound → chain ≡ before ++ w ∷ [] → ws ≡ onward table chain w
-      → Next (waits_over d table n e c (chains table more bound before w)) (waits_over d table n e c ((chain, w) ∷ [])) (waits_over d table n e c (flat_map (chains table (more - 1) bound (before ++ w ∷ [])) ws))
+      → Next (waits_over d table n e c (chains table more bound before w)) (map (waiting e c chain ws) (one_to (n - 1))) (waits_over d table n e c (flat_map (chains table (more - 1) bound (before ++ w ∷ [])) ws))
   next_chain bound more before chain ws w p x l is all = record {
     is =
         ap (waits_over d table n e c) (go_on table bound before w more p x l ∙ (ap (λ vs. (before ++ w ∷ [], w) ∷ flat_map (chains table (more - 1) bound (before ++ w ∷ [])) vs) (sym (all ∙ ap (λ ch. onward table ch w) is)) ∙ ap (λ ch. (ch, w) ∷ flat_map (chains table (more - 1) bound (before ++ w ∷ [])) ws) (sym is)))
-        ∙ ap (λ xs. xs ++ waits_over d table n e c (flat_map (chains table (more - 1) bound (before ++ w ∷ [])) ws)) (sym (append-nil (map (waits_for d table n e c (chain, w)) (one_to (n - 1)))));
+        ∙ ap (λ vs. map (waiting e c chain vs) (one_to (n - 1)) ++ waits_over d table n e c (flat_map (chains table (more - 1) bound (before ++ w ∷ [])) ws)) (sym all);
   }
 
   -- what is told of the chains that go on with one route, and then of the others

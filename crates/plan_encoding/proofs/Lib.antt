@@ -1,4 +1,4 @@
-pub mod Bits
+pub mod Visiting
 pub mod Gathering
 pub mod Listing
 pub mod Sizes

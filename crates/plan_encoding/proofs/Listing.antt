@@ -54,7 +54,7 @@ pub record Next (now part later : List Clause) : Type 0 where
 
 module _ (f : Frame) (now part later : List Clause) (n : Next now part later) where
   joined : told f now ≡ told f part ++ told f later
-  joined = ap (told f) n.is ∙ map-append (map (numbered f.design.now.station f.routes.now f.steps)) part later
+  joined = ap (told f) n.is ∙ map-append (map (numbered f.interlocking.now.design.station f.interlocking.now.routes f.steps.count)) part later
 
   -- once the next part is listed, what is left makes all of it
   pub listed_next : (old new : Drafted) (all : Listing) → listed old (told f part) ≡ Listed new → listed old (told f now) ≡ all → listed new (told f later) ≡ all
@@ -64,7 +64,7 @@ module _ (f : Frame) (now part later : List Clause) (n : Next now part later) wh
   pub next_fails : (old : Drafted) (e : BaseFault) (all : Listing) → FaultSays (listed old (told f part)) e → listed old (told f now) ≡ all → FaultSays all e
   next_fails old e all h k = subst (λ l. FaultSays l e) (sym (ap (listed old) joined) ∙ k) (fault_then old (told f part) (told f later) e h)
 
-module _ (f : Frame) (now later : List Clause) (cl : Clause) (n : Next now (cl ∷ []) later) (ls : List Lit) (is : ls ≡ map (numbered f.design.now.station f.routes.now f.steps) cl) where
+module _ (f : Frame) (now later : List Clause) (cl : Clause) (n : Next now (cl ∷ []) later) (ls : List Lit) (is : ls ≡ map (numbered f.interlocking.now.design.station f.interlocking.now.routes f.steps.count) cl) where
   -- the same of one clause
   pub next_one : (old new : Drafted) (all : Listing) → listed old (ls ∷ []) ≡ Listed new → listed old (told f now) ≡ all → listed new (told f later) ≡ all
   next_one old new all h = listed_next f now (cl ∷ []) later n old new all (ap (λ x. listed old (x ∷ [])) (sym is) ∙ h)

@@ -1,5 +1,5 @@
 -- The numbers of pairs, in their order.
-use Rattle.std.proofs.Common.{◌≡◌, ℕ, zero, suc, ◌+◌, ◌*◌, ◌≤◌, ◌<◌, ◌⊎◌, inl, inr, Bool, true, false, cond, if◌then◌else◌, List, [], ◌∷◌, ◌++◌, map, flat_map, filter, length, take, drop, get_or, refl, sym, ap, subst, ◌∙◌, arith, length-append, append-nil}
+use Rattle.std.proofs.Common.{◌≡◌, ℕ, zero, suc, ◌+◌, ◌^◌, ◌*◌, ◌≤◌, ◌<◌, ◌⊎◌, inl, inr, Bool, true, false, cond, if◌then◌else◌, List, [], ◌∷◌, ◌++◌, map, flat_map, filter, length, take, drop, get_or, refl, sym, ap, subst, ◌∙◌, arith, length-append, append-nil}
 use Rattle.std.proofs.lemmas.List.{append_assoc, map-append, take-append-drop}
 use Rattle.std.proofs.lemmas.Grind.{flat_map-append}
 use Rattle.std.proofs.lemmas.Nat.{mul-le}
@@ -18,6 +18,10 @@ use Rattle.rail_spec.specs.Plans.{all_commands, commands_of, contend, is_command
 use Rattle.plan_clauses.specs.Variables.{Before, is_pair, number_of, pairs, pairs_of}
 use Rattle.plan_clauses.proofs.Steps.{is_command_same, is_command_self}
 use Rattle.plan_encoding.proofs.Gathering.{drop_next}
+use Rattle.rail_base.proofs.Admitting.{admitted}
+use Rattle.plan_encoding.specs.declared.frame.Frame.{Frame}
+use Rattle.plan_encoding.specs.Families.{last_pair}
+use Rattle.plan_encoding.proofs.Tabled.{commands_few}
 
 -- the members before the first that passes, which is named
 first_there : {X : Type 0} (test : X → Bool) (xs ys : List X) (y : X) → ((x : X) → In x xs → test x ≡ true → ⊥) → test y ≡ true → before_first test (xs ++ y ∷ ys) ≡ xs
@@ -184,4 +188,12 @@ pub own_few : (t r n : ℕ) → t ≤ 32 → r ≤ 2000 → n ≤ 64 → t * r *
 own_few t r n a b c =
     let one : t * r ≤ 32 * 2000 = mul-le t r 32 2000 a b in
     let two : t * r * n ≤ 64000 * 64 = mul-le (t * r) n 64000 64 (omega arith) c in
+    omega arith
+
+-- the number of the last variable of a pair is small
+pub last_few : (f : Frame) → last_pair f + 64 < 2 ^ 32
+last_few f =
+    let high = ((admitted f.interlocking.now.design.station f.interlocking.now.design.admitted).many_trains).1 in
+    let all = pairs_all_few f.interlocking.now.design.station f.interlocking.now.routes (commands_few f.interlocking.now.design.station f.interlocking.now.routes high f.interlocking.now.few) in
+    let own = own_few (length f.interlocking.now.design.station.trains) (length f.interlocking.now.routes) f.steps.count high f.interlocking.now.few f.steps.most in
     omega arith

@@ -1,7 +1,6 @@
 -- Where a route releases the last section that it shares with another.
-use Rattle.std.proofs.Common.{◌≡◌, ℕ, ℤ, suc, ◌≤◌, ◌⊎◌, inl, inr, Bool, true, false, cond, ◌==◌, Option, Some, None, List, [], ◌∷◌, map, filter, fold, max, refl, sym, ap, subst, ◌∙◌, arith, eqb-true, eq-eqb}
+use Rattle.std.proofs.Common.{◌≡◌, ℕ, ℤ, suc, ◌≤◌, ◌⊎◌, inl, inr, Bool, true, false, cond, Option, Some, None, List, [], ◌∷◌, map, filter, fold, max, refl, sym, ap, subst, ◌∙◌, arith}
 use Rattle.std.specs.Prelude.{All, find, nat_abs, reverse}
-use Rattle.std.specs.List.{list_any}
 use Rattle.std.specs.List.Sorted.{IsNonDecreasingBy, IsPermutation}
 use Rattle.std.specs.Option.{option_or}
 use Rattle.std.proofs.lemmas.List.{reverse-append}
@@ -10,12 +9,14 @@ use Rattle.std.proofs.lemmas.List.Sorted.{All-permutation, IsPermutation-sym}
 use Rattle.rail_base.specs.declared.station.SectionNo.{SectionNo}
 use Rattle.rail_base.specs.declared.route.Route.{Route}
 use Rattle.rail_base.specs.Members.{In}
-use Rattle.rail_base.specs.Routes.{has_section, sections, shared, release_offset}
 use Rattle.rail_base.proofs.Lists.{in_map, in_map_back, in_filter_back}
 use Rattle.rail_base.proofs.Members.{in_filter}
 use Rattle.rail_spec.proofs.Told.{fold_above, fold_reached}
 use Rattle.plan_encoding.specs.Releases.{offset_of, AreReleases}
-use Rattle.plan_encoding.specs.Sets.{has, IsSectionSet}
+use Rattle.number_sets.specs.declared.set.NumberSet.{NumberSet}
+use Rattle.number_sets.specs.Sets.{contains}
+use Rattle.interlocking.specs.Sections.{IsSectionSet, last_release}
+use Rattle.interlocking.proofs.Sectioned.{last_release_is}
 use Rattle.plan_encoding.proofs.Tabled.{all_by_members}
 
 all_gives : {X : Type 0} (P : X → Type 0) (xs : List X) (x : X) → All P xs → In x xs → P x
@@ -46,72 +47,49 @@ module _ {X : Type 0} (test : X → Bool) (n : X → ℕ) where
       go None true e k = (inl refl, e, λ y m t. elim m [ inl f ↦ subst (λ z. n z ≤ n x) f (omega arith) | inr i ↦ absurd (let u = sym t ∙ k y i in cc) ])
       go None false e k = λ y m. elim m [ inl f ↦ subst (λ z. test z ≡ false) f e | inr i ↦ k y i ]
 
-module _ (r q : Route) where
-  -- a section that both have
-  shared_in : (p : SectionNo × ℤ) → In p r.sections → has_section q p.0 ≡ true → In p.0 (shared r q)
-  shared_in p m h = in_filter (has_section q) (sections r) p.0 (in_map (λ (p : SectionNo × ℤ). p.0) r.sections p m) h
+module _ (r q : Route) (parts : List (SectionNo × ℤ)) (set : NumberSet) (all : AreReleases parts r) where
+  abbrev offset : SectionNo × ℤ → ℕ
+  offset p = nat_abs p.1
 
-  -- and where it stands in the route
-  shared_back : (z : SectionNo) → In z (shared r q) → has_section q z ≡ true
-  shared_back z m = (in_filter_back (has_section q) (sections r) z m).1
+  abbrev kept : SectionNo × ℤ → Bool
+  kept p = contains set p.0.0
 
-  below_release : (p : SectionNo × ℤ) → In p r.sections → nat_abs p.1 ≤ release_offset r p.0
-  below_release p m =
-      fold_above 0 (map (λ (s : SectionNo × ℤ). nat_abs s.1) (filter (λ (s : SectionNo × ℤ). s.0.0 == p.0.0) r.sections)) (nat_abs p.1)
-      (in_map (λ (s : SectionNo × ℤ). nat_abs s.1) (filter (λ (s : SectionNo × ℤ). s.0.0 == p.0.0) r.sections) p (in_filter (λ (s : SectionNo × ℤ). s.0.0 == p.0.0) r.sections p m (eq-eqb p.0.0 p.0.0 refl)))
+  abbrev greatest : ℕ
+  greatest = fold max 0 (map offset (filter kept r.sections))
 
-  -- a bound of what the route's places of shared sections are is one of all release offsets
-  release_below : (m : ℕ) → ((p : SectionNo × ℤ) → In p r.sections → has_section q p.0 ≡ true → nat_abs p.1 ≤ m) → (z : SectionNo) → has_section q z ≡ true → release_offset r z ≤ m
-  release_below m h z k = go (fold_reached 0 (map (λ (s : SectionNo × ℤ). nat_abs s.1) (filter (λ (s : SectionNo × ℤ). s.0.0 == z.0) r.sections)))
+  -- the last part that is in the set has the greatest offset of all that are
+  greatest_last : offset_of (find kept (reverse parts)) ≡ greatest
+  greatest_last = go (find kept (reverse parts)) (last_is kept offset parts all.rising)
     where
-      go : (release_offset r z ≡ 0) ⊎ In (release_offset r z) (map (λ (s : SectionNo × ℤ). nat_abs s.1) (filter (λ (s : SectionNo × ℤ). s.0.0 == z.0) r.sections)) → release_offset r z ≤ m
-      go (inl e) = omega arith
-      go (inr i) =
-          let at = in_map_back (λ (s : SectionNo × ℤ). nat_abs s.1) (filter (λ (s : SectionNo × ℤ). s.0.0 == z.0) r.sections) (release_offset r z) i in
-          let kept = in_filter_back (λ (s : SectionNo × ℤ). s.0.0 == z.0) r.sections at.0 at.1 in
-          let same : at.0.0.0 ≡ z.0 = eqb-true at.0.0.0 z.0 kept.1 in
-          let l = h at.0 kept.0 (ap (λ k. list_any (λ (s : SectionNo × ℤ). s.0.0 == k) q.sections) same ∙ k) in
-          let e = at.2 in
-          omega arith
-
-  pub last_release_is : (parts : List (SectionNo × ℤ)) (set : List ℕ) → AreReleases parts r → IsSectionSet set q
-      → offset_of (find (λ p. has set p.0.0) (reverse parts)) ≡ fold max 0 (map (release_offset r) (shared r q))
-  last_release_is parts set all is = go (find (λ p. has set p.0.0) (reverse parts)) (last_is (λ (p : SectionNo × ℤ). has set p.0.0) (λ (p : SectionNo × ℤ). nat_abs p.1) parts all.rising)
-    where
-      most : ℕ
-      most = fold max 0 (map (release_offset r) (shared r q))
-
-      go : (found : Option (SectionNo × ℤ)) → IsLast (λ (p : SectionNo × ℤ). has set p.0.0) (λ (p : SectionNo × ℤ). nat_abs p.1) parts found → offset_of found ≡ fold max 0 (map (release_offset r) (shared r q))
-      go None none = none_shared (fold_reached 0 (map (release_offset r) (shared r q)))
+      go : (found : Option (SectionNo × ℤ)) → IsLast kept offset parts found → offset_of found ≡ greatest
+      go None none = no_part (fold_reached 0 (map offset (filter kept r.sections)))
         where
-          none_shared : (fold max 0 (map (release_offset r) (shared r q)) ≡ 0) ⊎ In (fold max 0 (map (release_offset r) (shared r q))) (map (release_offset r) (shared r q)) → 0 ≡ fold max 0 (map (release_offset r) (shared r q))
-          none_shared (inl e) = sym e
-          none_shared (inr m) =
-              let z = in_map_back (release_offset r) (shared r q) (fold max 0 (map (release_offset r) (shared r q))) m in
-              let kept = in_filter_back (has_section q) (sections r) z.0 z.1 in
-              let p = in_map_back (λ (s : SectionNo × ℤ). s.0) r.sections z.0 kept.0 in
-              let a = none p.0 (moved_in r.sections parts all.moved p.0 p.1) in
-              let b = is p.0.0 ∙ (ap (has_section q) p.2 ∙ kept.1) in
-              absurd (let e = sym a ∙ b in cc)
-      go (Some p) best = same (fold_reached 0 (map (release_offset r) (shared r q)))
+          no_part : (greatest ≡ 0) ⊎ In greatest (map offset (filter kept r.sections)) → 0 ≡ greatest
+          no_part (inl e) = sym e
+          no_part (inr m) =
+              let at = in_map_back offset (filter kept r.sections) greatest m in
+              let part = in_filter_back kept r.sections at.0 at.1 in
+              let a = none at.0 (moved_in r.sections parts all.moved at.0 part.0) in
+              absurd (let e = sym a ∙ part.1 in cc)
+      go (Some p) best = same (fold_reached 0 (map offset (filter kept r.sections)))
         where
           own : In p r.sections
           own = moved_in parts r.sections (IsPermutation-sym r.sections parts all.moved) p best.0
 
-          both : has_section q p.0 ≡ true
-          both = sym (is p.0) ∙ best.1
-
-          low : nat_abs p.1 ≤ fold max 0 (map (release_offset r) (shared r q))
+          low : offset p ≤ greatest
           low =
-              let a = below_release p own in
-              let b = fold_above 0 (map (release_offset r) (shared r q)) (release_offset r p.0) (in_map (release_offset r) (shared r q) p.0 (shared_in p own both)) in
-              omega arith
+              fold_above 0 (map offset (filter kept r.sections)) (offset p)
+              (in_map offset (filter kept r.sections) p (in_filter kept r.sections p own best.1))
 
-          same : (fold max 0 (map (release_offset r) (shared r q)) ≡ 0) ⊎ In (fold max 0 (map (release_offset r) (shared r q))) (map (release_offset r) (shared r q)) → nat_abs p.1 ≡ fold max 0 (map (release_offset r) (shared r q))
+          same : (greatest ≡ 0) ⊎ In greatest (map offset (filter kept r.sections)) → offset p ≡ greatest
           same (inl e) = let l = low in omega arith
           same (inr m) =
-              let z = in_map_back (release_offset r) (shared r q) (fold max 0 (map (release_offset r) (shared r q))) m in
-              let high = release_below (nat_abs p.1) (λ s i k. best.2 s (moved_in r.sections parts all.moved s i) (is s.0 ∙ k)) z.0 (shared_back z.0 z.1) in
-              let e = z.2 in
+              let at = in_map_back offset (filter kept r.sections) greatest m in
+              let part = in_filter_back kept r.sections at.0 at.1 in
+              let high = best.2 at.0 (moved_in r.sections parts all.moved at.0 part.0) part.1 in
+              let e = at.2 in
               let l = low in
               omega arith
+
+  pub last_tells : IsSectionSet set q → offset_of (find (λ p. contains set p.0.0) (reverse parts)) ≡ last_release r q
+  last_tells is = greatest_last ∙ last_release_is r q set is

@@ -22,7 +22,10 @@ use Rattle.rail_base.proofs.Lists.{in_append, in_map_back, in_flat_map_back, in_
 use Rattle.rail_spec.specs.Plans.{all_commands, commands_of, contend, route_numbers}
 use Rattle.plan_clauses.proofs.Numbers.{length-count}
 use Rattle.plan_encoding.specs.declared.frame.Frame.{Frame}
-use Rattle.plan_encoding.specs.Frames.{IsCommand}
+use Rattle.plan_encoding.specs.declared.network.Network.{Network}
+use Rattle.plan_encoding.specs.declared.tables.Tables.{Tables}
+use Rattle.plan_encoding.specs.Families.{rivals_of}
+use Rattle.plan_encoding.specs.Frames.{IsCommand, station, table}
 use Rattle.plan_encoding.specs.Tables.{ArePairs, exclusions, sharing}
 
 -- ---- rows by the numbers of routes
@@ -81,10 +84,10 @@ all_kept routes test = all_by_members (IsRoute routes) (filter test (route_numbe
 pub all_trains : (d : Station) → All (IsTrain d) (trains d)
 all_trains d = all_by_members (IsTrain d) (trains d) (train_known d)
 
-pub command_known : (f : Frame) (c : Command) → In c (all_commands f.design.now.station f.routes.now) → IsCommand f c
+pub command_known : (f : Frame) (c : Command) → In c (all_commands f.interlocking.now.design.station f.interlocking.now.routes) → IsCommand f c
 command_known f c m =
-    let d = f.design.now.station in
-    let routes = f.routes.now in
+    let d = f.interlocking.now.design.station in
+    let routes = f.interlocking.now.routes in
     let outer = in_flat_map_back (commands_of routes) (trains d) c m in
     let make : RouteNo → Command = λ r. record { train = outer.0; route = r } in
     let inner = in_map_back make (route_numbers routes) c outer.2 in
@@ -92,12 +95,12 @@ command_known f c m =
     let r : inner.0 ≡ c.route = ap (λ (e : Command). e.route) inner.2 in
     record { train = subst (IsTrain d) t (train_known d outer.0 outer.1); route = subst (IsRoute routes) r (route_known routes inner.0 inner.1) }
 
-pub all_known : (f : Frame) → All (IsCommand f) (all_commands f.design.now.station f.routes.now)
-all_known f = all_by_members (IsCommand f) (all_commands f.design.now.station f.routes.now) (command_known f)
+pub all_known : (f : Frame) → All (IsCommand f) (all_commands f.interlocking.now.design.station f.interlocking.now.routes)
+all_known f = all_by_members (IsCommand f) (all_commands f.interlocking.now.design.station f.interlocking.now.routes) (command_known f)
 
-pub all_kept_commands : (f : Frame) (test : Command → Bool) → All (IsCommand f) (filter test (all_commands f.design.now.station f.routes.now))
+pub all_kept_commands : (f : Frame) (test : Command → Bool) → All (IsCommand f) (filter test (all_commands f.interlocking.now.design.station f.interlocking.now.routes))
 all_kept_commands f test =
-    let all = all_commands f.design.now.station f.routes.now in
+    let all = all_commands f.interlocking.now.design.station f.interlocking.now.routes in
     all_by_members (IsCommand f) (filter test all) (λ c m. command_known f c (in_filter_back test all c m).0)
 
 -- ---- rivals
@@ -220,3 +223,23 @@ later_known {X} P (x ∷ xs) h p m = go (in_append p (map (λ y. (x, y)) xs) (la
 pub all_pairs_known : (routes : List Route) → All (ArePairs routes) (exclusions routes)
 all_pairs_known routes = all_by_members (ArePairs routes) (exclusions routes) (λ p m.
     later_known (IsRoute routes) (route_numbers routes) (λ r k. route_known routes r k) p (in_filter_back (λ (p : RouteNo × RouteNo). exclude (route_at routes p.0) (route_at routes p.1)) (later_pairs (route_numbers routes)) p m).0)
+
+-- ---- what tables and networks hold
+
+pub known_commands : (t : Tables) (cs : List Command) → cs ≡ t.commands.items → All (IsCommand t.frame) cs
+known_commands t cs e = subst (λ (xs : List Command). All (IsCommand t.frame) xs) (sym (e ∙ t.every_command)) (all_known t.frame)
+
+pub known_trains : (t : Tables) (ts : List TrainNo) → ts ≡ t.trains.items → All (IsTrain (station t.frame)) ts
+known_trains t ts e = subst (λ (xs : List TrainNo). All (IsTrain (station t.frame)) xs) (sym (e ∙ t.every_train)) (all_trains (station t.frame))
+
+pub known_numbers : (t : Tables) (rs : List RouteNo) → rs ≡ t.numbers.items → All (IsRoute (table t.frame)) rs
+known_numbers t rs e = subst (λ (xs : List RouteNo). All (IsRoute (table t.frame)) xs) (sym (e ∙ t.every_number)) (all_numbers (table t.frame))
+
+pub known_pairs : (t : Tables) (ps : List (RouteNo × RouteNo)) → ps ≡ t.exclusions.items → All (ArePairs (table t.frame)) ps
+known_pairs t ps e = subst (λ (xs : List (RouteNo × RouteNo)). All (ArePairs (table t.frame)) xs) (sym (e ∙ t.excluded)) (all_pairs_known (table t.frame))
+
+pub known_routes : (n : Network) (rs : List RouteNo) → rs ≡ n.numbers.items → All (IsRoute (table n.frame)) rs
+known_routes n rs e = subst (λ (xs : List RouteNo). All (IsRoute (table n.frame)) xs) (sym (e ∙ n.every_number)) (all_numbers (table n.frame))
+
+pub known_rivals : (f : Frame) (e : Command) (cs : List Command) → cs ≡ rivals_of f e → All (IsCommand f) cs
+known_rivals f e cs is = subst (λ (xs : List Command). All (IsCommand f) xs) (sym is) (all_kept_commands f _)

@@ -18,12 +18,18 @@ pub data Listing : Type 0 where
 
 -- one clause more
 abbrev pub with_clause : Drafted → List Lit → Drafted
-with_clause d c = record { keep = d.keep; literals = d.literals + length c; clauses = if d.keep then d.clauses ++ (c, true) ∷ [] else d.clauses }
+with_clause d c = record {
+  keep = d.keep;
+  literals = d.literals + length c;
+  clauses = if d.keep then d.clauses ++ (c, true) ∷ [] else d.clauses;
+}
 
 -- clauses one after the other, up to the limit on literals
 abbrev pub listed : Drafted → List (List Lit) → Listing
 listed d [] = Listed d
-listed d (c ∷ cs) = let rest = listed (with_clause d c) cs in if nat_lt 4000000 (d.literals + length c) then TooMany (d.literals + length c) else rest
+listed d (c ∷ cs) =
+    let rest = listed (with_clause d c) cs in
+    if nat_lt 4000000 (d.literals + length c) then TooMany (d.literals + length c) else rest
 
 -- the fault tells how many literals there are, where there are too many
 abbrev pub FaultSays : Listing → BaseFault → Type 0

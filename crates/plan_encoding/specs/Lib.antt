@@ -3,6 +3,9 @@ pub mod Drafts
 pub mod Frames
 pub mod Tables
 pub mod Waiting
+pub mod Families
+pub mod Waits
+pub mod Orders
 pub mod Bases
-pub mod Sets
+pub mod Nodes
 pub mod Releases

@@ -1,8 +1,11 @@
 -- Where sections are released.
-use Rattle.std.specs.Prelude.{ℕ, ℤ, List, Option, Some, None, nat_abs}
+use Rattle.std.specs.Prelude.{ℕ, ℤ, ◌≡◌, List, Option, Some, None, find, nat_abs, reverse}
 use Rattle.std.specs.List.Sorted.{IsNonDecreasingBy, IsPermutation}
 use Rattle.rail_base.specs.declared.route.Route.{Route}
 use Rattle.rail_base.specs.declared.station.SectionNo.{SectionNo}
+use Rattle.number_sets.specs.declared.set.NumberSet.{NumberSet}
+use Rattle.number_sets.specs.Sets.{contains}
+use Rattle.interlocking.specs.Sections.{IsSectionSet, last_release}
 
 -- where a section is released, or 0 where there is none
 abbrev pub offset_of : Option (SectionNo × ℤ) → ℕ
@@ -13,3 +16,8 @@ offset_of (Some p) = nat_abs p.1
 pub record AreReleases (parts : List (SectionNo × ℤ)) (r : Route) : Type 0 where
   pub moved : IsPermutation r.sections parts
   pub rising : IsNonDecreasingBy (λ p. nat_abs p.1) parts
+
+-- the last of these parts that is in the set of another route's sections tells where
+abbrev pub TellReleases : List (SectionNo × ℤ) → Route → Type 0
+TellReleases parts r = (set : NumberSet) (q : Route) → IsSectionSet set q
+    → offset_of (find (λ p. contains set p.0.0) (reverse parts)) ≡ last_release r q

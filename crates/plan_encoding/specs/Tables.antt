@@ -1,14 +1,10 @@
--- What is found once of a frame.
-use Rattle.std.specs.Prelude.{◌≡◌, Bool, List, map, filter}
+-- How routes are related.
+use Rattle.std.specs.Prelude.{Bool, List, filter, map}
 use Rattle.rail_base.specs.declared.route.Route.{Route}
 use Rattle.rail_base.specs.declared.route.RouteNo.{RouteNo}
 use Rattle.rail_base.specs.Routes.{IsRoute}
-use Rattle.rail_base.specs.Stations.{trains}
-use Rattle.rail_spec.specs.Plans.{all_commands, goes_on, route_at, route_numbers, share}
+use Rattle.rail_spec.specs.Plans.{goes_on, route_at, route_numbers, share}
 use Rattle.plan_clauses.specs.Clauses.{exclude, later_pairs, leading_to}
-use Rattle.plan_encoding.specs.declared.frame.Frame.{Frame}
-use Rattle.plan_encoding.specs.Sets.{AreSectionSets}
-use Rattle.plan_encoding.specs.declared.tables.Tables.{Tables}
 
 -- the routes that go on where this one ends
 abbrev pub going_on : List Route → RouteNo → List RouteNo
@@ -26,20 +22,17 @@ shares routes r q = share (route_at routes r) (route_at routes q)
 abbrev pub sharing : List Route → RouteNo → List RouteNo
 sharing routes r = filter (shares routes r) (route_numbers routes)
 
+-- the two routes of a pair exclude each other
+abbrev pub exclude_both : List Route → RouteNo × RouteNo → Bool
+exclude_both routes p = exclude (route_at routes p.0) (route_at routes p.1)
+
 -- each two routes that exclude each other
 abbrev pub exclusions : List Route → List (RouteNo × RouteNo)
-exclusions routes = filter (λ p. exclude (route_at routes p.0) (route_at routes p.1)) (later_pairs (route_numbers routes))
+exclusions routes = filter (exclude_both routes) (later_pairs (route_numbers routes))
 
--- the trains, routes and commands of the frame, and how its routes are related
-pub record AreTables (f : Frame) (t : Tables) : Type 0 where
-  pub trains : t.trains.items ≡ trains f.design.now.station
-  pub numbers : t.numbers.items ≡ route_numbers f.routes.now
-  pub commands : t.commands.items ≡ all_commands f.design.now.station f.routes.now
-  pub leading : t.leading.items ≡ map (leading f.routes.now) (route_numbers f.routes.now)
-  pub going_on : t.going_on.items ≡ map (going_on f.routes.now) (route_numbers f.routes.now)
-  pub sections : AreSectionSets f.routes.now t.sections.items
-  pub sharing : t.sharing.items ≡ map (sharing f.routes.now) (route_numbers f.routes.now)
-  pub exclusions : t.exclusions.items ≡ exclusions f.routes.now
+-- for each route the row of others that stand so to it
+abbrev pub rows_by : (List Route → RouteNo → List RouteNo) → List Route → List (List RouteNo)
+rows_by relation routes = map (relation routes) (route_numbers routes)
 
 -- both have numbers of the table
 abbrev pub ArePairs : List Route → RouteNo × RouteNo → Type 0

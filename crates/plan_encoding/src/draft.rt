@@ -1,6 +1,6 @@
 //! Clauses that are listed one after another: counted first, and then kept.
 
-ghost use Rattle.std.specs.Prelude.{◌≡◌, [], ◌∷◌, true, false, OnOk, IfErr};
+ghost use Rattle.std.specs.Prelude.{◌≡◌, [], ◌∷◌, OnOk, IfErr};
 ghost use Rattle.plan_encoding.specs.Drafts.{Listed, listed, FaultSays};
 ghost use Rattle.plan_encoding.specs.declared.draft.BaseFault.TheVariants.{Memory};
 
@@ -58,7 +58,7 @@ impl Model for Draft {
 }
 
 impl Draft {
-    ghost use Rattle.std.specs.Prelude.{◌≤◌, length};
+    ghost use Rattle.std.specs.Prelude.{◌≤◌};
 
     /// An empty draft, which only counts or also keeps.
     pub fn new(alloc: Global, keep: bool) -> Draft

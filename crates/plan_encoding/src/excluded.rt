@@ -1,33 +1,25 @@
 //! No train is given two routes that exclude each other.
 
-ghost use Rattle.std.specs.Prelude.{◌≡◌, All, OnOk, IfErr, flat_map, map};
+ghost use Rattle.std.specs.Prelude.{OnOk, IfErr};
 ghost use Rattle.rail_base.specs.Stations.{IsTrain};
-ghost use Rattle.plan_clauses.specs.Clauses.{not_both};
-ghost use Rattle.plan_encoding.specs.Drafts.{Listed, listed, FaultSays};
-ghost use Rattle.plan_encoding.specs.Frames.{IsFrame, told};
-ghost use Rattle.plan_encoding.specs.Tables.{ArePairs};
+ghost use Rattle.plan_clauses.specs.Clauses.{excluded};
+ghost use Rattle.plan_encoding.specs.Families.{none_excluded};
+ghost use Rattle.plan_encoding.specs.Frames.{Lists, Stops, over, station};
 
 use crate::draft::{BaseFault, Draft};
-use crate::frame::Frame;
+use crate::tables::Tables;
 use rail_base::plan::Command;
-use rail_base::route::RouteNo;
 use rail_base::station::TrainNo;
 
-impl Frame<'_> {
-    /// Lists that a train is given no two routes of a pair.
-    fn put_excluded_of(
-        &self,
-        draft: &mut Draft,
-        pairs: &[(RouteNo, RouteNo)],
-        train: TrainNo,
-    ) -> Result<(), BaseFault>
-        requires frame { IsFrame self.now }
-        requires train { IsTrain self.now.design.now.station train }
-        requires pairs { All (ArePairs self.now.routes.now) pairs.now }
-        ensures ok { OnOk result (listed draft.old (told self.now (map (not_both self.now.design.now.station self.now.routes.now self.now.steps train) pairs.now)) ≡ Listed draft.new) }
-        ensures err { IfErr result (FaultSays (listed draft.old (told self.now (map (not_both self.now.design.now.station self.now.routes.now self.now.steps train) pairs.now)))) }
+impl Tables<'_> {
+    /// Lists that a train is given no two routes that exclude each other.
+    fn put_excluded_of(&self, draft: &mut Draft, train: TrainNo) -> Result<(), BaseFault>
+        requires train { IsTrain (station self.now.frame) train }
+        ensures ok { OnOk result (Lists self.now.frame (over self.now.frame excluded train) draft.old draft.new) }
+        ensures err { IfErr result (Stops self.now.frame (over self.now.frame excluded train) draft.old) }
     {
-        for pair in pairs {
+        let last = self.frame.steps.count;
+        for pair in &self.exclusions {
             let one = Command {
                 train,
                 route: pair.0,
@@ -37,28 +29,20 @@ impl Frame<'_> {
                 route: pair.1,
             };
             draft.put(&[
-                self.not_given(one, self.steps),
-                self.not_given(other, self.steps),
+                self.frame.not_given(one, last),
+                self.frame.not_given(other, last),
             ])?;
         }
         Ok(())
     }
 
     /// Lists that no train is given two routes that exclude each other.
-    pub fn put_excluded(
-        &self,
-        draft: &mut Draft,
-        pairs: &[(RouteNo, RouteNo)],
-        trains: &[TrainNo],
-    ) -> Result<(), BaseFault>
-        requires frame { IsFrame self.now }
-        requires trains { All (IsTrain self.now.design.now.station) trains.now }
-        requires pairs { All (ArePairs self.now.routes.now) pairs.now }
-        ensures ok { OnOk result (listed draft.old (told self.now (flat_map (λ t. map (not_both self.now.design.now.station self.now.routes.now self.now.steps t) pairs.now) trains.now)) ≡ Listed draft.new) }
-        ensures err { IfErr result (FaultSays (listed draft.old (told self.now (flat_map (λ t. map (not_both self.now.design.now.station self.now.routes.now self.now.steps t) pairs.now) trains.now)))) }
+    pub fn put_excluded(&self, draft: &mut Draft) -> Result<(), BaseFault>
+        ensures ok { OnOk result (Lists self.now.frame (none_excluded self.now.frame) draft.old draft.new) }
+        ensures err { IfErr result (Stops self.now.frame (none_excluded self.now.frame) draft.old) }
     {
-        for train in trains {
-            self.put_excluded_of(draft, pairs, *train)?;
+        for train in &self.trains {
+            self.put_excluded_of(draft, *train)?;
         }
         Ok(())
     }

@@ -1,12 +1,10 @@
-//! What clauses are listed for, and the literals of its commands.
+//! What clauses are listed for.
 
-use rail_base::design::Design;
-use rail_base::route::RouteTable;
+use interlocking::{Interlocking, Steps};
 
-/// A design, its routes, and how many steps a plan may have.
+/// A design with its routes, and how many steps a plan may have.
 #[derive(Clone, Copy)]
 pub struct Frame<'a> {
-    pub design: &'a Design,
-    pub routes: &'a RouteTable,
-    pub steps: u32,
+    pub interlocking: &'a Interlocking,
+    pub steps: Steps,
 }

@@ -1,7 +1,6 @@
 //! How routes are related.
 
-ghost use Rattle.std.specs.Prelude.{◌≡◌, ◌≤◌, ◌&&◌, ◌||◌, ◌-◌, ◌++◌, ◌∷◌, [], All, IfOk, OnOk, cond, filter, length, slice_index_or};
-ghost use Rattle.std.specs.List.{list_any};
+ghost use Rattle.std.specs.Prelude.{◌≡◌, ◌≤◌, ◌&&◌, ◌||◌, ◌++◌, ◌∷◌, [], OnOk, cond, length};
 ghost use Rattle.rail_spec.specs.Plans.{end_at_one_signal, goes_on, has_node, is_start, starts_in};
 ghost use Rattle.plan_clauses.specs.Clauses.{at_boundary, exclude};
 ghost use Rattle.rail_base.specs.Numbering.{entry};
@@ -77,7 +76,7 @@ pub fn push_if<T: Drop>(list: &mut Vec<T>, item: T, belongs: bool) -> Result<(),
 }
 
 /// The row of a route.
-pub fn row_of<T>(rows: &[List<T>], route: RouteNo) -> &[T]
+pub fn row_of(rows: &[List<RouteNo>], route: RouteNo) -> &[RouteNo]
     requires one { 1 ≤ route.0 }
     requires last { route.0 ≤ length rows.now }
     ensures { result.now ≡ entry [] rows.now route.0 }

@@ -1,6 +1,6 @@
 //! A base, and the numbers of its variables.
 
-ghost use Rattle.std.specs.Prelude.{◌≡◌, ℕ, ◌≤◌, ◌<◌, IfSome, ◌+◌, ◌*◌, List, Option, Some, None, if◌then◌else◌, false, length};
+ghost use Rattle.std.specs.Prelude.{◌≡◌, ℕ, ◌≤◌, ◌<◌, IfSome, List, Some, None, if◌then◌else◌, length};
 ghost use Rattle.std.specs.List.{list_any};
 ghost use Rattle.rail_base.specs.Numbering.{before_first};
 ghost use Rattle.rail_base.specs.declared.station.Station.{Station};
@@ -9,6 +9,7 @@ ghost use Rattle.rail_spec.specs.Plans.{contend};
 ghost use Rattle.plan_clauses.specs.Variables.{Given, Before, By, is_pair, yes, numbered, variable_count};
 ghost use Rattle.plan_encoding.specs.Bases.{HasCommand, IsBaseOf};
 
+use interlocking::{Interlocking, Steps};
 use rail_base::plan::Command;
 use rail_base::route::RouteNo;
 use rail_base::station::TrainNo;
@@ -29,7 +30,7 @@ pub struct Counts {
 pub struct Base {
     trains: u32,
     routes: u32,
-    steps: u32,
+    steps: Steps,
     pairs: Vec<(Command, Command)>,
     clauses: Arena,
 }
@@ -40,9 +41,16 @@ impl Model for Base {
 
     ghost Value = { Numbered };
 
-    ghost view = { λ b. record { trains = b.trains; routes = b.routes; steps = b.steps; pairs = b.pairs.items; clauses = b.clauses } };
+    ghost view = { λ b. record {
+      trains = b.trains;
+      routes = b.routes;
+      steps = b.steps.count;
+      pairs = b.pairs.items;
+      clauses = b.clauses;
+    } };
 
-    ghost invariant = { λ b. (b.trains ≤ 32) × (b.routes ≤ 2000) × (b.steps ≤ 64) × (length b.pairs.items ≤ 4096000000) };
+    ghost invariant = { λ b. (b.trains ≤ 32) × (b.routes ≤ 2000) × (b.steps.count ≤ 64) ×
+        (length b.pairs.items ≤ 4096000000) };
 }
 
 impl Base {
@@ -50,10 +58,11 @@ impl Base {
     pub fn given(&self, train: TrainNo, route: RouteNo, step: u32) -> Lit
         requires command { HasCommand self.now (record { train = train; route = route }) }
         requires step { step ≤ self.now.steps }
-        ensures { (d : Station) (routes : List Route) (n : ℕ) → IsBaseOf d routes n self.now → result ≡ numbered d routes n (yes (Given (record { train = train; route = route }) step)) }
+        ensures { (d : Station) (routes : List Route) (n : ℕ) → IsBaseOf d routes n self.now
+            → result ≡ numbered d routes n (yes (Given (record { train = train; route = route }) step)) }
     {
         Lit {
-            var: ((train.0 - 1) * self.routes + (route.0 - 1)) * self.steps + step,
+            var: ((train.0 - 1) * self.routes + (route.0 - 1)) * self.steps.count + step,
             negated: false,
         }
     }
@@ -62,11 +71,13 @@ impl Base {
     pub fn before(&self, first: Command, second: Command) -> Option<Lit>
         requires first { HasCommand self.now first }
         requires second { HasCommand self.now second }
-        ensures { (d : Station) (routes : List Route) (n : ℕ) → IsBaseOf d routes n self.now → result ≡ (if contend routes first second then Some (numbered d routes n (yes (Before first second))) else None) }
+        ensures { (d : Station) (routes : List Route) (n : ℕ) → IsBaseOf d routes n self.now
+            → result ≡
+            (if contend routes first second then Some (numbered d routes n (yes (Before first second))) else None) }
     {
         match place_of(&self.pairs, first, second) {
             Some(place) => Some(Lit {
-                var: self.trains * self.routes * self.steps + place as u32 + 1,
+                var: self.trains * self.routes * self.steps.count + place as u32 + 1,
                 negated: false,
             }),
             None => None,
@@ -76,10 +87,11 @@ impl Base {
     /// The literal that all is given by a step.
     pub fn selector(&self, step: u32) -> Lit
         requires { step ≤ self.now.steps }
-        ensures { (d : Station) (routes : List Route) (n : ℕ) → IsBaseOf d routes n self.now → result ≡ numbered d routes n (yes (By step)) }
+        ensures { (d : Station) (routes : List Route) (n : ℕ) → IsBaseOf d routes n self.now
+            → result ≡ numbered d routes n (yes (By step)) }
     {
         Lit {
-            var: self.trains * self.routes * self.steps + self.pairs.len() as u32 + step,
+            var: self.trains * self.routes * self.steps.count + self.pairs.len() as u32 + step,
             negated: false,
         }
     }
@@ -98,7 +110,8 @@ impl Base {
         &self.pairs
     }
 
-    /// The clauses, to which others may be added, and the pairs of commands that contend, in the order of their variables.
+    /// The clauses, to which others may be added, and the pairs of commands that contend, in the order of their
+    /// variables.
     pub fn into_parts(self) -> (Arena, Vec<(Command, Command)>)
         ensures clauses { result.0 ≡ self.clauses }
         ensures pairs { result.1.items ≡ self.pairs }
@@ -107,25 +120,39 @@ impl Base {
         (clauses, pairs)
     }
 
+    /// How many steps a plan may have.
+    pub fn steps(&self) -> Steps
+        ensures { result.count ≡ self.now.steps }
+    {
+        self.steps
+    }
+
     /// How many trains, routes, steps and variables there are.
     pub fn counts(&self) -> Counts
         ensures trains { result.trains ≡ self.now.trains }
         ensures routes { result.routes ≡ self.now.routes }
         ensures steps { result.steps ≡ self.now.steps }
-        ensures value { (d : Station) (routes : List Route) (n : ℕ) → IsBaseOf d routes n self.now → result ≡ record { trains = length d.trains; routes = length routes; steps = n; vars = variable_count d routes n } }
+        ensures value { (d : Station) (routes : List Route) (n : ℕ) → IsBaseOf d routes n self.now
+            → result ≡
+            record { trains = length d.trains; routes = length routes; steps = n; vars = variable_count d routes n } }
     {
         Counts {
             trains: self.trains,
             routes: self.routes,
-            steps: self.steps,
-            vars: self.trains * self.routes * self.steps + self.pairs.len() as u32 + self.steps,
+            steps: self.steps.count,
+            vars: self.trains * self.routes * self.steps.count
+                + self.pairs.len() as u32
+                + self.steps.count,
         }
     }
 }
 
 /// How many pairs stand before this one, if it is there.
 fn place_of(pairs: &[(Command, Command)], first: Command, second: Command) -> Option<usize>
-    ensures place { result ≡ (if list_any (is_pair first second) pairs.now then Some (length (before_first (is_pair first second) pairs.now)) else None) }
+    ensures place { result ≡
+        (if list_any (is_pair first second) pairs.now
+        then Some (length (before_first (is_pair first second) pairs.now))
+        else None) }
     ensures bound { IfSome result (λ place. place < length pairs.now) }
 {
     let mut place = 0;
@@ -145,23 +172,25 @@ fn is_pair(first: Command, second: Command, pair: (Command, Command)) -> bool
     first == pair.0 && second == pair.1
 }
 
-/// A base of these parts.
+/// A base with these pairs and clauses.
 pub fn base_of(
-    trains: u32,
-    routes: u32,
-    steps: u32,
+    interlocking: &Interlocking,
+    steps: Steps,
     pairs: Vec<(Command, Command)>,
     clauses: Arena,
 ) -> Base
-    requires trains { trains ≤ 32 }
-    requires routes { routes ≤ 2000 }
-    requires steps { steps ≤ 64 }
     requires pairs { length pairs.items ≤ 4096000000 }
-    ensures { result ≡ record { trains = trains; routes = routes; steps = steps; pairs = pairs.items; clauses = clauses } }
+    ensures { result ≡ record {
+      trains = length interlocking.now.design.station.trains;
+      routes = length interlocking.now.routes;
+      steps = steps.count;
+      pairs = pairs.items;
+      clauses = clauses;
+    } }
 {
     Base {
-        trains,
-        routes,
+        trains: interlocking.design.station.trains.len() as u32,
+        routes: interlocking.routes.len() as u32,
         steps,
         pairs,
         clauses,

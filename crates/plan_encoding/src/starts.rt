@@ -1,16 +1,13 @@
 //! A route starts at a boundary of the first visit, or where an earlier one of the train ends.
 
-ghost use Rattle.std.specs.Prelude.{◌≡◌, ◌≤◌, ◌<◌, ◌+◌, ◌-◌, ◌∷◌, [], All, IfOk, OnOk, IfErr, flat_map, map};
+ghost use Rattle.std.specs.Prelude.{◌≡◌, ◌≤◌, All, IfOk, OnOk, IfErr};
 ghost use Rattle.rail_base.specs.Routes.{IsRoute};
 ghost use Rattle.rail_base.specs.Stations.{IsTrain, first_visit, train_of};
 ghost use Rattle.rail_spec.specs.Plans.{has_node};
-ghost use Rattle.rail_base.specs.Numbering.{one_to};
-ghost use Rattle.rail_spec.specs.Plans.{all_commands};
-ghost use Rattle.plan_clauses.specs.Variables.{Given, no, if_given, numbered};
 ghost use Rattle.plan_clauses.specs.Clauses.{starts_rightly};
-ghost use Rattle.plan_encoding.specs.Drafts.{Listed, listed, FaultSays};
-ghost use Rattle.plan_encoding.specs.Frames.{IsFrame, IsCommand, told};
-ghost use Rattle.plan_encoding.specs.Tables.{AreTables, leading};
+ghost use Rattle.plan_encoding.specs.Families.{all_start_rightly, led, led_always, never_given};
+ghost use Rattle.plan_encoding.specs.Frames.{IsCommand, Lists, Stops, over, station, table, written};
+ghost use Rattle.plan_encoding.specs.Tables.{leading};
 
 use crate::draft::{BaseFault, Draft};
 use crate::frame::Frame;
@@ -25,12 +22,11 @@ use std::alloc::{AllocError, Global};
 impl Frame<'_> {
     /// Lists that a command is given by no step.
     fn put_never(&self, draft: &mut Draft, command: Command) -> Result<(), BaseFault>
-        requires frame { IsFrame self.now }
         requires command { IsCommand self.now command }
-        ensures ok { OnOk result (listed draft.old (told self.now (map (λ i. no (Given command i) ∷ []) (one_to self.now.steps))) ≡ Listed draft.new) }
-        ensures err { IfErr result (FaultSays (listed draft.old (told self.now (map (λ i. no (Given command i) ∷ []) (one_to self.now.steps))))) }
+        ensures ok { OnOk result (Lists self.now (never_given self.now command) draft.old draft.new) }
+        ensures err { IfErr result (Stops self.now (never_given self.now command) draft.old) }
     {
-        for step in 1..self.steps + 1 {
+        for step in 1..self.steps.count + 1 {
             draft.put(&[self.not_given(command, step)])?;
         }
         Ok(())
@@ -44,12 +40,11 @@ impl Frame<'_> {
         leading: &[RouteNo],
         step: u32,
     ) -> Result<Vec<Lit>, AllocError>
-        requires frame { IsFrame self.now }
         requires command { IsCommand self.now command }
-        requires leading { All (IsRoute self.now.routes.now) leading.now }
+        requires leading { All (IsRoute (table self.now)) leading.now }
         requires some { 1 ≤ step }
-        requires step { step ≤ self.now.steps }
-        ensures { IfOk result (λ clause. clause.items ≡ map (numbered self.now.design.now.station self.now.routes.now self.now.steps) (no (Given command step) ∷ flat_map (λ q. if_given (record { train = command.train; route = q }) (step - 1)) leading.now)) }
+        requires step { step ≤ self.now.steps.count }
+        ensures { IfOk result (λ clause. clause.items ≡ written self.now (led command leading.now step)) }
     {
         let mut clause = Vec::new(alloc);
         clause.push(self.not_given(command, step))?;
@@ -71,13 +66,12 @@ impl Frame<'_> {
         command: Command,
         leading: &[RouteNo],
     ) -> Result<(), BaseFault>
-        requires frame { IsFrame self.now }
         requires command { IsCommand self.now command }
-        requires leading { All (IsRoute self.now.routes.now) leading.now }
-        ensures ok { OnOk result (listed draft.old (told self.now (map (λ i. no (Given command i) ∷ flat_map (λ q. if_given (record { train = command.train; route = q }) (i - 1)) leading.now) (one_to self.now.steps))) ≡ Listed draft.new) }
-        ensures err { IfErr result (FaultSays (listed draft.old (told self.now (map (λ i. no (Given command i) ∷ flat_map (λ q. if_given (record { train = command.train; route = q }) (i - 1)) leading.now) (one_to self.now.steps))))) }
+        requires leading { All (IsRoute (table self.now)) leading.now }
+        ensures ok { OnOk result (Lists self.now (led_always self.now command leading.now) draft.old draft.new) }
+        ensures err { IfErr result (Stops self.now (led_always self.now command leading.now) draft.old) }
     {
-        for step in 1..self.steps + 1 {
+        for step in 1..self.steps.count + 1 {
             let clause = self.led(alloc, command, leading, step)?;
             draft.put(&clause)?;
         }
@@ -86,59 +80,57 @@ impl Frame<'_> {
 
     /// Whether a node is one of a train's first visit.
     fn may_start(&self, train: TrainNo, node: NodeNo) -> bool
-        requires { IsTrain self.now.design.now.station train }
-        ensures { result ≡ has_node (first_visit (train_of self.now.design.now.station train)) node }
+        requires { IsTrain (station self.now) train }
+        ensures { result ≡ has_node (first_visit (train_of (station self.now) train)) node }
     {
-        match self.design.train(train).visits.as_slice().first() {
+        match self
+            .interlocking
+            .design
+            .train(train)
+            .visits
+            .as_slice()
+            .first()
+        {
             Some(set) => has_node(set, node),
             None => false,
         }
     }
+}
 
+impl Tables<'_> {
     /// Lists that a command's route starts rightly.
     fn put_starts_of(
         &self,
         alloc: Global,
         draft: &mut Draft,
-        tables: &Tables,
         command: Command,
     ) -> Result<(), BaseFault>
-        requires frame { IsFrame self.now }
-        requires tables { AreTables self.now tables.now }
-        requires command { IsCommand self.now command }
-        ensures ok { OnOk result (listed draft.old (told self.now (starts_rightly self.now.design.now.station self.now.routes.now self.now.steps command)) ≡ Listed draft.new) }
-        ensures err { IfErr result (FaultSays (listed draft.old (told self.now (starts_rightly self.now.design.now.station self.now.routes.now self.now.steps command)))) }
+        requires command { IsCommand self.now.frame command }
+        ensures ok { OnOk result (Lists self.now.frame (over self.now.frame starts_rightly command)
+            draft.old draft.new) }
+        ensures err { IfErr result (Stops self.now.frame (over self.now.frame starts_rightly command) draft.old) }
     {
-        match route_at(self.routes, command.route).start {
+        match route_at(&self.frame.interlocking.routes, command.route).start {
             Start::Boundary(node) => {
-                if self.may_start(command.train, node) {
+                if self.frame.may_start(command.train, node) {
                     return Ok(());
                 }
-                self.put_never(draft, command)
+                self.frame.put_never(draft, command)
             }
             Start::Signal(_) => {
-                let leading = row_of(&tables.leading, command.route);
-                self.put_led(alloc, draft, command, leading)
+                let leading = row_of(&self.leading, command.route);
+                self.frame.put_led(alloc, draft, command, leading)
             }
         }
     }
 
     /// Lists that the routes of all commands start rightly.
-    pub fn put_starts(
-        &self,
-        alloc: Global,
-        draft: &mut Draft,
-        tables: &Tables,
-        commands: &[Command],
-    ) -> Result<(), BaseFault>
-        requires frame { IsFrame self.now }
-        requires tables { AreTables self.now tables.now }
-        requires commands { All (IsCommand self.now) commands.now }
-        ensures ok { OnOk result (listed draft.old (told self.now (flat_map (starts_rightly self.now.design.now.station self.now.routes.now self.now.steps) commands.now)) ≡ Listed draft.new) }
-        ensures err { IfErr result (FaultSays (listed draft.old (told self.now (flat_map (starts_rightly self.now.design.now.station self.now.routes.now self.now.steps) commands.now)))) }
+    pub fn put_starts(&self, alloc: Global, draft: &mut Draft) -> Result<(), BaseFault>
+        ensures ok { OnOk result (Lists self.now.frame (all_start_rightly self.now.frame) draft.old draft.new) }
+        ensures err { IfErr result (Stops self.now.frame (all_start_rightly self.now.frame) draft.old) }
     {
-        for command in commands {
-            self.put_starts_of(alloc, draft, tables, *command)?;
+        for command in &self.commands {
+            self.put_starts_of(alloc, draft, *command)?;
         }
         Ok(())
     }

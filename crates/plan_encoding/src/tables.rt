@@ -1,5 +1,12 @@
 //! What is found once of a frame, before clauses are listed.
 
+ghost use Rattle.std.specs.Prelude.{◌≡◌};
+ghost use Rattle.rail_base.specs.Stations.{trains as train_numbers};
+ghost use Rattle.rail_spec.specs.Plans.{all_commands, route_numbers};
+ghost use Rattle.plan_encoding.specs.Frames.{station, table};
+ghost use Rattle.plan_encoding.specs.Tables.{exclusions as exclusions_of, going_on as going_on_of, leading as leading_of, rows_by, sharing as sharing_of};
+
+use crate::frame::Frame;
 use rail_base::list::List;
 use rail_base::plan::Command;
 use rail_base::route::RouteNo;
@@ -7,7 +14,8 @@ use rail_base::station::TrainNo;
 
 /// The trains, routes and commands of a frame in order, and for each route others, in rising order.
 #[derive(Drop)]
-pub struct Tables {
+pub struct Tables<'a> {
+    pub frame: Frame<'a>,
     pub trains: Vec<TrainNo>,
     pub numbers: Vec<RouteNo>,
     pub commands: Vec<Command>,
@@ -15,10 +23,15 @@ pub struct Tables {
     pub leading: Vec<List<RouteNo>>,
     /// The routes that go on where it ends.
     pub going_on: Vec<List<RouteNo>>,
-    /// The set of its sections.
-    pub sections: Vec<List<u64>>,
     /// The routes that share a section with it.
     pub sharing: Vec<List<RouteNo>>,
     /// Each two routes that exclude each other.
     pub exclusions: Vec<(RouteNo, RouteNo)>,
+    pub ghost every_train: { trains.items ≡ train_numbers (station frame) },
+    pub ghost every_number: { numbers.items ≡ route_numbers (table frame) },
+    pub ghost every_command: { commands.items ≡ all_commands (station frame) (table frame) },
+    pub ghost led: { leading.items ≡ rows_by leading_of (table frame) },
+    pub ghost gone_on: { going_on.items ≡ rows_by going_on_of (table frame) },
+    pub ghost shared: { sharing.items ≡ rows_by sharing_of (table frame) },
+    pub ghost excluded: { exclusions.items ≡ exclusions_of (table frame) },
 }

@@ -38,7 +38,8 @@ fn ticks_before(due: u64, tick: u64, most: u64) -> u64
 fn all_open_for(design: &Design, history: &[TrainHistory], tick: u64, most: u64) -> u64
     requires { tick < 18446744073709551615 }
     ensures within { result ≤ most }
-    ensures undue { (w : Within) → In w design.now.station.withins → IsNotDue design.now.station history.now tick result w }
+    ensures undue { (w : Within) → In w design.now.station.withins
+        → IsNotDue design.now.station history.now tick result w }
 {
     let mut quiet = most;
     for within in design.station.withins.as_slice() {
@@ -52,7 +53,8 @@ pub(crate) fn next_due(design: &Design, history: &[TrainHistory], now: u64, last
     requires now { now < last }
     ensures after { now < result }
     ensures within { result ≤ last }
-    ensures undue { (w : Within) → In w design.now.station.withins → IsNotDue design.now.station history.now now (result - 1 - now) w }
+    ensures undue { (w : Within) → In w design.now.station.withins
+        → IsNotDue design.now.station history.now now (result - 1 - now) w }
 {
     now + 1 + all_open_for(design, history, now, last - now - 1)
 }

@@ -3,7 +3,6 @@
 ghost use Rattle.std.specs.Prelude.{◌≡◌, IfOk};
 ghost use Rattle.rail_spec.specs.Run.{of_plan};
 ghost use Rattle.dispatch_run.specs.Followers.{AreFollowers};
-ghost use Rattle.plan_run.specs.Planned.{IsRun};
 
 use crate::run::Run;
 use dispatch_run::Follower;
@@ -11,8 +10,8 @@ use std::alloc::{AllocError, Global};
 
 /// The trains of a plan, each of which is followed for ever.
 pub(crate) fn followers<'a>(run: &Run<'a>, alloc: Global) -> Result<Vec<Follower<'a>>, AllocError>
-    requires { IsRun run.now }
-    ensures { IfOk result (λ f. AreFollowers run.now.design.now.station run.now.routes.now (of_plan run.now.routes.now run.now.plan.now.steps) f.items) }
+    ensures { IfOk result (λ f. AreFollowers run.now.interlocking.now.design.station run.now.interlocking.now.routes
+        (of_plan run.now.interlocking.now.routes run.now.plan.now.steps) f.items) }
 {
     let mut followers = Vec::new(alloc);
     for journey in run.journeys {

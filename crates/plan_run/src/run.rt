@@ -2,22 +2,23 @@
 
 ghost use Rattle.std.specs.Prelude.{◌≡◌, ◌<◌, ◌^◌, is_none, length};
 ghost use Rattle.std.specs.List.{position_from};
+ghost use Rattle.rail_spec.specs.Feasible.{IsWellFormed};
 ghost use Rattle.rail_spec.specs.Requirements.{path_violation};
-ghost use Rattle.plan_run.specs.Planned.{IsRun};
+ghost use Rattle.rail_course.specs.Journeys.{AreJourneys};
 
-use rail_base::design::Design;
+use interlocking::Interlocking;
 use rail_base::plan::{Plan, Violation};
-use rail_base::route::RouteTable;
 use rail_base::state::Stop;
 use rail_course::Journey;
 
-/// A plan that is run over a design, and the journeys that it gives the trains.
+/// A well-formed plan that is run over an interlocking, and the journeys that it gives the trains.
 #[derive(Clone, Copy)]
 pub(crate) struct Run<'a> {
-    pub design: &'a Design,
-    pub routes: &'a RouteTable,
+    pub interlocking: &'a Interlocking,
     pub plan: &'a Plan,
     pub journeys: &'a [Journey<'a>],
+    pub ghost formed: { IsWellFormed interlocking.now.design.station interlocking.now.routes 64 plan.now.steps },
+    pub ghost led: { AreJourneys interlocking.now.design.station interlocking.now.routes plan.now.steps journeys.now },
 }
 
 /// The number of the first visit that is made nowhere.
@@ -34,8 +35,9 @@ fn missed(visits: &[Option<Stop>]) -> Option<u32>
 impl Run<'_> {
     /// The first visit, by train, that no path makes.
     pub(crate) fn path_violation(&self) -> Option<Violation>
-        requires { IsRun self.now }
-        ensures { result ≡ path_violation self.now.design.now.station self.now.routes.now self.now.plan.now.steps }
+        ensures { result
+            ≡ path_violation self.now.interlocking.now.design.station self.now.interlocking.now.routes
+            self.now.plan.now.steps }
     {
         for journey in self.journeys {
             if let Some(visit) = missed(journey.course.visits.as_slice()) {

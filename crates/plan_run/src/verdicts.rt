@@ -9,23 +9,22 @@ ghost use Rattle.rail_spec.specs.Histories.{verdict_of};
 ghost use Rattle.rail_spec.specs.Safety.{Clash, KeepsToTrack};
 ghost use Rattle.rail_spec.specs.Progress.{IsGrantedInTime};
 ghost use Rattle.rail_spec.specs.Dispatches.{Dispatch};
-ghost use Rattle.plan_run.specs.Planned.{IsPlanned, IsRun};
+ghost use Rattle.plan_run.specs.Planned.{IsPlanned};
 
 use crate::due::next_due;
 use crate::planned::followers;
 use crate::run::Run;
 use dispatch_run::Traffic;
-use rail_base::design::Design;
+use interlocking::Interlocking;
 use rail_base::history::Verdict;
 use rail_base::list::List;
 use rail_base::plan::Plan;
-use rail_base::route::RouteTable;
-use rail_course::{courses_of, journeys_of};
+use rail_course::{Courses, Itineraries};
 use rail_require::{are_done, violation_shown};
 use std::alloc::{AllocError, Global};
 
-/// The verdict of a plan whose paths make all visits: it is asked at each tick at which something happens to a train or a
-/// greatest time may end.
+/// The verdict of a plan whose paths make all visits: it is asked at each tick at which something happens to a train or
+/// a greatest time may end.
 fn verdict_by_events(
     traffic: &Traffic,
     plan: &Plan,
@@ -34,10 +33,13 @@ fn verdict_by_events(
 ) -> Result<Verdict, AllocError>
     ghost dispatch: { Dispatch }
     requires planned { IsPlanned dispatch traffic.now plan.now.steps }
-    requires paths { path_violation traffic.now.design.now.station traffic.now.routes.now plan.now.steps ≡ None }
-    ensures { IfOk result (λ v. v ≡ verdict_of traffic.now.design.now.station traffic.now.routes.now plan.now.steps ticks) }
+    requires paths { path_violation traffic.now.interlocking.now.design.station traffic.now.interlocking.now.routes
+        plan.now.steps ≡ None }
+    ensures { IfOk result (λ v. v
+        ≡ verdict_of traffic.now.interlocking.now.design.station traffic.now.interlocking.now.routes
+        plan.now.steps ticks) }
 {
-    let design = traffic.design;
+    let design = &traffic.interlocking.design;
     let last = ticks.min(design.horizon());
     let mut progress = traffic.begin(alloc)?;
     while progress.tick < last {
@@ -63,14 +65,14 @@ fn verdict_by_events(
 
 /// The verdict of the plan that is run.
 fn verdict(run: &Run, alloc: Global, ticks: u64) -> Result<Verdict, AllocError>
-    requires { IsRun run.now }
-    ensures { IfOk result (λ v. v ≡ verdict_of run.now.design.now.station run.now.routes.now run.now.plan.now.steps ticks) }
+    ensures { IfOk result (λ v. v
+        ≡ verdict_of run.now.interlocking.now.design.station run.now.interlocking.now.routes
+        run.now.plan.now.steps ticks) }
 {
     let Some(violation) = run.path_violation() else {
         let followers = followers(run, alloc)?;
         let traffic = Traffic {
-            design: run.design,
-            routes: run.routes,
+            interlocking: run.interlocking,
             followers: followers.as_slice(),
         };
         return verdict_by_events(&traffic, run.plan, alloc, ticks);
@@ -92,25 +94,28 @@ fn verdict(run: &Run, alloc: Global, ticks: u64) -> Result<Verdict, AllocError>
 /// ever hold one section or stand on one, and each command is granted in a bounded time.
 pub fn simulate(
     alloc: Global,
-    design: &Design,
-    routes: &RouteTable,
+    interlocking: &Interlocking,
     plan: &Plan,
     ticks: u64,
 ) -> Result<Verdict, AllocError>
-    requires table { routes.now ≡ routes_of design.now.station }
-    requires few { length routes.now ≤ 2000 }
-    requires formed { IsWellFormed design.now.station routes.now 64 plan.now.steps }
-    ensures value { IfOk result (λ v. v ≡ verdict_of design.now.station routes.now plan.now.steps ticks) }
-    ensures keeps { KeepsToTrack design.now.station routes.now plan.now.steps }
-    ensures granted { is_executable design.now.station routes.now plan.now.steps ≡ true
-        → IsGrantedInTime design.now.station routes.now plan.now.steps }
-    ensures apart { is_executable design.now.station routes.now plan.now.steps ≡ true → (k : ℕ) → Clash design.now.station routes.now plan.now.steps k → ⊥ }
+    requires formed { IsWellFormed interlocking.now.design.station interlocking.now.routes 64 plan.now.steps }
+    ensures value { IfOk result (λ v. v
+        ≡ verdict_of interlocking.now.design.station interlocking.now.routes plan.now.steps ticks) }
+    ensures keeps { KeepsToTrack interlocking.now.design.station interlocking.now.routes plan.now.steps }
+    ensures granted { is_executable interlocking.now.design.station interlocking.now.routes plan.now.steps ≡ true
+        → IsGrantedInTime interlocking.now.design.station interlocking.now.routes plan.now.steps }
+    ensures apart { is_executable interlocking.now.design.station interlocking.now.routes plan.now.steps ≡ true
+        → (k : ℕ) → Clash interlocking.now.design.station interlocking.now.routes plan.now.steps k → ⊥ }
 {
-    let courses = courses_of(alloc, design, routes, plan)?;
-    let journeys = journeys_of(alloc, design, routes, plan, courses.as_slice())?;
+    let given = Itineraries { interlocking, plan };
+    let courses = given.courses(alloc)?;
+    let courses = Courses {
+        given,
+        courses: courses.as_slice(),
+    };
+    let journeys = courses.journeys(alloc)?;
     let run = Run {
-        design,
-        routes,
+        interlocking,
         plan,
         journeys: journeys.as_slice(),
     };

@@ -20,25 +20,21 @@ use crate::refusals::{ended, one_line, too_large};
 use crate::reply::Reply;
 use crate::status::Status;
 use crate::texts::{no_line, yes_line};
+use interlocking::{Interlocking, Steps};
 use log_checker::Shown;
 use plan_encoding::{Base, BaseFault, base};
 use proof_judge::judge;
 use rail_base::design::Design;
-use rail_base::route::RouteTable;
 use rail_outside::Shelf;
 use std::alloc::{AllocError, Global};
 
 /// The clauses of a design, for plans of up to so many steps.
-fn encode(alloc: Global, design: &Design, routes: &RouteTable, steps: u32) -> Result<Base, Ending>
-    requires table { routes.now ≡ routes_of design.now.station }
-    requires few { length routes.now ≤ 2000 }
-    requires some { 1 ≤ steps }
-    requires most { steps ≤ 64 }
-    ensures reads { Reads (λ _. design.now.station) result (with_clauses steps design.now.station) }
+fn encode(alloc: Global, interlocking: &Interlocking, steps: Steps) -> Result<Base, Ending>
+    ensures reads { Reads (λ _. interlocking.now.design.station) result (with_clauses steps.count interlocking.now.design.station) }
     ensures refuses { OnlyRefuses result }
-    ensures base { IfOk result (IsBaseOf design.now.station (routes_of design.now.station) steps) }
+    ensures base { IfOk result (IsBaseOf interlocking.now.design.station (routes_of interlocking.now.design.station) steps.count) }
 {
-    match base(alloc, design, routes, steps) {
+    match base(alloc, interlocking, steps) {
         Ok(base) => Ok(base),
         Err(BaseFault::TooLarge { .. }) => Err(ended(too_large(alloc))),
         Err(BaseFault::Memory) => Err(Ending::Memory),
@@ -60,17 +56,12 @@ fn tell(alloc: Global, shown: Shown) -> Result<Reply, AllocError>
 fn checked_proof<S: Shelf>(
     alloc: Global,
     shelf: &mut S,
-    design: &Design,
-    routes: &RouteTable,
-    steps: u32,
+    interlocking: &Interlocking,
+    steps: Steps,
     proof: &str,
 ) -> Result<Reply, Ending>
-    requires table { routes.now ≡ routes_of design.now.station }
-    requires few { length routes.now ≤ 2000 }
-    requires some { 1 ≤ steps }
-    requires most { steps ≤ 64 }
-    ensures replies { (files : Files) → S.held shelf.old ≡ Some files → Replies result (with_proof steps design.now.station (files proof.now)) }
-    ensures some { (bytes : List ℕ) × Replies result (with_proof steps design.now.station bytes) }
+    ensures replies { (files : Files) → S.held shelf.old ≡ Some files → Replies result (with_proof steps.count interlocking.now.design.station (files proof.now)) }
+    ensures some { (bytes : List ℕ) × Replies result (with_proof steps.count interlocking.now.design.station bytes) }
     ensures verdict { IfOk result (λ reply. is_verdict reply.status ≡ true) }
     ensures refuses { RefusesFile result }
     ensures cause { result ≡ Err Ending.ShelfFault → Rose (S.fault_count shelf.old) (S.fault_count shelf.new) }
@@ -78,9 +69,9 @@ fn checked_proof<S: Shelf>(
     ensures files_stay { S.held shelf.new ≡ S.held shelf.old }
     ensures asks { GrowsByFront (S.asked shelf.old) (S.asked shelf.new) (fetched proof.now ∷ []) }
 {
-    let base = encode(alloc, design, routes, steps)?;
+    let base = encode(alloc, interlocking, steps)?;
     let bytes = fetch(alloc, shelf, InputFile::Proof, proof)?;
-    let shown = judge(alloc, design, routes, base, bytes.as_slice())?;
+    let shown = judge(alloc, interlocking, base, bytes.as_slice())?;
     let reply = tell(alloc, shown)?;
     Ok(reply)
 }
@@ -105,6 +96,7 @@ pub(crate) fn checked<S: Shelf>(
     ensures asks { GrowsByFront (S.asked shelf.old) (S.asked shelf.new) (fetched design.now ∷ fetched proof.now ∷ []) }
 {
     let design_bytes = fetch(alloc, shelf, InputFile::Design, design)?;
-    let (design, routes) = admit(alloc, design_bytes.as_slice())?;
-    checked_proof(alloc, shelf, &design, &routes, steps, proof)
+    let interlocking = admit(alloc, design_bytes.as_slice())?;
+    let steps = Steps { count: steps };
+    checked_proof(alloc, shelf, &interlocking, steps, proof)
 }

@@ -20,8 +20,9 @@ use crate::names::{node_name, section_name, signal_name};
 use crate::reading::{admit, fetch};
 use crate::reply::Reply;
 use crate::status::Status;
+use interlocking::Interlocking;
 use rail_base::design::Design;
-use rail_base::route::{Finish, Route, RouteTable, Start};
+use rail_base::route::{Finish, Route, Start};
 use rail_base::station::SectionNo;
 use rail_outside::Shelf;
 use rail_text::put_number;
@@ -127,14 +128,13 @@ fn route_lines(alloc: Global, design: &Design, routes: &[Route]) -> Result<Vec<V
 }
 
 /// The routes of a design.
-fn list(alloc: Global, design: &Design, routes: &RouteTable) -> Result<Reply, AllocError>
-    requires { routes.now ≡ routes_of design.now.station }
-    ensures listed { IfOk result (λ reply. reply_seen reply ≡ listed design.now.station) }
+fn list(alloc: Global, interlocking: &Interlocking) -> Result<Reply, AllocError>
+    ensures listed { IfOk result (λ reply. reply_seen reply ≡ listed interlocking.now.design.station) }
     ensures verdict { IfOk result (λ reply. is_verdict reply.status ≡ true) }
 {
     Ok(Reply {
         status: Status::Done,
-        lines: route_lines(alloc, design, routes.as_slice())?,
+        lines: route_lines(alloc, &interlocking.design, interlocking.routes.as_slice())?,
     })
 }
 
@@ -154,6 +154,6 @@ pub(crate) fn routes_listed<S: Shelf>(
     ensures asks { GrowsByFront (S.asked shelf.old) (S.asked shelf.new) (fetched design.now ∷ []) }
 {
     let bytes = fetch(alloc, shelf, InputFile::Design, design)?;
-    let (design, routes) = admit(alloc, bytes.as_slice())?;
-    Ok(list(alloc, &design, &routes)?)
+    let interlocking = admit(alloc, bytes.as_slice())?;
+    Ok(list(alloc, &interlocking)?)
 }

@@ -1,10 +1,9 @@
 //! The files of a command, read.
 
-ghost use Rattle.std.specs.Prelude.{◌≡◌, ◌≤◌, [], ◌∷◌, length, IfOk, OnOk, Some, ℕ, List};
+ghost use Rattle.std.specs.Prelude.{◌≡◌, ◌≤◌, [], ◌∷◌, IfOk, OnOk, Some, ℕ, List};
 ghost use Rattle.rail_outside.specs.Asks.{fetched};
 ghost use Rattle.rail_outside.specs.Files.{Files};
 ghost use Rattle.rail_outside.specs.Growth.{Rose, grown, GrowsByFront};
-ghost use Rattle.rail_spec.specs.Track.{routes_of};
 ghost use Rattle.rail_cli.specs.Answers.{within_limit, design_in, with_routes, design_or_answer};
 ghost use Rattle.rail_cli.specs.Replies.{Reads, RefusesFile, OnlyRefuses};
 ghost use Rattle.infra_reader.specs.Design.{design_of};
@@ -14,10 +13,10 @@ use crate::input::InputFile;
 use crate::refusals::{design_refused, ended, too_long};
 use design_table::{Code, DesignFault, EntryKind, Place};
 use infra_reader::read_design;
+use interlocking::Interlocking;
 use rail_base::design::Design;
-use rail_base::route::RouteTable;
 use rail_outside::{FetchFault, Shelf};
-use rail_routes::{RouteFault, routes};
+use rail_routes::{RouteFault, interlocking};
 use std::alloc::Global;
 
 /// The bytes of a file within its limit.
@@ -58,15 +57,14 @@ fn read(alloc: Global, bytes: &[u8]) -> Result<Design, Ending>
     }
 }
 
-/// The routes of a design.
-pub(crate) fn list_routes(alloc: Global, design: &Design) -> Result<RouteTable, Ending>
-    ensures reads { Reads (λ _. design.now.station) result (design_or_answer (with_routes design.now.station)) }
+/// A design with its routes.
+pub(crate) fn interlock(alloc: Global, design: Design) -> Result<Interlocking, Ending>
+    ensures reads { Reads (λ i. i.design.station) result (design_or_answer (with_routes design.station)) }
     ensures refuses { OnlyRefuses result }
-    ensures routes { IfOk result (λ routes. routes ≡ routes_of design.now.station) }
-    ensures few { IfOk result (λ routes. length routes ≤ 2000) }
+    ensures same { IfOk result (λ i. i.design ≡ design) }
 {
-    match routes(alloc, design) {
-        Ok(routes) => Ok(routes),
+    match interlocking(alloc, design) {
+        Ok(interlocking) => Ok(interlocking),
         Err(RouteFault::Again { edge }) => {
             let place = Place::Entry(EntryKind::Edge, u64::from(edge.0));
             Err(ended(design_refused(alloc, Code::D12, place)))
@@ -77,13 +75,9 @@ pub(crate) fn list_routes(alloc: Global, design: &Design) -> Result<RouteTable, 
 }
 
 /// The design that the bytes spell, with its routes.
-pub(crate) fn admit(alloc: Global, bytes: &[u8]) -> Result<(Design, RouteTable), Ending>
-    ensures reads { Reads (λ found. found.0.station) result (design_in bytes.now) }
+pub(crate) fn admit(alloc: Global, bytes: &[u8]) -> Result<Interlocking, Ending>
+    ensures reads { Reads (λ i. i.design.station) result (design_in bytes.now) }
     ensures refuses { OnlyRefuses result }
-    ensures routes { IfOk result (λ found. found.1 ≡ routes_of found.0.station) }
-    ensures few { IfOk result (λ found. length found.1 ≤ 2000) }
 {
-    let design = read(alloc, bytes)?;
-    let routes = list_routes(alloc, &design)?;
-    Ok((design, routes))
+    interlock(alloc, read(alloc, bytes)?)
 }

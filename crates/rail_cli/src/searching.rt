@@ -25,10 +25,10 @@ use crate::texts::{
     conflicts_spent_line, infeasible_line, log_spent_line, plan_line, plan_steps_line,
     ticks_spent_line,
 };
+use interlocking::{Interlocking, Steps};
 use rail_base::design::Design;
 use rail_base::history::Verdict;
 use rail_base::plan::Plan;
-use rail_base::route::RouteTable;
 use rail_outside::{Shelf, StoreFault};
 use std::alloc::{AllocError, Global};
 use timetable::timetable_lines;
@@ -191,27 +191,30 @@ fn settle<S: Shelf>(
 fn searched_in<S: Shelf>(
     alloc: Global,
     shelf: &mut S,
-    design: &Design,
-    routes: &RouteTable,
-    steps: u32,
+    interlocking: &Interlocking,
+    steps: Steps,
     budgets: Budgets,
     proof: &str,
 ) -> Result<Reply, Ending>
-    requires table { routes.now ≡ routes_of design.now.station }
-    requires few { length routes.now ≤ 2000 }
-    requires some { 1 ≤ steps }
-    requires most { steps ≤ 64 }
     requires room { budgets.log_bytes ≡ limit_of InputFile.Proof }
-    ensures replies { (found : Outcome) × Says design.now.station steps budgets found × Fits design.now.station steps found × Replies result (searched_in design.now.station steps budgets.conflicts budgets.ticks found) }
+    ensures replies { (found : Outcome) × Says interlocking.now.design.station steps.count budgets found × Fits interlocking.now.design.station steps.count found × Replies result (searched_in interlocking.now.design.station steps.count budgets.conflicts budgets.ticks found) }
     ensures no_usage { IfOk result (λ reply. reply.status ≢ Status.Usage) }
     ensures refuses { RefusesFile result }
-    ensures held { (files : Files) (name : List ℕ) → S.held shelf.old ≡ Some files → design_in (files name) ≡ Ok design.now.station → OnEnd result (λ s. SearchLeaves files steps name proof.now s (S.held shelf.new)) }
+    ensures held { (files : Files) (name : List ℕ) → S.held shelf.old ≡ Some files → design_in (files name) ≡ Ok interlocking.now.design.station → OnEnd result (λ s. SearchLeaves files steps.count name proof.now s (S.held shelf.new)) }
     ensures cause { result ≡ Err Ending.ShelfFault → Rose (S.fault_count shelf.old) (S.fault_count shelf.new) }
     ensures never_falls { S.fault_count shelf.old ≤ S.fault_count shelf.new }
     ensures asks { GrowsByFront (S.asked shelf.old) (S.asked shelf.new) (stored proof.now ∷ []) }
 {
-    let found = verify(alloc, design, routes, steps, budgets);
-    settle(alloc, shelf, design, steps, budgets, proof, &found)
+    let found = verify(alloc, interlocking, steps, budgets);
+    settle(
+        alloc,
+        shelf,
+        &interlocking.design,
+        steps.count,
+        budgets,
+        proof,
+        &found,
+    )
 }
 
 /// The reply to a search for a plan of so many steps, 1 to 64, by the names of its files. Where there is no plan, the
@@ -237,6 +240,7 @@ pub(crate) fn searched<S: Shelf>(
     ensures asks { GrowsByFront (S.asked shelf.old) (S.asked shelf.new) (fetched design.now ∷ stored proof.now ∷ []) }
 {
     let bytes = fetch(alloc, shelf, InputFile::Design, design)?;
-    let (design, routes) = admit(alloc, bytes.as_slice())?;
-    searched_in(alloc, shelf, &design, &routes, steps, budgets, proof)
+    let interlocking = admit(alloc, bytes.as_slice())?;
+    let steps = Steps { count: steps };
+    searched_in(alloc, shelf, &interlocking, steps, budgets, proof)
 }

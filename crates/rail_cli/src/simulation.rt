@@ -21,11 +21,11 @@ use crate::reading::{admit, fetch};
 use crate::refusals::{ended, plan_refused};
 use crate::reply::Reply;
 use crate::status::Status;
+use interlocking::Interlocking;
 use plan_run::simulate;
 use rail_base::design::Design;
 use rail_base::history::Verdict;
 use rail_base::plan::Plan;
-use rail_base::route::RouteTable;
 use rail_outside::Shelf;
 use rail_plan::fault::PlanFault;
 use rail_plan::reading::read_plan;
@@ -33,22 +33,15 @@ use std::alloc::{AllocError, Global};
 use timetable::timetable_lines;
 
 /// The plan over a design that the bytes spell.
-fn read_steps(
-    alloc: Global,
-    design: &Design,
-    routes: &RouteTable,
-    bytes: &[u8],
-) -> Result<Plan, Ending>
-    requires table { routes.now ≡ routes_of design.now.station }
-    requires few { length routes.now ≤ 2000 }
-    ensures reads { Reads (λ p. p.steps) result (plan_in design.now.station bytes.now) }
+fn read_steps(alloc: Global, interlocking: &Interlocking, bytes: &[u8]) -> Result<Plan, Ending>
+    ensures reads { Reads (λ p. p.steps) result (plan_in interlocking.now.design.station bytes.now) }
     ensures refuses { OnlyRefuses result }
-    ensures runnable { IfOk result (λ p. IsRunnable design.now.station (routes_of design.now.station) 64 p.steps) }
+    ensures runnable { IfOk result (λ p. IsRunnable interlocking.now.design.station (routes_of interlocking.now.design.station) 64 p.steps) }
 {
-    match read_plan(alloc, design, routes, bytes) {
+    match read_plan(alloc, interlocking, bytes) {
         Ok(plan) => Ok(plan),
         Err(PlanFault::Refused { code, place }) => {
-            Err(ended(plan_refused(alloc, design, code, place)))
+            Err(ended(plan_refused(alloc, &interlocking.design, code, place)))
         }
         Err(PlanFault::Memory) => Err(Ending::Memory),
     }
@@ -65,22 +58,15 @@ fn status_of(verdict: &Verdict) -> Status
 }
 
 /// The timetable of a plan's run up to the horizon.
-fn show(
-    alloc: Global,
-    design: &Design,
-    routes: &RouteTable,
-    plan: &Plan,
-) -> Result<Reply, AllocError>
-    requires table { routes.now ≡ routes_of design.now.station }
-    requires few { length routes.now ≤ 2000 }
-    requires runnable { IsRunnable design.now.station (routes_of design.now.station) 64 plan.now.steps }
-    ensures shown { IfOk result (λ reply. reply_seen reply ≡ shown design.now.station (shown_by design.now.station plan.now.steps)) }
+fn show(alloc: Global, interlocking: &Interlocking, plan: &Plan) -> Result<Reply, AllocError>
+    requires runnable { IsRunnable interlocking.now.design.station (routes_of interlocking.now.design.station) 64 plan.now.steps }
+    ensures shown { IfOk result (λ reply. reply_seen reply ≡ shown interlocking.now.design.station (shown_by interlocking.now.design.station plan.now.steps)) }
     ensures verdict { IfOk result (λ reply. is_verdict reply.status ≡ true) }
-    ensures exactly { IfOk result (λ reply. (reply.status ≡ Status.Done) ↔ IsFeasible design.now.station 64 plan.now.steps) }
-    ensures safe { OnOk result (RunsSafely design.now.station plan.now.steps) }
+    ensures exactly { IfOk result (λ reply. (reply.status ≡ Status.Done) ↔ IsFeasible interlocking.now.design.station 64 plan.now.steps) }
+    ensures safe { OnOk result (RunsSafely interlocking.now.design.station plan.now.steps) }
 {
-    let verdict = simulate(alloc, design, routes, plan, design.horizon())?;
-    let lines = timetable_lines(alloc, design, &verdict)?;
+    let verdict = simulate(alloc, interlocking, plan, interlocking.design.horizon())?;
+    let lines = timetable_lines(alloc, &interlocking.design, &verdict)?;
     Ok(Reply {
         status: status_of(&verdict),
         lines,
@@ -88,21 +74,14 @@ fn show(
 }
 
 /// The reply for a design and the bytes of a plan.
-fn planned(
-    alloc: Global,
-    design: &Design,
-    routes: &RouteTable,
-    bytes: &[u8],
-) -> Result<Reply, Ending>
-    requires table { routes.now ≡ routes_of design.now.station }
-    requires few { length routes.now ≤ 2000 }
-    ensures replies { Replies result (planned design.now.station bytes.now) }
+fn planned(alloc: Global, interlocking: &Interlocking, bytes: &[u8]) -> Result<Reply, Ending>
+    ensures replies { Replies result (planned interlocking.now.design.station bytes.now) }
     ensures verdict { IfOk result (λ reply. is_verdict reply.status ≡ true) }
     ensures refuses { OnlyRefuses result }
-    ensures decides { IfOk result (λ reply. DecidesPlan design.now.station bytes.now reply.status) }
+    ensures decides { IfOk result (λ reply. DecidesPlan interlocking.now.design.station bytes.now reply.status) }
 {
-    let plan = read_steps(alloc, design, routes, bytes)?;
-    Ok(show(alloc, design, routes, &plan)?)
+    let plan = read_steps(alloc, interlocking, bytes)?;
+    Ok(show(alloc, interlocking, &plan)?)
 }
 
 /// The reply to a simulation, by the names of its files.
@@ -123,7 +102,7 @@ pub(crate) fn simulated<S: Shelf>(
     ensures asks { GrowsByFront (S.asked shelf.old) (S.asked shelf.new) (fetched design.now ∷ fetched plan.now ∷ []) }
 {
     let design_bytes = fetch(alloc, shelf, InputFile::Design, design)?;
-    let (design, routes) = admit(alloc, design_bytes.as_slice())?;
+    let interlocking = admit(alloc, design_bytes.as_slice())?;
     let plan_bytes = fetch(alloc, shelf, InputFile::Plan, plan)?;
-    planned(alloc, &design, &routes, plan_bytes.as_slice())
+    planned(alloc, &interlocking, plan_bytes.as_slice())
 }

@@ -7,11 +7,11 @@ ghost use Rattle.rail_cli.specs.Texts.{usage_line, file_text, limit_of, too_long
 use crate::input::InputFile;
 use crate::names::{section_name, train_name};
 use design_table::{Code, EntryKind, Place};
+use interlocking::Interlocking;
 use log_checker::Reason;
 use plan_text::writing::write_plan;
 use rail_base::design::Design;
 use rail_base::plan::Plan;
-use rail_base::route::RouteTable;
 use rail_base::station::TrainNo;
 use rail_plan::fault::PlanCode;
 use rail_plan::place::PlanPlace;
@@ -220,20 +220,31 @@ pub(crate) fn trial_line(alloc: Global, seed: u64, size: u32) -> Result<Vec<u8>,
 }
 
 /// `nodes <n> edges <e> signals <g> trains <t> routes <r>`
-pub(crate) fn counts_line(
-    alloc: Global,
-    design: &Design,
-    routes: &RouteTable,
-) -> Result<Vec<u8>, AllocError>
-    requires { routes.now ≡ routes_of design.now.station }
-    ensures { IfOk result (λ line. line.items ≡ counts_line design.now.station) }
+pub(crate) fn counts_line(alloc: Global, interlocking: &Interlocking) -> Result<Vec<u8>, AllocError>
+    ensures { IfOk result (λ line. line.items ≡ counts_line interlocking.now.design.station) }
 {
     let mut line = Vec::new(alloc);
-    put_counted(&mut line, b"nodes ", design.station.nodes.len() as u64)?;
-    put_counted(&mut line, b" edges ", design.station.edges.len() as u64)?;
-    put_counted(&mut line, b" signals ", design.station.signals.len() as u64)?;
-    put_counted(&mut line, b" trains ", design.station.trains.len() as u64)?;
-    put_counted(&mut line, b" routes ", routes.len() as u64)?;
+    put_counted(
+        &mut line,
+        b"nodes ",
+        interlocking.design.station.nodes.len() as u64,
+    )?;
+    put_counted(
+        &mut line,
+        b" edges ",
+        interlocking.design.station.edges.len() as u64,
+    )?;
+    put_counted(
+        &mut line,
+        b" signals ",
+        interlocking.design.station.signals.len() as u64,
+    )?;
+    put_counted(
+        &mut line,
+        b" trains ",
+        interlocking.design.station.trains.len() as u64,
+    )?;
+    put_counted(&mut line, b" routes ", interlocking.routes.len() as u64)?;
     line.push(b'\n')?;
     Ok(line)
 }

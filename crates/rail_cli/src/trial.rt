@@ -14,7 +14,7 @@ ghost use Rattle.rail_cli.specs.Searches.{budgets_of};
 ghost use Rattle.rail_cli.specs.Texts.{plan_tick_line};
 
 use crate::ending::Ending;
-use crate::reading::list_routes;
+use crate::reading::interlock;
 use crate::refusals::too_large;
 use crate::reply::Reply;
 use crate::searching::budgets;
@@ -23,10 +23,10 @@ use crate::texts::{
     conflicts_spent_line, counts_line, infeasible_line, log_spent_line, plan_tick_line,
     ticks_spent_line, trial_line,
 };
+use interlocking::{Interlocking, Steps};
 use rail_base::design::Design;
 use rail_base::history::Verdict;
 use rail_base::plan::Plan;
-use rail_base::route::RouteTable;
 use std::alloc::{AllocError, Global};
 use verify_loop::{Outcome, verify};
 use workload::make;
@@ -42,18 +42,16 @@ fn told(
     alloc: Global,
     seed: u64,
     size: u32,
-    design: &Design,
-    routes: &RouteTable,
+    interlocking: &Interlocking,
     status: Status,
     last: Vec<u8>,
 ) -> Result<Reply, AllocError>
-    requires table { routes.now ≡ routes_of design.now.station }
     requires answered { is_answered status ≡ true }
-    ensures { IfOk result (λ reply. reply_seen reply ≡ three_lines seed size design.now.station status last.items) }
+    ensures { IfOk result (λ reply. reply_seen reply ≡ three_lines seed size interlocking.now.design.station status last.items) }
 {
     let mut lines = Vec::new(alloc);
     lines.push(trial_line(alloc, seed, size)?)?;
-    lines.push(counts_line(alloc, design, routes)?)?;
+    lines.push(counts_line(alloc, interlocking)?)?;
     lines.push(last)?;
     Ok(Reply { status, lines })
 }
@@ -88,24 +86,22 @@ fn tell(
     alloc: Global,
     seed: u64,
     size: u32,
-    design: &Design,
-    routes: &RouteTable,
+    interlocking: &Interlocking,
     found: &Outcome,
 ) -> Result<Reply, AllocError>
-    requires table { routes.now ≡ routes_of design.now.station }
     requires high { size ≤ 6 }
-    requires says { Says design.now.station (2 * size) (budgets_of trial_conflicts trial_ticks) found.now }
-    ensures told { IfOk result (λ reply. reply_seen reply ≡ told_trial seed size design.now.station found.now) }
+    requires says { Says interlocking.now.design.station (2 * size) (budgets_of trial_conflicts trial_ticks) found.now }
+    ensures told { IfOk result (λ reply. reply_seen reply ≡ told_trial seed size interlocking.now.design.station found.now) }
     ensures no_usage { IfOk result (λ reply. reply.status ≢ Status.Usage) }
 {
     match found {
         Outcome::Plan { plan, verdict } => {
-            let last = found_line(alloc, design, 2 * size, plan, verdict)?;
-            told(alloc, seed, size, design, routes, Status::Done, last)
+            let last = found_line(alloc, &interlocking.design, 2 * size, plan, verdict)?;
+            told(alloc, seed, size, interlocking, Status::Done, last)
         }
         Outcome::Infeasible { .. } => {
             let last = infeasible_line(alloc, 2 * size)?;
-            told(alloc, seed, size, design, routes, Status::No, last)
+            told(alloc, seed, size, interlocking, Status::No, last)
         }
         Outcome::ConflictsSpent { .. } => {
             let last = conflicts_spent_line(alloc, CONFLICTS)?;
@@ -113,19 +109,18 @@ fn tell(
                 alloc,
                 seed,
                 size,
-                design,
-                routes,
+                interlocking,
                 Status::ConflictsSpent,
                 last,
             )
         }
         Outcome::TicksSpent { sum, .. } => {
             let last = ticks_spent_line(alloc, *sum, TICKS)?;
-            told(alloc, seed, size, design, routes, Status::TicksSpent, last)
+            told(alloc, seed, size, interlocking, Status::TicksSpent, last)
         }
         Outcome::LogSpent { bytes, next, .. } => {
             let last = log_spent_line(alloc, *bytes, *next)?;
-            told(alloc, seed, size, design, routes, Status::LogSpent, last)
+            told(alloc, seed, size, interlocking, Status::LogSpent, last)
         }
         Outcome::TooLarge { .. } => too_large(alloc),
         Outcome::Memory => Err(AllocError),
@@ -137,18 +132,16 @@ fn tried_in(
     alloc: Global,
     seed: u64,
     size: u32,
-    design: &Design,
-    routes: &RouteTable,
+    interlocking: &Interlocking,
 ) -> Result<Reply, AllocError>
-    requires table { routes.now ≡ routes_of design.now.station }
-    requires few { length routes.now ≤ 2000 }
     requires low { 1 ≤ size }
     requires high { size ≤ 6 }
-    ensures told { (found : Outcome) × Says design.now.station (2 * size) (budgets_of trial_conflicts trial_ticks) found × Fits design.now.station (2 * size) found × IfOk result (λ reply. reply_seen reply ≡ told_trial seed size design.now.station found) }
+    ensures told { (found : Outcome) × Says interlocking.now.design.station (2 * size) (budgets_of trial_conflicts trial_ticks) found × Fits interlocking.now.design.station (2 * size) found × IfOk result (λ reply. reply_seen reply ≡ told_trial seed size interlocking.now.design.station found) }
     ensures no_usage { IfOk result (λ reply. reply.status ≢ Status.Usage) }
 {
-    let found = verify(alloc, design, routes, 2 * size, budgets(CONFLICTS, TICKS));
-    tell(alloc, seed, size, design, routes, &found)
+    let steps = Steps { count: 2 * size };
+    let found = verify(alloc, interlocking, steps, budgets(CONFLICTS, TICKS));
+    tell(alloc, seed, size, interlocking, &found)
 }
 
 /// The reply to a trial: the station of the seed and the size, 1 to 6, is searched for a plan of twice as many steps as its
@@ -161,6 +154,6 @@ pub(crate) fn tried(alloc: Global, seed: u64, size: u32) -> Result<Reply, Ending
     ensures refuses { OnlyRefuses result }
 {
     let design = make(alloc, seed, size)?;
-    let routes = list_routes(alloc, &design)?;
-    Ok(tried_in(alloc, seed, size, &design, &routes)?)
+    let interlocking = interlock(alloc, design)?;
+    Ok(tried_in(alloc, seed, size, &interlocking)?)
 }

@@ -5,6 +5,8 @@ use Rattle.rail_base.specs.declared.station.Station.{Station}
 use Rattle.rail_base.specs.declared.station.EdgeNo.{EdgeNo}
 use Rattle.rail_base.specs.declared.station.NodeNo.{NodeNo}
 use Rattle.rail_base.specs.declared.route.Route.{Route}
+use Rattle.rail_base.proofs.Admitting.{admitted}
+use Rattle.interlocking.specs.declared.railway.Interlocking.{Interlocking}
 use Rattle.rail_base.specs.declared.route.RouteNo.{RouteNo}
 use Rattle.rail_base.specs.declared.plan.Command.{Command}
 use Rattle.rail_base.specs.Members.{In}
@@ -94,3 +96,7 @@ module _ (d : Station) (adm : IsAdmitted d) where
       brief = λ r. entry_is (λ (q : Route). length_mm q < 2 ^ 47) no_route (routes_of d) r.0 (omega arith) (λ q m. let s = short_route d adm q m in omega arith);
       few = λ t. let s = short_path d adm n plan formed many t in let e = edges_few (path plan t) in omega arith;
     }
+
+-- the routes of an interlocking are laid
+pub laid_out : (i : Interlocking) → AreLaid i.design.station i.routes
+laid_out i = subst (AreLaid i.design.station) (sym i.table) (laid i.design.station (admitted i.design.station i.design.admitted))

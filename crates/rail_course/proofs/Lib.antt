@@ -5,3 +5,4 @@ pub mod Rises
 pub mod Granting
 pub mod Waiting
 pub mod Coursing
+pub mod Gathering

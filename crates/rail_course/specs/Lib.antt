@@ -6,3 +6,4 @@ pub mod Courses
 pub mod Waits
 pub mod Releases
 pub mod Journeys
+pub mod Itineraries

@@ -1,20 +1,17 @@
 -- What a command waits for: other trains that are to clear the sections that it shares with them.
-use Rattle.std.specs.Prelude.{ℕ, ◌+◌, Bool, ◌&&◌, List, map, fold, max, length, nat_le, nat_lt, sum_by}
+use Rattle.std.specs.Prelude.{◌+◌, Bool, ◌&&◌, List, map, length, nat_le, nat_lt, sum_by}
 use Rattle.rail_base.specs.declared.station.Station.{Station}
 use Rattle.rail_base.specs.declared.station.TrainNo.{TrainNo}
 use Rattle.rail_base.specs.declared.route.Route.{Route}
 use Rattle.rail_base.specs.declared.plan.Command.{Command}
 use Rattle.rail_base.specs.declared.state.TrainState.{TrainState}
 use Rattle.rail_base.specs.Stations.{train_length}
-use Rattle.rail_base.specs.Routes.{route_at, shared, release_offset, length_mm}
+use Rattle.rail_base.specs.Routes.{route_at, length_mm}
 use Rattle.rail_spec.specs.Plans.{path, preceding}
 use Rattle.rail_spec.specs.Dispatches.{state_of}
 use Rattle.rail_spec.specs.Run.{routes_before}
+use Rattle.interlocking.specs.Sections.{last_release}
 use Rattle.rail_course.specs.declared.waits.Wait.{Wait}
-
--- where the first route has released all sections that the second has too
-abbrev pub last_release : Route → Route → ℕ
-last_release r q = fold max 0 (map (release_offset r) (shared r q))
 
 -- the wait is over: the command is granted, and the head of its train is far enough
 abbrev pub is_over : List TrainState → Wait → Bool

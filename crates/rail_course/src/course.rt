@@ -2,16 +2,14 @@
 
 ghost use Rattle.std.specs.Prelude.{◌≡◌, IfOk};
 ghost use Rattle.rail_base.specs.Stations.{IsTrain};
-ghost use Rattle.rail_course.specs.Tracks.{IsInRange};
-ghost use Rattle.rail_course.specs.Courses.{AreCourses, IsCourse};
+ghost use Rattle.rail_course.specs.Itineraries.{AreCoursesIn, IsCourseIn};
 
 use crate::fronts::{Front, fronts_of};
+use crate::itineraries::Itineraries;
 use crate::motor::motor_of;
 use crate::spans::spans_of;
 use crate::stops::{stops_of, visits_of};
-use rail_base::design::Design;
-use rail_base::plan::Plan;
-use rail_base::route::{RouteNo, RouteTable};
+use rail_base::route::RouteNo;
 use rail_base::state::Stop;
 use rail_base::station::TrainNo;
 use rail_motion::{Motor, Span};
@@ -37,49 +35,39 @@ pub struct Course {
     pub visits: Vec<Option<Stop>>,
 }
 
-/// The course of a train.
-fn course_of(
-    alloc: Global,
-    design: &Design,
-    routes: &RouteTable,
-    plan: &Plan,
-    train: TrainNo,
-) -> Result<Course, AllocError>
-    requires range { IsInRange design.now.station routes.now plan.now.steps }
-    requires train { IsTrain design.now.station train }
-    ensures course { IfOk result (IsCourse design.now.station routes.now plan.now.steps) }
-    ensures train { IfOk result (λ c. c.train ≡ train) }
-{
-    let path = path_of(alloc, plan, train)?;
-    let fronts = fronts_of(alloc, routes, &path)?;
-    let spans = spans_of(alloc, design, routes, &path)?;
-    let stops = stops_of(alloc, design, routes, &path)?;
-    let visits = visits_of(alloc, design.train(train).visits.as_slice(), &stops)?;
-    Ok(Course {
-        train,
-        length: u64::from(design.vehicle_of(train).length_mm),
-        motor: motor_of(design, train),
-        path,
-        fronts,
-        spans,
-        stops,
-        visits,
-    })
-}
-
-/// The courses of all trains, in file order.
-pub fn courses_of(
-    alloc: Global,
-    design: &Design,
-    routes: &RouteTable,
-    plan: &Plan,
-) -> Result<Vec<Course>, AllocError>
-    requires { IsInRange design.now.station routes.now plan.now.steps }
-    ensures { IfOk result (λ cs. AreCourses design.now.station routes.now plan.now.steps cs.items) }
-{
-    let mut courses = Vec::new(alloc);
-    for number in 1..design.station.trains.len() as u32 + 1 {
-        courses.push(course_of(alloc, design, routes, plan, TrainNo(number))?)?;
+impl Itineraries<'_> {
+    /// The course of a train.
+    fn course_of(&self, alloc: Global, train: TrainNo) -> Result<Course, AllocError>
+        requires train { IsTrain self.now.interlocking.now.design.station train }
+        ensures course { IfOk result (IsCourseIn self.now) }
+        ensures train { IfOk result (λ c. c.train ≡ train) }
+    {
+        let design = &self.interlocking.design;
+        let path = path_of(alloc, self.plan, train)?;
+        let fronts = fronts_of(alloc, &self.interlocking.routes, &path)?;
+        let spans = spans_of(alloc, self.interlocking, &path)?;
+        let stops = stops_of(alloc, self.interlocking, &path)?;
+        let visits = visits_of(alloc, design.train(train).visits.as_slice(), &stops)?;
+        Ok(Course {
+            train,
+            length: u64::from(design.vehicle_of(train).length_mm),
+            motor: motor_of(design, train),
+            path,
+            fronts,
+            spans,
+            stops,
+            visits,
+        })
     }
-    Ok(courses)
+
+    /// The courses of all trains, in file order.
+    pub fn courses(&self, alloc: Global) -> Result<Vec<Course>, AllocError>
+        ensures { IfOk result (λ cs. AreCoursesIn self.now cs.items) }
+    {
+        let mut courses = Vec::new(alloc);
+        for number in 1..self.interlocking.design.station.trains.len() as u32 + 1 {
+            courses.push(self.course_of(alloc, TrainNo(number))?)?;
+        }
+        Ok(courses)
+    }
 }

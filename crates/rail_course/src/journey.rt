@@ -1,18 +1,16 @@
 //! The journeys of trains.
 
-ghost use Rattle.std.specs.Prelude.{◌≡◌, ◌++◌, All, IfOk, OnOk, map};
-ghost use Rattle.rail_base.specs.Routes.{IsRoute, route_at};
-ghost use Rattle.rail_course.specs.Tracks.{IsInRange};
-ghost use Rattle.rail_course.specs.Courses.{AreCourses, IsCourse};
-ghost use Rattle.rail_course.specs.Releases.{release_for, releases_of_route, releases_of_train};
-ghost use Rattle.rail_course.specs.Journeys.{AreJourneys, IsJourney};
+ghost use Rattle.std.specs.Prelude.{◌≡◌, ◌++◌, IfOk, OnOk};
+ghost use Rattle.rail_base.specs.Routes.{IsRoute};
+ghost use Rattle.rail_base.specs.Stations.{IsTrain};
+ghost use Rattle.rail_course.specs.Itineraries.{AreJourneysIn, releases_in, route_releases_in};
 
 use crate::course::Course;
-use crate::waits::{Wait, place_of, waits_of_train};
-use rail_base::design::Design;
-use rail_base::plan::{Command, Plan};
-use rail_base::route::{RouteNo, RouteTable, route_at};
-use rail_base::station::SectionNo;
+use crate::courses::Courses;
+use crate::waits::Wait;
+use rail_base::plan::Command;
+use rail_base::route::{RouteNo, route_at};
+use rail_base::station::{SectionNo, TrainNo};
 use std::alloc::{AllocError, Global};
 
 /// When a train has released a section of one of its routes.
@@ -36,76 +34,63 @@ pub struct Journey<'a> {
     pub releases: Vec<Release>,
 }
 
-/// Adds the releases of one route of a path.
-fn push_releases(
-    releases: &mut Vec<Release>,
-    design: &Design,
-    routes: &RouteTable,
-    plan: &Plan,
-    course: &Course,
-    number: RouteNo,
-) -> Result<(), AllocError>
-    requires range { IsInRange design.now.station routes.now plan.now.steps }
-    requires course { IsCourse design.now.station routes.now plan.now.steps course.now }
-    requires number { IsRoute routes.now number }
-    ensures { OnOk result (releases.new.items ≡ releases.old.items ++ releases_of_route design.now.station routes.now plan.now.steps course.now.train number) }
-{
-    let command = Command {
-        train: course.train,
-        route: number,
-    };
-    let before = place_of(design, routes, plan, course, command);
-    let route = route_at(routes, number);
-    for part in route.sections.as_slice() {
-        let section = part.0;
-        releases.push(Release {
+impl<'a> Courses<'a> {
+    /// Adds the releases of one route of a train's path.
+    fn push_releases(
+        &self,
+        releases: &mut Vec<Release>,
+        train: TrainNo,
+        number: RouteNo,
+    ) -> Result<(), AllocError>
+        requires train { IsTrain self.now.given.interlocking.now.design.station train }
+        requires number { IsRoute self.now.given.interlocking.now.routes number }
+        ensures { OnOk result (releases.new.items
+            ≡ releases.old.items ++ route_releases_in self.now.given train number) }
+    {
+        let command = Command {
+            train,
             route: number,
-            section,
-            number: before.number,
-            place: before.length + route.release_offset(section) + course.length,
-        })?;
+        };
+        let course = self.course(train);
+        let before = self.place_of(command);
+        let route = route_at(&self.given.interlocking.routes, number);
+        for part in route.sections.as_slice() {
+            let section = part.0;
+            releases.push(Release {
+                route: number,
+                section,
+                number: before.number,
+                place: before.length + route.release_offset(section) + course.length,
+            })?;
+        }
+        Ok(())
     }
-    Ok(())
-}
 
-/// The releases of a train's path.
-fn releases_of_train(
-    alloc: Global,
-    design: &Design,
-    routes: &RouteTable,
-    plan: &Plan,
-    course: &Course,
-) -> Result<Vec<Release>, AllocError>
-    requires range { IsInRange design.now.station routes.now plan.now.steps }
-    requires course { IsCourse design.now.station routes.now plan.now.steps course.now }
-    ensures { IfOk result (λ r. r.items ≡ releases_of_train design.now.station routes.now plan.now.steps course.now.train) }
-{
-    let mut releases = Vec::new(alloc);
-    for number in &course.path {
-        push_releases(&mut releases, design, routes, plan, course, *number)?;
+    /// The releases of a train's path.
+    fn releases_of_train(&self, alloc: Global, train: TrainNo) -> Result<Vec<Release>, AllocError>
+        requires { IsTrain self.now.given.interlocking.now.design.station train }
+        ensures { IfOk result (λ r. r.items ≡ releases_in self.now.given train) }
+    {
+        let mut releases = Vec::new(alloc);
+        let course = self.course(train);
+        for number in &course.path {
+            self.push_releases(&mut releases, train, *number)?;
+        }
+        Ok(releases)
     }
-    Ok(releases)
-}
 
-/// The journeys of all trains, in file order, on their courses.
-pub fn journeys_of<'a>(
-    alloc: Global,
-    design: &Design,
-    routes: &RouteTable,
-    plan: &Plan,
-    courses: &'a [Course],
-) -> Result<Vec<Journey<'a>>, AllocError>
-    requires range { IsInRange design.now.station routes.now plan.now.steps }
-    requires courses { AreCourses design.now.station routes.now plan.now.steps courses.now }
-    ensures { IfOk result (λ js. AreJourneys design.now.station routes.now plan.now.steps js.items) }
-{
-    let mut journeys = Vec::new(alloc);
-    for course in courses {
-        journeys.push(Journey {
-            course,
-            waits: waits_of_train(alloc, design, routes, plan, courses, course)?,
-            releases: releases_of_train(alloc, design, routes, plan, course)?,
-        })?;
+    /// The journeys of all trains, in file order, on their courses.
+    pub fn journeys(&self, alloc: Global) -> Result<Vec<Journey<'a>>, AllocError>
+        ensures { IfOk result (λ js. AreJourneysIn self.now.given js.items) }
+    {
+        let mut journeys = Vec::new(alloc);
+        for course in self.courses {
+            journeys.push(Journey {
+                course,
+                waits: self.waits_of_train(alloc, course.train)?,
+                releases: self.releases_of_train(alloc, course.train)?,
+            })?;
+        }
+        Ok(journeys)
     }
-    Ok(journeys)
 }

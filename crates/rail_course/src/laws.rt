@@ -15,10 +15,13 @@ ghost use Rattle.rail_course.specs.Waits.{is_over, waits_of};
 
 /// The numbers of a well-formed plan over an admitted station are in range.
 pub fn plans_are_in_range()
-    ensures { (d : Station) → IsAdmitted d → (n : ℕ) (plan : List (List Command)) → IsWellFormed d (routes_of d) n plan → length (routes_of d) ≤ 2000 → IsInRange d (routes_of d) plan }
+    ensures { (d : Station) → IsAdmitted d → (n : ℕ) (plan : List (List Command))
+        → IsWellFormed d (routes_of d) n plan → length (routes_of d) ≤ 2000
+        → IsInRange d (routes_of d) plan }
 {}
 
 /// A command may be granted exactly where its waits are over.
 pub fn commands_are_ready_when_their_waits_are_over()
-    ensures { (d : Station) (routes : List Route) (plan : List (List Command)) (s : List TrainState) (c : Command) → is_ready d routes plan s c ≡ list_all (is_over s) (waits_of d routes plan c) }
+    ensures { (d : Station) (routes : List Route) (plan : List (List Command)) (s : List TrainState) (c : Command)
+        → is_ready d routes plan s c ≡ list_all (is_over s) (waits_of d routes plan c) }
 {}

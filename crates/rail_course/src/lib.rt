@@ -2,7 +2,9 @@
 #![tactic(auto)]
 
 mod course;
+mod courses;
 mod fronts;
+mod itineraries;
 mod journey;
 pub mod laws;
 mod motor;
@@ -10,8 +12,10 @@ mod spans;
 mod stops;
 mod waits;
 
-pub use course::{Course, courses_of};
+pub use course::Course;
+pub use courses::Courses;
 pub use fronts::Front;
-pub use journey::{Journey, Release, journeys_of};
+pub use itineraries::Itineraries;
+pub use journey::{Journey, Release};
 pub use stops::{stops_of, visits_of};
-pub use waits::{Wait, wait_for};
+pub use waits::Wait;

@@ -6,11 +6,12 @@ ghost use Rattle.rail_base.specs.Stations.{IsEdge, edge_of, length_of, per_tick_
 ghost use Rattle.rail_base.specs.Routes.{IsRoute};
 ghost use Rattle.rail_spec.specs.Track.{edge_ends};
 ghost use Rattle.rail_spec.specs.Dispatches.{stretch, stretches};
-ghost use Rattle.rail_course.specs.Tracks.{HasLimit, AreLaid, routes_at, way};
+ghost use Rattle.rail_course.specs.Tracks.{HasLimit, routes_at, way};
 
+use interlocking::Interlocking;
 use rail_base::design::Design;
 use rail_base::list::List;
-use rail_base::route::{RouteNo, RouteTable, route_at};
+use rail_base::route::{RouteNo, route_at};
 use rail_base::station::EdgeNo;
 use rail_motion::Span;
 use std::alloc::{AllocError, Global};
@@ -32,7 +33,8 @@ fn push_spans(
 ) -> Result<(), AllocError>
     requires edges { All (HasLimit design.now.station) edges.now }
     requires short { begin + sum_by (length_of design.now.station) edges.now < 2 ^ 47 }
-    ensures { OnOk result (stretches_of spans.new.items ≡ stretches_of spans.old.items ++ map (stretch design.now.station) (edge_ends design.now.station begin edges.now)) }
+    ensures { OnOk result (stretches_of spans.new.items ≡ stretches_of spans.old.items
+        ++ map (stretch design.now.station) (edge_ends design.now.station begin edges.now)) }
 {
     let mut offset = begin;
     for edge in edges.as_slice() {
@@ -48,21 +50,20 @@ fn push_spans(
 /// The spans of routes in a row.
 pub fn spans_of(
     alloc: Global,
-    design: &Design,
-    routes: &RouteTable,
+    interlocking: &Interlocking,
     path: &[RouteNo],
 ) -> Result<Vec<Span>, AllocError>
-    requires named { All (IsRoute routes.now) path.now }
-    requires laid { AreLaid design.now.station routes.now }
-    requires short { way routes.now path.now < 2 ^ 47 }
-    ensures track { IfOk result (λ spans. stretches_of spans.items ≡ stretches design.now.station (routes_at routes.now path.now)) }
+    requires named { All (IsRoute interlocking.now.routes) path.now }
+    requires short { way interlocking.now.routes path.now < 2 ^ 47 }
+    ensures track { IfOk result (λ spans. stretches_of spans.items
+        ≡ stretches interlocking.now.design.station (routes_at interlocking.now.routes path.now)) }
     ensures rising { IfOk result (λ spans. IsRising spans.items) }
 {
     let mut spans = Vec::new(alloc);
     let mut offset: u64 = 0;
     for number in path {
-        let route = route_at(routes, *number);
-        push_spans(&mut spans, design, &route.edges, offset)?;
+        let route = route_at(&interlocking.routes, *number);
+        push_spans(&mut spans, &interlocking.design, &route.edges, offset)?;
         offset += route.length_mm();
     }
     Ok(spans)

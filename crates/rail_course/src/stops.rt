@@ -5,12 +5,12 @@ ghost use Rattle.rail_base.specs.Numbering.{after_first, first_of_list, from_fir
 ghost use Rattle.rail_base.specs.Routes.{IsRoute, route_at};
 ghost use Rattle.rail_spec.specs.Plans.{has_node};
 ghost use Rattle.rail_spec.specs.Visits.{stops, stops_after, visits_at, visits_on};
-ghost use Rattle.rail_course.specs.Tracks.{AreLaid, routes_at, way};
+ghost use Rattle.rail_course.specs.Tracks.{routes_at, way};
 ghost use Rattle.rail_course.specs.Stops.{stop_at};
 
-use rail_base::design::Design;
+use interlocking::Interlocking;
 use rail_base::list::List;
-use rail_base::route::{RouteNo, RouteTable, route_at};
+use rail_base::route::{RouteNo, route_at};
 use rail_base::state::Stop;
 use rail_base::station::NodeNo;
 use std::alloc::{AllocError, Global};
@@ -48,20 +48,19 @@ fn push_stops(
 /// Adds the nodes at the ends of the edges of the routes behind the first, which begin at an offset in mm.
 fn push_stops_after(
     stops: &mut Vec<Stop>,
-    design: &Design,
-    routes: &RouteTable,
+    interlocking: &Interlocking,
     path: &[RouteNo],
     begin: u64,
 ) -> Result<(), AllocError>
-    requires named { All (IsRoute routes.now) path.now }
-    requires laid { AreLaid design.now.station routes.now }
-    requires short { begin + way routes.now path.now < 2 ^ 47 }
-    ensures { OnOk result (stops.new.items ≡ stops.old.items ++ stops_after begin 2 (routes_at routes.now path.now)) }
+    requires named { All (IsRoute interlocking.now.routes) path.now }
+    requires short { begin + way interlocking.now.routes path.now < 2 ^ 47 }
+    ensures { OnOk result (stops.new.items
+        ≡ stops.old.items ++ stops_after begin 2 (routes_at interlocking.now.routes path.now)) }
 {
     let mut offset = begin;
     let mut command: usize = 2;
     for number in path {
-        let route = route_at(routes, *number);
+        let route = route_at(&interlocking.routes, *number);
         push_stops(stops, after_first(route.nodes.as_slice()), offset, command)?;
         offset += route.length_mm();
         command += 1;
@@ -72,40 +71,36 @@ fn push_stops_after(
 /// The nodes of a path of one route or more: that of its start, and that at the end of each edge.
 fn stops_from(
     alloc: Global,
-    design: &Design,
-    routes: &RouteTable,
+    interlocking: &Interlocking,
     first: RouteNo,
     later: &[RouteNo],
 ) -> Result<Vec<Stop>, AllocError>
-    requires first { IsRoute routes.now first }
-    requires later { All (IsRoute routes.now) later.now }
-    requires laid { AreLaid design.now.station routes.now }
-    requires short { way routes.now (first ∷ later.now) < 2 ^ 47 }
-    ensures { IfOk result (λ s. s.items ≡ stops (routes_at routes.now (first ∷ later.now))) }
+    requires first { IsRoute interlocking.now.routes first }
+    requires later { All (IsRoute interlocking.now.routes) later.now }
+    requires short { way interlocking.now.routes (first ∷ later.now) < 2 ^ 47 }
+    ensures { IfOk result (λ s. s.items ≡ stops (routes_at interlocking.now.routes (first ∷ later.now))) }
 {
     let mut stops = Vec::new(alloc);
-    let route = route_at(routes, first);
+    let route = route_at(&interlocking.routes, first);
     push_stops(&mut stops, route.nodes.as_slice(), 0, 1)?;
-    push_stops_after(&mut stops, design, routes, later, route.length_mm())?;
+    push_stops_after(&mut stops, interlocking, later, route.length_mm())?;
     Ok(stops)
 }
 
 /// The nodes of a path.
 pub fn stops_of(
     alloc: Global,
-    design: &Design,
-    routes: &RouteTable,
+    interlocking: &Interlocking,
     path: &[RouteNo],
 ) -> Result<Vec<Stop>, AllocError>
-    requires named { All (IsRoute routes.now) path.now }
-    requires laid { AreLaid design.now.station routes.now }
-    requires short { way routes.now path.now < 2 ^ 47 }
-    ensures { IfOk result (λ s. s.items ≡ stops (routes_at routes.now path.now)) }
+    requires named { All (IsRoute interlocking.now.routes) path.now }
+    requires short { way interlocking.now.routes path.now < 2 ^ 47 }
+    ensures { IfOk result (λ s. s.items ≡ stops (routes_at interlocking.now.routes path.now)) }
 {
     if path.is_empty() {
         return Ok(Vec::new(alloc));
     }
-    stops_from(alloc, design, routes, path[0], &path[1..])
+    stops_from(alloc, interlocking, path[0], &path[1..])
 }
 
 /// Whether a node is one of these.

@@ -1,20 +1,17 @@
 //! What commands wait for.
 
-ghost use Rattle.std.specs.Prelude.{◌≡◌, ◌<◌, ◌≤◌, ◌+◌, ◌^◌, ◌++◌, All, IfOk, OnOk, filter, fold, length, map, max, sum_by};
-ghost use Rattle.rail_base.specs.Routes.{IsRoute, length_mm, route_at};
+ghost use Rattle.std.specs.Prelude.{◌≡◌, ◌<◌, ◌≤◌, ◌^◌, ◌++◌, All, IfOk, OnOk, length, map, sum_by};
+ghost use Rattle.rail_base.specs.Routes.{IsRoute, length_mm};
 ghost use Rattle.rail_base.specs.Stations.{IsTrain};
 ghost use Rattle.rail_base.specs.Numbering.{before_first};
-ghost use Rattle.rail_spec.specs.Plans.{is_route, precedes};
-ghost use Rattle.rail_spec.specs.Run.{routes_before};
-ghost use Rattle.rail_course.specs.Tracks.{IsCommand, IsInRange};
-ghost use Rattle.rail_course.specs.Waits.{last_release, wait_for, waits_of, waits_of_train};
-ghost use Rattle.rail_course.specs.Courses.{AreCourses, IsCourse};
+ghost use Rattle.rail_spec.specs.Plans.{is_route};
+ghost use Rattle.rail_course.specs.Itineraries.{IsCommandIn, before_in};
+ghost use Rattle.rail_course.specs.Itineraries.{step_waits_in, train_waits_in, wait_in, waits_in};
 
-use crate::course::Course;
-use rail_base::design::Design;
+use crate::courses::Courses;
 use rail_base::list::List;
-use rail_base::plan::{Command, Plan};
-use rail_base::route::{Route, RouteNo, RouteTable, route_at};
+use rail_base::plan::Command;
+use rail_base::route::RouteNo;
 use rail_base::station::TrainNo;
 use rail_plan::paths::precedes;
 use std::alloc::{AllocError, Global};
@@ -28,20 +25,6 @@ pub struct Wait {
     pub number: usize,
     /// Where its head is to be, in mm along its path.
     pub place: u64,
-}
-
-/// Where a route has released all sections that another has too, in mm from its start.
-fn last_release(first: &Route, second: &Route) -> u64
-    ensures { result ≡ last_release first.now second.now }
-{
-    first
-        .sections
-        .as_slice()
-        .iter()
-        .map(|part| part.0)
-        .filter(|section| second.has_section(*section))
-        .map(|section| first.release_offset(section))
-        .fold(0, |most, offset| most.max(offset))
 }
 
 /// How many routes stand before one in a path.
@@ -68,123 +51,92 @@ pub(crate) struct Before {
     pub length: u64,
 }
 
-/// The routes before a command on its train's path.
-pub(crate) fn place_of(
-    design: &Design,
-    routes: &RouteTable,
-    plan: &Plan,
-    course: &Course,
-    command: Command,
-) -> Before
-    requires range { IsInRange design.now.station routes.now plan.now.steps }
-    requires course { IsCourse design.now.station routes.now plan.now.steps course.now }
-    requires train { course.now.train ≡ command.train }
-    ensures number { result.number ≡ length (routes_before design.now.station routes.now plan.now.steps command) }
-    ensures length { result.length ≡ sum_by length_mm (routes_before design.now.station routes.now plan.now.steps command) }
-    ensures short { result.length < 2 ^ 47 }
-{
-    let number = number_of(course.path.as_slice(), command.route);
-    let fronts = course.fronts.as_slice();
-    Before {
-        number,
-        length: fronts[number].length,
-    }
-}
-
-/// The wait of a command with a route for another command.
-pub fn wait_for(
-    design: &Design,
-    routes: &RouteTable,
-    plan: &Plan,
-    courses: &[Course],
-    command: Command,
-    other: Command,
-) -> Wait
-    requires range { IsInRange design.now.station routes.now plan.now.steps }
-    requires courses { AreCourses design.now.station routes.now plan.now.steps courses.now }
-    requires command { IsRoute routes.now command.route }
-    requires other { IsCommand design.now.station routes.now other }
-    ensures { result ≡ wait_for design.now.station routes.now plan.now.steps command other }
-{
-    let course = &courses[other.train.0 as usize - 1];
-    let before = place_of(design, routes, plan, course, other);
-    let release = last_release(
-        route_at(routes, other.route),
-        route_at(routes, command.route),
-    );
-    Wait {
-        train: other.train,
-        number: before.number,
-        place: before.length + release + course.length,
-    }
-}
-
-/// Adds the waits of a command for those of a step that precede it.
-fn push_waits(
-    waits: &mut Vec<Wait>,
-    design: &Design,
-    routes: &RouteTable,
-    plan: &Plan,
-    courses: &[Course],
-    command: Command,
-    step: &List<Command>,
-) -> Result<(), AllocError>
-    requires range { IsInRange design.now.station routes.now plan.now.steps }
-    requires courses { AreCourses design.now.station routes.now plan.now.steps courses.now }
-    requires command { IsRoute routes.now command.route }
-    requires step { All (IsCommand design.now.station routes.now) step.now }
-    ensures { OnOk result (waits.new.items ≡ waits.old.items ++ map (wait_for design.now.station routes.now plan.now.steps command) (filter (λ e. precedes routes.now plan.now.steps e command) step.now)) }
-{
-    for other in step.as_slice() {
-        if precedes(routes, plan, *other, command) {
-            waits.push(wait_for(design, routes, plan, courses, command, *other))?;
+impl Courses<'_> {
+    /// The routes before a command on its train's path.
+    pub(crate) fn place_of(&self, command: Command) -> Before
+        requires { IsTrain self.now.given.interlocking.now.design.station command.train }
+        ensures number { result.number ≡ length (before_in self.now.given command) }
+        ensures length { result.length ≡ sum_by length_mm (before_in self.now.given command) }
+        ensures short { result.length < 2 ^ 47 }
+    {
+        let course = self.course(command.train);
+        let number = number_of(course.path.as_slice(), command.route);
+        let fronts = course.fronts.as_slice();
+        Before {
+            number,
+            length: fronts[number].length,
         }
     }
-    Ok(())
-}
 
-/// The waits of a command.
-fn waits_of(
-    alloc: Global,
-    design: &Design,
-    routes: &RouteTable,
-    plan: &Plan,
-    courses: &[Course],
-    command: Command,
-) -> Result<Vec<Wait>, AllocError>
-    requires range { IsInRange design.now.station routes.now plan.now.steps }
-    requires courses { AreCourses design.now.station routes.now plan.now.steps courses.now }
-    requires command { IsRoute routes.now command.route }
-    ensures { IfOk result (λ w. w.items ≡ waits_of design.now.station routes.now plan.now.steps command) }
-{
-    let mut waits = Vec::new(alloc);
-    for step in plan.steps.as_slice() {
-        push_waits(&mut waits, design, routes, plan, courses, command, step)?;
+    /// The wait of a command with a route for another command.
+    pub fn wait_for(&self, command: Command, other: Command) -> Wait
+        requires command { IsRoute self.now.given.interlocking.now.routes command.route }
+        requires other { IsCommandIn self.now.given other }
+        ensures { result ≡ wait_in self.now.given command other }
+    {
+        let course = self.course(other.train);
+        let before = self.place_of(other);
+        let release = self
+            .given
+            .interlocking
+            .last_release(other.route, command.route);
+        Wait {
+            train: other.train,
+            number: before.number,
+            place: before.length + release + course.length,
+        }
     }
-    Ok(waits)
-}
 
-/// The waits of each command of a train's path.
-pub fn waits_of_train(
-    alloc: Global,
-    design: &Design,
-    routes: &RouteTable,
-    plan: &Plan,
-    courses: &[Course],
-    course: &Course,
-) -> Result<Vec<Vec<Wait>>, AllocError>
-    requires range { IsInRange design.now.station routes.now plan.now.steps }
-    requires courses { AreCourses design.now.station routes.now plan.now.steps courses.now }
-    requires course { IsCourse design.now.station routes.now plan.now.steps course.now }
-    ensures { IfOk result (λ w. map (λ v. v.items) w.items ≡ waits_of_train design.now.station routes.now plan.now.steps course.now.train) }
-{
-    let mut waits = Vec::new(alloc);
-    for route in &course.path {
-        let command = Command {
-            train: course.train,
-            route: *route,
-        };
-        waits.push(waits_of(alloc, design, routes, plan, courses, command)?)?;
+    /// Adds the waits of a command for those of a step that precede it.
+    fn push_waits(
+        &self,
+        waits: &mut Vec<Wait>,
+        command: Command,
+        step: &List<Command>,
+    ) -> Result<(), AllocError>
+        requires command { IsRoute self.now.given.interlocking.now.routes command.route }
+        requires step { All (IsCommandIn self.now.given) step.now }
+        ensures { OnOk result (waits.new.items ≡ waits.old.items ++ step_waits_in self.now.given command step.now) }
+    {
+        let given = &self.given;
+        for other in step.as_slice() {
+            if precedes(given.interlocking, given.plan, *other, command) {
+                waits.push(self.wait_for(command, *other))?;
+            }
+        }
+        Ok(())
     }
-    Ok(waits)
+
+    /// The waits of a command.
+    fn waits_of(&self, alloc: Global, command: Command) -> Result<Vec<Wait>, AllocError>
+        requires { IsRoute self.now.given.interlocking.now.routes command.route }
+        ensures { IfOk result (λ w. w.items ≡ waits_in self.now.given command) }
+    {
+        let mut waits = Vec::new(alloc);
+        for step in self.given.plan.steps.as_slice() {
+            self.push_waits(&mut waits, command, step)?;
+        }
+        Ok(waits)
+    }
+
+    /// The waits of each command of a train's path.
+    pub fn waits_of_train(
+        &self,
+        alloc: Global,
+        train: TrainNo,
+    ) -> Result<Vec<Vec<Wait>>, AllocError>
+        requires { IsTrain self.now.given.interlocking.now.design.station train }
+        ensures { IfOk result (λ w. map (λ v. v.items) w.items ≡ train_waits_in self.now.given train) }
+    {
+        let mut waits = Vec::new(alloc);
+        let course = self.course(train);
+        for route in &course.path {
+            let command = Command {
+                train,
+                route: *route,
+            };
+            waits.push(self.waits_of(alloc, command)?)?;
+        }
+        Ok(waits)
+    }
 }

@@ -13,3 +13,4 @@ pub mod TrainNames
 pub mod Seen
 pub mod Json
 pub mod Spelled
+pub mod Overlooked

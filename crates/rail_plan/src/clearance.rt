@@ -9,14 +9,14 @@ ghost use Rattle.rail_spec.specs.Plans.{is_executable, one_each, path_routes, ro
 ghost use Rattle.rail_spec.specs.Feasible.{IsWellFormed};
 ghost use Rattle.rail_plan.specs.Executable.{blocked};
 ghost use Rattle.rail_plan.specs.Named.{HaveRoutes, HaveTrains};
-ghost use Rattle.rail_plan.specs.Ahead.{clears, is_stopped, left_after, stopped, stopped_in, stopped_sections, stops};
+ghost use Rattle.rail_plan.specs.Ahead.{clears, clears_all, is_stopped, is_stopped_over, left_after, stopped, stopped_in, stopped_sections, stops, stops_over};
 
 use crate::formed::first_given;
 use crate::place::PlanPlace;
-use rail_base::design::Design;
+use interlocking::Interlocking;
 use rail_base::list::List;
 use rail_base::plan::{Command, Plan};
-use rail_base::route::{RouteTable, route_at};
+use rail_base::route::{RouteNo, RouteTable, route_at};
 use rail_base::station::{SectionNo, TrainNo};
 
 /// How much of a length is left after the routes that a step gives to a train, or None where one of them exits.
@@ -61,21 +61,20 @@ fn left_after(
 /// Whether these steps give the command's train so much track that it can leave the section.
 #[tactic(auto, using(crate::proofs::Clearing::clearings))]
 fn clears(
-    design: &Design,
-    routes: &RouteTable,
+    interlocking: &Interlocking,
     between: &[List<Command>],
     command: Command,
     section: SectionNo,
 ) -> bool
-    requires train { IsTrain design.now.station command.train }
-    requires route { IsRoute routes.now command.route }
-    requires between { All (HaveRoutes routes.now) between.now }
-    ensures { result ≡ clears design.now.station routes.now between.now command section }
+    requires train { IsTrain interlocking.now.design.station command.train }
+    requires route { IsRoute interlocking.now.routes command.route }
+    requires between { All (HaveRoutes interlocking.now.routes) between.now }
+    ensures { result ≡ clears interlocking.now.design.station interlocking.now.routes between.now command section }
 {
-    let offset = route_at(routes, command.route).release_offset(section);
-    let length = design.vehicle_of(command.train).length_mm;
+    let offset = route_at(&interlocking.routes, command.route).release_offset(section);
+    let length = interlocking.design.vehicle_of(command.train).length_mm;
     match left_after(
-        routes,
+        &interlocking.routes,
         between,
         command.train,
         u128::from(offset) + u128::from(length),
@@ -85,41 +84,128 @@ fn clears(
     }
 }
 
+/// Whether these steps give the command's train so much track that it can leave all sections that its route shares with
+/// another.
+#[tactic(auto, using(crate::proofs::Clearing::clearings))]
+fn clears_all(
+    interlocking: &Interlocking,
+    between: &[List<Command>],
+    command: Command,
+    other: RouteNo,
+) -> bool
+    requires train { IsTrain interlocking.now.design.station command.train }
+    requires route { IsRoute interlocking.now.routes command.route }
+    requires other { IsRoute interlocking.now.routes other }
+    requires between { All (HaveRoutes interlocking.now.routes) between.now }
+    ensures { result ≡ clears_all interlocking.now.design.station interlocking.now.routes between.now command other }
+{
+    let release = interlocking.last_release(command.route, other);
+    let length = interlocking.design.vehicle_of(command.train).length_mm;
+    match left_after(
+        &interlocking.routes,
+        between,
+        command.train,
+        u128::from(release) + u128::from(length),
+    ) {
+        Some(left) => left == 0,
+        None => true,
+    }
+}
+
+/// Whether a command stops another one over a section of that one's route.
+fn stops_over(
+    interlocking: &Interlocking,
+    between: &[List<Command>],
+    stopped: Command,
+    command: Command,
+) -> bool
+    requires stopped { IsRoute interlocking.now.routes stopped.route }
+    requires train { IsTrain interlocking.now.design.station command.train }
+    requires route { IsRoute interlocking.now.routes command.route }
+    requires between { All (HaveRoutes interlocking.now.routes) between.now }
+    ensures { result ≡ stops_over interlocking.now.design.station interlocking.now.routes between.now stopped command }
+{
+    command.train != stopped.train
+        && interlocking.share(command.route, stopped.route)
+        && !clears_all(interlocking, between, command, stopped.route)
+}
+
+/// Whether a command of a step stops another one over a section.
+fn stops_over_in_step(
+    interlocking: &Interlocking,
+    between: &[List<Command>],
+    step: &List<Command>,
+    stopped: Command,
+) -> bool
+    requires stopped { IsRoute interlocking.now.routes stopped.route }
+    requires between { All (HaveRoutes interlocking.now.routes) between.now }
+    requires trains { HaveTrains interlocking.now.design.station step.now }
+    requires routes { HaveRoutes interlocking.now.routes step.now }
+    ensures { result ≡ list_any (stops_over interlocking.now.design.station interlocking.now.routes between.now stopped) step.now }
+{
+    for command in step.as_slice() {
+        if stops_over(interlocking, between, stopped, *command) {
+            return true;
+        }
+    }
+    false
+}
+
+/// Whether a command of the step, or of one of those before it, stops another one over a section.
+fn is_stopped_over(
+    interlocking: &Interlocking,
+    before: &[List<Command>],
+    step: &List<Command>,
+    stopped: Command,
+) -> bool
+    requires stopped { IsRoute interlocking.now.routes stopped.route }
+    requires trains_before { All (HaveTrains interlocking.now.design.station) before.now }
+    requires routes_before { All (HaveRoutes interlocking.now.routes) before.now }
+    requires trains { HaveTrains interlocking.now.design.station step.now }
+    requires routes { HaveRoutes interlocking.now.routes step.now }
+    ensures { result ≡ is_stopped_over interlocking.now.design.station interlocking.now.routes stopped before.now step.now }
+{
+    for (index, earlier) in before.iter().enumerate() {
+        if stops_over_in_step(interlocking, &before[index..], earlier, stopped) {
+            return true;
+        }
+    }
+    stops_over_in_step(interlocking, &[], step, stopped)
+}
+
 /// Whether a command is for another train, has the section and is not so given.
 fn stops(
-    design: &Design,
-    routes: &RouteTable,
+    interlocking: &Interlocking,
     between: &[List<Command>],
     train: TrainNo,
     section: SectionNo,
     command: Command,
 ) -> bool
-    requires train { IsTrain design.now.station command.train }
-    requires route { IsRoute routes.now command.route }
-    requires between { All (HaveRoutes routes.now) between.now }
-    ensures { result ≡ stops design.now.station routes.now between.now train section command }
+    requires train { IsTrain interlocking.now.design.station command.train }
+    requires route { IsRoute interlocking.now.routes command.route }
+    requires between { All (HaveRoutes interlocking.now.routes) between.now }
+    ensures { result ≡ stops interlocking.now.design.station interlocking.now.routes between.now train section command }
 {
     command.train != train
-        && route_at(routes, command.route).has_section(section)
-        && !clears(design, routes, between, command, section)
+        && interlocking.has_section(command.route, section)
+        && !clears(interlocking, between, command, section)
 }
 
 /// Whether a command of a step so stops a train.
 fn stops_in_step(
-    design: &Design,
-    routes: &RouteTable,
+    interlocking: &Interlocking,
     between: &[List<Command>],
     step: &List<Command>,
     train: TrainNo,
     section: SectionNo,
 ) -> bool
-    requires between { All (HaveRoutes routes.now) between.now }
-    requires trains { HaveTrains design.now.station step.now }
-    requires routes { HaveRoutes routes.now step.now }
-    ensures { result ≡ list_any (stops design.now.station routes.now between.now train section) step.now }
+    requires between { All (HaveRoutes interlocking.now.routes) between.now }
+    requires trains { HaveTrains interlocking.now.design.station step.now }
+    requires routes { HaveRoutes interlocking.now.routes step.now }
+    ensures { result ≡ list_any (stops interlocking.now.design.station interlocking.now.routes between.now train section) step.now }
 {
     for command in step.as_slice() {
-        if stops(design, routes, between, train, section, *command) {
+        if stops(interlocking, between, train, section, *command) {
             return true;
         }
     }
@@ -128,67 +214,89 @@ fn stops_in_step(
 
 /// Whether a command of the step, or of one of those before it, stops a train over a section.
 fn is_stopped(
-    design: &Design,
-    routes: &RouteTable,
+    interlocking: &Interlocking,
     before: &[List<Command>],
     step: &List<Command>,
     train: TrainNo,
     section: SectionNo,
 ) -> bool
-    requires trains_before { All (HaveTrains design.now.station) before.now }
-    requires routes_before { All (HaveRoutes routes.now) before.now }
-    requires trains { HaveTrains design.now.station step.now }
-    requires routes { HaveRoutes routes.now step.now }
-    ensures { result ≡ is_stopped design.now.station routes.now train section before.now step.now }
+    requires trains_before { All (HaveTrains interlocking.now.design.station) before.now }
+    requires routes_before { All (HaveRoutes interlocking.now.routes) before.now }
+    requires trains { HaveTrains interlocking.now.design.station step.now }
+    requires routes { HaveRoutes interlocking.now.routes step.now }
+    ensures { result ≡ is_stopped interlocking.now.design.station interlocking.now.routes train section before.now step.now }
 {
     for (index, earlier) in before.iter().enumerate() {
-        if stops_in_step(design, routes, &before[index..], earlier, train, section) {
+        if stops_in_step(interlocking, &before[index..], earlier, train, section) {
             return true;
         }
     }
-    stops_in_step(design, routes, &[], step, train, section)
+    stops_in_step(interlocking, &[], step, train, section)
 }
 
 /// The first section, in the order of its route, over which a command of the step is stopped.
-fn stopped_section(
-    design: &Design,
-    routes: &RouteTable,
+fn first_stopped(
+    interlocking: &Interlocking,
     before: &[List<Command>],
     step: &List<Command>,
     command: Command,
 ) -> Option<SectionNo>
-    requires trains_before { All (HaveTrains design.now.station) before.now }
-    requires routes_before { All (HaveRoutes routes.now) before.now }
-    requires trains { HaveTrains design.now.station step.now }
-    requires routes { HaveRoutes routes.now step.now }
-    requires route { IsRoute routes.now command.route }
-    ensures { result ≡ first_of_list (stopped_sections design.now.station routes.now before.now step.now command) }
+    requires trains_before { All (HaveTrains interlocking.now.design.station) before.now }
+    requires routes_before { All (HaveRoutes interlocking.now.routes) before.now }
+    requires trains { HaveTrains interlocking.now.design.station step.now }
+    requires routes { HaveRoutes interlocking.now.routes step.now }
+    requires route { IsRoute interlocking.now.routes command.route }
+    ensures { result ≡ first_of_list (stopped_sections interlocking.now.design.station interlocking.now.routes before.now step.now command) }
 {
-    for part in route_at(routes, command.route).sections.as_slice() {
-        if is_stopped(design, routes, before, step, command.train, part.0) {
+    for part in route_at(&interlocking.routes, command.route)
+        .sections
+        .as_slice()
+    {
+        if is_stopped(interlocking, before, step, command.train, part.0) {
             return Some(part.0);
         }
     }
     None
 }
 
+/// The first section, in the order of its route, over which a command of the step is stopped. Each is looked at only where
+/// there is one.
+fn stopped_section(
+    interlocking: &Interlocking,
+    before: &[List<Command>],
+    step: &List<Command>,
+    command: Command,
+) -> Option<SectionNo>
+    requires trains_before { All (HaveTrains interlocking.now.design.station) before.now }
+    requires routes_before { All (HaveRoutes interlocking.now.routes) before.now }
+    requires trains { HaveTrains interlocking.now.design.station step.now }
+    requires routes { HaveRoutes interlocking.now.routes step.now }
+    requires route { IsRoute interlocking.now.routes command.route }
+    ensures { result ≡ first_of_list (stopped_sections interlocking.now.design.station interlocking.now.routes before.now step.now command) }
+{
+    if is_stopped_over(interlocking, before, step, command) {
+        first_stopped(interlocking, before, step, command)
+    } else {
+        None
+    }
+}
+
 /// The first section over which the command that a step has for a train is stopped.
 fn stopped_train(
-    design: &Design,
-    routes: &RouteTable,
+    interlocking: &Interlocking,
     before: &[List<Command>],
     step: &List<Command>,
     train: TrainNo,
 ) -> Option<PlanPlace>
-    requires trains_before { All (HaveTrains design.now.station) before.now }
-    requires routes_before { All (HaveRoutes routes.now) before.now }
-    requires trains { HaveTrains design.now.station step.now }
-    requires routes { HaveRoutes routes.now step.now }
+    requires trains_before { All (HaveTrains interlocking.now.design.station) before.now }
+    requires routes_before { All (HaveRoutes interlocking.now.routes) before.now }
+    requires trains { HaveTrains interlocking.now.design.station step.now }
+    requires routes { HaveRoutes interlocking.now.routes step.now }
     requires each_once { one_each step.now ≡ true }
-    ensures { result ≡ first_of_list (stopped_in design.now.station routes.now before.now step.now train) }
+    ensures { result ≡ first_of_list (stopped_in interlocking.now.design.station interlocking.now.routes before.now step.now train) }
 {
     let route = first_given(step, train)?;
-    let section = stopped_section(design, routes, before, step, Command { train, route })?;
+    let section = stopped_section(interlocking, before, step, Command { train, route })?;
     Some(PlanPlace::Section {
         step: before.len() + 1,
         train,
@@ -198,20 +306,19 @@ fn stopped_train(
 
 /// The first place of a step: by train in file order, and by section.
 fn stopped_step(
-    design: &Design,
-    routes: &RouteTable,
+    interlocking: &Interlocking,
     before: &[List<Command>],
     step: &List<Command>,
 ) -> Option<PlanPlace>
-    requires trains_before { All (HaveTrains design.now.station) before.now }
-    requires routes_before { All (HaveRoutes routes.now) before.now }
-    requires trains { HaveTrains design.now.station step.now }
-    requires routes { HaveRoutes routes.now step.now }
+    requires trains_before { All (HaveTrains interlocking.now.design.station) before.now }
+    requires routes_before { All (HaveRoutes interlocking.now.routes) before.now }
+    requires trains { HaveTrains interlocking.now.design.station step.now }
+    requires routes { HaveRoutes interlocking.now.routes step.now }
     requires each_once { one_each step.now ≡ true }
-    ensures { result ≡ first_of_list (stopped design.now.station routes.now before.now step.now) }
+    ensures { result ≡ first_of_list (stopped interlocking.now.design.station interlocking.now.routes before.now step.now) }
 {
-    for index in 0..design.station.trains.len() {
-        let place = stopped_train(design, routes, before, step, TrainNo(index as u32 + 1));
+    for index in 0..interlocking.design.station.trains.len() {
+        let place = stopped_train(interlocking, before, step, TrainNo(index as u32 + 1));
         if place.is_some() {
             return place;
         }
@@ -220,12 +327,12 @@ fn stopped_step(
 }
 
 /// The first place at which steps can't be carried out after those before them.
-fn first_blocked(design: &Design, routes: &RouteTable, steps: &[List<Command>]) -> Option<PlanPlace>
-    requires { (n : ℕ) × IsWellFormed design.now.station routes.now n steps.now }
-    ensures { result ≡ first_of_list (blocked design.now.station routes.now steps.now) }
+fn first_blocked(interlocking: &Interlocking, steps: &[List<Command>]) -> Option<PlanPlace>
+    requires { (n : ℕ) × IsWellFormed interlocking.now.design.station interlocking.now.routes n steps.now }
+    ensures { result ≡ first_of_list (blocked interlocking.now.design.station interlocking.now.routes steps.now) }
 {
     for (index, step) in steps.iter().enumerate() {
-        let place = stopped_step(design, routes, &steps[..index], step);
+        let place = stopped_step(interlocking, &steps[..index], step);
         if place.is_some() {
             return place;
         }
@@ -235,10 +342,10 @@ fn first_blocked(design: &Design, routes: &RouteTable, steps: &[List<Command>]) 
 
 /// Where a well-formed plan can't be carried out, or None where it can: by step, by train in file order and by
 /// section in the order of the route.
-pub fn executable(design: &Design, routes: &RouteTable, plan: &Plan) -> Option<PlanPlace>
-    requires { (n : ℕ) × IsWellFormed design.now.station routes.now n plan.now.steps }
-    ensures executable { IsNone result ↔ (is_executable design.now.station routes.now plan.now.steps ≡ true) }
-    ensures place { result ≡ first_of_list (blocked design.now.station routes.now plan.now.steps) }
+pub fn executable(interlocking: &Interlocking, plan: &Plan) -> Option<PlanPlace>
+    requires { (n : ℕ) × IsWellFormed interlocking.now.design.station interlocking.now.routes n plan.now.steps }
+    ensures executable { IsNone result ↔ (is_executable interlocking.now.design.station interlocking.now.routes plan.now.steps ≡ true) }
+    ensures place { result ≡ first_of_list (blocked interlocking.now.design.station interlocking.now.routes plan.now.steps) }
 {
-    first_blocked(design, routes, plan.steps.as_slice())
+    first_blocked(interlocking, plan.steps.as_slice())
 }

@@ -12,6 +12,7 @@ ghost use Rattle.rail_plan.specs.Named.{HasRoute, HaveRoutes};
 ghost use Rattle.rail_plan.specs.WellFormed.{is_apart, are_apart, begins_well, is_placed, last_of_list, may_follow, misplaced, placed_badly};
 
 use crate::place::PlanPlace;
+use interlocking::Interlocking;
 use rail_base::design::Design;
 use rail_base::list::List;
 use rail_base::plan::{Command, Plan};
@@ -116,19 +117,18 @@ fn last_given(steps: &[List<Command>], train: TrainNo) -> Option<RouteNo>
 #[tactic(auto, using(crate::proofs::Firsts::lasts))]
 /// Whether the route starts where the train is after these steps.
 fn begins_well(
-    design: &Design,
-    routes: &RouteTable,
+    interlocking: &Interlocking,
     before: &[List<Command>],
     train: TrainNo,
     route: &Route,
 ) -> bool
-    requires train { IsTrain design.now.station train }
-    requires named { All (HaveRoutes routes.now) before.now }
-    ensures { result ≡ begins_well (first_visit (train_of design.now.station train)) (last_of_list (path_routes routes.now before.now train)) route.now }
+    requires train { IsTrain interlocking.now.design.station train }
+    requires named { All (HaveRoutes interlocking.now.routes) before.now }
+    ensures { result ≡ begins_well (first_visit (train_of interlocking.now.design.station train)) (last_of_list (path_routes interlocking.now.routes before.now train)) route.now }
 {
     match last_given(before, train) {
-        Some(last) => goes_on(route_at(routes, last).finish, route.start),
-        None => starts_there(design, train, route.start),
+        Some(last) => goes_on(route_at(&interlocking.routes, last).finish, route.start),
+        None => starts_there(&interlocking.design, train, route.start),
     }
 }
 
@@ -179,36 +179,40 @@ fn are_all_apart(
 #[tactic(auto, using(crate::proofs::Placed::all_apart))]
 /// Whether a train's path may go on with a route after these steps.
 fn may_follow(
-    design: &Design,
-    routes: &RouteTable,
+    interlocking: &Interlocking,
     before: &[List<Command>],
     train: TrainNo,
     route: &Route,
 ) -> bool
-    requires train { IsTrain design.now.station train }
-    requires named { All (HaveRoutes routes.now) before.now }
-    ensures { result ≡ may_follow (train_of design.now.station train) (path_routes routes.now before.now train) route.now }
+    requires train { IsTrain interlocking.now.design.station train }
+    requires named { All (HaveRoutes interlocking.now.routes) before.now }
+    ensures { result ≡ may_follow (train_of interlocking.now.design.station train) (path_routes interlocking.now.routes before.now train) route.now }
 {
-    begins_well(design, routes, before, train, route) && are_all_apart(routes, before, train, route)
+    begins_well(interlocking, before, train, route)
+        && are_all_apart(&interlocking.routes, before, train, route)
 }
 
 /// Whether a train's command in a step is right after the steps before it.
 fn is_placed(
-    design: &Design,
-    routes: &RouteTable,
+    interlocking: &Interlocking,
     before: &[List<Command>],
     step: &List<Command>,
     train: TrainNo,
 ) -> bool
-    requires train { IsTrain design.now.station train }
-    requires before { All (HaveRoutes routes.now) before.now }
-    requires step { HaveRoutes routes.now step.now }
-    ensures { result ≡ is_placed design.now.station routes.now before.now step.now train }
+    requires train { IsTrain interlocking.now.design.station train }
+    requires before { All (HaveRoutes interlocking.now.routes) before.now }
+    requires step { HaveRoutes interlocking.now.routes step.now }
+    ensures { result ≡ is_placed interlocking.now.design.station interlocking.now.routes before.now step.now train }
 {
     match first_given(step, train) {
         Some(route) => {
             count_given(step, train) == 1
-                && may_follow(design, routes, before, train, route_at(routes, route))
+                && may_follow(
+                    interlocking,
+                    before,
+                    train,
+                    route_at(&interlocking.routes, route),
+                )
         }
         None => true,
     }
@@ -217,18 +221,17 @@ fn is_placed(
 /// The first train, in file order, whose command in a step isn't right after the steps before it.
 #[tactic(auto, using(crate::proofs::Firsts::counting))]
 fn misplaced_train(
-    design: &Design,
-    routes: &RouteTable,
+    interlocking: &Interlocking,
     before: &[List<Command>],
     step: &List<Command>,
 ) -> Option<TrainNo>
-    requires before { All (HaveRoutes routes.now) before.now }
-    requires step { HaveRoutes routes.now step.now }
-    ensures { result ≡ first_of_list (filter (λ t. not (is_placed design.now.station routes.now before.now step.now t)) (trains design.now.station)) }
+    requires before { All (HaveRoutes interlocking.now.routes) before.now }
+    requires step { HaveRoutes interlocking.now.routes step.now }
+    ensures { result ≡ first_of_list (filter (λ t. not (is_placed interlocking.now.design.station interlocking.now.routes before.now step.now t)) (trains interlocking.now.design.station)) }
 {
-    for index in 0..design.station.trains.len() {
+    for index in 0..interlocking.design.station.trains.len() {
         let train = TrainNo(index as u32 + 1);
-        if !is_placed(design, routes, before, step, train) {
+        if !is_placed(interlocking, before, step, train) {
             return Some(train);
         }
     }
@@ -236,16 +239,12 @@ fn misplaced_train(
 }
 
 /// The first step and train of the plan whose command isn't right after the steps before it.
-fn first_misplaced(
-    design: &Design,
-    routes: &RouteTable,
-    steps: &[List<Command>],
-) -> Option<PlanPlace>
-    requires { All (HaveRoutes routes.now) steps.now }
-    ensures { result ≡ first_of_list (placed_badly design.now.station routes.now steps.now) }
+fn first_misplaced(interlocking: &Interlocking, steps: &[List<Command>]) -> Option<PlanPlace>
+    requires { All (HaveRoutes interlocking.now.routes) steps.now }
+    ensures { result ≡ first_of_list (placed_badly interlocking.now.design.station interlocking.now.routes steps.now) }
 {
     for (index, step) in steps.iter().enumerate() {
-        if let Some(train) = misplaced_train(design, routes, &steps[..index], step) {
+        if let Some(train) = misplaced_train(interlocking, &steps[..index], step) {
             return Some(PlanPlace::Train {
                 step: index + 1,
                 train,
@@ -256,28 +255,23 @@ fn first_misplaced(
 }
 
 /// The first place at which these steps aren't well formed for `n`.
-fn first_place(
-    design: &Design,
-    routes: &RouteTable,
-    steps: &[List<Command>],
-    n: usize,
-) -> Option<PlanPlace>
-    requires named { All (HaveRoutes routes.now) steps.now }
+fn first_place(interlocking: &Interlocking, steps: &[List<Command>], n: usize) -> Option<PlanPlace>
+    requires named { All (HaveRoutes interlocking.now.routes) steps.now }
     requires small { n < 2 ^ 32 }
-    ensures { result ≡ first_of_list (misplaced design.now.station routes.now n steps.now) }
+    ensures { result ≡ first_of_list (misplaced interlocking.now.design.station interlocking.now.routes n steps.now) }
 {
     if steps.len() > n {
         return Some(PlanPlace::Step { step: n + 1 });
     }
-    first_misplaced(design, routes, steps)
+    first_misplaced(interlocking, steps)
 }
 
 /// Where a plan isn't well formed for `n`, or None where it is: first that it has more than `n` steps, then by step
 /// and by train in file order.
-pub fn well_formed(design: &Design, routes: &RouteTable, plan: &Plan, n: u32) -> Option<PlanPlace>
-    requires { names_only design.now.station routes.now plan.now.steps ≡ true }
-    ensures formed { IsNone result ↔ (is_well_formed design.now.station routes.now n plan.now.steps ≡ true) }
-    ensures place { result ≡ first_of_list (misplaced design.now.station routes.now n plan.now.steps) }
+pub fn well_formed(interlocking: &Interlocking, plan: &Plan, n: u32) -> Option<PlanPlace>
+    requires { names_only interlocking.now.design.station interlocking.now.routes plan.now.steps ≡ true }
+    ensures formed { IsNone result ↔ (is_well_formed interlocking.now.design.station interlocking.now.routes n plan.now.steps ≡ true) }
+    ensures place { result ≡ first_of_list (misplaced interlocking.now.design.station interlocking.now.routes n plan.now.steps) }
 {
-    first_place(design, routes, plan.steps.as_slice(), n as usize)
+    first_place(interlocking, plan.steps.as_slice(), n as usize)
 }

@@ -5,9 +5,10 @@ ghost use Rattle.std.specs.List.{list_any};
 ghost use Rattle.rail_base.specs.Routes.{IsRoute};
 ghost use Rattle.rail_spec.specs.Plans.{contend, is_command, path, precedes, routes_given, step_of};
 
+use interlocking::Interlocking;
 use rail_base::list::List;
 use rail_base::plan::{Command, Plan};
-use rail_base::route::{RouteNo, RouteTable, route_at};
+use rail_base::route::RouteNo;
 use rail_base::station::TrainNo;
 use std::alloc::{AllocError, Global};
 
@@ -60,20 +61,19 @@ pub fn step_of(plan: &Plan, command: Command) -> usize
 }
 
 /// Whether two commands are of different trains and share a section.
-pub fn contend(routes: &RouteTable, first: Command, second: Command) -> bool
-    requires first { IsRoute routes.now first.route }
-    requires second { IsRoute routes.now second.route }
-    ensures { result ≡ contend routes.now first second }
+pub fn contend(interlocking: &Interlocking, first: Command, second: Command) -> bool
+    requires first { IsRoute interlocking.now.routes first.route }
+    requires second { IsRoute interlocking.now.routes second.route }
+    ensures { result ≡ contend interlocking.now.routes first second }
 {
-    first.train != second.train
-        && route_at(routes, first.route).share(route_at(routes, second.route))
+    first.train != second.train && interlocking.share(first.route, second.route)
 }
 
 /// Whether a command contends with another and is given in an earlier step.
-pub fn precedes(routes: &RouteTable, plan: &Plan, first: Command, second: Command) -> bool
-    requires first { IsRoute routes.now first.route }
-    requires second { IsRoute routes.now second.route }
-    ensures { result ≡ precedes routes.now plan.now.steps first second }
+pub fn precedes(interlocking: &Interlocking, plan: &Plan, first: Command, second: Command) -> bool
+    requires first { IsRoute interlocking.now.routes first.route }
+    requires second { IsRoute interlocking.now.routes second.route }
+    ensures { result ≡ precedes interlocking.now.routes plan.now.steps first second }
 {
-    contend(routes, first, second) && step_of(plan, first) < step_of(plan, second)
+    contend(interlocking, first, second) && step_of(plan, first) < step_of(plan, second)
 }

@@ -13,10 +13,9 @@ use crate::names::{command_at, train_names};
 use crate::place::PlanPlace;
 use crate::text::{are_steps, array_of, steps_at};
 use indexmap::IndexSet;
-use rail_base::design::Design;
+use interlocking::Interlocking;
 use rail_base::list::List;
 use rail_base::plan::{Command, Plan};
-use rail_base::route::RouteTable;
 use serde_json::Value;
 use std::alloc::Global;
 
@@ -113,29 +112,27 @@ fn steps_of(value: &Value) -> Option<&[Value]>
 /// The commands of all steps over a design, or the first whose train or route isn't there.
 fn known_steps(
     alloc: Global,
-    design: &Design,
-    routes: &RouteTable,
+    interlocking: &Interlocking,
     values: &[Value],
 ) -> Result<List<List<Command>>, PlanFault>
-    requires { length routes.now < 2 ^ 32 }
-    ensures { Gives (λ steps. steps) result (unless PlanCode.P2 (unread (train_names design.now.station) (length routes.now) (map view values.now)) (Ok (read_steps (train_names design.now.station) (length routes.now) (map view values.now)))) }
+    ensures { Gives (λ steps. steps) result (unless PlanCode.P2 (unread (train_names interlocking.now.design.station) (length interlocking.now.routes) (map view values.now)) (Ok (read_steps (train_names interlocking.now.design.station) (length interlocking.now.routes) (map view values.now)))) }
 {
-    let names = train_names(alloc, design)?;
-    read_steps(alloc, &names, routes.len(), values)
+    let names = train_names(alloc, &interlocking.design)?;
+    read_steps(alloc, &names, interlocking.routes.len(), values)
 }
 
 /// The plan, where it is well formed for 64 and executable.
-fn admit(design: &Design, routes: &RouteTable, plan: Plan) -> Result<Plan, PlanFault>
-    requires { names_only design.now.station routes.now plan.steps ≡ true }
-    ensures { Gives (λ p. p.steps) result (admitted_plan design.now.station routes.now plan.steps) }
+fn admit(interlocking: &Interlocking, plan: Plan) -> Result<Plan, PlanFault>
+    requires { names_only interlocking.now.design.station interlocking.now.routes plan.steps ≡ true }
+    ensures { Gives (λ p. p.steps) result (admitted_plan interlocking.now.design.station interlocking.now.routes plan.steps) }
 {
-    if let Some(place) = well_formed(design, routes, &plan, MOST_STEPS) {
+    if let Some(place) = well_formed(interlocking, &plan, MOST_STEPS) {
         return Err(PlanFault::Refused {
             code: PlanCode::P3,
             place,
         });
     }
-    match executable(design, routes, &plan) {
+    match executable(interlocking, &plan) {
         Some(place) => Err(PlanFault::Refused {
             code: PlanCode::P4,
             place,
@@ -145,19 +142,13 @@ fn admit(design: &Design, routes: &RouteTable, plan: Plan) -> Result<Plan, PlanF
 }
 
 /// The plan that a value spells, or the first refusal.
-fn plan_at(
-    alloc: Global,
-    design: &Design,
-    routes: &RouteTable,
-    value: &Value,
-) -> Result<Plan, PlanFault>
-    requires { length routes.now < 2 ^ 32 }
-    ensures { Gives (λ p. p.steps) result (plan_of_text design.now.station routes.now (text_steps (view value.now))) }
+fn plan_at(alloc: Global, interlocking: &Interlocking, value: &Value) -> Result<Plan, PlanFault>
+    ensures { Gives (λ p. p.steps) result (plan_of_text interlocking.now.design.station interlocking.now.routes (text_steps (view value.now))) }
 {
     match steps_of(value) {
         Some(steps) => {
-            let steps = known_steps(alloc, design, routes, steps)?;
-            admit(design, routes, Plan { steps })
+            let steps = known_steps(alloc, interlocking, steps)?;
+            admit(interlocking, Plan { steps })
         }
         None => Err(PlanFault::Refused {
             code: PlanCode::P1,
@@ -170,14 +161,12 @@ fn plan_at(
 /// of each the first place. A plan that is read is well formed for 64 and executable.
 pub fn read_plan(
     alloc: Global,
-    design: &Design,
-    routes: &RouteTable,
+    interlocking: &Interlocking,
     bytes: &[u8],
 ) -> Result<Plan, PlanFault>
-    requires { length routes.now < 2 ^ 32 }
-    ensures given { Gives (λ p. p.steps) result (plan_of design.now.station routes.now bytes.now) }
-    ensures runnable { IfOk result (λ p. IsRunnable design.now.station routes.now 64 p.steps) }
+    ensures given { Gives (λ p. p.steps) result (plan_of interlocking.now.design.station interlocking.now.routes bytes.now) }
+    ensures runnable { IfOk result (λ p. IsRunnable interlocking.now.design.station interlocking.now.routes 64 p.steps) }
 {
     let value = value_of(alloc, bytes)?;
-    plan_at(alloc, design, routes, &value)
+    plan_at(alloc, interlocking, &value)
 }

@@ -7,6 +7,7 @@ use Rattle.rail_base.proofs.Members.{list_any_gives, list_any_from}
 use Rattle.rail_base.proofs.Lists.{in_append, in_append_left, in_append_right, pairs_append, pairs_across, pairs_left}
 use Rattle.rail_spec.specs.Track.{has_edge}
 use Rattle.rail_routes.specs.Paths.{HasMark, AreMarked}
+use Rattle.rail_routes.specs.declared.path.Path.{Path}
 
 same-edge : (e g : EdgeNo) → e.0 ≡ g.0 → e ≡ g
 same-edge e g h = ap (λ n. let x : EdgeNo = record { 0 = n } in x) h
@@ -102,3 +103,7 @@ mark-pop es ms e are = record {
 
 pub last-has_mark : (es old : List EdgeNo) (ms : List Bool) (e : EdgeNo) → AreMarked old ms → old ≡ es ++ e ∷ [] → HasMark ms e
 last-has_mark es old ms e are h = are.numbered e (subst (In e) (sym h) (in_append_right e es (e ∷ []) (inl refl)))
+
+-- a path is marked
+pub path_marked : (p : Path) → AreMarked p.edges.items p.marks.items
+path_marked p = record { numbered = p.numbered; once = p.once; marked = p.marked }

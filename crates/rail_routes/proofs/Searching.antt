@@ -1,5 +1,5 @@
 -- What a step of the search leaves of the closed paths that are still to come.
-use Rattle.std.proofs.Common.{◌≡◌, ℕ, zero, suc, ◌+◌, ◌-◌, ◌≤◌, ◌<◌, ◌⊎◌, inl, inr, Bool, true, false, if◌then◌else◌, List, [], ◌∷◌, ◌++◌, flat_map, reverse, take, drop, length, get_or, Option, Some, None, refl, sym, ap, ap₂, subst, ◌∙◌, arith, append_assoc, append-nil, le_refl, add-one, length-append, drop-cons}
+use Rattle.std.proofs.Common.{◌≡◌, ℕ, zero, suc, ◌+◌, ◌-◌, ◌≤◌, ◌<◌, ◌⊎◌, inl, inr, Bool, true, false, if◌then◌else◌, List, [], ◌∷◌, ◌++◌, flat_map, reverse, take, drop, length, get_or, Option, Some, None, refl, sym, ap, ap₂, subst, ◌∙◌, arith, append_assoc, append-nil, le_refl, add-one, length-append, drop-cons, Result, Ok, Err, OnOk, OnErr}
 use Rattle.std.proofs.lemmas.List.{take-append-le, reverse-append, length-take-le}
 use Rattle.std.proofs.lemmas.Grind.{flat_map-append}
 use Rattle.std.proofs.Math.Seq.{take-length}
@@ -10,7 +10,7 @@ use Rattle.rail_base.specs.declared.station.EdgeNo.{EdgeNo}
 use Rattle.rail_base.specs.declared.station.SignalNo.{SignalNo}
 use Rattle.rail_base.specs.declared.route.Finish.{Finish}
 use Rattle.rail_base.specs.declared.route.Finish.TheVariants as finish
-use Rattle.rail_base.specs.Members.{In, Pairs}
+use Rattle.rail_base.specs.Members.{In}
 use Rattle.rail_base.specs.Stations.{is_end, through, edge_of, node_of, leave, far_end, IsEdge, IsNode}
 use Rattle.rail_base.specs.Admitted.{IsAdmitted}
 use Rattle.rail_base.proofs.Contained.{in_at}
@@ -21,8 +21,8 @@ use Rattle.rail_spec.proofs.RouteLaws.{few_edges}
 use Rattle.rail_routes.specs.declared.search.Level.{Level}
 use Rattle.rail_routes.specs.declared.search.Search.{Search}
 use Rattle.rail_routes.specs.declared.path.Path.{Path}
-use Rattle.rail_routes.specs.Paths.{AreMarked, IsMarked}
-use Rattle.rail_routes.specs.Pending.{over, at_level, pending, IsOpen, IsSearch}
+use Rattle.rail_routes.specs.Levels.{IsOpen, AreOpen, AreNested}
+use Rattle.rail_routes.specs.Pending.{over, at_level, pending, station_of}
 use Rattle.rail_routes.specs.Walks.{AreEdges}
 
 -- ---- lists from their end
@@ -91,8 +91,8 @@ module _ (d : Station) where
   pub at_leave : (end : End) (k : ℕ) (x : EdgeNo) → k < length (leave d end) → x ≡ get_or (leave d end) k x → IsEdge d x
   at_leave end k x h e = (at_from_leave d end x (subst (λ y. In y (leave d end)) (sym e) (in_at (leave d end) k x h))).0
 
-  pub few : (es : List EdgeNo) (ms : List Bool) → AreMarked es ms → length ms ≡ length d.edges → length es ≤ length d.edges
-  few es ms are many = few_edges d es are.once (λ e m. let h = are.numbered e m in (h.0, let u = h.1 in omega arith))
+  pub few : (p : Path) → length p.marks.items ≡ length d.edges → length p.edges.items ≤ length d.edges
+  few p many = few_edges d p.edges.items p.once (λ e m. let h = p.numbered e m in (h.0, let u = h.1 in omega arith))
 
   -- ---- what is over an edge
 
@@ -152,38 +152,49 @@ module _ (d : Station) where
 
   -- ---- an edge of a level is taken
 
-  pub search_push : (s t : Search) (l : Level) → IsSearch d s → t.path ≡ s.path → t.levels.items ≡ s.levels.items ++ l ∷ [] → l.after ≡ length s.path.edges.items → IsOpen d (length s.path.edges.items) l → IsSearch d t
-  search_push s t l is p e here some = record {
-    marked = subst IsMarked (sym p) is.marked;
-    marks = ap (λ (q : Path). length q.marks.items) p ∙ is.marks;
-    levels = λ k m. subst (λ (q : Path). IsOpen d (length q.edges.items) k) (sym p) (each k (in_append k s.levels.items (l ∷ []) (subst (In k) e m)));
-    nested = subst (Pairs (λ (j k : Level). j.after ≤ k.after)) (sym e) (pairs_append (λ (j k : Level). j.after ≤ k.after) s.levels.items (l ∷ []) is.nested (λ y m. absurd m, tt) across);
+  -- the levels are open, each at least as far along the path as those before it
+  pub record AreLevels (n : ℕ) (ls : List Level) : Type 0 where
+    pub tried : AreOpen d n ls
+    pub nested : AreNested ls
+
+  pub levels_push : (n : ℕ) (ls more : List Level) (l : Level) → AreLevels n ls → more ≡ ls ++ l ∷ [] → l.after ≡ n → IsOpen d n l → AreLevels n more
+  levels_push n ls more l is e here some = record {
+    tried = λ k m. each k (in_append k ls (l ∷ []) (subst (In k) e m));
+    nested = subst AreNested (sym e) (pairs_append (λ (j k : Level). j.after ≤ k.after) ls (l ∷ []) is.nested (λ y m. absurd m, tt) across);
   }
     where
-      each : (k : Level) → In k s.levels.items ⊎ In k (l ∷ []) → IsOpen d (length s.path.edges.items) k
-      each k (inl m) = is.levels k m
-      each k (inr (inl same)) = subst (IsOpen d (length s.path.edges.items)) same some
+      each : (k : Level) → In k ls ⊎ In k (l ∷ []) → IsOpen d n k
+      each k (inl m) = is.tried k m
+      each k (inr (inl same)) = subst (IsOpen d n) same some
       each k (inr (inr m)) = absurd m
 
-      across : (j k : Level) → In j s.levels.items → In k (l ∷ []) → j.after ≤ k.after
-      across j k m (inl same) = let o = (is.levels j m).on_path in let a = ap (λ (x : Level). x.after) same in omega arith
+      across : (j k : Level) → In j ls → In k (l ∷ []) → j.after ≤ k.after
+      across j k m (inl same) = let o = (is.tried j m).on_path in let a = ap (λ (x : Level). x.after) same in omega arith
       across j k m (inr n) = absurd n
 
-  pub taken_some : (s t : Search) (l : Level) (e : EdgeNo) → t.path ≡ s.path → t.levels.items ≡ s.levels.items ++ record l { tried = l.tried + 1 } ∷ [] → l.after ≡ length s.path.edges.items → l.tried < length (leave d l.from) → e ≡ get_or (leave d l.from) l.tried e
-      → over d (length d.edges - length s.path.edges.items) s.path.edges.items l.from e ++ pending d t.path.edges.items t.levels.items ≡ at_level d s.path.edges.items l ++ pending d s.path.edges.items s.levels.items
-  taken_some s t l e p h here some is =
-      let first = over d (length d.edges - length s.path.edges.items) s.path.edges.items l.from e in
-      let rest = at_level d s.path.edges.items (record l { tried = l.tried + 1 }) in
-      ap (λ cs. first ++ cs) (ap₂ (λ (q : Path) ls. pending d q.edges.items ls) p h ∙ pending_push s.path.edges.items s.levels.items (record l { tried = l.tried + 1 }))
-      ∙ sym (append_assoc first rest (pending d s.path.edges.items s.levels.items))
-      ∙ ap (λ cs. cs ++ pending d s.path.edges.items s.levels.items) (sym (level_next s.path.edges.items l e here some is))
+  -- also where it is not known whether there was room for one more
+  pub levels_pushed : (n : ℕ) (b : Bool) (ls more : List Level) (l : Level) → AreLevels n ls → more ≡ (if b then ls ++ l ∷ [] else ls) → l.after ≡ n → IsOpen d n l → AreLevels n more
+  levels_pushed n true ls more l is e here some = levels_push n ls more l is e here some
+  levels_pushed n false ls more l is e here some = subst (AreLevels n) (sym e) is
 
-  pub taken_last : (s t : Search) (l : Level) (e : EdgeNo) → t ≡ s → l.after ≡ length s.path.edges.items → l.tried < length (leave d l.from) → length (leave d l.from) ≤ l.tried + 1 → e ≡ get_or (leave d l.from) l.tried e
-      → over d (length d.edges - length s.path.edges.items) s.path.edges.items l.from e ++ pending d t.path.edges.items t.levels.items ≡ at_level d s.path.edges.items l ++ pending d s.path.edges.items s.levels.items
-  taken_last s t l e same here some last is =
-      let first = over d (length d.edges - length s.path.edges.items) s.path.edges.items l.from e in
-      ap (λ (q : Search). first ++ pending d q.path.edges.items q.levels.items) same
-      ∙ ap (λ cs. cs ++ pending d s.path.edges.items s.levels.items) (sym (level_next s.path.edges.items l e here some is ∙ ap (λ cs. first ++ cs) (level_done s.path.edges.items (record l { tried = l.tried + 1 }) last) ∙ append-nil first))
+  pub levels_longer : (m n : ℕ) (ls : List Level) → m ≤ n → AreLevels m ls → AreLevels n ls
+  levels_longer m n ls more is = record { tried = λ l i. open_longer m n l more (is.tried l i); nested = is.nested }
+
+  pub taken_some : (p q : Path) (ls more : List Level) (l : Level) (e : EdgeNo) → q ≡ p → more ≡ ls ++ record l { tried = l.tried + 1 } ∷ [] → l.after ≡ length p.edges.items → l.tried < length (leave d l.from) → e ≡ get_or (leave d l.from) l.tried e
+      → over d (length d.edges - length p.edges.items) p.edges.items l.from e ++ pending d q.edges.items more ≡ at_level d p.edges.items l ++ pending d p.edges.items ls
+  taken_some p q ls more l e same h here some is =
+      let first = over d (length d.edges - length p.edges.items) p.edges.items l.from e in
+      let rest = at_level d p.edges.items (record l { tried = l.tried + 1 }) in
+      ap (λ cs. first ++ cs) (ap₂ (λ (q : Path) ls. pending d q.edges.items ls) same h ∙ pending_push p.edges.items ls (record l { tried = l.tried + 1 }))
+      ∙ sym (append_assoc first rest (pending d p.edges.items ls))
+      ∙ ap (λ cs. cs ++ pending d p.edges.items ls) (sym (level_next p.edges.items l e here some is))
+
+  pub taken_last : (p q : Path) (ls more : List Level) (l : Level) (e : EdgeNo) → q ≡ p → more ≡ ls → l.after ≡ length p.edges.items → l.tried < length (leave d l.from) → length (leave d l.from) ≤ l.tried + 1 → e ≡ get_or (leave d l.from) l.tried e
+      → over d (length d.edges - length p.edges.items) p.edges.items l.from e ++ pending d q.edges.items more ≡ at_level d p.edges.items l ++ pending d p.edges.items ls
+  taken_last p q ls more l e same kept here some last is =
+      let first = over d (length d.edges - length p.edges.items) p.edges.items l.from e in
+      ap₂ (λ (q : Path) ls. first ++ pending d q.edges.items ls) same kept
+      ∙ ap (λ cs. cs ++ pending d p.edges.items ls) (sym (level_next p.edges.items l e here some is ∙ ap (λ cs. first ++ cs) (level_done p.edges.items (record l { tried = l.tried + 1 }) last) ∙ append-nil first))
 
   -- ---- the path goes over an edge
 
@@ -206,49 +217,59 @@ module _ (d : Station) where
 
   -- ---- the innermost level is taken off
 
-  last_open : (s : Search) (rest : List Level) (l : Level) → IsSearch d s → s.levels.items ≡ rest ++ l ∷ [] → IsOpen d (length s.path.edges.items) l
-  last_open s rest l is e = is.levels l (subst (In l) (sym e) (in_append_right l rest (l ∷ []) (inl refl)))
+  last_open : (path : List EdgeNo) (ls rest : List Level) (l : Level) → AreLevels (length path) ls → ls ≡ rest ++ l ∷ [] → IsOpen d (length path) l
+  last_open path ls rest l is e = is.tried l (subst (In l) (sym e) (in_append_right l rest (l ∷ []) (inl refl)))
 
-  rest_before : (s : Search) (rest : List Level) (l : Level) → IsSearch d s → s.levels.items ≡ rest ++ l ∷ [] → (k : Level) → In k rest → k.after ≤ l.after
-  rest_before s rest l is e k m = pairs_across (λ (j k : Level). j.after ≤ k.after) rest (l ∷ []) (subst (Pairs (λ (j k : Level). j.after ≤ k.after)) e is.nested) k l m (inl refl)
+  rest_before : (path : List EdgeNo) (ls rest : List Level) (l : Level) → AreLevels (length path) ls → ls ≡ rest ++ l ∷ [] → (k : Level) → In k rest → k.after ≤ l.after
+  rest_before path ls rest l is e k m = pairs_across (λ (j k : Level). j.after ≤ k.after) rest (l ∷ []) (subst AreNested e is.nested) k l m (inl refl)
 
-  pub popped_fewer : (s : Search) (rest : List Level) (l : Level) → IsSearch d s → s.levels.items ≡ rest ++ l ∷ [] → l.after ≤ length s.path.edges.items
-  popped_fewer s rest l is e = (last_open s rest l is e).on_path
+  pub popped_fewer : (path : List EdgeNo) (ls rest : List Level) (l : Level) → AreLevels (length path) ls → ls ≡ rest ++ l ∷ [] → l.after ≤ length path
+  popped_fewer path ls rest l is e = (last_open path ls rest l is e).on_path
 
-  pub popped_here : (s : Search) (short : List EdgeNo) (rest : List Level) (l : Level) → IsSearch d s → s.levels.items ≡ rest ++ l ∷ [] → short ≡ take l.after s.path.edges.items → l.after ≡ length short
-  popped_here s short rest l is e cut = sym (ap length cut ∙ length-take-le l.after s.path.edges.items (popped_fewer s rest l is e))
+  pub popped_here : (path short : List EdgeNo) (ls rest : List Level) (l : Level) → AreLevels (length path) ls → ls ≡ rest ++ l ∷ [] → short ≡ take l.after path → l.after ≡ length short
+  popped_here path short ls rest l is e cut = sym (ap length cut ∙ length-take-le l.after path (popped_fewer path ls rest l is e))
 
-  pub popped_some : (s : Search) (short : List EdgeNo) (rest : List Level) (l : Level) → IsSearch d s → s.levels.items ≡ rest ++ l ∷ [] → short ≡ take l.after s.path.edges.items → IsOpen d (length short) l
-  popped_some s short rest l is e cut =
-      let here = popped_here s short rest l is e cut in
-      record { on_path = omega arith; node = (last_open s rest l is e).node; some = (last_open s rest l is e).some }
+  pub popped_some : (path short : List EdgeNo) (ls rest : List Level) (l : Level) → AreLevels (length path) ls → ls ≡ rest ++ l ∷ [] → short ≡ take l.after path → IsOpen d (length short) l
+  popped_some path short ls rest l is e cut =
+      let here = popped_here path short ls rest l is e cut in
+      record { on_path = omega arith; node = (last_open path ls rest l is e).node; some = (last_open path ls rest l is e).some }
 
-  pub popped_search : (s t : Search) (l : Level) → IsSearch d s → s.levels.items ≡ t.levels.items ++ l ∷ [] → t.path.edges.items ≡ take l.after s.path.edges.items → IsMarked t.path → length t.path.marks.items ≡ length s.path.marks.items → IsSearch d t
-  popped_search s t l is e cut marked marks = record {
-    marked = marked;
-    marks = marks ∙ is.marks;
-    levels = λ k m. each k m (is.levels k (subst (In k) (sym e) (in_append_left k t.levels.items (l ∷ []) m)));
-    nested = pairs_left (λ (j k : Level). j.after ≤ k.after) t.levels.items (l ∷ []) (subst (Pairs (λ (j k : Level). j.after ≤ k.after)) e is.nested);
+  -- the others stay, also on what is left of the path
+  pub popped_levels : (path short : List EdgeNo) (ls rest : List Level) (l : Level) → AreLevels (length path) ls → ls ≡ rest ++ l ∷ [] → short ≡ take l.after path → AreLevels (length short) rest
+  popped_levels path short ls rest l is e cut = record {
+    tried = λ k m. each k m (is.tried k (subst (In k) (sym e) (in_append_left k rest (l ∷ []) m)));
+    nested = pairs_left (λ (j k : Level). j.after ≤ k.after) rest (l ∷ []) (subst AreNested e is.nested);
   }
     where
-      each : (k : Level) → In k t.levels.items → IsOpen d (length s.path.edges.items) k → IsOpen d (length t.path.edges.items) k
+      each : (k : Level) → In k rest → IsOpen d (length path) k → IsOpen d (length short) k
       each k m o =
-          let here = popped_here s t.path.edges.items t.levels.items l is e cut in
-          let before = rest_before s t.levels.items l is e k m in
+          let here = popped_here path short ls rest l is e cut in
+          let before = rest_before path ls rest l is e k m in
           record { on_path = omega arith; node = o.node; some = o.some }
 
-  pub popped_same : (s : Search) (short : List EdgeNo) (rest : List Level) (l : Level) → IsSearch d s → s.levels.items ≡ rest ++ l ∷ [] → short ≡ take l.after s.path.edges.items
-      → at_level d short l ++ pending d short rest ≡ pending d s.path.edges.items s.levels.items
-  popped_same s short rest l is e cut =
-      let path = s.path.edges.items in
+  pub popped_same : (path short : List EdgeNo) (ls rest : List Level) (l : Level) → AreLevels (length path) ls → ls ≡ rest ++ l ∷ [] → short ≡ take l.after path
+      → at_level d short l ++ pending d short rest ≡ pending d path ls
+  popped_same path short ls rest l is e cut =
       ap (λ p. at_level d p l ++ pending d p rest) cut
-      ∙ ap₂ (λ a b. a ++ b) (same_front (take l.after path) path l (take-shorter l.after l.after path (le_refl l.after))) (pending_shorter path l.after rest (rest_before s rest l is e))
+      ∙ ap₂ (λ a b. a ++ b) (same_front (take l.after path) path l (take-shorter l.after l.after path (le_refl l.after))) (pending_shorter path l.after rest (rest_before path ls rest l is e))
       ∙ sym (pending_push path rest l) ∙ ap (pending d path) (sym e)
 
-  -- ---- the edges of the path
+-- ---- the edges of the path
 
-  pub are_edges : (s : Search) (path : List EdgeNo) → IsSearch d s → path ≡ s.path.edges.items → AreEdges d path
-  are_edges s path is same = subst (AreEdges d) (sym same) (record {
-    numbered = λ e m. let h = is.marked.numbered e m in (h.0, let u = h.1 in let k = is.marks in omega arith);
-    few = few s.path.edges.items s.path.marks.items is.marked is.marks;
-  })
+pub levels_of : (s : Search) → AreLevels (station_of s) (length s.path.edges.items) s.levels.items
+levels_of s = record { tried = s.tried; nested = s.nested }
+
+-- of a call that says what holds after it, the one or the other
+pub on_either : {X E : Type 0} (r : Result X E) (P Q : Type 0) → OnOk r P → OnErr r Q → P ⊎ Q
+on_either (Ok x) P Q p q = inl p
+on_either (Err e) P Q p q = inr q
+
+-- searches along one track are of one station
+pub station_same : (s t : Search) → s.track ≡ t.track → station_of s ≡ station_of t
+station_same s t e = ap (λ r. r.now.design.now.station) e
+
+pub are_edges : (d : Station) (s : Search) (path : List EdgeNo) → station_of s ≡ d → path ≡ s.path.edges.items → AreEdges d path
+are_edges d s path of same = subst (λ d. AreEdges d path) of (subst (AreEdges (station_of s)) (sym same) (record {
+  numbered = λ e m. let h = s.path.numbered e m in (h.0, let u = h.1 in let k = s.marks in omega arith);
+  few = few (station_of s) s.path s.marks;
+}))

@@ -1,9 +1,8 @@
 -- The closed paths that a search has still to come to.
-use Rattle.std.specs.Prelude.{◌≡◌, ℕ, ◌+◌, ◌-◌, ◌≤◌, ◌<◌, if◌then◌else◌, List, [], ◌∷◌, ◌++◌, flat_map, reverse, drop, take, length, Option, None, Some}
+use Rattle.std.specs.Prelude.{◌≡◌, ℕ, ◌+◌, ◌-◌, ◌≤◌, if◌then◌else◌, List, [], ◌∷◌, ◌++◌, flat_map, reverse, drop, take, length, Option, None, Some}
 use Rattle.rail_base.specs.declared.station.Station.{Station}
 use Rattle.rail_base.specs.declared.station.End.{End}
 use Rattle.rail_base.specs.declared.station.EdgeNo.{EdgeNo}
-use Rattle.rail_base.specs.Members.{In, Pairs}
 use Rattle.rail_base.specs.Stations.{through, far_end, edge_of, leave, IsNode}
 use Rattle.rail_spec.specs.Track.{has_edge, finish_at, Closing, Again, closed_or, closings}
 use Rattle.rail_spec.specs.Track as track
@@ -13,7 +12,7 @@ use Rattle.rail_routes.specs.declared.search.Closed.{Closed}
 use Rattle.rail_routes.specs.declared.search.Closed.TheVariants as closed
 use Rattle.rail_routes.specs.declared.search.Step.{Step}
 use Rattle.rail_routes.specs.declared.search.Step.TheVariants as step
-use Rattle.rail_routes.specs.Paths.{IsMarked}
+use Rattle.rail_routes.specs.Levels.{IsOpen}
 
 -- the closed paths that go on from a path over this edge, at this end, with so many edges after it at most
 abbrev pub over : Station → ℕ → List EdgeNo → End → EdgeNo → List Closing
@@ -31,18 +30,25 @@ at_level d path l = flat_map (over d (length d.edges - l.after) (take l.after pa
 abbrev pub pending : Station → List EdgeNo → List Level → List Closing
 pending d path levels = flat_map (at_level d path) (reverse levels)
 
--- a level is on the path, and has an edge to try
-pub record IsOpen (d : Station) (edges : ℕ) (l : Level) : Type 0 where
-  pub on_path : l.after ≤ edges
-  pub node : IsNode d l.from.node
-  pub some : l.tried < length (leave d l.from)
+-- the station whose paths are searched
+abbrev pub station_of : Search → Station
+station_of s = s.track.now.design.now.station
 
--- the search marks its path, and its levels are open, each at least as far along the path as those before it
-pub record IsSearch (d : Station) (s : Search) : Type 0 where
-  pub marked : IsMarked s.path
-  pub marks : length s.path.marks.items ≡ length d.edges
-  pub levels : (l : Level) → In l s.levels.items → IsOpen d (length s.path.edges.items) l
-  pub nested : Pairs (λ (k l : Level). k.after ≤ l.after) s.levels.items
+-- the closed paths that the search has still to come to
+abbrev pub to_come : Search → List Closing
+to_come s = pending (station_of s) s.path.edges.items s.levels.items
+
+-- those that go on from its path over the edges that a level has still to try
+abbrev pub going_on : Search → Level → List Closing
+going_on s l = at_level (station_of s) s.path.edges.items l
+
+-- those that go on from its path over this edge, at this end
+abbrev pub going_over : Search → End → EdgeNo → List Closing
+going_over s end e = over (station_of s) (length (station_of s).edges - length s.path.edges.items) s.path.edges.items end e
+
+-- the level is at the end of its path, and has an edge to try
+abbrev pub IsInnermost : Search → Level → Type 0
+IsInnermost s l = (l.after ≡ length s.path.edges.items) × IsOpen (station_of s) (length s.path.edges.items) l
 
 -- how the path closes
 abbrev pub closing_of : List EdgeNo → Closed → Closing
@@ -58,6 +64,14 @@ closed_then (Some c) path later = closing_of path c ∷ later
 abbrev pub of_step : Station → List EdgeNo → Step → List Closing
 of_step d path (step.Closed c) = closing_of path c ∷ []
 of_step d path (step.On end) = closings (length d.edges + 1 - length path) d path end
+
+-- the closed paths that come of a step along the search's path
+abbrev pub stepping : Search → Step → List Closing
+stepping s = of_step (station_of s) s.path.edges.items
+
+-- the closed paths from an end
+abbrev pub closings_by : Station → End → List Closing
+closings_by d end = closings (length d.edges + 1) d [] end
 
 -- where the path goes on, some edge is there
 abbrev pub GoesOn : Station → Step → Type 0

@@ -1,8 +1,10 @@
 -- Designs whose routes are listed, and why those of others are refused.
-use Rattle.std.specs.Prelude.{◌≡◌, ℕ, zero, suc, ◌≤◌, List, [], ◌∷◌, Option, None, Some, length}
+use Rattle.std.specs.Prelude.{◌≡◌, ℕ, zero, suc, ◌≤◌, List, [], ◌∷◌, Option, None, Some, flat_map, length}
 use Rattle.rail_base.specs.declared.station.Station.{Station}
+use Rattle.rail_base.specs.declared.route.Route.{Route}
+use Rattle.rail_base.specs.declared.route.Start.{Start}
 use Rattle.rail_base.specs.Numbering.{first_of_list}
-use Rattle.rail_spec.specs.Track.{Closing, Whole, Again, all_closings, edges_met_again}
+use Rattle.rail_spec.specs.Track.{Closing, Whole, Again, all_closings, closings_from, edges_met_again, route_from}
 use Rattle.rail_routes.specs.declared.fault.RouteFault.{RouteFault}
 use Rattle.rail_routes.specs.declared.fault.RouteFault.TheVariants as fault
 
@@ -16,6 +18,10 @@ abbrev pub HasFault : Station → RouteFault → Type 0
 HasFault d (fault.Again e) = first_of_list (edges_met_again d) ≡ Some e
 HasFault d fault.TooMany = (edges_met_again d ≡ []) × (2001 ≤ length (all_closings d))
 HasFault d fault.Memory = Unit {0}
+
+-- the routes from a start
+abbrev pub routes_from : Station → Start → List Route
+routes_from d s = flat_map (route_from d s) (closings_from d s)
 
 -- what is wrong with closed paths, taken in order, where there is room for so many routes
 abbrev pub fault_of : ℕ → List Closing → Option RouteFault

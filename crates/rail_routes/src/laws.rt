@@ -15,9 +15,11 @@ ghost use Rattle.rail_routes.specs.Refusals.{HasFault, IsListed};
 
 /// A design's routes are listed, or they are refused for one reason: never both, and never for two reasons.
 pub fn designs_have_one_answer()
-    ensures listed_or_refused { (d : Station) → IsListed d ⊎ ((e : EdgeNo) × HasFault d (fault.Again e)) ⊎ HasFault d fault.TooMany }
+    ensures listed_or_refused { (d : Station) →
+        IsListed d ⊎ ((e : EdgeNo) × HasFault d (fault.Again e)) ⊎ HasFault d fault.TooMany }
     ensures not_both { (d : Station) → IsListed d → (x : RouteFault) → x ≢ fault.Memory → HasFault d x → ⊥ }
-    ensures one_reason { (d : Station) (x y : RouteFault) → x ≢ fault.Memory → y ≢ fault.Memory → HasFault d x → HasFault d y → x ≡ y }
+    ensures one_reason { (d : Station) (x y : RouteFault) →
+        x ≢ fault.Memory → y ≢ fault.Memory → HasFault d x → HasFault d y → x ≡ y }
 {}
 
 /// Listed routes are as many as the closed paths, so 2,000 at most.
@@ -28,6 +30,7 @@ pub fn listed_routes_are_few()
 
 /// Routes go over edges of the design, and are at most 40,000 km long.
 pub fn routes_go_over_edges()
-    ensures edges { (d : Station) → IsAdmitted d → (r : Route) → In r (routes_of d) → (e : EdgeNo) → In e r.edges → IsEdge d e }
+    ensures edges { (d : Station) → IsAdmitted d → (r : Route) → In r (routes_of d) →
+        (e : EdgeNo) → In e r.edges → IsEdge d e }
     ensures short { (d : Station) → IsAdmitted d → (r : Route) → In r (routes_of d) → length_mm r ≤ 40000000000 }
 {}

@@ -13,4 +13,4 @@ mod table;
 mod track;
 
 pub use fault::RouteFault;
-pub use table::routes;
+pub use table::interlocking;

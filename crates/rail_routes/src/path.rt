@@ -1,7 +1,10 @@
 //! The path of a search, with a mark at each of its edges.
 
-ghost use Rattle.std.specs.Prelude.{◌≡◌, ◌++◌, ◌∷◌, [], ◌≤◌, ◌<◌, ◌-◌, false, IfOk, OnOk, length, take, vec_len};
+ghost use Rattle.std.specs.Prelude.{◌≡◌, ◌++◌, ◌∷◌, [], ◌≤◌, ◌<◌, ◌-◌, false, IfOk, OnErr, OnOk, length, slice_index_or, take, vec_len};
+ghost use Rattle.rail_base.specs.declared.station.EdgeNo.{EdgeNo};
+ghost use Rattle.rail_base.specs.Members.{Differ, In};
 ghost use Rattle.rail_spec.specs.Track.{has_edge};
+ghost use Rattle.rail_routes.specs.Paths.{differ-prop, HasMark};
 
 use rail_base::station::EdgeNo;
 use std::alloc::{AllocError, Global};
@@ -13,16 +16,17 @@ pub(crate) struct Path {
     pub(crate) edges: Vec<EdgeNo>,
     /// For each edge of the design, whether the path has it.
     pub(crate) marks: Vec<bool>,
+    ghost numbered: { (e : EdgeNo) → In e edges.items → HasMark marks.items e },
+    ghost once: { Differ edges.items } by { differ-prop edges.items },
+    ghost marked: { (e : EdgeNo) → HasMark marks.items e →
+        slice_index_or marks.items (e.0 - 1) false ≡ has_edge edges.items e },
 }
 
 impl Path {
-    ghost use Rattle.rail_routes.specs.Paths.{HasMark, IsMarked};
-
     /// The path without edges, in a design of so many.
     pub(crate) fn new(alloc: Global, edges: usize) -> Result<Path, AllocError>
         ensures empty { IfOk result (λ path. path.edges.items ≡ []) }
         ensures marks { IfOk result (λ path. length path.marks.items ≡ edges) }
-        ensures marked { IfOk result IsMarked }
     {
         Ok(Path {
             edges: Vec::new(alloc),
@@ -39,8 +43,7 @@ impl Path {
 
     /// Whether it has the edge.
     pub(crate) fn has(&self, edge: EdgeNo) -> bool
-        requires marked { IsMarked self.now }
-        requires edge { HasMark self.now.marks.items edge }
+        requires { HasMark self.now.marks.items edge }
         ensures { result ≡ has_edge self.now.edges.items edge }
     {
         self.marks[edge.0 as usize - 1]
@@ -48,12 +51,11 @@ impl Path {
 
     /// Goes on over an edge that it hasn't.
     pub(crate) fn push(&mut self, edge: EdgeNo) -> Result<(), AllocError>
-        requires marked { IsMarked self.old }
         requires edge { HasMark self.old.marks.items edge }
         requires new { has_edge self.old.edges.items edge ≡ false }
-        ensures marked { OnOk result (IsMarked self.new) }
         ensures longer { OnOk result (self.new.edges.items ≡ self.old.edges.items ++ edge ∷ []) }
-        ensures marks { OnOk result (length self.new.marks.items ≡ length self.old.marks.items) }
+        ensures kept { OnErr result (self.new.edges.items ≡ self.old.edges.items) }
+        ensures marks { length self.new.marks.items ≡ length self.old.marks.items }
     {
         self.edges.push(edge)?;
         self.marks[edge.0 as usize - 1] = true;
@@ -62,8 +64,6 @@ impl Path {
 
     /// Goes back over its last edge.
     fn pop(&mut self)
-        requires marked { IsMarked self.old }
-        ensures marked { IsMarked self.new }
         ensures shorter { self.new.edges.items ≡ take (length self.old.edges.items - 1) self.old.edges.items }
         ensures marks { length self.new.marks.items ≡ length self.old.marks.items }
     {
@@ -74,9 +74,7 @@ impl Path {
 
     /// Goes back until it has so many edges.
     pub(crate) fn shorten(&mut self, edges: usize)
-        requires marked { IsMarked self.old }
-        requires fewer { edges ≤ length self.old.edges.items }
-        ensures marked { IsMarked self.new }
+        requires { edges ≤ length self.old.edges.items }
         ensures shorter { self.new.edges.items ≡ take edges self.old.edges.items }
         ensures marks { length self.new.marks.items ≡ length self.old.marks.items }
     {

@@ -4,10 +4,12 @@ ghost use Rattle.std.specs.Prelude.{◌≡◌, ℕ, ◌+◌, ◌≤◌, ◌<◌,
 ghost use Rattle.rail_base.specs.declared.station.SectionNo.{SectionNo};
 ghost use Rattle.rail_base.specs.Members.{In};
 ghost use Rattle.rail_base.specs.Stations.{length_of, section_of, IsEdge};
-ghost use Rattle.rail_spec.specs.Track.{edge_ends, first_occurrences, last_end, nodes_along, route_of, start_end, with_offsets};
-ghost use Rattle.rail_routes.specs.Walks.{AreEdges};
+ghost use Rattle.rail_spec.specs.Track.{route_of};
+ghost use Rattle.rail_spec.specs.Elementary.{IsStart};
+ghost use Rattle.rail_routes.specs.Walks.{nodes_of, sections_along, sections_of, AreEdges, AreLastEnds};
 
-use crate::track::{far_end, through};
+use crate::starts::start_end;
+use crate::track::{Track, far_end, through};
 use rail_base::design::Design;
 use rail_base::list::List;
 use rail_base::route::{Finish, Route, Start};
@@ -53,7 +55,7 @@ fn nodes(
     start: End,
 ) -> Result<List<(NodeNo, i64)>, AllocError>
     requires { AreEdges design.now.station path.now }
-    ensures { IfOk result (λ nodes. nodes ≡ (start.node, pos 0) ∷ with_offsets (nodes_along design.now.station start path.now) (edge_ends design.now.station 0 path.now)) }
+    ensures { IfOk result (λ nodes. nodes ≡ nodes_of design.now.station start path.now) }
 {
     let mut nodes = List::new(alloc);
     nodes.push((start.node, 0))?;
@@ -72,7 +74,7 @@ fn nodes(
 fn last_ends(alloc: Global, design: &Design, path: &[EdgeNo]) -> Result<Vec<u64>, AllocError>
     requires { AreEdges design.now.station path.now }
     ensures many { IfOk result (λ ends. length ends.items ≡ length design.now.station.sections + 1) }
-    ensures value { IfOk result (λ ends. (z : SectionNo) → z.0 ≤ length design.now.station.sections → slice_index ends.items z.0 ≡ last_end design.now.station z (edge_ends design.now.station 0 path.now)) }
+    ensures value { IfOk result (λ ends. AreLastEnds design.now.station path.now ends.items) }
     ensures bound { IfOk result (λ ends. (k : ℕ) → slice_index ends.items k ≤ 40000000000) }
 {
     let mut ends = vec![in alloc; 0; design.station.sections.len() + 1]?;
@@ -92,7 +94,7 @@ fn first_sections(
     path: &[EdgeNo],
 ) -> Result<Vec<SectionNo>, AllocError>
     requires { AreEdges design.now.station path.now }
-    ensures { IfOk result (λ sections. sections.items ≡ first_occurrences (map (section_of design.now.station) path.now)) }
+    ensures { IfOk result (λ sections. sections.items ≡ sections_along design.now.station path.now) }
 {
     let mut sections = Vec::new(alloc);
     let mut seen = vec![in alloc; false; design.station.sections.len() + 1]?;
@@ -114,7 +116,8 @@ fn with_ends(
 ) -> Result<List<(SectionNo, i64)>, AllocError>
     requires sections { (z : SectionNo) → In z sections.now → z.0 < length ends.now }
     requires bound { (k : ℕ) → slice_index ends.now k ≤ 40000000000 }
-    ensures { IfOk result (λ released. released ≡ map (λ (z : SectionNo). (z, pos (slice_index ends.now z.0))) sections.now) }
+    ensures { IfOk result (λ released.
+        released ≡ map (λ (z : SectionNo). (z, pos (slice_index ends.now z.0))) sections.now) }
 {
     let mut released = List::new(alloc);
     for section in sections {
@@ -123,33 +126,35 @@ fn with_ends(
     Ok(released)
 }
 
-/// The sections of a path with their release offsets: each once, by its first occurrence, with the end of its last edge.
+/// The sections of a path with their release offsets: each once, by its first occurrence, with the end of its last
+/// edge.
 fn sections(
     alloc: Global,
     design: &Design,
     path: &[EdgeNo],
 ) -> Result<List<(SectionNo, i64)>, AllocError>
     requires { AreEdges design.now.station path.now }
-    ensures { IfOk result (λ sections. sections ≡ map (λ z. (z, pos (last_end design.now.station z (edge_ends design.now.station 0 path.now)))) (first_occurrences (map (section_of design.now.station) path.now))) }
+    ensures { IfOk result (λ sections. sections ≡ sections_of design.now.station path.now) }
 {
     let order = first_sections(alloc, design, path)?;
     let ends = last_ends(alloc, design, path)?;
     with_ends(alloc, order.as_slice(), ends.as_slice())
 }
 
-/// The route with the edges of a path that leaves its start by an end.
+/// The route from a start with the edges of a path.
 pub(crate) fn route_of(
     alloc: Global,
-    design: &Design,
+    track: &Track<'_>,
     path: &[EdgeNo],
     start: Start,
-    from: End,
     finish: Finish,
 ) -> Result<Route, AllocError>
-    requires edges { AreEdges design.now.station path.now }
-    requires end { from ≡ start_end design.now.station start }
-    ensures { IfOk result (λ route. route ≡ route_of design.now.station start path.now finish) }
+    requires edges { AreEdges track.now.design.now.station path.now }
+    requires start { IsStart track.now.design.now.station start }
+    ensures { IfOk result (λ route. route ≡ route_of track.now.design.now.station start path.now finish) }
 {
+    let design = track.design;
+    let from = start_end(track, start);
     Ok(Route {
         start,
         finish,

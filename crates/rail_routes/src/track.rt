@@ -1,9 +1,10 @@
 //! What stands at each end of a station: the edges there, and the signals for trains that leave by it.
 
-ghost use Rattle.std.specs.Prelude.{◌≡◌, ◌||◌, IfOk};
+ghost use Rattle.std.specs.Prelude.{◌≡◌, IfOk};
 ghost use Rattle.rail_base.specs.Stations.{far_end, is_end, is_side, leave, node_of, opposite, edge_of, signal_of, through, IsEdge, IsNode, IsSignal};
 ghost use Rattle.rail_spec.specs.Track.{signals_at};
-ghost use Rattle.rail_routes.specs.Ends.{at_end, at_side, track_of};
+ghost use Rattle.rail_base.specs.declared.station.Side.TheVariants.{A, B};
+ghost use Rattle.rail_routes.specs.Ends.{at_end, at_side, leave_by, meets};
 
 use rail_base::design::Design;
 use rail_base::list::List;
@@ -19,11 +20,14 @@ pub(crate) struct AtEnd {
     pub(crate) signals: List<SignalNo>,
 }
 
-/// What stands at each end of a station, by node.
+/// What stands at each end of a design's station, by node.
 #[derive(Drop)]
-pub(crate) struct Track {
+pub(crate) struct Track<'a> {
+    pub(crate) design: &'a Design,
     pub(crate) side_a: List<AtEnd>,
     pub(crate) side_b: List<AtEnd>,
+    ghost on_a: { side_a ≡ at_side design.now.station A },
+    ghost on_b: { side_b ≡ at_side design.now.station B },
 }
 
 fn is_side(one: Side, other: Side) -> bool
@@ -69,7 +73,7 @@ pub(crate) fn far_end(edge: &Edge, end: End) -> End
 /// Whether an edge has one of its ends there.
 fn ends_at(design: &Design, edge: EdgeNo, end: End) -> bool
     requires { IsEdge design.now.station edge }
-    ensures { result ≡ (is_end (edge_of design.now.station edge).from end || is_end (edge_of design.now.station edge).to end) }
+    ensures { result ≡ meets design.now.station edge end }
 {
     let edge = design.edge(edge);
     is_end(edge.from, end) || is_end(edge.to, end)
@@ -78,7 +82,7 @@ fn ends_at(design: &Design, edge: EdgeNo, end: End) -> bool
 /// Whether a signal is for trains that leave by the end.
 fn stands_at(design: &Design, signal: SignalNo, end: End) -> bool
     requires { IsSignal design.now.station signal }
-    ensures { result ≡ is_end (record { node = (signal_of design.now.station signal).node; side = (signal_of design.now.station signal).toward }) end }
+    ensures { result ≡ is_end (leave_by design.now.station signal) end }
 {
     is_end(signal_end(design, signal), end)
 }
@@ -86,7 +90,7 @@ fn stands_at(design: &Design, signal: SignalNo, end: End) -> bool
 /// The end by which the trains leave for whom a signal stands.
 pub(crate) fn signal_end(design: &Design, signal: SignalNo) -> End
     requires { IsSignal design.now.station signal }
-    ensures { result ≡ record { node = (signal_of design.now.station signal).node; side = (signal_of design.now.station signal).toward } }
+    ensures { result ≡ leave_by design.now.station signal }
 {
     let signal = &design.station.signals.as_slice()[signal.0 as usize - 1];
     End {
@@ -156,26 +160,26 @@ fn at_side(alloc: Global, design: &Design, side: Side) -> Result<List<AtEnd>, Al
     Ok(all)
 }
 
-impl Track {
-    /// What stands at each end of a station.
-    pub(crate) fn new(alloc: Global, design: &Design) -> Result<Track, AllocError>
-        ensures { IfOk result (λ track. track ≡ track_of design.now.station) }
+impl<'a> Track<'a> {
+    /// What stands at each end of a design's station.
+    pub(crate) fn new(alloc: Global, design: &'a Design) -> Result<Track<'a>, AllocError>
+        ensures { IfOk result (λ track. track.design.now ≡ design.now) }
     {
         Ok(Track {
+            design,
             side_a: at_side(alloc, design, Side::A)?,
             side_b: at_side(alloc, design, Side::B)?,
         })
     }
 }
 
-impl Track {
+impl Track<'_> {
     ghost use Rattle.std.specs.Prelude.{ℕ};
 
     /// What stands at an end.
-    pub(crate) fn at(&self, design: &Design, end: End) -> &AtEnd
-        requires track { self.now ≡ track_of design.now.station }
-        requires end { IsNode design.now.station end.node }
-        ensures { result.now ≡ at_end design.now.station end }
+    pub(crate) fn at(&self, end: End) -> &AtEnd
+        requires { IsNode self.now.design.now.station end.node }
+        ensures { result.now ≡ at_end self.now.design.now.station end }
     {
         let index = end.node.0 as usize - 1;
         match end.side {

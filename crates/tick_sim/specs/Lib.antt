@@ -2,3 +2,4 @@
 pub mod Granting
 pub mod Runs
 pub mod Marks
+pub mod Running

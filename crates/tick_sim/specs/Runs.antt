@@ -5,21 +5,10 @@ use Rattle.rail_base.specs.declared.station.TrainNo.{TrainNo}
 use Rattle.rail_base.specs.declared.route.Route.{Route}
 use Rattle.rail_base.specs.declared.plan.Command.{Command}
 use Rattle.rail_base.specs.declared.state.TrainState.{TrainState}
-use Rattle.rail_spec.specs.Track.{routes_of}
 use Rattle.rail_spec.specs.Motion.{permitted}
 use Rattle.rail_spec.specs.Plans.{path, path_routes}
-use Rattle.rail_spec.specs.Feasible.{IsWellFormed}
 use Rattle.rail_spec.specs.Dispatches.{rates, stretches, authority}
 use Rattle.rail_spec.specs.Run.{state_at}
-use Rattle.rail_course.specs.Journeys.{AreJourneys}
-use Rattle.tick_sim.specs.declared.run.Run.{Run}
-
--- a well-formed plan over the routes of the design, with the journeys of its trains
-pub record IsRun (r : Run) : Type 0 where
-  pub table : r.routes.now ≡ routes_of r.design.now.station
-  pub few : length r.routes.now ≤ 2000
-  pub formed : IsWellFormed r.design.now.station r.routes.now 64 r.plan.now.steps
-  pub journeys : AreJourneys r.design.now.station r.routes.now r.plan.now.steps r.journeys.now
 
 -- these are the states at a tick up to 86,400
 pub record IsReached (d : Station) (routes : List Route) (plan : List (List Command)) (s : List TrainState) : Type 0 where

@@ -1,32 +1,29 @@
 //! The histories of trains in a run.
 
-ghost use Rattle.std.specs.Prelude.{◌≡◌, ◌-◌, ◌≤◌, IfOk};
-ghost use Rattle.rail_spec.specs.Histories.{history_at, train_history};
-ghost use Rattle.rail_course.specs.Journeys.{IsJourney};
-ghost use Rattle.tick_sim.specs.Runs.{IsNow, IsRun};
+ghost use Rattle.std.specs.Prelude.{◌≡◌, ◌-◌, IfOk};
+ghost use Rattle.tick_sim.specs.Running.{IsNowIn, history_in, train_history_in};
 
 use crate::grants::state_of;
 use crate::marks::{
     mark_grants, mark_passes, mark_releases, mark_visits, none_granted, none_passed, none_released,
     none_visited,
 };
+use crate::ride::Ride;
 use crate::run::Run;
 use rail_base::history::{History, TrainHistory};
 use rail_base::list::List;
 use rail_base::state::TrainState;
-use rail_course::Journey;
 use std::alloc::{AllocError, Global};
 
-impl Run<'_> {
-    /// What has happened to a train before the first tick: nothing.
-    fn first_history(&self, alloc: Global, journey: &Journey) -> Result<TrainHistory, AllocError>
-        requires { IsJourney self.now.design.now.station self.now.routes.now self.now.plan.now.steps journey.now }
-        ensures { IfOk result (λ h. h ≡ train_history self.now.design.now.station self.now.routes.now self.now.plan.now.steps 0 journey.now.course.now.train) }
+impl Ride<'_> {
+    /// What has happened to the train before the first tick: nothing.
+    fn first_history(&self, alloc: Global) -> Result<TrainHistory, AllocError>
+        ensures { IfOk result (λ h. h ≡ train_history_in self.now.run 0 self.now.journey.now.course.now.train) }
     {
-        let course = journey.course;
+        let course = self.journey.course;
         let grants = none_granted(alloc, course.path.as_slice())?;
         let passes = none_passed(alloc, course.stops.as_slice())?;
-        let releases = none_released(alloc, journey.releases.as_slice())?;
+        let releases = none_released(alloc, self.journey.releases.as_slice())?;
         let visits = none_visited(alloc, course.visits.as_slice())?;
         Ok(TrainHistory {
             grants: List::from_vec(grants),
@@ -36,21 +33,19 @@ impl Run<'_> {
         })
     }
 
-    /// What has happened to a train by a tick, at which all trains are in these states.
+    /// What has happened to the train by a tick, at which all trains are in these states.
     fn next_history(
         &self,
         alloc: Global,
-        journey: &Journey,
         old: &TrainHistory,
         states: &[TrainState],
         tick: u64,
     ) -> Result<TrainHistory, AllocError>
-        requires journey { IsJourney self.now.design.now.station self.now.routes.now self.now.plan.now.steps journey.now }
-        requires now { IsNow self.now.design.now.station self.now.routes.now self.now.plan.now.steps tick states.now }
-        requires before { old.now ≡ train_history self.now.design.now.station self.now.routes.now self.now.plan.now.steps (tick - 1) journey.now.course.now.train }
-        ensures { IfOk result (λ h. h ≡ train_history self.now.design.now.station self.now.routes.now self.now.plan.now.steps tick journey.now.course.now.train) }
+        requires now { IsNowIn self.now.run tick states.now }
+        requires before { old.now ≡ train_history_in self.now.run (tick - 1) self.now.journey.now.course.now.train }
+        ensures { IfOk result (λ h. h ≡ train_history_in self.now.run tick self.now.journey.now.course.now.train) }
     {
-        let course = journey.course;
+        let course = self.journey.course;
         let state = state_of(states, course.train);
         let grants = mark_grants(alloc, state.granted, tick, old.grants.as_slice())?;
         let passes = mark_passes(
@@ -64,7 +59,7 @@ impl Run<'_> {
             alloc,
             state,
             tick,
-            journey.releases.as_slice(),
+            self.journey.releases.as_slice(),
             old.releases.as_slice(),
         )?;
         let visits = mark_visits(
@@ -81,15 +76,20 @@ impl Run<'_> {
             visits: List::from_vec(visits),
         })
     }
+}
 
+impl Run<'_> {
     /// What has happened to each train before the first tick.
     pub(crate) fn first_histories(&self, alloc: Global) -> Result<History, AllocError>
-        requires { IsRun self.now }
-        ensures { IfOk result (λ h. h ≡ history_at self.now.design.now.station self.now.routes.now self.now.plan.now.steps 0) }
+        ensures { IfOk result (λ h. h ≡ history_in self.now 0) }
     {
         let mut histories = Vec::new(alloc);
         for journey in self.journeys {
-            histories.push(self.first_history(alloc, journey)?)?;
+            let ride = Ride {
+                run: *self,
+                journey,
+            };
+            histories.push(ride.first_history(alloc)?)?;
         }
         Ok(List::from_vec(histories))
     }
@@ -102,16 +102,19 @@ impl Run<'_> {
         states: &[TrainState],
         tick: u64,
     ) -> Result<History, AllocError>
-        requires run { IsRun self.now }
-        requires now { IsNow self.now.design.now.station self.now.routes.now self.now.plan.now.steps tick states.now }
-        requires before { old.now ≡ history_at self.now.design.now.station self.now.routes.now self.now.plan.now.steps (tick - 1) }
-        ensures { IfOk result (λ h. h ≡ history_at self.now.design.now.station self.now.routes.now self.now.plan.now.steps tick) }
+        requires now { IsNowIn self.now tick states.now }
+        requires before { old.now ≡ history_in self.now (tick - 1) }
+        ensures { IfOk result (λ h. h ≡ history_in self.now tick) }
     {
         let mut histories = Vec::new(alloc);
         let olds = old.as_slice();
         for i in 0..self.journeys.len() {
             let journey = &self.journeys[i];
-            histories.push(self.next_history(alloc, journey, &olds[i], states, tick)?)?;
+            let ride = Ride {
+                run: *self,
+                journey,
+            };
+            histories.push(ride.next_history(alloc, &olds[i], states, tick)?)?;
         }
         Ok(List::from_vec(histories))
     }

@@ -1,15 +1,18 @@
 //! A plan that is run, tick by tick.
 
-use rail_base::design::Design;
+ghost use Rattle.rail_spec.specs.Feasible.{IsWellFormed};
+ghost use Rattle.rail_course.specs.Journeys.{AreJourneys};
+
+use interlocking::Interlocking;
 use rail_base::plan::Plan;
-use rail_base::route::RouteTable;
 use rail_course::Journey;
 
-/// A plan that is run over a design, and the journeys that it gives the trains.
+/// A well-formed plan that is run over an interlocking, and the journeys that it gives the trains.
 #[derive(Clone, Copy)]
 pub struct Run<'a> {
-    pub design: &'a Design,
-    pub routes: &'a RouteTable,
+    pub interlocking: &'a Interlocking,
     pub plan: &'a Plan,
     pub journeys: &'a [Journey<'a>],
+    pub ghost formed: { IsWellFormed interlocking.now.design.station interlocking.now.routes 64 plan.now.steps },
+    pub ghost led: { AreJourneys interlocking.now.design.station interlocking.now.routes plan.now.steps journeys.now },
 }

@@ -5,22 +5,19 @@ ghost use Rattle.std.specs.List.{position_from};
 ghost use Rattle.rail_spec.specs.Track.{routes_of};
 ghost use Rattle.rail_spec.specs.Plans.{is_executable};
 ghost use Rattle.rail_spec.specs.Feasible.{IsWellFormed};
-ghost use Rattle.rail_spec.specs.Run.{state_at};
-ghost use Rattle.rail_spec.specs.Requirements.{path_violation};
 ghost use Rattle.rail_spec.specs.Histories.{verdict_of};
 ghost use Rattle.rail_spec.specs.Safety.{Clash, KeepsToTrack};
 ghost use Rattle.rail_spec.specs.Progress.{IsGrantedInTime};
-ghost use Rattle.tick_sim.specs.Runs.{IsRun};
+ghost use Rattle.tick_sim.specs.Running.{path_violation_in, states_in, verdict_in};
 
 use crate::grants::IDLE;
 use crate::run::Run;
-use rail_base::design::Design;
+use interlocking::Interlocking;
 use rail_base::history::Verdict;
 use rail_base::list::List;
 use rail_base::plan::{Plan, Violation};
-use rail_base::route::RouteTable;
 use rail_base::state::{Stop, TrainState};
-use rail_course::{courses_of, journeys_of};
+use rail_course::{Courses, Itineraries};
 use rail_require::{first_violation, is_done};
 use std::alloc::{AllocError, Global};
 
@@ -38,8 +35,7 @@ fn missed(visits: &[Option<Stop>]) -> Option<u32>
 impl Run<'_> {
     /// The first visit, by train, that no path makes.
     fn path_violation(&self) -> Option<Violation>
-        requires { IsRun self.now }
-        ensures { result ≡ path_violation self.now.design.now.station self.now.routes.now self.now.plan.now.steps }
+        ensures { result ≡ path_violation_in self.now }
     {
         for journey in self.journeys {
             if let Some(visit) = missed(journey.course.visits.as_slice()) {
@@ -54,8 +50,7 @@ impl Run<'_> {
 
     /// All trains before the first tick.
     fn first_states(&self, alloc: Global) -> Result<Vec<TrainState>, AllocError>
-        requires { IsRun self.now }
-        ensures { IfOk result (λ s. s.items ≡ state_at self.now.design.now.station self.now.routes.now self.now.plan.now.steps 0) }
+        ensures { IfOk result (λ s. s.items ≡ states_in self.now 0) }
     {
         let mut states = Vec::new(alloc);
         for _journey in self.journeys {
@@ -66,17 +61,16 @@ impl Run<'_> {
 
     /// The verdict of a plan whose paths make all visits.
     fn verdict_by_ticks(&self, alloc: Global, ticks: u64) -> Result<Verdict, AllocError>
-        requires run { IsRun self.now }
-        requires paths { path_violation self.now.design.now.station self.now.routes.now self.now.plan.now.steps ≡ None }
-        ensures { IfOk result (λ v. v ≡ verdict_of self.now.design.now.station self.now.routes.now self.now.plan.now.steps ticks) }
+        requires paths { path_violation_in self.now ≡ None }
+        ensures { IfOk result (λ v. v ≡ verdict_in self.now ticks) }
     {
         let mut states = self.first_states(alloc)?;
         let mut history = self.first_histories(alloc)?;
-        let last = ticks.min(self.design.horizon());
+        let last = ticks.min(self.interlocking.design.horizon());
         for tick in 1..last + 1 {
             states = self.tick(alloc, states.as_slice())?;
             history = self.next_histories(alloc, &history, states.as_slice(), tick)?;
-            if let Some(violation) = first_violation(self.design, &history, tick) {
+            if let Some(violation) = first_violation(&self.interlocking.design, &history, tick) {
                 return Ok(Verdict::Failed {
                     history,
                     tick,
@@ -92,8 +86,7 @@ impl Run<'_> {
 
     /// The verdict of the plan that is run.
     fn verdict(&self, alloc: Global, ticks: u64) -> Result<Verdict, AllocError>
-        requires { IsRun self.now }
-        ensures { IfOk result (λ v. v ≡ verdict_of self.now.design.now.station self.now.routes.now self.now.plan.now.steps ticks) }
+        ensures { IfOk result (λ v. v ≡ verdict_in self.now ticks) }
     {
         let Some(violation) = self.path_violation() else {
             return self.verdict_by_ticks(alloc, ticks);
@@ -116,25 +109,28 @@ impl Run<'_> {
 /// ever hold one section or stand on one, and each command is granted in a bounded time.
 pub fn simulate(
     alloc: Global,
-    design: &Design,
-    routes: &RouteTable,
+    interlocking: &Interlocking,
     plan: &Plan,
     ticks: u64,
 ) -> Result<Verdict, AllocError>
-    requires table { routes.now ≡ routes_of design.now.station }
-    requires few { length routes.now ≤ 2000 }
-    requires formed { IsWellFormed design.now.station routes.now 64 plan.now.steps }
-    ensures value { IfOk result (λ v. v ≡ verdict_of design.now.station routes.now plan.now.steps ticks) }
-    ensures keeps { KeepsToTrack design.now.station routes.now plan.now.steps }
-    ensures granted { is_executable design.now.station routes.now plan.now.steps ≡ true
-        → IsGrantedInTime design.now.station routes.now plan.now.steps }
-    ensures apart { is_executable design.now.station routes.now plan.now.steps ≡ true → (k : ℕ) → Clash design.now.station routes.now plan.now.steps k → ⊥ }
+    requires formed { IsWellFormed interlocking.now.design.station interlocking.now.routes 64 plan.now.steps }
+    ensures value { IfOk result (λ v. v
+        ≡ verdict_of interlocking.now.design.station interlocking.now.routes plan.now.steps ticks) }
+    ensures keeps { KeepsToTrack interlocking.now.design.station interlocking.now.routes plan.now.steps }
+    ensures granted { is_executable interlocking.now.design.station interlocking.now.routes plan.now.steps ≡ true
+        → IsGrantedInTime interlocking.now.design.station interlocking.now.routes plan.now.steps }
+    ensures apart { is_executable interlocking.now.design.station interlocking.now.routes plan.now.steps ≡ true
+        → (k : ℕ) → Clash interlocking.now.design.station interlocking.now.routes plan.now.steps k → ⊥ }
 {
-    let courses = courses_of(alloc, design, routes, plan)?;
-    let journeys = journeys_of(alloc, design, routes, plan, courses.as_slice())?;
+    let given = Itineraries { interlocking, plan };
+    let courses = given.courses(alloc)?;
+    let courses = Courses {
+        given,
+        courses: courses.as_slice(),
+    };
+    let journeys = courses.journeys(alloc)?;
     let run = Run {
-        design,
-        routes,
+        interlocking,
         plan,
         journeys: journeys.as_slice(),
     };

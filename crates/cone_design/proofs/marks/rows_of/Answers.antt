@@ -11,7 +11,7 @@ use Rattle.cone_design.proofs.Marked.{row_more, rows_mark}
 use Rattle.cone_design.proofs.marks.rows_of.Goals as goal
 
 pub marks_of-requires : goal.marks_of-requires
-marks_of-requires c = subst (λ (rs : List RouteNo). All (IsRoute c.args.routes.now) rs) (sym c.path.ensures) (path_in_range c.args.design.now.station c.args.routes.now c.args.cone.now c.requires _)
+marks_of-requires c = subst (λ (rs : List RouteNo). All (IsRoute c.args.interlocking.now.routes) rs) (sym c.path-path.ensures) (path_in_range c.args.interlocking.now.design.station c.args.interlocking.now.routes c.args.cone.now c.requires _)
 
 pub loop-number-preserved : goal.loop-number-preserved
 loop-number-preserved c =
@@ -22,7 +22,7 @@ loop-number-preserved c =
     let long : length old ≡ length c.loop-number.rows.items = length-map items c.loop-number.rows.items in
     let many : length c.loop-number.rows.items + 1 ≡ c.loop-number.number = c.loop-number.invariant.many in
     let whole : map items c.push.new.self.items ≡ old ++ row ∷ [] = ap (map items) c.in_ok-push.ensures.items ∙ map-append items c.loop-number.rows.items _ in
-    let here : marks c.loop-number.number row = subst (λ (rs : List RouteNo). MarksPath rs row) c.path.ensures c.in_ok-marks_of.ensures in
+    let here : marks c.loop-number.number row = subst (λ (rs : List RouteNo). MarksPath rs row) c.path-path.ensures c.in_ok-marks_of.ensures in
     record {
       many = omega (arith, c.in_ok-push.ensures.len);
       marked = λ t low high. subst (λ (rows : List (List Bool)). marks t (entry [] rows t)) (sym whole) (row_more marks old row c.loop-number.number (omega arith) c.loop-number.invariant.marked here t low high);
@@ -37,4 +37,4 @@ returns c =
     let end = c.loop-number-test.false in
     let top = c.loop-number.auto.number-end in
     let all = c.len.ensures in
-    rows_mark c.args.design.now.station c.args.routes.now c.args.cone.now rows c.requires (omega arith) (λ t low high. c.loop-number.invariant.marked t low (omega arith))
+    rows_mark c.args.interlocking.now.design.station c.args.interlocking.now.routes c.args.cone.now rows c.requires (omega arith) (λ t low high. c.loop-number.invariant.marked t low (omega arith))

@@ -9,6 +9,6 @@ use Rattle.cone_design.proofs.trains.train_in_design.Goals as goal
 
 pub is_way-requires : goal.is_way-requires
 is_way-requires c =
-    let named = sym c.names_design.ensures ∙ c.if-not-names_design.false in
-    subst (λ (path : List RouteNo). All (IsRoute c.args.routes.now) path) (sym c.as_slice.ensures)
-    (all_routes c.args.routes.now c.args.entry.now.path (and_right (is_from 1 (length c.args.design.now.station.trains) c.args.entry.now.train.0) (list_all (λ (r : RouteNo). is_from 1 (length c.args.routes.now) r.0) c.args.entry.now.path) (and_left _ _ named)))
+    let named = sym c.names_fit.ensures ∙ c.if-not-names_fit.false in
+    subst (λ (path : List RouteNo). All (IsRoute c.args.interlocking.now.routes) path) (sym c.as_slice.ensures)
+    (all_routes c.args.interlocking.now.routes c.args.entry.now.path (and_right (is_from 1 (length c.args.interlocking.now.design.station.trains) c.args.entry.now.train.0) (list_all (λ (r : RouteNo). is_from 1 (length c.args.interlocking.now.routes) r.0) c.args.entry.now.path) (and_left _ _ named)))

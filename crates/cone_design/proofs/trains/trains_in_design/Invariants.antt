@@ -5,4 +5,4 @@ use Rattle.cone_design.proofs.trains.trains_in_design.Given as goal
 
 -- those so far are
 abbrev pub invariant-loop-entry : goal.invariant-loop-entry
-invariant-loop-entry l = list_all (train_in_design l.design.station l.routes l.cone) (drop l.entry-index l.entry-items) ≡ list_all (train_in_design l.design.station l.routes l.cone) l.entry-items
+invariant-loop-entry l = list_all (train_in_design l.interlocking.design.station l.interlocking.routes l.cone) (drop l.entry-index l.entry-items) ≡ list_all (train_in_design l.interlocking.design.station l.interlocking.routes l.cone) l.entry-items

@@ -4,4 +4,4 @@ use Rattle.rail_cone.specs.Validity.{violation_in_design}
 use Rattle.cone_design.proofs.violations.violation_in_design.Goals as goal
 
 pub returns-in-Path : goal.returns-in-Path
-returns-in-Path c = λ routes. c.path_in_design.ensures routes ∙ ap (λ (v : Violation). violation_in_design c.args.design.now.station routes c.args.cone.now v) (sym c.in-Path.is)
+returns-in-Path c = c.path_in_design.ensures ∙ ap (λ (v : Violation). violation_in_design c.args.interlocking.now.design.station c.args.interlocking.now.routes c.args.cone.now v) (sym c.in-Path.is)

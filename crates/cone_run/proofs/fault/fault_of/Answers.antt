@@ -1,32 +1,19 @@
-use Rattle.std.proofs.Common.{sym, subst, ◌∙◌}
+use Rattle.std.proofs.Common.{refl, sym, subst, ◌∙◌}
 use Rattle.rail_base.proofs.Admitting.{admitted}
-use Rattle.rail_course.specs.Courses.{AreCourses}
 use Rattle.rail_course.specs.Tracks.{IsInRange}
-use Rattle.cone_run.specs.Runs.{free_plan}
 use Rattle.cone_run.proofs.Ranging.{all_free_within, cone_in_range}
 use Rattle.cone_run.proofs.fault.fault_of.Goals as goal
 
 pub free_plan-requires : goal.free_plan-requires
-free_plan-requires c = all_free_within c.args.design.now.station c.args.routes.now c.args.cone.now (sym c.in_ok-fits.ensures ∙ c.if-not-fits.false)
+free_plan-requires c =
+    let i = c.args.contention.now.interlocking.now in
+    all_free_within i.design.station i.routes c.args.cone.now (sym c.in_ok-fits.ensures ∙ c.if-not-fits.false)
 
-pub courses_of-requires : goal.courses_of-requires
-courses_of-requires c =
-    let d = c.args.design.now.station in
-    let routes = c.args.routes.now in
-    subst (IsInRange d routes) (sym c.in_ok-plan.ensures) (cone_in_range d (admitted d c.args.design.now.admitted) routes c.requires.table c.args.cone.now c.requires.few (sym c.in_ok-fits.ensures ∙ c.if-not-fits.false))
+pub invariant_of-given : goal.invariant_of-given
+invariant_of-given c =
+    let i = c.args.contention.now.interlocking.now in
+    let d = i.design.station in
+    record { range = subst (IsInRange d i.routes) (sym c.in_ok-plan.ensures) (cone_in_range d (admitted d i.design.admitted) i.routes i.table c.args.cone.now i.few (sym c.in_ok-fits.ensures ∙ c.if-not-fits.false)) }
 
-pub fault-requires : goal.fault-requires
-fault-requires c =
-    let d = c.args.design.now.station in
-    let routes = c.args.routes.now in
-    let cone = c.args.cone.now in
-    let known = sym c.in_ok-fits.ensures ∙ c.if-not-fits.false in
-    record {
-      table = c.requires.table;
-      few = c.requires.few;
-      contending = c.requires.pairs;
-      known = known;
-      given = c.in_ok-plan.ensures;
-      range = cone_in_range d (admitted d c.args.design.now.admitted) routes c.requires.table cone c.requires.few known;
-      courses = subst (AreCourses d routes (free_plan cone)) (sym c.as_slice.ensures.value) (subst (λ p. AreCourses d routes p c.in_ok-courses.courses.items) c.in_ok-plan.ensures c.in_ok-courses.ensures);
-    }
+pub invariant_of-layout : goal.invariant_of-layout
+invariant_of-layout c = record { known = sym c.in_ok-fits.ensures ∙ c.if-not-fits.false; over = refl; given = c.in_ok-plan.ensures }

@@ -1,36 +1,44 @@
 use Rattle.std.proofs.Common.{length, refl, sym, ap, subst, ◌∙◌, arith}
 use Rattle.rail_base.proofs.Admitting.{admitted}
+use Rattle.plan_clauses.specs.Variables.{pairs}
+use Rattle.plan_clauses.specs.Clauses.{clauses}
+use Rattle.plan_encoding.specs.declared.frame.Frame.{Frame}
 use Rattle.plan_encoding.specs.Bases.{IsBaseOf, IsRefused}
 use Rattle.plan_encoding.specs.Drafts.{Drafted}
+use Rattle.plan_encoding.specs.Frames.{Lists, Stops, over, station, table}
 use Rattle.plan_encoding.proofs.Based.{kept, not_refused, refused}
 use Rattle.plan_encoding.proofs.Listing.{handed_on}
 use Rattle.plan_encoding.proofs.Ordering.{pairs_all_few}
 use Rattle.plan_encoding.proofs.Tabled.{commands_few}
 use Rattle.plan_encoding.proofs.make.base.Goals as goal
 
-pub base_of-requires-clause-pairs : goal.base_of-requires-clause-pairs
-base_of-requires-clause-pairs c =
-    let high = ((admitted c.args.design.now.station c.args.design.now.admitted).many_trains).1 in
-    let few = pairs_all_few c.args.design.now.station c.args.routes.now (commands_few c.args.design.now.station c.args.routes.now high c.requires.few) in
-    let is = ap length c.in_ok-pairs.ensures in
-    omega arith
+pub base_of-requires : goal.base_of-requires
+base_of-requires c =
+    let high = ((admitted c.args.interlocking.now.design.station c.args.interlocking.now.design.admitted).many_trains).1 in
+    let few = pairs_all_few c.args.interlocking.now.design.station c.args.interlocking.now.routes (commands_few c.args.interlocking.now.design.station c.args.interlocking.now.routes high c.args.interlocking.now.few) in
+    let is = ap length (c.in_ok-pairs.ensures ∙ ap (λ (f : Frame). pairs (station f) (table f)) c.in_ok-tables.ensures) in
+    record { pairs = omega arith }
 
 pub returns-in_err-put_all-clause-fault : goal.returns-in_err-put_all-clause-fault
-returns-in_err-put_all-clause-fault c = handed_on (IsRefused c.args.design.now.station c.args.routes.now c.args.steps) c.from_residual-in_err-put_all.result c.in_err-put_all.field-0.0 c.from_residual-in_err-put_all.ensures.1
-    (refused c.args.design.now.station c.args.routes.now c.args.steps c.new-count.result (ap (λ (x : Drafted). x.literals) c.new-count.ensures) c.in_err-put_all.field-0.0 c.in_err-put_all.ensures.err)
+returns-in_err-put_all-clause-fault c = handed_on (IsRefused c.args.interlocking.now.design.station c.args.interlocking.now.routes c.args.steps.count) c.from_residual-in_err-put_all.result c.in_err-put_all.field-0.0 c.from_residual-in_err-put_all.ensures.1
+    (refused c.args.interlocking.now.design.station c.args.interlocking.now.routes c.args.steps.count c.new-count.result (ap (λ (x : Drafted). x.literals) c.new-count.ensures) c.in_err-put_all.field-0.0
+    (subst (λ (f : Frame). Stops f (over f clauses) c.new-count.result c.in_err-put_all.field-0.0) c.in_ok-tables.ensures c.in_err-put_all.ensures.err))
 
 pub returns-in_err-put_all-2-clause-fault : goal.returns-in_err-put_all-2-clause-fault
-returns-in_err-put_all-2-clause-fault c = handed_on (IsRefused c.args.design.now.station c.args.routes.now c.args.steps) c.from_residual-in_err-put_all-2.result c.in_err-put_all-2.field-0.0 c.from_residual-in_err-put_all-2.ensures.1
-    (refused c.args.design.now.station c.args.routes.now c.args.steps c.new-draft.result (ap (λ (x : Drafted). x.literals) c.new-draft.ensures) c.in_err-put_all-2.field-0.0 c.in_err-put_all-2.ensures.err)
+returns-in_err-put_all-2-clause-fault c = handed_on (IsRefused c.args.interlocking.now.design.station c.args.interlocking.now.routes c.args.steps.count) c.from_residual-in_err-put_all-2.result c.in_err-put_all-2.field-0.0 c.from_residual-in_err-put_all-2.ensures.1
+    (refused c.args.interlocking.now.design.station c.args.interlocking.now.routes c.args.steps.count c.new-draft.result (ap (λ (x : Drafted). x.literals) c.new-draft.ensures) c.in_err-put_all-2.field-0.0
+    (subst (λ (f : Frame). Stops f (over f clauses) c.new-draft.result c.in_err-put_all-2.field-0.0) c.in_ok-tables.ensures c.in_err-put_all-2.ensures.err))
 
 pub returns-clause-base : goal.returns-clause-base
-returns-clause-base c = subst (IsBaseOf c.args.design.now.station c.args.routes.now c.args.steps) (sym c.base_of.ensures) (record {
-  trains = c.len.ensures;
-  routes = c.len-2.ensures;
+returns-clause-base c = subst (IsBaseOf c.args.interlocking.now.design.station c.args.interlocking.now.routes c.args.steps.count) (sym c.base_of.ensures) (record {
+  trains = refl;
+  routes = refl;
   steps = refl;
-  pairs = c.in_ok-pairs.ensures;
-  clauses = c.into_clauses.ensures ∙ kept c.args.design.now.station c.args.routes.now c.args.steps c.new-draft.result c.put_all-2.new.draft c.in_ok-put_all-2.ensures.ok c.new-draft.ensures;
+  pairs = c.in_ok-pairs.ensures ∙ ap (λ (f : Frame). pairs (station f) (table f)) c.in_ok-tables.ensures;
+  clauses = c.into_clauses.ensures ∙ kept c.args.interlocking.now.design.station c.args.interlocking.now.routes c.args.steps.count c.new-draft.result c.put_all-2.new.draft
+      (subst (λ (f : Frame). Lists f (over f clauses) c.new-draft.result c.put_all-2.new.draft) c.in_ok-tables.ensures c.in_ok-put_all-2.ensures.ok) c.new-draft.ensures;
 })
 
 pub returns-clause-within : goal.returns-clause-within
-returns-clause-within c = not_refused c.args.design.now.station c.args.routes.now c.args.steps c.new-draft.result (ap (λ (x : Drafted). x.literals) c.new-draft.ensures) c.put_all-2.new.draft c.in_ok-put_all-2.ensures.ok
+returns-clause-within c = not_refused c.args.interlocking.now.design.station c.args.interlocking.now.routes c.args.steps.count c.new-draft.result (ap (λ (x : Drafted). x.literals) c.new-draft.ensures) c.put_all-2.new.draft
+    (subst (λ (f : Frame). Lists f (over f clauses) c.new-draft.result c.put_all-2.new.draft) c.in_ok-tables.ensures c.in_ok-put_all-2.ensures.ok)

@@ -14,8 +14,8 @@ use Rattle.plan_run.proofs.verdicts.verdict_by_events.Goals as goal
 
 pub violation_shown-requires : goal.violation_shown-requires
 violation_shown-requires g c =
-    let d = c.args.traffic.now.design.now.station in
-    let routes = c.args.traffic.now.routes.now in
+    let d = c.args.traffic.now.interlocking.now.design.station in
+    let routes = c.args.traffic.now.interlocking.now.routes in
     let plan = c.args.plan.now.steps in
     let planned = c.requires.0 in
     let paths = c.requires.1 in
@@ -23,12 +23,12 @@ violation_shown-requires g c =
     let tick = new.tick in
     let found = c.in_ok-progress-2.ensures in
     let now_told : new.histories.items ≡ history_at d routes plan tick = found.is.told ∙ ap (λ p. any.history_at d routes p tick) planned.same in
-    subst HasNumbers (sym (c.as_slice-in-loop-progress.ensures.value ∙ now_told)) (plans_have_numbers d routes plan (admitted d c.args.traffic.now.design.now.admitted) 64 (omega arith) planned.formed.formed tick)
+    subst HasNumbers (sym (c.as_slice-in-loop-progress.ensures.value ∙ now_told)) (plans_have_numbers d routes plan (admitted d c.args.traffic.now.interlocking.now.design.admitted) 64 (omega arith) planned.formed.formed tick)
 
 pub loop-progress-preserved : goal.loop-progress-preserved
 loop-progress-preserved g c =
-    let d = c.args.traffic.now.design.now.station in
-    let routes = c.args.traffic.now.routes.now in
+    let d = c.args.traffic.now.interlocking.now.design.station in
+    let routes = c.args.traffic.now.interlocking.now.routes in
     let plan = c.args.plan.now.steps in
     let planned = c.requires.0 in
     let paths = c.requires.1 in
@@ -47,7 +47,7 @@ loop-progress-preserved g c =
     let high : tick ≤ horizon d = (let w = found.within in let v = due.within in omega arith) in
     let within : tick ≤ c.args.ticks = (let w = found.within in let v = due.within in omega arith) in
     let shorter : tick - 1 - k ≤ c.next_due-due.result - 1 - k = (let w = found.within in omega arith) in
-    let open_before = undecided_before d routes plan (admitted d c.args.traffic.now.design.now.admitted) k tick found.after found.first high
+    let open_before = undecided_before d routes plan (admitted d c.args.traffic.now.interlocking.now.design.admitted) k tick found.after found.first high
     (λ w m. subst (λ h. IsNotDue d h k (tick - 1 - k) w) (c.as_slice.ensures.value ∙ old_told) (undue_less d c.as_slice.result.now k (c.next_due-due.result - 1 - k) (tick - 1 - k) w shorter (due.undue w m)))
     (λ m low less. sym (ap (λ p. any.history_at d routes p m) planned.same) ∙ found.quiet m low less ∙ old_told) invariant.before in
     let fails : c.violation_shown.result ≡ violation_at d routes plan tick = c.violation_shown.ensures.run routes plan first (c.as_slice-in-loop-progress.ensures.value ∙ now_told) in
@@ -62,8 +62,8 @@ loop-progress-preserved g c =
 
 pub returns-in-Some : goal.returns-in-Some
 returns-in-Some g c =
-    let d = c.args.traffic.now.design.now.station in
-    let routes = c.args.traffic.now.routes.now in
+    let d = c.args.traffic.now.interlocking.now.design.station in
+    let routes = c.args.traffic.now.interlocking.now.routes in
     let plan = c.args.plan.now.steps in
     let planned = c.requires.0 in
     let paths = c.requires.1 in
@@ -82,7 +82,7 @@ returns-in-Some g c =
     let high : tick ≤ horizon d = (let w = found.within in let v = due.within in omega arith) in
     let within : tick ≤ c.args.ticks = (let w = found.within in let v = due.within in omega arith) in
     let shorter : tick - 1 - k ≤ c.next_due-due.result - 1 - k = (let w = found.within in omega arith) in
-    let open_before = undecided_before d routes plan (admitted d c.args.traffic.now.design.now.admitted) k tick found.after found.first high
+    let open_before = undecided_before d routes plan (admitted d c.args.traffic.now.interlocking.now.design.admitted) k tick found.after found.first high
     (λ w m. subst (λ h. IsNotDue d h k (tick - 1 - k) w) (c.as_slice.ensures.value ∙ old_told) (undue_less d c.as_slice.result.now k (c.next_due-due.result - 1 - k) (tick - 1 - k) w shorter (due.undue w m)))
     (λ m low less. sym (ap (λ p. any.history_at d routes p m) planned.same) ∙ found.quiet m low less ∙ old_told) invariant.before in
     let fails : c.violation_shown.result ≡ violation_at d routes plan tick = c.violation_shown.ensures.run routes plan first (c.as_slice-in-loop-progress.ensures.value ∙ now_told) in
@@ -93,8 +93,8 @@ returns-in-Some g c =
 
 pub returns-then-are_done : goal.returns-then-are_done
 returns-then-are_done g c =
-    let d = c.args.traffic.now.design.now.station in
-    let routes = c.args.traffic.now.routes.now in
+    let d = c.args.traffic.now.interlocking.now.design.station in
+    let routes = c.args.traffic.now.interlocking.now.routes in
     let plan = c.args.plan.now.steps in
     let planned = c.requires.0 in
     let paths = c.requires.1 in
@@ -113,7 +113,7 @@ returns-then-are_done g c =
     let high : tick ≤ horizon d = (let w = found.within in let v = due.within in omega arith) in
     let within : tick ≤ c.args.ticks = (let w = found.within in let v = due.within in omega arith) in
     let shorter : tick - 1 - k ≤ c.next_due-due.result - 1 - k = (let w = found.within in omega arith) in
-    let open_before = undecided_before d routes plan (admitted d c.args.traffic.now.design.now.admitted) k tick found.after found.first high
+    let open_before = undecided_before d routes plan (admitted d c.args.traffic.now.interlocking.now.design.admitted) k tick found.after found.first high
     (λ w m. subst (λ h. IsNotDue d h k (tick - 1 - k) w) (c.as_slice.ensures.value ∙ old_told) (undue_less d c.as_slice.result.now k (c.next_due-due.result - 1 - k) (tick - 1 - k) w shorter (due.undue w m)))
     (λ m low less. sym (ap (λ p. any.history_at d routes p m) planned.same) ∙ found.quiet m low less ∙ old_told) invariant.before in
     let fails : c.violation_shown.result ≡ violation_at d routes plan tick = c.violation_shown.ensures.run routes plan first (c.as_slice-in-loop-progress.ensures.value ∙ now_told) in
@@ -125,11 +125,11 @@ returns-then-are_done g c =
 
 pub returns : goal.returns
 returns g c =
-    let d = c.args.traffic.now.design.now.station in
-    let routes = c.args.traffic.now.routes.now in
+    let d = c.args.traffic.now.interlocking.now.design.station in
+    let routes = c.args.traffic.now.interlocking.now.routes in
     let plan = c.args.plan.now.steps in
     let planned = c.requires.0 in
     let paths = c.requires.1 in
     let test = c.loop-progress-test.false in
     let last : c.min-last.result ≡ min c.args.ticks (horizon d) = c.min-last.ensures ∙ ap (min c.args.ticks) c.horizon.ensures.value in
-    undecided_is d routes plan (admitted d c.args.traffic.now.design.now.admitted) c.args.ticks c.min-last.result paths last (λ i low high. c.loop-progress.invariant.before i low (omega arith))
+    undecided_is d routes plan (admitted d c.args.traffic.now.interlocking.now.design.admitted) c.args.ticks c.min-last.result paths last (λ i low high. c.loop-progress.invariant.before i low (omega arith))

@@ -1,7 +1,6 @@
 use Rattle.rail_cli.proofs.Asking.{first_of_two, second_of_two}
 use Rattle.std.proofs.Common.{rules, List, ap, sym, ◌∙◌}
-use Rattle.rail_base.specs.declared.design.Design.{Design}
-use Rattle.rail_base.specs.declared.route.Route.{Route}
+use Rattle.interlocking.specs.declared.railway.Interlocking.{Interlocking}
 use Rattle.rail_cli.specs.Answers.{design_in}
 use Rattle.rail_cli.proofs.Untold.{unchecked, unchecked_design, all_checked}
 use Rattle.rail_cli.proofs.checking.checked.Goals as goal
@@ -15,11 +14,11 @@ returns-clause-asks g c = second_of_two _ _ _ _ _ c.in_ok-design_bytes.ensures.a
 pub returns-in_err-design_bytes-clause-some : goal.returns-in_err-design_bytes-clause-some
 returns-in_err-design_bytes-clause-some g c = unchecked c.from_residual.result c.args.steps c.args.design.now c.args.proof.now c.in_err-design_bytes.field-0.0 (search rules) c.in_err-design_bytes.ensures.some
 
-pub returns-in_err-design-clause-some : goal.returns-in_err-design-clause-some
-returns-in_err-design-clause-some g c =
-    unchecked_design c.from_residual-in_err-design.result c.args.steps c.args.design.now c.args.proof.now c.in_ok-design_bytes.design_bytes.items c.in_ok-design_bytes.ensures.some (λ (found : Design × List Route). found.0.station) c.in_err-design.field-0.0 (search rules) (rw c.as_slice.ensures.value at c.in_err-design.ensures.reads)
+pub returns-in_err-interlocking-clause-some : goal.returns-in_err-interlocking-clause-some
+returns-in_err-interlocking-clause-some g c =
+    unchecked_design c.from_residual-in_err-interlocking.result c.args.steps c.args.design.now c.args.proof.now c.in_ok-design_bytes.design_bytes.items c.in_ok-design_bytes.ensures.some (λ (i : Interlocking). i.design.station) c.in_err-interlocking.field-0.0 (search rules) (rw c.as_slice.ensures.value at c.in_err-interlocking.ensures.reads)
 
 pub returns-clause-some : goal.returns-clause-some
 returns-clause-some g c =
-    all_checked c.checked_proof.result c.args.steps c.args.design.now c.args.proof.now c.in_ok-design_bytes.design_bytes.items c.in_ok-design_bytes.ensures.some c.in_ok-design.design.station
-    (ap design_in (sym c.as_slice.ensures.value) ∙ c.in_ok-design.ensures.reads) c.checked_proof.ensures.some
+    all_checked c.checked_proof.result c.args.steps c.args.design.now c.args.proof.now c.in_ok-design_bytes.design_bytes.items c.in_ok-design_bytes.ensures.some c.in_ok-interlocking.interlocking.design.station
+    (ap design_in (sym c.as_slice.ensures.value) ∙ c.in_ok-interlocking.ensures.reads) c.checked_proof.ensures.some

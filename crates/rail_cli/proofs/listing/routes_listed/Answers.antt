@@ -1,6 +1,5 @@
 use Rattle.std.proofs.Common.{rules, List, Ok, refl, ap, sym, ◌∙◌}
-use Rattle.rail_base.specs.declared.design.Design.{Design}
-use Rattle.rail_base.specs.declared.route.Route.{Route}
+use Rattle.interlocking.specs.declared.railway.Interlocking.{Interlocking}
 use Rattle.rail_words.specs.Requests.{routes}
 use Rattle.rail_cli.specs.Answers.{design_in}
 use Rattle.rail_cli.proofs.Untold.{wanting, unlisted, unlisted_design, all_listed}
@@ -9,14 +8,14 @@ use Rattle.rail_cli.proofs.listing.routes_listed.Goals as goal
 pub returns-in_err-bytes-clause-some : goal.returns-in_err-bytes-clause-some
 returns-in_err-bytes-clause-some g c = unlisted c.from_residual.result c.args.design.now c.in_err-bytes.field-0.0 (search rules) c.in_err-bytes.ensures.some
 
-pub returns-in_err-design-clause-some : goal.returns-in_err-design-clause-some
-returns-in_err-design-clause-some g c =
-    unlisted_design c.from_residual-in_err-design.result c.args.design.now c.in_ok-bytes.bytes.items c.in_ok-bytes.ensures.some (λ (found : Design × List Route). found.0.station) c.in_err-design.field-0.0 (search rules) (rw c.as_slice.ensures.value at c.in_err-design.ensures.reads)
+pub returns-in_err-interlocking-clause-some : goal.returns-in_err-interlocking-clause-some
+returns-in_err-interlocking-clause-some g c =
+    unlisted_design c.from_residual-in_err-interlocking.result c.args.design.now c.in_ok-bytes.bytes.items c.in_ok-bytes.ensures.some (λ (i : Interlocking). i.design.station) c.in_err-interlocking.field-0.0 (search rules) (rw c.as_slice.ensures.value at c.in_err-interlocking.ensures.reads)
 
 pub returns-in_err-list-clause-some : goal.returns-in_err-list-clause-some
 returns-in_err-list-clause-some g c = wanting c.from_residual-in_err-list.result (routes c.args.design.now) (search rules)
 
 pub returns-clause-some : goal.returns-clause-some
 returns-clause-some g c =
-    all_listed (Ok c.in_ok-list.field-0) c.args.design.now c.in_ok-bytes.bytes.items c.in_ok-bytes.ensures.some c.in_ok-design.design.station c.in_ok-list.field-0
-    (ap design_in (sym c.as_slice.ensures.value) ∙ c.in_ok-design.ensures.reads) refl c.in_ok-list.ensures.listed
+    all_listed (Ok c.in_ok-list.field-0) c.args.design.now c.in_ok-bytes.bytes.items c.in_ok-bytes.ensures.some c.in_ok-interlocking.interlocking.design.station c.in_ok-list.field-0
+    (ap design_in (sym c.as_slice.ensures.value) ∙ c.in_ok-interlocking.ensures.reads) refl c.in_ok-list.ensures.listed

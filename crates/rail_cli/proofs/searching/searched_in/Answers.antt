@@ -6,5 +6,5 @@ returns-clause-replies g c = (
   c.verify-found.result,
   c.verify-found.ensures.says,
   c.verify-found.ensures.fits,
-  searched_so c.args.design.now.station c.args.steps c.args.budgets c.settle.result c.verify-found.result c.verify-found.ensures.says c.verify-found.ensures.fits c.settle.ensures.replies,
+  searched_so c.args.interlocking.now.design.station c.args.steps.count c.args.budgets c.settle.result c.verify-found.result c.verify-found.ensures.says c.verify-found.ensures.fits c.settle.ensures.replies,
 )

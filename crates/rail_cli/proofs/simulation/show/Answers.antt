@@ -11,18 +11,18 @@ use Rattle.rail_cli.proofs.simulation.show.Goals as goal
 
 pub returns-clause-shown : goal.returns-clause-shown
 returns-clause-shown c =
-    let d = c.args.design.now.station in
+    let d = c.args.interlocking.now.design.station in
     let plan = c.args.plan.now.steps in
-    let same : c.in_ok-verdict.verdict ≡ shown_by d plan = c.in_ok-verdict.ensures.value ∙ ap₂ (λ r h. verdict_of d r plan h) c.requires.table c.horizon.ensures.value in
+    let same : c.in_ok-verdict.verdict ≡ shown_by d plan = c.in_ok-verdict.ensures.value ∙ ap₂ (λ r h. verdict_of d r plan h) c.args.interlocking.now.table c.horizon.ensures.value in
     shown_so d _ _ c.in_ok-verdict.verdict _ c.status_of.ensures c.in_ok-lines.ensures same
 
 pub returns-clause-exactly : goal.returns-clause-exactly
 returns-clause-exactly c =
-    let d = c.args.design.now.station in
+    let d = c.args.interlocking.now.design.station in
     let plan = c.args.plan.now.steps in
-    let same : c.in_ok-verdict.verdict ≡ shown_by d plan = c.in_ok-verdict.ensures.value ∙ ap₂ (λ r h. verdict_of d r plan h) c.requires.table c.horizon.ensures.value in
+    let same : c.in_ok-verdict.verdict ≡ shown_by d plan = c.in_ok-verdict.ensures.value ∙ ap₂ (λ r h. verdict_of d r plan h) c.args.interlocking.now.table c.horizon.ensures.value in
     let kind : c.status_of.result ≡ verdict_status (shown_by d plan) = c.status_of.ensures ∙ ap verdict_status same in
-    subst (λ (s : Status). (s ≡ statuses.Done) ↔ IsFeasible d 64 plan) (sym kind) (done_exactly d 64 plan (admitted d c.args.design.now.admitted) c.requires.runnable)
+    subst (λ (s : Status). (s ≡ statuses.Done) ↔ IsFeasible d 64 plan) (sym kind) (done_exactly d 64 plan (admitted d c.args.interlocking.now.design.admitted) c.requires.runnable)
 
 pub returns-clause-safe : goal.returns-clause-safe
-returns-clause-safe c = runs_safely c.args.design.now.station 64 c.args.plan.now.steps (admitted c.args.design.now.station c.args.design.now.admitted) c.requires.runnable
+returns-clause-safe c = runs_safely c.args.interlocking.now.design.station 64 c.args.plan.now.steps (admitted c.args.interlocking.now.design.station c.args.interlocking.now.design.admitted) c.requires.runnable

@@ -6,7 +6,7 @@ use Rattle.rail_cli.proofs.trial.tried_in.Goals as goal
 pub returns-clause-told : goal.returns-clause-told
 returns-clause-told c = (
   c.verify-found.result,
-  subst (λ (b : Budgets). Says c.args.design.now.station (2 * c.args.size) b c.verify-found.result) c.budgets.ensures c.verify-found.ensures.says,
+  subst (λ (b : Budgets). Says c.args.interlocking.now.design.station (2 * c.args.size) b c.verify-found.result) c.budgets.ensures c.verify-found.ensures.says,
   c.verify-found.ensures.fits,
   c.tell.ensures.told,
 )

@@ -8,6 +8,6 @@ use Rattle.rail_course.proofs.spans.spans_of.Given as goal
 
 abbrev pub invariant-loop-number : goal.invariant-loop-number
 invariant-loop-number l = record {
-  short : l.offset + way l.routes (drop l.number-index l.path) < 2 ^ 47;
-  left : stretches_of l.spans.items ++ map (stretch l.design.station) (edge_ends l.design.station l.offset (edges_of l.routes (drop l.number-index l.path))) ≡ map (stretch l.design.station) (edge_ends l.design.station 0 (edges_of l.routes l.path));
+  short : l.offset + way l.interlocking.routes (drop l.number-index l.path) < 2 ^ 47;
+  left : stretches_of l.spans.items ++ map (stretch l.interlocking.design.station) (edge_ends l.interlocking.design.station l.offset (edges_of l.interlocking.routes (drop l.number-index l.path))) ≡ map (stretch l.interlocking.design.station) (edge_ends l.interlocking.design.station 0 (edges_of l.interlocking.routes l.path));
 }

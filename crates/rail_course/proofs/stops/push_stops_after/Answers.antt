@@ -1,3 +1,4 @@
+use Rattle.rail_course.proofs.Granting.{laid_out}
 use Rattle.std.proofs.Common.{◌≡◌, ◌+◌, ◌∷◌, ◌++◌, drop, get_or, map, ap, sym, ◌∙◌, subst, arith}
 use Rattle.std.proofs.lemmas.Grind.{common_steps}
 use Rattle.std.proofs.lemmas.List.Sums.{sum_by-cons}
@@ -15,27 +16,27 @@ push_stops-requires c =
     let number = get_or c.args.path.now c.loop-number.number-index (record { 0 = 0 }) in
     let rest = drop (c.loop-number.number-index + 1) c.args.path.now in
     let cut : drop c.loop-number.number-index c.args.path.now ≡ number ∷ rest = grind (arith, common_steps) in
-    let route = route_at c.args.routes.now number in
-    let sum = sum_by-cons length_mm route (routes_at c.args.routes.now rest) in
-    let way_cut = ap (way c.args.routes.now) cut in
+    let route = route_at c.args.interlocking.now.routes number in
+    let sum = sum_by-cons length_mm route (routes_at c.args.interlocking.now.routes rest) in
+    let way_cut = ap (way c.args.interlocking.now.routes) cut in
     let short = c.loop-number.invariant.short in
-    fit_after c.loop-number.offset route c.after_first.result.now (c.after_first.ensures ∙ ap after_first (c.as_slice.ensures ∙ ap (λ (r : Route). r.nodes) c.route_at-route.ensures)) (c.requires.laid.each number).nodes (omega arith)
+    fit_after c.loop-number.offset route c.after_first.result.now (c.after_first.ensures ∙ ap after_first (c.as_slice.ensures ∙ ap (λ (r : Route). r.nodes) c.route_at-route.ensures)) ((laid_out c.args.interlocking.now).each number).nodes (omega arith)
 
 pub loop-number-preserved : goal.loop-number-preserved
 loop-number-preserved c =
     let number = get_or c.args.path.now c.loop-number.number-index (record { 0 = 0 }) in
     let rest = drop (c.loop-number.number-index + 1) c.args.path.now in
     let cut : drop c.loop-number.number-index c.args.path.now ≡ number ∷ rest = grind (arith, common_steps) in
-    let route = route_at c.args.routes.now number in
+    let route = route_at c.args.interlocking.now.routes number in
     let size : c.length_mm-offset.result ≡ length_mm route = c.length_mm-offset.ensures ∙ ap length_mm c.route_at-route.ensures in
     let nodes : c.after_first.result.now ≡ after_first route.nodes = c.after_first.ensures ∙ ap after_first (c.as_slice.ensures ∙ ap (λ (r : Route). r.nodes) c.route_at-route.ensures) in
     let made = subst (λ ns. c.push_stops.new.stops.items ≡ c.loop-number.stops.items ++ map (stop_at c.loop-number.offset c.loop-number.command) ns) nodes c.in_ok-push_stops.ensures in
-    let sum = sum_by-cons length_mm route (routes_at c.args.routes.now rest) in
-    let way_cut = ap (way c.args.routes.now) cut in
+    let sum = sum_by-cons length_mm route (routes_at c.args.interlocking.now.routes rest) in
+    let way_cut = ap (way c.args.interlocking.now.routes) cut in
     record {
       short = omega arith;
       number = omega arith;
-      left = subst (λ n. c.push_stops.new.stops.items ++ stops_after (c.loop-number.offset + n) (c.loop-number.command + 1) (routes_at c.args.routes.now rest) ≡ c.args.stops.now.items ++ stops_after c.args.begin 2 (routes_at c.args.routes.now c.args.path.now)) (sym size)
-          (stops_step c.args.routes.now c.loop-number.stops.items c.push_stops.new.stops.items _ c.loop-number.offset c.loop-number.command number rest made
-          (ap (λ ns. c.loop-number.stops.items ++ stops_after c.loop-number.offset c.loop-number.command (routes_at c.args.routes.now ns)) (sym cut) ∙ c.loop-number.invariant.left));
+      left = subst (λ n. c.push_stops.new.stops.items ++ stops_after (c.loop-number.offset + n) (c.loop-number.command + 1) (routes_at c.args.interlocking.now.routes rest) ≡ c.args.stops.now.items ++ stops_after c.args.begin 2 (routes_at c.args.interlocking.now.routes c.args.path.now)) (sym size)
+          (stops_step c.args.interlocking.now.routes c.loop-number.stops.items c.push_stops.new.stops.items _ c.loop-number.offset c.loop-number.command number rest made
+          (ap (λ ns. c.loop-number.stops.items ++ stops_after c.loop-number.offset c.loop-number.command (routes_at c.args.interlocking.now.routes ns)) (sym cut) ∙ c.loop-number.invariant.left));
     }

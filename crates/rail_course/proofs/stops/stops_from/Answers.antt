@@ -1,3 +1,4 @@
+use Rattle.rail_course.proofs.Granting.{laid_out}
 use Rattle.std.proofs.Common.{ap, ◌∙◌, arith}
 use Rattle.std.proofs.lemmas.List.Sums.{sum_by-cons}
 use Rattle.rail_base.specs.declared.route.Route.{Route}
@@ -8,7 +9,7 @@ use Rattle.rail_course.proofs.stops.stops_from.Goals as goal
 
 pub push_stops-requires : goal.push_stops-requires
 push_stops-requires c =
-    let route = route_at c.args.routes.now c.args.first in
-    let sum = sum_by-cons length_mm route (routes_at c.args.routes.now c.args.later.now) in
+    let route = route_at c.args.interlocking.now.routes c.args.first in
+    let sum = sum_by-cons length_mm route (routes_at c.args.interlocking.now.routes c.args.later.now) in
     let short = c.requires.short in
-    fit_all 0 route c.as_slice.result.now (c.as_slice.ensures ∙ ap (λ (r : Route). r.nodes) c.route_at-route.ensures) (c.requires.laid.each c.args.first).nodes (omega arith)
+    fit_all 0 route c.as_slice.result.now (c.as_slice.ensures ∙ ap (λ (r : Route). r.nodes) c.route_at-route.ensures) ((laid_out c.args.interlocking.now).each c.args.first).nodes (omega arith)

@@ -6,4 +6,4 @@ use Rattle.rail_plan.proofs.clearance.first_blocked.Given as goal
 
 -- the first is to be found in the steps that are left
 abbrev pub invariant-loop-index : goal.invariant-loop-index
-invariant-loop-index l = first_of_list (flat_map (λ i. flat_map (blocked_in l.design.station l.routes l.steps i) (trains l.design.station)) (count_from (l.index + 1) (length l.steps - l.index))) ≡ first_of_list (blocked l.design.station l.routes l.steps)
+invariant-loop-index l = first_of_list (flat_map (λ i. flat_map (blocked_in l.interlocking.design.station l.interlocking.routes l.steps i) (trains l.interlocking.design.station)) (count_from (l.index + 1) (length l.steps - l.index))) ≡ first_of_list (blocked l.interlocking.design.station l.interlocking.routes l.steps)

@@ -1,14 +1,8 @@
-use Rattle.std.proofs.Common.{ℤ, Bool, List, Option, map, filter, sym, ap, ◌∙◌}
-use Rattle.std.proofs.lemmas.List.{drop_all}
-use Rattle.rail_base.specs.declared.station.SectionNo.{SectionNo}
-use Rattle.rail_base.specs.declared.route.Route.{Route}
+use Rattle.std.proofs.Common.{sym, ap, ◌∙◌}
 use Rattle.rail_base.specs.Numbering.{first_of_list}
-use Rattle.rail_plan.specs.Ahead.{is_stopped}
+use Rattle.rail_plan.proofs.Overlooked.{none_stopped}
 use Rattle.rail_plan.proofs.clearance.stopped_section.Goals as goal
 
-pub returns : goal.returns
-returns c =
-    let test : SectionNo → Bool = λ z. is_stopped c.args.design.now.station c.args.routes.now c.args.command.train z c.args.before.now c.args.step.now in
-    let first : List (SectionNo × ℤ) → Option SectionNo = λ parts. first_of_list (filter test (map (λ p. p.0) parts)) in
-    let none = drop_all c.loop-part.part-index c.as_slice-part-items.result.now c.loop-part-test.false in
-    sym (ap first none) ∙ c.loop-part.invariant ∙ ap first (c.as_slice-part-items.ensures ∙ ap (λ (r : Route). r.sections) c.route_at.ensures)
+pub returns-else-is_stopped_over : goal.returns-else-is_stopped_over
+returns-else-is_stopped_over c =
+    sym (ap first_of_list (none_stopped c.args.interlocking.now.design.station c.args.interlocking.now.routes c.args.command c.args.before.now c.args.step.now (sym c.is_stopped_over.ensures ∙ c.if-is_stopped_over.false)))

@@ -17,22 +17,22 @@ numbered d routes before step = flat_map-map (stopped_in d routes before step) (
 
 pub loop-index-init : goal.loop-index-init
 loop-index-init c =
-    let d = c.args.design.now.station in
-    walk_start (places d c.args.routes.now c.args.before.now c.args.step.now) (length d.trains) ∙ ap first_of_list (sym (numbered d c.args.routes.now c.args.before.now c.args.step.now))
+    let d = c.args.interlocking.now.design.station in
+    walk_start (places d c.args.interlocking.now.routes c.args.before.now c.args.step.now) (length d.trains) ∙ ap first_of_list (sym (numbered d c.args.interlocking.now.routes c.args.before.now c.args.step.now))
 
 pub returns-then-is_some : goal.returns-then-is_some
 returns-then-is_some c =
-    let d = c.args.design.now.station in
+    let d = c.args.interlocking.now.design.station in
     let here : c.loop-index.index < length d.trains = omega arith in
-    sym (walk_kept (places d c.args.routes.now c.args.before.now c.args.step.now) (length d.trains) c.loop-index.index c.stopped_train-place.result here c.stopped_train-place.ensures (sym c.is_some.ensures ∙ c.if-is_some.true)) ∙ c.loop-index.invariant
+    sym (walk_kept (places d c.args.interlocking.now.routes c.args.before.now c.args.step.now) (length d.trains) c.loop-index.index c.stopped_train-place.result here c.stopped_train-place.ensures (sym c.is_some.ensures ∙ c.if-is_some.true)) ∙ c.loop-index.invariant
 
 pub loop-index-preserved : goal.loop-index-preserved
 loop-index-preserved c =
-    let d = c.args.design.now.station in
+    let d = c.args.interlocking.now.design.station in
     let here : c.loop-index.index < length d.trains = omega arith in
-    sym (walk_on (places d c.args.routes.now c.args.before.now c.args.step.now) (length d.trains) c.loop-index.index here (is_none_of c.stopped_train-place.result (sym c.is_some.ensures ∙ c.if-is_some.false) ∙ c.stopped_train-place.ensures)) ∙ c.loop-index.invariant
+    sym (walk_on (places d c.args.interlocking.now.routes c.args.before.now c.args.step.now) (length d.trains) c.loop-index.index here (is_none_of c.stopped_train-place.result (sym c.is_some.ensures ∙ c.if-is_some.false) ∙ c.stopped_train-place.ensures)) ∙ c.loop-index.invariant
 
 pub returns : goal.returns
 returns c =
-    let d = c.args.design.now.station in
-    sym (walk_end (places d c.args.routes.now c.args.before.now c.args.step.now) (length d.trains) c.loop-index.index (omega arith)) ∙ c.loop-index.invariant
+    let d = c.args.interlocking.now.design.station in
+    sym (walk_end (places d c.args.interlocking.now.routes c.args.before.now c.args.step.now) (length d.trains) c.loop-index.index (omega arith)) ∙ c.loop-index.invariant

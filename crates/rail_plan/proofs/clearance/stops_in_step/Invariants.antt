@@ -5,4 +5,4 @@ use Rattle.rail_plan.proofs.clearance.stops_in_step.Given as goal
 
 -- none so far does
 abbrev pub invariant-loop-command : goal.invariant-loop-command
-invariant-loop-command l = list_any (stops l.design.station l.routes l.between l.train l.section) (drop l.command-index l.command-items) ≡ list_any (stops l.design.station l.routes l.between l.train l.section) l.command-items
+invariant-loop-command l = list_any (stops l.interlocking.design.station l.interlocking.routes l.between l.train l.section) (drop l.command-index l.command-items) ≡ list_any (stops l.interlocking.design.station l.interlocking.routes l.between l.train l.section) l.command-items

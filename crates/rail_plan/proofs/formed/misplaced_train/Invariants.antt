@@ -8,5 +8,5 @@ use Rattle.rail_plan.proofs.formed.misplaced_train.Given as goal
 -- the first is to be found among the trains that are left
 abbrev pub invariant-loop-index : goal.invariant-loop-index
 invariant-loop-index l =
-    let test : TrainNo → _ = λ t. not (is_placed l.design.station l.routes l.before l.step t) in
-    first_of_list (filter test (map (λ n. record { 0 = n }) (count_from (l.index + 1) (length l.design.station.trains - l.index)))) ≡ first_of_list (filter test (trains l.design.station))
+    let test : TrainNo → _ = λ t. not (is_placed l.interlocking.design.station l.interlocking.routes l.before l.step t) in
+    first_of_list (filter test (map (λ n. record { 0 = n }) (count_from (l.index + 1) (length l.interlocking.design.station.trains - l.index)))) ≡ first_of_list (filter test (trains l.interlocking.design.station))

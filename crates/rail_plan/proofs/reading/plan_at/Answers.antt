@@ -12,8 +12,8 @@ use Rattle.rail_plan.proofs.reading.plan_at.Goals as goal
 
 pub returns-in_err-steps-in-Some : goal.returns-in_err-steps-in-Some
 returns-in_err-steps-in-Some c =
-    let d = c.args.design.now.station in
-    let routes = c.args.routes.now in
+    let d = c.args.interlocking.now.design.station in
+    let routes = c.args.interlocking.now.routes in
     let values = map view c.in-Some.steps.now in
     let text = c.in-Some.ensures.0 in
     let same = unread_is (train_names d) (length routes) values text c.in-Some.ensures.2 in
@@ -23,8 +23,8 @@ returns-in_err-steps-in-Some c =
 
 pub admit-requires : goal.admit-requires
 admit-requires c =
-    let d = c.args.design.now.station in
-    let routes = c.args.routes.now in
+    let d = c.args.interlocking.now.design.station in
+    let routes = c.args.interlocking.now.routes in
     let values = map view c.in-Some.steps.now in
     let text = c.in-Some.ensures.0 in
     let given = step_given (unread (train_names d) (length routes) values) (read_steps (train_names d) (length routes) values) c.in_ok-steps-in-Some.steps c.in_ok-steps-in-Some.ensures in
@@ -32,8 +32,8 @@ admit-requires c =
 
 pub returns-in_ok-steps-in-Some : goal.returns-in_ok-steps-in-Some
 returns-in_ok-steps-in-Some c =
-    let d = c.args.design.now.station in
-    let routes = c.args.routes.now in
+    let d = c.args.interlocking.now.design.station in
+    let routes = c.args.interlocking.now.routes in
     let values = map view c.in-Some.steps.now in
     let text = c.in-Some.ensures.0 in
     let given = step_given (unread (train_names d) (length routes) values) (read_steps (train_names d) (length routes) values) c.in_ok-steps-in-Some.steps c.in_ok-steps-in-Some.ensures in

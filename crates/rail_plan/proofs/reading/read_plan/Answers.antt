@@ -4,4 +4,4 @@ use Rattle.rail_plan.proofs.Spelled.{runnable_result}
 use Rattle.rail_plan.proofs.reading.read_plan.Goals as goal
 
 pub returns-clause-runnable : goal.returns-clause-runnable
-returns-clause-runnable c = runnable_result c.args.design.now.station c.args.routes.now (text_steps (view c.in_ok-value.value)) c.plan_at.result c.plan_at.ensures
+returns-clause-runnable c = runnable_result c.args.interlocking.now.design.station c.args.interlocking.now.routes (text_steps (view c.in_ok-value.value)) c.plan_at.result c.plan_at.ensures

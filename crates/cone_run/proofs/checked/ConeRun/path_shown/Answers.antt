@@ -10,11 +10,11 @@ use Rattle.cone_run.proofs.checked.ConeRun.path_shown.Goals as goal
 pub stops_of-requires-clause-named : goal.stops_of-requires-clause-named
 stops_of-requires-clause-named c =
     let l = c.args.self.now.layout in
-    let routes = l.routes.now in
-    subst (All (IsRoute routes)) (sym c.path-routes.ensures) (all_from_in (IsRoute routes) (named l.cone.now c.args.train).path (fair l.design.now.station routes l.cone.now c.requires.run.layout.known c.args.train).there)
+    let routes = l.contention.interlocking.now.routes in
+    subst (All (IsRoute routes)) (sym c.path-routes.ensures) (all_from_in (IsRoute routes) (named l.cone.now c.args.train).path (fair l.contention.interlocking.now.design.station routes l.cone.now l.known c.args.train).there)
 
 pub stops_of-requires-clause-short : goal.stops_of-requires-clause-short
 stops_of-requires-clause-short c =
     let l = c.args.self.now.layout in
-    let r = c.requires.run.layout in
-    subst (λ ps. way l.routes.now ps < 2 ^ 47) (sym c.path-routes.ensures) (paths_short l.design.now.station (admitted l.design.now.station l.design.now.admitted) l.routes.now r.table l.cone.now r.few r.known c.args.train)
+    let i = l.contention.interlocking.now in
+    subst (λ ps. way l.contention.interlocking.now.routes ps < 2 ^ 47) (sym c.path-routes.ensures) (paths_short l.contention.interlocking.now.design.station (admitted l.contention.interlocking.now.design.station l.contention.interlocking.now.design.admitted) l.contention.interlocking.now.routes i.table l.cone.now i.few l.known c.args.train)

@@ -9,9 +9,9 @@ use Rattle.cone_run.proofs.checked.ConeRun.visit_tick.Goals as goal
 pub returns : goal.returns
 returns c =
     let l = c.args.self.now.layout in
-    let d = l.design.now.station in
-    let routes = l.routes.now in
+    let d = l.contention.interlocking.now.design.station in
+    let routes = l.contention.interlocking.now.routes in
     let p = of_cone l.cone.now in
     let last = last_tick l.cone.now in
-    let told = c.requires.run.told in
+    let told = c.args.self.now.told in
     c.up_to.ensures ∙ ap (up_to c.args.last) (c.visit_tick.ensures ∙ ap (λ h. visit_tick h c.args.train c.args.visit) told) ∙ visit_asked d routes p last c.args.train c.requires.train c.args.last c.args.visit c.requires.last

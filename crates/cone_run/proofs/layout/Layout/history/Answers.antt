@@ -8,17 +8,18 @@ use Rattle.cone_run.proofs.layout.Layout.history.Goals as goal
 
 pub history_of-requires : goal.history_of-requires
 history_of-requires c =
-    let d = c.args.self.now.design.now.station in
-    let routes = c.args.self.now.routes.now in
+    let i = c.args.self.now.contention.interlocking.now in
+    let d = i.design.station in
     let cone = c.args.self.now.cone.now in
-    let adm = admitted d c.args.self.now.design.now.admitted in
-    let within = last_within d routes cone c.requires.known in
+    let known = c.args.self.now.known in
+    let adm = admitted d i.design.admitted in
+    let within = last_within d i.routes cone known in
     let most = adm.ticks.1 in
     let last = c.last_tick.ensures in (
       record {
-        contending = contending d routes cone c.requires.known;
-        goes = may_go d routes cone c.requires.known adm c.requires.table c.requires.few;
-        followers = subst (AreFollowers d routes (of_cone cone)) (sym c.as_slice-3.ensures.value) c.in_ok-followers.ensures;
+        contending = contending d i.routes cone known;
+        goes = may_go d i.routes cone known adm i.table i.few;
+        followers = subst (AreFollowers d i.routes (of_cone cone)) (sym c.as_slice-3.ensures.value) c.in_ok-followers.ensures;
       },
       (refl, omega arith),
     )

@@ -6,6 +6,6 @@ use Rattle.cone_run.proofs.layout.Layout.journeys.Given as goal
 
 abbrev pub invariant-loop-journey : goal.invariant-loop-journey
 invariant-loop-journey l = record {
-  each : All (IsLed l.self.design.now.station l.self.routes.now l.self.cone.now) l.journeys.items;
-  left : map (λ (j : Journey). j.course.now.train) l.journeys.items ++ map (λ (j : Journey). j.course.now.train) (drop l.journey-index l.plain) ≡ trains l.self.design.now.station;
+  each : All (IsLed l.self.contention.interlocking.now.design.station l.self.contention.interlocking.now.routes l.self.cone.now) l.journeys.items;
+  left : map (λ (j : Journey). j.course.now.train) l.journeys.items ++ map (λ (j : Journey). j.course.now.train) (drop l.journey-index l.plain) ≡ trains l.self.contention.interlocking.now.design.station;
 }

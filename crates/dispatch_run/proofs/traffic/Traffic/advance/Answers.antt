@@ -7,14 +7,14 @@ use Rattle.dispatch_run.proofs.traffic.Traffic.advance.Goals as goal
 
 pub next_tick-tick-requires-clause-looks : goal.next_tick-tick-requires-clause-looks
 next_tick-tick-requires-clause-looks g c =
-    let d = c.args.self.now.design.now.station in
-    let routes = c.args.self.now.routes.now in
+    let d = c.args.self.now.interlocking.now.design.station in
+    let routes = c.args.self.now.interlocking.now.routes in
     λ l m. looks_ahead d routes g.dispatch c.args.progress.tick c.args.progress.states.items c.args.progress.looks.items c.requires.1.0.known l (subst (In l) c.as_slice.ensures.value m)
 
 pub next_states-requires : goal.next_states-requires
 next_states-requires g c =
-    let d = c.args.self.now.design.now.station in
-    let routes = c.args.self.now.routes.now in
+    let d = c.args.self.now.interlocking.now.design.station in
+    let routes = c.args.self.now.interlocking.now.routes in
     let old = c.args.progress in
     let progress = c.requires.1.0 in
     let tick = c.next_tick-tick.result in
@@ -25,8 +25,8 @@ next_states-requires g c =
 
 pub next_histories-requires : goal.next_histories-requires
 next_histories-requires g c =
-    let d = c.args.self.now.design.now.station in
-    let routes = c.args.self.now.routes.now in
+    let d = c.args.self.now.interlocking.now.design.station in
+    let routes = c.args.self.now.interlocking.now.routes in
     let old = c.args.progress in
     let progress = c.requires.1.0 in
     let tick = c.next_tick-tick.result in
@@ -43,8 +43,8 @@ next_histories-requires g c =
 
 pub next_looks-requires : goal.next_looks-requires
 next_looks-requires g c =
-    let d = c.args.self.now.design.now.station in
-    let routes = c.args.self.now.routes.now in
+    let d = c.args.self.now.interlocking.now.design.station in
+    let routes = c.args.self.now.interlocking.now.routes in
     let old = c.args.progress in
     let progress = c.requires.1.0 in
     let tick = c.next_tick-tick.result in
@@ -61,8 +61,8 @@ next_looks-requires g c =
 
 pub returns-clause-quiet : goal.returns-clause-quiet
 returns-clause-quiet g c =
-    let d = c.args.self.now.design.now.station in
-    let routes = c.args.self.now.routes.now in
+    let d = c.args.self.now.interlocking.now.design.station in
+    let routes = c.args.self.now.interlocking.now.routes in
     let old = c.args.progress in
     let progress = c.requires.1.0 in
     let tick = c.next_tick-tick.result in

@@ -8,7 +8,7 @@ use Rattle.dispatch_run.proofs.traffic.Traffic.next_histories.Goals as goal
 
 pub loop-i-init : goal.loop-i-init
 loop-i-init g c =
-    let history = train_history c.args.self.now.design.now.station c.args.self.now.routes.now g.dispatch c.args.tick in
+    let history = train_history c.args.self.now.interlocking.now.design.station c.args.self.now.interlocking.now.routes g.dispatch c.args.tick in
     let items = c.new-told.ensures.items in
     record {
       left = refl;
@@ -19,7 +19,7 @@ pub remove-old-requires : goal.remove-old-requires
 remove-old-requires g c =
     let len = c.loop-i.olds.ok.0 in
     let left = ap length c.loop-i.invariant.left in
-    let many = many_journeys c.args.self.now.design.now.station c.args.self.now.followers.now c.requires.0.followers.all in
+    let many = many_journeys c.args.self.now.interlocking.now.design.station c.args.self.now.followers.now c.requires.0.followers.all in
     let count = c.requires.1.count in
     let less = c.loop-i-test.true in
     let some = length-dropped c.args.histories.items c.loop-i.i (omega arith) in
@@ -27,7 +27,7 @@ remove-old-requires g c =
 
 pub next_told-requires : goal.next_told-requires
 next_told-requires g c =
-    let d = c.args.self.now.design.now.station in
+    let d = c.args.self.now.interlocking.now.design.station in
     let js = c.args.self.now.followers.now in
     let i = c.loop-i.i in
     let many = many_journeys d js c.requires.0.followers.all in
@@ -37,14 +37,14 @@ next_told-requires g c =
       c.requires.0.followers.each i c.index-self-i.result less,
       (
         c.requires.1.some,
-        comes_off d c.args.self.now.routes.now g.dispatch c.args.tick c.args.states.now c.args.looks.now c.args.histories.items i (get_or js i c.index-self-i.result).journey.now.course.now.train c.state_of.result c.look_of.result c.remove-old.result
+        comes_off d c.args.self.now.interlocking.now.routes g.dispatch c.args.tick c.args.states.now c.args.looks.now c.args.histories.items i (get_or js i c.index-self-i.result).journey.now.course.now.train c.state_of.result c.look_of.result c.remove-old.result
             c.requires.1 number (omega arith) c.state_of.ensures c.look_of.ensures off,
       ),
     )
 
 pub loop-i-preserved : goal.loop-i-preserved
 loop-i-preserved g c =
-    let history = train_history c.args.self.now.design.now.station c.args.self.now.routes.now g.dispatch c.args.tick in
+    let history = train_history c.args.self.now.interlocking.now.design.station c.args.self.now.interlocking.now.routes g.dispatch c.args.tick in
     let made = c.in_ok-push.ensures.items in
     record {
       left = c.remove-old.ensures.items ∙ ap (drop 1) c.loop-i.invariant.left ∙ drop_once c.args.histories.items c.loop-i.i (c.loop-i.i + 1) refl;

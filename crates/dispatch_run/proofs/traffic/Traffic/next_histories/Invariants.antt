@@ -7,8 +7,8 @@ abbrev pub invariant-loop-i : goal.invariant-loop-i
 invariant-loop-i g l = record {
   left : l.olds.items ≡ drop l.i l.fn.histories.items;
   told :
-      l.told.items ++ map (λ (j : Follower). train_history l.self.design.now.station l.self.routes.now g.dispatch l.tick j.journey.now.course.now.train) (drop l.i l.self.followers.now)
-      ≡ history_at l.self.design.now.station l.self.routes.now g.dispatch l.tick;
+      l.told.items ++ map (λ (j : Follower). train_history l.self.interlocking.now.design.station l.self.interlocking.now.routes g.dispatch l.tick j.journey.now.course.now.train) (drop l.i l.self.followers.now)
+      ≡ history_at l.self.interlocking.now.design.station l.self.interlocking.now.routes g.dispatch l.tick;
 }
 
 abbrev pub ghost-next_told : goal.ghost-next_told

@@ -5,4 +5,4 @@ use Rattle.plan_encoding.proofs.frame.Frame.commands.Given as goal
 
 -- what is added and what is left to add make all of it
 abbrev pub invariant-loop-number : goal.invariant-loop-number
-invariant-loop-number l = l.commands.items ++ flat_map (commands_of l.self.routes.now) (map (λ t. record { 0 = t }) (count_from l.number (length l.self.design.now.station.trains + 1 - l.number))) ≡ all_commands l.self.design.now.station l.self.routes.now
+invariant-loop-number l = l.commands.items ++ flat_map (commands_of l.self.interlocking.now.routes) (map (λ t. record { 0 = t }) (count_from l.number (length l.self.interlocking.now.design.station.trains + 1 - l.number))) ≡ all_commands l.self.interlocking.now.design.station l.self.interlocking.now.routes

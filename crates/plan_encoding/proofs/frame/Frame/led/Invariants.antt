@@ -4,4 +4,4 @@ use Rattle.plan_encoding.proofs.frame.Frame.led.Given as goal
 
 -- what is put and what is left to put make all of it
 abbrev pub invariant-loop-route : goal.invariant-loop-route
-invariant-loop-route l = l.clause.items ++ map (numbered l.self.design.now.station l.self.routes.now l.self.steps) (flat_map (λ q. if_given (record { train = l.command.train; route = q }) (l.step - 1)) (drop l.route-index l.leading)) ≡ map (numbered l.self.design.now.station l.self.routes.now l.self.steps) (no (Given l.command l.step) ∷ flat_map (λ q. if_given (record { train = l.command.train; route = q }) (l.step - 1)) l.leading)
+invariant-loop-route l = l.clause.items ++ map (numbered l.self.interlocking.now.design.station l.self.interlocking.now.routes l.self.steps.count) (flat_map (λ q. if_given (record { train = l.command.train; route = q }) (l.step - 1)) (drop l.route-index l.leading)) ≡ map (numbered l.self.interlocking.now.design.station l.self.interlocking.now.routes l.self.steps.count) (no (Given l.command l.step) ∷ flat_map (λ q. if_given (record { train = l.command.train; route = q }) (l.step - 1)) l.leading)

@@ -4,8 +4,8 @@ use Rattle.plan_encoding.proofs.frame.Frame.put_apart_from.Goals as goal
 
 pub returns-in_err-put_apart_once-clause-err : goal.returns-in_err-put_apart_once-clause-err
 returns-in_err-put_apart_once-clause-err c =
-    handed_on _ c.from_residual.result c.in_err-put_apart_once.field-0.0 c.from_residual.ensures.1 (next_fails c.args.self.now _ _ _ (next_mapped (apart_once c.args.self.now.design.now.station c.args.self.now.routes.now c.args.self.now.steps) (λ s. (c.args.first, s)) c.args.rivals.now c.loop-second.second-index _ c.loop-second-test.true) c.loop-second.draft _ _ c.in_err-put_apart_once.ensures.err c.loop-second.invariant)
+    handed_on _ c.from_residual.result c.in_err-put_apart_once.field-0.0 c.from_residual.ensures.1 (next_fails c.args.self.now _ _ _ (next_mapped (apart_once c.args.self.now.interlocking.now.design.station c.args.self.now.interlocking.now.routes c.args.self.now.steps.count) (λ s. (c.args.first, s)) c.args.rivals.now c.loop-second.second-index _ c.loop-second-test.true) c.loop-second.draft _ _ c.in_err-put_apart_once.ensures.err c.loop-second.invariant)
 
 pub loop-second-preserved : goal.loop-second-preserved
 loop-second-preserved c =
-    listed_next c.args.self.now _ _ _ (next_mapped (apart_once c.args.self.now.design.now.station c.args.self.now.routes.now c.args.self.now.steps) (λ s. (c.args.first, s)) c.args.rivals.now c.loop-second.second-index _ c.loop-second-test.true) c.loop-second.draft c.put_apart_once.new.draft _ c.in_ok-put_apart_once.ensures.ok c.loop-second.invariant
+    listed_next c.args.self.now _ _ _ (next_mapped (apart_once c.args.self.now.interlocking.now.design.station c.args.self.now.interlocking.now.routes c.args.self.now.steps.count) (λ s. (c.args.first, s)) c.args.rivals.now c.loop-second.second-index _ c.loop-second-test.true) c.loop-second.draft c.put_apart_once.new.draft _ c.in_ok-put_apart_once.ensures.ok c.loop-second.invariant

@@ -6,4 +6,4 @@ use Rattle.plan_encoding.proofs.frame.Frame.put_apart_from.Given as goal
 
 -- what is left to list makes all of it
 abbrev pub invariant-loop-second : goal.invariant-loop-second
-invariant-loop-second l = listed l.draft (told l.self (flat_map (apart_once l.self.design.now.station l.self.routes.now l.self.steps) (map (λ c. (l.first, c)) (drop l.second-index l.rivals)))) ≡ listed l.fn.draft (told l.self (flat_map (apart_once l.self.design.now.station l.self.routes.now l.self.steps) (map (λ c. (l.first, c)) l.rivals)))
+invariant-loop-second l = listed l.draft (told l.self (flat_map (apart_once l.self.interlocking.now.design.station l.self.interlocking.now.routes l.self.steps.count) (map (λ c. (l.first, c)) (drop l.second-index l.rivals)))) ≡ listed l.fn.draft (told l.self (flat_map (apart_once l.self.interlocking.now.design.station l.self.interlocking.now.routes l.self.steps.count) (map (λ c. (l.first, c)) l.rivals)))

@@ -9,14 +9,14 @@ use Rattle.plan_encoding.proofs.frame.Frame.put_apart_of.Goals as goal
 pub returns-in_err-put-clause-err : goal.returns-in_err-put-clause-err
 returns-in_err-put-clause-err c =
     handed_on _ c.from_residual-in_err-put.result c.in_err-put.field-0.0 c.from_residual-in_err-put.ensures.1
-    (next_one_fails c.args.self.now _ _ _ (next_count_one (λ i. no (Given c.args.first i) ∷ if_given c.args.first (i - 1) ++ no (Given c.args.second i) ∷ if_given c.args.second (i - 1)) c.loop-step.step (c.args.self.now.steps + 1) c.loop-step-test.true) (c.deref.result.now) (c.deref.ensures.value ∙ c.in_ok-clause.ensures) c.loop-step.draft _ _ c.in_err-put.ensures.err c.loop-step.invariant)
+    (next_one_fails c.args.self.now _ _ _ (next_count_one (λ i. no (Given c.args.first i) ∷ if_given c.args.first (i - 1) ++ no (Given c.args.second i) ∷ if_given c.args.second (i - 1)) c.loop-step.step (c.args.self.now.steps.count + 1) c.loop-step-test.true) (c.deref.result.now) (c.deref.ensures.value ∙ c.in_ok-clause.ensures) c.loop-step.draft _ _ c.in_err-put.ensures.err c.loop-step.invariant)
 
 pub loop-step-preserved : goal.loop-step-preserved
 loop-step-preserved c =
-    next_one c.args.self.now _ _ _ (next_count_one (λ i. no (Given c.args.first i) ∷ if_given c.args.first (i - 1) ++ no (Given c.args.second i) ∷ if_given c.args.second (i - 1)) c.loop-step.step (c.args.self.now.steps + 1) c.loop-step-test.true) (c.deref.result.now) (c.deref.ensures.value ∙ c.in_ok-clause.ensures) c.loop-step.draft c.put.new.self _ c.in_ok-put.ensures.ok c.loop-step.invariant
+    next_one c.args.self.now _ _ _ (next_count_one (λ i. no (Given c.args.first i) ∷ if_given c.args.first (i - 1) ++ no (Given c.args.second i) ∷ if_given c.args.second (i - 1)) c.loop-step.step (c.args.self.now.steps.count + 1) c.loop-step-test.true) (c.deref.result.now) (c.deref.ensures.value ∙ c.in_ok-clause.ensures) c.loop-step.draft c.put.new.self _ c.in_ok-put.ensures.ok c.loop-step.invariant
 
 pub loop-step-init : goal.loop-step-init
-loop-step-init c = ap (λ m. listed c.args.draft.now (told c.args.self.now (map (λ i. no (Given c.args.first i) ∷ if_given c.args.first (i - 1) ++ no (Given c.args.second i) ∷ if_given c.args.second (i - 1)) (count_from 1 m)))) (less c.args.self.now.steps)
+loop-step-init c = ap (λ m. listed c.args.draft.now (told c.args.self.now (map (λ i. no (Given c.args.first i) ∷ if_given c.args.first (i - 1) ++ no (Given c.args.second i) ∷ if_given c.args.second (i - 1)) (count_from 1 m)))) (less c.args.self.now.steps.count)
   where
     less : (n : ℕ) → n + 1 - 1 ≡ n
     less n = omega arith

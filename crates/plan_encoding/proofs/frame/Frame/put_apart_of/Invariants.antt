@@ -8,4 +8,4 @@ use Rattle.plan_encoding.proofs.frame.Frame.put_apart_of.Given as goal
 
 -- what is left to list makes all of it
 abbrev pub invariant-loop-step : goal.invariant-loop-step
-invariant-loop-step l = listed l.draft (told l.self (map (λ i. no (Given l.first i) ∷ if_given l.first (i - 1) ++ no (Given l.second i) ∷ if_given l.second (i - 1)) (count_from l.step (l.self.steps + 1 - l.step)))) ≡ listed l.fn.draft (told l.self (not_at_once l.self.design.now.station l.self.routes.now l.self.steps (l.first, l.second)))
+invariant-loop-step l = listed l.draft (told l.self (map (λ i. no (Given l.first i) ∷ if_given l.first (i - 1) ++ no (Given l.second i) ∷ if_given l.second (i - 1)) (count_from l.step (l.self.steps.count + 1 - l.step)))) ≡ listed l.fn.draft (told l.self (not_at_once l.self.interlocking.now.design.station l.self.interlocking.now.routes l.self.steps.count (l.first, l.second)))

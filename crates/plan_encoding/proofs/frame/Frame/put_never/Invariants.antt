@@ -7,4 +7,4 @@ use Rattle.plan_encoding.proofs.frame.Frame.put_never.Given as goal
 
 -- what is left to list makes all of it
 abbrev pub invariant-loop-step : goal.invariant-loop-step
-invariant-loop-step l = listed l.draft (told l.self (map (λ i. no (Given l.command i) ∷ []) (count_from l.step (l.self.steps + 1 - l.step)))) ≡ listed l.fn.draft (told l.self (map (λ i. no (Given l.command i) ∷ []) (one_to l.self.steps)))
+invariant-loop-step l = listed l.draft (told l.self (map (λ i. no (Given l.command i) ∷ []) (count_from l.step (l.self.steps.count + 1 - l.step)))) ≡ listed l.fn.draft (told l.self (map (λ i. no (Given l.command i) ∷ []) (one_to l.self.steps.count)))

@@ -8,4 +8,4 @@ use Rattle.plan_encoding.proofs.frame.Frame.put_stays_of.Given as goal
 
 -- what is left to list makes all of it
 abbrev pub invariant-loop-step : goal.invariant-loop-step
-invariant-loop-step l = listed l.draft (told l.self (map (λ i. no (Given l.command i) ∷ yes (Given l.command (i + 1)) ∷ []) (count_from l.step (l.self.steps - l.step)))) ≡ listed l.fn.draft (told l.self (stays_given l.self.design.now.station l.self.routes.now l.self.steps l.command))
+invariant-loop-step l = listed l.draft (told l.self (map (λ i. no (Given l.command i) ∷ yes (Given l.command (i + 1)) ∷ []) (count_from l.step (l.self.steps.count - l.step)))) ≡ listed l.fn.draft (told l.self (stays_given l.self.interlocking.now.design.station l.self.interlocking.now.routes l.self.steps.count l.command))

@@ -5,4 +5,4 @@ use Rattle.plan_encoding.proofs.frame.Frame.start_there.Given as goal
 
 -- none so far does
 abbrev pub invariant-loop-route : goal.invariant-loop-route
-invariant-loop-route l = list_any (λ v. is_start (route_at l.self.routes.now v).start l.start) (drop l.route-index l.chain) ≡ list_any (λ v. is_start (route_at l.self.routes.now v).start l.start) l.chain
+invariant-loop-route l = list_any (λ v. is_start (route_at l.self.interlocking.now.routes v).start l.start) (drop l.route-index l.chain) ≡ list_any (λ v. is_start (route_at l.self.interlocking.now.routes v).start l.start) l.chain

@@ -5,4 +5,4 @@ use Rattle.rail_course.specs.declared.journey.Journey.{Journey}
 use Rattle.tick_sim.proofs.run.Run.first_states.Given as goal
 
 abbrev pub invariant-loop-journey : goal.invariant-loop-journey
-invariant-loop-journey l = l.states.items ++ map (λ (j : Journey). idle) (drop l._journey-index l._journey-items) ≡ state_at l.self.design.now.station l.self.routes.now l.self.plan.now.steps 0
+invariant-loop-journey l = l.states.items ++ map (λ (j : Journey). idle) (drop l._journey-index l._journey-items) ≡ state_at l.self.interlocking.now.design.station l.self.interlocking.now.routes l.self.plan.now.steps 0

@@ -12,29 +12,29 @@ use Rattle.tick_sim.proofs.Verdicting.{length-visits_on, path_here, path_later}
 use Rattle.tick_sim.proofs.run.Run.path_violation.Goals as goal
 
 pub loop-journey-init : goal.loop-journey-init
-loop-journey-init c = ap (λ ts. find (is_certain c.args.self.now.design.now.station c.args.self.now.routes.now c.args.self.now.plan.now.steps 1) (flat_map (λ t. map (violation.Path t) (visit_numbers c.args.self.now.design.now.station t)) ts)) c.requires.journeys.all
+loop-journey-init c = ap (λ ts. find (is_certain c.args.self.now.interlocking.now.design.station c.args.self.now.interlocking.now.routes c.args.self.now.plan.now.steps 1) (flat_map (λ t. map (violation.Path t) (visit_numbers c.args.self.now.interlocking.now.design.station t)) ts)) c.args.self.now.led.all
 
 pub missed-requires : goal.missed-requires
 missed-requires c =
-    let d = c.args.self.now.design.now.station in
-    let routes = c.args.self.now.routes.now in
+    let d = c.args.self.now.interlocking.now.design.station in
+    let routes = c.args.self.now.interlocking.now.routes in
     let plan = c.args.self.now.plan.now.steps in
     let j = c.journey-item.result in
-    let is : IsJourney d routes plan j = subst (IsJourney d routes plan) (sym c.journey-item.is) (c.requires.journeys.each c.loop-journey.journey-index j c.loop-journey-test.true) in
+    let is : IsJourney d routes plan j = subst (IsJourney d routes plan) (sym c.journey-item.is) (c.args.self.now.led.each c.loop-journey.journey-index j c.loop-journey-test.true) in
     let many = ap length (c.as_slice.ensures.value ∙ is.course.visits) ∙ length-visits_on d routes plan (train_of d j.course.now.train).visits (stops_of_train d routes plan j.course.now.train) in
-    let few = ((admitted d c.args.self.now.design.now.admitted).train j.course.now.train is.course.train).visits.1 in
+    let few = ((admitted d c.args.self.now.interlocking.now.design.admitted).train j.course.now.train is.course.train).visits.1 in
     omega arith
 
 pub returns-in-Some : goal.returns-in-Some
 returns-in-Some c =
-    let d = c.args.self.now.design.now.station in
-    let routes = c.args.self.now.routes.now in
+    let d = c.args.self.now.interlocking.now.design.station in
+    let routes = c.args.self.now.interlocking.now.routes in
     let plan = c.args.self.now.plan.now.steps in
     let js = c.args.self.now.journeys.now in
     let j = c.journey-item.result in
     let t = j.course.now.train in
     let train = λ (x : Journey). x.course.now.train in
-    let is : IsJourney d routes plan j = subst (IsJourney d routes plan) (sym c.journey-item.is) (c.requires.journeys.each c.loop-journey.journey-index j c.loop-journey-test.true) in
+    let is : IsJourney d routes plan j = subst (IsJourney d routes plan) (sym c.journey-item.is) (c.args.self.now.led.each c.loop-journey.journey-index j c.loop-journey-test.true) in
     let rest = drop (c.loop-journey.journey-index + 1) js in
     let cut : drop c.loop-journey.journey-index js ≡ j ∷ rest = drop_more js c.loop-journey.journey-index j c.loop-journey-test.true ∙ ap (λ x. x ∷ rest) (sym c.journey-item.is) in
     let found : c.missed.result ≡ position_from is_none 1 (visits_of_train d routes plan t) = c.missed.ensures ∙ ap (position_from is_none 1) (c.as_slice.ensures.value ∙ is.course.visits) in
@@ -43,14 +43,14 @@ returns-in-Some c =
 
 pub loop-journey-preserved : goal.loop-journey-preserved
 loop-journey-preserved c =
-    let d = c.args.self.now.design.now.station in
-    let routes = c.args.self.now.routes.now in
+    let d = c.args.self.now.interlocking.now.design.station in
+    let routes = c.args.self.now.interlocking.now.routes in
     let plan = c.args.self.now.plan.now.steps in
     let js = c.args.self.now.journeys.now in
     let j = c.journey-item.result in
     let t = j.course.now.train in
     let train = λ (x : Journey). x.course.now.train in
-    let is : IsJourney d routes plan j = subst (IsJourney d routes plan) (sym c.journey-item.is) (c.requires.journeys.each c.loop-journey.journey-index j c.loop-journey-test.true) in
+    let is : IsJourney d routes plan j = subst (IsJourney d routes plan) (sym c.journey-item.is) (c.args.self.now.led.each c.loop-journey.journey-index j c.loop-journey-test.true) in
     let rest = drop (c.loop-journey.journey-index + 1) js in
     let cut : drop c.loop-journey.journey-index js ≡ j ∷ rest = drop_more js c.loop-journey.journey-index j c.loop-journey-test.true ∙ ap (λ x. x ∷ rest) (sym c.journey-item.is) in
     let found : c.missed.result ≡ position_from is_none 1 (visits_of_train d routes plan t) = c.missed.ensures ∙ ap (position_from is_none 1) (c.as_slice.ensures.value ∙ is.course.visits) in

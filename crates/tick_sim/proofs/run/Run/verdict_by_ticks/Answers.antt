@@ -12,8 +12,8 @@ use Rattle.tick_sim.proofs.run.Run.verdict_by_ticks.Goals as goal
 
 pub next_histories-requires-clause-now : goal.next_histories-requires-clause-now
 next_histories-requires-clause-now c =
-    let d = c.args.self.now.design.now.station in
-    let routes = c.args.self.now.routes.now in
+    let d = c.args.self.now.interlocking.now.design.station in
+    let routes = c.args.self.now.interlocking.now.routes in
     let plan = c.args.self.now.plan.now.steps in
     record {
       first = c.loop-tick.invariant.first;
@@ -22,15 +22,15 @@ next_histories-requires-clause-now c =
 
 pub first_violation-requires : goal.first_violation-requires
 first_violation-requires c =
-    let d = c.args.self.now.design.now.station in
-    let routes = c.args.self.now.routes.now in
+    let d = c.args.self.now.interlocking.now.design.station in
+    let routes = c.args.self.now.interlocking.now.routes in
     let plan = c.args.self.now.plan.now.steps in
-    subst HasNumbers (sym c.in_ok-history-2.ensures) (plans_have_numbers d routes plan (admitted d c.args.self.now.design.now.admitted) 64 (omega arith) c.requires.run.formed.formed c.loop-tick.tick)
+    subst HasNumbers (sym c.in_ok-history-2.ensures) (plans_have_numbers d routes plan (admitted d c.args.self.now.interlocking.now.design.admitted) 64 (omega arith) c.args.self.now.formed.formed c.loop-tick.tick)
 
 pub returns-in-Some : goal.returns-in-Some
 returns-in-Some c =
-    let d = c.args.self.now.design.now.station in
-    let routes = c.args.self.now.routes.now in
+    let d = c.args.self.now.interlocking.now.design.station in
+    let routes = c.args.self.now.interlocking.now.routes in
     let plan = c.args.self.now.plan.now.steps in
     let k = c.loop-tick.tick in
     let first = c.loop-tick.invariant.first in
@@ -48,8 +48,8 @@ returns-in-Some c =
 
 pub returns-then-is_done : goal.returns-then-is_done
 returns-then-is_done c =
-    let d = c.args.self.now.design.now.station in
-    let routes = c.args.self.now.routes.now in
+    let d = c.args.self.now.interlocking.now.design.station in
+    let routes = c.args.self.now.interlocking.now.routes in
     let plan = c.args.self.now.plan.now.steps in
     let k = c.loop-tick.tick in
     let first = c.loop-tick.invariant.first in
@@ -68,8 +68,8 @@ returns-then-is_done c =
 
 pub loop-tick-preserved : goal.loop-tick-preserved
 loop-tick-preserved c =
-    let d = c.args.self.now.design.now.station in
-    let routes = c.args.self.now.routes.now in
+    let d = c.args.self.now.interlocking.now.design.station in
+    let routes = c.args.self.now.interlocking.now.routes in
     let plan = c.args.self.now.plan.now.steps in
     let k = c.loop-tick.tick in
     let first = c.loop-tick.invariant.first in
@@ -88,10 +88,10 @@ loop-tick-preserved c =
 
 pub returns : goal.returns
 returns c =
-    let d = c.args.self.now.design.now.station in
-    let routes = c.args.self.now.routes.now in
+    let d = c.args.self.now.interlocking.now.design.station in
+    let routes = c.args.self.now.interlocking.now.routes in
     let plan = c.args.self.now.plan.now.steps in
     let k = c.loop-tick.tick in
     let test = c.loop-tick-test.false in
     let last : c.min-last.result ≡ min c.args.ticks (horizon d) = c.min-last.ensures ∙ ap (min c.args.ticks) c.horizon.ensures.value in
-    undecided_is d routes plan (admitted d c.args.self.now.design.now.admitted) c.args.ticks c.min-last.result c.requires.paths last (λ i low high. c.loop-tick.invariant.before i low (omega arith))
+    undecided_is d routes plan (admitted d c.args.self.now.interlocking.now.design.admitted) c.args.ticks c.min-last.result c.requires.paths last (λ i low high. c.loop-tick.invariant.before i low (omega arith))

@@ -17,7 +17,7 @@ use Rattle.verify_loop.proofs.question.Question.asked.Goals as goal
 
 pub timed-requires : goal.timed-requires
 timed-requires c =
-    let d = c.args.self.now.design.now.station in
+    let d = c.args.self.now.interlocking.now.design.station in
     let n = c.args.self.now.base.now.steps in
     let b = c.args.self.now.budgets in
     let one = c.args.search.solver in
@@ -36,7 +36,7 @@ timed-requires c =
 
 pub denied-requires : goal.denied-requires
 denied-requires c =
-    let d = c.args.self.now.design.now.station in
+    let d = c.args.self.now.interlocking.now.design.station in
     let n = c.args.self.now.base.now.steps in
     let b = c.args.self.now.budgets in
     let one = c.args.search.solver in
@@ -45,7 +45,7 @@ denied-requires c =
     let some = c.args.self.now.some in
     let core = c.in-Unsat.core.clause.items in
     let new = state_in two.recorder two.derives in
-    let good = admitted d c.args.self.now.design.now.admitted in
+    let good = admitted d c.args.self.now.interlocking.now.design.admitted in
     let room : two.recorder.limit ≡ b.log_bytes = some-same two.recorder.limit one.recorder.limit (run.6.limit ∙ run.3.limit) ∙ c.requires.state.limit in
     let within = two.recorder.within in
     let less : derive_count run.0 < b.conflicts - one.derives = subst (λ (k : ℕ). derive_count run.0 < b.conflicts - k) c.derives.ensures run.4 in
@@ -64,7 +64,7 @@ denied-requires c =
 
 pub returns-in-Spent-clause-ends : goal.returns-in-Spent-clause-ends
 returns-in-Spent-clause-ends c =
-    let d = c.args.self.now.design.now.station in
+    let d = c.args.self.now.interlocking.now.design.station in
     let n = c.args.self.now.base.now.steps in
     let b = c.args.self.now.budgets in
     let one = c.args.search.solver in
@@ -84,7 +84,7 @@ returns-in-Spent-clause-ends c =
 
 pub returns-in-Full-clause-ends : goal.returns-in-Full-clause-ends
 returns-in-Full-clause-ends c =
-    let d = c.args.self.now.design.now.station in
+    let d = c.args.self.now.interlocking.now.design.station in
     let n = c.args.self.now.base.now.steps in
     let b = c.args.self.now.budgets in
     let one = c.args.search.solver in

@@ -8,7 +8,7 @@ use Rattle.verify_loop.proofs.question.Question.denied.Goals.{then-is_empty-via-
 
 pub returns-then-is_empty-clause-ends : goal.returns-then-is_empty-clause-ends
 returns-then-is_empty-clause-ends c =
-    let d = c.args.self.now.design.now.station in
+    let d = c.args.self.now.interlocking.now.design.station in
     let n = c.args.self.now.base.now.steps in
     let b = c.args.self.now.budgets in
     let which : (c.args.core.now ≡ []) ⊎ (c.args.search.steps ≡ n) = elim c.then-is_empty.branch [

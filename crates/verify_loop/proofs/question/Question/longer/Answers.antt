@@ -5,7 +5,7 @@ use Rattle.verify_loop.proofs.question.Question.longer.Goals as goal
 
 pub returns : goal.returns
 returns c =
-    let d = c.args.self.now.design.now.station in
+    let d = c.args.self.now.interlocking.now.design.station in
     let s = c.requires.state in
     let less = c.requires.less in (
       record {

@@ -8,7 +8,7 @@ use Rattle.verify_loop.proofs.question.Question.put_to.Goals as goal
 
 pub solve-requires-clause-assumed : goal.solve-requires-clause-assumed
 solve-requires-clause-assumed c = λ l h.
-    let d = c.args.self.now.design.now.station in
+    let d = c.args.self.now.interlocking.now.design.station in
     let n = c.args.self.now.base.now.steps in
     let at : l.var ≡ vars d n - n + c.args.steps = ap (λ (z : Lit). z.var) (held-one c.by_step.result l h ∙ c.by_step.ensures) in
     let same = c.requires.vars in

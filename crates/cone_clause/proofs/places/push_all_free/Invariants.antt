@@ -1,8 +1,0 @@
-use Rattle.rail_cone.specs.declared.ConeTrain.{ConeTrain}
-use Rattle.cone_clause.specs.Places.{Adds, IsPlaceBeforeFree}
-use Rattle.cone_clause.proofs.Adding.{OfFront}
-use Rattle.cone_clause.proofs.places.push_all_free.Given as goal
-
--- the places of the trains so far are added
-abbrev pub invariant-loop-entry : goal.invariant-loop-entry
-invariant-loop-entry l = Adds (OfFront (λ (e : ConeTrain). IsPlaceBeforeFree l.pairs l.cone e.train) l.entry-items l.entry-index) l.fn.places.items l.places.items

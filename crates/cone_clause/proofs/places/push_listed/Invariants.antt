@@ -1,8 +1,0 @@
-use Rattle.cone_clause.specs.Places.{Adds, IsPlaceOf}
-use Rattle.cone_clause.proofs.Adding.{OfFront}
-use Rattle.rail_base.specs.declared.plan.Command.{Command}
-use Rattle.cone_clause.proofs.places.push_listed.Given as goal
-
--- the places of the pairs so far are added
-abbrev pub invariant-loop-pair : goal.invariant-loop-pair
-invariant-loop-pair l = Adds (OfFront (λ (p : Command × Command). IsPlaceOf l.pairs p) l.listed l.pair-index) l.fn.places.items l.places.items

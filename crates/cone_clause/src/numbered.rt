@@ -1,0 +1,17 @@
+//! Cones over the variables of the base.
+
+ghost use Rattle.std.specs.Prelude.{◌≡◌, true};
+ghost use Rattle.cone_design.specs.Fits.{fits};
+
+use cone_design::Contention;
+use interlocking::Steps;
+use rail_cone::Cone;
+
+/// A cone that speaks of the design, and how many steps the plans have that its clause is for.
+#[derive(Clone, Copy)]
+pub(crate) struct NumberedCone<'a> {
+    pub contention: Contention<'a>,
+    pub steps: Steps,
+    pub cone: &'a Cone,
+    pub ghost known: { fits contention.interlocking.now cone.now ≡ true },
+}

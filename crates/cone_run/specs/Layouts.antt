@@ -1,0 +1,124 @@
+-- A cone with its courses: what its run is, and what is asked of it.
+use Rattle.std.specs.Prelude.{ℕ, ◌+◌, ◌-◌, Bool, ◌&&◌, List, nat_le, Option, is_none}
+use Rattle.std.specs.List.{list_all}
+use Rattle.rail_base.specs.declared.station.Station.{Station}
+use Rattle.rail_base.specs.declared.station.Order.{Order}
+use Rattle.rail_base.specs.declared.station.TrainNo.{TrainNo}
+use Rattle.rail_base.specs.declared.station.Within.{Within}
+use Rattle.rail_base.specs.declared.route.Route.{Route}
+use Rattle.rail_base.specs.declared.route.RouteNo.{RouteNo}
+use Rattle.rail_base.specs.declared.plan.Command.{Command}
+use Rattle.rail_base.specs.declared.plan.Violation.{Violation}
+use Rattle.rail_base.specs.declared.history.TrainHistory.{TrainHistory}
+use Rattle.rail_spec.specs.Dispatches.{state_at}
+use Rattle.rail_spec.specs.Dispatches as dispatches
+use Rattle.rail_spec.specs.Requirements.{most_ticks}
+use Rattle.rail_course.specs.declared.journey.Journey.{Journey}
+use Rattle.rail_course.specs.declared.waits.Wait.{Wait}
+use Rattle.rail_course.specs.Journeys.{AreJourneys}
+use Rattle.rail_cone.specs.declared.ConeFault.{ConeFault}
+use Rattle.rail_cone.specs.declared.ConeTrain.{ConeTrain}
+use Rattle.rail_cone.specs.Cones.{named, of_cone}
+use Rattle.rail_cone.specs.Validity as validity
+use Rattle.dispatch_run.specs.declared.traffic.Follower.{Follower}
+use Rattle.dispatch_run.specs.Followers.{AreFollowers}
+use Rattle.cone_run.specs.declared.layout.Layout.{Layout}
+use Rattle.cone_run.specs.Checks.{IsEntry}
+use Rattle.cone_run.specs.Runs.{AreLed, free_plan, listed_waits, run_of}
+use Rattle.cone_run.specs.Runs as runs
+
+module _ (l : Layout) where
+  -- the station
+  abbrev pub station_of : Station
+  station_of = l.contention.interlocking.now.design.station
+
+  -- its routes
+  abbrev pub routes_in : List Route
+  routes_in = l.contention.interlocking.now.routes
+
+  -- ---- the run
+
+  -- what happens to each train, up to the greatest horizon
+  abbrev pub history_in : List TrainHistory
+  history_in = run_of l.contention.interlocking.now l.cone.now
+
+  -- what a command waits for
+  abbrev pub waits_in : Command → List Wait
+  waits_in = listed_waits station_of routes_in l.cone.now
+
+  -- the waits of each free command of a train
+  abbrev pub waits_of_train : TrainNo → List (List Wait)
+  waits_of_train = runs.waits_of_train station_of routes_in l.cone.now
+
+  -- these are the journeys of all trains in a plan of the free commands, in file order
+  abbrev pub ArePlain : List Journey → Type 0
+  ArePlain = AreJourneys station_of routes_in (free_plan l.cone.now)
+
+  -- these are the journeys of all trains in the run, in file order
+  abbrev pub AreLedIn : List Journey → Type 0
+  AreLedIn = AreLed station_of routes_in l.cone.now
+
+  -- these are the followers of all trains in the run, in file order
+  abbrev pub AreFollowersOf : List Follower → Type 0
+  AreFollowersOf = AreFollowers station_of routes_in (of_cone l.cone.now)
+
+  -- ---- what is asked of it
+
+  -- what the cone says of a train is in range
+  abbrev pub IsEntryOf : ConeTrain → Type 0
+  IsEntryOf = IsEntry station_of routes_in l.cone.now
+
+  -- a train's free commands are granted by its horizon
+  abbrev pub free_granted : ConeTrain → Bool
+  free_granted = validity.free_granted station_of routes_in l.cone.now
+
+  -- so are those of all trains
+  abbrev pub all_granted : Bool
+  all_granted = list_all free_granted l.cone.now.trains
+
+  -- the last free command of a train is granted exactly at its horizon
+  abbrev pub just_granted : ConeTrain → Bool
+  just_granted = validity.just_granted station_of routes_in l.cone.now
+
+  -- a train needs a holder
+  abbrev pub holder_needed : ConeTrain → Bool
+  holder_needed = validity.holder_needed station_of routes_in l.cone.now
+
+  -- the second command has released by a tick what it shares with the first, which waits for it
+  abbrev pub has_cleared : ℕ → Command → Command → Bool
+  has_cleared tick = let dispatch = of_cone l.cone.now in
+      dispatches.has_cleared station_of routes_in dispatch (state_at station_of routes_in dispatch tick)
+
+  -- a command holds up a train before its first waiting command, of this route
+  abbrev pub holds_up : ConeTrain → Command → Option RouteNo → Bool
+  holds_up = validity.holds_up station_of routes_in l.cone.now
+
+  -- a train has this holder where it needs one, which holds it up, and none where it needs none
+  abbrev pub held : ConeTrain → Option Command → Bool
+  held = validity.held station_of routes_in l.cone.now
+
+  -- it is so with all trains
+  abbrev pub all_held : Bool
+  all_held = list_all (λ (c : ConeTrain). held c c.holder) l.cone.now.trains
+
+  -- the tick, up to this one, of a train's visit
+  abbrev pub visit_in : ℕ → TrainNo → ℕ → Option ℕ
+  visit_in = validity.cone_visit station_of routes_in l.cone.now
+
+  -- the second visit of a within, whose first is made at this tick, is certain to come too late
+  abbrev pub comes_late : Within → ℕ → Bool
+  comes_late w tick = let last = tick + most_ticks station_of w in
+      nat_le last (named l.cone.now w.to_train).horizon && is_none (visit_in last w.to_train w.to_visit)
+
+  -- the first visit of an order, whose second is made at this tick, is certain not to come before it
+  abbrev pub comes_after : Order → ℕ → Bool
+  comes_after o tick =
+      nat_le tick ((named l.cone.now o.first_train).horizon + 1) && is_none (visit_in (tick - 1) o.first_train o.first_visit)
+
+  -- the violation is certain
+  abbrev pub shown : Violation → Bool
+  shown = validity.shown station_of routes_in l.cone.now
+
+  -- the first reason against the cone
+  abbrev pub fault_in : Option ConeFault
+  fault_in = validity.fault_of station_of routes_in l.cone.now

@@ -1,0 +1,9 @@
+use Rattle.std.proofs.Common.{◌≡◌}
+use Rattle.rail_base.specs.Numbering.{or_this}
+use Rattle.rail_spec.specs.Visits.{is_passed}
+use Rattle.dispatch_run.proofs.Filling.{filled}
+use Rattle.dispatch_run.proofs.marks.mark_passes.Given as goal
+
+-- the passes so far are marked
+abbrev pub invariant-loop-index : goal.invariant-loop-index
+invariant-loop-index l = l.passes ≡ filled (λ stop pass. (stop.node, or_this pass.1 (is_passed l.state stop) l.tick)) l.index l.stops l.fn.passes

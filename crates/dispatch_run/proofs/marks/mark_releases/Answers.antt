@@ -1,0 +1,40 @@
+use Rattle.std.proofs.Common.{◌≡◌, ℕ, suc, ◌+◌, length, get_or, set, Option, None, ap, ap₂, ◌∙◌, arith}
+use Rattle.rail_base.specs.declared.station.SectionNo.{SectionNo}
+use Rattle.rail_base.specs.declared.route.RouteNo.{RouteNo}
+use Rattle.rail_course.specs.declared.journey.Release.{Release}
+use Rattle.rail_base.specs.Numbering.{or_this}
+use Rattle.dispatch_quiet.specs.Releases.{is_released}
+use Rattle.dispatch_run.proofs.Filling.{filled}
+use Rattle.dispatch_run.proofs.Filling.{none_filled, next_is, one_more, length-filled, all_filled}
+use Rattle.dispatch_run.proofs.marks.mark_releases.Goals as goal
+
+pub loop-index-init : goal.loop-index-init
+loop-index-init c =
+    let make : Release → RouteNo × SectionNo × Option ℕ → RouteNo × SectionNo × Option ℕ = λ release entry. (release.route, release.section, or_this entry.2 (is_released c.args.state release) c.args.tick) in
+    none_filled make c.args.releases.now c.args.entries.now
+
+pub loop-index-preserved : goal.loop-index-preserved
+loop-index-preserved c =
+    let make : Release → RouteNo × SectionNo × Option ℕ → RouteNo × SectionNo × Option ℕ = λ release entry. (release.route, release.section, or_this entry.2 (is_released c.args.state release) c.args.tick) in
+    let i = c.loop-index.index in
+    let old = c.args.entries.now in
+    let parts = c.args.releases.now in
+    let none : Release = record { route = record { 0 = 0 }; section = record { 0 = 0 }; number = 0; place = 0 } in
+    let no_mark : RouteNo × SectionNo × Option ℕ = (record { 0 = 0 }, record { 0 = 0 }, None) in
+    let less = c.loop-index-test.true in
+    let own : get_or c.loop-index.entries i no_mark ≡ get_or old i no_mark = ap (λ zs. get_or zs i no_mark) c.loop-index.invariant ∙ next_is make i parts old no_mark in
+    let tick : c.first_tick-tick.result ≡ or_this (get_or old i no_mark).2 (is_released c.args.state (get_or parts i none)) c.args.tick =
+    c.first_tick-tick.ensures ∙ ap₂ (λ (m : RouteNo × SectionNo × Option ℕ) b. or_this m.2 b c.args.tick) own c.is_released.ensures in
+    let one : suc i ≡ i + 1 = omega arith in
+    ap₂ (λ zs k. set zs i ((get_or parts i none).route, (get_or parts i none).section, k)) c.loop-index.invariant tick
+    ∙ (one_more make i parts old none no_mark (let r = c.requires in omega arith) less ∙ ap (λ n. filled make n parts old) one)
+
+pub returns-clause-marked : goal.returns-clause-marked
+returns-clause-marked c =
+    let make : Release → RouteNo × SectionNo × Option ℕ → RouteNo × SectionNo × Option ℕ = λ release entry. (release.route, release.section, or_this entry.2 (is_released c.args.state release) c.args.tick) in
+    c.loop-index.invariant ∙ all_filled make c.loop-index.index c.args.releases.now c.args.entries.now c.loop-index-test.false c.requires
+
+pub returns-clause-count : goal.returns-clause-count
+returns-clause-count c =
+    let make : Release → RouteNo × SectionNo × Option ℕ → RouteNo × SectionNo × Option ℕ = λ release entry. (release.route, release.section, or_this entry.2 (is_released c.args.state release) c.args.tick) in
+    ap length c.loop-index.invariant ∙ length-filled make c.loop-index.index c.args.releases.now c.args.entries.now

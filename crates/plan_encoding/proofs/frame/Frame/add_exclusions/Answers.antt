@@ -1,9 +1,0 @@
-use Rattle.std.proofs.Common.{map, ap}
-use Rattle.rail_spec.specs.Plans.{route_at}
-use Rattle.plan_clauses.specs.Clauses.{exclude}
-use Rattle.plan_encoding.proofs.Gathering.{drop_next, kept_next}
-use Rattle.plan_encoding.proofs.frame.Frame.add_exclusions.Goals as goal
-
-pub loop-other-preserved : goal.loop-other-preserved
-loop-other-preserved c =
-    kept_next c.loop-other.found.items c.push_if.new.list.items _ _ _ _ (ap (map (λ q. (c.args.route, q))) (drop_next c.args.later.now c.loop-other.other-index _ c.loop-other-test.true)) (λ p. exclude (route_at c.args.self.now.routes.now p.0) (route_at c.args.self.now.routes.now p.1)) {b = c.exclude-excludes.result} (cc) c.in_ok-push_if.ensures c.loop-other.invariant

@@ -1,7 +1,0 @@
-use Rattle.std.proofs.Common.{◌≡◌, ◌++◌, drop, filter}
-use Rattle.rail_spec.specs.Plans.{route_at, goes_on}
-use Rattle.plan_encoding.proofs.frame.Frame.leading_to.Given as goal
-
--- what is found and what is left to find make all of it
-abbrev pub invariant-loop-number : goal.invariant-loop-number
-invariant-loop-number l = l.found.items ++ filter (λ q. goes_on (route_at l.self.routes.now q).finish l.start) (drop l.number-index l.numbers) ≡ filter (λ q. goes_on (route_at l.self.routes.now q).finish l.start) l.numbers

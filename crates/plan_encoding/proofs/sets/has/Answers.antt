@@ -1,9 +1,0 @@
-use Rattle.std.proofs.Common.{sym}
-use Rattle.plan_encoding.proofs.Bits.{bit_is, none_past}
-use Rattle.plan_encoding.proofs.sets.has.Goals as goal
-
-pub returns-in-Some : goal.returns-in-Some
-returns-in-Some c = bit_is c.args.set.now c.args.number c.in-Some.word.now (c.in-Some.ensures.lookup.3.1 0)
-
-pub returns-in-None : goal.returns-in-None
-returns-in-None c = sym (none_past c.args.set.now c.args.number c.in-None.ensures.lookup.3)

@@ -1,0 +1,128 @@
+-- The clauses of a frame as they are listed, family by family.
+use Rattle.std.specs.Prelude.{ℕ, ◌≡◌, ◌<◌, ◌+◌, ◌-◌, ◌*◌, List, [], ◌∷◌, ◌++◌, map, filter, flat_map, length, get_or}
+use Rattle.rail_base.specs.declared.station.Station.{Station}
+use Rattle.rail_base.specs.declared.station.TrainNo.{TrainNo}
+use Rattle.rail_base.specs.declared.route.Route.{Route}
+use Rattle.rail_base.specs.declared.station.NodeNo.{NodeNo}
+use Rattle.rail_base.specs.declared.route.RouteNo.{RouteNo}
+use Rattle.rail_base.specs.declared.plan.Command.{Command}
+use Rattle.rail_base.specs.Numbering.{one_to}
+use Rattle.rail_base.specs.Stations.{trains}
+use Rattle.rail_spec.specs.Plans.{all_commands, commands_of, contend, route_numbers}
+use Rattle.plan_clauses.specs.Variables.{Given, Before, By, yes, no, if_given, number_of, pairs}
+use Rattle.plan_clauses.specs.Clauses.{Clause, all_given, excluded, first_pairs, in_order, makes_visits, may_visit, not_at_once, starts_rightly, stays_given, waits}
+use Rattle.plan_encoding.specs.declared.frame.Frame.{Frame}
+use Rattle.plan_encoding.specs.Frames.{over, station, table}
+
+-- ---- clauses of commands
+
+-- where a command is given by a step, one of these routes is given to its train by the step before
+abbrev pub led : Command → List RouteNo → ℕ → Clause
+led c leading i = no (Given c i) ∷ flat_map (λ q. if_given (record { train = c.train; route = q }) (i - 1)) leading
+
+-- of two commands not both are new in a step
+abbrev pub apart : Command → Command → ℕ → Clause
+apart e c i = no (Given e i) ∷ if_given e (i - 1) ++ no (Given c i) ∷ if_given c (i - 1)
+
+-- the train is given one of the routes by a step
+abbrev pub one_given : TrainNo → List RouteNo → ℕ → Clause
+one_given t rs i = map (λ w. yes (Given (record { train = t; route = w }) i)) rs
+
+-- or not one of them
+abbrev pub one_not_given : TrainNo → List RouteNo → ℕ → Clause
+one_not_given t rs i = map (λ w. no (Given (record { train = t; route = w }) i)) rs
+
+-- where the first one's train is given the chain and no route further on, the second is not new in the next step
+abbrev pub waiting : Command → Command → List RouteNo → List RouteNo → ℕ → Clause
+waiting e c chain further i =
+    one_not_given e.train chain i ++ no (Given c (i + 1)) ∷ yes (Given c i) ∷ one_given e.train further i
+
+module _ (f : Frame) where
+  -- ---- commands
+
+  -- the commands that contend with this one
+  abbrev pub rivals_of : Command → List Command
+  rivals_of e = filter (contend (table f) e) (all_commands (station f) (table f))
+
+  -- those of a train
+  abbrev pub rivals_in : Command → TrainNo → List Command
+  rivals_in e t = filter (contend (table f) e) (commands_of (table f) t)
+
+  -- ---- clauses of the frame
+
+  -- the command is given by no step
+  abbrev pub never_given : Command → List Clause
+  never_given c = map (λ i. no (Given c i) ∷ []) (one_to f.steps.count)
+
+  -- one of the routes is given by the step before, by whichever step the command is given
+  abbrev pub led_always : Command → List RouteNo → List Clause
+  led_always c leading = map (led c leading) (one_to f.steps.count)
+
+  -- one of the routes is given on which the visit may be made
+  abbrev pub visited_on : TrainNo → ℕ → List NodeNo → Clause
+  visited_on t k set = one_given t (filter (over f may_visit k set) (route_numbers (table f))) f.steps.count
+
+  -- by step k the command is given, if it is given at all
+  abbrev pub given_by : ℕ → Command → Clause
+  given_by k c = no (By k) ∷ no (Given c f.steps.count) ∷ yes (Given c k) ∷ []
+
+  -- ---- numbers of variables
+
+  -- the number of the last variable of a pair
+  abbrev pub last_pair : ℕ
+  last_pair = length (station f).trains * length (table f) * f.steps.count + length (pairs (station f) (table f))
+
+  -- the pairs of a command with others have the numbers that follow on one
+  abbrev pub Follow : Command → List Command → ℕ → Type 0
+  Follow e cs last = (i : ℕ) (c : Command) → i < length cs → over f number_of (Before e (get_or cs i c)) ≡ last + i + 1
+
+  -- ---- families
+
+  -- what a command asks with each of these
+  abbrev pub each_with : (Station → List Route → ℕ → Command × Command → List Clause)
+      → Command → List Command → List Clause
+  each_with family e cs = flat_map (over f family) (map (λ c. (e, c)) cs)
+
+  -- what is given stays given
+  abbrev pub all_stay : List Clause
+  all_stay = flat_map (over f stays_given) (all_commands (station f) (table f))
+
+  -- all routes start rightly
+  abbrev pub all_start_rightly : List Clause
+  all_start_rightly = flat_map (over f starts_rightly) (all_commands (station f) (table f))
+
+  -- no train is given two routes that exclude each other
+  abbrev pub none_excluded : List Clause
+  none_excluded = flat_map (over f excluded) (trains (station f))
+
+  -- no contending commands are given in one step
+  abbrev pub all_apart : List Clause
+  all_apart = flat_map (over f not_at_once) (over f first_pairs)
+
+  -- contending commands wait for each other
+  abbrev pub all_wait : List Clause
+  all_wait = flat_map (over f waits) (pairs (station f) (table f))
+
+  -- all trains make their visits
+  abbrev pub all_visits : List Clause
+  all_visits = flat_map (over f makes_visits) (trains (station f))
+
+  -- what the variables of pairs say
+  abbrev pub all_in_order : List Clause
+  all_in_order = flat_map (over f in_order) (pairs (station f) (table f))
+
+  -- what the variables of steps say
+  abbrev pub all_by_steps : List Clause
+  all_by_steps = flat_map (over f all_given) (one_to (f.steps.count - 1))
+
+  -- what commands and trains ask by themselves
+  abbrev pub alone : List Clause
+  alone = all_stay ++ all_start_rightly ++ none_excluded
+
+  -- what contending commands ask of each other
+  abbrev pub together : List Clause
+  together = all_apart ++ all_wait
+
+  -- that all visits are made, and what the variables of pairs and of steps say
+  abbrev pub told_by : List Clause
+  told_by = all_visits ++ all_in_order ++ all_by_steps

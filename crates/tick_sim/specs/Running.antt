@@ -1,0 +1,69 @@
+-- What happens in the run of a plan.
+use Rattle.std.specs.Prelude.{ℕ, List, Option, take}
+use Rattle.rail_base.specs.declared.history.TrainHistory.{TrainHistory}
+use Rattle.rail_base.specs.declared.history.Verdict.{Verdict}
+use Rattle.rail_base.specs.declared.plan.Violation.{Violation}
+use Rattle.rail_base.specs.declared.route.Route.{Route}
+use Rattle.rail_base.specs.declared.state.TrainState.{TrainState}
+use Rattle.rail_base.specs.declared.station.TrainNo.{TrainNo}
+use Rattle.rail_spec.specs.Histories.{history_at, train_history, verdict_of}
+use Rattle.rail_spec.specs.Plans.{path_routes}
+use Rattle.rail_spec.specs.Requirements.{path_violation}
+use Rattle.rail_spec.specs.Run.{granted_after, moved, state_at, tick}
+use Rattle.rail_course.specs.declared.journey.Journey.{Journey}
+use Rattle.rail_course.specs.Journeys.{IsJourney}
+use Rattle.tick_sim.specs.declared.run.Run.{Run}
+use Rattle.tick_sim.specs.Runs.{CanMove, IsNow, IsReached}
+
+module _ (r : Run) where
+  -- the journey is that of its train
+  abbrev pub IsJourneyIn : Journey → Type 0
+  IsJourneyIn = IsJourney r.interlocking.now.design.station r.interlocking.now.routes r.plan.now.steps
+
+  -- these are the states at a tick up to 86,400
+  abbrev pub IsReachedIn : List TrainState → Type 0
+  IsReachedIn = IsReached r.interlocking.now.design.station r.interlocking.now.routes r.plan.now.steps
+
+  -- these are the states at a tick from 1 on
+  abbrev pub IsNowIn : ℕ → List TrainState → Type 0
+  IsNowIn = IsNow r.interlocking.now.design.station r.interlocking.now.routes r.plan.now.steps
+
+  -- full braking is permitted to a train by so many grants
+  abbrev pub CanMoveIn : TrainNo → ℕ → TrainState → Type 0
+  CanMoveIn = CanMove r.interlocking.now.design.station r.interlocking.now.routes r.plan.now.steps
+
+  -- the first routes of a train's path, so many of them
+  abbrev pub first_routes : TrainNo → ℕ → List Route
+  first_routes t granted = take granted (path_routes r.interlocking.now.routes r.plan.now.steps t)
+
+  -- a train after a tick, of which so many commands are granted then
+  abbrev pub moved_in : TrainNo → TrainState → ℕ → TrainState
+  moved_in = moved r.interlocking.now.design.station r.interlocking.now.routes r.plan.now.steps
+
+  -- how many commands of a train are granted after the tick
+  abbrev pub granted_in : List TrainState → TrainNo → ℕ
+  granted_in = granted_after r.interlocking.now.design.station r.interlocking.now.routes r.plan.now.steps
+
+  -- all trains after the tick
+  abbrev pub tick_in : List TrainState → List TrainState
+  tick_in = tick r.interlocking.now.design.station r.interlocking.now.routes r.plan.now.steps
+
+  -- all trains at a tick
+  abbrev pub states_in : ℕ → List TrainState
+  states_in = state_at r.interlocking.now.design.station r.interlocking.now.routes r.plan.now.steps
+
+  -- what has happened to a train by a tick
+  abbrev pub train_history_in : ℕ → TrainNo → TrainHistory
+  train_history_in = train_history r.interlocking.now.design.station r.interlocking.now.routes r.plan.now.steps
+
+  -- what has happened to each train by a tick
+  abbrev pub history_in : ℕ → List TrainHistory
+  history_in = history_at r.interlocking.now.design.station r.interlocking.now.routes r.plan.now.steps
+
+  -- the first visit, by train, that no path makes
+  abbrev pub path_violation_in : Option Violation
+  path_violation_in = path_violation r.interlocking.now.design.station r.interlocking.now.routes r.plan.now.steps
+
+  -- what so many ticks show of the plan
+  abbrev pub verdict_in : ℕ → Verdict
+  verdict_in = verdict_of r.interlocking.now.design.station r.interlocking.now.routes r.plan.now.steps

@@ -1,0 +1,14 @@
+//! The ride of one train in a run.
+
+ghost use Rattle.tick_sim.specs.Running.{IsJourneyIn};
+
+use crate::run::Run;
+use rail_course::Journey;
+
+/// A run, and the journey that it gives one of the trains.
+#[derive(Clone, Copy)]
+pub(crate) struct Ride<'a> {
+    pub run: Run<'a>,
+    pub journey: &'a Journey<'a>,
+    pub ghost led: { IsJourneyIn run journey.now },
+}
