@@ -37,7 +37,7 @@ formed_for_more d routes k n plan within h =
     and_both _ _ (and_both _ _ (le-leb (length plan) n (omega arith)) (and_right (nat_le (length plan) k) (list_all one_each plan) (and_left (nat_le (length plan) k && list_all one_each plan) _ h)))
     (and_right (nat_le (length plan) k && list_all one_each plan) _ h)
 
-more_feasible : (d : Station) (k n : ℕ) (plan : List (List Command)) → k ≤ n → IsFeasible d k plan → IsFeasible d n plan
+pub more_feasible : (d : Station) (k n : ℕ) (plan : List (List Command)) → k ≤ n → IsFeasible d k plan → IsFeasible d n plan
 more_feasible d k n plan within f = record {
   runnable = record {
     well_formed = record { named = f.runnable.well_formed.named; formed = formed_for_more d (routes_of d) k n plan within f.runnable.well_formed.formed };
@@ -69,7 +69,7 @@ module _ (d : Station) (routes : List Route) (n : ℕ) (some : 1 ≤ n) (plan : 
   one_true true b = refl
   one_true false b = refl
 
-  each_alike : (ls : List Literal) → ((l : Literal) → In l ls → IsKnown d routes l.fact) → clause_holds (model_of d routes n plan) (map (lit_of d routes n) ls) ≡ not (is_false_of plan ls)
+  pub each_alike : (ls : List Literal) → ((l : Literal) → In l ls → IsKnown d routes l.fact) → clause_holds (model_of d routes n plan) (map (lit_of d routes n) ls) ≡ not (is_false_of plan ls)
   each_alike [] h = refl
   each_alike (l ∷ ls) h =
       ap (λ a. a || clause_holds (model_of d routes n plan) (map (lit_of d routes n) ls)) (literal_alike l (h l (inl refl)))
@@ -84,7 +84,7 @@ holds_of_feasible d n k cone plan some more timed f valid =
     let short = short_enough d (routes_of d) k plan f.runnable.well_formed.formed in
     clause_alike d (routes_of d) n some plan (omega arith) cone (holds_of_valid d (routes_of d) cone valid).in_design ∙ ap not (true_of_feasible d k cone plan timed f valid)
 
-all_append : {X : Type 0} (test : X → Bool) (xs ys : List X) → list_all test xs ≡ true → list_all test ys ≡ true → list_all test (xs ++ ys) ≡ true
+pub all_append : {X : Type 0} (test : X → Bool) (xs ys : List X) → list_all test xs ≡ true → list_all test ys ≡ true → list_all test (xs ++ ys) ≡ true
 all_append test [] ys h k = k
 all_append test (x ∷ xs) ys h k = and_both _ _ (and_left (test x) _ h) (all_append test xs ys (and_right (test x) _ h) k)
 

@@ -140,7 +140,7 @@ module _ (d : Station) (routes : List Route) (n : ℕ) (some : 1 ≤ n) where
       let s = suc-mul a n in
       omega arith
 
-  facts_rise : (f g : Fact) → IsKnown d routes f → IsKnown d routes g → is_fact_before f g ≡ true → number_of d routes n (variable_of n f) < number_of d routes n (variable_of n g)
+  pub facts_rise : (f g : Fact) → IsKnown d routes f → IsKnown d routes g → is_fact_before f g ≡ true → number_of d routes n (variable_of n f) < number_of d routes n (variable_of n g)
   facts_rise (Used c) (Used e) k l h = let r = number_rises (place c) (place e) (places_rise c e k l (less c e h)) in omega arith
   facts_rise (Used c) (Before a b) k l h = let r = number_rises (place c) (length d.trains * length routes) (place_low c k) in omega arith
   facts_rise (Before a b) (Used e) k l h = absurd (true≢false (sym h))
@@ -148,7 +148,7 @@ module _ (d : Station) (routes : List Route) (n : ℕ) (some : 1 ≤ n) where
       let r = places (pairs d routes) (a, b) (c, e) (pairs_sorted d routes (contend routes)) (pair_from d routes a b k.0 k.1 k.2) (pair_from d routes c e l.0 l.1 l.2) h in
       omega arith
 
-  weaken : {X : Type 0} (test other : X → X → Bool) (xs : List X) → ((a b : X) → In a xs → In b xs → test a b ≡ true → other a b ≡ true) → all_pairs test xs ≡ true → all_pairs other xs ≡ true
+  pub weaken : {X : Type 0} (test other : X → X → Bool) (xs : List X) → ((a b : X) → In a xs → In b xs → test a b ≡ true → other a b ≡ true) → all_pairs test xs ≡ true → all_pairs other xs ≡ true
   weaken test other [] w h = refl
   weaken test other (x ∷ xs) w h = and_both _ _
       (list_all_from (other x) xs (λ y m. w x y (inl refl) (inr m) (list_all_at (test x) xs y (and_left (list_all (test x) xs) (all_pairs test xs) h) m)))

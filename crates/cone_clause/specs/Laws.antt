@@ -11,4 +11,6 @@ use Rattle.cone_clause.specs.Numbered.{numbered_clause}
 
 -- no values that make the base and the clauses of these cones true say that all is given by step k
 abbrev pub NoneByCones : Station → List Route → ℕ → ℕ → List Cone → Type 0
-NoneByCones d routes n k cones = (values : ℕ → Bool) → list_all (clause_holds values) (base_clauses d routes n ++ map (numbered_clause d routes n) cones) ≡ true → values (number_of d routes n (By k)) ≡ true → ⊥
+NoneByCones d routes n k cones = (values : ℕ → Bool)
+    → list_all (clause_holds values) (base_clauses d routes n ++ map (numbered_clause d routes n) cones) ≡ true
+    → values (number_of d routes n (By k)) ≡ true → ⊥

@@ -113,7 +113,8 @@ module _ (l : Layout) where
   -- the first visit of an order, whose second is made at this tick, is certain not to come before it
   abbrev pub comes_after : Order → ℕ → Bool
   comes_after o tick =
-      nat_le tick ((named l.cone.now o.first_train).horizon + 1) && is_none (visit_in (tick - 1) o.first_train o.first_visit)
+      nat_le tick ((named l.cone.now o.first_train).horizon + 1)
+      && is_none (visit_in (tick - 1) o.first_train o.first_visit)
 
   -- the violation is certain
   abbrev pub shown : Violation → Bool

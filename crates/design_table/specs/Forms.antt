@@ -1,7 +1,9 @@
 -- The form of a value at a key, and what the value is.
-use Rattle.std.specs.Prelude.{ℕ, ℤ, pos, Bool, true, false, not, ◌&&◌, ◌||◌, ◌==◌, nat_le, List, [], ◌∷◌, map, length, Option, Some, None, codes, bytes_eq, if◌then◌else◌}
+use Rattle.std.specs.Prelude.{ℕ, ℤ, pos, Bool, true, false, not, ◌&&◌, ◌||◌, ◌==◌, nat_le, List, [], ◌∷◌, map, length}
+use Rattle.std.specs.Prelude.{Option, Some, None, codes, bytes_eq, if◌then◌else◌}
 use Rattle.std.specs.List.{list_all, list_any}
-use Rattle.toml.specs.Data.{Data, string, integer, boolean, array, Items, no_items, item, Members, no_members, member, get_member}
+use Rattle.toml.specs.Data.{Data, string, integer, boolean, array, Items, no_items, item, Members, no_members, member}
+use Rattle.toml.specs.Data.{get_member}
 use Rattle.design_table.specs.declared.key.Key.{Key}
 use Rattle.design_table.specs.declared.sheet.Side.{Side}
 use Rattle.design_table.specs.declared.sheet.Side.TheVariants.{A, B}
@@ -20,7 +22,12 @@ listed (item d ds) = d ∷ listed ds
 
 -- an ASCII letter, a digit, `_` or `-`
 abbrev pub is_name_byte : ℕ → Bool
-is_name_byte b = (nat_le 97 b && nat_le b 122) || (nat_le 65 b && nat_le b 90) || (nat_le 48 b && nat_le b 57) || (b == 95) || (b == 45)
+is_name_byte b =
+    (nat_le 97 b && nat_le b 122)
+    || (nat_le 65 b && nat_le b 90)
+    || (nat_le 48 b && nat_le b 57)
+    || (b == 95)
+    || (b == 45)
 
 -- 1 to 32 of them
 abbrev pub is_name_text : List ℕ → Bool
@@ -120,7 +127,11 @@ items_of _ = []
 
 -- ---- unknown keys
 
+-- the text is one of these keys
+abbrev pub is_known : List Key → List ℕ → Bool
+is_known known text = list_any (λ key. bytes_eq (key_text key) text) known
+
 -- a key of the table is none of these
 abbrev pub has_unknown : List Key → Members → Bool
 has_unknown known no_members = false
-has_unknown known (member text d ms) = not (list_any (λ key. bytes_eq (key_text key) text) known) || has_unknown known ms
+has_unknown known (member text d ms) = not (is_known known text) || has_unknown known ms

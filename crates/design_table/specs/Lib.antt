@@ -1,7 +1,9 @@
 pub mod Forms
 pub mod Keys
+pub mod Places
 pub mod Reads
 pub mod Sheet
 pub mod Spelled
+pub mod Texts
 pub mod Toml
 pub mod Views

@@ -1,10 +1,11 @@
 -- What a reader answers: the value, or a code at the first place where it holds.
-use Rattle.std.specs.Prelude.{◌≡◌, ℕ, Bool, List, [], ◌∷◌, Option, Some, None, Result, Ok, Err, if◌then◌else◌}
+use Rattle.std.specs.Prelude.{◌≡◌, ℕ, Bool, List, [], ◌∷◌, Option, Some, None, Result, Ok, Err, if◌then◌else◌, not}
 use Rattle.std.specs.List.{enumerate_from, flat_map}
 use Rattle.design_table.specs.declared.fault.Code.{Code}
 use Rattle.design_table.specs.declared.fault.DesignFault.{DesignFault}
 use Rattle.design_table.specs.declared.fault.DesignFault.TheVariants as faults
 use Rattle.design_table.specs.declared.place.Place.{Place}
+use Rattle.design_table.specs.declared.fault.Code.TheVariants.{D02}
 
 -- ---- the places of one code, in the order of the walk
 
@@ -32,6 +33,11 @@ Fails faults.Memory code places = Unit {0}
 abbrev pub Reads : {X Y : Type 0} → (X → Y) → Result X DesignFault → Code → List Place → Y → Type 0
 Reads view (Ok x) code places y = (places ≡ []) × (view x ≡ y)
 Reads view (Err e) code places y = Fails e code places
+
+-- What was read, seen by view, is what the value spells, where this has the form; else it is D02 at the place.
+abbrev pub ReadsSpelled : {X Y V : Type 0} → (X → Y) → Result X DesignFault → (V → Bool) → (V → Y) → V → Place → Type 0
+ReadsSpelled view result has_form spelled value place =
+    Reads view result D02 (at (not (has_form value)) place) (spelled value)
 
 -- The same, where a fact ties what was read to what it was read from.
 abbrev pub ReadsBy : {X D : Type 0} → (X → D → Type 0) → Result X DesignFault → Code → List Place → D → Type 0

@@ -1,5 +1,5 @@
 -- The table of the format: the keys of each kind of entry in order, what they spell, and where they are wrong.
-use Rattle.std.specs.Prelude.{ℕ, Bool, not, List, [], ◌∷◌, ◌++◌, map, Option}
+use Rattle.std.specs.Prelude.{ℕ, Bool, not, List, [], ◌∷◌, ◌++◌, map, Option, Result}
 use Rattle.toml.specs.Data.{Data, table, Members, no_members}
 use Rattle.design_table.specs.declared.key.Key.{Key}
 use Rattle.design_table.specs.declared.key.Key.TheVariants as keys
@@ -7,10 +7,14 @@ use Rattle.design_table.specs.declared.place.EntryKind.{EntryKind}
 use Rattle.design_table.specs.declared.place.EntryKind.TheVariants as kinds
 use Rattle.design_table.specs.declared.place.Place.{Place}
 use Rattle.design_table.specs.declared.place.Place.TheVariants.{Top, Entry, Field, UnknownField, Unknown}
-use Rattle.design_table.specs.Forms.{found, is_name, name_of, is_side, side_of, is_whole, whole_of, is_flag, flag_of, is_visits, visits_of, is_array, items_of, has_unknown}
+use Rattle.design_table.specs.Forms.{found, is_name, name_of, is_side, side_of, is_whole, whole_of, is_flag, flag_of}
+use Rattle.design_table.specs.Forms.{is_visits, visits_of, is_array, items_of, has_unknown}
 use Rattle.design_table.specs.Keys.{kind_key}
-use Rattle.design_table.specs.Reads.{at, in_each}
-use Rattle.design_table.specs.Spelled.{SpelledNode, SpelledEdge, SpelledSignal, SpelledVehicle, SpelledTrain, SpelledOrder, SpelledWithin, SpelledSheet}
+use Rattle.design_table.specs.Reads.{at, in_each, Reads}
+use Rattle.design_table.specs.Spelled.{SpelledNode, SpelledEdge, SpelledSignal, SpelledVehicle, SpelledTrain}
+use Rattle.design_table.specs.Spelled.{SpelledOrder, SpelledWithin, SpelledSheet}
+use Rattle.design_table.specs.declared.fault.Code.TheVariants.{D02}
+use Rattle.design_table.specs.declared.fault.DesignFault.{DesignFault}
 
 -- a key and the form of its value
 abbrev pub Column : Type 0
@@ -62,6 +66,10 @@ columns_of kinds.Within =
     ∷ (keys.ToVisit, is_whole)
     ∷ (keys.MaxMs, is_whole)
     ∷ []
+
+-- these keys alone
+abbrev pub keys_of : EntryKind → List Key
+keys_of kind = map (λ column. column.0) (columns_of kind)
 
 -- the keys of an entry; one that is no table has none
 abbrev pub members_of : Data → Members
@@ -159,20 +167,30 @@ sheet_of ms = record {
 -- the columns that are wrong, in order, and then the places after them
 abbrev pub wrong_columns : (Key → Place) → Members → List Column → List Place → List Place
 wrong_columns place ms [] after = after
-wrong_columns place ms (column ∷ columns) after = at (not (column.1 (found column.0 ms))) (place column.0) ++ wrong_columns place ms columns after
+wrong_columns place ms (column ∷ columns) after =
+    at (not (column.1 (found column.0 ms))) (place column.0) ++ wrong_columns place ms columns after
 
 -- an entry that is a table: its columns, and then any unknown key
 abbrev pub wrong_fields : EntryKind → ℕ → Members → List Place
-wrong_fields kind i ms = wrong_columns (Field kind i) ms (columns_of kind) (at (has_unknown (map (λ column. column.0) (columns_of kind)) ms) (UnknownField kind i))
+wrong_fields kind i ms =
+    wrong_columns (Field kind i) ms (columns_of kind) (at (has_unknown (keys_of kind) ms) (UnknownField kind i))
 
 -- an entry, which is wrong itself where it is no table
 abbrev pub wrong_entry : EntryKind → ℕ → Data → List Place
 wrong_entry kind i (table ms) = wrong_fields kind i ms
 wrong_entry kind i _ = Entry kind i ∷ []
 
+-- What was read, seen by view, is the entry that a table spells; or it is D02 at the first field that is wrong.
+abbrev pub ReadsEntry : {X Y : Type 0} → (X → Y) → Result X DesignFault
+    → EntryKind → ℕ → (Members → Y) → Members → Type 0
+ReadsEntry view result kind i spelled ms = Reads view result D02 (wrong_fields kind i ms) (spelled ms)
+
 -- an array: the array itself, then its entries
 abbrev pub wrong_array : EntryKind → Members → List Place
-wrong_array kind ms = at (not (is_array (found (kind_key kind) ms))) (Top (kind_key kind)) ++ in_each (wrong_entry kind) (items_of (found (kind_key kind) ms))
+wrong_array kind ms =
+    let key = kind_key kind in
+    let value = found key ms in
+    at (not (is_array value)) (Top key) ++ in_each (wrong_entry kind) (items_of value)
 
 -- a whole number at the top
 abbrev pub wrong_whole : Key → Members → List Place

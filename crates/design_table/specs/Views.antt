@@ -8,7 +8,9 @@ use Rattle.design_table.specs.declared.sheet.TrainEntry.{TrainEntry}
 use Rattle.design_table.specs.declared.sheet.OrderEntry.{OrderEntry}
 use Rattle.design_table.specs.declared.sheet.WithinEntry.{WithinEntry}
 use Rattle.design_table.specs.declared.sheet.Sheet.{Sheet}
-use Rattle.design_table.specs.Spelled.{SpelledNode, SpelledEdge, SpelledSignal, SpelledVehicle, SpelledTrain, SpelledOrder, SpelledWithin, SpelledSheet}
+use Rattle.design_table.specs.Spelled.{SpelledNode, SpelledEdge, SpelledSignal, SpelledVehicle, SpelledTrain}
+use Rattle.design_table.specs.Spelled.{SpelledOrder, SpelledWithin, SpelledSheet}
+use Rattle.design_table.specs.Texts.{visits_seen}
 
 -- a node as it is spelled
 abbrev pub node_seen : NodeEntry → SpelledNode
@@ -46,7 +48,7 @@ abbrev pub train_seen : TrainEntry → SpelledTrain
 train_seen t = record {
   name = t.name.now;
   vehicle = t.vehicle.now;
-  visits = map (λ visit. map (λ node. node.now) visit.items) t.visits.items;
+  visits = visits_seen t.visits.items;
 }
 
 -- an order as it is spelled

@@ -6,7 +6,7 @@ ghost use Rattle.toml.specs.View.{view, table_view, items_view};
 ghost use Rattle.design_table.specs.declared.place.EntryKind.{EntryKind};
 ghost use Rattle.design_table.specs.Forms.{listed, found};
 ghost use Rattle.design_table.specs.Reads.{Reads, in_each};
-ghost use Rattle.design_table.specs.Sheet.{wrong_fields, wrong_entry, wrong_array, entries_of, members_of};
+ghost use Rattle.design_table.specs.Sheet.{wrong_fields, wrong_entry, wrong_array, entries_of, members_of, ReadsEntry};
 
 use crate::fault::{Code, DesignFault};
 use crate::field::{misspelled, value_at};
@@ -33,7 +33,7 @@ pub trait Entry<'a>: Drop {
 
     /// The entry of this number, counted from 1.
     fn read(alloc: Global, number: u64, table: &'a Table) -> Result<Self, DesignFault>
-        ensures { Reads seen result Code.D02 (wrong_fields kind number (table_view table.now)) (spelled (table_view table.now)) };
+        ensures { ReadsEntry seen result kind number spelled (table_view table.now) };
 }
 
 /// The entry that a value of an array spells.
@@ -42,7 +42,8 @@ fn read_entry<'a, E: Entry<'a>>(
     number: u64,
     value: &'a Value,
 ) -> Result<E, DesignFault>
-    ensures { Reads E.seen result Code.D02 (wrong_entry E.kind number (view value.now)) (E.spelled (members_of (view value.now))) }
+    ensures { let entry = view value.now in
+        Reads E.seen result Code.D02 (wrong_entry E.kind number entry) (E.spelled (members_of entry)) }
 {
     match value {
         Value::Table(table) => E::read(alloc, number, table),
@@ -52,7 +53,9 @@ fn read_entry<'a, E: Entry<'a>>(
 
 /// The entries of an array, in order.
 fn read_entries<'a, E: Entry<'a>>(alloc: Global, values: &'a [Value]) -> Result<Vec<E>, DesignFault>
-    ensures { Reads (λ v. map E.seen v.items) result Code.D02 (in_each (wrong_entry E.kind) (listed (items_view values.now))) (map (λ entry. E.spelled (members_of entry)) (listed (items_view values.now))) }
+    ensures { let entries = listed (items_view values.now) in
+        Reads (λ v. map E.seen v.items) result Code.D02 (in_each (wrong_entry E.kind) entries)
+        (map (λ entry. E.spelled (members_of entry)) entries) }
 {
     let mut entries = Vec::new(alloc);
     let mut number = 1;
@@ -65,7 +68,9 @@ fn read_entries<'a, E: Entry<'a>>(alloc: Global, values: &'a [Value]) -> Result<
 
 /// The entries of the array of this kind, in the order of the document. An absent array has none.
 pub fn read_array<'a, E: Entry<'a>>(alloc: Global, table: &'a Table) -> Result<Vec<E>, DesignFault>
-    ensures { Reads (λ v. map E.seen v.items) result Code.D02 (wrong_array E.kind (table_view table.now)) (entries_of E.spelled E.kind (table_view table.now)) }
+    ensures { let members = table_view table.now in
+        Reads (λ v. map E.seen v.items) result Code.D02 (wrong_array E.kind members)
+        (entries_of E.spelled E.kind members) }
 {
     match value_at(table, E::kind().key()) {
         None => Ok(Vec::new(alloc)),

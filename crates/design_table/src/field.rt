@@ -5,8 +5,9 @@ ghost use Rattle.std.specs.List.{list_all, list_any};
 ghost use Rattle.std.specs.BTreeMap.{keys};
 ghost use Rattle.toml.specs.View.{view, table_view, items_view};
 ghost use Rattle.design_table.specs.Keys.{key_text};
-ghost use Rattle.design_table.specs.Forms.{found, is_name_byte, is_name_text, is_name, name_of, is_side, side_of, is_whole, whole_of, is_flag, flag_of, has_unknown};
-ghost use Rattle.design_table.specs.Reads.{Reads, at};
+ghost use Rattle.design_table.specs.Forms.{found, is_name_byte, is_name_text, is_name, name_of, is_side, side_of};
+ghost use Rattle.design_table.specs.Forms.{is_whole, whole_of, is_flag, flag_of, has_unknown, is_known};
+ghost use Rattle.design_table.specs.Reads.{Reads, at, ReadsSpelled};
 ghost use Rattle.design_table.specs.declared.fault.DesignFault.TheVariants.{Refused};
 
 use crate::fault::{Code, DesignFault};
@@ -63,7 +64,7 @@ pub fn is_name_of(text: &str) -> bool
 
 /// The name at a key.
 pub fn name_at<'a>(table: &'a Table, key: Key, place: Place) -> Result<&'a str, DesignFault>
-    ensures { let value = found key (table_view table.now) in Reads (λ x. x.now) result Code.D02 (at (not (is_name value)) place) (name_of value) }
+    ensures { ReadsSpelled (λ x. x.now) result is_name name_of (found key (table_view table.now)) place }
 {
     match value_at(table, key) {
         Some(Value::String(text)) => {
@@ -79,7 +80,7 @@ pub fn name_at<'a>(table: &'a Table, key: Key, place: Place) -> Result<&'a str, 
 
 /// The side at a key.
 pub fn side_at(table: &Table, key: Key, place: Place) -> Result<Side, DesignFault>
-    ensures { let value = found key (table_view table.now) in Reads (λ x. x) result Code.D02 (at (not (is_side value)) place) (side_of value) }
+    ensures { ReadsSpelled (λ x. x) result is_side side_of (found key (table_view table.now)) place }
 {
     match value_at(table, key) {
         Some(Value::String(text)) => {
@@ -97,7 +98,7 @@ pub fn side_at(table: &Table, key: Key, place: Place) -> Result<Side, DesignFaul
 
 /// The whole number at a key.
 pub fn whole_at(table: &Table, key: Key, place: Place) -> Result<i64, DesignFault>
-    ensures { let value = found key (table_view table.now) in Reads (λ x. x) result Code.D02 (at (not (is_whole value)) place) (whole_of value) }
+    ensures { ReadsSpelled (λ x. x) result is_whole whole_of (found key (table_view table.now)) place }
 {
     match value_at(table, key) {
         Some(Value::Integer(number)) => Ok(*number),
@@ -107,7 +108,7 @@ pub fn whole_at(table: &Table, key: Key, place: Place) -> Result<i64, DesignFaul
 
 /// The truth value at a key, which may be absent.
 pub fn flag_at(table: &Table, key: Key, place: Place) -> Result<bool, DesignFault>
-    ensures { let value = found key (table_view table.now) in Reads (λ x. x) result Code.D02 (at (not (is_flag value)) place) (flag_of value) }
+    ensures { ReadsSpelled (λ x. x) result is_flag flag_of (found key (table_view table.now)) place }
 {
     match value_at(table, key) {
         None => Ok(false),
@@ -117,13 +118,13 @@ pub fn flag_at(table: &Table, key: Key, place: Place) -> Result<bool, DesignFaul
 }
 
 fn is_known(known: &[Key], text: &str) -> bool
-    ensures { result ≡ list_any (λ key. bytes_eq (key_text key) text.now) known.now }
+    ensures { result ≡ is_known known.now text.now }
 {
     known.iter().any(|key| key.text() == text)
 }
 
 fn is_any_unknown(table: &Table, known: &[Key]) -> bool
-    ensures { result ≡ list_any (λ text. not (list_any (λ key. bytes_eq (key_text key) (string_bytes text)) known.now)) (keys table.now) }
+    ensures { result ≡ list_any (λ text. not (is_known known.now (string_bytes text))) (keys table.now) }
 {
     table.keys().any(|text| !is_known(known, text.as_str()))
 }

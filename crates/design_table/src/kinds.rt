@@ -4,9 +4,12 @@ ghost use Rattle.std.specs.Prelude.{◌≡◌};
 ghost use Rattle.toml.specs.View.{table_view};
 ghost use Rattle.design_table.specs.declared.place.EntryKind.TheVariants as kinds;
 ghost use Rattle.design_table.specs.Reads.{Reads};
-ghost use Rattle.design_table.specs.Sheet.{wrong_fields, node_of, edge_of, signal_of, vehicle_of, train_of, order_of, within_of};
-ghost use Rattle.design_table.specs.Spelled.{SpelledNode, SpelledEdge, SpelledSignal, SpelledVehicle, SpelledTrain, SpelledOrder, SpelledWithin};
-ghost use Rattle.design_table.specs.Views.{node_seen, edge_seen, signal_seen, vehicle_seen, train_seen, order_seen, within_seen};
+ghost use Rattle.design_table.specs.Sheet.{wrong_fields, node_of, edge_of, signal_of, vehicle_of, train_of, order_of};
+ghost use Rattle.design_table.specs.Sheet.{within_of, ReadsEntry};
+ghost use Rattle.design_table.specs.Spelled.{SpelledNode, SpelledEdge, SpelledSignal, SpelledVehicle, SpelledTrain};
+ghost use Rattle.design_table.specs.Spelled.{SpelledOrder, SpelledWithin};
+ghost use Rattle.design_table.specs.Views.{node_seen, edge_seen, signal_seen, vehicle_seen, train_seen, order_seen};
+ghost use Rattle.design_table.specs.Views.{within_seen};
 
 use crate::entry::Entry;
 use crate::fault::{Code, DesignFault};
@@ -36,7 +39,7 @@ impl<'a> Entry<'a> for NodeEntry<'a> {
 
     #[tactic(auto, using(crate::proofs::Walks::walk))]
     fn read(_alloc: Global, number: u64, table: &'a Table) -> Result<Self, DesignFault>
-        ensures { Reads node_seen result Code.D02 (wrong_fields kinds.Node number (table_view table.now)) (node_of (table_view table.now)) }
+        ensures { ReadsEntry node_seen result kinds.Node number node_of (table_view table.now) }
     {
         let fields = Fields {
             table,
@@ -67,7 +70,7 @@ impl<'a> Entry<'a> for EdgeEntry<'a> {
 
     #[tactic(auto, using(crate::proofs::Walks::walk))]
     fn read(_alloc: Global, number: u64, table: &'a Table) -> Result<Self, DesignFault>
-        ensures { Reads edge_seen result Code.D02 (wrong_fields kinds.Edge number (table_view table.now)) (edge_of (table_view table.now)) }
+        ensures { ReadsEntry edge_seen result kinds.Edge number edge_of (table_view table.now) }
     {
         let fields = Fields {
             table,
@@ -122,7 +125,7 @@ impl<'a> Entry<'a> for SignalEntry<'a> {
 
     #[tactic(auto, using(crate::proofs::Walks::walk))]
     fn read(_alloc: Global, number: u64, table: &'a Table) -> Result<Self, DesignFault>
-        ensures { Reads signal_seen result Code.D02 (wrong_fields kinds.Signal number (table_view table.now)) (signal_of (table_view table.now)) }
+        ensures { ReadsEntry signal_seen result kinds.Signal number signal_of (table_view table.now) }
     {
         let fields = Fields {
             table,
@@ -154,7 +157,7 @@ impl<'a> Entry<'a> for VehicleEntry<'a> {
 
     #[tactic(auto, using(crate::proofs::Walks::walk))]
     fn read(_alloc: Global, number: u64, table: &'a Table) -> Result<Self, DesignFault>
-        ensures { Reads vehicle_seen result Code.D02 (wrong_fields kinds.Vehicle number (table_view table.now)) (vehicle_of (table_view table.now)) }
+        ensures { ReadsEntry vehicle_seen result kinds.Vehicle number vehicle_of (table_view table.now) }
     {
         let fields = Fields {
             table,
@@ -200,7 +203,7 @@ impl<'a> Entry<'a> for TrainEntry<'a> {
 
     #[tactic(auto, using(crate::proofs::Walks::walk))]
     fn read(alloc: Global, number: u64, table: &'a Table) -> Result<Self, DesignFault>
-        ensures { Reads train_seen result Code.D02 (wrong_fields kinds.Train number (table_view table.now)) (train_of (table_view table.now)) }
+        ensures { ReadsEntry train_seen result kinds.Train number train_of (table_view table.now) }
     {
         let fields = Fields {
             table,
@@ -236,7 +239,7 @@ impl<'a> Entry<'a> for OrderEntry<'a> {
 
     #[tactic(auto, using(crate::proofs::Walks::walk))]
     fn read(_alloc: Global, number: u64, table: &'a Table) -> Result<Self, DesignFault>
-        ensures { Reads order_seen result Code.D02 (wrong_fields kinds.Order number (table_view table.now)) (order_of (table_view table.now)) }
+        ensures { ReadsEntry order_seen result kinds.Order number order_of (table_view table.now) }
     {
         let fields = Fields {
             table,
@@ -279,7 +282,7 @@ impl<'a> Entry<'a> for WithinEntry<'a> {
 
     #[tactic(auto, using(crate::proofs::Walks::walk))]
     fn read(_alloc: Global, number: u64, table: &'a Table) -> Result<Self, DesignFault>
-        ensures { Reads within_seen result Code.D02 (wrong_fields kinds.Within number (table_view table.now)) (within_of (table_view table.now)) }
+        ensures { ReadsEntry within_seen result kinds.Within number within_of (table_view table.now) }
     {
         let fields = Fields {
             table,

@@ -2,9 +2,9 @@
 
 ghost use Rattle.std.specs.Prelude.{◌≡◌};
 ghost use Rattle.toml.specs.View.{table_view};
-ghost use Rattle.design_table.specs.declared.place.Place.TheVariants.{Unknown};
-ghost use Rattle.design_table.specs.Forms.{found, whole_of, has_unknown};
-ghost use Rattle.design_table.specs.Reads.{Reads, at};
+ghost use Rattle.design_table.specs.declared.place.Place.TheVariants.{Unknown, Top};
+ghost use Rattle.design_table.specs.Forms.{found, whole_of, has_unknown, is_whole};
+ghost use Rattle.design_table.specs.Reads.{Reads, at, ReadsSpelled};
 ghost use Rattle.design_table.specs.Sheet.{wrong_whole, top_keys, misspelled, sheet_of};
 ghost use Rattle.design_table.specs.Views.{sheet_seen};
 
@@ -33,7 +33,7 @@ const TOP_KEYS: [Key; 10] = [
 
 /// The whole number at a key of the top.
 fn read_whole(table: &Table, key: Key) -> Result<i64, DesignFault>
-    ensures { Reads (λ x. x) result Code.D02 (wrong_whole key (table_view table.now)) (whole_of (found key (table_view table.now))) }
+    ensures { ReadsSpelled (λ x. x) result is_whole whole_of (found key (table_view table.now)) (Top key) }
 {
     whole_at(table, key, Place::Top(key))
 }

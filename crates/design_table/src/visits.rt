@@ -3,8 +3,10 @@
 ghost use Rattle.std.specs.Prelude.{◌≡◌, map, not};
 ghost use Rattle.std.specs.List.{list_all};
 ghost use Rattle.toml.specs.View.{view, table_view, items_view};
-ghost use Rattle.design_table.specs.Forms.{found, listed, is_name_value, name_value, is_visit, visit_of, is_visits, visits_of};
-ghost use Rattle.design_table.specs.Reads.{Reads, at};
+ghost use Rattle.design_table.specs.Forms.{found, listed, is_name_value, name_value, is_visit, visit_of, is_visits};
+ghost use Rattle.design_table.specs.Forms.{visits_of};
+ghost use Rattle.design_table.specs.Reads.{Reads, at, ReadsSpelled};
+ghost use Rattle.design_table.specs.Texts.{texts, visits_seen};
 
 use crate::fault::{Code, DesignFault};
 use crate::field::{is_name_of, misspelled, value_at};
@@ -15,7 +17,7 @@ use toml::{Table, Value};
 
 /// The name that a value spells.
 fn read_name<'a>(value: &'a Value, place: Place) -> Result<&'a str, DesignFault>
-    ensures { Reads (λ x. x.now) result Code.D02 (at (not (is_name_value (view value.now))) place) (name_value (view value.now)) }
+    ensures { ReadsSpelled (λ x. x.now) result is_name_value name_value (view value.now) place }
 {
     match value {
         Value::String(text) => {
@@ -34,7 +36,8 @@ fn read_names<'a>(
     values: &'a [Value],
     place: Place,
 ) -> Result<Vec<&'a str>, DesignFault>
-    ensures { Reads (λ v. map (λ node. node.now) v.items) result Code.D02 (at (not (list_all is_name_value (listed (items_view values.now)))) place) (map name_value (listed (items_view values.now))) }
+    ensures { ReadsSpelled (λ v. texts v.items) result (list_all is_name_value) (map name_value)
+        (listed (items_view values.now)) place }
 {
     let mut names = Vec::new(alloc);
     for value in values {
@@ -49,7 +52,7 @@ fn read_visit<'a>(
     value: &'a Value,
     place: Place,
 ) -> Result<Vec<&'a str>, DesignFault>
-    ensures { Reads (λ v. map (λ node. node.now) v.items) result Code.D02 (at (not (is_visit (view value.now))) place) (visit_of (view value.now)) }
+    ensures { ReadsSpelled (λ v. texts v.items) result is_visit visit_of (view value.now) place }
 {
     match value {
         Value::Array(values) => read_names(alloc, values.as_slice(), place),
@@ -62,7 +65,8 @@ fn read_visits<'a>(
     values: &'a [Value],
     place: Place,
 ) -> Result<Vec<Vec<&'a str>>, DesignFault>
-    ensures { Reads (λ v. map (λ visit. map (λ node. node.now) visit.items) v.items) result Code.D02 (at (not (list_all is_visit (listed (items_view values.now)))) place) (map visit_of (listed (items_view values.now))) }
+    ensures { ReadsSpelled (λ v. visits_seen v.items) result (list_all is_visit) (map visit_of)
+        (listed (items_view values.now)) place }
 {
     let mut visits = Vec::new(alloc);
     for value in values {
@@ -78,7 +82,8 @@ pub fn visits_at<'a>(
     key: Key,
     place: Place,
 ) -> Result<Vec<Vec<&'a str>>, DesignFault>
-    ensures { let value = found key (table_view table.now) in Reads (λ v. map (λ visit. map (λ node. node.now) visit.items) v.items) result Code.D02 (at (not (is_visits value)) place) (visits_of value) }
+    ensures { ReadsSpelled (λ v. visits_seen v.items) result is_visits visits_of
+        (found key (table_view table.now)) place }
 {
     match value_at(table, key) {
         Some(Value::Array(values)) => read_visits(alloc, values.as_slice(), place),

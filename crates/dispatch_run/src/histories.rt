@@ -1,9 +1,9 @@
 //! The histories of trains in a run.
 
 ghost use Rattle.std.specs.Prelude.{◌≡◌, ◌-◌, ◌≤◌, IfOk};
-ghost use Rattle.rail_spec.specs.Dispatches.{Dispatch, state_at, state_of};
-ghost use Rattle.dispatch_quiet.specs.Histories.{history_at, train_history};
-ghost use Rattle.dispatch_run.specs.Followers.{IsFollower, IsTraffic};
+ghost use Rattle.rail_spec.specs.Dispatches.{Dispatch};
+ghost use Rattle.dispatch_run.specs.Followers.{IsTraffic};
+ghost use Rattle.dispatch_run.specs.InTraffic.{IsFollowerIn, history_in, state_in, states_in, train_history_in};
 
 use crate::grants::IDLE;
 use crate::marks::{
@@ -20,8 +20,8 @@ impl Traffic<'_> {
     /// What has happened to a train before the first tick: nothing.
     fn first_history(&self, alloc: Global, follower: &Follower) -> Result<TrainHistory, AllocError>
         ghost dispatch: { Dispatch }
-        requires { IsFollower self.now.interlocking.now.design.station self.now.interlocking.now.routes dispatch follower.now }
-        ensures { IfOk result (λ h. h ≡ train_history self.now.interlocking.now.design.station self.now.interlocking.now.routes dispatch 0 follower.now.journey.now.course.now.train) }
+        requires { IsFollowerIn self.now dispatch follower.now }
+        ensures { IfOk result (λ h. h ≡ train_history_in self.now dispatch 0 follower.now) }
     {
         let journey = follower.journey;
         let course = journey.course;
@@ -41,7 +41,7 @@ impl Traffic<'_> {
     pub(crate) fn first_histories(&self, alloc: Global) -> Result<Vec<TrainHistory>, AllocError>
         ghost dispatch: { Dispatch }
         requires { IsTraffic dispatch self.now }
-        ensures { IfOk result (λ h. h.items ≡ history_at self.now.interlocking.now.design.station self.now.interlocking.now.routes dispatch 0) }
+        ensures { IfOk result (λ h. h.items ≡ history_in self.now dispatch 0) }
     {
         let mut histories = Vec::new(alloc);
         for follower in self.followers {
@@ -54,7 +54,7 @@ impl Traffic<'_> {
     pub(crate) fn first_states(&self, alloc: Global) -> Result<Vec<TrainState>, AllocError>
         ghost dispatch: { Dispatch }
         requires { IsTraffic dispatch self.now }
-        ensures { IfOk result (λ s. s.items ≡ state_at self.now.interlocking.now.design.station self.now.interlocking.now.routes dispatch 0) }
+        ensures { IfOk result (λ s. s.items ≡ states_in self.now dispatch 0) }
     {
         let mut states = Vec::new(alloc);
         for _follower in self.followers {
@@ -73,11 +73,11 @@ impl Traffic<'_> {
         tick: u64,
     ) -> Result<TrainHistory, AllocError>
         ghost dispatch: { Dispatch }
-        requires follower { IsFollower self.now.interlocking.now.design.station self.now.interlocking.now.routes dispatch follower.now }
+        requires follower { IsFollowerIn self.now dispatch follower.now }
         requires first { 1 ≤ tick }
-        requires now { state ≡ state_of (state_at self.now.interlocking.now.design.station self.now.interlocking.now.routes dispatch tick) follower.now.journey.now.course.now.train }
-        requires before { old ≡ train_history self.now.interlocking.now.design.station self.now.interlocking.now.routes dispatch (tick - 1) follower.now.journey.now.course.now.train }
-        ensures { IfOk result (λ h. h ≡ train_history self.now.interlocking.now.design.station self.now.interlocking.now.routes dispatch tick follower.now.journey.now.course.now.train) }
+        requires now { state ≡ state_in self.now dispatch tick follower.now }
+        requires before { old ≡ train_history_in self.now dispatch (tick - 1) follower.now }
+        ensures { IfOk result (λ h. h ≡ train_history_in self.now dispatch tick follower.now) }
     {
         let journey = follower.journey;
         let course = journey.course;

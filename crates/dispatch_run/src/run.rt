@@ -2,9 +2,8 @@
 
 ghost use Rattle.std.specs.Prelude.{◌≡◌, ◌≤◌, ◌<◌, ℕ, IfOk};
 ghost use Rattle.rail_spec.specs.Dispatches.{Dispatch};
-ghost use Rattle.dispatch_quiet.specs.Histories.{history_at};
 ghost use Rattle.dispatch_run.specs.Followers.{IsTraffic};
-ghost use Rattle.dispatch_run.specs.Progress.{IsProgress};
+ghost use Rattle.dispatch_run.specs.InTraffic.{IsProgressIn, history_in};
 
 use crate::looks::{Look, first_looks, next_tick};
 use crate::traffic::Traffic;
@@ -28,7 +27,7 @@ impl Traffic<'_> {
         ghost dispatch: { Dispatch }
         requires { IsTraffic dispatch self.now }
         ensures tick { IfOk result (λ g. g.tick ≡ 0) }
-        ensures is { IfOk result (λ g. IsProgress self.now.interlocking.now.design.station self.now.interlocking.now.routes dispatch g) }
+        ensures is { IfOk result (λ g. IsProgressIn self.now dispatch g) }
     {
         Ok(Progress {
             tick: 0,
@@ -47,14 +46,15 @@ impl Traffic<'_> {
     ) -> Result<Progress, AllocError>
         ghost dispatch: { Dispatch }
         requires traffic { IsTraffic dispatch self.now }
-        requires progress { IsProgress self.now.interlocking.now.design.station self.now.interlocking.now.routes dispatch progress }
+        requires progress { IsProgressIn self.now dispatch progress }
         requires ahead { progress.tick < most }
         requires early { most ≤ 86400 }
         ensures after { IfOk result (λ g. progress.tick < g.tick) }
         ensures within { IfOk result (λ g. g.tick ≤ most) }
         ensures first { IfOk result (λ g. progress.tick ≡ 0 → g.tick ≡ 1) }
-        ensures is { IfOk result (λ g. IsProgress self.now.interlocking.now.design.station self.now.interlocking.now.routes dispatch g) }
-        ensures quiet { IfOk result (λ g. (k : ℕ) → progress.tick ≤ k → k < g.tick → history_at self.now.interlocking.now.design.station self.now.interlocking.now.routes dispatch k ≡ progress.histories.items) }
+        ensures is { IfOk result (λ g. IsProgressIn self.now dispatch g) }
+        ensures quiet { IfOk result (λ g. (k : ℕ) → progress.tick ≤ k → k < g.tick
+            → history_in self.now dispatch k ≡ progress.histories.items) }
     {
         let tick = next_tick(progress.looks.as_slice(), progress.tick, most);
         let states = self.next_states(
@@ -85,7 +85,7 @@ impl Traffic<'_> {
         requires traffic { IsTraffic dispatch self.now }
         requires early { last ≤ 86400 }
         ensures tick { IfOk result (λ g. g.tick ≡ last) }
-        ensures is { IfOk result (λ g. IsProgress self.now.interlocking.now.design.station self.now.interlocking.now.routes dispatch g) }
+        ensures is { IfOk result (λ g. IsProgressIn self.now dispatch g) }
     {
         let mut progress = self.begin(alloc)?;
         while progress.tick < last {

@@ -1,13 +1,11 @@
 //! A tick at which something may happen.
 
-ghost use Rattle.std.specs.Prelude.{◌≡◌, ◌≤◌, ◌<◌, ◌+◌, ℕ, IfOk, length, map};
-ghost use Rattle.rail_base.specs.Stations.{trains};
-ghost use Rattle.rail_spec.specs.Dispatches.{Dispatch, state_of};
-ghost use Rattle.dispatch_quiet.specs.Histories.{history_at, train_history};
-ghost use Rattle.dispatch_quiet.specs.Forecasts.{IsSeen};
-ghost use Rattle.dispatch_run.specs.Followers.{IsFollower, IsTraffic};
-ghost use Rattle.dispatch_run.specs.Looks.{IsKnown, look_of};
-ghost use Rattle.dispatch_run.specs.Turns.{AreLookedAt, AreToBeTold, IsLook, IsLookedAt, IsToBeTold, IsTurn, looked_state};
+ghost use Rattle.std.specs.Prelude.{◌≡◌, ◌≤◌, IfOk};
+ghost use Rattle.rail_spec.specs.Dispatches.{Dispatch};
+ghost use Rattle.dispatch_run.specs.Followers.{IsTraffic};
+ghost use Rattle.dispatch_run.specs.InTraffic.{AreLookedAtIn, AreToBeToldIn, IsFollowerIn, IsKnownIn, IsLookIn};
+ghost use Rattle.dispatch_run.specs.InTraffic.{IsLookedAtIn, IsSeenIn, IsToBeToldIn, IsTurnIn, history_in};
+ghost use Rattle.dispatch_run.specs.InTraffic.{looked_state_in, looked_states_in, train_history_in};
 
 use crate::grants::{granted_on, state_of};
 use crate::looks::{Look, look_of};
@@ -32,9 +30,9 @@ impl Traffic<'_> {
     ) -> TrainState
         ghost dispatch: { Dispatch }
         requires traffic { IsTraffic dispatch self.now }
-        requires follower { IsFollower self.now.interlocking.now.design.station self.now.interlocking.now.routes dispatch follower.now }
-        requires turn { IsTurn self.now.interlocking.now.design.station self.now.interlocking.now.routes dispatch tick states.now looks.now }
-        ensures { result ≡ looked_state self.now.interlocking.now.design.station self.now.interlocking.now.routes dispatch tick states.now looks.now follower.now.journey.now.course.now.train }
+        requires follower { IsFollowerIn self.now dispatch follower.now }
+        requires turn { IsTurnIn self.now dispatch tick states.now looks.now }
+        ensures { result ≡ looked_state_in self.now dispatch tick states.now looks.now follower.now }
     {
         let train = follower.journey.course.train;
         let state = state_of(states, train);
@@ -60,8 +58,8 @@ impl Traffic<'_> {
     ) -> Result<Vec<TrainState>, AllocError>
         ghost dispatch: { Dispatch }
         requires traffic { IsTraffic dispatch self.now }
-        requires turn { IsTurn self.now.interlocking.now.design.station self.now.interlocking.now.routes dispatch tick states.now looks.now }
-        ensures { IfOk result (λ s. s.items ≡ map (looked_state self.now.interlocking.now.design.station self.now.interlocking.now.routes dispatch tick states.now looks.now) (trains self.now.interlocking.now.design.station)) }
+        requires turn { IsTurnIn self.now dispatch tick states.now looks.now }
+        ensures { IfOk result (λ s. s.items ≡ looked_states_in self.now dispatch tick states.now looks.now) }
     {
         let mut next = Vec::new(alloc);
         for follower in self.followers {
@@ -81,10 +79,10 @@ impl Traffic<'_> {
         tick: u64,
     ) -> Result<TrainHistory, AllocError>
         ghost dispatch: { Dispatch }
-        requires follower { IsFollower self.now.interlocking.now.design.station self.now.interlocking.now.routes dispatch follower.now }
+        requires follower { IsFollowerIn self.now dispatch follower.now }
         requires some { 1 ≤ tick }
-        requires told { IsToBeTold self.now.interlocking.now.design.station self.now.interlocking.now.routes dispatch tick follower.now.journey.now.course.now.train state look old }
-        ensures { IfOk result (λ h. h ≡ train_history self.now.interlocking.now.design.station self.now.interlocking.now.routes dispatch tick follower.now.journey.now.course.now.train) }
+        requires told { IsToBeToldIn self.now dispatch tick follower.now state look old }
+        ensures { IfOk result (λ h. h ≡ train_history_in self.now dispatch tick follower.now) }
     {
         if look.until != tick {
             return Ok(old);
@@ -103,8 +101,8 @@ impl Traffic<'_> {
     ) -> Result<Vec<TrainHistory>, AllocError>
         ghost dispatch: { Dispatch }
         requires traffic { IsTraffic dispatch self.now }
-        requires told { AreToBeTold self.now.interlocking.now.design.station self.now.interlocking.now.routes dispatch tick states.now looks.now histories.items }
-        ensures { IfOk result (λ h. h.items ≡ history_at self.now.interlocking.now.design.station self.now.interlocking.now.routes dispatch tick) }
+        requires told { AreToBeToldIn self.now dispatch tick states.now looks.now histories.items }
+        ensures { IfOk result (λ h. h.items ≡ history_in self.now dispatch tick) }
     {
         let mut olds = histories;
         let mut told = Vec::new(alloc);
@@ -128,11 +126,11 @@ impl Traffic<'_> {
     fn far_look(&self, follower: &Follower, state: TrainState, look: Look, tick: u64) -> Look
         ghost dispatch: { Dispatch }
         requires traffic { IsTraffic dispatch self.now }
-        requires follower { IsFollower self.now.interlocking.now.design.station self.now.interlocking.now.routes dispatch follower.now }
+        requires follower { IsFollowerIn self.now dispatch follower.now }
         requires some { 1 ≤ tick }
         requires early { tick ≤ 86400 }
-        requires looked { IsLookedAt self.now.interlocking.now.design.station self.now.interlocking.now.routes dispatch tick follower.now.journey.now.course.now.train state look }
-        ensures seen { IsSeen self.now.interlocking.now.design.station self.now.interlocking.now.routes dispatch tick follower.now.journey.now.course.now.train state result.since result.until }
+        requires looked { IsLookedAtIn self.now dispatch tick follower.now state look }
+        ensures seen { IsSeenIn self.now dispatch tick follower.now state result.since result.until }
         ensures begun { 1 ≤ result.since }
     {
         if look.until != tick {
@@ -154,9 +152,9 @@ impl Traffic<'_> {
     ) -> Look
         ghost dispatch: { Dispatch }
         requires traffic { IsTraffic dispatch self.now }
-        requires follower { IsFollower self.now.interlocking.now.design.station self.now.interlocking.now.routes dispatch follower.now }
-        requires looked { AreLookedAt self.now.interlocking.now.design.station self.now.interlocking.now.routes dispatch tick states.now looks.now }
-        ensures { IsLook self.now.interlocking.now.design.station self.now.interlocking.now.routes dispatch tick states.now follower.now.journey.now.course.now.train result }
+        requires follower { IsFollowerIn self.now dispatch follower.now }
+        requires looked { AreLookedAtIn self.now dispatch tick states.now looks.now }
+        ensures { IsLookIn self.now dispatch tick states.now follower.now result }
     {
         let train = follower.journey.course.train;
         let state = state_of(states, train);
@@ -183,8 +181,8 @@ impl Traffic<'_> {
     ) -> Result<Vec<Look>, AllocError>
         ghost dispatch: { Dispatch }
         requires traffic { IsTraffic dispatch self.now }
-        requires looked { AreLookedAt self.now.interlocking.now.design.station self.now.interlocking.now.routes dispatch tick states.now looks.now }
-        ensures { IfOk result (λ looks. IsKnown self.now.interlocking.now.design.station self.now.interlocking.now.routes dispatch tick states.now looks.items) }
+        requires looked { AreLookedAtIn self.now dispatch tick states.now looks.now }
+        ensures { IfOk result (λ looks. IsKnownIn self.now dispatch tick states.now looks.items) }
     {
         let mut next = Vec::new(alloc);
         for follower in self.followers {

@@ -1,5 +1,5 @@
 -- A design that bytes spell is admitted.
-use Rattle.std.proofs.Common.{◌≡◌, ℕ, true, List, [], ◌∷◌, Option, Some, None, Result, Ok, Err, refl, subst}
+use Rattle.std.proofs.Common.{◌≡◌, true, List, [], ◌∷◌, Option, Some, None, Result, Ok, refl, subst}
 use Rattle.toml.specs.Data.{Members}
 use Rattle.design_table.specs.declared.fault.Code.{Code}
 use Rattle.design_table.specs.declared.fault.Code.TheVariants.{D02, D03, D04, D05, D06, D07, D08, D09, D10, D11}
@@ -10,7 +10,6 @@ use Rattle.design_table.specs.Spelled.{SpelledSheet}
 use Rattle.design_table.specs.Toml.{toml_of}
 use Rattle.rail_base.specs.declared.station.Station.{Station}
 use Rattle.rail_base.specs.Admission.{is_admitted}
-use Rattle.rail_base.specs.Admitted.{IsAdmitted}
 use Rattle.rail_base.proofs.Admitting.{admitted}
 use Rattle.infra_reader.specs.Names.{repeated_names}
 use Rattle.infra_reader.specs.Unknown.{unknown_names}
@@ -19,7 +18,7 @@ use Rattle.infra_reader.specs.Stations.{station_of}
 use Rattle.infra_reader.specs.Track.{crowded, open_boundaries, misplaced_signals}
 use Rattle.infra_reader.specs.Traffic.{zeros, inner_starts, missing_visits}
 use Rattle.infra_reader.specs.Spelling.{HasNames}
-use Rattle.infra_reader.specs.Design.{ruled, resolved, spelled_by, design_of}
+use Rattle.infra_reader.specs.Design.{resolved, spelled_by}
 use Rattle.infra_reader.proofs.Spelling.{has_names}
 use Rattle.infra_reader.proofs.Admitted as reader
 use Rattle.infra_reader.specs.Laws.{SpelledAreAdmitted}

@@ -2,7 +2,7 @@
 use Rattle.std.proofs.Common.{position, cond, ap₂, None, nat_lt, ◌≡◌, ℕ, ◌+◌, ◌-◌, ◌<◌, Bool, true, false, not, ◌||◌, List, [], ◌∷◌, ◌++◌, length, take, drop, get_or, map, Bor, Some, bytes_eq, refl, ap, sym, ◌∙◌, arith, Result, subst, fold, if◌then◌else◌}
 use Rattle.std.proofs.lemmas.List.{length-map, map_push, take_more, drop_more, get_or-map}
 use Rattle.std.specs.List.{list_any, position_or_len}
-use Rattle.infra_reader.specs.Seen.{texts}
+use Rattle.design_table.specs.Texts.{texts}
 use Rattle.infra_reader.specs.Names.{is_among, with_name, repeated}
 use Rattle.design_table.specs.declared.place.EntryKind.{EntryKind}
 use Rattle.design_table.specs.declared.place.Place.{Place}

@@ -6,7 +6,7 @@ use Rattle.std.specs.Global.{Vec}
 use Rattle.rail_base.specs.Admission.{is_from}
 use Rattle.infra_reader.specs.Limits.{are_few_visits, count_outside}
 use Rattle.design_table.specs.declared.key.Key.{Key}
-use Rattle.infra_reader.specs.Seen.{texts, visits_seen}
+use Rattle.design_table.specs.Texts.{texts, visits_seen}
 
 node_counts : (visits : List (Vec (Bor (List ℕ)))) → list_all (λ visit. is_from 1 64 (length visit)) (visits_seen visits) ≡ list_all (λ visit. is_from 1 64 (length visit.items)) visits
 node_counts [] = refl

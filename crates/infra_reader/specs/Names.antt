@@ -1,13 +1,16 @@
 -- Names: which of them stand twice, and which numbers they have.
-use Rattle.std.specs.Prelude.{ℕ, ◌+◌, ◌-◌, List, [], ◌∷◌, ◌++◌, Bool, map, fold, take, bytes_eq, if◌then◌else◌}
+use Rattle.std.specs.Prelude.{ℕ, ◌+◌, ◌-◌, List, [], ◌∷◌, ◌++◌, Bool, map, fold, take, bytes_eq, if◌then◌else◌, Result}
 use Rattle.std.specs.List.{list_any, position_or_len}
 use Rattle.design_table.specs.declared.key.Key.TheVariants as keys
 use Rattle.design_table.specs.declared.place.EntryKind.{EntryKind}
 use Rattle.design_table.specs.declared.place.EntryKind.TheVariants as kinds
 use Rattle.design_table.specs.declared.place.Place.{Place}
 use Rattle.design_table.specs.declared.place.Place.TheVariants.{Field}
-use Rattle.design_table.specs.Reads.{at, in_each}
-use Rattle.design_table.specs.Spelled.{SpelledNode, SpelledEdge, SpelledSignal, SpelledVehicle, SpelledTrain, SpelledSheet}
+use Rattle.design_table.specs.Reads.{at, in_each, Reads}
+use Rattle.design_table.specs.Spelled.{SpelledNode, SpelledEdge, SpelledSignal, SpelledVehicle, SpelledTrain}
+use Rattle.design_table.specs.Spelled.{SpelledSheet}
+use Rattle.design_table.specs.declared.fault.Code.TheVariants.{D03}
+use Rattle.design_table.specs.declared.fault.DesignFault.{DesignFault}
 
 -- the name is one of these
 abbrev pub is_among : List (List ℕ) → List ℕ → Bool
@@ -65,6 +68,11 @@ names_of s = record {
 -- the later entries of an array whose name stands already in an earlier one
 unfoldable pub repeated : EntryKind → List (List ℕ) → List Place
 repeated kind names = in_each (λ i name. at (is_among (take (i - 1) names) name) (Field kind i keys.Name)) names
+
+-- The names were read, seen by view, and none stands twice; or it is D03 at the first that stands already.
+abbrev pub ReadsDistinct : {X : Type 0} → (X → List (List ℕ)) → Result X DesignFault
+    → EntryKind → List (List ℕ) → Type 0
+ReadsDistinct view result kind names = Reads view result D03 (repeated kind names) names
 
 -- names that stand twice in their array
 unfoldable pub repeated_names : SpelledSheet → List Place

@@ -2,7 +2,8 @@
 use Rattle.std.specs.Prelude.{ℕ, ℤ, pos, negsuc, List, map, nat_lt, if◌then◌else◌}
 use Rattle.design_table.specs.declared.sheet.Side.TheVariants as spelled
 use Rattle.design_table.specs.declared.sheet.Side as table
-use Rattle.design_table.specs.Spelled.{SpelledNode, SpelledEdge, SpelledSignal, SpelledVehicle, SpelledTrain, SpelledOrder, SpelledWithin, SpelledSheet}
+use Rattle.design_table.specs.Spelled.{SpelledNode, SpelledEdge, SpelledSignal, SpelledVehicle, SpelledTrain}
+use Rattle.design_table.specs.Spelled.{SpelledOrder, SpelledWithin, SpelledSheet}
 use Rattle.rail_base.specs.declared.station.Station.{Station}
 use Rattle.rail_base.specs.declared.station.Node.{Node}
 use Rattle.rail_base.specs.declared.station.Edge.{Edge}
@@ -45,7 +46,11 @@ edge_in names e = record {
 }
 
 abbrev pub signal_in : Names → SpelledSignal → Signal
-signal_in names s = record { name = s.name; node = record { 0 = number_in names.nodes s.node }; toward = side_of s.toward }
+signal_in names s = record {
+  name = s.name;
+  node = record { 0 = number_in names.nodes s.node };
+  toward = side_of s.toward;
+}
 
 abbrev pub vehicle_in : Names → SpelledVehicle → Vehicle
 vehicle_in names v = record {

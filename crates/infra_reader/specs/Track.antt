@@ -1,5 +1,6 @@
 -- Where the track does not hold together.
-use Rattle.std.specs.Prelude.{ℕ, ◌+◌, ◌-◌, Bool, not, ◌&&◌, ◌||◌, ◌==◌, nat_le, List, [], ◌∷◌, ◌++◌, flat_map, take, count_by}
+use Rattle.std.specs.Prelude.{ℕ, ◌+◌, ◌-◌, Bool, not, ◌&&◌, ◌||◌, ◌==◌, nat_le, List, [], ◌∷◌, ◌++◌, flat_map, take}
+use Rattle.std.specs.Prelude.{count_by}
 use Rattle.std.specs.List.{list_any}
 use Rattle.design_table.specs.declared.place.EntryKind.TheVariants as kinds
 use Rattle.design_table.specs.declared.place.Place.{Place}
@@ -14,13 +15,21 @@ use Rattle.rail_base.specs.declared.station.Side.{Side}
 use Rattle.rail_base.specs.declared.station.Side.TheVariants.{A, B}
 use Rattle.rail_base.specs.Stations.{is_side, is_end, node_of}
 
+-- a side of the node of this number
+abbrev pub end_at : ℕ → Side → End
+end_at n side = record { node = record { 0 = n }; side = side }
+
+-- the two ends of an edge
+abbrev pub both_ends : Edge → List End
+both_ends e = e.from ∷ e.to ∷ []
+
 -- the ends of all edges, two of each
 abbrev pub edge_ends : List Edge → List End
-edge_ends edges = flat_map (λ (e : Edge). e.from ∷ e.to ∷ []) edges
+edge_ends edges = flat_map both_ends edges
 
 -- how many edge ends are at a side of the node of this number
 unfoldable pub ends_at : Station → ℕ → Side → ℕ
-ends_at d n side = count_by (λ end. is_end end (record { node = record { 0 = n }; side = side })) (edge_ends d.edges)
+ends_at d n side = count_by (λ end. is_end end (end_at n side)) (edge_ends d.edges)
 
 -- more than two edge ends at a side, or two at both
 abbrev pub is_crowded : Station → ℕ → Bool

@@ -20,6 +20,10 @@ use Rattle.rail_base.specs.Admission.{is_visit}
 unfoldable pub if_zero : ℕ → Place → List Place
 if_zero rate place = at (rate == 0) place
 
+-- an edge's speed
+abbrev pub edge_zeros : Station → ℕ → Edge → List Place
+edge_zeros d i e = if_zero (per_tick_speed d e.speed_mm_s) (Field kinds.Edge i keys.SpeedMmS)
+
 -- a vehicle's acceleration, braking and speed
 abbrev pub vehicle_zeros : Station → ℕ → Vehicle → List Place
 vehicle_zeros d i v =
@@ -31,7 +35,7 @@ vehicle_zeros d i v =
 unfoldable pub zeros : Station → List Place
 zeros d =
     if_zero (horizon d) (Top keys.HorizonMs)
-    ++ (in_each (λ i (e : Edge). if_zero (per_tick_speed d e.speed_mm_s) (Field kinds.Edge i keys.SpeedMmS)) d.edges
+    ++ (in_each (edge_zeros d) d.edges
     ++ in_each (vehicle_zeros d) d.vehicles)
 
 -- the nodes of the train's first visit are boundaries

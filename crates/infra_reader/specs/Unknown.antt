@@ -6,7 +6,8 @@ use Rattle.design_table.specs.declared.place.EntryKind.TheVariants as kinds
 use Rattle.design_table.specs.declared.place.Place.{Place}
 use Rattle.design_table.specs.declared.place.Place.TheVariants.{Field}
 use Rattle.design_table.specs.Reads.{at, in_each}
-use Rattle.design_table.specs.Spelled.{SpelledEdge, SpelledSignal, SpelledTrain, SpelledOrder, SpelledWithin, SpelledSheet}
+use Rattle.design_table.specs.Spelled.{SpelledEdge, SpelledSignal, SpelledTrain, SpelledOrder, SpelledWithin}
+use Rattle.design_table.specs.Spelled.{SpelledSheet}
 use Rattle.infra_reader.specs.Names.{Names, names_of, is_among}
 
 -- the place, where the name is none of these

@@ -6,8 +6,10 @@ ghost use Rattle.design_table.specs.Reads.{Reads, at};
 ghost use Rattle.design_table.specs.Spelled.{SpelledEdge, SpelledVehicle, SpelledTrain, SpelledWithin};
 ghost use Rattle.design_table.specs.Views.{edge_seen, vehicle_seen, train_seen, within_seen, sheet_seen};
 ghost use Rattle.rail_base.specs.Admission.{is_from};
-ghost use Rattle.infra_reader.specs.Limits.{unless_from, edge_outside, vehicle_outside, train_outside, within_outside, are_few_visits, is_horizon, times_outside, track_outside, traffic_outside, out_of_range, count_outside, array_outside};
-ghost use Rattle.infra_reader.specs.Seen.{visits_seen};
+ghost use Rattle.infra_reader.specs.Limits.{unless_from, edge_outside, vehicle_outside, train_outside, within_outside};
+ghost use Rattle.infra_reader.specs.Limits.{are_few_visits, is_horizon, times_outside, track_outside, traffic_outside};
+ghost use Rattle.infra_reader.specs.Limits.{out_of_range, count_outside, array_outside};
+ghost use Rattle.design_table.specs.Texts.{visits_seen};
 
 use crate::walk::{Limited, refuse_array, refuse_count};
 use design_table::{
@@ -190,7 +192,8 @@ fn refuse_nodes(sheet: &Sheet) -> Result<(), DesignFault>
 
 /// Refuses too many edges, and edges with numbers out of range.
 fn refuse_edges(sheet: &Sheet) -> Result<(), DesignFault>
-    ensures { Reads (λ x. x) result Code.D05 (array_outside edge_outside 0 4000 Key.Edge (sheet_seen sheet.now).edges) tt }
+    ensures { Reads (λ x. x) result Code.D05
+        (array_outside edge_outside 0 4000 Key.Edge (sheet_seen sheet.now).edges) tt }
 {
     refuse_array(0, 4000, Key::Edge, sheet.edges.as_slice())
 }
@@ -205,14 +208,16 @@ fn refuse_signals(sheet: &Sheet) -> Result<(), DesignFault>
 
 /// Refuses too many vehicles, and vehicles with numbers out of range.
 fn refuse_vehicles(sheet: &Sheet) -> Result<(), DesignFault>
-    ensures { Reads (λ x. x) result Code.D05 (array_outside vehicle_outside 0 64 Key.Vehicle (sheet_seen sheet.now).vehicles) tt }
+    ensures { Reads (λ x. x) result Code.D05
+        (array_outside vehicle_outside 0 64 Key.Vehicle (sheet_seen sheet.now).vehicles) tt }
 {
     refuse_array(0, 64, Key::Vehicle, sheet.vehicles.as_slice())
 }
 
 /// Refuses no train or too many, and trains with too few or too many visits.
 fn refuse_trains(sheet: &Sheet) -> Result<(), DesignFault>
-    ensures { Reads (λ x. x) result Code.D05 (array_outside train_outside 1 32 Key.Train (sheet_seen sheet.now).trains) tt }
+    ensures { Reads (λ x. x) result Code.D05
+        (array_outside train_outside 1 32 Key.Train (sheet_seen sheet.now).trains) tt }
 {
     refuse_array(1, 32, Key::Train, sheet.trains.as_slice())
 }
@@ -227,7 +232,8 @@ fn refuse_orders(sheet: &Sheet) -> Result<(), DesignFault>
 
 /// Refuses too many withins, and withins with numbers out of range.
 fn refuse_withins(sheet: &Sheet) -> Result<(), DesignFault>
-    ensures { Reads (λ x. x) result Code.D05 (array_outside within_outside 0 256 Key.Within (sheet_seen sheet.now).withins) tt }
+    ensures { Reads (λ x. x) result Code.D05
+        (array_outside within_outside 0 256 Key.Within (sheet_seen sheet.now).withins) tt }
 {
     refuse_array(0, 256, Key::Within, sheet.withins.as_slice())
 }

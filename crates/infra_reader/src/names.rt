@@ -5,8 +5,11 @@ ghost use Rattle.design_table.specs.Reads.{Reads, Fails, at};
 ghost use Rattle.design_table.specs.Views.{sheet_seen};
 ghost use Rattle.design_table.specs.declared.fault.DesignFault.TheVariants.{Memory};
 ghost use Rattle.infra_reader.specs.Unknown.{unless_among};
-ghost use Rattle.infra_reader.specs.Names.{is_among, number_in, each_once, node_names, edge_names, section_names, signal_names, vehicle_names, train_names, repeated, repeated_names, names_of};
-ghost use Rattle.infra_reader.specs.Seen.{names_seen, texts};
+ghost use Rattle.infra_reader.specs.Names.{is_among, number_in, each_once, node_names, edge_names, section_names};
+ghost use Rattle.infra_reader.specs.Names.{signal_names, vehicle_names, train_names, repeated, repeated_names};
+ghost use Rattle.infra_reader.specs.Names.{names_of, ReadsDistinct};
+ghost use Rattle.design_table.specs.Texts.{texts};
+ghost use Rattle.infra_reader.specs.Seen.{names_seen};
 
 use design_table::{
     Code, DesignFault, EdgeEntry, EntryKind, Key, NodeEntry, Place, Sheet, SignalEntry, TrainEntry,
@@ -55,7 +58,7 @@ fn node_texts<'a>(alloc: Global, nodes: &[NodeEntry<'a>]) -> Result<Vec<&'a str>
 
 /// The names of the nodes.
 fn node_names<'a>(alloc: Global, sheet: &Sheet<'a>) -> Result<IndexSet<&'a str>, DesignFault>
-    ensures { let names = node_names (sheet_seen sheet.now) in Reads (λ s. texts s.keys) result Code.D03 (repeated EntryKind.Node names) names }
+    ensures { ReadsDistinct (λ s. texts s.keys) result EntryKind.Node (node_names (sheet_seen sheet.now)) }
 {
     let names = node_texts(alloc, sheet.nodes.as_slice())?;
     distinct(alloc, EntryKind::Node, names.as_slice())
@@ -73,7 +76,7 @@ fn vehicle_texts<'a>(
 
 /// The names of the vehicles.
 fn vehicle_names<'a>(alloc: Global, sheet: &Sheet<'a>) -> Result<IndexSet<&'a str>, DesignFault>
-    ensures { let names = vehicle_names (sheet_seen sheet.now) in Reads (λ s. texts s.keys) result Code.D03 (repeated EntryKind.Vehicle names) names }
+    ensures { ReadsDistinct (λ s. texts s.keys) result EntryKind.Vehicle (vehicle_names (sheet_seen sheet.now)) }
 {
     let names = vehicle_texts(alloc, sheet.vehicles.as_slice())?;
     distinct(alloc, EntryKind::Vehicle, names.as_slice())
@@ -88,7 +91,7 @@ fn train_texts<'a>(alloc: Global, trains: &[TrainEntry<'a>]) -> Result<Vec<&'a s
 
 /// The names of the trains.
 fn train_names<'a>(alloc: Global, sheet: &Sheet<'a>) -> Result<IndexSet<&'a str>, DesignFault>
-    ensures { let names = train_names (sheet_seen sheet.now) in Reads (λ s. texts s.keys) result Code.D03 (repeated EntryKind.Train names) names }
+    ensures { ReadsDistinct (λ s. texts s.keys) result EntryKind.Train (train_names (sheet_seen sheet.now)) }
 {
     let names = train_texts(alloc, sheet.trains.as_slice())?;
     distinct(alloc, EntryKind::Train, names.as_slice())
@@ -103,7 +106,7 @@ fn edge_texts<'a>(alloc: Global, edges: &[EdgeEntry<'a>]) -> Result<Vec<&'a str>
 
 /// The names of the edges.
 fn edge_names<'a>(alloc: Global, sheet: &Sheet<'a>) -> Result<IndexSet<&'a str>, DesignFault>
-    ensures { let names = edge_names (sheet_seen sheet.now) in Reads (λ s. texts s.keys) result Code.D03 (repeated EntryKind.Edge names) names }
+    ensures { ReadsDistinct (λ s. texts s.keys) result EntryKind.Edge (edge_names (sheet_seen sheet.now)) }
 {
     let names = edge_texts(alloc, sheet.edges.as_slice())?;
     distinct(alloc, EntryKind::Edge, names.as_slice())
@@ -118,7 +121,7 @@ fn signal_texts<'a>(alloc: Global, signals: &[SignalEntry<'a>]) -> Result<Vec<&'
 
 /// The names of the signals.
 fn signal_names<'a>(alloc: Global, sheet: &Sheet<'a>) -> Result<IndexSet<&'a str>, DesignFault>
-    ensures { let names = signal_names (sheet_seen sheet.now) in Reads (λ s. texts s.keys) result Code.D03 (repeated EntryKind.Signal names) names }
+    ensures { ReadsDistinct (λ s. texts s.keys) result EntryKind.Signal (signal_names (sheet_seen sheet.now)) }
 {
     let names = signal_texts(alloc, sheet.signals.as_slice())?;
     distinct(alloc, EntryKind::Signal, names.as_slice())
@@ -153,7 +156,8 @@ fn section_names<'a>(alloc: Global, sheet: &Sheet<'a>) -> Result<IndexSet<&'a st
 /// The names of a sheet, or the refusal of the first that stands already in an earlier entry of its array.
 #[tactic(auto, using(crate::proofs::Places::walk), unfolding(crate::specs::Names::repeated_names))]
 pub fn read_names<'a>(alloc: Global, sheet: &Sheet<'a>) -> Result<Names<'a>, DesignFault>
-    ensures { Reads names_seen result Code.D03 (repeated_names (sheet_seen sheet.now)) (names_of (sheet_seen sheet.now)) }
+    ensures { let spelled = sheet_seen sheet.now in
+        Reads names_seen result Code.D03 (repeated_names spelled) (names_of spelled) }
 {
     let nodes = node_names(alloc, sheet)?;
     edge_names(alloc, sheet)?;
@@ -190,7 +194,8 @@ fn number_after(count: usize) -> Result<u32, DesignFault>
 
 /// The number of a name, or the refusal of the place where it is none of these.
 pub fn number_at(names: &IndexSet<&str>, name: &str, place: Place) -> Result<u32, DesignFault>
-    ensures { Reads (λ x. x) result Code.D04 (unless_among (texts names.now.keys) name.now place) (number_in (texts names.now.keys) name.now) }
+    ensures { let known = texts names.now.keys in
+        Reads (λ x. x) result Code.D04 (unless_among known name.now place) (number_in known name.now) }
 {
     match place_of(names, name) {
         Some(index) => number_after(index),

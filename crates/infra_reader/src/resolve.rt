@@ -3,14 +3,19 @@
 ghost use Rattle.std.specs.Prelude.{◌≡◌, ◌+◌, map, not, IfOk, IfErr, [], ◌++◌};
 ghost use Rattle.std.specs.List.{list_all};
 ghost use Rattle.design_table.specs.Reads.{Reads, at, in_each};
-ghost use Rattle.design_table.specs.Spelled.{SpelledNode, SpelledEdge, SpelledSignal, SpelledVehicle, SpelledTrain, SpelledOrder, SpelledWithin};
-ghost use Rattle.design_table.specs.Views.{node_seen, edge_seen, signal_seen, vehicle_seen, train_seen, order_seen, within_seen, sheet_seen};
+ghost use Rattle.design_table.specs.Spelled.{SpelledNode, SpelledEdge, SpelledSignal, SpelledVehicle, SpelledTrain};
+ghost use Rattle.design_table.specs.Spelled.{SpelledOrder, SpelledWithin};
+ghost use Rattle.design_table.specs.Views.{node_seen, edge_seen, signal_seen, vehicle_seen, train_seen, order_seen};
+ghost use Rattle.design_table.specs.Views.{within_seen, sheet_seen};
 ghost use Rattle.infra_reader.specs.Names.{is_among, number_in};
-ghost use Rattle.infra_reader.specs.Unknown.{unless_among, edge_unknown, signal_unknown, train_unknown, order_unknown, within_unknown, track_unknown, traffic_unknown};
-ghost use Rattle.infra_reader.specs.Stations.{number_32, nodes_in, side_of, node_in, edge_in, signal_in, vehicle_in, train_in, order_in, within_in, station_in};
+ghost use Rattle.infra_reader.specs.Unknown.{unless_among, edge_unknown, signal_unknown, train_unknown, order_unknown};
+ghost use Rattle.infra_reader.specs.Unknown.{within_unknown, track_unknown, traffic_unknown};
+ghost use Rattle.infra_reader.specs.Stations.{number_32, nodes_in, side_of, node_in, edge_in, signal_in, vehicle_in};
+ghost use Rattle.infra_reader.specs.Stations.{train_in, order_in, within_in, station_in};
 ghost use Rattle.design_table.specs.declared.fault.DesignFault.TheVariants.{Memory};
 ghost use Rattle.infra_reader.specs.Parts.{track_in, traffic_in};
-ghost use Rattle.infra_reader.specs.Seen.{texts, visits_seen, names_seen};
+ghost use Rattle.design_table.specs.Texts.{texts, visits_seen};
+ghost use Rattle.infra_reader.specs.Seen.{names_seen};
 
 use crate::names::{Names, number_at, number_of};
 use crate::walk::{Resolve, resolve_each};
@@ -160,7 +165,8 @@ fn visit_nodes(
     visit: &[&str],
     place: Place,
 ) -> Result<List<NodeNo>, DesignFault>
-    ensures { let names = texts nodes.now.keys in Reads (λ x. x) result Code.D04 (at (not (list_all (is_among names) (texts visit.now))) place) (nodes_in names (texts visit.now)) }
+    ensures { let names = texts nodes.now.keys in let spelled = texts visit.now in
+        Reads (λ x. x) result Code.D04 (at (not (list_all (is_among names) spelled)) place) (nodes_in names spelled) }
 {
     let mut numbers = Vec::new(alloc);
     for name in visit {
@@ -176,7 +182,9 @@ fn visits_nodes(
     visits: &[Vec<&str>],
     place: Place,
 ) -> Result<List<List<NodeNo>>, DesignFault>
-    ensures { let names = texts nodes.now.keys in Reads (λ x. x) result Code.D04 (at (not (list_all (list_all (is_among names)) (visits_seen visits.now))) place) (map (nodes_in names) (visits_seen visits.now)) }
+    ensures { let names = texts nodes.now.keys in let spelled = visits_seen visits.now in
+        Reads (λ x. x) result Code.D04 (at (not (list_all (list_all (is_among names)) spelled)) place)
+        (map (nodes_in names) spelled) }
 {
     let mut numbers = Vec::new(alloc);
     for visit in visits {
@@ -285,14 +293,16 @@ fn resolve_nodes(alloc: Global, names: &Names, sheet: &Sheet) -> Result<List<Nod
 
 /// The edges of the station.
 fn resolve_edges(alloc: Global, names: &Names, sheet: &Sheet) -> Result<List<Edge>, DesignFault>
-    ensures { let known = names_seen names.now in let edges = (sheet_seen sheet.now).edges in Reads (λ x. x) result Code.D04 (in_each (edge_unknown known) edges) (map (edge_in known) edges) }
+    ensures { let known = names_seen names.now in let edges = (sheet_seen sheet.now).edges in
+        Reads (λ x. x) result Code.D04 (in_each (edge_unknown known) edges) (map (edge_in known) edges) }
 {
     resolve_each(alloc, names, sheet.edges.as_slice())
 }
 
 /// The signals of the station.
 fn resolve_signals(alloc: Global, names: &Names, sheet: &Sheet) -> Result<List<Signal>, DesignFault>
-    ensures { let known = names_seen names.now in let signals = (sheet_seen sheet.now).signals in Reads (λ x. x) result Code.D04 (in_each (signal_unknown known) signals) (map (signal_in known) signals) }
+    ensures { let known = names_seen names.now in let signals = (sheet_seen sheet.now).signals in
+        Reads (λ x. x) result Code.D04 (in_each (signal_unknown known) signals) (map (signal_in known) signals) }
 {
     resolve_each(alloc, names, sheet.signals.as_slice())
 }
@@ -303,7 +313,8 @@ fn resolve_vehicles(
     names: &Names,
     sheet: &Sheet,
 ) -> Result<List<Vehicle>, DesignFault>
-    ensures ok { IfOk result (λ vehicles. vehicles ≡ map (vehicle_in (names_seen names.now)) (sheet_seen sheet.now).vehicles) }
+    ensures ok { IfOk result (λ vehicles.
+        vehicles ≡ map (vehicle_in (names_seen names.now)) (sheet_seen sheet.now).vehicles) }
     ensures err { IfErr result (λ fault. fault ≡ Memory) }
 {
     resolve_each(alloc, names, sheet.vehicles.as_slice())
@@ -311,21 +322,24 @@ fn resolve_vehicles(
 
 /// The trains of the station.
 fn resolve_trains(alloc: Global, names: &Names, sheet: &Sheet) -> Result<List<Train>, DesignFault>
-    ensures { let known = names_seen names.now in let trains = (sheet_seen sheet.now).trains in Reads (λ x. x) result Code.D04 (in_each (train_unknown known) trains) (map (train_in known) trains) }
+    ensures { let known = names_seen names.now in let trains = (sheet_seen sheet.now).trains in
+        Reads (λ x. x) result Code.D04 (in_each (train_unknown known) trains) (map (train_in known) trains) }
 {
     resolve_each(alloc, names, sheet.trains.as_slice())
 }
 
 /// The orders of the station.
 fn resolve_orders(alloc: Global, names: &Names, sheet: &Sheet) -> Result<List<Order>, DesignFault>
-    ensures { let known = names_seen names.now in let orders = (sheet_seen sheet.now).orders in Reads (λ x. x) result Code.D04 (in_each (order_unknown known) orders) (map (order_in known) orders) }
+    ensures { let known = names_seen names.now in let orders = (sheet_seen sheet.now).orders in
+        Reads (λ x. x) result Code.D04 (in_each (order_unknown known) orders) (map (order_in known) orders) }
 {
     resolve_each(alloc, names, sheet.orders.as_slice())
 }
 
 /// The withins of the station.
 fn resolve_withins(alloc: Global, names: &Names, sheet: &Sheet) -> Result<List<Within>, DesignFault>
-    ensures { let known = names_seen names.now in let withins = (sheet_seen sheet.now).withins in Reads (λ x. x) result Code.D04 (in_each (within_unknown known) withins) (map (within_in known) withins) }
+    ensures { let known = names_seen names.now in let withins = (sheet_seen sheet.now).withins in
+        Reads (λ x. x) result Code.D04 (in_each (within_unknown known) withins) (map (within_in known) withins) }
 {
     resolve_each(alloc, names, sheet.withins.as_slice())
 }
@@ -351,7 +365,8 @@ struct Traffic {
 /// The track, or the refusal of a name that is not there.
 #[tactic(auto, using(crate::proofs::Places::walk), unfolding(crate::specs::Unknown::track_unknown))]
 fn resolve_track(alloc: Global, names: &Names, sheet: &Sheet) -> Result<Track, DesignFault>
-    ensures { let known = names_seen names.now in Reads (λ x. x) result Code.D04 (track_unknown known (sheet_seen sheet.now)) (track_in known (sheet_seen sheet.now)) }
+    ensures { let known = names_seen names.now in let spelled = sheet_seen sheet.now in
+        Reads (λ x. x) result Code.D04 (track_unknown known spelled) (track_in known spelled) }
 {
     let nodes = resolve_nodes(alloc, names, sheet)?;
     let edges = resolve_edges(alloc, names, sheet)?;
@@ -368,7 +383,8 @@ fn resolve_track(alloc: Global, names: &Names, sheet: &Sheet) -> Result<Track, D
 /// The traffic, or the refusal of a name that is not there.
 #[tactic(auto, using(crate::proofs::Places::walk), unfolding(crate::specs::Unknown::traffic_unknown))]
 fn resolve_traffic(alloc: Global, names: &Names, sheet: &Sheet) -> Result<Traffic, DesignFault>
-    ensures { let known = names_seen names.now in Reads (λ x. x) result Code.D04 (traffic_unknown known (sheet_seen sheet.now)) (traffic_in known (sheet_seen sheet.now)) }
+    ensures { let known = names_seen names.now in let spelled = sheet_seen sheet.now in
+        Reads (λ x. x) result Code.D04 (traffic_unknown known spelled) (traffic_in known spelled) }
 {
     let vehicles = resolve_vehicles(alloc, names, sheet)?;
     let trains = resolve_trains(alloc, names, sheet)?;
@@ -385,7 +401,9 @@ fn resolve_traffic(alloc: Global, names: &Names, sheet: &Sheet) -> Result<Traffi
 /// The station, or the refusal of a name that is not there.
 #[tactic(auto, using(crate::proofs::Places::walk))]
 pub fn resolve(alloc: Global, names: &Names, sheet: &Sheet) -> Result<Station, DesignFault>
-    ensures { let known = names_seen names.now in let spelled = sheet_seen sheet.now in Reads (λ x. x) result Code.D04 (track_unknown known spelled ++ traffic_unknown known spelled) (station_in known spelled) }
+    ensures { let known = names_seen names.now in let spelled = sheet_seen sheet.now in
+        Reads (λ x. x) result Code.D04 (track_unknown known spelled ++ traffic_unknown known spelled)
+        (station_in known spelled) }
 {
     let track = resolve_track(alloc, names, sheet)?;
     let traffic = resolve_traffic(alloc, names, sheet)?;

@@ -1,6 +1,7 @@
 //! Rules on the station: D06 to D11.
 
-ghost use Rattle.std.specs.Prelude.{◌≡◌, ◌+◌, ◌*◌, ◌/◌, ◌-◌, ◌<◌, ◌&&◌, ◌||◌, ◌==◌, [], ◌∷◌, if◌then◌else◌, Some, None, length, not, take, count_by};
+ghost use Rattle.std.specs.Prelude.{◌≡◌, ◌+◌, ◌*◌, ◌/◌, ◌-◌, ◌<◌, ◌&&◌, ◌||◌, ◌==◌, [], ◌∷◌, if◌then◌else◌, Some, None};
+ghost use Rattle.std.specs.Prelude.{length, not, take, count_by};
 ghost use Rattle.std.specs.List.{list_all, list_any};
 ghost use Rattle.std.specs.Option.{option_copied};
 ghost use Rattle.design_table.specs.Reads.{Reads, at, in_each};
@@ -8,11 +9,14 @@ ghost use Rattle.design_table.specs.declared.place.Place.TheVariants.{Entry, Fie
 ghost use Rattle.design_table.specs.declared.place.EntryKind.TheVariants as kinds;
 ghost use Rattle.design_table.specs.declared.key.Key.TheVariants as keys;
 ghost use Rattle.design_table.specs.declared.fault.Code.TheVariants as code;
-ghost use Rattle.rail_base.specs.Stations.{is_side, is_end, node_of, train_of, first_visit, horizon, per_tick_speed, per_tick_accel};
+ghost use Rattle.rail_base.specs.Stations.{is_side, is_end, node_of, train_of, first_visit, horizon, per_tick_speed};
+ghost use Rattle.rail_base.specs.Stations.{per_tick_accel};
 ghost use Rattle.rail_base.specs.Admission.{is_from, is_visit};
 ghost use Rattle.rail_base.specs.declared.station.Side.TheVariants.{A, B};
-ghost use Rattle.infra_reader.specs.Track.{edge_ends, ends_at, is_crowded, is_loop, is_open, is_beside, is_misplaced, crowded, open_boundaries, misplaced_signals};
-ghost use Rattle.infra_reader.specs.Traffic.{if_zero, unless_visit, vehicle_zeros, zeros, can_enter, inner_starts, order_missing, within_missing, missing_visits};
+ghost use Rattle.infra_reader.specs.Track.{edge_ends, ends_at, is_crowded, is_loop, is_open, is_beside, is_misplaced};
+ghost use Rattle.infra_reader.specs.Track.{crowded, open_boundaries, misplaced_signals, end_at, both_ends};
+ghost use Rattle.infra_reader.specs.Traffic.{if_zero, unless_visit, vehicle_zeros, zeros, can_enter, inner_starts};
+ghost use Rattle.infra_reader.specs.Traffic.{order_missing, within_missing, missing_visits, edge_zeros};
 
 use crate::walk::{Rule, refuse_each};
 use design_table::{Code, DesignFault, EntryKind, Key, Place};
@@ -35,14 +39,14 @@ fn refuse_if(is_broken: bool, code: Code, place: Place) -> Result<(), DesignFaul
 
 /// Whether an end is at this side of the node of this number.
 fn is_at(end: End, node: u64, side: Side) -> bool
-    ensures { result ≡ is_end end (record { node = record { 0 = node }; side = side }) }
+    ensures { result ≡ is_end end (end_at node side) }
 {
     u64::from(end.node.0) == node && end.side == side
 }
 
 /// How many ends of an edge are at this side of a node.
 fn ends_of(edge: &Edge, node: u64, side: Side) -> usize
-    ensures { result ≡ count_by (λ end. is_end end (record { node = record { 0 = node }; side = side })) (edge.now.from ∷ edge.now.to ∷ []) }
+    ensures { result ≡ count_by (λ end. is_end end (end_at node side)) (both_ends edge.now) }
 {
     usize::from(is_at(edge.from, node, side)) + usize::from(is_at(edge.to, node, side))
 }
@@ -91,14 +95,16 @@ impl Rule<Edge> for Loops {
 
 /// Refuses nodes with too many edge ends.
 fn refuse_crowded_nodes(station: &Station) -> Result<(), DesignFault>
-    ensures { Reads (λ x. x) result Code.D06 (in_each (λ i n. at (is_crowded station.now i) (Entry kinds.Node i)) station.now.nodes) tt }
+    ensures { Reads (λ x. x) result Code.D06
+        (in_each (λ i n. at (is_crowded station.now i) (Entry kinds.Node i)) station.now.nodes) tt }
 {
     refuse_each::<Crowded, Node>(station, station.nodes.as_slice())
 }
 
 /// Refuses edges with both ends at one node.
 fn refuse_loops(station: &Station) -> Result<(), DesignFault>
-    ensures { Reads (λ x. x) result Code.D06 (in_each (λ i e. at (is_loop e) (Entry kinds.Edge i)) station.now.edges) tt }
+    ensures { Reads (λ x. x) result Code.D06
+        (in_each (λ i e. at (is_loop e) (Entry kinds.Edge i)) station.now.edges) tt }
 {
     refuse_each::<Loops, Edge>(station, station.edges.as_slice())
 }
@@ -280,7 +286,7 @@ fn refuse_no_tick(station: &Station) -> Result<(), DesignFault>
 
 /// Refuses edges whose speed is 0 in a tick.
 fn refuse_edge_zeros(station: &Station) -> Result<(), DesignFault>
-    ensures { Reads (λ x. x) result Code.D09 (in_each (λ i e. if_zero (per_tick_speed station.now e.speed_mm_s) (Field kinds.Edge i keys.SpeedMmS)) station.now.edges) tt }
+    ensures { Reads (λ x. x) result Code.D09 (in_each (edge_zeros station.now) station.now.edges) tt }
 {
     refuse_each::<EdgeZeros, Edge>(station, station.edges.as_slice())
 }
@@ -345,7 +351,8 @@ pub fn refuse_inner_starts(station: &Station) -> Result<(), DesignFault>
 
 /// The train of a number.
 fn train_at(station: &Station, train: TrainNo) -> Option<&Train>
-    ensures { option_copied result ≡ (if is_from 1 (length station.now.trains) train.0 then Some (train_of station.now train) else None) }
+    ensures { option_copied result
+        ≡ (if is_from 1 (length station.now.trains) train.0 then Some (train_of station.now train) else None) }
 {
     match train.0 {
         0 => None,

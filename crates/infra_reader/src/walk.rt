@@ -120,7 +120,8 @@ pub trait Resolve {
         names: &Names,
         number: u64,
     ) -> Result<Self::Resolved, DesignFault>
-        ensures { Reads (λ x. x) result Code.D04 (unknown (names_seen names.now) number (seen self.now)) (resolved (names_seen names.now) (seen self.now)) };
+        ensures { let known = names_seen names.now in let spelled = seen self.now in
+            Reads (λ x. x) result Code.D04 (unknown known number spelled) (resolved known spelled) };
 }
 
 /// The entries, by the numbers of the names.
@@ -129,7 +130,8 @@ pub fn resolve_each<E: Resolve>(
     names: &Names,
     entries: &[E],
 ) -> Result<List<E::Resolved>, DesignFault>
-    ensures { Reads (λ x. x) result Code.D04 (in_each (E.unknown (names_seen names.now)) (map E.seen entries.now)) (map (E.resolved (names_seen names.now)) (map E.seen entries.now)) }
+    ensures { let known = names_seen names.now in let spelled = map E.seen entries.now in
+        Reads (λ x. x) result Code.D04 (in_each (E.unknown known) spelled) (map (E.resolved known) spelled) }
 {
     let mut resolved = Vec::new(alloc);
     for (index, entry) in entries.iter().enumerate() {

@@ -1,2 +1,3 @@
--- The sections of routes.
+-- The sections of routes, and what plans are.
 pub mod Sections
+pub mod Plans

@@ -22,4 +22,6 @@ module _ (refute : Cone → Result (List Lit) ConeFault) where
 
 -- what a file shows is so, whoever wrote it
 abbrev pub ShownIsSo : Type 0
-ShownIsSo = (refute : Cone → Result (List Lit) ConeFault) (vars steps : ℕ) (base : Store) (k : ℕ) (bytes : List ℕ) → log_verdict refute vars steps base bytes ≡ Yes k → Denies refute vars steps base k
+ShownIsSo = (refute : Cone → Result (List Lit) ConeFault) (vars steps : ℕ) (base : Store) (k : ℕ) (bytes : List ℕ)
+    → log_verdict refute vars steps base bytes ≡ Yes k
+    → Denies refute vars steps base k

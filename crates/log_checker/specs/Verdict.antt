@@ -1,5 +1,6 @@
 -- What a proof file shows over a base of clauses, or its first bad line.
-use Rattle.std.specs.Prelude.{ℕ, suc, zero, ◌+◌, ◌-◌, Bool, true, false, ◌&&◌, List, [], ◌∷◌, ◌++◌, length, replicate, nat_le, slice_get, unwrap_or, is_some, Option, Some, None, Result, Ok, Err, if◌then◌else◌}
+use Rattle.std.specs.Prelude.{ℕ, suc, zero, ◌+◌, ◌-◌, Bool, true, false, ◌&&◌, List, [], ◌∷◌, ◌++◌, length, replicate}
+use Rattle.std.specs.Prelude.{nat_le, slice_get, unwrap_or, is_some, Option, Some, None, Result, Ok, Err, if◌then◌else◌}
 use Rattle.std.specs.List.{list_all}
 use Rattle.std.specs.Str.{bytes_eq}
 use Rattle.rail_text.specs.Pieces.{pieces}
@@ -17,14 +18,16 @@ use Rattle.proof_log.specs.Lines.{head, line_of}
 use Rattle.log_checker.specs.declared.shown.Shown.{Shown}
 use Rattle.log_checker.specs.declared.shown.Shown.TheVariants.{Yes, No}
 use Rattle.log_checker.specs.declared.shown.Reason.{Reason}
-use Rattle.log_checker.specs.declared.shown.Reason.TheVariants.{Text, UnknownClause, HintNotUnit, NoConflict, DropRefused, NotRefuted, NoFinalLine}
+use Rattle.log_checker.specs.declared.shown.Reason.TheVariants.{Text, UnknownClause, HintNotUnit, NoConflict}
+use Rattle.log_checker.specs.declared.shown.Reason.TheVariants.{DropRefused, NotRefuted, NoFinalLine}
 
 -- ---- lines
 
 -- the line, where no variable of a clause that it derives is past the last one
 abbrev pub if_within : ℕ → Option Line → Option Line
 if_within vars None = None
-if_within vars (Some (Derive clause hints)) = if list_all (λ l. nat_le l.var vars) clause then Some (Derive clause hints) else None
+if_within vars (Some (Derive clause hints)) =
+    if list_all (λ l. nat_le l.var vars) clause then Some (Derive clause hints) else None
 if_within vars (Some (Refute cone)) = Some (Refute cone)
 if_within vars (Some (Forget ids)) = Some (Forget ids)
 
@@ -58,7 +61,11 @@ at_first base = record { store = base; derived = replicate (length base) false; 
 
 -- with one clause more
 abbrev pub with_clause : SoFar → List Lit → Bool → Option ℕ → SoFar
-with_clause s clause derived shown = record { store = s.store ++ (clause, true) ∷ []; derived = s.derived ++ derived ∷ []; shown = shown }
+with_clause s clause derived shown = record {
+  store = s.store ++ (clause, true) ∷ [];
+  derived = s.derived ++ derived ∷ [];
+  shown = shown;
+}
 
 -- a line derived the clause of this number, numbers being counted from 1
 abbrev pub is_derived : List Bool → ℕ → Bool
@@ -82,6 +89,10 @@ by_follow s clause shown follow.UnknownClause = Err UnknownClause
 by_follow s clause shown follow.NotUnit = Err HintNotUnit
 by_follow s clause shown follow.NoConflict = Err NoConflict
 
+-- with a clause derived by these hints, showing this, or why they don't show it
+abbrev pub derived_by : SoFar → List Lit → List ℕ → Option ℕ → Result SoFar Reason
+derived_by s clause hints shown = by_follow s clause shown (follow_of s.store clause hints)
+
 -- with the clause of a cone, or why it shows nothing
 abbrev pub by_cone : SoFar → Result (List Lit) ConeFault → Result SoFar Reason
 by_cone s (Ok clause) = Ok (with_clause s clause false None)
@@ -91,6 +102,10 @@ by_cone s (Err fault) = Err (NotRefuted fault)
 abbrev pub by_forget : SoFar → Result Store Reason → Result SoFar Reason
 by_forget s (Ok store) = Ok (record { store = store; derived = s.derived; shown = None })
 by_forget s (Err reason) = Err reason
+
+-- without the clauses of these numbers, or why one of them stays
+abbrev pub forgotten_by : SoFar → List ℕ → Result SoFar Reason
+forgotten_by s ids = by_forget s (forgotten s.derived s.store ids)
 
 -- a bad line is the answer, a good one goes on
 abbrev pub after_line : ℕ → Result SoFar Reason → (SoFar → Shown) → Shown
@@ -112,9 +127,9 @@ module _ (refute : Cone → Result (List Lit) ConeFault) (vars steps : ℕ) wher
   -- with a line taken, or why it is bad
   abbrev pub taken : SoFar → Option Line → Result SoFar Reason
   taken s None = Err Text
-  taken s (Some (Derive clause hints)) = by_follow s clause (steps_denied vars steps clause) (follow_of s.store clause hints)
+  taken s (Some (Derive clause hints)) = derived_by s clause hints (steps_denied vars steps clause)
   taken s (Some (Refute cone)) = by_cone s (refute cone)
-  taken s (Some (Forget ids)) = by_forget s (forgotten s.derived s.store ids)
+  taken s (Some (Forget ids)) = forgotten_by s ids
 
   -- what the lines from this place on show
   abbrev pub shown_from : ℕ → SoFar → List Piece → Shown

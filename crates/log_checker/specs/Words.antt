@@ -1,9 +1,11 @@
 -- The reasons in words.
 use Rattle.std.specs.Prelude.{ℕ, List, codes}
 use Rattle.rail_cone.specs.declared.ConeFault.{ConeFault}
-use Rattle.rail_cone.specs.declared.ConeFault.TheVariants.{PathNotInDesign, CommandNotGranted, HolderNotValid, ViolationNotShown}
+use Rattle.rail_cone.specs.declared.ConeFault.TheVariants.{PathNotInDesign, CommandNotGranted, HolderNotValid}
+use Rattle.rail_cone.specs.declared.ConeFault.TheVariants.{ViolationNotShown}
 use Rattle.log_checker.specs.declared.shown.Reason.{Reason}
-use Rattle.log_checker.specs.declared.shown.Reason.TheVariants.{Text, UnknownClause, HintNotUnit, NoConflict, DropRefused, NotRefuted, NoFinalLine}
+use Rattle.log_checker.specs.declared.shown.Reason.TheVariants.{Text, UnknownClause, HintNotUnit, NoConflict}
+use Rattle.log_checker.specs.declared.shown.Reason.TheVariants.{DropRefused, NotRefuted, NoFinalLine}
 
 -- why a cone shows nothing
 abbrev pub cone_words : ConeFault → List ℕ

@@ -3,7 +3,8 @@
 ghost use Rattle.std.specs.Prelude.{◌≡◌, ◌∷◌, ◌++◌, IfOk, OnOk, Ok, Err, Some, None, is_some, true, List, ℕ};
 ghost use Rattle.sat_clause.specs.Clauses.{live_clause, without};
 ghost use Rattle.sat_clause.specs.Hints.{follow_of};
-ghost use Rattle.log_checker.specs.Verdict.{at_first, with_clause, is_derived, forgotten, by_follow, by_cone, by_forget};
+ghost use Rattle.log_checker.specs.Verdict.{at_first, with_clause, is_derived, forgotten, by_follow, by_cone};
+ghost use Rattle.log_checker.specs.Verdict.{by_forget, derived_by, forgotten_by};
 ghost use Rattle.log_checker.specs.declared.shown.Reason.{Reason};
 ghost use Rattle.log_checker.specs.declared.held.Fault.TheVariants.{Bad};
 
@@ -83,8 +84,9 @@ impl Held {
         hints: &[u64],
         shown: Option<u32>,
     ) -> Result<(), Fault>
-        ensures ok { OnOk result (by_follow self.old clause.now shown (follow_of self.old.store clause.now hints.now) ≡ Ok self.new) }
-        ensures bad { (reason : Reason) → result ≡ Err (Bad reason) → by_follow self.old clause.now shown (follow_of self.old.store clause.now hints.now) ≡ Err reason }
+        ensures ok { OnOk result (derived_by self.old clause.now hints.now shown ≡ Ok self.new) }
+        ensures bad { (reason : Reason) → result ≡ Err (Bad reason)
+            → derived_by self.old clause.now hints.now shown ≡ Err reason }
     {
         match follows(marks, &self.clauses, clause, hints) {
             Ok(Follow::Yes) => self.push(clause, true, shown),
@@ -103,7 +105,8 @@ impl Held {
         cone: &Cone,
     ) -> Result<(), Fault>
         ensures ok { OnOk result (by_cone self.old (R.refute refuter.now cone.now) ≡ Ok self.new) }
-        ensures bad { (reason : Reason) → result ≡ Err (Bad reason) → by_cone self.old (R.refute refuter.now cone.now) ≡ Err reason }
+        ensures bad { (reason : Reason) → result ≡ Err (Bad reason)
+            → by_cone self.old (R.refute refuter.now cone.now) ≡ Err reason }
     {
         match refuter.clause_of(alloc, cone) {
             Ok(clause) => self.push(&clause, false, None),
@@ -124,9 +127,12 @@ impl Held {
 
     /// Takes a derived clause out.
     fn forget_one(&mut self, id: u64) -> Result<(), Reason>
-        ensures ok { OnOk result ((is_some (live_clause self.old.store id) ≡ true) × (is_derived self.old.derived id ≡ true) × (self.new.store ≡ without self.old.store id)) }
+        ensures ok { OnOk result ((is_some (live_clause self.old.store id) ≡ true)
+            × (is_derived self.old.derived id ≡ true)
+            × (self.new.store ≡ without self.old.store id)) }
         ensures derived { self.new.derived ≡ self.old.derived }
-        ensures bad { (reason : Reason) → (more : List ℕ) → result ≡ Err reason → forgotten self.old.derived self.old.store (id ∷ more) ≡ Err reason }
+        ensures bad { (reason : Reason) → (more : List ℕ) → result ≡ Err reason
+            → forgotten self.old.derived self.old.store (id ∷ more) ≡ Err reason }
     {
         if !self.clauses.live(id) {
             return Err(Reason::UnknownClause);
@@ -140,8 +146,8 @@ impl Held {
 
     /// Takes derived clauses out, in order.
     pub fn forget(&mut self, ids: &[u64]) -> Result<(), Fault>
-        ensures ok { OnOk result (by_forget self.old (forgotten self.old.derived self.old.store ids.now) ≡ Ok self.new) }
-        ensures bad { (reason : Reason) → result ≡ Err (Bad reason) → by_forget self.old (forgotten self.old.derived self.old.store ids.now) ≡ Err reason }
+        ensures ok { OnOk result (forgotten_by self.old ids.now ≡ Ok self.new) }
+        ensures bad { (reason : Reason) → result ≡ Err (Bad reason) → forgotten_by self.old ids.now ≡ Err reason }
     {
         for id in ids {
             if let Err(reason) = self.forget_one(*id) {

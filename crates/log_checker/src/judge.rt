@@ -20,7 +20,9 @@ impl<R: Refuter> Judge<'_, R> {
     /// What the lines after the head show.
     fn judge_lines(&self, base: Arena, lines: Cursor<'_>) -> Result<Shown, AllocError>
         requires few { length (lines_left lines) + 2 < 2 ^ 64 }
-        ensures { IfOk result (λ shown. shown ≡ shown_from (R.refute self.now.refuter.now) self.now.vars self.now.steps 2 (at_first base) (lines_left lines.entry)) }
+        ensures { IfOk result (λ shown. shown
+            ≡ shown_from (R.refute self.now.refuter.now) self.now.vars self.now.steps 2 (at_first base)
+            (lines_left lines.entry)) }
     {
         let mut marks = Marks::new(self.alloc);
         let mut held = Held::new(self.alloc, base)?;
@@ -49,7 +51,8 @@ fn shown_by<R: Refuter>(
     base: Arena,
     bytes: &[u8],
 ) -> Result<Shown, AllocError>
-    ensures { IfOk result (λ shown. shown ≡ log_verdict (R.refute judge.now.refuter.now) judge.now.vars judge.now.steps base bytes.now) }
+    ensures { IfOk result (λ shown. shown
+        ≡ log_verdict (R.refute judge.now.refuter.now) judge.now.vars judge.now.steps base bytes.now) }
 {
     let mut lines = Cursor::new(bytes);
     let Some(first) = lines.next() else {
@@ -81,7 +84,8 @@ pub fn judge_log<R: Refuter>(
     steps: u32,
     bytes: &[u8],
 ) -> Result<Shown, AllocError>
-    ensures value { IfOk result (λ shown. shown ≡ log_verdict (R.refute refuter.now) vars steps base bytes.now) }
+    ensures value { IfOk result (λ shown. shown
+        ≡ log_verdict (R.refute refuter.now) vars steps base bytes.now) }
     ensures sound { (k : ℕ) → result ≡ Ok (Yes k) → Denies (R.refute refuter.now) vars steps base k }
 {
     let judge = Judge {

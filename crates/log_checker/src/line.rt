@@ -38,7 +38,8 @@ fn is_within(line: &Line, vars: u32) -> bool
 /// The line that a piece of a file spells.
 fn spell(alloc: Global, vars: u32, piece: &Piece<'_>) -> Result<Line, Fault>
     ensures ok { IfOk result (λ line. spelled vars (line_of piece.now) ≡ Some line) }
-    ensures bad { (reason : Reason) → result ≡ Err (Bad reason) → (reason ≡ Text) × (spelled vars (line_of piece.now) ≡ None) }
+    ensures bad { (reason : Reason) → result ≡ Err (Bad reason)
+        → (reason ≡ Text) × (spelled vars (line_of piece.now) ≡ None) }
 {
     if !piece.ended {
         return Err(Fault::Bad(Reason::Text));
@@ -84,8 +85,11 @@ pub struct Judge<'a, R: Refuter> {
 impl<R: Refuter> Judge<'_, R> {
     /// Takes a line.
     pub fn take(&self, marks: &mut Marks, held: &mut Held, line: &Line) -> Result<(), Fault>
-        ensures ok { OnOk result (taken (R.refute self.now.refuter.now) self.now.vars self.now.steps held.old (Some line.now) ≡ Ok held.new) }
-        ensures bad { (reason : Reason) → result ≡ Err (Bad reason) → taken (R.refute self.now.refuter.now) self.now.vars self.now.steps held.old (Some line.now) ≡ Err reason }
+        ensures ok { OnOk result
+            (taken (R.refute self.now.refuter.now) self.now.vars self.now.steps held.old (Some line.now)
+            ≡ Ok held.new) }
+        ensures bad { (reason : Reason) → result ≡ Err (Bad reason)
+            → taken (R.refute self.now.refuter.now) self.now.vars self.now.steps held.old (Some line.now) ≡ Err reason }
     {
         match line {
             Line::Derive { clause, hints } => {
@@ -104,8 +108,12 @@ impl<R: Refuter> Judge<'_, R> {
         held: &mut Held,
         piece: &Piece<'_>,
     ) -> Result<(), Fault>
-        ensures ok { OnOk result (taken (R.refute self.now.refuter.now) self.now.vars self.now.steps held.old (spelled self.now.vars (line_of piece.now)) ≡ Ok held.new) }
-        ensures bad { (reason : Reason) → result ≡ Err (Bad reason) → taken (R.refute self.now.refuter.now) self.now.vars self.now.steps held.old (spelled self.now.vars (line_of piece.now)) ≡ Err reason }
+        ensures ok { OnOk result
+            (taken (R.refute self.now.refuter.now) self.now.vars self.now.steps held.old
+            (spelled self.now.vars (line_of piece.now)) ≡ Ok held.new) }
+        ensures bad { (reason : Reason) → result ≡ Err (Bad reason)
+            → taken (R.refute self.now.refuter.now) self.now.vars self.now.steps held.old
+            (spelled self.now.vars (line_of piece.now)) ≡ Err reason }
     {
         match spell(self.alloc, self.vars, piece) {
             Ok(line) => self.take(marks, held, &line),

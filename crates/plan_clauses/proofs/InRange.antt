@@ -1,5 +1,5 @@
 -- The numbers in the clauses of the base: from 1 to below the number of the last variable.
-use Rattle.std.proofs.Common.{◌≡◌, ℕ, ◌-◌, ◌≤◌, ◌<◌, inl, inr, List, [], ◌∷◌, map, sym, ap, subst, arith, nat_eq, ◌+◌}
+use Rattle.std.proofs.Common.{◌≡◌, ℕ, ◌-◌, ◌≤◌, ◌<◌, inl, inr, List, [], ◌∷◌, map, sym, ap, subst, arith}
 use Rattle.std.proofs.lemmas.Bool.Decides.{eqb_tells}
 use Rattle.rail_base.specs.declared.station.Station.{Station}
 use Rattle.rail_base.specs.declared.route.Route.{Route}
@@ -10,16 +10,16 @@ use Rattle.rail_base.proofs.Lists.{in_map_back, in_count_back}
 use Rattle.rail_spec.specs.Plans.{all_commands}
 use Rattle.sat_clause.specs.declared.lit.Lit.{Lit}
 use Rattle.plan_clauses.specs.Variables.{Variable, Given, Before, By, Literal, yes, no, numbered, number_of, variable_count}
-use Rattle.plan_clauses.specs.Clauses.{Clause, all_given, clauses, base_clauses}
+use Rattle.plan_clauses.specs.Clauses.{Clause, all_given, clauses}
 use Rattle.plan_clauses.specs.Laws.{IsInRange}
-use Rattle.plan_clauses.proofs.Families.{KnownAll, clauses_known}
+use Rattle.plan_clauses.proofs.Families.{clauses_known}
 use Rattle.plan_clauses.proofs.Numbers.{Known, number_low}
 use Rattle.plan_clauses.proofs.Plain.{IsPlain, of_plain}
 use Rattle.plan_clauses.proofs.Variables.{number_high, one_number}
 
 module _ (d : Station) (routes : List Route) (n : ℕ) where
   -- the variable doesn't say that all is given by the last step
-  abbrev IsEarly : Variable → Type 0
+  abbrev pub IsEarly : Variable → Type 0
   IsEarly (Given c i) = Unit {0}
   IsEarly (Before e c) = Unit {0}
   IsEarly (By k) = k < n
@@ -53,7 +53,7 @@ module _ (d : Station) (routes : List Route) (n : ℕ) where
   not_by_last : (v : Variable) → IsEarly v → v ≡ By n → ⊥
   not_by_last v e same = let late : n < n = subst IsEarly same e in omega arith
 
-  number_below : 1 ≤ n → (v : Variable) → Known d routes n v → IsEarly v → number_of d routes n v < variable_count d routes n
+  pub number_below : 1 ≤ n → (v : Variable) → Known d routes n v → IsEarly v → number_of d routes n v < variable_count d routes n
   number_below some v k e =
       let high = number_high d routes n v k in
       let last : number_of d routes n v ≡ number_of d routes n (By n) → ⊥ = λ same. not_by_last v e (one_number d routes n v (By n) k (some, omega arith) same) in

@@ -15,7 +15,7 @@ use Rattle.rail_base.proofs.Lists.{in_map_back, in_flat_map_back, in_append}
 use Rattle.plan_clauses.specs.Variables.{Variable, Given, Before, By, Literal, yes, no, if_given, pairs}
 use Rattle.plan_clauses.specs.Clauses.{Clause, exclude, later_pairs, leading_to, onward, chains, stays_given, start_clause, starts_rightly, not_both, excluded, not_at_once, first_pairs, clearing, waits_for, waits, may_visit, visited, makes_visits, in_order, all_given, clauses}
 use Rattle.plan_clauses.proofs.Steps.{cmd}
-use Rattle.plan_clauses.proofs.Families.{OfEach, by_family}
+use Rattle.plan_clauses.proofs.Families.{by_family}
 
 -- the variable doesn't say that all is given by a step
 abbrev pub IsPlain : Variable → Type 0

@@ -10,7 +10,7 @@ use Rattle.rail_spec.specs.Feasible.{is_of}
 use Rattle.rail_spec.specs.Plans.{commands}
 use Rattle.sat_clause.specs.declared.lit.Lit.{Lit}
 use Rattle.sat_clause.specs.Clauses.{clause_holds}
-use Rattle.plan_clauses.specs.Variables.{Variable, Given, Before, By, Literal, numbered, number_of}
+use Rattle.plan_clauses.specs.Variables.{Variable, Given, Before, By, numbered, number_of}
 use Rattle.plan_clauses.specs.Clauses.{Clause, clauses, base_clauses}
 use Rattle.plan_clauses.specs.Models.{holds, is_so, model_of, decoded}
 use Rattle.plan_clauses.proofs.Base.{is_of_in}
@@ -18,7 +18,7 @@ use Rattle.plan_clauses.proofs.Decode.{decoded_names, decoded_formed, decoded_ru
 use Rattle.plan_clauses.proofs.Families.{KnownAll, clauses_known}
 use Rattle.plan_clauses.proofs.Forward.{Fit, all_given_holds}
 use Rattle.plan_clauses.proofs.Numbers.{Known, model_says, clause_says, holds_alike}
-use Rattle.plan_clauses.proofs.Plain.{IsPlain, PlainAll, of_plain}
+use Rattle.plan_clauses.proofs.Plain.{IsPlain, of_plain}
 
 module _ (d : Station) (routes : List Route) (n : ℕ) (values : ℕ → Bool) (true_ : list_all (clause_holds values) (base_clauses d routes n) ≡ true) (some : 1 ≤ n) where
   abbrev plan : List (List Command)

@@ -17,7 +17,7 @@ use Rattle.plan_clauses.proofs.Numbers.{model_says}
 use Rattle.plan_clauses.proofs.Theorems.{feasible_plans_are_models}
 
 -- a plan that is well formed for k steps has at most k
-short_enough : (d : Station) (routes : List Route) (k : ℕ) (plan : List (List Command)) → is_well_formed d routes k plan ≡ true → length plan ≤ k
+pub short_enough : (d : Station) (routes : List Route) (k : ℕ) (plan : List (List Command)) → is_well_formed d routes k plan ≡ true → length plan ≤ k
 short_enough d routes k plan h = leb-true _ _ (and_left (nat_le (length plan) k) _ (and_left (nat_le (length plan) k && list_all one_each plan) _ h))
 
 -- and is well formed for more
@@ -27,7 +27,7 @@ formed_for_more d routes k n plan within h =
     and_both _ _ (and_both _ _ (le-leb (length plan) n (omega arith)) (and_right (nat_le (length plan) k) (list_all one_each plan) (and_left (nat_le (length plan) k && list_all one_each plan) _ h)))
     (and_right (nat_le (length plan) k && list_all one_each plan) _ h)
 
-more_feasible : (d : Station) (k n : ℕ) (plan : List (List Command)) → k ≤ n → IsFeasible d k plan → IsFeasible d n plan
+pub more_feasible : (d : Station) (k n : ℕ) (plan : List (List Command)) → k ≤ n → IsFeasible d k plan → IsFeasible d n plan
 more_feasible d k n plan within f = record {
   runnable = record {
     well_formed = record { named = f.runnable.well_formed.named; formed = formed_for_more d (routes_of d) k n plan within f.runnable.well_formed.formed };

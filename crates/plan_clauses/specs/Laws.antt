@@ -21,8 +21,10 @@ pub record VisitsAll (d : Station) (routes : List Route) (plan : List (List Comm
 
 -- two models agree on what is given, and on which of two commands is before the other
 pub record Agrees (d : Station) (routes : List Route) (n : ℕ) (one other : ℕ → Bool) : Type 0 where
-  pub given : (c : Command) (i : ℕ) → is_of d routes c ≡ true → 1 ≤ i → i ≤ n → one (number_of d routes n (Given c i)) ≡ other (number_of d routes n (Given c i))
-  pub before : (e c : Command) → is_of d routes e ≡ true → is_of d routes c ≡ true → contend routes e c ≡ true → one (number_of d routes n (Before e c)) ≡ other (number_of d routes n (Before e c))
+  pub given : (c : Command) (i : ℕ) → is_of d routes c ≡ true → 1 ≤ i → i ≤ n
+      → one (number_of d routes n (Given c i)) ≡ other (number_of d routes n (Given c i))
+  pub before : (e c : Command) → is_of d routes e ≡ true → is_of d routes c ≡ true → contend routes e c ≡ true
+      → one (number_of d routes n (Before e c)) ≡ other (number_of d routes n (Before e c))
 
 -- routes of the table of which each goes on from the one before; their starts differ, none exits, and together they are shorter than the bound
 pub record IsChain (routes : List Route) (bound : ℕ) (chain : List RouteNo) : Type 0 where
@@ -34,8 +36,11 @@ pub record IsChain (routes : List Route) (bound : ℕ) (chain : List RouteNo) : 
 
 -- no values that make the base true say that all is given by step k
 abbrev pub NoneBy : Station → List Route → ℕ → ℕ → Type 0
-NoneBy d routes n k = (values : ℕ → Bool) → list_all (clause_holds values) (base_clauses d routes n) ≡ true → values (number_of d routes n (By k)) ≡ true → ⊥
+NoneBy d routes n k = (values : ℕ → Bool)
+    → list_all (clause_holds values) (base_clauses d routes n) ≡ true
+    → values (number_of d routes n (By k)) ≡ true → ⊥
 
 -- each literal of the base has a variable from 1 on, and none the last one, which says that all is given by step n
 abbrev pub IsInRange : Station → List Route → ℕ → Type 0
-IsInRange d routes n = (c : List Lit) → In c (base_clauses d routes n) → (l : Lit) → In l c → (1 ≤ l.var) × (l.var < variable_count d routes n)
+IsInRange d routes n = (c : List Lit) → In c (base_clauses d routes n) → (l : Lit) → In l c
+    → (1 ≤ l.var) × (l.var < variable_count d routes n)

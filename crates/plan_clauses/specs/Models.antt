@@ -1,5 +1,6 @@
 -- When variables and clauses are true, the model of a plan, and the plan of a model.
-use Rattle.std.specs.Prelude.{ℕ, zero, suc, ◌-◌, Bool, false, not, cond, ◌&&◌, List, [], ◌∷◌, map, filter, slice_get, nat_le, nat_lt, Option, None, Some}
+use Rattle.std.specs.Prelude.{ℕ, zero, suc, ◌-◌, Bool, false, not, cond, ◌&&◌, List, [], ◌∷◌, map, filter, slice_get}
+use Rattle.std.specs.Prelude.{nat_le, nat_lt, Option, None, Some}
 use Rattle.std.specs.List.{list_any, list_all}
 use Rattle.rail_base.specs.declared.station.Station.{Station}
 use Rattle.rail_base.specs.declared.route.Route.{Route}

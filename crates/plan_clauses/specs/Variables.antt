@@ -1,5 +1,6 @@
 -- The variables of the base, with their numbers, and literals over them.
-use Rattle.std.specs.Prelude.{ℕ, zero, suc, ◌+◌, ◌*◌, ◌-◌, Bool, true, false, ◌&&◌, List, [], ◌∷◌, ◌++◌, map, filter, flat_map, length}
+use Rattle.std.specs.Prelude.{ℕ, zero, suc, ◌+◌, ◌*◌, ◌-◌, Bool, true, false, ◌&&◌, List, [], ◌∷◌, ◌++◌, map, filter}
+use Rattle.std.specs.Prelude.{flat_map, length}
 use Rattle.rail_base.specs.declared.station.Station.{Station}
 use Rattle.rail_base.specs.declared.route.Route.{Route}
 use Rattle.rail_base.specs.declared.plan.Command.{Command}
@@ -47,12 +48,15 @@ module _ (d : Station) (routes : List Route) where
 module _ (d : Station) (routes : List Route) (n : ℕ) where
   -- the variables in the order of their numbers
   abbrev pub variables : List Variable
-  variables = flat_map (λ c. map (Given c) (one_to n)) (all_commands d routes) ++ (map (λ p. Before p.0 p.1) (pairs d routes) ++ map By (one_to n))
+  variables =
+      flat_map (λ c. map (Given c) (one_to n)) (all_commands d routes)
+      ++ (map (λ p. Before p.0 p.1) (pairs d routes) ++ map By (one_to n))
 
   -- the number of a variable, counted from 1
   abbrev pub number_of : Variable → ℕ
   number_of (Given c i) = ((c.train.0 - 1) * length routes + (c.route.0 - 1)) * n + i
-  number_of (Before e c) = length d.trains * length routes * n + length (before_first (is_pair e c) (pairs d routes)) + 1
+  number_of (Before e c) =
+      length d.trains * length routes * n + length (before_first (is_pair e c) (pairs d routes)) + 1
   number_of (By k) = length d.trains * length routes * n + length (pairs d routes) + k
 
   -- how many variables there are

@@ -40,7 +40,9 @@ fn put_commands(
     values: &mut Vec<Value>,
 ) -> Result<(), AllocError>
     requires { IsTrain design.now.station train }
-    ensures { OnOk result (map view values.new.items ≡ map view values.old.items ++ map (command_value design.now.station) (filter (λ c. is_train c.train train) step.now)) }
+    ensures { OnOk result (map view values.new.items
+        ≡ map view values.old.items
+        ++ map (command_value design.now.station) (filter (λ c. is_train c.train train) step.now)) }
 {
     for command in step {
         if command.train == train {

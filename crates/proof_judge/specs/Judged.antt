@@ -31,8 +31,10 @@ refuted d n cone = unless (fault_of d (routes_of d) cone) (numbered_clause d (ro
 
 -- what the bytes show of the clauses that every plan of at most n steps makes true, and of those of valid cones
 abbrev pub judged : Station → ℕ → List ℕ → Shown
-judged d n bytes = log_verdict (refuted d n) (variable_count d (routes_of d) n) n (all_live (base_clauses d (routes_of d) n)) bytes
+judged d n bytes =
+    log_verdict (refuted d n) (variable_count d (routes_of d) n) n (all_live (base_clauses d (routes_of d) n)) bytes
 
 -- where a file shows k, no plan of k steps is feasible, whoever wrote the file
 abbrev pub YesIsInfeasible : Type 0
-YesIsInfeasible = (d : Station) → IsAdmitted d → (n k : ℕ) (bytes : List ℕ) → 1 ≤ n → judged d n bytes ≡ Yes k → (k ≤ n) × IsInfeasible d k
+YesIsInfeasible = (d : Station) → IsAdmitted d → (n k : ℕ) (bytes : List ℕ) → 1 ≤ n
+    → judged d n bytes ≡ Yes k → (k ≤ n) × IsInfeasible d k

@@ -22,7 +22,7 @@ pub fn judge(
     base: Base,
     bytes: &[u8],
 ) -> Result<Shown, AllocError>
-    requires base { IsBaseOf interlocking.now.design.station (routes_of interlocking.now.design.station) base.steps base }
+    requires base { let d = interlocking.now.design.station in IsBaseOf d (routes_of d) base.steps base }
     ensures value { IfOk result (λ shown. shown ≡ judged interlocking.now.design.station base.steps bytes.now) }
     ensures sound { (k : ℕ) → result ≡ Ok (Yes k) → IsInfeasible interlocking.now.design.station k }
 {

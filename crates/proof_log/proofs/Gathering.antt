@@ -41,11 +41,11 @@ not-false : (b : Bool) → false ≡ not b → b ≡ true
 not-false true h = refl
 not-false false h = absurd (cc)
 
-onto-nil : {X W : Type 0} (o : Option (List X × W)) → onto [] o ≡ o
+pub onto-nil : {X W : Type 0} (o : Option (List X × W)) → onto [] o ≡ o
 onto-nil None = refl
 onto-nil (Some found) = refl
 
-onto-push : {X W : Type 0} (xs : List X) (x : X) (o : Option (List X × W)) → onto xs (made (λ ys. x ∷ ys) o) ≡ onto (xs ++ x ∷ []) o
+pub onto-push : {X W : Type 0} (xs : List X) (x : X) (o : Option (List X × W)) → onto xs (made (λ ys. x ∷ ys) o) ≡ onto (xs ++ x ∷ []) o
 onto-push xs x None = refl
 onto-push xs x (Some found) = ap (λ l. Some (l, found.1)) (sym (append_assoc xs (x ∷ []) found.0))
 

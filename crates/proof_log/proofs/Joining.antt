@@ -7,7 +7,7 @@ use Rattle.proof_log.specs.declared.line.Line.TheVariants.{Derive, Refute, Forge
 use Rattle.proof_log.specs.Text.{literal_word, list_words, train_words, pair_words, violation_words, text_of_line}
 use Rattle.proof_log.specs.Writing.{spaced}
 
-join-spaced : (word : List ℕ) (more : List (List ℕ)) → join_with_byte 32 (word ∷ more) ≡ word ++ spaced more
+pub join-spaced : (word : List ℕ) (more : List (List ℕ)) → join_with_byte 32 (word ∷ more) ≡ word ++ spaced more
 join-spaced word [] = sym (append-nil word)
 join-spaced word (next ∷ more) = ap (λ t. word ++ (32 ∷ t)) (join-spaced next more)
 
@@ -19,7 +19,7 @@ spaced-append (word ∷ words) more = ap (λ t. 32 ∷ t) (ap (λ t. word ++ t) 
 pub spaced-list : {X : Type 0} (word_of : X → List ℕ) (xs : List X) → spaced (list_words word_of xs) ≡ spaced (map word_of xs) ++ codes " 0"
 spaced-list word_of xs = spaced-append (map word_of xs) (codes "0" ∷ [])
 
-spaced-parts : {X : Type 0} (words_of : X → List (List ℕ)) (xs : List X) → spaced (flat_map words_of xs) ≡ flat_map (λ x. spaced (words_of x)) xs
+pub spaced-parts : {X : Type 0} (words_of : X → List (List ℕ)) (xs : List X) → spaced (flat_map words_of xs) ≡ flat_map (λ x. spaced (words_of x)) xs
 spaced-parts words_of [] = refl
 spaced-parts words_of (x ∷ xs) = spaced-append (words_of x) (flat_map words_of xs) ∙ ap (λ t. spaced (words_of x) ++ t) (spaced-parts words_of xs)
 

@@ -85,7 +85,7 @@ literal-back back l h = literal-case back l.var l.negated h
 
 -- ---- lists
 
-both : (a b : Bool) → (a && b) ≡ true → (a ≡ true) × (b ≡ true)
+pub both : (a b : Bool) → (a && b) ≡ true → (a ≡ true) × (b ≡ true)
 both true b h = (refl, h)
 both false b h = absurd (cc)
 
@@ -115,13 +115,13 @@ members-back member word_of good none back xs rest h = ap (members_of member) (a
 -- ---- parts of parts
 
 -- the words of what is in range are read back, whatever stands after them
-abbrev Back : {X : Type 0} → (X → List (List ℕ)) → (X → Bool) → Reads X → Type 0
+abbrev pub Back : {X : Type 0} → (X → List (List ℕ)) → (X → Bool) → Reads X → Type 0
 Back {X} write good read = (x : X) (rest : List (List ℕ)) → good x ≡ true → read (write x ++ rest) ≡ Some (x, rest)
 
-first-back : {X : Type 0} (read : List ℕ → Option X) (word_of : X → List ℕ) (good : X → Bool) → ((x : X) → good x ≡ true → read (word_of x) ≡ Some x) → Back (λ x. word_of x ∷ []) good (first_of read)
+pub first-back : {X : Type 0} (read : List ℕ → Option X) (word_of : X → List ℕ) (good : X → Bool) → ((x : X) → good x ≡ true → read (word_of x) ≡ Some x) → Back (λ x. word_of x ∷ []) good (first_of read)
 first-back read word_of good back x rest h = rw (back x h) refl
 
-next-back : {X Y : Type 0} (write : X → List (List ℕ)) (good : X → Bool) (read : Reads X) (writes : Y → List (List ℕ)) (goods : Y → Bool) (next : Reads Y) → Back write good read → Back writes goods next
+pub next-back : {X Y : Type 0} (write : X → List (List ℕ)) (good : X → Bool) (read : Reads X) (writes : Y → List (List ℕ)) (goods : Y → Bool) (next : Reads Y) → Back write good read → Back writes goods next
     → Back (λ p. write p.0 ++ writes p.1) (λ p. good p.0 && goods p.1) (λ w. with_next (read w) next)
 next-back write good read writes goods next here later (x, y) rest h =
     let p = both (good x) (goods y) h in
@@ -163,23 +163,23 @@ enough mark write (x ∷ xs) rest =
     let same : length ((write x ++ after) ++ rest) ≡ length (write x ++ (after ++ rest)) = ap length (append_assoc (write x) after rest) in
     omega (arith, one, same, enough mark write xs rest)
 
-all-back : {X : Type 0} (mark : List ℕ) (part : Reads X) (write : X → List (List ℕ)) (good : X → Bool) → Back write good part
+pub all-back : {X : Type 0} (mark : List ℕ) (part : Reads X) (write : X → List (List ℕ)) (good : X → Bool) → Back write good part
     → (xs : List X) (rest : List (List ℕ)) → stops mark rest ≡ true → list_all good xs ≡ true → all_parts mark part (flat_map (λ x. mark ∷ write x) xs ++ rest) ≡ Some (xs, rest)
 all-back mark part write good back xs rest s h = parts-back mark part write good back (length (flat_map (λ x. mark ∷ write x) xs ++ rest)) xs rest (enough mark write xs rest) s h
 
 -- ---- parts of a cone
 
 module _ (back : NumbersReadBack) where
-  small-read : Back (λ n. decimal n ∷ []) is_small small_number
+  pub small-read : Back (λ n. decimal n ∷ []) is_small small_number
   small-read = first-back small_number_of decimal is_small (small-back back)
 
-  numbers-read : Back (λ n. decimal n.0 ∷ decimal n.1 ∷ []) (λ n. is_small n.0 && is_small n.1) two_numbers
+  pub numbers-read : Back (λ n. decimal n.0 ∷ decimal n.1 ∷ []) (λ n. is_small n.0 && is_small n.1) two_numbers
   numbers-read = next-back (λ n. decimal n ∷ []) is_small small_number (λ n. decimal n ∷ []) is_small small_number small-read small-read
 
   command-read : Back command_words keeps_command command
   command-read = made-back command_by (λ c. (c.train.0, c.route.0)) (λ n. decimal n.0 ∷ decimal n.1 ∷ []) (λ n. is_small n.0 && is_small n.1) command_words keeps_command two_numbers (λ c h. (refl, refl, h)) numbers-read
 
-  pair-read : Back (λ p. command_words p.0 ++ command_words p.1) keeps_pair pair
+  pub pair-read : Back (λ p. command_words p.0 ++ command_words p.1) keeps_pair pair
   pair-read = next-back command_words keeps_command command command_words keeps_command command command-read command-read
 
   violation-read : Back violation_words keeps_violation violation
@@ -194,7 +194,7 @@ module _ (back : NumbersReadBack) where
       next-back (λ n. decimal n ∷ []) is_small small_number (λ p. (decimal p.0 ∷ []) ++ (decimal p.1 ∷ [])) (λ p. nat_le p.0 greatest_clause_number && is_small p.1) (λ w. with_next (first_of plain_number_of w) small_number) small-read
       (next-back (λ n. decimal n ∷ []) (λ n. nat_le n greatest_clause_number) (first_of plain_number_of) (λ n. decimal n ∷ []) is_small small_number (first-back plain_number_of decimal (λ n. nat_le n greatest_clause_number) (number-back back)) small-read)
 
-  path-read : Back (list_words route_word) keeps_path train_path
+  pub path-read : Back (list_words route_word) keeps_path train_path
   path-read = any-back (list_words route_word) (λ xs. list_all (λ r. is_from_1_to greatest_variable r.0) xs) (members_of route_of) (members-back route_of route_word (λ r. is_from_1_to greatest_variable r.0) refl (route-back back))
 
   -- a holder as a command
@@ -227,7 +227,7 @@ module _ (back : NumbersReadBack) where
         rw (a.0, b.0, holder.2) refl,
       )
 
-  train-read : Back after_mark keeps_train cone_train
+  pub train-read : Back after_mark keeps_train cone_train
   train-read =
       made-back train_by parts_of_train parts_words keeps_parts after_mark keeps_train (λ w. with_next (train_front w) (λ v. with_next (train_path v) command)) train-parts
       (next-back (λ p. (decimal p.0 ∷ []) ++ ((decimal p.1.0 ∷ []) ++ (decimal p.1.1 ∷ []))) (λ p. is_small p.0 && (nat_le p.1.0 greatest_clause_number && is_small p.1.1)) train_front
@@ -271,7 +271,7 @@ words-back back (Forget clauses) h =
 
 -- ---- words between spaces
 
-abbrev spaceless : List ℕ → Bool
+abbrev pub spaceless : List ℕ → Bool
 spaceless word = list_all (λ byte. not (is_space byte)) word
 
 split-at : (word rest : List ℕ) → spaceless word ≡ true → slice_split is_space (word ++ 32 ∷ rest) ≡ word ∷ slice_split is_space rest
@@ -286,7 +286,7 @@ split-all (x ∷ xs) h =
     let p = both (not (is_space x)) (spaceless xs) h in
     rw (not-true (is_space x) p.0) (ap (onto_first x) (split-all xs p.1))
 
-split-back : (word : List ℕ) (more : List (List ℕ)) → spaceless word ≡ true → list_all spaceless more ≡ true → words_of (join_with_byte 32 (word ∷ more)) ≡ word ∷ more
+pub split-back : (word : List ℕ) (more : List (List ℕ)) → spaceless word ≡ true → list_all spaceless more ≡ true → words_of (join_with_byte 32 (word ∷ more)) ≡ word ∷ more
 split-back word [] h rest = split-all word h
 split-back word (next ∷ more) h rest =
     let p = both (spaceless next) (list_all spaceless more) rest in
@@ -304,13 +304,13 @@ digits-spaceless (x ∷ xs) h =
 fitting : (number : ℕ) → number < 2 ^ 64 → spaceless (decimal number) ≡ true
 fitting number fits = digits-spaceless (decimal number) (digits_decimal own number fits)
 
-decimal-spaceless : (greatest number : ℕ) → greatest < 2 ^ 64 → is_from_1_to greatest number ≡ true → spaceless (decimal number) ≡ true
+pub decimal-spaceless : (greatest number : ℕ) → greatest < 2 ^ 64 → is_from_1_to greatest number ≡ true → spaceless (decimal number) ≡ true
 decimal-spaceless greatest number fits h = fitting number (omega (arith, (bounds greatest number h).1, fits))
 
-number-spaceless : (number : ℕ) → nat_le number greatest_clause_number ≡ true → spaceless (decimal number) ≡ true
+pub number-spaceless : (number : ℕ) → nat_le number greatest_clause_number ≡ true → spaceless (decimal number) ≡ true
 number-spaceless number h = fitting number (omega (arith, up-to greatest_clause_number number h))
 
-small-spaceless : (number : ℕ) → is_small number ≡ true → spaceless (decimal number) ≡ true
+pub small-spaceless : (number : ℕ) → is_small number ≡ true → spaceless (decimal number) ≡ true
 small-spaceless number h = number-spaceless number (wider number h)
 
 literal-spaceless : (var : ℕ) (negated : Bool) → is_from_1_to greatest_variable var ≡ true → spaceless (literal_word (record { var = var; negated = negated })) ≡ true
@@ -323,19 +323,19 @@ all-spaceless word_of good each (x ∷ xs) h =
     let p = both (good x) (list_all good xs) h in
     rw (each x p.0, all-spaceless word_of good each xs p.1) refl
 
-list-spaceless : {X : Type 0} (word_of : X → List ℕ) (good : X → Bool) → ((x : X) → good x ≡ true → spaceless (word_of x) ≡ true) → (xs : List X) → list_all good xs ≡ true → list_all spaceless (list_words word_of xs) ≡ true
+pub list-spaceless : {X : Type 0} (word_of : X → List ℕ) (good : X → Bool) → ((x : X) → good x ≡ true → spaceless (word_of x) ≡ true) → (xs : List X) → list_all good xs ≡ true → list_all spaceless (list_words word_of xs) ≡ true
 list-spaceless word_of good each xs h = list_all-append spaceless (map word_of xs) (codes "0" ∷ []) ∙ rw (all-spaceless word_of good each xs h) refl
 
-append-spaceless : (words more : List (List ℕ)) → list_all spaceless words ≡ true → list_all spaceless more ≡ true → list_all spaceless (words ++ more) ≡ true
+pub append-spaceless : (words more : List (List ℕ)) → list_all spaceless words ≡ true → list_all spaceless more ≡ true → list_all spaceless (words ++ more) ≡ true
 append-spaceless words more h g = list_all-append spaceless words more ∙ rw (h, g) refl
 
-parts-spaceless : {X : Type 0} (write : X → List (List ℕ)) (good : X → Bool) → ((x : X) → good x ≡ true → list_all spaceless (write x) ≡ true) → (xs : List X) → list_all good xs ≡ true → list_all spaceless (flat_map write xs) ≡ true
+pub parts-spaceless : {X : Type 0} (write : X → List (List ℕ)) (good : X → Bool) → ((x : X) → good x ≡ true → list_all spaceless (write x) ≡ true) → (xs : List X) → list_all good xs ≡ true → list_all spaceless (flat_map write xs) ≡ true
 parts-spaceless write good each [] h = refl
 parts-spaceless write good each (x ∷ xs) h =
     let p = both (good x) (list_all good xs) h in
     append-spaceless (write x) (flat_map write xs) (each x p.0) (parts-spaceless write good each xs p.1)
 
-numbers-spaceless : (m n : ℕ) → (is_small m && is_small n) ≡ true → list_all spaceless (decimal m ∷ decimal n ∷ []) ≡ true
+pub numbers-spaceless : (m n : ℕ) → (is_small m && is_small n) ≡ true → list_all spaceless (decimal m ∷ decimal n ∷ []) ≡ true
 numbers-spaceless m n h = let p = both (is_small m) (is_small n) h in rw (small-spaceless m p.0, small-spaceless n p.1) refl
 
 violation-spaceless : (v : Violation) → keeps_violation v ≡ true → list_all spaceless (violation_words v) ≡ true
@@ -349,7 +349,7 @@ holder-spaceless : (o : Option Command) → keeps_holder o ≡ true → list_all
 holder-spaceless None h = refl
 holder-spaceless (Some c) h = numbers-spaceless c.train.0 c.route.0 (both (keeps_command c) (not (is_nothing c)) h).0
 
-train-spaceless : (c : ConeTrain) → keeps_train c ≡ true → list_all spaceless (train_words c) ≡ true
+pub train-spaceless : (c : ConeTrain) → keeps_train c ≡ true → list_all spaceless (train_words c) ≡ true
 train-spaceless c h =
     let front : Bool = is_small c.train.0 && (nat_le c.horizon greatest_clause_number && is_small c.free) in
     let a = both front (keeps_path c.path && keeps_holder c.holder) h in
@@ -360,7 +360,7 @@ train-spaceless c h =
     let path : list_all spaceless (list_words route_word c.path) ≡ true = list-spaceless route_word (λ r. is_from_1_to greatest_variable r.0) (λ r k. decimal-spaceless greatest_variable r.0 (lit< tt) k) c.path r.1 in
     rw (small-spaceless c.train.0 f.0, number-spaceless c.horizon g.0, small-spaceless c.free g.1) (append-spaceless (list_words route_word c.path) (holder_words c.holder) path (holder-spaceless c.holder b.1))
 
-pair-spaceless : (p : Command × Command) → keeps_pair p ≡ true → list_all spaceless (pair_words p) ≡ true
+pub pair-spaceless : (p : Command × Command) → keeps_pair p ≡ true → list_all spaceless (pair_words p) ≡ true
 pair-spaceless p h =
     let a = both (keeps_command p.0) (keeps_command p.1) h in
     append-spaceless (command_words p.0) (command_words p.1) (numbers-spaceless p.0.train.0 p.0.route.0 a.0) (numbers-spaceless p.1.train.0 p.1.route.0 a.1)

@@ -21,15 +21,15 @@ IsTold write good words found = (words ≡ write found.0 ++ found.1) × (good fo
 abbrev pub Told : {X : Type 0} → (X → List (List ℕ)) → (X → Bool) → List (List ℕ) → Option (X × List (List ℕ)) → Type 0
 Told {X} write good words o = (found : X × List (List ℕ)) → o ≡ Some found → IsTold write good words found
 
-some-told : {X : Type 0} (write : X → List (List ℕ)) (good : X → Bool) (words : List (List ℕ)) (x : X) (left : List (List ℕ)) → IsTold write good words (x, left) → Told write good words (Some (x, left))
+pub some-told : {X : Type 0} (write : X → List (List ℕ)) (good : X → Bool) (words : List (List ℕ)) (x : X) (left : List (List ℕ)) → IsTold write good words (x, left) → Told write good words (Some (x, left))
 some-told {X} write good words x left told found e =
     let same : ◌≡◌ {A = X × List (List ℕ)} (x, left) found = cc in
     subst (IsTold write good words) same told
 
-none-told : {X : Type 0} (write : X → List (List ℕ)) (good : X → Bool) (words : List (List ℕ)) → Told write good words None
+pub none-told : {X : Type 0} (write : X → List (List ℕ)) (good : X → Bool) (words : List (List ℕ)) → Told write good words None
 none-told write good words found e = absurd (cc)
 
-both : (a b : Bool) → a ≡ true → b ≡ true → (a && b) ≡ true
+pub both : (a b : Bool) → a ≡ true → b ≡ true → (a && b) ≡ true
 both a b h g = rw (h, g) refl
 
 -- ---- parts of parts
@@ -122,16 +122,16 @@ marked mark = (bytes_eq-Decides mark mark).1 refl
 
 -- ---- parts of a cone
 
-small-told : (words : List (List ℕ)) → Told (λ n. decimal n ∷ []) is_small words (small_number words)
+pub small-told : (words : List (List ℕ)) → Told (λ n. decimal n ∷ []) is_small words (small_number words)
 small-told words = first-told small_number_of decimal is_small small-spelled words
 
-abbrev numbers_words : ℕ × ℕ → List (List ℕ)
+abbrev pub numbers_words : ℕ × ℕ → List (List ℕ)
 numbers_words n = decimal n.0 ∷ decimal n.1 ∷ []
 
-abbrev keeps_numbers : ℕ × ℕ → Bool
+abbrev pub keeps_numbers : ℕ × ℕ → Bool
 keeps_numbers n = is_small n.0 && is_small n.1
 
-numbers-told : (words : List (List ℕ)) → Told numbers_words keeps_numbers words (two_numbers words)
+pub numbers-told : (words : List (List ℕ)) → Told numbers_words keeps_numbers words (two_numbers words)
 numbers-told words = next-told (λ n. decimal n ∷ []) is_small (λ n. decimal n ∷ []) is_small small_number small-told words (small_number words) (small-told words)
 
 command-told : (words : List (List ℕ)) → Told command_words keeps_command words (command words)
@@ -200,7 +200,7 @@ front-told words =
     (λ w. next-told (λ n. decimal n ∷ []) (λ n. nat_le n greatest_clause_number) (λ n. decimal n ∷ []) is_small small_number small-told w (first_of plain_number_of w) (first-told plain_number_of decimal (λ n. nat_le n greatest_clause_number) plain-spelled w))
     words (small_number words) (small-told words)
 
-path-told : (words : List (List ℕ)) → Told (list_words route_word) keeps_path words (train_path words)
+pub path-told : (words : List (List ℕ)) → Told (list_words route_word) keeps_path words (train_path words)
 path-told words = any-told (list_words route_word) (λ xs. list_all (λ r. is_from_1_to greatest_variable r.0) xs) words (members_of route_of words) (members-spelled route_of route_word (λ r. is_from_1_to greatest_variable r.0) route-spelled words)
 
 abbrev Parts : Type 0
@@ -233,10 +233,10 @@ train-told words =
     (λ w. next-told (list_words route_word) keeps_path command_words keeps_command command command-told w (train_path w) (path-told w))
     words (train_front words) (front-told words))
 
-trains-told : (words : List (List ℕ)) → Told (flat_map train_words) (λ cs. has_member cs && list_all keeps_train cs) words (if_any (all_parts (codes "t") cone_train words))
+pub trains-told : (words : List (List ℕ)) → Told (flat_map train_words) (λ cs. has_member cs && list_all keeps_train cs) words (if_any (all_parts (codes "t") cone_train words))
 trains-told words = any-told (flat_map train_words) (list_all keeps_train) words (all_parts (codes "t") cone_train words) (parts-told (codes "t") cone_train after_mark keeps_train train-told (length words) words)
 
-pairs-told : (words : List (List ℕ)) → Told (flat_map pair_words) (list_all keeps_pair) words (all_parts (codes "p") pair words)
+pub pairs-told : (words : List (List ℕ)) → Told (flat_map pair_words) (list_all keeps_pair) words (all_parts (codes "p") pair words)
 pairs-told words = parts-told (codes "p") pair (λ p. command_words p.0 ++ command_words p.1) keeps_pair pair-told (length words) words
 
 pub cone-told : (words : List (List ℕ)) → Told cone_words keeps_cone words (cone words)

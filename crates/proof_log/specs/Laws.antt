@@ -10,4 +10,5 @@ LinesReadBack = (line : Line) → IsTrue (keeps_grammar line) → line_of (text_
 
 -- bytes that are read as a line are the text of that line, which keeps the grammar
 abbrev pub LinesHaveOneText : Type 0
-LinesHaveOneText = (bytes : List ℕ) (line : Line) → line_of bytes ≡ Some line → (text_of_line line ≡ bytes) × IsTrue (keeps_grammar line)
+LinesHaveOneText = (bytes : List ℕ) (line : Line) → line_of bytes ≡ Some line
+    → (text_of_line line ≡ bytes) × IsTrue (keeps_grammar line)

@@ -1,5 +1,6 @@
 -- The parts of lines, each read from the first of some words on, with the words after it.
-use Rattle.std.specs.Prelude.{ℕ, zero, suc, Bool, true, false, List, [], ◌∷◌, length, Option, Some, None, option_map, codes, ◌==◌, ◌&&◌, if◌then◌else◌}
+use Rattle.std.specs.Prelude.{ℕ, zero, suc, Bool, true, false, List, [], ◌∷◌, length, Option, Some, None, option_map}
+use Rattle.std.specs.Prelude.{codes, ◌==◌, ◌&&◌, if◌then◌else◌}
 use Rattle.std.specs.Str.{bytes_eq}
 use Rattle.rail_base.specs.declared.plan.Command.{Command}
 use Rattle.rail_base.specs.declared.plan.Violation.{Violation}
@@ -48,7 +49,9 @@ part_before (Some found) next = made (λ xs. found.0 ∷ xs) (next found.1)
 abbrev pub parts_of : {X : Type 0} → List ℕ → Reads X → ℕ → Reads (List X)
 parts_of mark part zero words = Some ([], words)
 parts_of mark part (suc n) [] = Some ([], [])
-parts_of mark part (suc n) (word ∷ more) = if bytes_eq word mark then part_before (part more) (λ words. parts_of mark part n words) else Some ([], word ∷ more)
+parts_of mark part (suc n) (word ∷ more) =
+    if bytes_eq word mark then part_before (part more) (λ words. parts_of mark part n words)
+    else Some ([], word ∷ more)
 
 -- all parts that begin with a mark: there are no more than words
 abbrev pub all_parts : {X : Type 0} → List ℕ → Reads X → Reads (List X)
@@ -113,15 +116,33 @@ train_path words = if_any (members_of route_of words)
 
 -- what a cone says of a train, by the parts
 abbrev pub train_by : (ℕ × (ℕ × ℕ)) × (List RouteNo × Command) → ConeTrain
-train_by parts = record { train = record { 0 = parts.0.0 }; horizon = parts.0.1.0; free = parts.0.1.1; path = parts.1.0; holder = holder_of parts.1.1 }
+train_by parts = record {
+  train = record { 0 = parts.0.0 };
+  horizon = parts.0.1.0;
+  free = parts.0.1.1;
+  path = parts.1.0;
+  holder = holder_of parts.1.1;
+}
 
 -- what a cone says of a train, after the word `t`
 abbrev pub cone_train : Reads ConeTrain
 cone_train words = made train_by (with_next (train_front words) (λ w. with_next (train_path w) command))
 
+-- what a cone says of its trains, each after a word `t`
+abbrev pub cone_trains : Reads (List ConeTrain)
+cone_trains words = all_parts (codes "t") cone_train words
+
+-- the same, where there is a train
+abbrev pub some_cone_trains : Reads (List ConeTrain)
+some_cone_trains words = if_any (cone_trains words)
+
 -- a listed pair, after the word `p`
 abbrev pub pair : Reads (Command × Command)
 pair words = with_next (command words) command
+
+-- the listed pairs, each after a word `p`
+abbrev pub cone_pairs : Reads (List (Command × Command))
+cone_pairs words = all_parts (codes "p") pair words
 
 -- a cone, by the parts
 abbrev pub cone_by : Violation × (List ConeTrain × List (Command × Command)) → Cone
@@ -129,4 +150,4 @@ cone_by parts = record { trains = parts.1.0; pairs = parts.1.1; violation = part
 
 -- a violation, one train or more, and pairs
 abbrev pub cone : Reads Cone
-cone words = made cone_by (with_next (violation words) (λ w. with_next (if_any (all_parts (codes "t") cone_train w)) (λ v. all_parts (codes "p") pair v)))
+cone words = made cone_by (with_next (violation words) (λ w. with_next (some_cone_trains w) cone_pairs))

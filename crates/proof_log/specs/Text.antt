@@ -1,5 +1,6 @@
 -- The text of a line.
-use Rattle.std.specs.Prelude.{ℕ, Bool, true, not, ◌&&◌, List, [], ◌∷◌, ◌++◌, map, flat_map, nat_le, Option, Some, None, codes, decimal, if◌then◌else◌}
+use Rattle.std.specs.Prelude.{ℕ, Bool, true, not, ◌&&◌, List, [], ◌∷◌, ◌++◌, map, flat_map, nat_le, Option, Some, None}
+use Rattle.std.specs.Prelude.{codes, decimal, if◌then◌else◌}
 use Rattle.std.specs.List.{list_all, join_with_byte}
 use Rattle.sat_clause.specs.declared.lit.Lit.{Lit}
 use Rattle.rail_base.specs.declared.plan.Command.{Command}
@@ -43,9 +44,13 @@ abbrev pub holder_words : Option Command → List (List ℕ)
 holder_words None = codes "0" ∷ codes "0" ∷ []
 holder_words (Some c) = command_words c
 
--- `t`, the train, its horizon, how many commands are free, the routes, `0`, the holder
+-- `t`, the train, its horizon, and how many commands are free
+abbrev pub train_front_words : ConeTrain → List (List ℕ)
+train_front_words c = codes "t" ∷ decimal c.train.0 ∷ decimal c.horizon ∷ decimal c.free ∷ []
+
+-- and then the routes, `0`, and the holder
 abbrev pub train_words : ConeTrain → List (List ℕ)
-train_words c = codes "t" ∷ decimal c.train.0 ∷ decimal c.horizon ∷ decimal c.free ∷ (list_words route_word c.path ++ holder_words c.holder)
+train_words c = train_front_words c ++ (list_words route_word c.path ++ holder_words c.holder)
 
 -- `p` and the two commands
 abbrev pub pair_words : Command × Command → List (List ℕ)
@@ -87,18 +92,24 @@ abbrev pub keeps_path : List RouteNo → Bool
 keeps_path path = has_member path && list_all (λ r. is_from_1_to greatest_variable r.0) path
 
 abbrev pub keeps_train : ConeTrain → Bool
-keeps_train c = (is_small c.train.0 && (nat_le c.horizon greatest_clause_number && is_small c.free)) && (keeps_path c.path && keeps_holder c.holder)
+keeps_train c =
+    (is_small c.train.0 && (nat_le c.horizon greatest_clause_number && is_small c.free))
+    && (keeps_path c.path && keeps_holder c.holder)
 
 abbrev pub keeps_pair : Command × Command → Bool
 keeps_pair p = keeps_command p.0 && keeps_command p.1
 
 -- the cone has a train
 abbrev pub keeps_cone : Cone → Bool
-keeps_cone k = keeps_violation k.violation && ((has_member k.trains && list_all keeps_train k.trains) && list_all keeps_pair k.pairs)
+keeps_cone k =
+    keeps_violation k.violation
+    && ((has_member k.trains && list_all keeps_train k.trains) && list_all keeps_pair k.pairs)
 
 -- a line of the grammar: its variables increase, and no number is too great, or 0 where there has to be one
 abbrev pub keeps_grammar : Line → Bool
 keeps_grammar (Derive clause hints) =
-    is_increasing clause && list_all (λ l. is_from_1_to greatest_variable l.var) clause && list_all (is_from_1_to greatest_clause_number) hints
+    is_increasing clause
+    && list_all (λ l. is_from_1_to greatest_variable l.var) clause
+    && list_all (is_from_1_to greatest_clause_number) hints
 keeps_grammar (Refute cone) = keeps_cone cone
 keeps_grammar (Forget clauses) = has_member clauses && list_all (is_from_1_to greatest_clause_number) clauses

@@ -1,5 +1,6 @@
 -- The words of a line, and the numbers and literals that they write.
-use Rattle.std.specs.Prelude.{ℕ, ◌==◌, Bool, true, false, not, ◌&&◌, ◌||◌, List, [], ◌∷◌, length, nat_le, slice_index, Option, Some, None, option_map, codes, if◌then◌else◌}
+use Rattle.std.specs.Prelude.{ℕ, ◌==◌, Bool, true, false, not, ◌&&◌, ◌||◌, List, [], ◌∷◌, length, nat_le, slice_index}
+use Rattle.std.specs.Prelude.{Option, Some, None, option_map, codes, if◌then◌else◌}
 use Rattle.std.specs.List.{slice_split}
 use Rattle.std.specs.Str.{bytes_eq}
 use Rattle.rail_text.specs.Numbers.{number_of}
@@ -82,4 +83,5 @@ member_before (Some member) (Some found) = Some (member ∷ found.0, found.1)
 -- the members up to the word `0`, and the words after it
 abbrev pub members_of : {X : Type 0} → (List ℕ → Option X) → List (List ℕ) → Option (List X × List (List ℕ))
 members_of member [] = None
-members_of member (word ∷ more) = if is_end word then Some ([], more) else member_before (member word) (members_of member more)
+members_of member (word ∷ more) =
+    if is_end word then Some ([], more) else member_before (member word) (members_of member more)

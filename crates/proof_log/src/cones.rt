@@ -1,7 +1,8 @@
 //! Cones from the words of a line.
 
 ghost use Rattle.std.specs.Prelude.{◌≡◌, IfOk, Some, None, Err, codes};
-ghost use Rattle.proof_log.specs.Parts.{if_any, all_parts, train_path, cone_train, pair, cone};
+ghost use Rattle.proof_log.specs.Parts.{if_any, all_parts, train_path, cone_train, pair, cone, cone_trains};
+ghost use Rattle.proof_log.specs.Parts.{some_cone_trains, cone_pairs};
 ghost use Rattle.proof_log.specs.Reading.{words_left};
 ghost use Rattle.proof_log.specs.declared.line.LineFault.TheVariants.{Text};
 
@@ -17,7 +18,7 @@ use rail_cone::{Cone, ConeTrain};
 use std::alloc::Global;
 
 /// The routes up to the word `0`, of which there is one.
-fn train_path<'a>(
+pub fn train_path<'a>(
     alloc: Global,
     words: Option<&'a [u8]>,
 ) -> Result<(List<RouteNo>, Option<&'a [u8]>), LineFault>
@@ -61,8 +62,8 @@ fn cone_trains<'a>(
     alloc: Global,
     words: Option<&'a [u8]>,
 ) -> Result<(List<ConeTrain>, Option<&'a [u8]>), LineFault>
-    ensures ok { IfOk result (λ found. all_parts (codes "t") cone_train (words_left words.entry) ≡ Some (found.0, words_left found.1)) }
-    ensures text { result ≡ Err Text → all_parts (codes "t") cone_train (words_left words.entry) ≡ None }
+    ensures ok { IfOk result (λ found. cone_trains (words_left words.entry) ≡ Some (found.0, words_left found.1)) }
+    ensures text { result ≡ Err Text → cone_trains (words_left words.entry) ≡ None }
 {
     let mut trains = List::new(alloc);
     let mut left = words;
@@ -81,12 +82,12 @@ fn cone_trains<'a>(
 }
 
 /// The listed pairs of a cone, each after a word `p`.
-fn cone_pairs<'a>(
+pub fn cone_pairs<'a>(
     alloc: Global,
     words: Option<&'a [u8]>,
 ) -> Result<(List<(Command, Command)>, Option<&'a [u8]>), LineFault>
-    ensures ok { IfOk result (λ found. all_parts (codes "p") pair (words_left words.entry) ≡ Some (found.0, words_left found.1)) }
-    ensures text { result ≡ Err Text → all_parts (codes "p") pair (words_left words.entry) ≡ None }
+    ensures ok { IfOk result (λ found. cone_pairs (words_left words.entry) ≡ Some (found.0, words_left found.1)) }
+    ensures text { result ≡ Err Text → cone_pairs (words_left words.entry) ≡ None }
 {
     let mut pairs = List::new(alloc);
     let mut left = words;
@@ -107,12 +108,12 @@ fn cone_pairs<'a>(
 }
 
 /// The trains of a cone, of which there is one.
-fn some_trains<'a>(
+pub fn some_trains<'a>(
     alloc: Global,
     words: Option<&'a [u8]>,
 ) -> Result<(List<ConeTrain>, Option<&'a [u8]>), LineFault>
-    ensures ok { IfOk result (λ found. if_any (all_parts (codes "t") cone_train (words_left words.entry)) ≡ Some (found.0, words_left found.1)) }
-    ensures text { result ≡ Err Text → if_any (all_parts (codes "t") cone_train (words_left words.entry)) ≡ None }
+    ensures ok { IfOk result (λ found. some_cone_trains (words_left words.entry) ≡ Some (found.0, words_left found.1)) }
+    ensures text { result ≡ Err Text → some_cone_trains (words_left words.entry) ≡ None }
 {
     let (trains, after) = cone_trains(alloc, words)?;
     if !has_member(&trains) {

@@ -1,17 +1,17 @@
 //! The lines of proof files, as values and as text.
 #![tactic(auto)]
 
-mod cones;
+pub mod cones;
 mod laws;
 mod line;
-mod members;
-mod parts;
+pub mod members;
+pub mod parts;
 mod read;
 #[cfg(test)]
 mod tests;
-mod words;
+pub mod words;
 mod write;
-mod write_cone;
+pub mod write_cone;
 
 pub use laws::{lines_have_one_text, lines_read_back};
 pub use line::{Line, LineFault};

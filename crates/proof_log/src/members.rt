@@ -60,7 +60,8 @@ pub fn read_members<'a, M: Member>(
     alloc: Global,
     words: Option<&'a [u8]>,
 ) -> Result<(List<M>, Option<&'a [u8]>), LineFault>
-    ensures ok { IfOk result (λ found. members_of M.member_of (words_left words.entry) ≡ Some (found.0, words_left found.1)) }
+    ensures ok { IfOk result (λ found.
+        members_of M.member_of (words_left words.entry) ≡ Some (found.0, words_left found.1)) }
     ensures text { result ≡ Err Text → members_of M.member_of (words_left words.entry) ≡ None }
 {
     let mut members = List::new(alloc);

@@ -3,7 +3,8 @@
 ghost use Rattle.std.specs.Prelude.{◌≡◌};
 ghost use Rattle.rail_base.specs.declared.plan.Violation.TheVariants.{Within, Order};
 ghost use Rattle.proof_log.specs.Words.{plain_number_of};
-ghost use Rattle.proof_log.specs.Parts.{first_of, made, small_number, two_numbers, train_front, command, pair, path_by, grant_by, visit_by, violation, violation_of, holder_of};
+ghost use Rattle.proof_log.specs.Parts.{first_of, made, small_number, two_numbers, train_front, command, pair, path_by};
+ghost use Rattle.proof_log.specs.Parts.{grant_by, visit_by, violation, violation_of, holder_of};
 ghost use Rattle.proof_log.specs.Reading.{words_left, with_words};
 
 use crate::words;
@@ -13,7 +14,7 @@ use rail_base::route::RouteNo;
 use rail_base::station::TrainNo;
 
 /// A number of at most 32 bits, and the words after it.
-fn small_number(text: Option<&[u8]>) -> Option<(u32, Option<&[u8]>)>
+pub fn small_number(text: Option<&[u8]>) -> Option<(u32, Option<&[u8]>)>
     ensures { with_words result ≡ small_number (words_left text.entry) }
 {
     let (word, after) = first_word(text?);
@@ -22,7 +23,7 @@ fn small_number(text: Option<&[u8]>) -> Option<(u32, Option<&[u8]>)>
 }
 
 /// A number of at most 18 digits, and the words after it.
-fn horizon(text: Option<&[u8]>) -> Option<(u64, Option<&[u8]>)>
+pub fn horizon(text: Option<&[u8]>) -> Option<(u64, Option<&[u8]>)>
     ensures { with_words result ≡ first_of plain_number_of (words_left text.entry) }
 {
     let (word, after) = first_word(text?);
@@ -31,7 +32,7 @@ fn horizon(text: Option<&[u8]>) -> Option<(u64, Option<&[u8]>)>
 }
 
 /// Two numbers of at most 32 bits.
-fn two_numbers(text: Option<&[u8]>) -> Option<((u32, u32), Option<&[u8]>)>
+pub fn two_numbers(text: Option<&[u8]>) -> Option<((u32, u32), Option<&[u8]>)>
     ensures { with_words result ≡ two_numbers (words_left text.entry) }
 {
     let (first, after) = small_number(text)?;

@@ -45,7 +45,8 @@ fn whole(line: Line, after: Option<&[u8]>) -> Result<Line, LineFault>
 
 /// The line of a clause and its hints, after the word `d`.
 fn derive_line(alloc: Global, text: Option<&[u8]>) -> Result<Line, LineFault>
-    ensures ok { IfOk result (λ line. if_all (made (λ d. Derive d.0 d.1) (derivation (words_left text.entry))) ≡ Some line) }
+    ensures ok { IfOk result (λ line.
+        if_all (made (λ d. Derive d.0 d.1) (derivation (words_left text.entry))) ≡ Some line) }
     ensures text { result ≡ Err Text → if_all (made (λ d. Derive d.0 d.1) (derivation (words_left text.entry))) ≡ None }
 {
     let (clause, after) = read_members::<Lit>(alloc, text)?;

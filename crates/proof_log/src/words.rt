@@ -2,7 +2,8 @@
 
 ghost use Rattle.std.specs.Prelude.{◌≡◌, ◌∷◌, position};
 ghost use Rattle.proof_log.specs.Reading.{words_left};
-ghost use Rattle.proof_log.specs.Words.{is_space, words_of, plain_number_of, small_number_of, variable_of, route_of, clause_number_of, literal_of};
+ghost use Rattle.proof_log.specs.Words.{is_space, words_of, plain_number_of, small_number_of, variable_of, route_of};
+ghost use Rattle.proof_log.specs.Words.{clause_number_of, literal_of};
 
 use rail_base::route::RouteNo;
 use rail_text::number;

@@ -1,7 +1,8 @@
 //! The text of cones, each word after a space.
 
 ghost use Rattle.std.specs.Prelude.{◌≡◌, ◌∷◌, ◌++◌, [], flat_map, map, decimal, codes, OnOk};
-ghost use Rattle.proof_log.specs.Text.{route_word, list_words, command_words, violation_words, holder_words, train_words, pair_words};
+ghost use Rattle.proof_log.specs.Text.{route_word, list_words, command_words, violation_words, holder_words};
+ghost use Rattle.proof_log.specs.Text.{train_words, pair_words, train_front_words};
 ghost use Rattle.proof_log.specs.Writing.{spaced};
 
 use rail_base::plan::{Command, Violation};
@@ -11,7 +12,7 @@ use rail_text::put_number;
 use std::alloc::AllocError;
 
 /// Appends a number.
-fn put_spaced(text: &mut Vec<u8>, number: u64) -> Result<(), AllocError>
+pub fn put_spaced(text: &mut Vec<u8>, number: u64) -> Result<(), AllocError>
     ensures { OnOk result (text.new.items ≡ text.old.items ++ (32 ∷ decimal number)) }
 {
     text.push(b' ')?;
@@ -27,7 +28,7 @@ fn put_two(text: &mut Vec<u8>, first: u32, second: u32) -> Result<(), AllocError
 }
 
 /// Appends a word and two numbers.
-fn put_kind(text: &mut Vec<u8>, kind: &[u8], first: u32, second: u32) -> Result<(), AllocError>
+pub fn put_kind(text: &mut Vec<u8>, kind: &[u8], first: u32, second: u32) -> Result<(), AllocError>
     ensures { OnOk result (text.new.items ≡ text.old.items ++ spaced (kind.now ∷ decimal first ∷ decimal second ∷ [])) }
 {
     text.push(b' ')?;
@@ -36,7 +37,7 @@ fn put_kind(text: &mut Vec<u8>, kind: &[u8], first: u32, second: u32) -> Result<
 }
 
 /// Appends a word and a number.
-fn put_entry(text: &mut Vec<u8>, kind: &[u8], number: u32) -> Result<(), AllocError>
+pub fn put_entry(text: &mut Vec<u8>, kind: &[u8], number: u32) -> Result<(), AllocError>
     ensures { OnOk result (text.new.items ≡ text.old.items ++ spaced (kind.now ∷ decimal number ∷ [])) }
 {
     text.push(b' ')?;
@@ -85,7 +86,7 @@ fn put_routes(text: &mut Vec<u8>, path: &[RouteNo]) -> Result<(), AllocError>
 }
 
 /// Appends a path, ended by `0`.
-fn put_path(text: &mut Vec<u8>, path: &[RouteNo]) -> Result<(), AllocError>
+pub fn put_path(text: &mut Vec<u8>, path: &[RouteNo]) -> Result<(), AllocError>
     ensures { OnOk result (text.new.items ≡ text.old.items ++ spaced (list_words route_word path.now)) }
 {
     put_routes(text, path)?;
@@ -94,7 +95,7 @@ fn put_path(text: &mut Vec<u8>, path: &[RouteNo]) -> Result<(), AllocError>
 
 /// Appends the word `t`, a train, its horizon, and how many of its commands are free.
 fn put_front(text: &mut Vec<u8>, train: &ConeTrain) -> Result<(), AllocError>
-    ensures { OnOk result (text.new.items ≡ text.old.items ++ spaced (codes "t" ∷ decimal train.now.train.0 ∷ decimal train.now.horizon ∷ decimal train.now.free ∷ [])) }
+    ensures { OnOk result (text.new.items ≡ text.old.items ++ spaced (train_front_words train.now)) }
 {
     put_entry(text, b"t", train.train.0)?;
     put_spaced(text, train.horizon)?;

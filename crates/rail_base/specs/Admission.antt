@@ -53,12 +53,14 @@ is_visit d t j = is_from 1 (length d.trains) t.0 && is_from 1 (length (train_of 
 
 -- at most two edge ends at a side and three in all, and one at a boundary
 abbrev pub is_good_node : Station → NodeNo → Bool
-is_good_node d n = nat_le (ends_a d n) 2 && nat_le (ends_b d n) 2 && nat_le (ends_a d n + ends_b d n) 3 && (not (node_of d n).boundary || (ends_a d n + ends_b d n == 1))
+is_good_node d n = nat_le (ends_a d n) 2 && nat_le (ends_b d n) 2 && nat_le (ends_a d n + ends_b d n) 3
+    && (not (node_of d n).boundary || (ends_a d n + ends_b d n == 1))
 
 -- between two nodes, with numbers in range
 abbrev pub is_good_edge : Station → Edge → Bool
 is_good_edge d e = is_node d e.from.node && is_node d e.to.node && not (e.from.node.0 == e.to.node.0)
-    && is_from 1 10000000 e.length_mm && is_from 1 100000 e.speed_mm_s && nat_le 1 (per_tick_speed d e.speed_mm_s) && is_from 1 (length d.sections) e.section.0
+    && is_from 1 10000000 e.length_mm && is_from 1 100000 e.speed_mm_s && nat_le 1 (per_tick_speed d e.speed_mm_s)
+    && is_from 1 (length d.sections) e.section.0
 
 -- sections are numbered from 1 by their first edges, so many being known before
 abbrev pub are_numbered : ℕ → ℕ → List Edge → Bool
@@ -78,8 +80,10 @@ are_apart s q = not ((s.node.0 == q.node.0) && is_side s.toward q.toward)
 
 -- numbers in range, none of them 0 in a tick
 abbrev pub is_good_vehicle : Station → Vehicle → Bool
-is_good_vehicle d v = is_from 1 2000000 v.length_mm && is_from 1 100000 v.accel_mm_s2 && is_from 1 100000 v.brake_mm_s2 && is_from 1 100000 v.speed_mm_s
-    && nat_le 1 (per_tick_accel d v.accel_mm_s2) && nat_le 1 (per_tick_accel d v.brake_mm_s2) && nat_le 1 (per_tick_speed d v.speed_mm_s)
+is_good_vehicle d v = is_from 1 2000000 v.length_mm
+    && is_from 1 100000 v.accel_mm_s2 && is_from 1 100000 v.brake_mm_s2 && is_from 1 100000 v.speed_mm_s
+    && nat_le 1 (per_tick_accel d v.accel_mm_s2) && nat_le 1 (per_tick_accel d v.brake_mm_s2)
+    && nat_le 1 (per_tick_speed d v.speed_mm_s)
 
 -- 1 to 64 nodes
 abbrev pub is_good_set : Station → List NodeNo → Bool
@@ -87,7 +91,8 @@ is_good_set d set = is_from 1 64 (length set) && list_all (is_node d) set
 
 -- a vehicle, 1 to 16 visits, the first at boundaries
 abbrev pub is_good_train : Station → Train → Bool
-is_good_train d t = is_vehicle d t.vehicle && is_from 1 16 (length t.visits) && list_all (is_good_set d) t.visits && list_all (λ n. (node_of d n).boundary) (first_visit t)
+is_good_train d t = is_vehicle d t.vehicle && is_from 1 16 (length t.visits) && list_all (is_good_set d) t.visits
+    && list_all (λ n. (node_of d n).boundary) (first_visit t)
 
 -- between two visits
 abbrev pub is_good_order : Station → Order → Bool
@@ -95,14 +100,16 @@ is_good_order d o = is_visit d o.first_train o.first_visit && is_visit d o.then_
 
 -- between two visits
 abbrev pub is_good_within : Station → Within → Bool
-is_good_within d w = is_visit d w.from_train w.from_visit && is_visit d w.to_train w.to_visit && nat_le w.max_ms 86400000
+is_good_within d w = is_visit d w.from_train w.from_visit && is_visit d w.to_train w.to_visit
+    && nat_le w.max_ms 86400000
 
 -- ---- the design
 
 -- how many entries there may be
 abbrev pub are_few : Station → Bool
-are_few d = nat_le (length d.nodes) 2000 && nat_le (length d.edges) 4000 && nat_le (length d.signals) 1000 && nat_le (length d.vehicles) 64
-    && is_from 1 32 (length d.trains) && nat_le (length d.orders) 256 && nat_le (length d.withins) 256
+are_few d = nat_le (length d.nodes) 2000 && nat_le (length d.edges) 4000 && nat_le (length d.signals) 1000
+    && nat_le (length d.vehicles) 64 && is_from 1 32 (length d.trains) && nat_le (length d.orders) 256
+    && nat_le (length d.withins) 256
 
 -- the version, the tick and the horizon
 abbrev pub is_timed : Station → Bool
@@ -110,17 +117,20 @@ is_timed d = (d.version == 1) && is_from 100 1000 d.tick_ms && is_from 1 86400 (
 
 -- the names in each array
 abbrev pub are_named : Station → Bool
-are_named d = are_names (map (λ (n : Node). n.name) d.nodes) && are_names (map (λ (e : Edge). e.name) d.edges) && are_names d.sections
-    && are_names (map (λ (s : Signal). s.name) d.signals) && are_names (map (λ (v : Vehicle). v.name) d.vehicles) && are_names (map (λ (t : Train). t.name) d.trains)
+are_named d = are_names (map (λ (n : Node). n.name) d.nodes) && are_names (map (λ (e : Edge). e.name) d.edges)
+    && are_names d.sections && are_names (map (λ (s : Signal). s.name) d.signals)
+    && are_names (map (λ (v : Vehicle). v.name) d.vehicles) && are_names (map (λ (t : Train). t.name) d.trains)
 
 -- nodes, edges, sections and signals
 abbrev pub is_sound_track : Station → Bool
-is_sound_track d = list_all (is_good_node d) (map (λ n. record { 0 = n }) (one_to (length d.nodes))) && list_all (is_good_edge d) d.edges
-    && are_numbered (length d.sections) 0 d.edges && list_all (is_good_signal d) d.signals && all_pairs are_apart d.signals
+is_sound_track d = list_all (is_good_node d) (map (λ n. record { 0 = n }) (one_to (length d.nodes)))
+    && list_all (is_good_edge d) d.edges && are_numbered (length d.sections) 0 d.edges
+    && list_all (is_good_signal d) d.signals && all_pairs are_apart d.signals
 
 -- vehicles, trains and what is asked of them
 abbrev pub is_sound_traffic : Station → Bool
-is_sound_traffic d = list_all (is_good_vehicle d) d.vehicles && list_all (is_good_train d) d.trains && list_all (is_good_order d) d.orders && list_all (is_good_within d) d.withins
+is_sound_traffic d = list_all (is_good_vehicle d) d.vehicles && list_all (is_good_train d) d.trains
+    && list_all (is_good_order d) d.orders && list_all (is_good_within d) d.withins
 
 -- the reader has nothing to refuse
 abbrev pub is_admitted : Station → Bool

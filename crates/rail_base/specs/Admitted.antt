@@ -15,7 +15,9 @@ use Rattle.rail_base.specs.declared.station.SignalNo.{SignalNo}
 use Rattle.rail_base.specs.declared.station.VehicleNo.{VehicleNo}
 use Rattle.rail_base.specs.declared.station.TrainNo.{TrainNo}
 use Rattle.rail_base.specs.Members.{In, Pairs}
-use Rattle.rail_base.specs.Stations.{IsNode, IsEdge, IsSignal, IsVehicle, IsTrain, HasVisit, edge_of, node_of, signal_of, vehicle_at, leave, train_of, first_visit, per_tick_speed, per_tick_accel, horizon}
+use Rattle.rail_base.specs.Stations.{IsNode, IsEdge, IsSignal, IsVehicle, IsTrain, HasVisit, edge_of, node_of}
+use Rattle.rail_base.specs.Stations.{signal_of, vehicle_at, leave, train_of, first_visit, per_tick_speed}
+use Rattle.rail_base.specs.Stations.{per_tick_accel, horizon}
 
 -- from the one to the other
 abbrev pub Ranges : ℕ → ℕ → ℕ → Type 0
@@ -100,7 +102,8 @@ pub record IsAdmitted (d : Station) : Type 0 where
   pub node : (n : NodeNo) → IsNode d n → IsGoodNode d n
   pub edge : (e : EdgeNo) → IsEdge d e → IsGoodEdge d (edge_of d e)
   pub signal : (s : SignalNo) → IsSignal d s → IsGoodSignal d (signal_of d s)
-  pub signals_differ : (s q : SignalNo) → IsSignal d s → IsSignal d q → (signal_of d s).node ≡ (signal_of d q).node → (signal_of d s).toward ≡ (signal_of d q).toward → s ≡ q
+  pub signals_differ : (s q : SignalNo) → IsSignal d s → IsSignal d q
+      → (signal_of d s).node ≡ (signal_of d q).node → (signal_of d s).toward ≡ (signal_of d q).toward → s ≡ q
   pub vehicle : (v : VehicleNo) → IsVehicle d v → IsGoodVehicle d (vehicle_at d v)
   pub train : (t : TrainNo) → IsTrain d t → IsGoodTrain d (train_of d t)
   pub order : (o : Order) → In o d.orders → IsGoodOrder d o

@@ -11,7 +11,14 @@ use Rattle.rail_base.specs.Numbering.{entry}
 
 -- the route that none is
 abbrev pub no_route : Route
-no_route = record { start = start.Boundary (record { 0 = 0 }); finish = finish.Dead (record { 0 = 0 }); length = pos 0; edges = []; nodes = []; sections = [] }
+no_route = record {
+  start = start.Boundary (record { 0 = 0 });
+  finish = finish.Dead (record { 0 = 0 });
+  length = pos 0;
+  edges = [];
+  nodes = [];
+  sections = [];
+}
 
 -- the route of this number
 abbrev pub route_at : List Route → RouteNo → Route

@@ -1,5 +1,6 @@
 -- Stations: what stands under a number, what is at an end, and numbers per tick.
-use Rattle.std.specs.Prelude.{ℕ, ◌*◌, ◌/◌, ◌≤◌, Bool, true, false, ◌&&◌, ◌||◌, ◌==◌, if◌then◌else◌, List, [], map, filter, length}
+use Rattle.std.specs.Prelude.{ℕ, ◌*◌, ◌/◌, ◌≤◌, Bool, true, false, ◌&&◌, ◌||◌, ◌==◌, if◌then◌else◌, List, [], map}
+use Rattle.std.specs.Prelude.{filter, length}
 use Rattle.rail_base.specs.declared.station.Station.{Station}
 use Rattle.rail_base.specs.declared.station.Node.{Node}
 use Rattle.rail_base.specs.declared.station.Edge.{Edge}
@@ -55,17 +56,25 @@ no_end = record { node = record { 0 = 0 }; side = A }
 abbrev pub node_of : Station → NodeNo → Node
 node_of d n = entry (record { name = []; boundary = false }) d.nodes n.0
 
+-- the edge that none is
+abbrev pub no_edge : Edge
+no_edge = record { name = []; from = no_end; to = no_end; length_mm = 0; speed_mm_s = 0; section = record { 0 = 0 } }
+
 -- the edge of this number
 abbrev pub edge_of : Station → EdgeNo → Edge
-edge_of d e = entry (record { name = []; from = no_end; to = no_end; length_mm = 0; speed_mm_s = 0; section = record { 0 = 0 } }) d.edges e.0
+edge_of d e = entry no_edge d.edges e.0
 
 -- the signal of this number
 abbrev pub signal_of : Station → SignalNo → Signal
 signal_of d s = entry (record { name = []; node = record { 0 = 0 }; toward = A }) d.signals s.0
 
+-- the vehicle that none is
+abbrev pub no_vehicle : Vehicle
+no_vehicle = record { name = []; length_mm = 0; accel_mm_s2 = 0; brake_mm_s2 = 0; speed_mm_s = 0 }
+
 -- the vehicle of this number
 abbrev pub vehicle_at : Station → VehicleNo → Vehicle
-vehicle_at d v = entry (record { name = []; length_mm = 0; accel_mm_s2 = 0; brake_mm_s2 = 0; speed_mm_s = 0 }) d.vehicles v.0
+vehicle_at d v = entry no_vehicle d.vehicles v.0
 
 -- the train that none is
 abbrev pub no_train : Train
@@ -75,13 +84,27 @@ no_train = record { name = []; vehicle = record { 0 = 0 }; visits = [] }
 abbrev pub train_of : Station → TrainNo → Train
 train_of d t = entry no_train d.trains t.0
 
+-- the order that none is
+abbrev pub no_order : Order
+no_order = record { first_train = record { 0 = 0 }; first_visit = 0; then_train = record { 0 = 0 }; then_visit = 0 }
+
 -- the order of this number
 abbrev pub order_of : Station → ℕ → Order
-order_of d o = entry (record { first_train = record { 0 = 0 }; first_visit = 0; then_train = record { 0 = 0 }; then_visit = 0 }) d.orders o
+order_of d o = entry no_order d.orders o
+
+-- the within that none is
+abbrev pub no_within : Within
+no_within = record {
+  from_train = record { 0 = 0 };
+  from_visit = 0;
+  to_train = record { 0 = 0 };
+  to_visit = 0;
+  max_ms = 0;
+}
 
 -- the within of this number
 abbrev pub within_of : Station → ℕ → Within
-within_of d w = entry (record { from_train = record { 0 = 0 }; from_visit = 0; to_train = record { 0 = 0 }; to_visit = 0; max_ms = 0 }) d.withins w
+within_of d w = entry no_within d.withins w
 
 -- ---- track
 
@@ -93,9 +116,13 @@ length_of d e = (edge_of d e).length_mm
 abbrev pub section_of : Station → EdgeNo → SectionNo
 section_of d e = (edge_of d e).section
 
+-- the numbers of all edges
+abbrev pub edge_numbers : Station → List EdgeNo
+edge_numbers d = map (λ n. record { 0 = n }) (one_to (length d.edges))
+
 -- the edges at an end, in file order
 abbrev pub leave : Station → End → List EdgeNo
-leave d end = filter (λ e. is_end (edge_of d e).from end || is_end (edge_of d e).to end) (map (λ n. record { 0 = n }) (one_to (length d.edges)))
+leave d end = filter (λ e. is_end (edge_of d e).from end || is_end (edge_of d e).to end) (edge_numbers d)
 
 -- ---- trains
 

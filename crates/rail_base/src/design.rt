@@ -15,7 +15,8 @@ pub struct Design {
 
 impl Design {
     ghost use Rattle.std.specs.Prelude.{◌≤◌};
-    ghost use Rattle.rail_base.specs.Stations.{IsEdge, IsTrain, IsVehicle, edge_of, train_of, vehicle_at, vehicle_of, horizon};
+    ghost use Rattle.rail_base.specs.Stations.{IsEdge, IsTrain, IsVehicle, edge_of, train_of, vehicle_at, vehicle_of};
+    ghost use Rattle.rail_base.specs.Stations.{horizon};
 
     /// The edge of a number.
     pub fn edge(&self, edge: EdgeNo) -> &Edge

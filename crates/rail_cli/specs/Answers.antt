@@ -1,5 +1,6 @@
 -- The answer to the words of a command line, for the files that are held.
-use Rattle.std.specs.Prelude.{ℕ, ◌*◌, List, [], ◌∷◌, length, map, nat_lt, nat_le, Option, None, Some, Result, Ok, Err, if◌then◌else◌}
+use Rattle.std.specs.Prelude.{ℕ, ◌*◌, List, [], ◌∷◌, length, map, nat_lt, nat_le, Option, None, Some, Result, Ok, Err}
+use Rattle.std.specs.Prelude.{if◌then◌else◌}
 use Rattle.design_table.specs.declared.fault.Code.{Code}
 use Rattle.design_table.specs.declared.fault.Code.TheVariants.{D12, D13}
 use Rattle.design_table.specs.declared.place.EntryKind.TheVariants as kind
@@ -18,9 +19,7 @@ use Rattle.rail_base.specs.declared.history.Verdict.{Verdict}
 use Rattle.rail_base.specs.declared.history.Verdict.TheVariants as verdict
 use Rattle.rail_outside.specs.Files.{Files}
 use Rattle.rail_outside.specs.Asks.{Ask, fetched, stored}
-use Rattle.rail_plan.specs.declared.fault.PlanCode.{PlanCode}
-use Rattle.rail_plan.specs.declared.place.PlanPlace.{PlanPlace}
-use Rattle.rail_plan.specs.Reading.{plan_of}
+use Rattle.rail_plan.specs.Reading.{Refusal, plan_of}
 use Rattle.rail_spec.specs.Track.{routes_of, all_closings, edges_met_again}
 use Rattle.rail_spec.specs.Requirements.{cost}
 use Rattle.rail_words.specs.Requests.{Asked, simulate, routes, verify, check, trial, request_of}
@@ -34,7 +33,10 @@ use Rattle.rail_cli.specs.declared.input.InputFile.{InputFile}
 use Rattle.rail_cli.specs.declared.input.InputFile.TheVariants as file
 use Rattle.rail_cli.specs.Listings.{routes_text}
 use Rattle.rail_cli.specs.Shows.{shown_by}
-use Rattle.rail_cli.specs.Texts.{usage_line, limit_of, too_long_line, design_refused_line, too_large_line, yes_line, no_line, plan_refused_line, plan_steps_line, plan_line, infeasible_line, conflicts_spent_line, ticks_spent_line, log_spent_line, trial_line, counts_line, plan_tick_line}
+use Rattle.rail_cli.specs.Texts.{usage_line, limit_of, too_long_line, design_refused_line, too_large_line, yes_line}
+use Rattle.rail_cli.specs.Texts.{no_line, plan_refused_line, plan_steps_line, plan_line, infeasible_line}
+use Rattle.rail_cli.specs.Texts.{conflicts_spent_line, ticks_spent_line, log_spent_line, trial_line, counts_line}
+use Rattle.rail_cli.specs.Texts.{plan_tick_line}
 
 -- what the program answers: the status to end with, and the lines to print
 pub record Answer : Type 0 where
@@ -49,7 +51,9 @@ one_line s line = record { status = s; lines = line ∷ [] }
 
 -- the bytes of a file, where they are within its limit
 abbrev pub within_limit : InputFile → List ℕ → Result (List ℕ) Answer
-within_limit f bytes = if nat_lt (limit_of f) (length bytes) then Err (one_line status.TooLong (too_long_line f)) else Ok bytes
+within_limit f bytes =
+    if nat_lt (limit_of f) (length bytes) then Err (one_line status.TooLong (too_long_line f))
+    else Ok bytes
 
 -- an edge, by its place in the file
 abbrev pub edge_place : EdgeNo → Place
@@ -76,7 +80,7 @@ abbrev pub design_in : List ℕ → Result Station Answer
 design_in bytes = design_or_answer (and_then (design_of bytes) with_routes)
 
 -- a plan or its refusal, as an answer
-abbrev pub plan_or_answer : Station → Result (List (List Command)) (PlanCode × PlanPlace) → Result (List (List Command)) Answer
+abbrev pub plan_or_answer : Station → Result (List (List Command)) Refusal → Result (List (List Command)) Answer
 plan_or_answer d (Ok plan) = Ok plan
 plan_or_answer d (Err refusal) = Err (one_line status.PlanRefused (plan_refused_line d refusal.0 refusal.1))
 
@@ -156,21 +160,28 @@ checked n design_bytes proof_bytes =
 
 -- a plan that was found: its number of steps, the plan, and the timetable of its run
 abbrev pub plan_told : Station → List (List Command) → Answer
-plan_told d plan = record { status = status.Done; lines = plan_steps_line (length plan) ∷ plan_line d plan ∷ timetable_of d (shown_by d plan) }
+plan_told d plan = record {
+  status = status.Done;
+  lines = plan_steps_line (length plan) ∷ plan_line d plan ∷ timetable_of d (shown_by d plan);
+}
 
 -- what a search for a plan of n steps ended with, within so many derived clauses and ticks
 abbrev pub told_outcome : Station → ℕ → ℕ → ℕ → Outcome → Answer
 told_outcome d n conflicts ticks (outcome.Plan plan verdict) = plan_told d plan.steps
 told_outcome d n conflicts ticks (outcome.Infeasible log) = one_line status.No (infeasible_line n)
-told_outcome d n conflicts ticks (outcome.ConflictsSpent log clause hints) = one_line status.ConflictsSpent (conflicts_spent_line conflicts)
-told_outcome d n conflicts ticks (outcome.TicksSpent failed sum at_hand) = one_line status.TicksSpent (ticks_spent_line sum ticks)
-told_outcome d n conflicts ticks (outcome.LogSpent log bytes next) = one_line status.LogSpent (log_spent_line bytes next)
+told_outcome d n conflicts ticks (outcome.ConflictsSpent log clause hints) =
+    one_line status.ConflictsSpent (conflicts_spent_line conflicts)
+told_outcome d n conflicts ticks (outcome.TicksSpent failed sum at_hand) =
+    one_line status.TicksSpent (ticks_spent_line sum ticks)
+told_outcome d n conflicts ticks (outcome.LogSpent log bytes next) =
+    one_line status.LogSpent (log_spent_line bytes next)
 told_outcome d n conflicts ticks (outcome.TooLarge literals) = one_line status.DesignRefused too_large_line
 told_outcome d n conflicts ticks outcome.Memory = record { status = status.Memory; lines = [] }
 
 -- the answer to a search in a design, by what it ended with
 abbrev pub searched_in : Station → ℕ → ℕ → ℕ → Outcome → Answer
-searched_in d n conflicts ticks found = unless_refused (with_clauses n d) (λ same. told_outcome d n conflicts ticks found)
+searched_in d n conflicts ticks found =
+    unless_refused (with_clauses n d) (λ same. told_outcome d n conflicts ticks found)
 
 -- the answer to a search, for the bytes of the design, by what it ended with
 abbrev pub searched : ℕ → ℕ → ℕ → List ℕ → Outcome → Answer
@@ -193,11 +204,15 @@ three_lines seed size d s last = record { status = s; lines = trial_line seed si
 
 -- what a trial tells of a station, by what its search ended with; a refusal is told alone
 abbrev pub told_trial : ℕ → ℕ → Station → Outcome → Answer
-told_trial seed size d (outcome.Plan plan verdict) = three_lines seed size d status.Done (plan_tick_line (length plan.steps) (cost d (routes_of d) plan.steps))
+told_trial seed size d (outcome.Plan plan verdict) =
+    three_lines seed size d status.Done (plan_tick_line (length plan.steps) (cost d (routes_of d) plan.steps))
 told_trial seed size d (outcome.Infeasible log) = three_lines seed size d status.No (infeasible_line (2 * size))
-told_trial seed size d (outcome.ConflictsSpent log clause hints) = three_lines seed size d status.ConflictsSpent (conflicts_spent_line trial_conflicts)
-told_trial seed size d (outcome.TicksSpent failed sum at_hand) = three_lines seed size d status.TicksSpent (ticks_spent_line sum trial_ticks)
-told_trial seed size d (outcome.LogSpent log bytes next) = three_lines seed size d status.LogSpent (log_spent_line bytes next)
+told_trial seed size d (outcome.ConflictsSpent log clause hints) =
+    three_lines seed size d status.ConflictsSpent (conflicts_spent_line trial_conflicts)
+told_trial seed size d (outcome.TicksSpent failed sum at_hand) =
+    three_lines seed size d status.TicksSpent (ticks_spent_line sum trial_ticks)
+told_trial seed size d (outcome.LogSpent log bytes next) =
+    three_lines seed size d status.LogSpent (log_spent_line bytes next)
 told_trial seed size d (outcome.TooLarge literals) = one_line status.DesignRefused too_large_line
 told_trial seed size d outcome.Memory = record { status = status.Memory; lines = [] }
 
@@ -207,7 +222,8 @@ tried_in seed size d found = unless_refused (with_clauses (2 * size) d) (λ same
 
 -- the answer to a trial: the station that the seed and the size make is searched for a plan of twice as many steps as its size
 abbrev pub tried : ℕ → ℕ → Outcome → Answer
-tried seed size found = unless_refused (design_or_answer (with_routes (made seed size))) (λ d. tried_in seed size d found)
+tried seed size found =
+    unless_refused (design_or_answer (with_routes (made seed size))) (λ d. tried_in seed size d found)
 
 -- the answer to a request, which may be none; of a search, by what it ended with
 abbrev pub answer_to : Files → Outcome → Option Asked → Answer
@@ -223,7 +239,8 @@ abbrev pub answer_given : List ℕ → List ℕ → Outcome → Option Asked →
 answer_given design_bytes other_bytes found None = one_line status.Usage usage_line
 answer_given design_bytes other_bytes found (Some (simulate design plan)) = simulated design_bytes other_bytes
 answer_given design_bytes other_bytes found (Some (routes design)) = routes_listed design_bytes
-answer_given design_bytes other_bytes found (Some (verify n conflicts ticks design proof)) = searched n conflicts ticks design_bytes found
+answer_given design_bytes other_bytes found (Some (verify n conflicts ticks design proof)) =
+    searched n conflicts ticks design_bytes found
 answer_given design_bytes other_bytes found (Some (check n design proof)) = checked n design_bytes other_bytes
 answer_given design_bytes other_bytes found (Some (trial seed size)) = tried seed size found
 

@@ -36,8 +36,10 @@ release_text d release = codes " " ++ section_name d release.0 ++ codes "=" ++ d
 -- `route <r> <start> <end> length <mm> sections`, and then each section
 abbrev pub route_line : Station → ℕ × Route → List ℕ
 route_line d numbered =
-    codes "route " ++ decimal numbered.0 ++ codes " " ++ start_text d numbered.1.start ++ codes " " ++ finish_text d numbered.1.finish
-    ++ codes " length " ++ decimal (length_mm numbered.1) ++ codes " sections" ++ flat_map (release_text d) numbered.1.sections ++ codes "\n"
+    codes "route " ++ decimal numbered.0 ++ codes " " ++ start_text d numbered.1.start
+    ++ codes " " ++ finish_text d numbered.1.finish
+    ++ codes " length " ++ decimal (length_mm numbered.1) ++ codes " sections"
+    ++ flat_map (release_text d) numbered.1.sections ++ codes "\n"
 
 -- all routes, counted from 1
 abbrev pub routes_text : Station → List Route → List (List ℕ)

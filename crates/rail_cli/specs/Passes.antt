@@ -17,12 +17,16 @@ Passes files found n words = answer_of files found words ≡ one_line Done (yes_
 
 -- where a search has told that there is no plan of n steps and has left these files, all words that ask for a check of n steps with the same two names pass
 abbrev pub StoredProofsPass : Type 0
-StoredProofsPass = (files left : Files) (design proof : List ℕ) (n : ℕ) (d : Station) (old new : Option (List ℕ)) → TellsNone files design proof n d old new (Some left) → design ≢ proof
-    → (found : Outcome) (words : List (List ℕ)) → request_of words ≡ Some (check n design proof) → Passes left found n words
+StoredProofsPass = (files left : Files) (design proof : List ℕ) (n : ℕ) (d : Station) (old new : Option (List ℕ))
+    → TellsNone files design proof n d old new (Some left) → design ≢ proof
+    → (found : Outcome) (words : List (List ℕ)) → request_of words ≡ Some (check n design proof)
+    → Passes left found n words
 
 -- `verify --steps N --conflicts C --ticks T DESIGN PROOF`, after the program's name
 abbrev pub verify_words : List ℕ → List ℕ → List ℕ → List ℕ → List ℕ → List ℕ → List (List ℕ)
-verify_words program steps conflicts ticks design proof = program ∷ codes "verify" ∷ codes "--steps" ∷ steps ∷ codes "--conflicts" ∷ conflicts ∷ codes "--ticks" ∷ ticks ∷ design ∷ proof ∷ []
+verify_words program steps conflicts ticks design proof =
+    program ∷ codes "verify" ∷ codes "--steps" ∷ steps ∷ codes "--conflicts" ∷ conflicts
+    ∷ codes "--ticks" ∷ ticks ∷ design ∷ proof ∷ []
 
 -- `check --steps N DESIGN PROOF`, after the program's name
 abbrev pub check_words : List ℕ → List ℕ → List ℕ → List ℕ → List (List ℕ)
@@ -30,7 +34,11 @@ check_words program steps design proof = program ∷ codes "check" ∷ codes "--
 
 -- where the words of `verify` have told that there is no plan and have left these files, the words of `check` with the same N, DESIGN and PROOF pass; the numbers are in range, and the names differ and are plain
 abbrev pub VerifyPassesCheck : Type 0
-VerifyPassesCheck = (files left : Files) (program steps conflicts ticks design proof : List ℕ) (n c t : ℕ) (d : Station) (old new : Option (List ℕ))
-    → steps_of steps ≡ Some n → conflicts_of conflicts ≡ Some c → ticks_of ticks ≡ Some t → is_plain design ≡ true → is_plain proof ≡ true → design ≢ proof → design_of (files design) ≡ Ok d
-    → ((s : Searches files (verify_words program steps conflicts ticks design proof) n d) → TellsNone files s.design_name s.proof_name n d old new (Some left))
+VerifyPassesCheck =
+    (files left : Files) (program steps conflicts ticks design proof : List ℕ) (n c t : ℕ) (d : Station)
+    → (old new : Option (List ℕ))
+    → steps_of steps ≡ Some n → conflicts_of conflicts ≡ Some c → ticks_of ticks ≡ Some t
+    → is_plain design ≡ true → is_plain proof ≡ true → design ≢ proof → design_of (files design) ≡ Ok d
+    → ((s : Searches files (verify_words program steps conflicts ticks design proof) n d)
+    → TellsNone files s.design_name s.proof_name n d old new (Some left))
     → (found : Outcome) → Passes left found n (check_words program steps design proof)

@@ -11,7 +11,8 @@ use Rattle.rail_cli.specs.Answers.{Answer, answer_given}
 use Rattle.rail_cli.specs.Searches.{FindsGiven}
 
 -- the run ends with the answer's status and has printed its lines, one piece each; for want of memory it may end after some of the lines, and by a fault of the sink after a front of the text
-pub record Prints (answer : Answer) (s : Status) (text new_text : Option (List ℕ)) (pieces new_pieces : Option (List (List ℕ))) : Type 0 where
+pub record Prints (answer : Answer) (s : Status) (text new_text : Option (List ℕ))
+    (pieces new_pieces : Option (List (List ℕ))) : Type 0 where
   pub status : is_answered s ≡ true → s ≡ answer.status
   pub written : is_answered s ≡ true → new_text ≡ grown text (concat answer.lines)
   pub put : is_answered s ≡ true → new_pieces ≡ grown pieces answer.lines
@@ -21,7 +22,8 @@ pub record Prints (answer : Answer) (s : Status) (text new_text : Option (List �
   pub shelf_fault : s ≡ ShelfFault → (new_text ≡ text) × (new_pieces ≡ pieces)
 
 -- there are bytes of the files that are asked for, and an outcome with which a search may end, whose answer the run prints
-pub record PrintsSome (asked : Option Asked) (s : Status) (text new_text : Option (List ℕ)) (pieces new_pieces : Option (List (List ℕ))) : Type 0 where
+pub record PrintsSome (asked : Option Asked) (s : Status) (text new_text : Option (List ℕ))
+    (pieces new_pieces : Option (List (List ℕ))) : Type 0 where
   pub design_bytes : List ℕ
   pub other_bytes : List ℕ
   pub found : Outcome

@@ -27,6 +27,10 @@ use Rattle.rail_cli.specs.Searches.{budgets_of, EndsTrial, FindsGiven}
 abbrev pub reply_seen : Reply → Answer
 reply_seen reply = record { status = reply.status; lines = lines_of reply.lines.items }
 
+-- the reply is the answer, where there is memory for one
+abbrev pub Tells : Result Reply AllocError → Answer → Type 0
+Tells result answer = IfOk result (λ reply. reply_seen reply ≡ answer)
+
 -- the ending with a reply that refuses, or for want of memory
 abbrev pub ended : Result Reply AllocError → Ending
 ended (Ok reply) = ending.Told reply
@@ -101,7 +105,8 @@ pub record Decides (design_bytes plan_bytes : List ℕ) (s : Status) : Type 0 wh
 
 -- the reply to a request for a simulation is so decided by the files that it names
 abbrev pub DecidesRequest : Files → Asked → Result Reply Ending → Type 0
-DecidesRequest files (simulate design plan) result = IfOk result (λ reply. Decides (files design) (files plan) reply.status)
+DecidesRequest files (simulate design plan) result =
+    IfOk result (λ reply. Decides (files design) (files plan) reply.status)
 DecidesRequest files (routes design) result = Unit {0}
 DecidesRequest files (verify n conflicts ticks design proof) result = Unit {0}
 DecidesRequest files (check n design proof) result = Unit {0}
@@ -118,13 +123,15 @@ pub record EndsIn (files : Files) (n conflicts ticks : ℕ) (design_name : List 
 
 -- where a search is asked for, it ends so, or for want of memory; a trial too
 abbrev pub EndsWith : Files → Option Asked → Outcome → Type 0
-EndsWith files (Some (verify n conflicts ticks design proof)) found = (found ≡ outcome.Memory) ⊎ EndsIn files n conflicts ticks design found
+EndsWith files (Some (verify n conflicts ticks design proof)) found =
+    (found ≡ outcome.Memory) ⊎ EndsIn files n conflicts ticks design found
 EndsWith files (Some (trial seed size)) found = EndsTrial seed size found
 EndsWith files _ found = Unit {0}
 
 -- the reply is the answer to what is asked, for an outcome with which a search may end
 abbrev pub RepliesSo : Result Reply Ending → Files → Option Asked → Type 0
-RepliesSo result files asked = (found : Outcome) × EndsWith files asked found × Replies result (answer_to files found asked)
+RepliesSo result files asked =
+    (found : Outcome) × EndsWith files asked found × Replies result (answer_to files found asked)
 
 -- the reply is the answer to what is asked for some bytes of its files, and for an outcome with which a search may end
 pub record RepliesSome (result : Result Reply Ending) (asked : Option Asked) : Type 0 where

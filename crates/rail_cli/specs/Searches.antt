@@ -22,7 +22,7 @@ use Rattle.rail_cli.specs.declared.status.Status.{Status}
 use Rattle.rail_cli.specs.declared.status.Status.TheVariants.{Done, No, Memory, ShelfFault, SinkFault}
 use Rattle.rail_cli.specs.declared.input.InputFile.TheVariants as file
 use Rattle.rail_cli.specs.Texts.{limit_of, yes_line, plan_steps_line, plan_line, infeasible_line}
-use Rattle.rail_cli.specs.Answers.{one_line, design_in, checked, trial_conflicts, trial_ticks}
+use Rattle.rail_cli.specs.Answers.{one_line, design_in, checked, trial_conflicts, trial_ticks, plan_told}
 use Rattle.rail_cli.specs.Shows.{shown_by}
 use Rattle.rail_cli.specs.Simulations.{RunsSafely}
 
@@ -34,11 +34,14 @@ budgets_of conflicts ticks = record { conflicts = conflicts; ticks = ticks; log_
 
 -- the outcome says what it is to say of the station that the seed and the size make, for twice as many steps as its size; want of memory says nothing
 abbrev pub EndsTrial : ℕ → ℕ → Outcome → Type 0
-EndsTrial seed size found = Says (made seed size) (2 * size) (budgets_of trial_conflicts trial_ticks) found × Fits (made seed size) (2 * size) found
+EndsTrial seed size found =
+    Says (made seed size) (2 * size) (budgets_of trial_conflicts trial_ticks) found
+    × Fits (made seed size) (2 * size) found
 
 -- where the bytes spell a design, the outcome says what it is to say of that design and n, within the budgets
 abbrev pub EndsSearch : List ℕ → ℕ → ℕ → ℕ → Outcome → Type 0
-EndsSearch design_bytes n conflicts ticks found = (d : Station) → design_in design_bytes ≡ Ok d → Says d n (budgets_of conflicts ticks) found × Fits d n found
+EndsSearch design_bytes n conflicts ticks found = (d : Station) → design_in design_bytes ≡ Ok d
+    → Says d n (budgets_of conflicts ticks) found × Fits d n found
 
 -- a search that is asked for ends so for the design's file, and a trial for the station that is made
 abbrev pub Finds : Files → Option Asked → Outcome → Type 0
@@ -48,7 +51,8 @@ Finds files _ found = Unit {0}
 
 -- the same for the bytes of the design's file
 abbrev pub FindsGiven : List ℕ → Option Asked → Outcome → Type 0
-FindsGiven design_bytes (Some (verify n conflicts ticks design proof)) found = EndsSearch design_bytes n conflicts ticks found
+FindsGiven design_bytes (Some (verify n conflicts ticks design proof)) found =
+    EndsSearch design_bytes n conflicts ticks found
 FindsGiven design_bytes (Some (trial seed size)) found = EndsTrial seed size found
 FindsGiven design_bytes _ found = Unit {0}
 
@@ -78,7 +82,8 @@ HoldsProof files n design proof held = (d : Station) × (design_in (files design
 
 -- the design that the file spelled has no plan of n steps, and the store of a log that shows it has failed
 abbrev pub SpoilsProof : Files → ℕ → List ℕ → List ℕ → Option Files → Type 0
-SpoilsProof files n design proof held = (d : Station) × (design_in (files design) ≡ Ok d) × SpoilsLog files proof d n held
+SpoilsProof files n design proof held =
+    (d : Station) × (design_in (files design) ≡ Ok d) × SpoilsLog files proof d n held
 
 -- what the shelf holds after a search, by its status: after 1 such a log; for want of memory or after a fault of the sink
 -- that, or the files as they were; after a fault of the shelf the files as they were, or where the store of such a log has
@@ -92,7 +97,8 @@ SearchLeaves files n design proof _ held = held ≡ Some files
 
 -- what the shelf holds after a request with this status: only a search changes it
 abbrev pub Leaves : Option Asked → Status → Option Files → Option Files → Type 0
-Leaves (Some (verify n conflicts ticks design proof)) s old new = (files : Files) → old ≡ Some files → SearchLeaves files n design proof s new
+Leaves (Some (verify n conflicts ticks design proof)) s old new =
+    (files : Files) → old ≡ Some files → SearchLeaves files n design proof s new
 Leaves _ s old new = new ≡ old
 
 -- ---- what the answers say
@@ -109,14 +115,15 @@ pub record Searches (files : Files) (words : List (List ℕ)) (n : ℕ) (d : Sta
 -- the lines printed are `plan steps <number of steps>`, the plan and its timetable; the plan is feasible for n steps, and none of fewer steps is; and its run is safe
 pub record TellsPlan (n : ℕ) (d : Station) (old new : Option (List ℕ)) : Type 0 where
   pub plan : List (List Command)
-  pub text : new ≡ grown old (concat (plan_steps_line (length plan) ∷ plan_line d plan ∷ timetable_of d (shown_by d plan)))
+  pub text : new ≡ grown old (concat (plan_told d plan).lines)
   pub feasible : IsFeasible d n plan
   pub fewest : (s : ℕ) → s < length plan → IsInfeasible d s
   pub met : (more : List (List ℕ)) × (timetable_of d (shown_by d plan) ≡ met_line (cost d (routes_of d) plan) ∷ more)
   pub safe : RunsSafely d plan
 
 -- what is printed is `infeasible steps <n>`; no plan of n steps is feasible; and the shelf holds a log under the proof's name, every other name as before, to which with the design's bytes a check answers `yes steps <n>`
-pub record TellsNone (files : Files) (design proof : List ℕ) (n : ℕ) (d : Station) (old new : Option (List ℕ)) (held : Option Files) : Type 0 where
+pub record TellsNone (files : Files) (design proof : List ℕ) (n : ℕ) (d : Station) (old new : Option (List ℕ))
+    (held : Option Files) : Type 0 where
   pub text : new ≡ grown old (infeasible_line n)
   pub none : IsInfeasible d n
   pub stored : HoldsLog files proof d n held

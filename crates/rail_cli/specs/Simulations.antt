@@ -41,10 +41,12 @@ abbrev pub BeginsWith : List ℕ → List ℕ → Type 0
 BeginsWith front text = (rest : List ℕ) × (text ≡ front ++ rest)
 
 -- the status is 0 exactly where the plan is feasible, and else 1; the text is the timetable, whose first line is `met tick <k>` at the deciding tick exactly in the first case, and which begins with `met tick` in no other; and the run is safe
-pub record TellsFeasible (d : Station) (plan : List (List Command)) (s : Status) (old new : Option (List ℕ)) : Type 0 where
+pub record TellsFeasible (d : Station) (plan : List (List Command)) (s : Status) (old new : Option (List ℕ))
+    : Type 0 where
   pub done : (s ≡ statuses.Done) ↔ IsFeasible d 64 plan
   pub failed : (s ≡ statuses.No) ↔ (IsFeasible d 64 plan → ⊥)
-  pub met : ((more : List (List ℕ)) × (timetable_of d (shown_by d plan) ≡ met_line (cost d (routes_of d) plan) ∷ more)) ↔ IsFeasible d 64 plan
+  pub met : ((more : List (List ℕ)) × (timetable_of d (shown_by d plan) ≡ met_line (cost d (routes_of d) plan) ∷ more))
+      ↔ IsFeasible d 64 plan
   pub begins : BeginsWith (codes "met tick") (timetable_text d (shown_by d plan)) ↔ IsFeasible d 64 plan
   pub text : new ≡ grown old (timetable_text d (shown_by d plan))
   pub safe : RunsSafely d plan
@@ -56,4 +58,5 @@ pub record Settles (d : Station) (plan : List (List Command)) (s : Status) : Typ
 
 -- where the words ask for a simulation in which nothing is refused, the status settles it
 abbrev pub DoneWhereFeasible : Files → List (List ℕ) → Status → Type 0
-DoneWhereFeasible files words s = (d : Station) (plan : List (List Command)) → Simulates files words d plan → Settles d plan s
+DoneWhereFeasible files words s = (d : Station) (plan : List (List Command)) → Simulates files words d plan
+    → Settles d plan s

@@ -1,7 +1,9 @@
 -- How a run of the program ends.
 use Rattle.std.specs.Prelude.{ℕ, Bool, true, false}
 use Rattle.rail_cli.specs.declared.status.Status.{Status}
-use Rattle.rail_cli.specs.declared.status.Status.TheVariants.{Done, No, Usage, DesignRefused, PlanRefused, ConflictsSpent, Memory, ShelfFault, SinkFault, TicksSpent, LogSpent, TooLong}
+use Rattle.rail_cli.specs.declared.status.Status.TheVariants.{Done, No, Usage, DesignRefused, PlanRefused}
+use Rattle.rail_cli.specs.declared.status.Status.TheVariants.{ConflictsSpent, Memory, ShelfFault, SinkFault, TicksSpent}
+use Rattle.rail_cli.specs.declared.status.Status.TheVariants.{LogSpent, TooLong}
 
 -- the number of a status
 abbrev pub code_of : Status → ℕ

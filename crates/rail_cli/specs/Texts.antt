@@ -27,7 +27,10 @@ use Rattle.rail_cli.specs.declared.input.InputFile.TheVariants as file
 
 -- how the program is used
 abbrev pub usage_line : List ℕ
-usage_line = codes "usage: rcv simulate DESIGN PLAN; rcv routes DESIGN; rcv verify --steps N --conflicts C --ticks T DESIGN PROOF; rcv check --steps N DESIGN PROOF; rcv trial SEED SIZE\n"
+usage_line =
+    codes "usage: rcv simulate DESIGN PLAN; rcv routes DESIGN; "
+    ++ codes "rcv verify --steps N --conflicts C --ticks T DESIGN PROOF; "
+    ++ codes "rcv check --steps N DESIGN PROOF; rcv trial SEED SIZE\n"
 
 -- ---- files that are too long
 
@@ -132,7 +135,8 @@ trial_line seed size = codes "trial seed " ++ decimal seed ++ codes " size " ++ 
 -- `nodes <n> edges <e> signals <g> trains <t> routes <r>`
 abbrev pub counts_line : Station → List ℕ
 counts_line d =
-    codes "nodes " ++ decimal (length d.nodes) ++ codes " edges " ++ decimal (length d.edges) ++ codes " signals " ++ decimal (length d.signals)
+    codes "nodes " ++ decimal (length d.nodes) ++ codes " edges " ++ decimal (length d.edges)
+    ++ codes " signals " ++ decimal (length d.signals)
     ++ codes " trains " ++ decimal (length d.trains) ++ codes " routes " ++ decimal (length (routes_of d)) ++ codes "\n"
 
 -- `plan steps <number of steps> tick <k>`

@@ -10,12 +10,18 @@ use Rattle.workload.specs.Made.{made}
 use Rattle.rail_cli.specs.declared.status.Status.{Status}
 use Rattle.rail_cli.specs.declared.status.Status.TheVariants.{Done, No}
 use Rattle.rail_cli.specs.Texts.{plan_tick_line, infeasible_line}
-use Rattle.rail_cli.specs.Answers.{three_lines}
+use Rattle.rail_cli.specs.Answers.{three_lines, Answer}
+
+-- the answer that tells a plan, with its number of steps and its deciding tick
+abbrev pub trial_plan_told : ℕ → ℕ → List (List Command) → Answer
+trial_plan_told seed size plan =
+    let d = made seed size in
+    three_lines seed size d Done (plan_tick_line (length plan) (cost d (routes_of d) plan))
 
 -- the last line is `plan steps <s> tick <k>`: a plan of s steps is feasible for twice as many steps as the size, and none of fewer steps is; and k is its deciding tick
 pub record TellsTrialPlan (seed size : ℕ) (old new : Option (List ℕ)) : Type 0 where
   pub plan : List (List Command)
-  pub text : new ≡ grown old (concat (three_lines seed size (made seed size) Done (plan_tick_line (length plan) (cost (made seed size) (routes_of (made seed size)) plan))).lines)
+  pub text : new ≡ grown old (concat (trial_plan_told seed size plan).lines)
   pub feasible : IsFeasible (made seed size) (2 * size) plan
   pub fewest : (s : ℕ) → s < length plan → IsInfeasible (made seed size) s
 

@@ -46,10 +46,14 @@ pub record SpellsPlan (d : Station) (bytes : List ℕ) : Type 0 where
 -- something is asked for, and nothing of it is refused: each file that is read is within its limit, they spell a design and a plan, and the clauses of a search, a check or a trial are few; a trial reads no file
 abbrev pub IsUnrefused : Files → Option Asked → Type 0
 IsUnrefused files None = ⊥
-IsUnrefused files (Some (simulate design plan)) = (d : Station) × SpellsDesign (files design) d × SpellsPlan d (files plan)
+IsUnrefused files (Some (simulate design plan)) =
+    (d : Station) × SpellsDesign (files design) d × SpellsPlan d (files plan)
 IsUnrefused files (Some (routes design)) = (d : Station) × SpellsDesign (files design) d
-IsUnrefused files (Some (verify n conflicts ticks design proof)) = (d : Station) × SpellsDesign (files design) d × HasFewClauses d n
-IsUnrefused files (Some (check n design proof)) = (d : Station) × SpellsDesign (files design) d × HasFewClauses d n × (length (files proof) ≤ limit_of file.Proof)
+IsUnrefused files (Some (verify n conflicts ticks design proof)) =
+    (d : Station) × SpellsDesign (files design) d × HasFewClauses d n
+IsUnrefused files (Some (check n design proof)) =
+    (d : Station) × SpellsDesign (files design) d × HasFewClauses d n
+    × (length (files proof) ≤ limit_of file.Proof)
 IsUnrefused files (Some (trial seed size)) = HasRoutes (made seed size) × HasFewClauses (made seed size) (2 * size)
 
 -- ---- what a run comes to then
@@ -77,6 +81,9 @@ abbrev pub ComesTo : Files → Option Asked → Status → Type 0
 ComesTo files None s = ⊥
 ComesTo files (Some (simulate design plan)) s = IsVerdict s
 ComesTo files (Some (routes design)) s = s ≡ status.Done
-ComesTo files (Some (verify n conflicts ticks design proof)) s = IsVerdict s ⊎ ((d : Station) × (design_of (files design) ≡ Ok d) × SpendsBudget d n (budgets_of conflicts ticks) s)
+ComesTo files (Some (verify n conflicts ticks design proof)) s =
+    IsVerdict s
+    ⊎ ((d : Station) × (design_of (files design) ≡ Ok d) × SpendsBudget d n (budgets_of conflicts ticks) s)
 ComesTo files (Some (check n design proof)) s = IsVerdict s
-ComesTo files (Some (trial seed size)) s = IsVerdict s ⊎ SpendsBudget (made seed size) (2 * size) (budgets_of trial_conflicts trial_ticks) s
+ComesTo files (Some (trial seed size)) s =
+    IsVerdict s ⊎ SpendsBudget (made seed size) (2 * size) (budgets_of trial_conflicts trial_ticks) s

@@ -1,16 +1,14 @@
 //! A proof checked against a design.
 
-ghost use Rattle.std.specs.Prelude.{◌≡◌, ◌≤◌, [], ◌∷◌, true, length, IfOk, OnOk, Some, ℕ, List};
+ghost use Rattle.std.specs.Prelude.{◌≡◌, ◌≤◌, [], ◌∷◌, true, IfOk, Some, ℕ, List};
 ghost use Rattle.rail_outside.specs.Asks.{fetched};
 ghost use Rattle.rail_outside.specs.Files.{Files};
 ghost use Rattle.rail_outside.specs.Growth.{Rose, GrowsByFront};
 ghost use Rattle.rail_spec.specs.Track.{routes_of};
-ghost use Rattle.log_checker.specs.declared.shown.Shown.{Shown};
-ghost use Rattle.proof_judge.specs.Judged.{judged};
 ghost use Rattle.plan_encoding.specs.Bases.{IsBaseOf};
 ghost use Rattle.rail_cli.specs.Statuses.{is_verdict};
 ghost use Rattle.rail_cli.specs.Answers.{with_clauses, told, with_proof, checked};
-ghost use Rattle.rail_cli.specs.Replies.{reply_seen, Reads, RefusesFile, OnlyRefuses, Replies, RepliesSome};
+ghost use Rattle.rail_cli.specs.Replies.{Reads, RefusesFile, OnlyRefuses, Replies, RepliesSome, Tells};
 ghost use Rattle.rail_words.specs.Requests.{check};
 
 use crate::ending::Ending;
@@ -30,9 +28,9 @@ use std::alloc::{AllocError, Global};
 
 /// The clauses of a design, for plans of up to so many steps.
 fn encode(alloc: Global, interlocking: &Interlocking, steps: Steps) -> Result<Base, Ending>
-    ensures reads { Reads (λ _. interlocking.now.design.station) result (with_clauses steps.count interlocking.now.design.station) }
+    ensures reads { let d = interlocking.now.design.station in Reads (λ _. d) result (with_clauses steps.count d) }
     ensures refuses { OnlyRefuses result }
-    ensures base { IfOk result (IsBaseOf interlocking.now.design.station (routes_of interlocking.now.design.station) steps.count) }
+    ensures base { let d = interlocking.now.design.station in IfOk result (IsBaseOf d (routes_of d) steps.count) }
 {
     match base(alloc, interlocking, steps) {
         Ok(base) => Ok(base),
@@ -43,7 +41,7 @@ fn encode(alloc: Global, interlocking: &Interlocking, steps: Steps) -> Result<Ba
 
 /// What a proof file shows, in a line.
 fn tell(alloc: Global, shown: Shown) -> Result<Reply, AllocError>
-    ensures told { IfOk result (λ reply. reply_seen reply ≡ told shown) }
+    ensures told { Tells result (told shown) }
     ensures verdict { IfOk result (λ reply. is_verdict reply.status ≡ true) }
 {
     match shown {
@@ -60,7 +58,8 @@ fn checked_proof<S: Shelf>(
     steps: Steps,
     proof: &str,
 ) -> Result<Reply, Ending>
-    ensures replies { (files : Files) → S.held shelf.old ≡ Some files → Replies result (with_proof steps.count interlocking.now.design.station (files proof.now)) }
+    ensures replies { (files : Files) → S.held shelf.old ≡ Some files
+        → Replies result (with_proof steps.count interlocking.now.design.station (files proof.now)) }
     ensures some { (bytes : List ℕ) × Replies result (with_proof steps.count interlocking.now.design.station bytes) }
     ensures verdict { IfOk result (λ reply. is_verdict reply.status ≡ true) }
     ensures refuses { RefusesFile result }
@@ -86,7 +85,8 @@ pub(crate) fn checked<S: Shelf>(
 ) -> Result<Reply, Ending>
     requires some { 1 ≤ steps }
     requires most { steps ≤ 64 }
-    ensures replies { (files : Files) → S.held shelf.old ≡ Some files → Replies result (checked steps (files design.now) (files proof.now)) }
+    ensures replies { (files : Files) → S.held shelf.old ≡ Some files
+        → Replies result (checked steps (files design.now) (files proof.now)) }
     ensures some { RepliesSome result (Some (check steps design.now proof.now)) }
     ensures verdict { IfOk result (λ reply. is_verdict reply.status ≡ true) }
     ensures refuses { RefusesFile result }

@@ -1,18 +1,16 @@
 //! The routes of a design, listed.
 
-ghost use Rattle.std.specs.Prelude.{◌≡◌, ◌≤◌, ◌++◌, [], ◌∷◌, ℕ, true, IfOk, OnOk, Some};
+ghost use Rattle.std.specs.Prelude.{◌≡◌, ◌≤◌, ◌++◌, [], ◌∷◌, true, IfOk, OnOk, Some};
 ghost use Rattle.std.specs.List.{flat_map};
-ghost use Rattle.rail_base.specs.declared.station.SectionNo.{SectionNo};
 ghost use Rattle.rail_outside.specs.Asks.{fetched};
 ghost use Rattle.rail_outside.specs.Files.{Files};
 ghost use Rattle.rail_outside.specs.Growth.{Rose, GrowsByFront};
 ghost use Rattle.rail_outside.specs.Lines.{lines_of};
-ghost use Rattle.rail_spec.specs.Track.{routes_of};
 ghost use Rattle.rail_words.specs.Requests.{routes};
 ghost use Rattle.rail_cli.specs.Statuses.{is_verdict};
 ghost use Rattle.rail_cli.specs.Answers.{listed, routes_listed};
 ghost use Rattle.rail_cli.specs.Listings.{start_text, finish_text, release_text, route_line, routes_text};
-ghost use Rattle.rail_cli.specs.Replies.{reply_seen, RefusesFile, Replies, RepliesSome};
+ghost use Rattle.rail_cli.specs.Replies.{RefusesFile, Replies, RepliesSome, Tells};
 
 use crate::ending::Ending;
 use crate::input::InputFile;
@@ -129,7 +127,7 @@ fn route_lines(alloc: Global, design: &Design, routes: &[Route]) -> Result<Vec<V
 
 /// The routes of a design.
 fn list(alloc: Global, interlocking: &Interlocking) -> Result<Reply, AllocError>
-    ensures listed { IfOk result (λ reply. reply_seen reply ≡ listed interlocking.now.design.station) }
+    ensures listed { Tells result (listed interlocking.now.design.station) }
     ensures verdict { IfOk result (λ reply. is_verdict reply.status ≡ true) }
 {
     Ok(Reply {
@@ -144,7 +142,8 @@ pub(crate) fn routes_listed<S: Shelf>(
     shelf: &mut S,
     design: &str,
 ) -> Result<Reply, Ending>
-    ensures replies { (files : Files) → S.held shelf.old ≡ Some files → Replies result (routes_listed (files design.now)) }
+    ensures replies { (files : Files) → S.held shelf.old ≡ Some files
+        → Replies result (routes_listed (files design.now)) }
     ensures some { RepliesSome result (Some (routes design.now)) }
     ensures verdict { IfOk result (λ reply. is_verdict reply.status ≡ true) }
     ensures refuses { RefusesFile result }

@@ -26,7 +26,8 @@ pub(crate) fn fetch<S: Shelf>(
     file: InputFile,
     name: &str,
 ) -> Result<Vec<u8>, Ending>
-    ensures reads { (files : Files) → S.held shelf.old ≡ Some files → Reads (λ v. v.items) result (within_limit file (files name.now)) }
+    ensures reads { (files : Files) → S.held shelf.old ≡ Some files
+        → Reads (λ v. v.items) result (within_limit file (files name.now)) }
     ensures some { (bytes : List ℕ) × Reads (λ v. v.items) result (within_limit file bytes) }
     ensures refuses { RefusesFile result }
     ensures cause { result ≡ Err Ending.ShelfFault → Rose (S.fault_count shelf.old) (S.fault_count shelf.new) }

@@ -1,10 +1,11 @@
 //! Replies of one line.
 
-ghost use Rattle.std.specs.Prelude.{◌≡◌, true, IfOk};
+ghost use Rattle.std.specs.Prelude.{◌≡◌, true};
 ghost use Rattle.rail_cli.specs.Statuses.{is_answered};
-ghost use Rattle.rail_cli.specs.Texts.{usage_line, too_long_line, design_refused_line, too_large_line, plan_refused_line};
+ghost use Rattle.rail_cli.specs.Texts.{usage_line, too_long_line, design_refused_line, too_large_line};
+ghost use Rattle.rail_cli.specs.Texts.{plan_refused_line};
 ghost use Rattle.rail_cli.specs.Answers.{one_line};
-ghost use Rattle.rail_cli.specs.Replies.{reply_seen, ended};
+ghost use Rattle.rail_cli.specs.Replies.{ended, Tells};
 
 use crate::ending::Ending;
 use crate::input::InputFile;
@@ -22,7 +23,7 @@ use std::alloc::{AllocError, Global};
 /// A reply of one line.
 pub(crate) fn one_line(alloc: Global, status: Status, line: Vec<u8>) -> Result<Reply, AllocError>
     requires { is_answered status ≡ true }
-    ensures { IfOk result (λ reply. reply_seen reply ≡ one_line status line.items) }
+    ensures { Tells result (one_line status line.items) }
 {
     let mut lines = Vec::new(alloc);
     lines.push(line)?;
@@ -31,21 +32,21 @@ pub(crate) fn one_line(alloc: Global, status: Status, line: Vec<u8>) -> Result<R
 
 /// The words ask for nothing.
 pub(crate) fn usage(alloc: Global) -> Result<Reply, AllocError>
-    ensures { IfOk result (λ reply. reply_seen reply ≡ one_line Status.Usage usage_line) }
+    ensures { Tells result (one_line Status.Usage usage_line) }
 {
     one_line(alloc, Status::Usage, usage_line(alloc)?)
 }
 
 /// A file is longer than its limit.
 pub(crate) fn too_long(alloc: Global, file: InputFile) -> Result<Reply, AllocError>
-    ensures { IfOk result (λ reply. reply_seen reply ≡ one_line Status.TooLong (too_long_line file)) }
+    ensures { Tells result (one_line Status.TooLong (too_long_line file)) }
 {
     one_line(alloc, Status::TooLong, too_long_line(alloc, file)?)
 }
 
 /// The design is refused.
 pub(crate) fn design_refused(alloc: Global, code: Code, place: Place) -> Result<Reply, AllocError>
-    ensures { IfOk result (λ reply. reply_seen reply ≡ one_line Status.DesignRefused (design_refused_line code place)) }
+    ensures { Tells result (one_line Status.DesignRefused (design_refused_line code place)) }
 {
     one_line(
         alloc,
@@ -56,7 +57,7 @@ pub(crate) fn design_refused(alloc: Global, code: Code, place: Place) -> Result<
 
 /// The clauses of the design are too many.
 pub(crate) fn too_large(alloc: Global) -> Result<Reply, AllocError>
-    ensures { IfOk result (λ reply. reply_seen reply ≡ one_line Status.DesignRefused too_large_line) }
+    ensures { Tells result (one_line Status.DesignRefused too_large_line) }
 {
     one_line(alloc, Status::DesignRefused, too_large_line(alloc)?)
 }
@@ -68,7 +69,7 @@ pub(crate) fn plan_refused(
     code: PlanCode,
     place: PlanPlace,
 ) -> Result<Reply, AllocError>
-    ensures { IfOk result (λ reply. reply_seen reply ≡ one_line Status.PlanRefused (plan_refused_line design.now.station code place)) }
+    ensures { Tells result (one_line Status.PlanRefused (plan_refused_line design.now.station code place)) }
 {
     one_line(
         alloc,

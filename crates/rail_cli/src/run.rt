@@ -13,7 +13,8 @@ ghost use Rattle.rail_cli.specs.Statuses.{is_answered};
 ghost use Rattle.rail_cli.specs.Answers.{answer_of, asks_to, asks_of};
 ghost use Rattle.rail_cli.specs.Checks.{Checks, TellsInfeasible};
 ghost use Rattle.rail_cli.specs.Prints.{Prints, PrintsSome};
-ghost use Rattle.rail_cli.specs.Replies.{reply_seen, OnEnd, OnReply, RefusesFile, RepliesSo, RepliesSome, DecidesRequest, Tries};
+ghost use Rattle.rail_cli.specs.Replies.{reply_seen, OnEnd, OnReply, RefusesFile, RepliesSo, RepliesSome};
+ghost use Rattle.rail_cli.specs.Replies.{DecidesRequest, Tries};
 ghost use Rattle.rail_cli.specs.Searches.{Finds, Leaves, Searches, TellsNone, TellsPlan};
 ghost use Rattle.rail_cli.specs.Simulations.{Simulates, TellsFeasible, DoneWhereFeasible};
 ghost use Rattle.rail_cli.specs.Trials.{TellsTrial};
@@ -35,12 +36,14 @@ use std::alloc::Global;
 /// The reply to a request.
 fn requested<S: Shelf>(alloc: Global, shelf: &mut S, request: Request<'_>) -> Result<Reply, Ending>
     requires range { IsInRange (asked_of request) }
-    ensures replies { (files : Files) → S.held shelf.old ≡ Some files → RepliesSo result files (Some (asked_of request.entry)) }
+    ensures replies { (files : Files) → S.held shelf.old ≡ Some files
+        → RepliesSo result files (Some (asked_of request.entry)) }
     ensures some { RepliesSome result (Some (asked_of request.entry)) }
     ensures no_usage { IfOk result (λ reply. reply.status ≢ Status.Usage) }
     ensures refuses { RefusesFile result }
     ensures tries { Tries (Some (asked_of request.entry)) result }
-    ensures decides { (files : Files) → S.held shelf.old ≡ Some files → DecidesRequest files (asked_of request.entry) result }
+    ensures decides { (files : Files) → S.held shelf.old ≡ Some files
+        → DecidesRequest files (asked_of request.entry) result }
     ensures cause { result ≡ Err Ending.ShelfFault → Rose (S.fault_count shelf.old) (S.fault_count shelf.new) }
     ensures never_falls { S.fault_count shelf.old ≤ S.fault_count shelf.new }
     ensures held { OnEnd result (λ s. Leaves (Some (asked_of request.entry)) s (S.held shelf.old) (S.held shelf.new)) }
@@ -74,14 +77,17 @@ fn requested<S: Shelf>(alloc: Global, shelf: &mut S, request: Request<'_>) -> Re
 
 /// The reply to the words of a command line.
 fn reply<S: Shelf>(alloc: Global, words: &[String], shelf: &mut S) -> Result<Reply, Ending>
-    ensures replies { (files : Files) → S.held shelf.old ≡ Some files → RepliesSo result files (request_of (texts_of words.now)) }
+    ensures replies { (files : Files) → S.held shelf.old ≡ Some files
+        → RepliesSo result files (request_of (texts_of words.now)) }
     ensures some { RepliesSome result (request_of (texts_of words.now)) }
     ensures tries { Tries (request_of (texts_of words.now)) result }
-    ensures done { (files : Files) → S.held shelf.old ≡ Some files → OnReply result (λ reply. DoneWhereFeasible files (texts_of words.now) reply.status) }
+    ensures done { (files : Files) → S.held shelf.old ≡ Some files
+        → OnReply result (λ reply. DoneWhereFeasible files (texts_of words.now) reply.status) }
     ensures usage { OnReply result (λ reply. (reply.status ≡ Status.Usage) ↔ (request_of (texts_of words.now) ≡ None)) }
     ensures cause { result ≡ Err Ending.ShelfFault → Rose (S.fault_count shelf.old) (S.fault_count shelf.new) }
     ensures never_falls { S.fault_count shelf.old ≤ S.fault_count shelf.new }
-    ensures held { OnEnd result (λ s. Leaves (request_of (texts_of words.now)) s (S.held shelf.old) (S.held shelf.new)) }
+    ensures held { OnEnd result (λ s.
+        Leaves (request_of (texts_of words.now)) s (S.held shelf.old) (S.held shelf.new)) }
     ensures asks { GrowsByFront (S.asked shelf.old) (S.asked shelf.new) (asks_of (texts_of words.now)) }
 {
     match read_words(alloc, words) {
@@ -93,7 +99,8 @@ fn reply<S: Shelf>(alloc: Global, words: &[String], shelf: &mut S) -> Result<Rep
 
 /// Prints a reply, and tells how the run ends.
 fn print<O: Sink>(reply: &Reply, out: &mut O) -> Status
-    ensures prints { Prints (reply_seen reply.now) result (O.written out.old) (O.written out.new) (O.puts out.old) (O.puts out.new) }
+    ensures prints { Prints (reply_seen reply.now) result
+        (O.written out.old) (O.written out.new) (O.puts out.old) (O.puts out.new) }
     ensures cause { result ≡ Status.SinkFault → Rose (O.fault_count out.old) (O.fault_count out.new) }
     ensures no_shelf { result ≢ Status.ShelfFault }
     ensures never_falls { O.fault_count out.old ≤ O.fault_count out.new }
@@ -116,25 +123,39 @@ pub fn run_words<S: Shelf, O: Sink>(
     shelf: &mut S,
     out: &mut O,
 ) -> Status
-    ensures answer { (files : Files) → S.held shelf.old ≡ Some files → (found : Outcome) × Finds files (request_of (texts_of words.now)) found × Prints (answer_of files found (texts_of words.now)) result (O.written out.old) (O.written out.new) (O.puts out.old) (O.puts out.new) }
+    ensures answer { (files : Files) → S.held shelf.old ≡ Some files → (found : Outcome)
+        × Finds files (request_of (texts_of words.now)) found
+        × Prints (answer_of files found (texts_of words.now)) result
+        (O.written out.old) (O.written out.new) (O.puts out.old) (O.puts out.new) }
 
     // Over any shelf, also one that tells nothing, that answer is printed for some bytes of the files.
     ensures for_some_files { PrintsSome (request_of (texts_of words.now)) result
         (O.written out.old) (O.written out.new) (O.puts out.old) (O.puts out.new) }
 
     // A simulation answers yes exactly where the plan is feasible, and a check only where the design has no plan.
-    ensures met { (files : Files) → S.held shelf.old ≡ Some files → (d : Station) (plan : List (List Command)) → Simulates files (texts_of words.now) d plan → is_answered result ≡ true → TellsFeasible d plan result (O.written out.old) (O.written out.new) }
-    ensures infeasible { (files : Files) → S.held shelf.old ≡ Some files → (n : ℕ) (d : Station) → Checks files (texts_of words.now) n d → result ≡ Status.Done → TellsInfeasible n d (O.written out.old) (O.written out.new) }
+    ensures met { (files : Files) → S.held shelf.old ≡ Some files → (d : Station) (plan : List (List Command))
+        → Simulates files (texts_of words.now) d plan → is_answered result ≡ true
+        → TellsFeasible d plan result (O.written out.old) (O.written out.new) }
+    ensures infeasible { (files : Files) → S.held shelf.old ≡ Some files → (n : ℕ) (d : Station)
+        → Checks files (texts_of words.now) n d → result ≡ Status.Done
+        → TellsInfeasible n d (O.written out.old) (O.written out.new) }
 
     // A search prints a plan only where it is feasible, and that there is none only where there is none.
-    ensures planned { (files : Files) → S.held shelf.old ≡ Some files → (n : ℕ) (d : Station) → Searches files (texts_of words.now) n d → result ≡ Status.Done → TellsPlan n d (O.written out.old) (O.written out.new) }
-    ensures proven { (files : Files) → S.held shelf.old ≡ Some files → (n : ℕ) (d : Station) → (s : Searches files (texts_of words.now) n d) → result ≡ Status.No → TellsNone files s.design_name s.proof_name n d (O.written out.old) (O.written out.new) (S.held shelf.new) }
+    ensures planned { (files : Files) → S.held shelf.old ≡ Some files → (n : ℕ) (d : Station)
+        → Searches files (texts_of words.now) n d → result ≡ Status.Done
+        → TellsPlan n d (O.written out.old) (O.written out.new) }
+    ensures proven { (files : Files) → S.held shelf.old ≡ Some files → (n : ℕ) (d : Station)
+        → (s : Searches files (texts_of words.now) n d) → result ≡ Status.No
+        → TellsNone files s.design_name s.proof_name n d (O.written out.old) (O.written out.new) (S.held shelf.new) }
 
     // A trial asks nothing of the shelf, so this holds over any.
-    ensures tried { (seed size : ℕ) → request_of (texts_of words.now) ≡ Some (trial seed size) → TellsTrial seed size result (O.written out.old) (O.written out.new) }
+    ensures tried { (seed size : ℕ) → request_of (texts_of words.now) ≡ Some (trial seed size)
+        → TellsTrial seed size result (O.written out.old) (O.written out.new) }
 
     // Where nothing is refused, a run comes to a verdict, unless a search has spent a budget.
-    ensures comes_to { (files : Files) → S.held shelf.old ≡ Some files → IsUnrefused files (request_of (texts_of words.now)) → is_answered result ≡ true → ComesTo files (request_of (texts_of words.now)) result }
+    ensures comes_to { (files : Files) → S.held shelf.old ≡ Some files
+        → IsUnrefused files (request_of (texts_of words.now)) → is_answered result ≡ true
+        → ComesTo files (request_of (texts_of words.now)) result }
     ensures usage { is_answered result ≡ true → (result ≡ Status.Usage) ↔ AsksForNothing (texts_of words.now) }
 
     // A fault comes only where its side has counted one.

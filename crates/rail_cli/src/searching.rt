@@ -5,15 +5,16 @@ ghost use Rattle.rail_outside.specs.Asks.{fetched, stored};
 ghost use Rattle.rail_outside.specs.Files.{Files};
 ghost use Rattle.rail_outside.specs.Growth.{Rose, GrowsByFront};
 ghost use Rattle.rail_outside.specs.Lines.{lines_of};
-ghost use Rattle.rail_spec.specs.Track.{routes_of};
 ghost use Rattle.rail_words.specs.Requests.{verify};
 ghost use Rattle.verify_loop.specs.declared.outcome.Outcome.{Outcome};
 ghost use Rattle.verify_loop.specs.Outcomes.{Says, Fits};
 ghost use Rattle.rail_cli.specs.Answers.{design_in, one_line, plan_told, searched_in, told_outcome};
 ghost use Rattle.rail_cli.specs.Shows.{shown_by};
-ghost use Rattle.rail_cli.specs.Replies.{reply_seen, KeepsLog, OnEnd, OnlyFails, RefusesFile, Replies, RepliesSo, RepliesSome, StoresFile};
+ghost use Rattle.rail_cli.specs.Replies.{KeepsLog, OnEnd, OnlyFails, RefusesFile, Replies, RepliesSo};
+ghost use Rattle.rail_cli.specs.Replies.{RepliesSome, StoresFile, Tells};
 ghost use Rattle.rail_cli.specs.Searches.{budgets_of, SearchLeaves};
-ghost use Rattle.rail_cli.specs.Texts.{limit_of, plan_steps_line, plan_line, infeasible_line, conflicts_spent_line, ticks_spent_line, log_spent_line};
+ghost use Rattle.rail_cli.specs.Texts.{limit_of, plan_steps_line, plan_line, infeasible_line, conflicts_spent_line};
+ghost use Rattle.rail_cli.specs.Texts.{ticks_spent_line, log_spent_line};
 
 use crate::ending::Ending;
 use crate::input::InputFile;
@@ -47,7 +48,8 @@ pub(crate) fn budgets(conflicts: u64, ticks: u64) -> Budgets
 
 /// The lines of a plan, before its timetable.
 fn plan_lines(alloc: Global, design: &Design, plan: &Plan) -> Result<Vec<Vec<u8>>, AllocError>
-    ensures { IfOk result (λ lines. lines_of lines.items ≡ plan_steps_line (length plan.now.steps) ∷ plan_line design.now.station plan.now.steps ∷ []) }
+    ensures { IfOk result (λ lines. lines_of lines.items
+        ≡ plan_steps_line (length plan.now.steps) ∷ plan_line design.now.station plan.now.steps ∷ []) }
 {
     let mut lines = Vec::new(alloc);
     lines.push(plan_steps_line(alloc, plan)?)?;
@@ -63,7 +65,7 @@ fn plan_found(
     verdict: &Verdict,
 ) -> Result<Reply, AllocError>
     requires { verdict.now ≡ shown_by design.now.station plan.now.steps }
-    ensures { IfOk result (λ reply. reply_seen reply ≡ plan_told design.now.station plan.now.steps) }
+    ensures { Tells result (plan_told design.now.station plan.now.steps) }
 {
     let mut lines = plan_lines(alloc, design, plan)?;
     let mut timetable = timetable_lines(alloc, design, verdict)?;
@@ -76,14 +78,14 @@ fn plan_found(
 
 /// There is no plan of so many steps.
 fn infeasible(alloc: Global, steps: u32) -> Result<Reply, AllocError>
-    ensures { IfOk result (λ reply. reply_seen reply ≡ one_line Status.No (infeasible_line steps)) }
+    ensures { Tells result (one_line Status.No (infeasible_line steps)) }
 {
     one_line(alloc, Status::No, infeasible_line(alloc, steps)?)
 }
 
 /// As many clauses were derived as were allowed.
 fn conflicts_spent(alloc: Global, conflicts: u64) -> Result<Reply, AllocError>
-    ensures { IfOk result (λ reply. reply_seen reply ≡ one_line Status.ConflictsSpent (conflicts_spent_line conflicts)) }
+    ensures { Tells result (one_line Status.ConflictsSpent (conflicts_spent_line conflicts)) }
 {
     one_line(
         alloc,
@@ -94,7 +96,7 @@ fn conflicts_spent(alloc: Global, conflicts: u64) -> Result<Reply, AllocError>
 
 /// The next plan takes more ticks than are left.
 fn ticks_spent(alloc: Global, sum: u64, ticks: u64) -> Result<Reply, AllocError>
-    ensures { IfOk result (λ reply. reply_seen reply ≡ one_line Status.TicksSpent (ticks_spent_line sum ticks)) }
+    ensures { Tells result (one_line Status.TicksSpent (ticks_spent_line sum ticks)) }
 {
     one_line(
         alloc,
@@ -105,7 +107,7 @@ fn ticks_spent(alloc: Global, sum: u64, ticks: u64) -> Result<Reply, AllocError>
 
 /// The next line of the log has no room.
 fn log_spent(alloc: Global, bytes: u64, next: u64) -> Result<Reply, AllocError>
-    ensures { IfOk result (λ reply. reply_seen reply ≡ one_line Status.LogSpent (log_spent_line bytes next)) }
+    ensures { Tells result (one_line Status.LogSpent (log_spent_line bytes next)) }
 {
     one_line(alloc, Status::LogSpent, log_spent_line(alloc, bytes, next)?)
 }
@@ -119,7 +121,7 @@ fn tell(
     found: &Outcome,
 ) -> Result<Reply, AllocError>
     requires { Says design.now.station steps budgets found.now }
-    ensures { IfOk result (λ reply. reply_seen reply ≡ told_outcome design.now.station steps budgets.conflicts budgets.ticks found.now) }
+    ensures { Tells result (told_outcome design.now.station steps budgets.conflicts budgets.ticks found.now) }
 {
     match found {
         Outcome::Plan { plan, verdict } => plan_found(alloc, design, plan, verdict),
@@ -134,7 +136,8 @@ fn tell(
 
 /// Puts bytes under a name of the shelf.
 fn store<S: Shelf>(shelf: &mut S, name: &str, bytes: &[u8]) -> Result<(), Ending>
-    ensures held { (files : Files) → S.held shelf.old ≡ Some files → StoresFile result files name.now bytes.now (S.held shelf.new) }
+    ensures held { (files : Files) → S.held shelf.old ≡ Some files
+        → StoresFile result files name.now bytes.now (S.held shelf.new) }
     ensures fails { OnlyFails result }
     ensures cause { result ≡ Err Ending.ShelfFault → Rose (S.fault_count shelf.old) (S.fault_count shelf.new) }
     ensures never_falls { S.fault_count shelf.old ≤ S.fault_count shelf.new }
@@ -149,7 +152,8 @@ fn store<S: Shelf>(shelf: &mut S, name: &str, bytes: &[u8]) -> Result<(), Ending
 
 /// Stores the log of a search under a name, where it shows that there is no plan; else nothing.
 fn keep<S: Shelf>(shelf: &mut S, name: &str, found: &Outcome) -> Result<(), Ending>
-    ensures held { (files : Files) → S.held shelf.old ≡ Some files → KeepsLog result files name.now found.now (S.held shelf.new) }
+    ensures held { (files : Files) → S.held shelf.old ≡ Some files
+        → KeepsLog result files name.now found.now (S.held shelf.new) }
     ensures fails { OnlyFails result }
     ensures cause { result ≡ Err Ending.ShelfFault → Rose (S.fault_count shelf.old) (S.fault_count shelf.new) }
     ensures never_falls { S.fault_count shelf.old ≤ S.fault_count shelf.new }
@@ -177,7 +181,9 @@ fn settle<S: Shelf>(
     ensures replies { Replies result (told_outcome design.now.station steps budgets.conflicts budgets.ticks found.now) }
     ensures no_usage { IfOk result (λ reply. reply.status ≢ Status.Usage) }
     ensures refuses { RefusesFile result }
-    ensures held { (files : Files) (name : List ℕ) → S.held shelf.old ≡ Some files → design_in (files name) ≡ Ok design.now.station → OnEnd result (λ s. SearchLeaves files steps name proof.now s (S.held shelf.new)) }
+    ensures held { (files : Files) (name : List ℕ) → S.held shelf.old ≡ Some files
+        → design_in (files name) ≡ Ok design.now.station
+        → OnEnd result (λ s. SearchLeaves files steps name proof.now s (S.held shelf.new)) }
     ensures cause { result ≡ Err Ending.ShelfFault → Rose (S.fault_count shelf.old) (S.fault_count shelf.new) }
     ensures never_falls { S.fault_count shelf.old ≤ S.fault_count shelf.new }
     ensures asks { GrowsByFront (S.asked shelf.old) (S.asked shelf.new) (stored proof.now ∷ []) }
@@ -197,10 +203,15 @@ fn searched_in<S: Shelf>(
     proof: &str,
 ) -> Result<Reply, Ending>
     requires room { budgets.log_bytes ≡ limit_of InputFile.Proof }
-    ensures replies { (found : Outcome) × Says interlocking.now.design.station steps.count budgets found × Fits interlocking.now.design.station steps.count found × Replies result (searched_in interlocking.now.design.station steps.count budgets.conflicts budgets.ticks found) }
+    ensures replies { (found : Outcome) × Says interlocking.now.design.station steps.count budgets found
+        × Fits interlocking.now.design.station steps.count found
+        × Replies result
+        (searched_in interlocking.now.design.station steps.count budgets.conflicts budgets.ticks found) }
     ensures no_usage { IfOk result (λ reply. reply.status ≢ Status.Usage) }
     ensures refuses { RefusesFile result }
-    ensures held { (files : Files) (name : List ℕ) → S.held shelf.old ≡ Some files → design_in (files name) ≡ Ok interlocking.now.design.station → OnEnd result (λ s. SearchLeaves files steps.count name proof.now s (S.held shelf.new)) }
+    ensures held { (files : Files) (name : List ℕ) → S.held shelf.old ≡ Some files
+        → design_in (files name) ≡ Ok interlocking.now.design.station
+        → OnEnd result (λ s. SearchLeaves files steps.count name proof.now s (S.held shelf.new)) }
     ensures cause { result ≡ Err Ending.ShelfFault → Rose (S.fault_count shelf.old) (S.fault_count shelf.new) }
     ensures never_falls { S.fault_count shelf.old ≤ S.fault_count shelf.new }
     ensures asks { GrowsByFront (S.asked shelf.old) (S.asked shelf.new) (stored proof.now ∷ []) }
@@ -230,11 +241,13 @@ pub(crate) fn searched<S: Shelf>(
     requires some { 1 ≤ steps }
     requires most { steps ≤ 64 }
     requires room { budgets.log_bytes ≡ limit_of InputFile.Proof }
-    ensures replies { (files : Files) → S.held shelf.old ≡ Some files → RepliesSo result files (Some (verify steps budgets.conflicts budgets.ticks design.now proof.now)) }
+    ensures replies { (files : Files) → S.held shelf.old ≡ Some files
+        → RepliesSo result files (Some (verify steps budgets.conflicts budgets.ticks design.now proof.now)) }
     ensures some { RepliesSome result (Some (verify steps budgets.conflicts budgets.ticks design.now proof.now)) }
     ensures no_usage { IfOk result (λ reply. reply.status ≢ Status.Usage) }
     ensures refuses { RefusesFile result }
-    ensures held { (files : Files) → S.held shelf.old ≡ Some files → OnEnd result (λ s. SearchLeaves files steps design.now proof.now s (S.held shelf.new)) }
+    ensures held { (files : Files) → S.held shelf.old ≡ Some files
+        → OnEnd result (λ s. SearchLeaves files steps design.now proof.now s (S.held shelf.new)) }
     ensures cause { result ≡ Err Ending.ShelfFault → Rose (S.fault_count shelf.old) (S.fault_count shelf.new) }
     ensures never_falls { S.fault_count shelf.old ≤ S.fault_count shelf.new }
     ensures asks { GrowsByFront (S.asked shelf.old) (S.asked shelf.new) (fetched design.now ∷ stored proof.now ∷ []) }

@@ -1,19 +1,19 @@
 //! A plan simulated over a design.
 
-ghost use Rattle.std.specs.Prelude.{◌≡◌, ◌≤◌, ◌↔◌, [], ◌∷◌, true, length, IfOk, OnOk, Some, ℕ};
-ghost use Rattle.rail_base.specs.Stations.{horizon};
+ghost use Rattle.std.specs.Prelude.{◌≡◌, ◌≤◌, ◌↔◌, [], ◌∷◌, true, IfOk, OnOk, Some};
 ghost use Rattle.rail_outside.specs.Asks.{fetched};
 ghost use Rattle.rail_outside.specs.Files.{Files};
-ghost use Rattle.rail_outside.specs.Growth.{Rose, grown, GrowsByFront};
+ghost use Rattle.rail_outside.specs.Growth.{Rose, GrowsByFront};
 ghost use Rattle.rail_spec.specs.Feasible.{IsRunnable, IsFeasible};
 ghost use Rattle.rail_spec.specs.Track.{routes_of};
 ghost use Rattle.rail_cli.specs.Statuses.{is_verdict};
-ghost use Rattle.rail_cli.specs.Answers.{within_limit, design_in, plan_in, with_routes, design_or_answer, planned, shown, verdict_status, simulated};
+ghost use Rattle.rail_cli.specs.Answers.{plan_in, planned};
+ghost use Rattle.rail_cli.specs.Answers.{shown, verdict_status, simulated};
 ghost use Rattle.rail_cli.specs.Shows.{shown_by};
 ghost use Rattle.rail_cli.specs.Simulations.{RunsSafely};
-ghost use Rattle.rail_cli.specs.Replies.{reply_seen, Reads, RefusesFile, OnlyRefuses, Replies, RepliesSome, DecidesPlan, Decides};
+ghost use Rattle.rail_cli.specs.Replies.{Reads, RefusesFile, OnlyRefuses, Replies, RepliesSome};
+ghost use Rattle.rail_cli.specs.Replies.{DecidesPlan, Decides, Tells};
 ghost use Rattle.rail_words.specs.Requests.{simulate};
-ghost use Rattle.infra_reader.specs.Design.{design_of};
 
 use crate::ending::Ending;
 use crate::input::InputFile;
@@ -36,7 +36,8 @@ use timetable::timetable_lines;
 fn read_steps(alloc: Global, interlocking: &Interlocking, bytes: &[u8]) -> Result<Plan, Ending>
     ensures reads { Reads (λ p. p.steps) result (plan_in interlocking.now.design.station bytes.now) }
     ensures refuses { OnlyRefuses result }
-    ensures runnable { IfOk result (λ p. IsRunnable interlocking.now.design.station (routes_of interlocking.now.design.station) 64 p.steps) }
+    ensures runnable { let d = interlocking.now.design.station in
+        IfOk result (λ p. IsRunnable d (routes_of d) 64 p.steps) }
 {
     match read_plan(alloc, interlocking, bytes) {
         Ok(plan) => Ok(plan),
@@ -59,10 +60,11 @@ fn status_of(verdict: &Verdict) -> Status
 
 /// The timetable of a plan's run up to the horizon.
 fn show(alloc: Global, interlocking: &Interlocking, plan: &Plan) -> Result<Reply, AllocError>
-    requires runnable { IsRunnable interlocking.now.design.station (routes_of interlocking.now.design.station) 64 plan.now.steps }
-    ensures shown { IfOk result (λ reply. reply_seen reply ≡ shown interlocking.now.design.station (shown_by interlocking.now.design.station plan.now.steps)) }
+    requires runnable { let d = interlocking.now.design.station in IsRunnable d (routes_of d) 64 plan.now.steps }
+    ensures shown { let d = interlocking.now.design.station in Tells result (shown d (shown_by d plan.now.steps)) }
     ensures verdict { IfOk result (λ reply. is_verdict reply.status ≡ true) }
-    ensures exactly { IfOk result (λ reply. (reply.status ≡ Status.Done) ↔ IsFeasible interlocking.now.design.station 64 plan.now.steps) }
+    ensures exactly { IfOk result (λ reply. (reply.status ≡ Status.Done)
+        ↔ IsFeasible interlocking.now.design.station 64 plan.now.steps) }
     ensures safe { OnOk result (RunsSafely interlocking.now.design.station plan.now.steps) }
 {
     let verdict = simulate(alloc, interlocking, plan, interlocking.design.horizon())?;
@@ -91,11 +93,13 @@ pub(crate) fn simulated<S: Shelf>(
     design: &str,
     plan: &str,
 ) -> Result<Reply, Ending>
-    ensures replies { (files : Files) → S.held shelf.old ≡ Some files → Replies result (simulated (files design.now) (files plan.now)) }
+    ensures replies { (files : Files) → S.held shelf.old ≡ Some files
+        → Replies result (simulated (files design.now) (files plan.now)) }
     ensures some { RepliesSome result (Some (simulate design.now plan.now)) }
     ensures verdict { IfOk result (λ reply. is_verdict reply.status ≡ true) }
     ensures refuses { RefusesFile result }
-    ensures decides { (files : Files) → S.held shelf.old ≡ Some files → IfOk result (λ reply. Decides (files design.now) (files plan.now) reply.status) }
+    ensures decides { (files : Files) → S.held shelf.old ≡ Some files
+        → IfOk result (λ reply. Decides (files design.now) (files plan.now) reply.status) }
     ensures cause { result ≡ Err Ending.ShelfFault → Rose (S.fault_count shelf.old) (S.fault_count shelf.new) }
     ensures never_falls { S.fault_count shelf.old ≤ S.fault_count shelf.new }
     ensures files_stay { S.held shelf.new ≡ S.held shelf.old }

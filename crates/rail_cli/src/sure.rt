@@ -2,7 +2,6 @@
 
 ghost use Rattle.std.specs.Prelude.{◌≡◌, ◌≢◌, ◌++◌, Some};
 ghost use Rattle.std.specs.List.{concat};
-ghost use Rattle.rail_outside.specs.Growth.{GrowsByLines};
 ghost use Rattle.rail_outside.specs.Sure.{files_on, bytes_in};
 ghost use Rattle.rail_words.specs.Requests.{request_of};
 ghost use Rattle.rail_words.specs.Words.{texts_of};
@@ -23,10 +22,15 @@ pub fn run_words_surely(
     shelf: &mut SureShelf,
     out: &mut SureSink,
 ) -> Status
-    ensures answer { result ≢ Status.Memory → (found : Outcome) × Finds (files_on shelf.old) (request_of (texts_of words.now)) found × (result ≡ (answer_of (files_on shelf.old) found (texts_of words.now)).status) × (bytes_in out.new ≡ bytes_in out.old ++ concat (answer_of (files_on shelf.old) found (texts_of words.now)).lines) }
+    ensures answer { result ≢ Status.Memory → (found : Outcome)
+        × Finds (files_on shelf.old) (request_of (texts_of words.now)) found
+        × (result ≡ (answer_of (files_on shelf.old) found (texts_of words.now)).status)
+        × (bytes_in out.new
+        ≡ bytes_in out.old ++ concat (answer_of (files_on shelf.old) found (texts_of words.now)).lines) }
     ensures no_shelf_fault { result ≢ Status.ShelfFault }
     ensures no_sink_fault { result ≢ Status.SinkFault }
-    ensures files { Leaves (request_of (texts_of words.now)) result (Some (files_on shelf.old)) (Some (files_on shelf.new)) }
+    ensures files { Leaves (request_of (texts_of words.now)) result
+        (Some (files_on shelf.old)) (Some (files_on shelf.new)) }
 {
     run_words(alloc, words, shelf, out)
 }

@@ -2,7 +2,11 @@
 
 ghost use Rattle.std.specs.Prelude.{◌≡◌, ◌++◌, length, codes, decimal, IfOk, OnOk};
 ghost use Rattle.rail_spec.specs.Track.{routes_of};
-ghost use Rattle.rail_cli.specs.Texts.{usage_line, file_text, limit_of, too_long_line, code_text, entry_text, place_text, design_refused_line, too_large_line, yes_line, no_line, plan_steps_line, plan_line, infeasible_line, conflicts_spent_line, ticks_spent_line, log_spent_line, trial_line, counts_line, plan_tick_line, plan_code_text, step_text, train_text, plan_place_text, plan_refused_line};
+ghost use Rattle.rail_cli.specs.Texts.{usage_line, file_text, limit_of, too_long_line, code_text, entry_text};
+ghost use Rattle.rail_cli.specs.Texts.{place_text, design_refused_line, too_large_line, yes_line, no_line};
+ghost use Rattle.rail_cli.specs.Texts.{plan_steps_line, plan_line, infeasible_line, conflicts_spent_line};
+ghost use Rattle.rail_cli.specs.Texts.{ticks_spent_line, log_spent_line, trial_line, counts_line, plan_tick_line};
+ghost use Rattle.rail_cli.specs.Texts.{plan_code_text, step_text, train_text, plan_place_text, plan_refused_line};
 
 use crate::input::InputFile;
 use crate::names::{section_name, train_name};

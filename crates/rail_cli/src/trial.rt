@@ -9,7 +9,7 @@ ghost use Rattle.verify_loop.specs.Outcomes.{Says, Fits};
 ghost use Rattle.rail_cli.specs.Statuses.{is_answered};
 ghost use Rattle.rail_cli.specs.Answers.{trial_conflicts, trial_ticks, three_lines, told_trial};
 ghost use Rattle.rail_cli.specs.Shows.{shown_by};
-ghost use Rattle.rail_cli.specs.Replies.{reply_seen, deciding_tick, OnlyRefuses, RepliesTrial};
+ghost use Rattle.rail_cli.specs.Replies.{deciding_tick, OnlyRefuses, RepliesTrial, Tells};
 ghost use Rattle.rail_cli.specs.Searches.{budgets_of};
 ghost use Rattle.rail_cli.specs.Texts.{plan_tick_line};
 
@@ -47,7 +47,7 @@ fn told(
     last: Vec<u8>,
 ) -> Result<Reply, AllocError>
     requires answered { is_answered status ≡ true }
-    ensures { IfOk result (λ reply. reply_seen reply ≡ three_lines seed size interlocking.now.design.station status last.items) }
+    ensures { Tells result (three_lines seed size interlocking.now.design.station status last.items) }
 {
     let mut lines = Vec::new(alloc);
     lines.push(trial_line(alloc, seed, size)?)?;
@@ -76,7 +76,8 @@ fn found_line(
 ) -> Result<Vec<u8>, AllocError>
     requires feasible { IsFeasible design.now.station steps plan.now.steps }
     requires shown { verdict.now ≡ shown_by design.now.station plan.now.steps }
-    ensures { IfOk result (λ line. line.items ≡ plan_tick_line (length plan.now.steps) (cost design.now.station (routes_of design.now.station) plan.now.steps)) }
+    ensures { let d = design.now.station in IfOk result (λ line. line.items
+        ≡ plan_tick_line (length plan.now.steps) (cost d (routes_of d) plan.now.steps)) }
 {
     plan_tick_line(alloc, plan, deciding_tick(verdict))
 }
@@ -91,7 +92,7 @@ fn tell(
 ) -> Result<Reply, AllocError>
     requires high { size ≤ 6 }
     requires says { Says interlocking.now.design.station (2 * size) (budgets_of trial_conflicts trial_ticks) found.now }
-    ensures told { IfOk result (λ reply. reply_seen reply ≡ told_trial seed size interlocking.now.design.station found.now) }
+    ensures told { Tells result (told_trial seed size interlocking.now.design.station found.now) }
     ensures no_usage { IfOk result (λ reply. reply.status ≢ Status.Usage) }
 {
     match found {
@@ -136,7 +137,10 @@ fn tried_in(
 ) -> Result<Reply, AllocError>
     requires low { 1 ≤ size }
     requires high { size ≤ 6 }
-    ensures told { (found : Outcome) × Says interlocking.now.design.station (2 * size) (budgets_of trial_conflicts trial_ticks) found × Fits interlocking.now.design.station (2 * size) found × IfOk result (λ reply. reply_seen reply ≡ told_trial seed size interlocking.now.design.station found) }
+    ensures told { (found : Outcome)
+        × Says interlocking.now.design.station (2 * size) (budgets_of trial_conflicts trial_ticks) found
+        × Fits interlocking.now.design.station (2 * size) found
+        × Tells result (told_trial seed size interlocking.now.design.station found) }
     ensures no_usage { IfOk result (λ reply. reply.status ≢ Status.Usage) }
 {
     let steps = Steps { count: 2 * size };

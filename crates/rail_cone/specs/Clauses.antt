@@ -1,5 +1,6 @@
 -- What a cone says of all plans: a clause over what is used, and what is used earlier.
-use Rattle.std.specs.Prelude.{Bool, true, false, not, ◌&&◌, ◌||◌, if◌then◌else◌, List, [], ◌∷◌, ◌++◌, map, flat_map, nat_lt}
+use Rattle.std.specs.Prelude.{Bool, true, false, not, ◌&&◌, ◌||◌, if◌then◌else◌, List, [], ◌∷◌, ◌++◌, map, flat_map}
+use Rattle.std.specs.Prelude.{nat_lt}
 use Rattle.std.specs.List.{list_all}
 use Rattle.rail_base.specs.declared.station.Station.{Station}
 use Rattle.rail_base.specs.declared.station.TrainNo.{TrainNo}
@@ -52,8 +53,10 @@ module _ (d : Station) (routes : List Route) (k : Cone) where
   -- what the clause says of one command
   abbrev pub used_literals : Command → List Literal
   used_literals c =
+      let way = map (route_at routes) (named k c.train).path in
       if is_named k c then record { fact = Used c; negated = true } ∷ []
-      else if is_closed c.train && goes_further (map (route_at routes) (named k c.train).path) (route_at routes c.route) then record { fact = Used c; negated = false } ∷ []
+      else if is_closed c.train && goes_further way (route_at routes c.route)
+      then record { fact = Used c; negated = false } ∷ []
       else []
 
   -- what the clause says of the order of two commands

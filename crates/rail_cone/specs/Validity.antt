@@ -1,5 +1,6 @@
 -- Which cones are valid, and the first reason against one that is not.
-use Rattle.std.specs.Prelude.{ℕ, ◌+◌, ◌-◌, Bool, true, false, not, ◌&&◌, ◌||◌, ◌==◌, List, [], ◌∷◌, map, length, slice_get, nat_le, nat_lt, Option, None, Some, is_none}
+use Rattle.std.specs.Prelude.{ℕ, ◌+◌, ◌-◌, Bool, true, false, not, ◌&&◌, ◌||◌, ◌==◌, List, [], ◌∷◌, map, length}
+use Rattle.std.specs.Prelude.{slice_get, nat_le, nat_lt, Option, None, Some, is_none}
 use Rattle.std.specs.List.{list_any, list_all}
 use Rattle.rail_base.specs.declared.station.Station.{Station}
 use Rattle.rail_base.specs.declared.station.TrainNo.{TrainNo}
@@ -43,7 +44,8 @@ from_boundary (r ∷ rs) = is_boundary r.start
 
 -- routes in a row, from a boundary, that use no start twice
 abbrev pub is_way : List Route → Bool
-is_way rs = from_boundary rs && all_neighbors (λ r q. goes_on r.finish q.start) rs && all_pairs (λ r q. not (is_start r.start q.start)) rs
+is_way rs = from_boundary rs && all_neighbors (λ r q. goes_on r.finish q.start) rs
+    && all_pairs (λ r q. not (is_start r.start q.start)) rs
 
 -- the first test that fails, as a reason
 abbrev pub first_fault : Bool → Bool → Bool → Bool → Option ConeFault
@@ -115,9 +117,12 @@ module _ (d : Station) (routes : List Route) (k : Cone) where
   -- the command is listed before the train's first waiting one, and at the tick before the train's horizon it has a section of that one's unreleased
   abbrev pub holds_up : ConeTrain → Command → Option RouteNo → Bool
   holds_up c h None = false
-  holds_up c h (Some w) = let waiting : Command = record { train = c.train; route = w } in
+  holds_up c h (Some w) =
+      let waiting : Command = record { train = c.train; route = w } in
+      let states = state_at d routes (of_cone k) (c.horizon - 1) in
+      let sections = shared (route_at routes h.route) (route_at routes w) in
       is_listed k h waiting && nat_le c.horizon ((named k h.train).horizon + 1)
-      && list_any (λ z. not (has_released d routes (of_cone k) (state_at d routes (of_cone k) (c.horizon - 1)) h z)) (shared (route_at routes h.route) (route_at routes w))
+      && list_any (λ z. not (has_released d routes (of_cone k) states h z)) sections
 
   -- a train with a waiting command has a holder exactly where it is needed, and any other train has none
   abbrev pub holder_needed : ConeTrain → Bool
@@ -141,19 +146,26 @@ module _ (d : Station) (routes : List Route) (k : Cone) where
 
   -- the violation is certain in the cone's run
   abbrev pub shown : Violation → Bool
-  shown (violation.Path t j) = is_none (entry None (visits_on (train_of d t).visits (stops (map (route_at routes) (named k t).path))) j)
+  shown (violation.Path t j) =
+      let way = map (route_at routes) (named k t).path in
+      is_none (entry None (visits_on (train_of d t).visits (stops way)) j)
   shown (violation.Within w) = let within = within_of d w in
       at_its_tick (cone_visit (named k within.from_train).horizon within.from_train within.from_visit) (λ a.
-      nat_le (a + most_ticks d within) (named k within.to_train).horizon && is_none (cone_visit (a + most_ticks d within) within.to_train within.to_visit))
+      nat_le (a + most_ticks d within) (named k within.to_train).horizon
+      && is_none (cone_visit (a + most_ticks d within) within.to_train within.to_visit))
   shown (violation.Order o) = let order = order_of d o in
       at_its_tick (cone_visit (named k order.then_train).horizon order.then_train order.then_visit) (λ a.
-      nat_le a ((named k order.first_train).horizon + 1) && is_none (cone_visit (a - 1) order.first_train order.first_visit))
+      nat_le a ((named k order.first_train).horizon + 1)
+      && is_none (cone_visit (a - 1) order.first_train order.first_visit))
   shown (violation.Grant t j) = ((named k t).horizon == horizon d) && nat_lt (named k t).free j
   shown (violation.Visit t j) = ((named k t).horizon == horizon d) && is_none (cone_visit (horizon d) t j)
 
   -- the first reason that holds
   abbrev pub fault_of : Option ConeFault
-  fault_of = first_fault in_design (list_all free_granted k.trains) (list_all (λ c. held c c.holder) k.trains) (shown k.violation)
+  fault_of =
+      let granted = list_all free_granted k.trains in
+      let held_up = list_all (λ c. held c c.holder) k.trains in
+      first_fault in_design granted held_up (shown k.violation)
 
   -- no reason holds against the cone
   abbrev pub is_valid_cone : Bool

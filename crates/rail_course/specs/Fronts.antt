@@ -7,7 +7,11 @@ use Rattle.rail_course.specs.declared.fronts.Front.{Front}
 
 -- how many edges these routes have, how long they are, and whether one exits
 abbrev pub front_of : List Route → Front
-front_of rs = record { spans = length (flat_map (λ r. r.edges) rs); length = sum_by length_mm rs; exits = list_any exits rs }
+front_of rs = record {
+  spans = length (flat_map (λ r. r.edges) rs);
+  length = sum_by length_mm rs;
+  exits = list_any exits rs;
+}
 
 -- a front with one more route
 abbrev pub longer : Front → Route → Front

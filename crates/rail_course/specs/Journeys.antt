@@ -16,6 +16,7 @@ pub record IsJourney (d : Station) (routes : List Route) (plan : List (List Comm
   pub releasing : j.releases.items ≡ releases_of_train d routes plan j.course.now.train
 
 -- these are the journeys of all trains, in file order
-pub record AreJourneys (d : Station) (routes : List Route) (plan : List (List Command)) (js : List Journey) : Type 0 where
+pub record AreJourneys (d : Station) (routes : List Route) (plan : List (List Command))
+    (js : List Journey) : Type 0 where
   pub all : map (λ (j : Journey). j.course.now.train) js ≡ trains d
   pub each : All (IsJourney d routes plan) js

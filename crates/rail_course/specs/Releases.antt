@@ -19,7 +19,8 @@ module _ (d : Station) (routes : List Route) (plan : List (List Command)) where
     route = c.route;
     section = z;
     number = length (routes_before d routes plan c);
-    place = sum_by length_mm (routes_before d routes plan c) + release_offset (route_at routes c.route) z + train_length d c.train;
+    place = sum_by length_mm (routes_before d routes plan c)
+        + release_offset (route_at routes c.route) z + train_length d c.train;
   }
 
   -- the releases of one route of a train's path

@@ -23,7 +23,8 @@ module _ (d : Station) (routes : List Route) (plan : List (List Command)) where
   wait_for c e = record {
     train = e.train;
     number = length (routes_before d routes plan e);
-    place = sum_by length_mm (routes_before d routes plan e) + last_release (route_at routes e.route) (route_at routes c.route) + train_length d e.train;
+    place = sum_by length_mm (routes_before d routes plan e)
+        + last_release (route_at routes e.route) (route_at routes c.route) + train_length d e.train;
   }
 
   -- c's waits: for each command that precedes it

@@ -17,5 +17,7 @@ pub use courses::Courses;
 pub use fronts::Front;
 pub use itineraries::Itineraries;
 pub use journey::{Journey, Release};
+pub use motor::motor_of;
+pub use spans::spans_of;
 pub use stops::{stops_of, visits_of};
 pub use waits::Wait;

@@ -2,4 +2,5 @@
 pub mod Ranges
 pub mod Motor
 pub mod Track
+pub mod Permitted
 pub mod Braking

@@ -1,11 +1,13 @@
 //! The speeds that are permitted, the greatest of them, and the move that it makes.
 
-ghost use Rattle.std.specs.Prelude.{◌≡◌, ◌↔◌, ◌<◌, ◌≤◌, ◌-◌, ◌+◌, ◌^◌, ◌≤ℤ◌, ◌<ℤ◌, ◌+ℤ◌, nat_abs, pos, true};
+ghost use Rattle.std.specs.Prelude.{◌≡◌, ◌↔◌, ◌<◌, ◌≤◌, ◌+◌, ◌^◌, ◌≤ℤ◌, ◌<ℤ◌, ◌+ℤ◌, nat_abs, pos, true};
 ghost use Rattle.std.specs.Option.{ForSome};
 ghost use Rattle.rail_motion.specs.Motor.{rates_of};
-ghost use Rattle.rail_motion.specs.Track.{stretches_of, end_of};
+ghost use Rattle.rail_motion.specs.Track.{end_of};
 ghost use Rattle.rail_motion.specs.Ranges.{IsPlace, IsSpeed};
-ghost use Rattle.rail_spec.specs.Motion.{permitted, next_speed, reach, may_stop, KeepsLimits, IsPermitted, IsGreatestPermitted};
+ghost use Rattle.rail_spec.specs.Motion.{reach, may_stop};
+ghost use Rattle.rail_motion.specs.Permitted.{permitted_on, MayBrake, next_speed_on, IsPermittedOn, IsGreatestOn};
+ghost use Rattle.rail_motion.specs.Permitted.{KeepsLimitsOn};
 
 use crate::limits::can_brake;
 use crate::{Ahead, Motor};
@@ -24,7 +26,7 @@ impl Motor {
 fn is_permitted(motor: &Motor, ahead: &Ahead, place: u64, speed: u64, next: u64) -> bool
     requires place { place < 2 ^ 47 }
     requires speed { speed ≤ 100000 }
-    ensures { result ≡ permitted (rates_of motor.now) (stretches_of ahead.now.spans.now) (end_of ahead.now.end) place speed next }
+    ensures { result ≡ permitted_on motor.now ahead.now place speed next }
 {
     next <= motor.reach(speed)
         && can_brake(
@@ -42,9 +44,8 @@ pub fn permitted(motor: &Motor, ahead: &Ahead, x: i64, v: i64, u: i64) -> bool
     requires x { IsPlace x }
     requires v { IsSpeed v }
     requires u { pos 0 ≤ℤ u }
-    ensures test { result ≡ permitted (rates_of motor.now) (stretches_of ahead.now.spans.now) (end_of ahead.now.end) (nat_abs x) (nat_abs v) (nat_abs u) }
-    ensures points { let track = stretches_of ahead.now.spans.now in
-        (result ≡ true) ↔ IsPermitted (rates_of motor.now) track (end_of ahead.now.end) (nat_abs x) (nat_abs v) (nat_abs u) }
+    ensures test { result ≡ permitted_on motor.now ahead.now (nat_abs x) (nat_abs v) (nat_abs u) }
+    ensures points { (result ≡ true) ↔ IsPermittedOn motor.now ahead.now (nat_abs x) (nat_abs v) (nat_abs u) }
 {
     is_permitted(motor, ahead, x as u64, v as u64, u as u64)
 }
@@ -53,9 +54,9 @@ pub fn permitted(motor: &Motor, ahead: &Ahead, x: i64, v: i64, u: i64) -> bool
 fn greatest_permitted(motor: &Motor, ahead: &Ahead, place: u64, speed: u64) -> u64
     requires place { place < 2 ^ 47 }
     requires speed { speed ≤ 100000 }
-    requires braking { permitted (rates_of motor.now) (stretches_of ahead.now.spans.now) (end_of ahead.now.end) place speed (speed - nat_abs motor.now.brake) ≡ true }
-    ensures speed { result ≡ next_speed (rates_of motor.now) (stretches_of ahead.now.spans.now) (end_of ahead.now.end) place speed }
-    ensures permitted { permitted (rates_of motor.now) (stretches_of ahead.now.spans.now) (end_of ahead.now.end) place speed result ≡ true }
+    requires braking { MayBrake motor.now ahead.now place speed }
+    ensures speed { result ≡ next_speed_on motor.now ahead.now place speed }
+    ensures permitted { permitted_on motor.now ahead.now place speed result ≡ true }
     ensures bound { result ≤ 100000 }
     ensures moves { ForSome (end_of ahead.now.end) (λ end. place < end) → 1 ≤ result }
 {
@@ -76,11 +77,10 @@ fn greatest_permitted(motor: &Motor, ahead: &Ahead, place: u64, speed: u64) -> u
 pub fn next_speed(motor: &Motor, ahead: &Ahead, x: i64, v: i64) -> i64
     requires x { IsPlace x }
     requires v { IsSpeed v }
-    requires braking { permitted (rates_of motor.now) (stretches_of ahead.now.spans.now) (end_of ahead.now.end) (nat_abs x) (nat_abs v) (nat_abs v - nat_abs motor.now.brake) ≡ true }
-    ensures speed { result ≡ pos (next_speed (rates_of motor.now) (stretches_of ahead.now.spans.now) (end_of ahead.now.end) (nat_abs x) (nat_abs v)) }
+    requires braking { MayBrake motor.now ahead.now (nat_abs x) (nat_abs v) }
+    ensures speed { result ≡ pos (next_speed_on motor.now ahead.now (nat_abs x) (nat_abs v)) }
     ensures range { IsSpeed result }
-    ensures greatest { let track = stretches_of ahead.now.spans.now in
-        IsGreatestPermitted (rates_of motor.now) track (end_of ahead.now.end) (nat_abs x) (nat_abs v) (nat_abs result) }
+    ensures greatest { IsGreatestOn motor.now ahead.now (nat_abs x) (nat_abs v) (nat_abs result) }
 {
     greatest_permitted(motor, ahead, x as u64, v as u64) as i64
 }
@@ -90,16 +90,16 @@ pub fn next_speed(motor: &Motor, ahead: &Ahead, x: i64, v: i64) -> i64
 pub fn advance(motor: &Motor, ahead: &Ahead, place: u64, speed: u64) -> (u64, u64)
     requires place { place < 2 ^ 47 }
     requires speed { speed ≤ 100000 }
-    requires braking { permitted (rates_of motor.now) (stretches_of ahead.now.spans.now) (end_of ahead.now.end) place speed (speed - nat_abs motor.now.brake) ≡ true }
+    requires braking { MayBrake motor.now ahead.now place speed }
 
-    ensures speed { result.1 ≡ next_speed (rates_of motor.now) (stretches_of ahead.now.spans.now) (end_of ahead.now.end) place speed }
+    ensures speed { result.1 ≡ next_speed_on motor.now ahead.now place speed }
     ensures place { result.0 ≡ place + result.1 }
     ensures range { result.1 ≤ 100000 }
-    ensures braking { permitted (rates_of motor.now) (stretches_of ahead.now.spans.now) (end_of ahead.now.end) result.0 result.1 (result.1 - nat_abs motor.now.brake) ≡ true }
+    ensures braking { MayBrake motor.now ahead.now result.0 result.1 }
 
     // The move ends within the authority, covers no point above its limit, and is at least 1 where authority is left.
     ensures in_authority { may_stop (end_of ahead.now.end) result.0 ≡ true }
-    ensures limits { KeepsLimits (nat_abs motor.now.top) (stretches_of ahead.now.spans.now) place result.0 result.1 }
+    ensures limits { KeepsLimitsOn motor.now ahead.now place result.0 result.1 }
     ensures moves { ForSome (end_of ahead.now.end) (λ end. place < end) → 1 ≤ result.1 }
 {
     let next = greatest_permitted(motor, ahead, place, speed);
@@ -110,15 +110,15 @@ pub fn advance(motor: &Motor, ahead: &Ahead, place: u64, speed: u64) -> (u64, u6
 pub fn step(motor: &Motor, ahead: &Ahead, x: i64, v: i64) -> (i64, i64)
     requires x { IsPlace x }
     requires v { IsSpeed v }
-    requires braking { permitted (rates_of motor.now) (stretches_of ahead.now.spans.now) (end_of ahead.now.end) (nat_abs x) (nat_abs v) (nat_abs v - nat_abs motor.now.brake) ≡ true }
+    requires braking { MayBrake motor.now ahead.now (nat_abs x) (nat_abs v) }
 
-    ensures speed { result.1 ≡ pos (next_speed (rates_of motor.now) (stretches_of ahead.now.spans.now) (end_of ahead.now.end) (nat_abs x) (nat_abs v)) }
+    ensures speed { result.1 ≡ pos (next_speed_on motor.now ahead.now (nat_abs x) (nat_abs v)) }
     ensures place { result.0 ≡ x +ℤ result.1 }
     ensures range { IsSpeed result.1 }
-    ensures braking { permitted (rates_of motor.now) (stretches_of ahead.now.spans.now) (end_of ahead.now.end) (nat_abs result.0) (nat_abs result.1) (nat_abs result.1 - nat_abs motor.now.brake) ≡ true }
+    ensures braking { MayBrake motor.now ahead.now (nat_abs result.0) (nat_abs result.1) }
 
     ensures in_authority { may_stop (end_of ahead.now.end) (nat_abs result.0) ≡ true }
-    ensures limits { KeepsLimits (nat_abs motor.now.top) (stretches_of ahead.now.spans.now) (nat_abs x) (nat_abs result.0) (nat_abs result.1) }
+    ensures limits { KeepsLimitsOn motor.now ahead.now (nat_abs x) (nat_abs result.0) (nat_abs result.1) }
     ensures moves { ForSome ahead.now.end (λ end. x <ℤ end) → pos 1 ≤ℤ result.1 }
 {
     let (place, speed) = advance(motor, ahead, x as u64, v as u64);

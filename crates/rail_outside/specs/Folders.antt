@@ -1,5 +1,6 @@
 -- What a folder in memory holds.
-use Rattle.std.specs.Prelude.{ℕ, List, [], Bool, true, false, if◌then◌else◌, Option, find, is_none, bytes_eq, string_bytes}
+use Rattle.std.specs.Prelude.{ℕ, List, [], Bool, true, false, if◌then◌else◌, Option, find, is_none, bytes_eq}
+use Rattle.std.specs.Prelude.{string_bytes}
 use Rattle.std.specs.Option.{option_map_or}
 use Rattle.rail_outside.specs.declared.folder.File.{File}
 use Rattle.rail_outside.specs.declared.folder.Folder.{Folder}

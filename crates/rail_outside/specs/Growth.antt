@@ -16,4 +16,6 @@ GrowsByFront {A} old new all = (front : List A) × ((rest : List A) × (front ++
 
 -- the text has grown by a front of the lines, each of them whole
 abbrev pub GrowsByLines : Option (List ℕ) → Option (List ℕ) → List (List ℕ) → Type 0
-GrowsByLines old new lines = (front : List (List ℕ)) × ((rest : List (List ℕ)) × (front ++ rest ≡ lines)) × (new ≡ grown old (concat front))
+GrowsByLines old new lines = (front : List (List ℕ))
+    × ((rest : List (List ℕ)) × (front ++ rest ≡ lines))
+    × (new ≡ grown old (concat front))

@@ -8,7 +8,8 @@ use Rattle.rail_outside.specs.declared.shelf.StoreFault.TheVariants.{Failed, Mem
 -- the bytes under the name, or after a failure some bytes; every other name stays
 abbrev pub StoreLeaves : {X : Type 0} → Result X StoreFault → Option Files → Option Files → List ℕ → List ℕ → Type 0
 StoreLeaves (Ok x) old new name bytes = new ≡ option_map (λ files. updated files name bytes) old
-StoreLeaves (Err Failed) old new name bytes = (some : List ℕ) × (new ≡ option_map (λ files. updated files name some) old)
+StoreLeaves (Err Failed) old new name bytes =
+    (some : List ℕ) × (new ≡ option_map (λ files. updated files name some) old)
 StoreLeaves (Err Memory) old new name bytes = new ≡ old
 
 -- `Failed` comes only where the count rose

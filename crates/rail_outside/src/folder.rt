@@ -44,7 +44,8 @@ impl Folder {
 
     /// The bytes under a name, where a file has it.
     pub(crate) fn find(&self, name: &str) -> Option<&[u8]>
-        ensures { MatchOption result (lacks self.now name.now ≡ true) (λ bytes. (lacks self.now name.now ≡ false) × (bytes.now ≡ contents_of self.now name.now)) }
+        ensures { MatchOption result (lacks self.now name.now ≡ true) (λ bytes.
+            (lacks self.now name.now ≡ false) × (bytes.now ≡ contents_of self.now name.now)) }
     {
         match first_named(self.files.as_slice(), name) {
             Some(file) => Some(file.bytes.as_slice()),

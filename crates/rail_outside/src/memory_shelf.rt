@@ -1,6 +1,7 @@
 //! A shelf in memory, which keeps its calls and can be told to fail.
 
-ghost use Rattle.std.specs.Prelude.{◌≡◌, ◌≤◌, ◌++◌, ◌∷◌, ◌||◌, [], Some, OnOk, OnErr, Err, MatchOption, true, false, map};
+ghost use Rattle.std.specs.Prelude.{◌≡◌, ◌≤◌, ◌++◌, ◌∷◌, ◌||◌, [], Some, OnOk, OnErr, Err, MatchOption, true, false};
+ghost use Rattle.std.specs.Prelude.{map};
 ghost use Rattle.rail_outside.specs.Files.{no_files, updated};
 ghost use Rattle.rail_outside.specs.Asks.{fetch_asks, store_asks};
 ghost use Rattle.rail_outside.specs.Fetching.{FetchGives, FetchFits, FetchHasCause, FetchFailsWhere};
@@ -8,7 +9,8 @@ ghost use Rattle.rail_outside.specs.Storing.{StoreLeaves, StoreHasCause, StoreFa
 ghost use Rattle.rail_outside.specs.Folders.{all_but, no_name};
 ghost use Rattle.rail_outside.specs.declared.shelf.FetchFault.TheVariants as fetch;
 ghost use Rattle.rail_outside.specs.declared.shelf.StoreFault.TheVariants as store;
-ghost use Rattle.rail_outside.specs.MemoryShelves.{ask_of, held_by, asked_of, failing_calls, faults_of, fails_next, misses};
+ghost use Rattle.rail_outside.specs.MemoryShelves.{ask_of, held_by, asked_of, failing_calls, faults_of, fails_next};
+ghost use Rattle.rail_outside.specs.MemoryShelves.{misses};
 
 use crate::folder::{Folder, copied};
 use crate::shelf::{FetchFault, Shelf, StoreFault};
@@ -77,7 +79,8 @@ impl MemoryShelf {
 
     /// The bytes under a name, where a file has it. This is no call.
     pub fn file(&self, name: &str) -> Option<&[u8]>
-        ensures { MatchOption result (misses self.now name.now ≡ true) (λ bytes. (misses self.now name.now ≡ false) × (bytes.now ≡ held_by self.now name.now)) }
+        ensures { MatchOption result (misses self.now name.now ≡ true) (λ bytes.
+            (misses self.now name.now ≡ false) × (bytes.now ≡ held_by self.now name.now)) }
     {
         self.folder.find(name)
     }

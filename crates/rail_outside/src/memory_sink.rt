@@ -4,7 +4,8 @@ ghost use Rattle.std.specs.Prelude.{◌≡◌, ◌≤◌, ◌++◌, ◌∷◌, [
 ghost use Rattle.rail_outside.specs.Lines.{lines_of};
 ghost use Rattle.rail_outside.specs.Putting.{PutHasCause, PutLeaves, PutFailsWhere, put_pieces};
 ghost use Rattle.rail_outside.specs.declared.sink.SinkFault.TheVariants.{Memory};
-ghost use Rattle.rail_outside.specs.MemorySinks.{written_to, pieces_of, failures_of, faults_in, next_failure, put_bytes};
+ghost use Rattle.rail_outside.specs.MemorySinks.{written_to, pieces_of, failures_of, faults_in, next_failure};
+ghost use Rattle.rail_outside.specs.MemorySinks.{put_bytes};
 
 use crate::sink::{Sink, SinkFault};
 use std::alloc::{AllocError, Global};
@@ -64,7 +65,8 @@ impl MemorySink {
     ///
     /// `Err` leaves the sink as it was. Of two that name one call the first counts.
     pub fn fail_at(&mut self, call: u64, first: u64) -> Result<(), AllocError>
-        ensures ok { OnOk result (failures_of self.new ≡ failures_of self.old ++ record { call = call; first = first } ∷ []) }
+        ensures ok { OnOk result (failures_of self.new
+            ≡ failures_of self.old ++ record { call = call; first = first } ∷ []) }
         ensures err { OnErr result (failures_of self.new ≡ failures_of self.old) }
         ensures written { written_to self.new ≡ written_to self.old }
         ensures pieces { pieces_of self.new ≡ pieces_of self.old }
@@ -109,7 +111,8 @@ impl Sink for MemorySink {
 
     fn put(&mut self, bytes: &[u8]) -> Result<(), SinkFault>
         ensures leaves { PutLeaves result (Some (written_to self.old)) (Some (written_to self.new)) bytes.now }
-        ensures written { written_to self.new ≡ written_to self.old ++ put_bytes (next_failure self.old) result bytes.now }
+        ensures written { written_to self.new
+            ≡ written_to self.old ++ put_bytes (next_failure self.old) result bytes.now }
         ensures fails { PutFailsWhere result (is_some (next_failure self.old)) }
         ensures cause { PutHasCause result (faults_in self.old) (faults_in self.new) }
         ensures never_falls { faults_in self.old ≤ faults_in self.new }

@@ -14,8 +14,10 @@ pub fn put_lines<O: Sink>(lines: &[Vec<u8>], out: &mut O) -> Result<(), SinkFaul
     ensures all_put { result ≡ Ok tt → O.puts out.new ≡ grown (O.puts out.old) (lines_of lines.now) }
     ensures all_written { result ≡ Ok tt → O.written out.new ≡ grown (O.written out.old) (concat (lines_of lines.now)) }
     ensures puts { GrowsByFront (O.puts out.old) (O.puts out.new) (lines_of lines.now) }
-    ensures failed { result ≡ Err SinkFault.Failed → GrowsByFront (O.written out.old) (O.written out.new) (concat (lines_of lines.now)) }
-    ensures memory { result ≡ Err SinkFault.Memory → GrowsByLines (O.written out.old) (O.written out.new) (lines_of lines.now) }
+    ensures failed { result ≡ Err SinkFault.Failed
+        → GrowsByFront (O.written out.old) (O.written out.new) (concat (lines_of lines.now)) }
+    ensures memory { result ≡ Err SinkFault.Memory
+        → GrowsByLines (O.written out.old) (O.written out.new) (lines_of lines.now) }
     ensures cause { result ≡ Err SinkFault.Failed → Rose (O.fault_count out.old) (O.fault_count out.new) }
     ensures never_falls { O.fault_count out.old ≤ O.fault_count out.new }
 {

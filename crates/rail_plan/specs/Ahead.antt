@@ -1,5 +1,6 @@
 -- What earlier steps leave of the sections for one step.
-use Rattle.std.specs.Prelude.{ℕ, ◌+◌, ◌-◌, Bool, not, ◌&&◌, ◌||◌, nat_le, List, [], ◌∷◌, map, filter, flat_map, length, sum_by, if◌then◌else◌, Option, None, Some}
+use Rattle.std.specs.Prelude.{ℕ, ◌+◌, ◌-◌, Bool, not, ◌&&◌, ◌||◌, nat_le, List, [], ◌∷◌, map, filter, flat_map, length}
+use Rattle.std.specs.Prelude.{sum_by, if◌then◌else◌, Option, None, Some}
 use Rattle.std.specs.List.{list_any}
 use Rattle.rail_base.specs.declared.station.Station.{Station}
 use Rattle.rail_base.specs.declared.station.TrainNo.{TrainNo}
@@ -8,7 +9,8 @@ use Rattle.rail_base.specs.declared.route.Route.{Route}
 use Rattle.rail_base.specs.declared.route.RouteNo.{RouteNo}
 use Rattle.rail_base.specs.declared.plan.Command.{Command}
 use Rattle.rail_base.specs.Stations.{train_length, trains}
-use Rattle.rail_spec.specs.Plans.{is_train, route_at, length_mm, sections, has_section, share, release_offset, exits, path_routes}
+use Rattle.rail_spec.specs.Plans.{is_train, route_at, length_mm, sections, has_section, share, release_offset, exits}
+use Rattle.rail_spec.specs.Plans.{path_routes}
 use Rattle.interlocking.specs.Sections.{last_release}
 use Rattle.rail_plan.specs.declared.place.PlanPlace.{PlanPlace}
 use Rattle.rail_plan.specs.declared.place.PlanPlace.TheVariants as place
@@ -22,11 +24,13 @@ left_after left (r ∷ rs) = if exits r then None else left_after (left - length
 abbrev pub clears : Station → List Route → List (List Command) → Command → SectionNo → Bool
 clears d routes between e z =
     let given = path_routes routes between e.train in
-    nat_le (release_offset (route_at routes e.route) z + train_length d e.train) (sum_by length_mm given) || list_any exits given
+    nat_le (release_offset (route_at routes e.route) z + train_length d e.train) (sum_by length_mm given)
+    || list_any exits given
 
 -- e is for another train, has the section and is not so given
 abbrev pub stops : Station → List Route → List (List Command) → TrainNo → SectionNo → Command → Bool
-stops d routes between t z e = not (is_train e.train t) && has_section (route_at routes e.route) z && not (clears d routes between e z)
+stops d routes between t z e = not (is_train e.train t) && has_section (route_at routes e.route) z
+    && not (clears d routes between e z)
 
 -- a command of the step, or of one of those before it, so stops the train
 abbrev pub is_stopped : Station → List Route → TrainNo → SectionNo → List (List Command) → List Command → Bool
@@ -37,24 +41,31 @@ is_stopped d routes t z (s ∷ ss) step = list_any (stops d routes (s ∷ ss) t 
 abbrev pub clears_all : Station → List Route → List (List Command) → Command → RouteNo → Bool
 clears_all d routes between e q =
     let given = path_routes routes between e.train in
-    nat_le (last_release (route_at routes e.route) (route_at routes q) + train_length d e.train) (sum_by length_mm given) || list_any exits given
+    let released = last_release (route_at routes e.route) (route_at routes q) in
+    nat_le (released + train_length d e.train) (sum_by length_mm given)
+    || list_any exits given
 
 -- e is for another train, and stops c over a section that they share
 abbrev pub stops_over : Station → List Route → List (List Command) → Command → Command → Bool
-stops_over d routes between c e = not (is_train e.train c.train) && share (route_at routes e.route) (route_at routes c.route) && not (clears_all d routes between e c.route)
+stops_over d routes between c e = not (is_train e.train c.train)
+    && share (route_at routes e.route) (route_at routes c.route) && not (clears_all d routes between e c.route)
 
 -- a command of the step, or of one of those before it, stops c over a section
 abbrev pub is_stopped_over : Station → List Route → Command → List (List Command) → List Command → Bool
 is_stopped_over d routes c [] step = list_any (stops_over d routes [] c) step
-is_stopped_over d routes c (s ∷ ss) step = list_any (stops_over d routes (s ∷ ss) c) s || is_stopped_over d routes c ss step
+is_stopped_over d routes c (s ∷ ss) step = list_any (stops_over d routes (s ∷ ss) c) s
+    || is_stopped_over d routes c ss step
 
 -- the sections of c's route over which it is stopped
 abbrev pub stopped_sections : Station → List Route → List (List Command) → List Command → Command → List SectionNo
-stopped_sections d routes before step c = filter (λ z. is_stopped d routes c.train z before step) (sections (route_at routes c.route))
+stopped_sections d routes before step c =
+    filter (λ z. is_stopped d routes c.train z before step) (sections (route_at routes c.route))
 
 -- the places of a train in a step, after the steps before it
 abbrev pub stopped_in : Station → List Route → List (List Command) → List Command → TrainNo → List PlanPlace
-stopped_in d routes before step t = flat_map (λ c. map (place.Section (length before + 1) t) (stopped_sections d routes before step c)) (filter (λ c. is_train c.train t) step)
+stopped_in d routes before step t =
+    let places = λ (c : Command). map (place.Section (length before + 1) t) (stopped_sections d routes before step c) in
+    flat_map places (filter (λ c. is_train c.train t) step)
 
 -- the places of a step, by train
 abbrev pub stopped : Station → List Route → List (List Command) → List Command → List PlanPlace

@@ -16,15 +16,19 @@ use Rattle.rail_plan.specs.declared.place.PlanPlace.TheVariants as place
 abbrev pub keeps_from : Station → List Route → List (List Command) → Command → SectionNo → Command → Bool
 keeps_from d routes plan c z e =
     not (is_train e.train c.train) && has_section (route_at routes e.route) z
-    && ((step_of plan e == step_of plan c) || (nat_lt (step_of plan e) (step_of plan c) && not (can_clear d routes plan e c z)))
+    && ((step_of plan e == step_of plan c)
+    || (nat_lt (step_of plan e) (step_of plan c) && not (can_clear d routes plan e c z)))
 
 -- the sections, in the order of c's route, from which a command of the plan keeps it
 abbrev pub blocked_sections : Station → List Route → List (List Command) → Command → List SectionNo
-blocked_sections d routes plan c = filter (λ z. list_any (keeps_from d routes plan c z) (commands plan)) (sections (route_at routes c.route))
+blocked_sections d routes plan c =
+    filter (λ z. list_any (keeps_from d routes plan c z) (commands plan)) (sections (route_at routes c.route))
 
 -- the places of a train in the step of this number
 abbrev pub blocked_in : Station → List Route → List (List Command) → ℕ → TrainNo → List PlanPlace
-blocked_in d routes plan i t = flat_map (λ c. map (place.Section i t) (blocked_sections d routes plan c)) (filter (λ c. is_train c.train t) (entry [] plan i))
+blocked_in d routes plan i t =
+    let places = λ (c : Command). map (place.Section i t) (blocked_sections d routes plan c) in
+    flat_map places (filter (λ c. is_train c.train t) (entry [] plan i))
 
 -- where the plan isn't executable, by step, train and section
 abbrev pub blocked : Station → List Route → List (List Command) → List PlanPlace

@@ -5,3 +5,4 @@ pub mod Executable
 pub mod Reading
 pub mod Text
 pub mod WellFormed
+pub mod Interlocked

@@ -1,5 +1,7 @@
 -- The plan that bytes spell, or the first refusal.
-use Rattle.std.specs.Prelude.{◌≡◌, ℕ, ◌+◌, List, [], ◌∷◌, map, filter, flat_map, length, position, bytes_eq, Option, Some, None, is_none, unwrap_or, option_map, option_and_then, Result, Ok, Err, if◌then◌else◌}
+use Rattle.std.specs.Prelude.{◌≡◌, ℕ, ◌+◌, List, [], ◌∷◌, map, filter, flat_map, length, position, bytes_eq, Option}
+use Rattle.std.specs.Prelude.{Some, None, is_none, unwrap_or, option_map, option_and_then, Result, Ok, Err}
+use Rattle.std.specs.Prelude.{if◌then◌else◌}
 use Rattle.std.specs.List.{filter_map}
 use Rattle.rail_base.specs.declared.station.Station.{Station}
 use Rattle.rail_base.specs.declared.station.TrainNo.{TrainNo}
@@ -35,7 +37,9 @@ route_numbered many n = if is_from 1 many n then Some (record { 0 = n }) else No
 
 -- the command, where its train and its route are there
 abbrev pub known : List (List ℕ) → ℕ → Written → Option Command
-known names many w = option_and_then (λ t. option_map (λ r. record { train = t; route = r }) (route_numbered many w.1)) (train_named names w.0)
+known names many w =
+    let of_train = λ (t : TrainNo). option_map (λ r. record { train = t; route = r }) (route_numbered many w.1) in
+    option_and_then of_train (train_named names w.0)
 
 -- the numbers of the members of which f gives nothing
 abbrev pub missing : {X Y : Type 0} → (X → Option Y) → X → List X → List ℕ
@@ -43,7 +47,9 @@ missing f other xs = filter (λ j. is_none (f (entry other xs j))) (one_to (leng
 
 -- the places of the commands whose train or route isn't there, in text order
 abbrev pub unknown : List (List ℕ) → ℕ → List (List Written) → List PlanPlace
-unknown names many text = flat_map (λ i. map (place.Command i) (missing (known names many) ([], 0) (entry [] text i))) (one_to (length text))
+unknown names many text =
+    let places = λ (i : ℕ). map (place.Command i) (missing (known names many) ([], 0) (entry [] text i)) in
+    flat_map places (one_to (length text))
 
 -- the plan of those that are
 abbrev pub planned : List (List ℕ) → ℕ → List (List Written) → List (List Command)
@@ -51,17 +57,21 @@ planned names many text = map (filter_map (known names many)) text
 
 -- ---- the refusals
 
+-- a code, and the place for which it is given
+abbrev pub Refusal : Type 0
+Refusal = PlanCode × PlanPlace
+
 -- the first of these places with its code, or else what is answered where there is none
-abbrev pub unless : {X : Type 0} → PlanCode → List PlanPlace → Result X (PlanCode × PlanPlace) → Result X (PlanCode × PlanPlace)
+abbrev pub unless : {X : Type 0} → PlanCode → List PlanPlace → Result X Refusal → Result X Refusal
 unless code [] answer = answer
 unless code (p ∷ ps) answer = Err (code, p)
 
 -- the plan, where it is well formed for 64 and executable
-abbrev pub admitted_plan : Station → List Route → List (List Command) → Result (List (List Command)) (PlanCode × PlanPlace)
+abbrev pub admitted_plan : Station → List Route → List (List Command) → Result (List (List Command)) Refusal
 admitted_plan d routes plan = unless P3 (misplaced d routes 64 plan) (unless P4 (blocked d routes plan) (Ok plan))
 
 -- the plan of a text, which may be none
-abbrev pub plan_of_text : Station → List Route → Option (List (List Written)) → Result (List (List Command)) (PlanCode × PlanPlace)
+abbrev pub plan_of_text : Station → List Route → Option (List (List Written)) → Result (List (List Command)) Refusal
 plan_of_text d routes None = Err (P1, place.File)
 plan_of_text d routes (Some text) =
     let names = train_names d in
@@ -69,11 +79,11 @@ plan_of_text d routes (Some text) =
     unless P2 (unknown names many text) (admitted_plan d routes (planned names many text))
 
 -- the plan of the bytes
-abbrev pub plan_of : Station → List Route → List ℕ → Result (List (List Command)) (PlanCode × PlanPlace)
+abbrev pub plan_of : Station → List Route → List ℕ → Result (List (List Command)) Refusal
 plan_of d routes bytes = plan_of_text d routes (option_and_then text_steps (json_of bytes))
 
 -- what was answered, seen by v, is this; want of memory is free
-abbrev pub Gives : {T X : Type 0} → (T → X) → Result T PlanFault → Result X (PlanCode × PlanPlace) → Type 0
+abbrev pub Gives : {T X : Type 0} → (T → X) → Result T PlanFault → Result X Refusal → Type 0
 Gives v (Ok x) answer = answer ≡ Ok (v x)
 Gives v (Err (fault.Refused code place)) answer = answer ≡ Err (code, place)
 Gives v (Err fault.Memory) answer = Unit {0}
@@ -100,6 +110,14 @@ values_of d = unwrap_or (array_of d) []
 abbrev pub unread : List (List ℕ) → ℕ → List Data → List PlanPlace
 unread names many ds = flat_map (λ i. unread_in names many i (values_of (entry null ds i))) (one_to (length ds))
 
+-- the commands of a step, or the first of its places
+abbrev pub step_read : List (List ℕ) → ℕ → ℕ → List Data → Result (List Command) Refusal
+step_read names many i ds = unless P2 (unread_in names many i ds) (Ok (read_in names many ds))
+
 -- the commands of all steps
 abbrev pub read_steps : List (List ℕ) → ℕ → List Data → List (List Command)
 read_steps names many ds = map (λ d. read_in names many (values_of d)) ds
+
+-- the commands of all steps, or the first place
+abbrev pub steps_read : List (List ℕ) → ℕ → List Data → Result (List (List Command)) Refusal
+steps_read names many ds = unless P2 (unread names many ds) (Ok (read_steps names many ds))

@@ -1,5 +1,6 @@
 -- Where a plan isn't well formed, in the order in which that is told.
-use Rattle.std.specs.Prelude.{ℕ, ◌+◌, ◌-◌, Bool, true, false, not, ◌&&◌, ◌||◌, if◌then◌else◌, List, [], ◌∷◌, ◌++◌, map, filter, flat_map, length, take, nat_le, Option, None, Some}
+use Rattle.std.specs.Prelude.{ℕ, ◌+◌, ◌-◌, Bool, true, false, not, ◌&&◌, ◌||◌, if◌then◌else◌, List, [], ◌∷◌, ◌++◌, map}
+use Rattle.std.specs.Prelude.{filter, flat_map, length, take, nat_le, Option, None, Some}
 use Rattle.std.specs.Option.{option_or}
 use Rattle.std.specs.List.{list_all}
 use Rattle.rail_base.specs.declared.station.Station.{Station}
@@ -10,7 +11,8 @@ use Rattle.rail_base.specs.declared.route.Route.{Route}
 use Rattle.rail_base.specs.declared.plan.Command.{Command}
 use Rattle.rail_base.specs.Numbering.{entry, one_to}
 use Rattle.rail_base.specs.Stations.{train_of, trains, first_visit}
-use Rattle.rail_spec.specs.Plans.{is_train, route_at, routes_given, path_routes, is_start, goes_on, end_at_one_signal, starts_in}
+use Rattle.rail_spec.specs.Plans.{is_train, route_at, routes_given, path_routes, is_start, goes_on, end_at_one_signal}
+use Rattle.rail_spec.specs.Plans.{starts_in}
 use Rattle.rail_plan.specs.declared.place.PlanPlace.{PlanPlace}
 use Rattle.rail_plan.specs.declared.place.PlanPlace.TheVariants as place
 
@@ -44,7 +46,8 @@ may_go_on t rs (r ∷ q ∷ qs) = false
 
 -- a train's command in a step is right after the steps before it
 abbrev pub is_placed : Station → List Route → List (List Command) → List Command → TrainNo → Bool
-is_placed d routes before step t = may_go_on (train_of d t) (path_routes routes before t) (map (route_at routes) (routes_given t step))
+is_placed d routes before step t =
+    may_go_on (train_of d t) (path_routes routes before t) (map (route_at routes) (routes_given t step))
 
 -- the trains, in file order, whose command in the step of this number isn't
 abbrev pub misplaced_in : Station → List Route → List (List Command) → ℕ → List TrainNo

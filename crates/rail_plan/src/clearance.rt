@@ -5,11 +5,12 @@ ghost use Rattle.std.specs.List.{list_any};
 ghost use Rattle.rail_base.specs.Numbering.{first_of_list};
 ghost use Rattle.rail_base.specs.Stations.{IsTrain};
 ghost use Rattle.rail_base.specs.Routes.{IsRoute, route_at};
-ghost use Rattle.rail_spec.specs.Plans.{is_executable, one_each, path_routes, routes_given};
-ghost use Rattle.rail_spec.specs.Feasible.{IsWellFormed};
-ghost use Rattle.rail_plan.specs.Executable.{blocked};
+ghost use Rattle.rail_spec.specs.Plans.{one_each, path_routes, routes_given};
 ghost use Rattle.rail_plan.specs.Named.{HaveRoutes, HaveTrains};
-ghost use Rattle.rail_plan.specs.Ahead.{clears, clears_all, is_stopped, is_stopped_over, left_after, stopped, stopped_in, stopped_sections, stops, stops_over};
+ghost use Rattle.rail_plan.specs.Ahead.{left_after};
+ghost use Rattle.interlocking.specs.Plans.{is_executable, IsWellFormed};
+ghost use Rattle.rail_plan.specs.Interlocked.{blocked, clears, clears_all, is_stopped, is_stopped_over, stopped};
+ghost use Rattle.rail_plan.specs.Interlocked.{stopped_in, stopped_sections, stops, stops_over};
 
 use crate::formed::first_given;
 use crate::place::PlanPlace;
@@ -69,7 +70,7 @@ fn clears(
     requires train { IsTrain interlocking.now.design.station command.train }
     requires route { IsRoute interlocking.now.routes command.route }
     requires between { All (HaveRoutes interlocking.now.routes) between.now }
-    ensures { result ≡ clears interlocking.now.design.station interlocking.now.routes between.now command section }
+    ensures { result ≡ clears interlocking.now between.now command section }
 {
     let offset = route_at(&interlocking.routes, command.route).release_offset(section);
     let length = interlocking.design.vehicle_of(command.train).length_mm;
@@ -97,7 +98,7 @@ fn clears_all(
     requires route { IsRoute interlocking.now.routes command.route }
     requires other { IsRoute interlocking.now.routes other }
     requires between { All (HaveRoutes interlocking.now.routes) between.now }
-    ensures { result ≡ clears_all interlocking.now.design.station interlocking.now.routes between.now command other }
+    ensures { result ≡ clears_all interlocking.now between.now command other }
 {
     let release = interlocking.last_release(command.route, other);
     let length = interlocking.design.vehicle_of(command.train).length_mm;
@@ -123,7 +124,7 @@ fn stops_over(
     requires train { IsTrain interlocking.now.design.station command.train }
     requires route { IsRoute interlocking.now.routes command.route }
     requires between { All (HaveRoutes interlocking.now.routes) between.now }
-    ensures { result ≡ stops_over interlocking.now.design.station interlocking.now.routes between.now stopped command }
+    ensures { result ≡ stops_over interlocking.now between.now stopped command }
 {
     command.train != stopped.train
         && interlocking.share(command.route, stopped.route)
@@ -141,7 +142,7 @@ fn stops_over_in_step(
     requires between { All (HaveRoutes interlocking.now.routes) between.now }
     requires trains { HaveTrains interlocking.now.design.station step.now }
     requires routes { HaveRoutes interlocking.now.routes step.now }
-    ensures { result ≡ list_any (stops_over interlocking.now.design.station interlocking.now.routes between.now stopped) step.now }
+    ensures { result ≡ list_any (stops_over interlocking.now between.now stopped) step.now }
 {
     for command in step.as_slice() {
         if stops_over(interlocking, between, stopped, *command) {
@@ -163,7 +164,7 @@ fn is_stopped_over(
     requires routes_before { All (HaveRoutes interlocking.now.routes) before.now }
     requires trains { HaveTrains interlocking.now.design.station step.now }
     requires routes { HaveRoutes interlocking.now.routes step.now }
-    ensures { result ≡ is_stopped_over interlocking.now.design.station interlocking.now.routes stopped before.now step.now }
+    ensures { result ≡ is_stopped_over interlocking.now stopped before.now step.now }
 {
     for (index, earlier) in before.iter().enumerate() {
         if stops_over_in_step(interlocking, &before[index..], earlier, stopped) {
@@ -184,7 +185,7 @@ fn stops(
     requires train { IsTrain interlocking.now.design.station command.train }
     requires route { IsRoute interlocking.now.routes command.route }
     requires between { All (HaveRoutes interlocking.now.routes) between.now }
-    ensures { result ≡ stops interlocking.now.design.station interlocking.now.routes between.now train section command }
+    ensures { result ≡ stops interlocking.now between.now train section command }
 {
     command.train != train
         && interlocking.has_section(command.route, section)
@@ -202,7 +203,7 @@ fn stops_in_step(
     requires between { All (HaveRoutes interlocking.now.routes) between.now }
     requires trains { HaveTrains interlocking.now.design.station step.now }
     requires routes { HaveRoutes interlocking.now.routes step.now }
-    ensures { result ≡ list_any (stops interlocking.now.design.station interlocking.now.routes between.now train section) step.now }
+    ensures { result ≡ list_any (stops interlocking.now between.now train section) step.now }
 {
     for command in step.as_slice() {
         if stops(interlocking, between, train, section, *command) {
@@ -224,7 +225,7 @@ fn is_stopped(
     requires routes_before { All (HaveRoutes interlocking.now.routes) before.now }
     requires trains { HaveTrains interlocking.now.design.station step.now }
     requires routes { HaveRoutes interlocking.now.routes step.now }
-    ensures { result ≡ is_stopped interlocking.now.design.station interlocking.now.routes train section before.now step.now }
+    ensures { result ≡ is_stopped interlocking.now train section before.now step.now }
 {
     for (index, earlier) in before.iter().enumerate() {
         if stops_in_step(interlocking, &before[index..], earlier, train, section) {
@@ -246,7 +247,7 @@ fn first_stopped(
     requires trains { HaveTrains interlocking.now.design.station step.now }
     requires routes { HaveRoutes interlocking.now.routes step.now }
     requires route { IsRoute interlocking.now.routes command.route }
-    ensures { result ≡ first_of_list (stopped_sections interlocking.now.design.station interlocking.now.routes before.now step.now command) }
+    ensures { result ≡ first_of_list (stopped_sections interlocking.now before.now step.now command) }
 {
     for part in route_at(&interlocking.routes, command.route)
         .sections
@@ -272,7 +273,7 @@ fn stopped_section(
     requires trains { HaveTrains interlocking.now.design.station step.now }
     requires routes { HaveRoutes interlocking.now.routes step.now }
     requires route { IsRoute interlocking.now.routes command.route }
-    ensures { result ≡ first_of_list (stopped_sections interlocking.now.design.station interlocking.now.routes before.now step.now command) }
+    ensures { result ≡ first_of_list (stopped_sections interlocking.now before.now step.now command) }
 {
     if is_stopped_over(interlocking, before, step, command) {
         first_stopped(interlocking, before, step, command)
@@ -293,7 +294,7 @@ fn stopped_train(
     requires trains { HaveTrains interlocking.now.design.station step.now }
     requires routes { HaveRoutes interlocking.now.routes step.now }
     requires each_once { one_each step.now ≡ true }
-    ensures { result ≡ first_of_list (stopped_in interlocking.now.design.station interlocking.now.routes before.now step.now train) }
+    ensures { result ≡ first_of_list (stopped_in interlocking.now before.now step.now train) }
 {
     let route = first_given(step, train)?;
     let section = stopped_section(interlocking, before, step, Command { train, route })?;
@@ -315,7 +316,7 @@ fn stopped_step(
     requires trains { HaveTrains interlocking.now.design.station step.now }
     requires routes { HaveRoutes interlocking.now.routes step.now }
     requires each_once { one_each step.now ≡ true }
-    ensures { result ≡ first_of_list (stopped interlocking.now.design.station interlocking.now.routes before.now step.now) }
+    ensures { result ≡ first_of_list (stopped interlocking.now before.now step.now) }
 {
     for index in 0..interlocking.design.station.trains.len() {
         let place = stopped_train(interlocking, before, step, TrainNo(index as u32 + 1));
@@ -328,8 +329,8 @@ fn stopped_step(
 
 /// The first place at which steps can't be carried out after those before them.
 fn first_blocked(interlocking: &Interlocking, steps: &[List<Command>]) -> Option<PlanPlace>
-    requires { (n : ℕ) × IsWellFormed interlocking.now.design.station interlocking.now.routes n steps.now }
-    ensures { result ≡ first_of_list (blocked interlocking.now.design.station interlocking.now.routes steps.now) }
+    requires { (n : ℕ) × IsWellFormed interlocking.now n steps.now }
+    ensures { result ≡ first_of_list (blocked interlocking.now steps.now) }
 {
     for (index, step) in steps.iter().enumerate() {
         let place = stopped_step(interlocking, &steps[..index], step);
@@ -343,9 +344,9 @@ fn first_blocked(interlocking: &Interlocking, steps: &[List<Command>]) -> Option
 /// Where a well-formed plan can't be carried out, or None where it can: by step, by train in file order and by
 /// section in the order of the route.
 pub fn executable(interlocking: &Interlocking, plan: &Plan) -> Option<PlanPlace>
-    requires { (n : ℕ) × IsWellFormed interlocking.now.design.station interlocking.now.routes n plan.now.steps }
-    ensures executable { IsNone result ↔ (is_executable interlocking.now.design.station interlocking.now.routes plan.now.steps ≡ true) }
-    ensures place { result ≡ first_of_list (blocked interlocking.now.design.station interlocking.now.routes plan.now.steps) }
+    requires { (n : ℕ) × IsWellFormed interlocking.now n plan.now.steps }
+    ensures executable { IsNone result ↔ (is_executable interlocking.now plan.now.steps ≡ true) }
+    ensures place { result ≡ first_of_list (blocked interlocking.now plan.now.steps) }
 {
     first_blocked(interlocking, plan.steps.as_slice())
 }

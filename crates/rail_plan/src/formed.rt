@@ -1,15 +1,16 @@
 //! Whether a plan is well formed.
 
-ghost use Rattle.std.specs.Prelude.{◌≡◌, ◌↔◌, ◌++◌, true, not, ◌<◌, ◌^◌, All, IsNone, filter, length, map};
+ghost use Rattle.std.specs.Prelude.{◌≡◌, ◌↔◌, true, ◌<◌, ◌^◌, All, IsNone, length};
 ghost use Rattle.std.specs.Option.{option_or};
 ghost use Rattle.std.specs.List.{list_all};
 ghost use Rattle.rail_base.specs.Numbering.{first_of_list};
-ghost use Rattle.rail_base.specs.Stations.{IsTrain, first_visit, train_of, trains};
-ghost use Rattle.rail_base.specs.Routes.{IsRoute, route_at};
-ghost use Rattle.rail_spec.specs.Plans.{end_at_one_signal, goes_on, has_node, path, path_routes, routes_given, is_well_formed, starts_in};
-ghost use Rattle.rail_spec.specs.Feasible.{names_only};
+ghost use Rattle.rail_base.specs.Stations.{IsTrain, first_visit, train_of};
+ghost use Rattle.rail_spec.specs.Plans.{end_at_one_signal, goes_on, has_node, path, routes_given, starts_in};
 ghost use Rattle.rail_plan.specs.Named.{HasRoute, HaveRoutes};
-ghost use Rattle.rail_plan.specs.WellFormed.{is_apart, are_apart, begins_well, is_placed, last_of_list, may_follow, misplaced, placed_badly};
+ghost use Rattle.rail_plan.specs.WellFormed.{is_apart, are_apart, last_of_list};
+ghost use Rattle.interlocking.specs.Plans.{names_only, is_well_formed};
+ghost use Rattle.rail_plan.specs.Interlocked.{begins_after, is_placed, may_follow_after, misplaced, misplaced_after};
+ghost use Rattle.rail_plan.specs.Interlocked.{placed_badly};
 
 use crate::place::PlanPlace;
 use interlocking::Interlocking;
@@ -124,7 +125,7 @@ fn begins_well(
 ) -> bool
     requires train { IsTrain interlocking.now.design.station train }
     requires named { All (HaveRoutes interlocking.now.routes) before.now }
-    ensures { result ≡ begins_well (first_visit (train_of interlocking.now.design.station train)) (last_of_list (path_routes interlocking.now.routes before.now train)) route.now }
+    ensures { result ≡ begins_after interlocking.now before.now train route.now }
 {
     match last_given(before, train) {
         Some(last) => goes_on(route_at(&interlocking.routes, last).finish, route.start),
@@ -186,7 +187,7 @@ fn may_follow(
 ) -> bool
     requires train { IsTrain interlocking.now.design.station train }
     requires named { All (HaveRoutes interlocking.now.routes) before.now }
-    ensures { result ≡ may_follow (train_of interlocking.now.design.station train) (path_routes interlocking.now.routes before.now train) route.now }
+    ensures { result ≡ may_follow_after interlocking.now before.now train route.now }
 {
     begins_well(interlocking, before, train, route)
         && are_all_apart(&interlocking.routes, before, train, route)
@@ -202,7 +203,7 @@ fn is_placed(
     requires train { IsTrain interlocking.now.design.station train }
     requires before { All (HaveRoutes interlocking.now.routes) before.now }
     requires step { HaveRoutes interlocking.now.routes step.now }
-    ensures { result ≡ is_placed interlocking.now.design.station interlocking.now.routes before.now step.now train }
+    ensures { result ≡ is_placed interlocking.now before.now step.now train }
 {
     match first_given(step, train) {
         Some(route) => {
@@ -227,7 +228,7 @@ fn misplaced_train(
 ) -> Option<TrainNo>
     requires before { All (HaveRoutes interlocking.now.routes) before.now }
     requires step { HaveRoutes interlocking.now.routes step.now }
-    ensures { result ≡ first_of_list (filter (λ t. not (is_placed interlocking.now.design.station interlocking.now.routes before.now step.now t)) (trains interlocking.now.design.station)) }
+    ensures { result ≡ first_of_list (misplaced_after interlocking.now before.now step.now) }
 {
     for index in 0..interlocking.design.station.trains.len() {
         let train = TrainNo(index as u32 + 1);
@@ -241,7 +242,7 @@ fn misplaced_train(
 /// The first step and train of the plan whose command isn't right after the steps before it.
 fn first_misplaced(interlocking: &Interlocking, steps: &[List<Command>]) -> Option<PlanPlace>
     requires { All (HaveRoutes interlocking.now.routes) steps.now }
-    ensures { result ≡ first_of_list (placed_badly interlocking.now.design.station interlocking.now.routes steps.now) }
+    ensures { result ≡ first_of_list (placed_badly interlocking.now steps.now) }
 {
     for (index, step) in steps.iter().enumerate() {
         if let Some(train) = misplaced_train(interlocking, &steps[..index], step) {
@@ -258,7 +259,7 @@ fn first_misplaced(interlocking: &Interlocking, steps: &[List<Command>]) -> Opti
 fn first_place(interlocking: &Interlocking, steps: &[List<Command>], n: usize) -> Option<PlanPlace>
     requires named { All (HaveRoutes interlocking.now.routes) steps.now }
     requires small { n < 2 ^ 32 }
-    ensures { result ≡ first_of_list (misplaced interlocking.now.design.station interlocking.now.routes n steps.now) }
+    ensures { result ≡ first_of_list (misplaced interlocking.now n steps.now) }
 {
     if steps.len() > n {
         return Some(PlanPlace::Step { step: n + 1 });
@@ -269,9 +270,9 @@ fn first_place(interlocking: &Interlocking, steps: &[List<Command>], n: usize) -
 /// Where a plan isn't well formed for `n`, or None where it is: first that it has more than `n` steps, then by step
 /// and by train in file order.
 pub fn well_formed(interlocking: &Interlocking, plan: &Plan, n: u32) -> Option<PlanPlace>
-    requires { names_only interlocking.now.design.station interlocking.now.routes plan.now.steps ≡ true }
-    ensures formed { IsNone result ↔ (is_well_formed interlocking.now.design.station interlocking.now.routes n plan.now.steps ≡ true) }
-    ensures place { result ≡ first_of_list (misplaced interlocking.now.design.station interlocking.now.routes n plan.now.steps) }
+    requires { names_only interlocking.now plan.now.steps ≡ true }
+    ensures formed { IsNone result ↔ (is_well_formed interlocking.now n plan.now.steps ≡ true) }
+    ensures place { result ≡ first_of_list (misplaced interlocking.now n plan.now.steps) }
 {
     first_place(interlocking, plan.steps.as_slice(), n as usize)
 }

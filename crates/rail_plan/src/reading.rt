@@ -1,10 +1,11 @@
 //! Reading a plan.
 
 ghost use Rattle.std.specs.Prelude.{◌≡◌, ◌≤◌, ◌<◌, ◌^◌, true, IfOk, length, map, ok_or, option_map};
-ghost use Rattle.rail_spec.specs.Feasible.{IsRunnable, names_only};
 ghost use Rattle.serde_json.specs.View.{view};
 ghost use Rattle.rail_plan.specs.Text.{Spells, json_of, text_steps};
-ghost use Rattle.rail_plan.specs.Reading.{Gives, admitted_plan, plan_of, plan_of_text, read_in, read_steps, train_names, unread, unread_in, unless, values_of};
+ghost use Rattle.rail_plan.specs.Reading.{Gives, values_of, step_read, steps_read};
+ghost use Rattle.interlocking.specs.Plans.{names_only, IsRunnable};
+ghost use Rattle.rail_plan.specs.Interlocked.{admitted_plan, known_steps, plan_of, plan_of_text};
 
 use crate::clearance::executable;
 use crate::fault::{PlanCode, PlanFault};
@@ -51,7 +52,7 @@ fn read_step(
 ) -> Result<List<Command>, PlanFault>
     requires names { length names.now.keys ≤ 32 }
     requires many { many < 2 ^ 32 }
-    ensures { Gives (λ step. step) result (unless PlanCode.P2 (unread_in (map (λ k. k.now) names.now.keys) many number (map view values.now)) (Ok (read_in (map (λ k. k.now) names.now.keys) many (map view values.now)))) }
+    ensures { Gives (λ s. s) result (step_read (map (λ k. k.now) names.now.keys) many number (map view values.now)) }
 {
     let mut commands = List::new(alloc);
     for (index, value) in values.iter().enumerate() {
@@ -91,7 +92,7 @@ fn read_steps(
 ) -> Result<List<List<Command>>, PlanFault>
     requires names { length names.now.keys ≤ 32 }
     requires many { many < 2 ^ 32 }
-    ensures { Gives (λ steps. steps) result (unless PlanCode.P2 (unread (map (λ k. k.now) names.now.keys) many (map view values.now)) (Ok (read_steps (map (λ k. k.now) names.now.keys) many (map view values.now)))) }
+    ensures { Gives (λ s. s) result (steps_read (map (λ k. k.now) names.now.keys) many (map view values.now)) }
 {
     let mut steps = List::new(alloc);
     for (index, value) in values.iter().enumerate() {
@@ -115,7 +116,7 @@ fn known_steps(
     interlocking: &Interlocking,
     values: &[Value],
 ) -> Result<List<List<Command>>, PlanFault>
-    ensures { Gives (λ steps. steps) result (unless PlanCode.P2 (unread (train_names interlocking.now.design.station) (length interlocking.now.routes) (map view values.now)) (Ok (read_steps (train_names interlocking.now.design.station) (length interlocking.now.routes) (map view values.now)))) }
+    ensures { Gives (λ s. s) result (known_steps interlocking.now (map view values.now)) }
 {
     let names = train_names(alloc, &interlocking.design)?;
     read_steps(alloc, &names, interlocking.routes.len(), values)
@@ -123,8 +124,8 @@ fn known_steps(
 
 /// The plan, where it is well formed for 64 and executable.
 fn admit(interlocking: &Interlocking, plan: Plan) -> Result<Plan, PlanFault>
-    requires { names_only interlocking.now.design.station interlocking.now.routes plan.steps ≡ true }
-    ensures { Gives (λ p. p.steps) result (admitted_plan interlocking.now.design.station interlocking.now.routes plan.steps) }
+    requires { names_only interlocking.now plan.steps ≡ true }
+    ensures { Gives (λ p. p.steps) result (admitted_plan interlocking.now plan.steps) }
 {
     if let Some(place) = well_formed(interlocking, &plan, MOST_STEPS) {
         return Err(PlanFault::Refused {
@@ -143,7 +144,7 @@ fn admit(interlocking: &Interlocking, plan: Plan) -> Result<Plan, PlanFault>
 
 /// The plan that a value spells, or the first refusal.
 fn plan_at(alloc: Global, interlocking: &Interlocking, value: &Value) -> Result<Plan, PlanFault>
-    ensures { Gives (λ p. p.steps) result (plan_of_text interlocking.now.design.station interlocking.now.routes (text_steps (view value.now))) }
+    ensures { Gives (λ p. p.steps) result (plan_of_text interlocking.now (text_steps (view value.now))) }
 {
     match steps_of(value) {
         Some(steps) => {
@@ -164,8 +165,8 @@ pub fn read_plan(
     interlocking: &Interlocking,
     bytes: &[u8],
 ) -> Result<Plan, PlanFault>
-    ensures given { Gives (λ p. p.steps) result (plan_of interlocking.now.design.station interlocking.now.routes bytes.now) }
-    ensures runnable { IfOk result (λ p. IsRunnable interlocking.now.design.station interlocking.now.routes 64 p.steps) }
+    ensures given { Gives (λ p. p.steps) result (plan_of interlocking.now bytes.now) }
+    ensures runnable { IfOk result (λ p. IsRunnable interlocking.now 64 p.steps) }
 {
     let value = value_of(alloc, bytes)?;
     plan_at(alloc, interlocking, &value)

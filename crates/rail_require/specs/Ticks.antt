@@ -1,5 +1,6 @@
 -- The ticks that a history has of grants and visits.
-use Rattle.std.specs.Prelude.{ℕ, ◌<◌, ◌^◌, Bool, false, List, [], map, length, nat_le, nat_lt, Option, None, Some, option_map, All}
+use Rattle.std.specs.Prelude.{ℕ, ◌<◌, ◌^◌, Bool, false, List, [], map, length, nat_le, nat_lt, Option, None, Some}
+use Rattle.std.specs.Prelude.{option_map, All}
 use Rattle.rail_base.specs.declared.station.TrainNo.{TrainNo}
 use Rattle.rail_base.specs.declared.history.TrainHistory.{TrainHistory}
 use Rattle.rail_base.specs.Numbering.{entry, one_to}
@@ -40,4 +41,5 @@ is_before k None = false
 
 -- trains, commands and visits have numbers of 32 bits
 abbrev pub HasNumbers : List TrainHistory → Type 0
-HasNumbers history = (length history < 2 ^ 32) × All (λ t. (length t.grants < 2 ^ 32) × (length t.visits < 2 ^ 32)) history
+HasNumbers history = (length history < 2 ^ 32)
+    × All (λ t. (length t.grants < 2 ^ 32) × (length t.visits < 2 ^ 32)) history

@@ -1,5 +1,6 @@
 -- Which violations are certain at a tick, as a history tells it, and whether all is done.
-use Rattle.std.specs.Prelude.{ℕ, Bool, false, not, ◌&&◌, ◌==◌, List, ◌++◌, map, flat_map, length, nat_le, Option, is_some, find}
+use Rattle.std.specs.Prelude.{ℕ, Bool, false, not, ◌&&◌, ◌==◌, List, ◌++◌, map, flat_map, length, nat_le, Option}
+use Rattle.std.specs.Prelude.{is_some, find}
 use Rattle.std.specs.List.{list_all}
 use Rattle.rail_base.specs.declared.station.Station.{Station}
 use Rattle.rail_base.specs.declared.station.Order.{Order}
@@ -14,12 +15,16 @@ use Rattle.rail_require.specs.Ticks.{trains, command_numbers, visit_numbers, gra
 
 -- the greatest time ends at tick k, up to the horizon, and the other visit isn't made by then
 abbrev pub is_late : Station → List TrainHistory → ℕ → Within → Bool
-is_late d history k w = nat_le k (horizon d) && is_after (most_ticks d w) (visit_tick history w.from_train w.from_visit) k
+is_late d history k w =
+    nat_le k (horizon d)
+    && is_after (most_ticks d w) (visit_tick history w.from_train w.from_visit) k
     && not (is_by k (visit_tick history w.to_train w.to_visit))
 
 -- the later-named visit is made at tick k, and the first isn't made before it
 abbrev pub is_broken : List TrainHistory → ℕ → Order → Bool
-is_broken history k o = is_after 0 (visit_tick history o.then_train o.then_visit) k && not (is_before k (visit_tick history o.first_train o.first_visit))
+is_broken history k o =
+    is_after 0 (visit_tick history o.then_train o.then_visit) k
+    && not (is_before k (visit_tick history o.first_train o.first_visit))
 
 -- k is the horizon, and the tick hasn't come by then
 abbrev pub is_missing : Station → ℕ → Option ℕ → Bool

@@ -25,7 +25,8 @@ pub use ticks::visit_tick;
 /// At the horizon, the first command that isn't granted, or else the first visit that isn't made.
 fn first_missing(design: &Design, history: &[TrainHistory], tick: u64) -> Option<Violation>
     requires { HasNumbers history.now }
-    ensures { result ≡ find (is_certain design.now.station history.now tick) (grant_ways history.now ++ visit_ways history.now) }
+    ensures { result
+        ≡ find (is_certain design.now.station history.now tick) (grant_ways history.now ++ visit_ways history.now) }
 {
     if tick != design.horizon() {
         return None;
@@ -39,7 +40,8 @@ pub fn first_violation(design: &Design, history: &History, tick: u64) -> Option<
     requires { HasNumbers history.now }
     ensures value { result ≡ violation_in design.now.station history.now tick }
     ensures run { (routes : List Route) (plan : List (List Command)) → 1 ≤ tick
-        → history.now ≡ history_at design.now.station routes plan tick → result ≡ violation_at design.now.station routes plan tick }
+        → history.now ≡ history_at design.now.station routes plan tick
+        → result ≡ violation_at design.now.station routes plan tick }
 {
     violation_shown(design, history.as_slice(), tick)
 }
@@ -49,7 +51,8 @@ pub fn violation_shown(design: &Design, history: &[TrainHistory], tick: u64) -> 
     requires { HasNumbers history.now }
     ensures value { result ≡ violation_in design.now.station history.now tick }
     ensures run { (routes : List Route) (plan : List (List Command)) → 1 ≤ tick
-        → history.now ≡ history_at design.now.station routes plan tick → result ≡ violation_at design.now.station routes plan tick }
+        → history.now ≡ history_at design.now.station routes plan tick
+        → result ≡ violation_at design.now.station routes plan tick }
 {
     late_within(design, history, tick)
         .or_else(|| broken_order(design, history, tick))

@@ -5,7 +5,8 @@ ghost use Rattle.std.specs.List.{position_from};
 ghost use Rattle.rail_base.specs.declared.station.Station.{Station};
 ghost use Rattle.rail_base.specs.Stations.{horizon};
 ghost use Rattle.rail_require.specs.Ticks.{is_by, HasNumbers};
-ghost use Rattle.rail_require.specs.Violations.{is_broken, is_late, is_certain, within_ways, order_ways, grant_ways, visit_ways};
+ghost use Rattle.rail_require.specs.Violations.{is_broken, is_late, is_certain, within_ways, order_ways, grant_ways};
+ghost use Rattle.rail_require.specs.Violations.{visit_ways};
 
 use crate::ticks::{is_after, is_before, is_by, visit_tick};
 use rail_base::design::Design;
@@ -91,7 +92,8 @@ fn unvisited(train: &TrainHistory, tick: u64) -> Option<u32>
 /// The first command, by train, that isn't granted by the end of the tick, which is the horizon.
 pub(crate) fn missing_grant(history: &[TrainHistory], tick: u64) -> Option<Violation>
     requires { HasNumbers history.now }
-    ensures { (d : Station) → tick ≡ horizon d → result ≡ find (is_certain d history.now tick) (grant_ways history.now) }
+    ensures { (d : Station) → tick ≡ horizon d
+        → result ≡ find (is_certain d history.now tick) (grant_ways history.now) }
 {
     for (place, train) in history.iter().enumerate() {
         if let Some(command) = ungranted(train, tick) {
@@ -107,7 +109,8 @@ pub(crate) fn missing_grant(history: &[TrainHistory], tick: u64) -> Option<Viola
 /// The first visit, by train, that isn't made by the end of the tick, which is the horizon.
 pub(crate) fn missing_visit(history: &[TrainHistory], tick: u64) -> Option<Violation>
     requires { HasNumbers history.now }
-    ensures { (d : Station) → tick ≡ horizon d → result ≡ find (is_certain d history.now tick) (visit_ways history.now) }
+    ensures { (d : Station) → tick ≡ horizon d
+        → result ≡ find (is_certain d history.now tick) (visit_ways history.now) }
 {
     for (place, train) in history.iter().enumerate() {
         if let Some(visit) = unvisited(train, tick) {

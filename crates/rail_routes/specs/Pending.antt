@@ -1,5 +1,6 @@
 -- The closed paths that a search has still to come to.
-use Rattle.std.specs.Prelude.{◌≡◌, ℕ, ◌+◌, ◌-◌, ◌≤◌, if◌then◌else◌, List, [], ◌∷◌, ◌++◌, flat_map, reverse, drop, take, length, Option, None, Some}
+use Rattle.std.specs.Prelude.{◌≡◌, ℕ, ◌+◌, ◌-◌, ◌≤◌, if◌then◌else◌, List, [], ◌∷◌, ◌++◌, flat_map, reverse, drop, take}
+use Rattle.std.specs.Prelude.{length, Option, None, Some}
 use Rattle.rail_base.specs.declared.station.Station.{Station}
 use Rattle.rail_base.specs.declared.station.End.{End}
 use Rattle.rail_base.specs.declared.station.EdgeNo.{EdgeNo}
@@ -24,7 +25,8 @@ over d edges path end e =
 
 -- those that go on from the front of a path over the edges that a level has still to try
 abbrev pub at_level : Station → List EdgeNo → Level → List Closing
-at_level d path l = flat_map (over d (length d.edges - l.after) (take l.after path) l.from) (drop l.tried (leave d l.from))
+at_level d path l =
+    flat_map (over d (length d.edges - l.after) (take l.after path) l.from) (drop l.tried (leave d l.from))
 
 -- those of all levels, the innermost first
 abbrev pub pending : Station → List EdgeNo → List Level → List Closing
@@ -44,7 +46,8 @@ going_on s l = at_level (station_of s) s.path.edges.items l
 
 -- those that go on from its path over this edge, at this end
 abbrev pub going_over : Search → End → EdgeNo → List Closing
-going_over s end e = over (station_of s) (length (station_of s).edges - length s.path.edges.items) s.path.edges.items end e
+going_over s =
+    over (station_of s) (length (station_of s).edges - length s.path.edges.items) s.path.edges.items
 
 -- the level is at the end of its path, and has an edge to try
 abbrev pub IsInnermost : Search → Level → Type 0

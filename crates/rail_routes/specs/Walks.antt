@@ -28,4 +28,5 @@ sections_of d path = map (λ z. (z, pos (last_end d z (edge_ends d 0 path)))) (s
 
 -- under the number of each section of the design is the end of its last edge on the path
 abbrev pub AreLastEnds : Station → List EdgeNo → List ℕ → Type 0
-AreLastEnds d path ends = (z : SectionNo) → z.0 ≤ length d.sections → slice_index ends z.0 ≡ last_end d z (edge_ends d 0 path)
+AreLastEnds d path ends = (z : SectionNo) → z.0 ≤ length d.sections
+    → slice_index ends z.0 ≡ last_end d z (edge_ends d 0 path)

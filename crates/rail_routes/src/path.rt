@@ -1,6 +1,7 @@
 //! The path of a search, with a mark at each of its edges.
 
-ghost use Rattle.std.specs.Prelude.{◌≡◌, ◌++◌, ◌∷◌, [], ◌≤◌, ◌<◌, ◌-◌, false, IfOk, OnErr, OnOk, length, slice_index_or, take, vec_len};
+ghost use Rattle.std.specs.Prelude.{◌≡◌, ◌++◌, ◌∷◌, [], ◌≤◌, ◌<◌, ◌-◌, false, IfOk, OnErr, OnOk, length};
+ghost use Rattle.std.specs.Prelude.{slice_index_or, take, vec_len};
 ghost use Rattle.rail_base.specs.declared.station.EdgeNo.{EdgeNo};
 ghost use Rattle.rail_base.specs.Members.{Differ, In};
 ghost use Rattle.rail_spec.specs.Track.{has_edge};

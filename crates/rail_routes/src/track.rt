@@ -1,7 +1,8 @@
 //! What stands at each end of a station: the edges there, and the signals for trains that leave by it.
 
 ghost use Rattle.std.specs.Prelude.{◌≡◌, IfOk};
-ghost use Rattle.rail_base.specs.Stations.{far_end, is_end, is_side, leave, node_of, opposite, edge_of, signal_of, through, IsEdge, IsNode, IsSignal};
+ghost use Rattle.rail_base.specs.Stations.{far_end, is_end, is_side, leave, node_of, opposite, edge_of, signal_of};
+ghost use Rattle.rail_base.specs.Stations.{through, IsEdge, IsNode, IsSignal};
 ghost use Rattle.rail_spec.specs.Track.{signals_at};
 ghost use Rattle.rail_base.specs.declared.station.Side.TheVariants.{A, B};
 ghost use Rattle.rail_routes.specs.Ends.{at_end, at_side, leave_by, meets};

@@ -166,14 +166,14 @@ module _ (d : Station) (routes : List Route) (plan : List (List Command)) where
 
   -- ---- the state after a tick
 
-  state_after : (k : ℕ) (t : TrainNo) → IsTrain d t → now (suc k) t ≡ moved d routes plan t (now k t) (granted_after d routes plan (state_at d routes plan k) t)
+  pub state_after : (k : ℕ) (t : TrainNo) → IsTrain d t → now (suc k) t ≡ moved d routes plan t (now k t) (granted_after d routes plan (state_at d routes plan k) t)
   state_after k t h = go t.0 h
     where
       go : (n : ℕ) → (1 ≤ n) × (n ≤ length d.trains) → now (suc k) (record { 0 = n }) ≡ moved d routes plan (record { 0 = n }) (now k (record { 0 = n })) (granted_after d routes plan (state_at d routes plan k) (record { 0 = n }))
       go zero h = absurd (let l = h.0 in omega arith)
       go (suc i) h = state_of-tick d routes plan (state_at d routes plan k) i h.1
 
-  moved_granted : (t : TrainNo) (old : TrainState) (n : ℕ) → 1 ≤ n → (moved d routes plan t old n).granted ≡ n
+  pub moved_granted : (t : TrainNo) (old : TrainState) (n : ℕ) → 1 ≤ n → (moved d routes plan t old n).granted ≡ n
   moved_granted t old zero h = absurd (omega arith)
   moved_granted t old (suc n) h = refl
 

@@ -1,5 +1,6 @@
 -- Runs: the state after each tick, under whatever says which command waits for which.
-use Rattle.std.specs.Prelude.{ℕ, zero, suc, ◌+◌, Bool, ◌&&◌, if◌then◌else◌, List, map, flat_map, length, take, slice_get, nat_le, nat_lt, Option, None, Some, sum_by}
+use Rattle.std.specs.Prelude.{ℕ, zero, suc, ◌+◌, Bool, ◌&&◌, if◌then◌else◌, List, map, flat_map, length, take}
+use Rattle.std.specs.Prelude.{slice_get, nat_le, nat_lt, Option, None, Some, sum_by}
 use Rattle.std.specs.List.{list_any, list_all}
 use Rattle.rail_base.specs.declared.station.Station.{Station}
 use Rattle.rail_base.specs.declared.station.EdgeNo.{EdgeNo}
@@ -62,8 +63,9 @@ module _ (d : Station) (routes : List Route) (p : Dispatch) where
 
   -- the command is granted, and the train's tail has reached the section's release offset
   abbrev pub has_released : List TrainState → Command → SectionNo → Bool
-  has_released s c z = is_granted s c
-      && nat_le (sum_by length_mm (routes_before c) + release_offset (route_at routes c.route) z + train_length d c.train) (state_of s c.train).x
+  has_released s c z =
+      let offset = sum_by length_mm (routes_before c) + release_offset (route_at routes c.route) z in
+      is_granted s c && nat_le (offset + train_length d c.train) (state_of s c.train).x
 
   -- the second command has released every section that the two share
   abbrev pub has_cleared : List TrainState → Command → Command → Bool
@@ -76,7 +78,9 @@ module _ (d : Station) (routes : List Route) (p : Dispatch) where
   -- how many commands of the train are granted after the tick, where this one is its next
   abbrev pub granted_with : List TrainState → TrainNo → Option RouteNo → ℕ
   granted_with s t None = (state_of s t).granted
-  granted_with s t (Some r) = if is_ready s (record { train = t; route = r }) then (state_of s t).granted + 1 else (state_of s t).granted
+  granted_with s t (Some r) =
+      let granted = (state_of s t).granted in
+      if is_ready s (record { train = t; route = r }) then granted + 1 else granted
 
   -- how many commands of the train are granted after the tick
   abbrev pub granted_after : List TrainState → TrainNo → ℕ

@@ -14,7 +14,8 @@ use Rattle.rail_base.specs.declared.route.Start.TheVariants as start
 use Rattle.rail_base.specs.declared.route.Finish.{Finish}
 use Rattle.rail_base.specs.declared.route.Finish.TheVariants as finish
 use Rattle.rail_base.specs.Members.{In, Pairs, Differ}
-use Rattle.rail_base.specs.Stations.{IsNode, IsEdge, IsSignal, edge_of, node_of, signal_of, through, far_end, length_of, section_of}
+use Rattle.rail_base.specs.Stations.{IsNode, IsEdge, IsSignal, edge_of, node_of, signal_of, through, far_end, length_of}
+use Rattle.rail_base.specs.Stations.{section_of}
 use Rattle.rail_spec.specs.Track.{route_of, edge_ends, first_occurrences}
 
 -- ---- what stands at an end
@@ -43,7 +44,8 @@ LeavesBy d (start.Signal s) end = ((signal_of d s).node ≡ end.node) × ((signa
 abbrev pub EndsAt : Station → End → Finish → Type 0
 EndsAt d end (finish.Exit n) = (n ≡ end.node) × ((node_of d end.node).boundary ≡ true)
 EndsAt d end (finish.Signal s) = Governs d s (through end) × ((node_of d end.node).boundary ≡ false)
-EndsAt d end (finish.Dead n) = (n ≡ end.node) × ((node_of d end.node).boundary ≡ false) × ((s : SignalNo) → Governs d s (through end) → ⊥) × ((e : EdgeNo) → IsAt d e (through end) → ⊥)
+EndsAt d end (finish.Dead n) = (n ≡ end.node) × ((node_of d end.node).boundary ≡ false)
+    × ((s : SignalNo) → Governs d s (through end) → ⊥) × ((e : EdgeNo) → IsAt d e (through end) → ⊥)
 
 -- ---- ways
 
@@ -100,7 +102,8 @@ start_side d (start.Signal s) = (signal_of d s).toward
 
 -- at an earlier node, or at the same toward a
 abbrev pub StartsBefore : Station → Start → Start → Type 0
-StartsBefore d s q = ((start_node d s).0 < (start_node d q).0) ⊎ ((start_node d s ≡ start_node d q) × (start_side d s ≡ A) × (start_side d q ≡ B))
+StartsBefore d s q = ((start_node d s).0 < (start_node d q).0)
+    ⊎ ((start_node d s ≡ start_node d q) × (start_side d s ≡ A) × (start_side d q ≡ B))
 
 -- the first edge in which they differ has a smaller number
 abbrev pub IsBefore : List EdgeNo → List EdgeNo → Type 0
@@ -128,10 +131,12 @@ pub record IsTold (d : Station) (r : Route) : Type 0 where
   -- its sections are those of its edges, each once, with where its last edge ends
   pub section_of_edge : (e : EdgeNo) → In e r.edges → (o : ℤ) × In (section_of d e, o) r.sections
   pub each_once : Pairs (λ (y z : SectionNo × ℤ). y.0 ≡ z.0 → ⊥) r.sections
-  pub released_at : (z : SectionNo) (o : ℤ) → In (z, o) r.sections → (n : ℕ) × (o ≡ pos n) × EndsLast d r.edges z n × (1 ≤ n) × (n ≤ sum_by (length_of d) r.edges)
+  pub released_at : (z : SectionNo) (o : ℤ) → In (z, o) r.sections
+      → (n : ℕ) × (o ≡ pos n) × EndsLast d r.edges z n × (1 ≤ n) × (n ≤ sum_by (length_of d) r.edges)
   pub sections_are : map (λ z. z.0) r.sections ≡ first_occurrences (map (section_of d) r.edges)
   -- its nodes are the start's at 0 and that at the end of each edge, ever farther
-  pub nodes_are : (end : End) → LeavesBy d r.start end → IsWay d end r.edges → map (λ n. n.0) r.nodes ≡ end.node ∷ map (λ e. e.node) (reached d end r.edges)
+  pub nodes_are : (end : End) → LeavesBy d r.start end → IsWay d end r.edges
+      → map (λ n. n.0) r.nodes ≡ end.node ∷ map (λ e. e.node) (reached d end r.edges)
   pub nodes_at : map (λ n. n.1) r.nodes ≡ pos 0 ∷ map (λ e. pos e.1) (edge_ends d 0 r.edges)
   pub rising : Pairs (λ (m n : EdgeNo × ℕ). m.1 < n.1) (edge_ends d 0 r.edges)
   pub inside : (e : EdgeNo) (n : ℕ) → In (e, n) (edge_ends d 0 r.edges) → (1 ≤ n) × (n ≤ sum_by (length_of d) r.edges)

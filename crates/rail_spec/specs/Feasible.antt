@@ -10,7 +10,8 @@ use Rattle.rail_spec.specs.Requirements.{meets}
 
 -- the command names a train and a route of the design
 abbrev pub is_of : Station → List Route → Command → Bool
-is_of d routes c = nat_le 1 c.train.0 && nat_le c.train.0 (length d.trains) && nat_le 1 c.route.0 && nat_le c.route.0 (length routes)
+is_of d routes c = nat_le 1 c.train.0 && nat_le c.train.0 (length d.trains)
+    && nat_le 1 c.route.0 && nat_le c.route.0 (length routes)
 
 -- every command of the plan does
 abbrev pub names_only : Station → List Route → List (List Command) → Bool

@@ -1,5 +1,6 @@
 -- What has happened in the run of a plan by a tick, and what the run shows of the plan.
-use Rattle.std.specs.Prelude.{ℕ, nat_lt, if◌then◌else◌, List, [], map, flat_map, Option, None, Some, option_and_then, option_map}
+use Rattle.std.specs.Prelude.{ℕ, nat_lt, if◌then◌else◌, List, [], map, flat_map, Option, None, Some, option_and_then}
+use Rattle.std.specs.Prelude.{option_map}
 use Rattle.std.specs.List.{enumerate_from}
 use Rattle.rail_base.specs.declared.station.Station.{Station}
 use Rattle.rail_base.specs.declared.station.NodeNo.{NodeNo}
@@ -33,17 +34,28 @@ module _ (d : Station) (routes : List Route) (plan : List (List Command)) where
   abbrev pub granted : ℕ → TrainNo → List (RouteNo × Option ℕ)
   granted k t = map (λ p. (p.1, grant_tick k t p.0)) (enumerate_from 1 (path plan t))
 
-  -- the sections of each route of the path with the ticks, up to k, at which they are released
+  -- the sections of a route of the path with the ticks, up to k, at which they are released
+  abbrev pub released_of : ℕ → TrainNo → RouteNo → List (RouteNo × SectionNo × Option ℕ)
+  released_of k t r =
+      map (λ z. (r, z, release_tick k (record { train = t; route = r }) z)) (sections (route_at routes r))
+
+  -- those of each route of the path
   abbrev pub released : ℕ → TrainNo → List (RouteNo × SectionNo × Option ℕ)
-  released k t = flat_map (λ r. map (λ z. (r, z, release_tick k (record { train = t; route = r }) z)) (sections (route_at routes r))) (path plan t)
+  released k t = flat_map (released_of k t) (path plan t)
 
   -- where a visit is made, with the tick, up to k
   abbrev pub visit_made : ℕ → TrainNo → Option Stop → Option (NodeNo × ℕ)
-  visit_made k t place = option_and_then (λ stop. option_map (λ i. (stop.node, i)) (pass_tick d routes plan k t stop)) place
+  visit_made k t place =
+      option_and_then (λ stop. option_map (λ i. (stop.node, i)) (pass_tick d routes plan k t stop)) place
 
   -- what has happened to the train by tick k
   abbrev pub train_history : ℕ → TrainNo → TrainHistory
-  train_history k t = record { grants = granted k t; passes = passed d routes plan k t; releases = released k t; visits = map (visit_made k t) (visits_of_train d routes plan t) }
+  train_history k t = record {
+    grants = granted k t;
+    passes = passed d routes plan k t;
+    releases = released k t;
+    visits = map (visit_made k t) (visits_of_train d routes plan t);
+  }
 
   -- what has happened to each train by tick k
   abbrev pub history_at : ℕ → List TrainHistory

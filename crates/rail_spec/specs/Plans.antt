@@ -1,6 +1,7 @@
 -- Plans: the path of a train, which command is given earlier, and which plans can be carried out.
 -- A plan is a list of steps, and a step a list of commands.
-use Rattle.std.specs.Prelude.{ℕ, ◌+◌, Bool, true, false, not, ◌&&◌, ◌||◌, ◌==◌, if◌then◌else◌, List, [], ◌∷◌, map, filter, flat_map, length, nat_le, nat_lt, sum_by}
+use Rattle.std.specs.Prelude.{ℕ, ◌+◌, Bool, true, false, not, ◌&&◌, ◌||◌, ◌==◌, if◌then◌else◌, List, [], ◌∷◌, map}
+use Rattle.std.specs.Prelude.{filter, flat_map, length, nat_le, nat_lt, sum_by}
 use Rattle.std.specs.List.{list_any, list_all}
 use Rattle.rail_base.specs.declared.station.Station.{Station}
 use Rattle.rail_base.specs.declared.station.Train.{Train}
@@ -17,7 +18,8 @@ use Rattle.rail_base.specs.declared.plan.Command.{Command}
 use Rattle.rail_base.specs.Numbering.{one_to}
 use Rattle.rail_base.specs.Members.{all_pairs, all_neighbors}
 use Rattle.rail_base.specs.Stations.{train_of, train_length, trains, first_visit}
-pub use Rattle.rail_base.specs.Routes.{no_route, route_at, length_mm, sections, has_section, shared, share, release_offset, exits}
+pub use Rattle.rail_base.specs.Routes.{no_route, route_at, length_mm, sections, has_section, shared, share}
+pub use Rattle.rail_base.specs.Routes.{release_offset, exits}
 
 -- ---- commands and their order
 
@@ -140,16 +142,21 @@ is_well_formed d routes n plan = nat_le (length plan) n && list_all one_each pla
 
 -- ---- executable
 
+-- the command e is of d's train, from d on, in a step before c's
+abbrev pub is_given_between : List (List Command) → Command → Command → Command → Bool
+is_given_between plan d c e = is_train e.train d.train
+    && nat_le (step_of plan d) (step_of plan e) && nat_lt (step_of plan e) (step_of plan c)
+
 -- the commands of d's train from d on, in steps before c's
 abbrev pub given_between : List (List Command) → Command → Command → List Command
-given_between plan d c =
-    filter (λ e. is_train e.train d.train && nat_le (step_of plan d) (step_of plan e) && nat_lt (step_of plan e) (step_of plan c)) (commands plan)
+given_between plan d c = filter (is_given_between plan d c) (commands plan)
 
 -- before c is given, d's train has been given so much track that it can leave the section
 abbrev pub can_clear : Station → List Route → List (List Command) → Command → Command → SectionNo → Bool
 can_clear d routes plan e c z =
     let given = map (λ g. route_at routes g.route) (given_between plan e c) in
-    nat_le (release_offset (route_at routes e.route) z + train_length d e.train) (sum_by length_mm given) || list_any exits given
+    nat_le (release_offset (route_at routes e.route) z + train_length d e.train) (sum_by length_mm given)
+    || list_any exits given
 
 -- commands of different trains that share a section stand in different steps, and each can clear the sections for those after it
 abbrev pub may_stand : Station → List Route → List (List Command) → Command → Command → Bool

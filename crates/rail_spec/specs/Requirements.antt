@@ -1,5 +1,6 @@
 -- What a plan has to meet, and when it is certain that it fails.
-use Rattle.std.specs.Prelude.{ℕ, ◌+◌, ◌*◌, ◌/◌, ◌-◌, Bool, false, not, ◌&&◌, ◌||◌, ◌==◌, if◌then◌else◌, List, ◌++◌, map, flat_map, length, nat_le, nat_lt, Option, None, Some, is_some, is_none, unwrap_or, find}
+use Rattle.std.specs.Prelude.{ℕ, ◌+◌, ◌*◌, ◌/◌, ◌-◌, Bool, false, not, ◌&&◌, ◌||◌, ◌==◌, if◌then◌else◌, List, ◌++◌, map}
+use Rattle.std.specs.Prelude.{flat_map, length, nat_le, nat_lt, Option, None, Some, is_some, is_none, unwrap_or, find}
 use Rattle.std.specs.List.{list_all}
 use Rattle.rail_base.specs.declared.station.Station.{Station}
 use Rattle.rail_base.specs.declared.station.Order.{Order}
@@ -54,15 +55,22 @@ module _ (d : Station) (routes : List Route) (plan : List (List Command)) where
 
   -- the first visit's tick is before the other's
   abbrev pub keeps_order : ℕ → Order → Bool
-  keeps_order k o = both nat_lt (visit_tick d routes plan k o.first_train o.first_visit) (visit_tick d routes plan k o.then_train o.then_visit)
+  keeps_order k o =
+      let first = visit_tick d routes plan k o.first_train o.first_visit in
+      let second = visit_tick d routes plan k o.then_train o.then_visit in
+      both nat_lt first second
 
   -- the time from the one visit to the other is at most the given one
   abbrev pub keeps_within : ℕ → Within → Bool
-  keeps_within k w = both (λ from to. nat_le (to * d.tick_ms) (from * d.tick_ms + w.max_ms)) (visit_tick d routes plan k w.from_train w.from_visit) (visit_tick d routes plan k w.to_train w.to_visit)
+  keeps_within k w =
+      let first = visit_tick d routes plan k w.from_train w.from_visit in
+      let second = visit_tick d routes plan k w.to_train w.to_visit in
+      both (λ from to. nat_le (to * d.tick_ms) (from * d.tick_ms + w.max_ms)) first second
 
   -- the plan meets the design
   abbrev pub meets : Bool
-  meets = is_done (horizon d) && list_all (keeps_order (horizon d)) d.orders && list_all (keeps_within (horizon d)) d.withins
+  meets = is_done (horizon d) && list_all (keeps_order (horizon d)) d.orders
+      && list_all (keeps_within (horizon d)) d.withins
 
   -- ---- violations
 
@@ -70,10 +78,12 @@ module _ (d : Station) (routes : List Route) (plan : List (List Command)) where
   abbrev pub is_certain : ℕ → Violation → Bool
   is_certain k (violation.Path t j) = (k == 1) && is_none (entry None (visits_of_train d routes plan t) j)
   is_certain k (violation.Within w) = let within = within_of d w in
-      nat_le k (horizon d) && is_after (most_ticks d within) (visit_tick d routes plan k within.from_train within.from_visit) k
+      nat_le k (horizon d)
+      && is_after (most_ticks d within) (visit_tick d routes plan k within.from_train within.from_visit) k
       && not (visited_by k within.to_train within.to_visit)
   is_certain k (violation.Order o) = let order = order_of d o in
-      is_after 0 (visit_tick d routes plan k order.then_train order.then_visit) k && not (visited_by (k - 1) order.first_train order.first_visit)
+      is_after 0 (visit_tick d routes plan k order.then_train order.then_visit) k
+      && not (visited_by (k - 1) order.first_train order.first_visit)
   is_certain k (violation.Grant t j) = (k == horizon d) && not (granted_by k t j)
   is_certain k (violation.Visit t j) = (k == horizon d) && not (visited_by k t j)
 

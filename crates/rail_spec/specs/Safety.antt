@@ -1,5 +1,6 @@
 -- No two trains in one section, and each within its authority and its limits.
-use Rattle.std.specs.Prelude.{◌≡◌, ℕ, suc, ◌+◌, ◌≤◌, Bool, true, not, ◌&&◌, ◌||◌, ◌==◌, List, flat_map, take, nat_lt, IsTrue}
+use Rattle.std.specs.Prelude.{◌≡◌, ℕ, suc, ◌+◌, ◌≤◌, Bool, true, not, ◌&&◌, ◌||◌, ◌==◌, List, flat_map, take, nat_lt}
+use Rattle.std.specs.Prelude.{IsTrue}
 use Rattle.std.specs.List.{list_any}
 use Rattle.rail_base.specs.declared.station.Station.{Station}
 use Rattle.rail_base.specs.declared.station.EdgeNo.{EdgeNo}
@@ -16,18 +17,25 @@ use Rattle.rail_spec.specs.Motion.{KeepsLimits, may_stop}
 use Rattle.rail_spec.specs.Run.{state_at, is_granted, has_released}
 
 module _ (d : Station) (routes : List Route) (plan : List (List Command)) where
+  -- the command is the train's, on the section, and granted, and hasn't released it
+  abbrev pub is_held_by : List TrainState → TrainNo → SectionNo → Command → Bool
+  is_held_by s t z c = is_train c.train t && has_section (route_at routes c.route) z
+      && is_granted d routes plan s c && not (has_released d routes plan s c z)
+
   -- some command of the train on the section is granted and hasn't released it
   abbrev pub holds : ℕ → TrainNo → SectionNo → Bool
-  holds k t z = let s = state_at d routes plan k in
-      list_any (λ c. is_train c.train t && has_section (route_at routes c.route) z && is_granted d routes plan s c && not (has_released d routes plan s c z)) (commands plan)
+  holds k t z = list_any (is_held_by (state_at d routes plan k) t z) (commands plan)
 
   -- an edge of the section on the train's path begins before the head and ends past the tail
   abbrev pub covers : TrainState → TrainNo → SectionNo → EdgeNo × ℕ → Bool
-  covers s t z e = ((section_of d e.0).0 == z.0) && nat_lt e.1 (s.x + length_of d e.0) && nat_lt s.x (e.1 + train_length d t)
+  covers s t z e = ((section_of d e.0).0 == z.0)
+      && nat_lt e.1 (s.x + length_of d e.0) && nat_lt s.x (e.1 + train_length d t)
 
   -- the train stands on the section
   abbrev pub stands_on : ℕ → TrainNo → SectionNo → Bool
-  stands_on k t z = list_any (covers (state_of (state_at d routes plan k) t) t z) (edge_ends d 0 (flat_map (λ r. r.edges) (path_routes routes plan t)))
+  stands_on k t z =
+      let edges = edge_ends d 0 (flat_map (λ r. r.edges) (path_routes routes plan t)) in
+      list_any (covers (state_of (state_at d routes plan k) t) t z) edges
 
   -- two trains hold one section, or two stand on one
   pub record Clash (k : ℕ) : Type 0 where
@@ -35,7 +43,8 @@ module _ (d : Station) (routes : List Route) (plan : List (List Command)) where
     pub other : TrainNo
     pub section : SectionNo
     pub differ : IsTrue (not (is_train one other))
-    pub at_once : IsTrue (holds k one section && holds k other section || stands_on k one section && stands_on k other section)
+    pub at_once :
+        IsTrue (holds k one section && holds k other section || stands_on k one section && stands_on k other section)
 
   -- the routes of the first so many commands of a train
   abbrev pub given : TrainNo → ℕ → List Route

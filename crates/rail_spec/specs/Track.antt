@@ -1,5 +1,6 @@
 -- Track: the edges at an end, and the elementary routes of a design.
-use Rattle.std.specs.Prelude.{ℕ, zero, suc, ◌+◌, Bool, true, false, not, ◌==◌, if◌then◌else◌, List, [], ◌∷◌, ◌++◌, map, filter, flat_map, length, take, ℤ, pos, Option, None, Some, sum_by, fold, max}
+use Rattle.std.specs.Prelude.{ℕ, zero, suc, ◌+◌, Bool, true, false, not, ◌==◌, if◌then◌else◌, List, [], ◌∷◌, ◌++◌, map}
+use Rattle.std.specs.Prelude.{filter, flat_map, length, take, ℤ, pos, Option, None, Some, sum_by, fold, max}
 use Rattle.std.specs.List.{list_any}
 use Rattle.rail_base.specs.declared.station.Station.{Station}
 use Rattle.rail_base.specs.declared.station.End.{End}
@@ -14,11 +15,20 @@ use Rattle.rail_base.specs.declared.route.Start.TheVariants as start
 use Rattle.rail_base.specs.declared.route.Finish.{Finish}
 use Rattle.rail_base.specs.declared.route.Finish.TheVariants as finish
 use Rattle.rail_base.specs.Numbering.{one_to}
-use Rattle.rail_base.specs.Stations.{is_end, through, far_end, edge_of, node_of, signal_of, leave, length_of, section_of}
+use Rattle.rail_base.specs.Stations.{is_end, through, far_end, edge_of, node_of, signal_of, leave, length_of}
+use Rattle.rail_base.specs.Stations.{section_of}
+
+-- the numbers of all signals
+abbrev pub signal_numbers : Station → List SignalNo
+signal_numbers d = map (λ n. record { 0 = n }) (one_to (length d.signals))
+
+-- the end by which trains leave for which a signal is
+abbrev pub signal_end : Station → SignalNo → End
+signal_end d s = record { node = (signal_of d s).node; side = (signal_of d s).toward }
 
 -- the signals for trains that leave by this end
 abbrev pub signals_at : Station → End → List SignalNo
-signals_at d end = filter (λ s. is_end (record { node = (signal_of d s).node; side = (signal_of d s).toward }) end) (map (λ n. record { 0 = n }) (one_to (length d.signals)))
+signals_at d end = filter (λ s. is_end (signal_end d s) end) (signal_numbers d)
 
 -- there is none
 abbrev pub is_empty : {X : Type 0} → List X → Bool
@@ -37,8 +47,10 @@ starts d = flat_map (λ n. starts_at d (record { 0 = n })) (one_to (length d.nod
 
 -- the end by which a route leaves its start: of a boundary, the one where its edge is
 abbrev pub start_end : Station → Start → End
-start_end d (start.Boundary n) = if is_empty (leave d (record { node = n; side = A })) then record { node = n; side = B } else record { node = n; side = A }
-start_end d (start.Signal s) = record { node = (signal_of d s).node; side = (signal_of d s).toward }
+start_end d (start.Boundary n) =
+    if is_empty (leave d (record { node = n; side = A })) then record { node = n; side = B }
+    else record { node = n; side = A }
+start_end d (start.Signal s) = signal_end d s
 
 -- how a route ends that reaches a node by this end, if it ends there
 abbrev pub ends_by_signal : Station → End → List SignalNo → Option Finish
@@ -47,7 +59,9 @@ ends_by_signal d end [] = if is_empty (leave d (through end)) then Some (finish.
 
 -- how a route ends that reaches a node by this end, if it ends there
 abbrev pub finish_at : Station → End → Option Finish
-finish_at d end = if (node_of d end.node).boundary then Some (finish.Exit end.node) else ends_by_signal d end (signals_at d (through end))
+finish_at d end =
+    if (node_of d end.node).boundary then Some (finish.Exit end.node)
+    else ends_by_signal d end (signals_at d (through end))
 
 -- the edge is one of these
 abbrev pub has_edge : List EdgeNo → EdgeNo → Bool

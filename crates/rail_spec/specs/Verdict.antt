@@ -21,7 +21,8 @@ failure d routes plan = or_else (path_violation d routes plan) (violation_at d r
 pub record IsVerdict (d : Station) (routes : List Route) (plan : List (List Command)) : Type 0 where
   pub first : 1 ≤ cost d routes plan
   pub last : cost d routes plan ≤ horizon d
-  pub before : path_violation d routes plan ≡ None → (k : ℕ) → 1 ≤ k → k < cost d routes plan → is_decided d routes plan k ≡ false
+  pub before : path_violation d routes plan ≡ None → (k : ℕ) → 1 ≤ k → k < cost d routes plan
+      → is_decided d routes plan k ≡ false
   pub met : failure d routes plan ≡ None → is_done d routes plan (cost d routes plan) ≡ true
   pub failed : (v : Violation) → failure d routes plan ≡ Some v → is_certain d routes plan (cost d routes plan) v ≡ true
 

@@ -1,12 +1,13 @@
 -- Which nodes a train passes, and which visits it makes, each with its tick.
-use Rattle.std.specs.Prelude.{ℕ, ◌+◌, Bool, ◌&&◌, List, [], ◌∷◌, ◌++◌, map, nat_abs, nat_le, Option, None, option_and_then, is_some}
-use Rattle.std.specs.List.{list_all}
+use Rattle.std.specs.Prelude.{ℕ, zero, suc, ◌+◌, Bool, false, ◌&&◌, List, [], ◌∷◌, ◌++◌, map, nat_abs, nat_le, Option}
+use Rattle.std.specs.Prelude.{None, option_and_then, is_some}
+use Rattle.std.specs.List.{list_any, list_all}
 use Rattle.rail_base.specs.declared.station.Station.{Station}
 use Rattle.rail_base.specs.declared.station.NodeNo.{NodeNo}
 use Rattle.rail_base.specs.declared.station.TrainNo.{TrainNo}
 use Rattle.rail_base.specs.declared.route.Route.{Route}
 use Rattle.rail_base.specs.Numbering.{entry, least, from_first, first_of_list, after_first}
-use Rattle.rail_spec.specs.Plans.{route_at, length_mm, has_node}
+use Rattle.rail_spec.specs.Plans.{route_at, length_mm, has_node, starts_in}
 use Rattle.rail_base.specs.Stations.{train_of}
 use Rattle.rail_base.specs.declared.state.Stop.{Stop}
 use Rattle.rail_base.specs.declared.state.TrainState.{TrainState}
@@ -29,12 +30,24 @@ stops (r ∷ rs) = stops_of 0 1 r ++ stops_after (length_mm r) 2 rs
 -- each set is visited at the first node that is in it, after the visit before
 abbrev pub visits_at : List (List NodeNo) → List Stop → List (Option Stop)
 visits_at [] ps = []
-visits_at (set ∷ sets) ps = let here = from_first (λ p. has_node set p.node) ps in first_of_list here ∷ visits_at sets (after_first here)
+visits_at (set ∷ sets) ps =
+    let here = from_first (λ p. has_node set p.node) ps in
+    first_of_list here ∷ visits_at sets (after_first here)
 
 -- where a train's visits are made on a path: the first at the start
 abbrev pub visits_on : List (List NodeNo) → List Stop → List (Option Stop)
 visits_on [] ps = []
 visits_on (first ∷ later) ps = first_of_list ps ∷ visits_at later (after_first ps)
+
+-- a node of the set is at the end of an edge of the route
+abbrev pub leads_to : List NodeNo → Route → Bool
+leads_to set r = list_any (λ p. has_node set p.0) (after_first r.nodes)
+
+-- the visit of this number may be made on the route: the first at its start, and others at the end of an edge
+abbrev pub may_visit : ℕ → List NodeNo → Route → Bool
+may_visit zero set r = false
+may_visit (suc zero) set r = starts_in set r.start
+may_visit (suc (suc k)) set r = leads_to set r
 
 -- the node has been passed: its command is granted, and the head is at it or past it
 abbrev pub is_passed : TrainState → Stop → Bool

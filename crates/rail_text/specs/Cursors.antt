@@ -11,4 +11,6 @@ lines_left cursor = pieces_from cursor.line cursor.rest.now
 
 -- the first line that is left is given and taken off, or none where none is left
 abbrev pub GivesNext : Cursor → Option Piece → Cursor → Type 0
-GivesNext old given new = MatchOption given ((lines_left old ≡ []) × (lines_left new ≡ [])) (λ piece. lines_left old ≡ line_of piece ∷ lines_left new)
+GivesNext old given new =
+    MatchOption given ((lines_left old ≡ []) × (lines_left new ≡ [])) (λ piece.
+    lines_left old ≡ line_of piece ∷ lines_left new)

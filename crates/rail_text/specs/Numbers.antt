@@ -10,4 +10,5 @@ is_numeral bytes = nat_le 1 (length bytes) && nat_le (length bytes) 20 && list_a
 
 -- the number that 1 to 20 decimal digits write, where it fits 64 bits
 abbrev pub number_of : List ℕ → Option ℕ
-number_of bytes = if is_numeral bytes && nat_lt (digits_value 10 bytes) (2 ^ 64) then Some (digits_value 10 bytes) else None
+number_of bytes =
+    if is_numeral bytes && nat_lt (digits_value 10 bytes) (2 ^ 64) then Some (digits_value 10 bytes) else None

@@ -20,7 +20,8 @@ last_piece line (byte ∷ more) = record { line = line; ended = false; bytes = b
 abbrev pub pieces_of_parts : ℕ → List (List ℕ) → List Line
 pieces_of_parts line [] = []
 pieces_of_parts line (last ∷ []) = last_piece line last
-pieces_of_parts line (part ∷ next ∷ more) = record { line = line; ended = true; bytes = part } ∷ pieces_of_parts (line + 1) (next ∷ more)
+pieces_of_parts line (part ∷ next ∷ more) =
+    record { line = line; ended = true; bytes = part } ∷ pieces_of_parts (line + 1) (next ∷ more)
 
 -- the lines of a text, from this place on
 abbrev pub pieces_from : ℕ → List ℕ → List Line

@@ -10,29 +10,40 @@ positional_rule name = record (new_rule name) { required = true }
 abbrev pub option_rule : Text → Rule
 option_rule name = record (new_rule name) { long = Some name; required = true }
 
+-- a command that takes one more value, by its place
+abbrev pub with_value : App → Text → App
+with_value app name = with_rule app (positional_rule name)
+
+-- a command that takes one more option
+abbrev pub with_option : App → Text → App
+with_option app name = with_rule app (option_rule name)
+
 -- `simulate DESIGN PLAN`
 abbrev pub simulate_app : App
-simulate_app = with_rule (with_rule (new_app (codes "simulate")) (positional_rule (codes "DESIGN"))) (positional_rule (codes "PLAN"))
+simulate_app = with_value (with_value (new_app (codes "simulate")) (codes "DESIGN")) (codes "PLAN")
 
 -- `routes DESIGN`
 abbrev pub routes_app : App
-routes_app = with_rule (new_app (codes "routes")) (positional_rule (codes "DESIGN"))
+routes_app = with_value (new_app (codes "routes")) (codes "DESIGN")
 
 -- `verify --steps N --conflicts C --ticks T`, before its files
 abbrev pub verify_options_app : App
-verify_options_app = with_rule (with_rule (with_rule (new_app (codes "verify")) (option_rule (codes "steps"))) (option_rule (codes "conflicts"))) (option_rule (codes "ticks"))
+verify_options_app =
+    with_option (with_option (with_option (new_app (codes "verify")) (codes "steps")) (codes "conflicts"))
+    (codes "ticks")
 
 -- `verify --steps N --conflicts C --ticks T DESIGN PROOF`
 abbrev pub verify_app : App
-verify_app = with_rule (with_rule verify_options_app (positional_rule (codes "DESIGN"))) (positional_rule (codes "PROOF"))
+verify_app = with_value (with_value verify_options_app (codes "DESIGN")) (codes "PROOF")
 
 -- `check --steps N DESIGN PROOF`
 abbrev pub check_app : App
-check_app = with_rule (with_rule (with_rule (new_app (codes "check")) (option_rule (codes "steps"))) (positional_rule (codes "DESIGN"))) (positional_rule (codes "PROOF"))
+check_app =
+    with_value (with_value (with_option (new_app (codes "check")) (codes "steps")) (codes "DESIGN")) (codes "PROOF")
 
 -- `trial SEED SIZE`
 abbrev pub trial_app : App
-trial_app = with_rule (with_rule (new_app (codes "trial")) (positional_rule (codes "SEED"))) (positional_rule (codes "SIZE"))
+trial_app = with_value (with_value (new_app (codes "trial")) (codes "SEED")) (codes "SIZE")
 
 abbrev pub top_app : App
 top_app = record (new_app (codes "rcv")) { top = record (new_app (codes "rcv")).top { subcommand_required = true } }

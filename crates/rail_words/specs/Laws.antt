@@ -2,7 +2,8 @@
 use Rattle.std.specs.Prelude.{ℕ, List, ◌≡◌, ◌↔◌, ◌==◌, ◌⊎◌, not, Bool, true, false, [], ◌∷◌, Option, Some, None, codes}
 use Rattle.clap.specs.Words.{Row, Text, first_of, subcommand_of}
 use Rattle.rail_words.specs.FixedCommand.{rcv_app, is_taken}
-use Rattle.rail_words.specs.Requests.{Asked, IsInRange, request_of, steps_of, conflicts_of, ticks_of, seed_of, size_of, simulate, routes, verify, check, trial}
+use Rattle.rail_words.specs.Requests.{Asked, IsInRange, request_of, steps_of, conflicts_of, ticks_of, seed_of, size_of}
+use Rattle.rail_words.specs.Requests.{simulate, routes, verify, check, trial}
 
 -- not empty, and not beginning with a hyphen
 abbrev pub is_plain : Text → Bool
@@ -15,18 +16,37 @@ SimulateIsRead = (program design plan : Text) → is_plain design ≡ true → i
     → request_of (program ∷ codes "simulate" ∷ design ∷ plan ∷ []) ≡ Some (simulate design plan)
 
 abbrev pub RoutesIsRead : Type 0
-RoutesIsRead = (program design : Text) → is_plain design ≡ true → request_of (program ∷ codes "routes" ∷ design ∷ []) ≡ Some (routes design)
+RoutesIsRead = (program design : Text) → is_plain design ≡ true
+    → request_of (program ∷ codes "routes" ∷ design ∷ []) ≡ Some (routes design)
+
+-- the words `verify --steps N --conflicts C --ticks T DESIGN PROOF` behind the program's name
+abbrev pub verify_words : Text → Text → Text → Text → Text → Text → List Text
+verify_words program steps conflicts ticks design proof =
+    program ∷ codes "verify"
+    ∷ codes "--steps" ∷ steps ∷ codes "--conflicts" ∷ conflicts ∷ codes "--ticks" ∷ ticks
+    ∷ design ∷ proof ∷ []
 
 abbrev pub VerifyIsRead : Type 0
-VerifyIsRead = (program steps conflicts ticks design proof : Text) (n c t : ℕ) → steps_of steps ≡ Some n → conflicts_of conflicts ≡ Some c → ticks_of ticks ≡ Some t → is_plain design ≡ true → is_plain proof ≡ true
-    → request_of (program ∷ codes "verify" ∷ codes "--steps" ∷ steps ∷ codes "--conflicts" ∷ conflicts ∷ codes "--ticks" ∷ ticks ∷ design ∷ proof ∷ []) ≡ Some (verify n c t design proof)
+VerifyIsRead = (program steps conflicts ticks design proof : Text) (n c t : ℕ)
+    → steps_of steps ≡ Some n
+    → conflicts_of conflicts ≡ Some c
+    → ticks_of ticks ≡ Some t
+    → is_plain design ≡ true
+    → is_plain proof ≡ true
+    → request_of (verify_words program steps conflicts ticks design proof) ≡ Some (verify n c t design proof)
 
 abbrev pub CheckIsRead : Type 0
-CheckIsRead = (program steps design proof : Text) (n : ℕ) → steps_of steps ≡ Some n → is_plain design ≡ true → is_plain proof ≡ true
+CheckIsRead = (program steps design proof : Text) (n : ℕ)
+    → steps_of steps ≡ Some n
+    → is_plain design ≡ true
+    → is_plain proof ≡ true
     → request_of (program ∷ codes "check" ∷ codes "--steps" ∷ steps ∷ design ∷ proof ∷ []) ≡ Some (check n design proof)
 
 abbrev pub TrialIsRead : Type 0
-TrialIsRead = (program seed size : Text) (s k : ℕ) → seed_of seed ≡ Some s → size_of size ≡ Some k → request_of (program ∷ codes "trial" ∷ seed ∷ size ∷ []) ≡ Some (trial s k)
+TrialIsRead = (program seed size : Text) (s k : ℕ)
+    → seed_of seed ≡ Some s
+    → size_of size ≡ Some k
+    → request_of (program ∷ codes "trial" ∷ seed ∷ size ∷ []) ≡ Some (trial s k)
 
 -- what words ask for is in range
 abbrev pub RequestsAreInRange : Type 0
@@ -36,16 +56,28 @@ RequestsAreInRange = (words : List Text) (asked : Asked) → request_of words �
 abbrev pub IsOutOfRange : (Text → Option ℕ) → Text → List Row → Type 0
 IsOutOfRange number_of_text name rows = (text : Text) × (first_of name rows ≡ Some text) × (number_of_text text ≡ None)
 
+-- a number of `verify` is out of range
+abbrev pub VerifyLacksNumber : List Row → Type 0
+VerifyLacksNumber rows =
+    IsOutOfRange steps_of (codes "steps") rows
+    ⊎ IsOutOfRange conflicts_of (codes "conflicts") rows
+    ⊎ IsOutOfRange ticks_of (codes "ticks") rows
+
+-- a number of `trial` is out of range
+abbrev pub TrialLacksNumber : List Row → Type 0
+TrialLacksNumber rows = IsOutOfRange seed_of (codes "SEED") rows ⊎ IsOutOfRange size_of (codes "SIZE") rows
+
 -- a number of the subcommand is out of range, by its name and the values of its arguments
 abbrev pub LacksNumber : Text × List Row → Type 0
 LacksNumber entered =
-    (entered.0 ≡ codes "verify") × (IsOutOfRange steps_of (codes "steps") entered.1 ⊎ IsOutOfRange conflicts_of (codes "conflicts") entered.1 ⊎ IsOutOfRange ticks_of (codes "ticks") entered.1)
+    (entered.0 ≡ codes "verify") × VerifyLacksNumber entered.1
     ⊎ (entered.0 ≡ codes "check") × IsOutOfRange steps_of (codes "steps") entered.1
-    ⊎ (entered.0 ≡ codes "trial") × (IsOutOfRange seed_of (codes "SEED") entered.1 ⊎ IsOutOfRange size_of (codes "SIZE") entered.1)
+    ⊎ (entered.0 ≡ codes "trial") × TrialLacksNumber entered.1
 
 -- a number of the subcommand that the words name is out of range
 abbrev pub HasNumberOutOfRange : List Text → Type 0
-HasNumberOutOfRange words = (entered : Text × List Row) × (subcommand_of rcv_app words ≡ Some entered) × LacksNumber entered
+HasNumberOutOfRange words = (entered : Text × List Row)
+    × (subcommand_of rcv_app words ≡ Some entered) × LacksNumber entered
 
 -- the fixed command does not take the words, or a number among them is out of range
 abbrev pub AsksForNothing : List Text → Type 0

@@ -1,12 +1,14 @@
 -- What the words of a command line ask for.
-use Rattle.std.specs.Prelude.{ℕ, ◌≤◌, ◌&&◌, nat_le, List, Option, Some, None, codes, if◌then◌else◌, bytes_eq, option_and_then, option_map}
+use Rattle.std.specs.Prelude.{ℕ, ◌≤◌, ◌&&◌, nat_le, List, Option, Some, None, codes, if◌then◌else◌, bytes_eq}
+use Rattle.std.specs.Prelude.{option_and_then, option_map}
 use Rattle.clap.specs.Words.{Row, Text, first_of, subcommand_of}
 use Rattle.rail_text.specs.Numbers.{number_of}
 use Rattle.rail_words.specs.FixedCommand.{rcv_app, is_taken}
 
 -- the number that a text gives, where it is from 1 to a greatest: 1 to 20 digits
 abbrev pub number_to : ℕ → Text → Option ℕ
-number_to greatest text = option_and_then (λ n. if nat_le 1 n && nat_le n greatest then Some n else None) (number_of text)
+number_to greatest text =
+    option_and_then (λ n. if nat_le 1 n && nat_le n greatest then Some n else None) (number_of text)
 
 -- how many steps a plan may have
 abbrev pub steps_of : Text → Option ℕ
@@ -57,7 +59,8 @@ verify_within (Some n) (Some conflicts) (Some ticks) design proof = Some (verify
 verify_within _ _ _ design proof = None
 
 abbrev pub verify_with : Option Text → Option Text → Option Text → Option Text → Option Text → Option Asked
-verify_with (Some steps) (Some conflicts) (Some ticks) (Some design) (Some proof) = verify_within (steps_of steps) (conflicts_of conflicts) (ticks_of ticks) design proof
+verify_with (Some steps) (Some conflicts) (Some ticks) (Some design) (Some proof) =
+    verify_within (steps_of steps) (conflicts_of conflicts) (ticks_of ticks) design proof
 verify_with _ _ _ _ _ = None
 
 abbrev pub check_with : Option Text → Option Text → Option Text → Option Asked
@@ -73,14 +76,38 @@ abbrev pub trial_with : Option Text → Option Text → Option Asked
 trial_with (Some seed) (Some size) = trial_within (seed_of seed) (size_of size)
 trial_with _ _ = None
 
+-- ---- what the values of the arguments of each subcommand ask for
+
+abbrev pub simulate_by : List Row → Option Asked
+simulate_by rows = simulate_with (first_of (codes "DESIGN") rows) (first_of (codes "PLAN") rows)
+
+abbrev pub routes_by : List Row → Option Asked
+routes_by rows = routes_with (first_of (codes "DESIGN") rows)
+
+abbrev pub verify_by : List Row → Option Asked
+verify_by rows =
+    verify_with
+    (first_of (codes "steps") rows)
+    (first_of (codes "conflicts") rows)
+    (first_of (codes "ticks") rows)
+    (first_of (codes "DESIGN") rows)
+    (first_of (codes "PROOF") rows)
+
+abbrev pub check_by : List Row → Option Asked
+check_by rows =
+    check_with (first_of (codes "steps") rows) (first_of (codes "DESIGN") rows) (first_of (codes "PROOF") rows)
+
+abbrev pub trial_by : List Row → Option Asked
+trial_by rows = trial_with (first_of (codes "SEED") rows) (first_of (codes "SIZE") rows)
+
 -- what a subcommand asks for, by its name and the values of its arguments
 abbrev pub asked_by : Text × List Row → Option Asked
 asked_by entered =
-    if bytes_eq entered.0 (codes "simulate") then simulate_with (first_of (codes "DESIGN") entered.1) (first_of (codes "PLAN") entered.1)
-    else if bytes_eq entered.0 (codes "routes") then routes_with (first_of (codes "DESIGN") entered.1)
-    else if bytes_eq entered.0 (codes "verify") then verify_with (first_of (codes "steps") entered.1) (first_of (codes "conflicts") entered.1) (first_of (codes "ticks") entered.1) (first_of (codes "DESIGN") entered.1) (first_of (codes "PROOF") entered.1)
-    else if bytes_eq entered.0 (codes "check") then check_with (first_of (codes "steps") entered.1) (first_of (codes "DESIGN") entered.1) (first_of (codes "PROOF") entered.1)
-    else if bytes_eq entered.0 (codes "trial") then trial_with (first_of (codes "SEED") entered.1) (first_of (codes "SIZE") entered.1)
+    if bytes_eq entered.0 (codes "simulate") then simulate_by entered.1
+    else if bytes_eq entered.0 (codes "routes") then routes_by entered.1
+    else if bytes_eq entered.0 (codes "verify") then verify_by entered.1
+    else if bytes_eq entered.0 (codes "check") then check_by entered.1
+    else if bytes_eq entered.0 (codes "trial") then trial_by entered.1
     else None
 
 -- what the words ask for, where the fixed command takes them

@@ -3,7 +3,9 @@
 ghost use Rattle.std.specs.Prelude.{◌≡◌, IfOk, false};
 ghost use Rattle.clap.specs.Words.{app_of, rule_of};
 ghost use Rattle.clap.specs.declared.builder.command.Command.TheViews.{out-Command as fields_of};
-ghost use Rattle.rail_words.specs.FixedCommand.{option_rule, positional_rule, simulate_app, routes_app, numberless_app, verify_options_app, verify_app, check_app, trial_app, files_app, rcv_app};
+ghost use Rattle.rail_words.specs.FixedCommand.{option_rule, positional_rule, simulate_app, routes_app, numberless_app};
+ghost use Rattle.rail_words.specs.FixedCommand.{verify_options_app, verify_app, check_app, trial_app, files_app};
+ghost use Rattle.rail_words.specs.FixedCommand.{rcv_app};
 
 use clap::{Arg, Command};
 use std::alloc::{AllocError, Global};

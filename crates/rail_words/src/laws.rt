@@ -1,6 +1,7 @@
 //! Which words are taken.
 
-ghost use Rattle.rail_words.specs.Laws.{SimulateIsRead, RoutesIsRead, VerifyIsRead, CheckIsRead, TrialIsRead, RequestsAreInRange, SilenceHasACause};
+ghost use Rattle.rail_words.specs.Laws.{SimulateIsRead, RoutesIsRead, VerifyIsRead, CheckIsRead, TrialIsRead};
+ghost use Rattle.rail_words.specs.Laws.{RequestsAreInRange, SilenceHasACause};
 
 /// `simulate DESIGN PLAN` after the program's name, no value empty or beginning with a hyphen, asks for that.
 pub fn simulate_is_read()

@@ -1,9 +1,13 @@
 //! What the words of a command line ask for.
 
-ghost use Rattle.std.specs.Prelude.{◌≡◌, ◌≢◌, IfOk, OnOk, Err, Some, None, true, false, option_map, option_and_then, codes};
+ghost use Rattle.std.specs.Prelude.{◌≡◌, ◌≢◌, IfOk, OnOk, Err, Some, None, true, false, option_map, option_and_then};
+ghost use Rattle.std.specs.Prelude.{codes};
 ghost use Rattle.clap.specs.Words.{first_of, rows_of, found_of, subcommand_of, subcommand_rows_of};
 ghost use Rattle.rail_words.specs.FixedCommand.{rcv_app, is_taken};
-ghost use Rattle.rail_words.specs.Requests.{IsInRange, asked_by, check_with, conflicts_of, number_to, request_of, simulate_with, steps_of, ticks_of, routes_with, seed_of, size_of, trial_with, trial_within, verify_with, verify_within};
+ghost use Rattle.rail_words.specs.Requests.{IsInRange, asked_by, check_with, conflicts_of, number_to, request_of};
+ghost use Rattle.rail_words.specs.Requests.{simulate_by, routes_by, verify_by, check_by, trial_by};
+ghost use Rattle.rail_words.specs.Requests.{simulate_with, steps_of, ticks_of, routes_with, seed_of, size_of};
+ghost use Rattle.rail_words.specs.Requests.{trial_with, trial_within, verify_with, verify_within};
 ghost use Rattle.rail_words.specs.Words.{asked_of, texts_of};
 ghost use Rattle.rail_words.specs.declared.request.WordsFault.TheVariants as fault;
 
@@ -79,7 +83,8 @@ fn fault_of_kind(kind: ErrorKind) -> WordsFault
 /// The matches of the words.
 fn matches_of<'a>(alloc: Global, words: &'a [String]) -> Result<ArgMatches<'a>, WordsFault>
     ensures taken { OnOk result (is_taken (texts_of words.entry.now) ≡ true) }
-    ensures subcommand { IfOk result (λ matches. subcommand_rows_of matches ≡ subcommand_of rcv_app (texts_of words.entry.now)) }
+    ensures subcommand { IfOk result (λ matches.
+        subcommand_rows_of matches ≡ subcommand_of rcv_app (texts_of words.entry.now)) }
     ensures usage { result ≡ Err WordsFault.Usage → is_taken (texts_of words.entry.now) ≡ false }
 {
     match command(alloc)?.try_get_matches_from(words) {
@@ -90,7 +95,8 @@ fn matches_of<'a>(alloc: Global, words: &'a [String]) -> Result<ArgMatches<'a>, 
 
 /// The subcommand that the words name, and its matches.
 fn entered<'a, 'm>(matches: &'m ArgMatches<'a>) -> Option<(&'a str, &'m ArgMatches<'a>)>
-    ensures { option_map (λ found. (found.0.now, rows_of (found_of found.1.now))) result ≡ subcommand_rows_of matches.now }
+    ensures { option_map (λ found. (found.0.now, rows_of (found_of found.1.now))) result
+        ≡ subcommand_rows_of matches.now }
 {
     matches.subcommand()
 }
@@ -104,7 +110,7 @@ fn value<'a>(values: &ArgMatches<'a>, name: &str) -> Option<&'a str>
 
 /// What the values of `simulate` ask for.
 fn simulate<'a>(values: &ArgMatches<'a>) -> Option<Request<'a>>
-    ensures { option_map asked_of result ≡ simulate_with (first_of (codes "DESIGN") (rows_of (found_of values.now))) (first_of (codes "PLAN") (rows_of (found_of values.now))) }
+    ensures { option_map asked_of result ≡ simulate_by (rows_of (found_of values.now)) }
 {
     let Some(design) = value(values, "DESIGN") else {
         return None;
@@ -117,7 +123,7 @@ fn simulate<'a>(values: &ArgMatches<'a>) -> Option<Request<'a>>
 
 /// What the value of `routes` asks for.
 fn routes<'a>(values: &ArgMatches<'a>) -> Option<Request<'a>>
-    ensures { option_map asked_of result ≡ routes_with (first_of (codes "DESIGN") (rows_of (found_of values.now))) }
+    ensures { option_map asked_of result ≡ routes_by (rows_of (found_of values.now)) }
 {
     let Some(design) = value(values, "DESIGN") else {
         return None;
@@ -153,7 +159,8 @@ fn verify_within<'a>(
     design: &'a str,
     proof: &'a str,
 ) -> Option<Request<'a>>
-    ensures { option_map asked_of result ≡ verify_within (steps_of steps.now) (conflicts_of conflicts.now) (ticks_of ticks.now) design.now proof.now }
+    ensures { option_map asked_of result
+        ≡ verify_within (steps_of steps.now) (conflicts_of conflicts.now) (ticks_of ticks.now) design.now proof.now }
 {
     let Some(steps) = steps_of(steps) else {
         return None;
@@ -175,7 +182,7 @@ fn verify_within<'a>(
 
 /// What the values of `verify` ask for.
 fn verify<'a>(values: &ArgMatches<'a>) -> Option<Request<'a>>
-    ensures { option_map asked_of result ≡ verify_with (first_of (codes "steps") (rows_of (found_of values.now))) (first_of (codes "conflicts") (rows_of (found_of values.now))) (first_of (codes "ticks") (rows_of (found_of values.now))) (first_of (codes "DESIGN") (rows_of (found_of values.now))) (first_of (codes "PROOF") (rows_of (found_of values.now))) }
+    ensures { option_map asked_of result ≡ verify_by (rows_of (found_of values.now)) }
 {
     let Some(steps) = value(values, "steps") else {
         return None;
@@ -197,7 +204,7 @@ fn verify<'a>(values: &ArgMatches<'a>) -> Option<Request<'a>>
 
 /// What the values of `check` ask for.
 fn check<'a>(values: &ArgMatches<'a>) -> Option<Request<'a>>
-    ensures { option_map asked_of result ≡ check_with (first_of (codes "steps") (rows_of (found_of values.now))) (first_of (codes "DESIGN") (rows_of (found_of values.now))) (first_of (codes "PROOF") (rows_of (found_of values.now))) }
+    ensures { option_map asked_of result ≡ check_by (rows_of (found_of values.now)) }
 {
     let Some(text) = value(values, "steps") else {
         return None;
@@ -250,7 +257,7 @@ fn trial_within<'a>(seed: &str, size: &str) -> Option<Request<'a>>
 
 /// What the values of `trial` ask for.
 fn trial<'a>(values: &ArgMatches<'a>) -> Option<Request<'a>>
-    ensures { option_map asked_of result ≡ trial_with (first_of (codes "SEED") (rows_of (found_of values.now))) (first_of (codes "SIZE") (rows_of (found_of values.now))) }
+    ensures { option_map asked_of result ≡ trial_by (rows_of (found_of values.now)) }
 {
     let Some(seed) = value(values, "SEED") else {
         return None;

@@ -12,8 +12,17 @@ use Rattle.run_log.specs.Logs.{LogLine, Learnt, log_text, with_log, AllGoOn, IsL
 
 -- lines that go on, and then one that is the last, are a file that shows n
 abbrev pub EndedRunsAreAccepted : Type 0
-EndedRunsAreAccepted = (refute : Cone → Result (List Lit) ConeFault) (vars n : ℕ) (base : Store) (lines : List LogLine) (d : Derived) → AllGoOn refute vars n base [] lines → IsLast vars n (with_log base lines) d → log_verdict refute vars n base (log_text (lines ++ Learnt d ∷ [])) ≡ Yes n
+EndedRunsAreAccepted = (refute : Cone → Result (List Lit) ConeFault) (vars n : ℕ) (base : Store)
+    (lines : List LogLine) (d : Derived)
+    → AllGoOn refute vars n base [] lines
+    → IsLast vars n (with_log base lines) d
+    → log_verdict refute vars n base (log_text (lines ++ Learnt d ∷ [])) ≡ Yes n
 
 -- where a live clause of a run log says that there is no plan of k steps, it is so
 abbrev pub DenialsAreSo : Type 0
-DenialsAreSo = (refute : Cone → Result (List Lit) ConeFault) (vars n : ℕ) (base : Store) (lines : List LogLine) (id k : ℕ) (clause : List Lit) → AllGoOn refute vars n base [] lines → live_clause (with_log base lines) id ≡ Some clause → steps_denied vars n clause ≡ Some k → Denies refute vars n base k
+DenialsAreSo = (refute : Cone → Result (List Lit) ConeFault) (vars n : ℕ) (base : Store) (lines : List LogLine)
+    (id k : ℕ) (clause : List Lit)
+    → AllGoOn refute vars n base [] lines
+    → live_clause (with_log base lines) id ≡ Some clause
+    → steps_denied vars n clause ≡ Some k
+    → Denies refute vars n base k

@@ -1,5 +1,6 @@
 -- The text of a search for a plan of n steps: the head, and a line for each clause that is derived or forgotten, and for each cone.
-use Rattle.std.specs.Prelude.{ℕ, ◌≡◌, ◌+◌, ◌-◌, Bool, true, false, List, [], ◌∷◌, ◌++◌, filter, flat_map, length, nat_le, Some, Result, Ok, ◌⊎◌}
+use Rattle.std.specs.Prelude.{ℕ, ◌≡◌, ◌+◌, ◌-◌, Bool, true, false, List, [], ◌∷◌, ◌++◌, filter, flat_map, length}
+use Rattle.std.specs.Prelude.{nat_le, Some, Result, Ok, ◌⊎◌}
 use Rattle.std.proofs.Common.{inl, inr}
 use Rattle.std.specs.List.{list_all}
 use Rattle.rail_cone.specs.declared.Cone.{Cone}

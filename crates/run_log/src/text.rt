@@ -2,8 +2,8 @@
 
 ghost use Rattle.std.specs.Prelude.{◌≡◌, ◌+◌, ◌≤◌, ◌++◌, ◌∷◌, [], true, IfOk, IfErr, OnOk, OnErr, Some, length};
 ghost use Rattle.proof_log.specs.Words.{greatest_clause_number};
-ghost use Rattle.sat_core.specs.Faults.{IsFault};
-ghost use Rattle.sat_core.specs.Texts.{ended, derive_line, forget_line, added_line, has_room};
+ghost use Rattle.sat_core.specs.Faults.{IsFault, IsFaultAt};
+ghost use Rattle.sat_core.specs.Texts.{ended, derive_line, forget_line, added_line, has_room, has_room_for};
 
 use proof_log::write_derive;
 use rail_text::put_number;
@@ -106,8 +106,8 @@ impl Text {
     fn put(&mut self, line: &[u8]) -> Result<(), RecordFault>
         ensures text { OnOk result (self.new.bytes.items ≡ self.old.bytes.items ++ line.now) }
         ensures unchanged { OnErr result (self.new.bytes.items ≡ self.old.bytes.items) }
-        ensures room { OnOk result (has_room (Some self.old.limit) (length self.old.bytes.items + length line.now) ≡ true) }
-        ensures fault { IfErr result (IsFault (Some self.old.limit) (length self.old.bytes.items) (length line.now)) }
+        ensures room { OnOk result (has_room_for (Some self.old.limit) self.old.bytes.items line.now ≡ true) }
+        ensures fault { IfErr result (IsFaultAt (Some self.old.limit) self.old.bytes.items line.now) }
         ensures clauses { self.new.arena ≡ self.old.arena }
         ensures learnt { self.new.learnt ≡ self.old.learnt }
         ensures limit { self.new.limit ≡ self.old.limit }

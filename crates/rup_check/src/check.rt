@@ -142,7 +142,9 @@ pub fn follows(
     hints: &[u64],
 ) -> Result<Follow, AllocError>
     ensures value { IfOk result (λ answer. answer ≡ follow_of arena.now clause.now hints.now) }
-    ensures sound { result ≡ Ok Yes → (values : ℕ → Bool) → IsTrue (hints_hold values arena.now hints.now) → IsTrue (clause_holds values clause.now) }
+    ensures sound { result ≡ Ok Yes → (values : ℕ → Bool)
+        → IsTrue (hints_hold values arena.now hints.now)
+        → IsTrue (clause_holds values clause.now) }
 {
     let answer = answer(&mut marks.held, arena, clause, hints);
     marks.held.clear();

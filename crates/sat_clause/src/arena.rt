@@ -1,4 +1,5 @@
-ghost use Rattle.std.specs.Prelude.{◌≡◌, ◌+◌, ◌-◌, ◌≤◌, ◌<◌, ◌↔◌, IsTrue, IsSome, IfOk, OnErr, Some, [], ◌∷◌, ◌++◌, length, take, true, slice_range};
+ghost use Rattle.std.specs.Prelude.{◌≡◌, ◌+◌, ◌-◌, ◌≤◌, ◌<◌, ◌↔◌, IsTrue, IsSome, IfOk, OnErr, Some, [], ◌∷◌, ◌++◌};
+ghost use Rattle.std.specs.Prelude.{length, take, true, slice_range};
 ghost use Rattle.sat_clause.specs.Clauses.{live_clause, without};
 
 use crate::lit::Lit;
@@ -62,7 +63,8 @@ impl Arena {
 
     /// Puts a clause at the end, live, and gives its number. Where there is no memory nothing changes.
     pub fn push(&mut self, clause: &[Lit]) -> Result<u64, AllocError>
-        ensures ok { IfOk result (λ id. (id ≡ length self.new) × (self.new ≡ self.old ++ (clause.now, true) ∷ [])) }
+        ensures ok { IfOk result (λ id.
+            (id ≡ length self.new) × (self.new ≡ self.old ++ (clause.now, true) ∷ [])) }
         ensures err { OnErr result (self.new ≡ self.old) }
     {
         let start = self.lits.len();

@@ -1,12 +1,13 @@
-ghost use Rattle.std.specs.Prelude.{◌≡◌, ◌≤◌, ◌+◌, ◌++◌, ◌∷◌, [], true, length, IsTrue, IsFalse, OnOk, OnErr, IfOk, IfErr};
+ghost use Rattle.std.specs.Prelude.{◌≡◌, ◌≤◌, ◌+◌, ◌++◌, ◌∷◌, [], true, length, IsTrue, IsFalse, OnOk, OnErr, IfOk};
+ghost use Rattle.std.specs.Prelude.{IfErr};
 ghost use Rattle.sat_clause.specs.declared.follow.Follow.TheVariants.{Yes};
 ghost use Rattle.sat_clause.specs.Hints.{follow_of};
 ghost use Rattle.sat_clause.specs.Closed.{IsConsistent};
 ghost use Rattle.sat_trail.specs.Trails.{AllIn, depth};
 ghost use Rattle.sat_trail.specs.Standing.{IsIncreasing};
 ghost use Rattle.sat_core.specs.Kept.{Holds};
-ghost use Rattle.sat_core.specs.Texts.{added_line, derive_line, has_room};
-ghost use Rattle.sat_core.specs.Faults.{IsFault};
+ghost use Rattle.sat_core.specs.Texts.{added_line, derive_line, has_room, has_room_for};
+ghost use Rattle.sat_core.specs.Faults.{IsFault, IsFaultAt};
 ghost use Rattle.sat_core.specs.Units.{HasUnit};
 ghost use Rattle.sat_core.specs.Lines.{ascends, live_among};
 ghost use Rattle.sat_clause.specs.Clauses.{opposite};
@@ -152,11 +153,14 @@ impl<R: Recorder> Solver<R> {
     /// Where there is no memory neither has it. The recorder has to have room for the line.
     pub fn add_clause(&mut self, line: &[u8], clause: &[Lit]) -> Result<u64, AllocError>
         requires in_vars { AllIn self.old.vars clause.now }
-        requires room { has_room (R.limit self.old.recorder) (length (R.text self.old.recorder) + length (added_line line.now)) ≡ true }
-        ensures clauses { OnOk result (R.clauses self.new.recorder ≡ R.clauses self.old.recorder ++ (clause.now, true) ∷ []) }
+        requires room { has_room_for (R.limit self.old.recorder)
+            (R.text self.old.recorder) (added_line line.now) ≡ true }
+        ensures clauses { OnOk result (R.clauses self.new.recorder
+            ≡ R.clauses self.old.recorder ++ (clause.now, true) ∷ []) }
         ensures id { IfOk result (λ id. id ≡ length (R.clauses self.new.recorder)) }
         ensures text { OnOk result (R.text self.new.recorder ≡ R.text self.old.recorder ++ added_line line.now) }
-        ensures err { OnErr result ((R.clauses self.new.recorder ≡ R.clauses self.old.recorder) × (R.text self.new.recorder ≡ R.text self.old.recorder)) }
+        ensures err { OnErr result ((R.clauses self.new.recorder ≡ R.clauses self.old.recorder)
+            × (R.text self.new.recorder ≡ R.text self.old.recorder)) }
         ensures limit { R.limit self.new.recorder ≡ R.limit self.old.recorder }
         ensures learnt { R.learnt self.new.recorder ≡ R.learnt self.old.recorder }
         ensures vars { self.new.vars ≡ self.old.vars }
@@ -177,14 +181,15 @@ impl<R: Recorder> Solver<R> {
 }
 
 impl<R: Recorder> Solver<R> {
-    ghost use Rattle.sat_core.specs.Runs.{IsFound, Ends, IsEnd, IsStep, IsRecorded, IsForgot, Forgot, state_of};
+    ghost use Rattle.sat_core.specs.Runs.{IsFound, Ends, IsEnd, IsStep, IsRecorded, IsForgot, Forgot};
+    ghost use Rattle.sat_core.specs.Solvers.{state_in};
     ghost use Rattle.sat_core.specs.Lines.{MayForget};
     ghost use Rattle.sat_trail.specs.Attached.{is_among, IsBehindNone};
     ghost use Rattle.sat_core.specs.Answers.{IsFinal, IsLearntBeyond};
 
     /// Takes off the levels above the one given.
     fn go_back(&mut self, level: u32)
-        ensures state { state_of (R.clauses self.new.recorder) (R.text self.new.recorder) (R.limit self.new.recorder) (R.learnt self.new.recorder) self.new.derives ≡ state_of (R.clauses self.old.recorder) (R.text self.old.recorder) (R.limit self.old.recorder) (R.learnt self.old.recorder) self.old.derives }
+        ensures state { state_in self.new ≡ state_in self.old }
         ensures recorder { self.new.recorder ≡ self.old.recorder }
         ensures listed { self.new.learnt.items ≡ self.old.learnt.items }
         ensures vars { self.new.vars ≡ self.old.vars }
@@ -205,9 +210,10 @@ impl<R: Recorder> Solver<R> {
         requires follows { follow_of (R.clauses self.old.recorder) clause.now hints.now ≡ Yes }
         requires increasing { IsIncreasing clause.now }
         requires in_vars { AllIn self.old.vars clause.now }
-        ensures recorded { OnOk result (IsRecorded (state_of (R.clauses self.old.recorder) (R.text self.old.recorder) (R.limit self.old.recorder) (R.learnt self.old.recorder) self.old.derives) (state_of (R.clauses self.new.recorder) (R.text self.new.recorder) (R.limit self.new.recorder) (R.learnt self.new.recorder) self.new.derives) clause.now hints.now) }
-        ensures err { OnErr result (state_of (R.clauses self.new.recorder) (R.text self.new.recorder) (R.limit self.new.recorder) (R.learnt self.new.recorder) self.new.derives ≡ state_of (R.clauses self.old.recorder) (R.text self.old.recorder) (R.limit self.old.recorder) (R.learnt self.old.recorder) self.old.derives) }
-        ensures fault { IfErr result (IsFault (R.limit self.old.recorder) (length (R.text self.old.recorder)) (length (derive_line clause.now hints.now))) }
+        ensures recorded { OnOk result (IsRecorded (state_in self.old) (state_in self.new) clause.now hints.now) }
+        ensures err { OnErr result (state_in self.new ≡ state_in self.old) }
+        ensures fault { IfErr result
+            (IsFaultAt (R.limit self.old.recorder) (R.text self.old.recorder) (derive_line clause.now hints.now)) }
         ensures vars { self.new.vars ≡ self.old.vars }
     {
         self.order.raise_all(&self.arena, hints);
@@ -255,8 +261,8 @@ impl<R: Recorder> Solver<R> {
     fn forget(&mut self, id: u64) -> Result<(), RecordFault>
         requires may { MayForget (R.clauses self.old.recorder) (R.learnt self.old.recorder) id }
         requires idle { IsBehindNone self.old.trail.steps id }
-        ensures gone { OnOk result (IsForgot (state_of (R.clauses self.old.recorder) (R.text self.old.recorder) (R.limit self.old.recorder) (R.learnt self.old.recorder) self.old.derives) (state_of (R.clauses self.new.recorder) (R.text self.new.recorder) (R.limit self.new.recorder) (R.learnt self.new.recorder) self.new.derives) id) }
-        ensures err { OnErr result ((state_of (R.clauses self.new.recorder) (R.text self.new.recorder) (R.limit self.new.recorder) (R.learnt self.new.recorder) self.new.derives) ≡ (state_of (R.clauses self.old.recorder) (R.text self.old.recorder) (R.limit self.old.recorder) (R.learnt self.old.recorder) self.old.derives)) }
+        ensures gone { OnOk result (IsForgot (state_in self.old) (state_in self.new) id) }
+        ensures err { OnErr result (state_in self.new ≡ state_in self.old) }
         ensures listed { self.new.learnt.items ≡ self.old.learnt.items }
         ensures vars { self.new.vars ≡ self.old.vars }
     {
@@ -269,7 +275,7 @@ impl<R: Recorder> Solver<R> {
 
     /// Forgets the derived clause at a place where it may be forgotten.
     fn forget_if_long(&mut self, place: usize) -> Result<(), RecordFault>
-        ensures gone { (assumptions : _) → Forgot assumptions (state_of (R.clauses self.old.recorder) (R.text self.old.recorder) (R.limit self.old.recorder) (R.learnt self.old.recorder) self.old.derives) (state_of (R.clauses self.new.recorder) (R.text self.new.recorder) (R.limit self.new.recorder) (R.learnt self.new.recorder) self.new.derives) }
+        ensures gone { (assumptions : _) → Forgot assumptions (state_in self.old) (state_in self.new) }
         ensures listed { self.new.learnt.items ≡ self.old.learnt.items }
         ensures vars { self.new.vars ≡ self.old.vars }
     {
@@ -285,7 +291,7 @@ impl<R: Recorder> Solver<R> {
 
     /// Forgets long derived clauses, those of most levels first, where there are many. It ends where the recorder has no room.
     fn forget_some(&mut self)
-        ensures gone { (assumptions : _) → Forgot assumptions (state_of (R.clauses self.old.recorder) (R.text self.old.recorder) (R.limit self.old.recorder) (R.learnt self.old.recorder) self.old.derives) (state_of (R.clauses self.new.recorder) (R.text self.new.recorder) (R.limit self.new.recorder) (R.learnt self.new.recorder) self.new.derives) }
+        ensures gone { (assumptions : _) → Forgot assumptions (state_in self.old) (state_in self.new) }
         ensures vars { self.new.vars ≡ self.old.vars }
     {
         if self.live <= self.room {
@@ -314,7 +320,7 @@ impl<R: Recorder> Solver<R> {
     pub fn solve(&mut self, assumptions: &[Lit], left: u64) -> Answer
         requires assumed { AllIn self.old.vars assumptions.now }
         requires consistent { IsConsistent assumptions.now }
-        ensures run { Ends (state_of (R.clauses self.old.recorder) (R.text self.old.recorder) (R.limit self.old.recorder) (R.learnt self.old.recorder) self.old.derives) (state_of (R.clauses self.new.recorder) (R.text self.new.recorder) (R.limit self.new.recorder) (R.learnt self.new.recorder) self.new.derives) assumptions.now self.old.vars left result }
+        ensures run { Ends (state_in self.old) (state_in self.new) assumptions.now self.old.vars left result }
         ensures vars { self.new.vars ≡ self.old.vars }
         ensures level { depth self.new.trail.steps ≡ 0 }
     {
@@ -327,7 +333,7 @@ impl<R: Recorder> Solver<R> {
     fn search(&mut self, assumptions: &[Lit], left: u64) -> Answer
         requires assumed { AllIn self.old.vars assumptions.now }
         requires consistent { IsConsistent assumptions.now }
-        ensures run { Ends (state_of (R.clauses self.old.recorder) (R.text self.old.recorder) (R.limit self.old.recorder) (R.learnt self.old.recorder) self.old.derives) (state_of (R.clauses self.new.recorder) (R.text self.new.recorder) (R.limit self.new.recorder) (R.learnt self.new.recorder) self.new.derives) assumptions.now self.old.vars left result }
+        ensures run { Ends (state_in self.old) (state_in self.new) assumptions.now self.old.vars left result }
         ensures vars { self.new.vars ≡ self.old.vars }
     {
         'derive: for done in 0..=left {
@@ -342,7 +348,7 @@ impl<R: Recorder> Solver<R> {
     fn step(&mut self, assumptions: &[Lit], last: bool) -> Option<Answer>
         requires assumed { AllIn self.old.vars assumptions.now }
         requires consistent { IsConsistent assumptions.now }
-        ensures step { IsStep (state_of (R.clauses self.old.recorder) (R.text self.old.recorder) (R.limit self.old.recorder) (R.learnt self.old.recorder) self.old.derives) (state_of (R.clauses self.new.recorder) (R.text self.new.recorder) (R.limit self.new.recorder) (R.learnt self.new.recorder) self.new.derives) assumptions.now self.old.vars last result }
+        ensures step { IsStep (state_in self.old) (state_in self.new) assumptions.now self.old.vars last result }
         ensures vars { self.new.vars ≡ self.old.vars }
     {
         match self.round(assumptions) {
@@ -357,7 +363,7 @@ impl<R: Recorder> Solver<R> {
     fn finish(&mut self, why: Learnt, _assumptions: &[Lit], last: bool) -> Answer
         requires assumed { AllIn self.old.vars _assumptions.now }
         requires final_ { IsFinal (R.clauses self.old.recorder) _assumptions.now why.clause.items why.hints.items }
-        ensures end { IsEnd (state_of (R.clauses self.old.recorder) (R.text self.old.recorder) (R.limit self.old.recorder) (R.learnt self.old.recorder) self.old.derives) (state_of (R.clauses self.new.recorder) (R.text self.new.recorder) (R.limit self.new.recorder) (R.learnt self.new.recorder) self.new.derives) _assumptions.now self.old.vars last result }
+        ensures end { IsEnd (state_in self.old) (state_in self.new) _assumptions.now self.old.vars last result }
         ensures vars { self.new.vars ≡ self.old.vars }
     {
         if last {
@@ -381,8 +387,9 @@ impl<R: Recorder> Solver<R> {
     /// Records a new line, unless no line is left.
     fn learn(&mut self, why: Learnt, _assumptions: &[Lit], last: bool) -> Option<Answer>
         requires in_vars { AllIn self.old.vars why.clause.items }
-        requires learnt { IsLearntBeyond (R.clauses self.old.recorder) _assumptions.now why.clause.items why.hints.items }
-        ensures step { IsStep (state_of (R.clauses self.old.recorder) (R.text self.old.recorder) (R.limit self.old.recorder) (R.learnt self.old.recorder) self.old.derives) (state_of (R.clauses self.new.recorder) (R.text self.new.recorder) (R.limit self.new.recorder) (R.learnt self.new.recorder) self.new.derives) _assumptions.now self.old.vars last result }
+        requires learnt { IsLearntBeyond (R.clauses self.old.recorder) _assumptions.now
+            why.clause.items why.hints.items }
+        ensures step { IsStep (state_in self.old) (state_in self.new) _assumptions.now self.old.vars last result }
         ensures vars { self.new.vars ≡ self.old.vars }
     {
         if last {
@@ -410,7 +417,7 @@ impl<R: Recorder> Solver<R> {
     fn round(&mut self, assumptions: &[Lit]) -> Result<Found, AllocError>
         requires assumed { AllIn self.old.vars assumptions.now }
         requires consistent { IsConsistent assumptions.now }
-        ensures state { state_of (R.clauses self.new.recorder) (R.text self.new.recorder) (R.limit self.new.recorder) (R.learnt self.new.recorder) self.new.derives ≡ state_of (R.clauses self.old.recorder) (R.text self.old.recorder) (R.limit self.old.recorder) (R.learnt self.old.recorder) self.old.derives }
+        ensures state { state_in self.new ≡ state_in self.old }
         ensures vars { self.new.vars ≡ self.old.vars }
         ensures found { IfOk result (λ f. IsFound (R.clauses self.old.recorder) assumptions.now self.old.vars f) }
     {

@@ -10,7 +10,8 @@ use Rattle.sat_trail.specs.Watches.{entries}
 
 -- the literal is one of the clause of this number, where that is attached and not loose
 abbrev pub IsOf : Seen → List ℕ → ℕ → Lit → Type 0
-IsOf seen loose id l = (c : List Lit) → attached_clause seen id ≡ Some c → is_among loose id ≡ false → is_held c l ≡ true
+IsOf seen loose id l = (c : List Lit) → attached_clause seen id ≡ Some c → is_among loose id ≡ false
+    → is_held c l ≡ true
 
 -- the number is below the count of pairs, and the blocker is a literal of its clause
 pub record IsBlocked (seen : Seen) (loose : List ℕ) (count : ℕ) (e : Entry) : Type 0 where

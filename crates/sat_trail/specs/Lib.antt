@@ -10,4 +10,5 @@ pub mod Trails
 pub mod View
 pub mod Walks
 pub mod Watches
+pub mod Watching
 pub mod Settled

@@ -64,7 +64,8 @@ fn is_true_first(trail: &Assigned, arena: &Arena, id: u64) -> bool
 
 /// What is left of the front before a clause of this number is attached: none of its numbers is this one.
 pub fn without(settled: Settled, id: u64) -> Settled
-    ensures same { (trail : _) (ids : List ℕ) → IsSettled trail ids settled.count settled.top → IsSettled trail ids result.count result.top }
+    ensures same { (trail : _) (ids : List ℕ) → IsSettled trail ids settled.count settled.top
+        → IsSettled trail ids result.count result.top }
     ensures apart { (result.count ≡ 0) ⊎ (result.top < id) }
 {
     if settled.top < id {

@@ -1,12 +1,15 @@
-ghost use Rattle.std.specs.Prelude.{◌≡◌, ◌+◌, ◌≤◌, ◌<◌, [], ◌∷◌, ◌++◌, length, take, IfOk, OnOk, OnErr, Some, None, IsTrue, IsFalse, IsSome, MatchOption, IfSome, IfNone, true, ◌⊎◌, nat_le, option_map};
+ghost use Rattle.std.specs.Prelude.{◌≡◌, ◌+◌, ◌≤◌, ◌<◌, [], ◌∷◌, ◌++◌, length, take, IfOk, OnOk, OnErr, Some, None};
+ghost use Rattle.std.specs.Prelude.{IsTrue, IsFalse, IsSome, MatchOption, IfSome, IfNone, true, ◌⊎◌, nat_le};
+ghost use Rattle.std.specs.Prelude.{option_map};
 ghost use Rattle.std.specs.List.{filter};
 ghost use Rattle.sat_clause.specs.Hints.{is_held};
 ghost use Rattle.sat_clause.specs.Closed.{IsClosed};
 ghost use Rattle.sat_clause.specs.Clauses.{live_clause, opposite};
-ghost use Rattle.sat_trail.specs.Trails.{lits, IsFresh, IsTrail, IsLevelled, depth, IsIn, AllIn, step_of, reason_of, value_of, lit_at};
+ghost use Rattle.sat_trail.specs.Trails.{lits, IsFresh, IsTrail, IsLevelled, depth, IsIn, AllIn, step_of, reason_of};
+ghost use Rattle.sat_trail.specs.Trails.{value_of, lit_at, decision, HasValue};
 ghost use Rattle.sat_trail.specs.Attached.{AreLive, attached_clause, with_attached, without_attached, IsBehindNone};
 ghost use Rattle.sat_trail.specs.Forced.{IsForced, VarsUpTo, IsTotal};
-ghost use Rattle.sat_trail.specs.Walks.{IsConflict};
+ghost use Rattle.sat_trail.specs.Walks.{IsConflict, IsClosedOrFalse};
 
 use crate::assigned::Assigned;
 use crate::settled::{Settled, settle, without};
@@ -33,12 +36,12 @@ impl Model for Trail {
 
     ghost view = { λ t. t.assigned };
 
-    ghost use Rattle.sat_trail.specs.Watches.{rows, IsWatching};
     ghost use Rattle.sat_trail.specs.Settled.{IsSettled};
-    ghost use Rattle.sat_trail.specs.Blockers.{AllBlocked};
-    ghost use Rattle.std.specs.Prelude.{length};
+    ghost use Rattle.sat_trail.specs.Watching.{IsWatchingIn, AllBlockedIn};
 
-    ghost invariant = { λ t. IsWatching t.assigned t.watches.loose.items (rows t.watches.lists.items) t.watches.pairs.items t.head × IsSettled t.assigned t.watches.loose.items t.settled.count t.settled.top × AllBlocked t.assigned.attached t.watches.loose.items (length t.watches.pairs.items) t.watches.lists.items };
+    ghost invariant = { λ t. IsWatchingIn t.assigned t.watches t.head
+        × IsSettled t.assigned t.watches.loose.items t.settled.count t.settled.top
+        × AllBlockedIn t.assigned.attached t.watches };
 }
 
 impl Trail {
@@ -107,7 +110,7 @@ impl Trail {
     pub fn decide(&mut self, lit: Lit)
         requires fresh { IsFresh (lits self.old.steps) lit }
         requires in_vars { IsIn self.old.vars lit }
-        ensures pushed { self.new ≡ record self.old { steps = self.old.steps ++ (record { lit = lit; level = depth self.old.steps + 1; reason = None }) ∷ [] } }
+        ensures pushed { self.new ≡ record self.old { steps = self.old.steps ++ decision self.old.steps lit ∷ [] } }
         ensures room { length self.old.steps < self.old.vars }
     {
         self.assigned.decide(lit);
@@ -129,7 +132,8 @@ impl Trail {
         requires live { IsSome (live_clause arena.now id) }
         requires apart { attached_clause self.old.attached id ≡ None }
         requires in_vars { IfSome (live_clause arena.now id) (AllIn self.old.vars) }
-        ensures ok { OnOk result (self.new ≡ record self.old { attached = with_attached self.old.attached id arena.now }) }
+        ensures ok { OnOk result (self.new
+            ≡ record self.old { attached = with_attached self.old.attached id arena.now }) }
         ensures err { OnErr result (self.new ≡ self.old) }
     {
         watch(
@@ -158,7 +162,7 @@ impl Trail {
         requires in_vars { VarsUpTo arena.now self.old.vars }
         ensures trail { IsTrail arena.now self.new.steps }
         ensures forced { IsForced self.old self.new }
-        ensures closed { IfOk result (λ r. MatchOption r (IsClosed arena.now (lits self.new.steps)) (IsConflict arena.now (lits self.new.steps))) }
+        ensures closed { IfOk result (IsClosedOrFalse arena.now (lits self.new.steps)) }
     {
         let found = propagate_all(
             &mut self.assigned,
@@ -184,7 +188,7 @@ impl Trail {
     /// Whether the variable of a literal has no value.
     pub fn lacks(&self, l: Lit) -> bool
         ensures yes { IsTrue result → IsFresh (lits self.now.steps) l }
-        ensures no { IsFalse result → (is_held (lits self.now.steps) l ≡ true) ⊎ (is_held (lits self.now.steps) (opposite l) ≡ true) }
+        ensures no { IsFalse result → HasValue (lits self.now.steps) l }
     {
         self.assigned.lacks(l)
     }

@@ -1,4 +1,6 @@
-ghost use Rattle.std.specs.Prelude.{◌≡◌, ◌≢◌, ◌≤◌, ◌<◌, ◌+◌, ℕ, IsSome, IsTrue, IfOk, OnOk, IfSome, IfNone, Some, None, true, false, map, [], ◌∷◌, ◌++◌, length, take, reverse, slice_index_or, vec_len, Bool};
+ghost use Rattle.std.specs.Prelude.{◌≡◌, ◌≢◌, ◌≤◌, ◌<◌, ◌+◌, ℕ, IsSome, IsTrue, IfOk, OnOk, IfSome, IfNone, Some, None};
+ghost use Rattle.std.specs.Prelude.{true, false, map, [], ◌∷◌, ◌++◌, length, take, reverse, slice_index_or, vec_len};
+ghost use Rattle.std.specs.Prelude.{Bool};
 ghost use Rattle.std.specs.List.{list_any};
 ghost use Rattle.sat_clause.specs.Clauses.{opposite};
 ghost use Rattle.sat_clause.specs.Hints.{same_lit, is_held, open_lits, follow_of};
@@ -55,13 +57,15 @@ fn to_unique(
     requires trail { IsTrail arena.now steps.now }
     requires closed { IsClosed arena.now (take base (lits steps.now)) }
     requires base { base ≤ length steps.now }
-    requires reasoned { (i : ℕ) (d : _) → base < i → i < length steps.now → IsSome (slice_index_or steps.now i d).reason }
+    requires reasoned { (i : ℕ) (d : _) → base < i → i < length steps.now
+        → IsSome (slice_index_or steps.now i d).reason }
     requires walk { Walk arena.now (lits steps.now) [] needed.old (reverse back.old.items) }
     requires some { 0 < length back.old.items }
     requires stands { NegationsStand arena.now needed.old }
     ensures stands { OnOk result (NegationsStand arena.now needed.new) }
     ensures stands_too { IfOk result (λ u. Stands arena.now (opposite u)) }
-    ensures walk { IfOk result (λ u. Walk arena.now (take base (lits steps.now)) (u ∷ []) needed.new (reverse back.new.items)) }
+    ensures walk { IfOk result (λ u.
+        Walk arena.now (take base (lits steps.now)) (u ∷ []) needed.new (reverse back.new.items)) }
     ensures some { OnOk result (0 < length back.new.items) }
     ensures member { IfOk result (λ u. is_held (lits steps.now) u ≡ true) }
 {
@@ -280,7 +284,8 @@ pub fn learn(
     requires trail { IsTrail arena.now steps.now }
     requires closed { IsClosed arena.now (take base (lits steps.now)) }
     requires base { base ≤ length steps.now }
-    requires reasoned { (i : ℕ) (d : _) → base < i → i < length steps.now → IsSome (slice_index_or steps.now i d).reason }
+    requires reasoned { (i : ℕ) (d : _) → base < i → i < length steps.now
+        → IsSome (slice_index_or steps.now i d).reason }
     requires conflict { IsConflict arena.now (lits steps.now) conflict }
     ensures follows { IfOk result (λ r. follow_of arena.now r.clause.items r.hints.items ≡ Yes) }
     ensures increasing { IfOk result (λ r. IsIncreasing r.clause.items) }

@@ -1,4 +1,6 @@
-ghost use Rattle.std.specs.Prelude.{◌≡◌, ◌++◌, ◌∷◌, [], ◌<◌, ◌≤◌, ◌+◌, ◌⊎◌, ℕ, List, true, false, not, nat_eq, map, length, IfOk, OnOk, OnErr, IfSome, IfNone, Some, None, IsSome, IsTrue, IsFalse, MatchOption, take, drop, set, slice_get, slice_index_or};
+ghost use Rattle.std.specs.Prelude.{◌≡◌, ◌++◌, ◌∷◌, [], ◌<◌, ◌≤◌, ◌+◌, ◌⊎◌, ℕ, List, true, false, not, nat_eq, map};
+ghost use Rattle.std.specs.Prelude.{length, IfOk, OnOk, OnErr, IfSome, IfNone, Some, None, IsSome, IsTrue, IsFalse};
+ghost use Rattle.std.specs.Prelude.{MatchOption, take, drop, set, slice_get, slice_index_or};
 ghost use Rattle.std.specs.List.{All, filter};
 ghost use Rattle.sat_clause.specs.declared.lit.Lit.{Lit};
 ghost use Rattle.sat_clause.specs.Clauses.{opposite, live_clause};
@@ -8,10 +10,12 @@ ghost use Rattle.sat_trail.specs.Trails.{lits, IsTrail, AllIn, depth};
 ghost use Rattle.sat_trail.specs.Attached.{Seen, AreLive, IsSameBut, attached_clause, is_among};
 ghost use Rattle.sat_trail.specs.Blockers.{IsBlocked, AllBlocked};
 ghost use Rattle.sat_trail.specs.Forced.{IsForced, VarsUpTo};
-ghost use Rattle.sat_trail.specs.Walks.{IsConflict};
-ghost use Rattle.sat_trail.specs.Watches.{code_of, row_at, edit, entries, rows, IsCut, other_in, IsWatching, IsOpenPair, IsLooseOrWatched, Pending, Looked};
+ghost use Rattle.sat_trail.specs.Walks.{IsConflict, IsClosedOrFalse};
+ghost use Rattle.sat_trail.specs.Watches.{code_of, row_at, edit, entries, rows, IsCut, other_in, IsWatching};
+ghost use Rattle.sat_trail.specs.Watches.{IsOpenPair, IsLooseOrWatched, Pending, Looked, OthersAreFalse};
 ghost use Rattle.sat_trail.specs.Scans.{Says};
 ghost use Rattle.sat_trail.specs.Settled.{IsSettled};
+ghost use Rattle.sat_trail.specs.Watching.{row_in, IsWatchingIn, AllBlockedIn, IsLooseOrWatchedIn, PendingIn, LookedIn};
 
 use crate::assigned::Assigned;
 use crate::entry::Entry;
@@ -52,7 +56,9 @@ pub fn put_entry(
     requires { place < length lists.old.items }
     ensures ok { OnOk result (rows lists.new.items ≡ edit (λ r. r ++ id ∷ []) (rows lists.old.items) place) }
     ensures err { OnErr result (rows lists.new.items ≡ rows lists.old.items) }
-    ensures blocked { (seen : Seen) (loose : List ℕ) (count : ℕ) → IsBlocked seen loose count (record { id = id; blocker = blocker }) → AllBlocked seen loose count lists.old.items → AllBlocked seen loose count lists.new.items }
+    ensures blocked { (seen : Seen) (loose : List ℕ) (count : ℕ)
+        → IsBlocked seen loose count (record { id = id; blocker = blocker })
+        → AllBlocked seen loose count lists.old.items → AllBlocked seen loose count lists.new.items }
 {
     lists[place].push(Entry { id, blocker })?;
     Ok(())
@@ -62,7 +68,8 @@ pub fn put_entry(
 fn cut_entry(lists: &mut Vec<Vec<Entry>>, place: usize, i: usize)
     requires { i < length (row_at (rows lists.old.items) place) }
     ensures cut { IsCut (rows lists.old.items) (rows lists.new.items) place i }
-    ensures blocked { (seen : Seen) (loose : List ℕ) (count : ℕ) → AllBlocked seen loose count lists.old.items → AllBlocked seen loose count lists.new.items }
+    ensures blocked { (seen : Seen) (loose : List ℕ) (count : ℕ)
+        → AllBlocked seen loose count lists.old.items → AllBlocked seen loose count lists.new.items }
 {
     lists[place].swap_remove(i);
 }
@@ -80,17 +87,20 @@ fn set_blocker(lists: &mut Vec<Vec<Entry>>, place: usize, i: usize, entry: Entry
     requires within { i < length (row_at (rows lists.old.items) place) }
     requires same { entry.id ≡ slice_index_or (row_at (rows lists.old.items) place) i 0 }
     ensures rows { rows lists.new.items ≡ rows lists.old.items }
-    ensures blocked { (seen : Seen) (loose : List ℕ) (count : ℕ) → IsBlocked seen loose count entry → AllBlocked seen loose count lists.old.items → AllBlocked seen loose count lists.new.items }
+    ensures blocked { (seen : Seen) (loose : List ℕ) (count : ℕ) → IsBlocked seen loose count entry
+        → AllBlocked seen loose count lists.old.items → AllBlocked seen loose count lists.new.items }
 {
     put_at(&mut lists[place], i, entry);
 }
 
 /// The entry at an index of a list.
 fn listed(lists: &[Vec<Entry>], place: usize, i: usize) -> Option<Entry>
-    ensures some { IfSome result (λ e. (i < length (row_at (rows lists.now) place)) × (e.id ≡ slice_index_or (row_at (rows lists.now) place) i 0)) }
+    ensures some { IfSome result (λ e. (i < length (row_at (rows lists.now) place))
+        × (e.id ≡ slice_index_or (row_at (rows lists.now) place) i 0)) }
     ensures none { IfNone result (length (row_at (rows lists.now) place) ≤ i) }
     ensures bound { IfSome result (λ _. i + 1 < 18446744073709551616) }
-    ensures blocked { IfSome result (λ e. (seen : Seen) (loose : List ℕ) (count : ℕ) → AllBlocked seen loose count lists.now → IsBlocked seen loose count e) }
+    ensures blocked { IfSome result (λ e. (seen : Seen) (loose : List ℕ) (count : ℕ)
+        → AllBlocked seen loose count lists.now → IsBlocked seen loose count e) }
 {
     let Some(list) = lists.get(place) else {
         return None;
@@ -117,8 +127,10 @@ fn take_out_all(lists: &mut Vec<Vec<Entry>>, id: u64)
 /// Takes a clause out of all lists before its number is used for another one. It stands in none where no number is this high.
 fn make_free(lists: &mut Vec<Vec<Entry>>, count: usize, id: u64)
     ensures size { length (rows lists.new.items) ≡ length (rows lists.old.items) }
-    ensures others { (k x : ℕ) → (x ≡ id → ⊥) → is_among (row_at (rows lists.old.items) k) x ≡ true → is_among (row_at (rows lists.new.items) k) x ≡ true }
-    ensures blocked { (seen now : Seen) (loose : List ℕ) (c : List Lit) → IsSameBut seen now id c → AllBlocked seen loose count lists.old.items → AllBlocked now loose count lists.new.items }
+    ensures others { (k x : ℕ) → (x ≡ id → ⊥) → is_among (row_at (rows lists.old.items) k) x ≡ true
+        → is_among (row_at (rows lists.new.items) k) x ≡ true }
+    ensures blocked { (seen now : Seen) (loose : List ℕ) (c : List Lit) → IsSameBut seen now id c
+        → AllBlocked seen loose count lists.old.items → AllBlocked now loose count lists.new.items }
 {
     if id < count as u64 {
         take_out_all(lists, id);
@@ -148,7 +160,7 @@ fn open_literal(trail: &Assigned, clause: &[Lit], other: Lit, place: &mut usize)
     ensures member { IfSome result (λ l. is_held clause.now l ≡ true) }
     ensures apart { IfSome result (λ l. same_lit l other ≡ false) }
     ensures not_false { IfSome result (λ l. is_held (lits trail.now.steps) (opposite l) ≡ false) }
-    ensures none { IfNone result ((l : _) → is_held clause.now l ≡ true → same_lit l other ≡ false → is_held (lits trail.now.steps) (opposite l) ≡ true) }
+    ensures none { IfNone result (OthersAreFalse (lits trail.now.steps) clause.now other) }
 {
     for (i, l) in clause.iter().enumerate() {
         if !trail.holds(negated(*l)) && !same(*l, other) {
@@ -180,7 +192,7 @@ fn replacement(trail: &Assigned, clause: &[Lit], other: Lit, start: &mut usize) 
     ensures member { IfSome result (λ l. is_held clause.now l ≡ true) }
     ensures apart { IfSome result (λ l. same_lit l other ≡ false) }
     ensures not_false { IfSome result (λ l. is_held (lits trail.now.steps) (opposite l) ≡ false) }
-    ensures none { IfNone result ((l : _) → is_held clause.now l ≡ true → same_lit l other ≡ false → is_held (lits trail.now.steps) (opposite l) ≡ true) }
+    ensures none { IfNone result (OthersAreFalse (lits trail.now.steps) clause.now other) }
 {
     let first = if *start < clause.len() { *start } else { 0 };
     let mut place = 0;
@@ -219,7 +231,7 @@ fn has(clause: &[Lit], l: Lit) -> bool
 /// Whether a clause is false. All its literals but one are, and that one isn't true.
 fn is_false(trail: &Assigned, clause: &[Lit], other: Lit) -> bool
     requires not_true { is_held (lits trail.now.steps) other ≡ false }
-    requires others { (l : _) → is_held clause.now l ≡ true → same_lit l other ≡ false → is_held (lits trail.now.steps) (opposite l) ≡ true }
+    requires others { OthersAreFalse (lits trail.now.steps) clause.now other }
     ensures yes { IsTrue result → open_lits (lits trail.now.steps) clause.now ≡ [] }
     ensures no { IsFalse result → unit_of (lits trail.now.steps) clause.now ≡ Some other }
 {
@@ -238,19 +250,20 @@ fn look_at(
     requires attached { AreLive arena.now trail.old.attached }
     requires trail { IsTrail arena.now trail.old.steps }
     requires in_vars { VarsUpTo arena.now trail.old.vars }
-    requires watching { IsWatching trail.old watches.old.loose.items (rows watches.old.lists.items) watches.old.pairs.items head }
-    requires blocked { AllBlocked trail.old.attached watches.old.loose.items (length watches.old.pairs.items) watches.old.lists.items }
+    requires watching { IsWatchingIn trail.old watches.old head }
+    requires blocked { AllBlockedIn trail.old.attached watches.old }
     requires entry { IsBlocked trail.old.attached watches.old.loose.items (length watches.old.pairs.items) entry }
     requires is_false { is_held (lits trail.old.steps) (opposite w) ≡ true }
     ensures trail { IsTrail arena.now trail.new.steps }
     ensures forced { IsForced trail.old trail.new }
-    ensures watching { IsWatching trail.new watches.new.loose.items (rows watches.new.lists.items) watches.new.pairs.items head }
-    ensures blocked { AllBlocked trail.new.attached watches.new.loose.items (length watches.new.pairs.items) watches.new.lists.items }
+    ensures watching { IsWatchingIn trail.new watches.new head }
+    ensures blocked { AllBlockedIn trail.new.attached watches.new }
     ensures loose { watches.new.loose.items ≡ watches.old.loose.items }
     ensures count { length watches.new.pairs.items ≡ length watches.old.pairs.items }
-    ensures row { row_at (rows watches.new.lists.items) (code_of w) ≡ row_at (rows watches.old.lists.items) (code_of w) }
-    ensures pending { (left : List ℕ) → Pending trail.old watches.old.loose.items watches.old.pairs.items w left → Pending trail.new watches.new.loose.items watches.new.pairs.items w left }
-    ensures looked { IfOk result (Looked trail.new watches.new.loose.items watches.new.pairs.items arena.now w entry.id) }
+    ensures row { row_in watches.new (code_of w) ≡ row_in watches.old (code_of w) }
+    ensures pending { (left : List ℕ) → PendingIn trail.old watches.old w left
+        → PendingIn trail.new watches.new w left }
+    ensures looked { IfOk result (LookedIn trail.new watches.new arena.now w entry.id) }
 {
     let _ = trail.steps();
     if trail.holds(entry.blocker) {
@@ -298,17 +311,17 @@ fn look_at_all(
     requires attached { AreLive arena.now trail.old.attached }
     requires trail { IsTrail arena.now trail.old.steps }
     requires in_vars { VarsUpTo arena.now trail.old.vars }
-    requires watching { IsWatching trail.old watches.old.loose.items (rows watches.old.lists.items) watches.old.pairs.items head }
-    requires blocked { AllBlocked trail.old.attached watches.old.loose.items (length watches.old.pairs.items) watches.old.lists.items }
+    requires watching { IsWatchingIn trail.old watches.old head }
+    requires blocked { AllBlockedIn trail.old.attached watches.old }
     requires within { head < length trail.old.steps }
     requires there { (d : _) → (slice_index_or trail.old.steps head d).lit ≡ opposite w }
     requires level { (d : _) → (slice_index_or trail.old.steps head d).level ≡ depth trail.old.steps }
     ensures trail { IsTrail arena.now trail.new.steps }
     ensures forced { IsForced trail.old trail.new }
-    ensures watching { IsWatching trail.new watches.new.loose.items (rows watches.new.lists.items) watches.new.pairs.items head }
-    ensures blocked { AllBlocked trail.new.attached watches.new.loose.items (length watches.new.pairs.items) watches.new.lists.items }
+    ensures watching { IsWatchingIn trail.new watches.new head }
+    ensures blocked { AllBlockedIn trail.new.attached watches.new }
     ensures loose { watches.new.loose.items ≡ watches.old.loose.items }
-    ensures next { IfOk result (λ o. IfNone o (IsWatching trail.new watches.new.loose.items (rows watches.new.lists.items) watches.new.pairs.items (head + 1))) }
+    ensures next { IfOk result (λ o. IfNone o (IsWatchingIn trail.new watches.new (head + 1))) }
     ensures found { IfOk result (λ o. IfSome o (IsConflict arena.now (lits trail.new.steps))) }
 {
     let place = code(w);
@@ -336,7 +349,8 @@ fn next_false(trail: &Assigned, head: usize) -> Option<Lit>
     ensures within { IfSome result (λ _. head < length trail.now.steps) }
     ensures bound { IfSome result (λ _. head < trail.now.vars) }
     ensures there { IfSome result (λ w. (d : _) → (slice_index_or trail.now.steps head d).lit ≡ opposite w) }
-    ensures level { IfSome result (λ _. (d : _) → (slice_index_or trail.now.steps head d).level ≡ depth trail.now.steps) }
+    ensures level { IfSome result (λ _. (d : _)
+        → (slice_index_or trail.now.steps head d).level ≡ depth trail.now.steps) }
 {
     let depth = trail.depth();
     let steps = trail.steps();
@@ -359,12 +373,12 @@ fn advance(
     requires attached { AreLive arena.now trail.old.attached }
     requires trail { IsTrail arena.now trail.old.steps }
     requires in_vars { VarsUpTo arena.now trail.old.vars }
-    requires watching { IsWatching trail.old watches.old.loose.items (rows watches.old.lists.items) watches.old.pairs.items head.old }
-    requires blocked { AllBlocked trail.old.attached watches.old.loose.items (length watches.old.pairs.items) watches.old.lists.items }
+    requires watching { IsWatchingIn trail.old watches.old head.old }
+    requires blocked { AllBlockedIn trail.old.attached watches.old }
     ensures trail { IsTrail arena.now trail.new.steps }
     ensures forced { IsForced trail.old trail.new }
-    ensures watching { IsWatching trail.new watches.new.loose.items (rows watches.new.lists.items) watches.new.pairs.items head.new }
-    ensures blocked { AllBlocked trail.new.attached watches.new.loose.items (length watches.new.pairs.items) watches.new.lists.items }
+    ensures watching { IsWatchingIn trail.new watches.new head.new }
+    ensures blocked { AllBlockedIn trail.new.attached watches.new }
     ensures loose { watches.new.loose.items ≡ watches.old.loose.items }
     ensures found { IfOk result (λ o. IfSome o (IsConflict arena.now (lits trail.new.steps))) }
 {
@@ -381,7 +395,7 @@ fn advance(
 fn rest(trail: &Assigned, watches: &Watches, settled: Settled, head: usize, arena: &Arena) -> Next
     requires attached { AreLive arena.now trail.now.attached }
     requires trail { IsTrail arena.now trail.now.steps }
-    requires watching { IsWatching trail.now watches.now.loose.items (rows watches.now.lists.items) watches.now.pairs.items head }
+    requires watching { IsWatchingIn trail.now watches.now head }
     requires settled { IsSettled trail.now watches.now.loose.items settled.count settled.top }
     ensures { Says arena.now (lits trail.now.steps) result }
 {
@@ -402,15 +416,15 @@ pub fn propagate_all(
     requires attached { AreLive arena.now trail.old.attached }
     requires trail { IsTrail arena.now trail.old.steps }
     requires in_vars { VarsUpTo arena.now trail.old.vars }
-    requires watching { IsWatching trail.old watches.old.loose.items (rows watches.old.lists.items) watches.old.pairs.items head.old }
-    requires blocked { AllBlocked trail.old.attached watches.old.loose.items (length watches.old.pairs.items) watches.old.lists.items }
+    requires watching { IsWatchingIn trail.old watches.old head.old }
+    requires blocked { AllBlockedIn trail.old.attached watches.old }
     requires settled { IsSettled trail.old watches.old.loose.items settled.count settled.top }
     ensures trail { IsTrail arena.now trail.new.steps }
     ensures forced { IsForced trail.old trail.new }
-    ensures watching { IsWatching trail.new watches.new.loose.items (rows watches.new.lists.items) watches.new.pairs.items head.new }
-    ensures blocked { AllBlocked trail.new.attached watches.new.loose.items (length watches.new.pairs.items) watches.new.lists.items }
+    ensures watching { IsWatchingIn trail.new watches.new head.new }
+    ensures blocked { AllBlockedIn trail.new.attached watches.new }
     ensures loose { watches.new.loose.items ≡ watches.old.loose.items }
-    ensures closed { IfOk result (λ r. MatchOption r (IsClosed arena.now (lits trail.new.steps)) (IsConflict arena.now (lits trail.new.steps))) }
+    ensures closed { IfOk result (IsClosedOrFalse arena.now (lits trail.new.steps)) }
 {
     'forced: loop {
         if let Some(id) = advance(trail, watches, head, arena)? {
@@ -461,14 +475,16 @@ pub fn watch(
     clause: &[Lit],
     id: u64,
 ) -> Result<(), AllocError>
-    requires watching { IsWatching trail.now watches.old.loose.items (rows watches.old.lists.items) watches.old.pairs.items _head }
-    requires blocked { AllBlocked trail.now.attached watches.old.loose.items (length watches.old.pairs.items) watches.old.lists.items }
+    requires watching { IsWatchingIn trail.now watches.old _head }
+    requires blocked { AllBlockedIn trail.now.attached watches.old }
     requires apart { attached_clause trail.now.attached id ≡ None }
     requires in_vars { AllIn trail.now.vars clause.now }
-    ensures watching { IsWatching trail.now watches.new.loose.items (rows watches.new.lists.items) watches.new.pairs.items _head }
-    ensures blocked { (seen : Seen) → IsSameBut trail.now.attached seen id clause.now → AllBlocked seen watches.new.loose.items (length watches.new.pairs.items) watches.new.lists.items }
-    ensures loose { (watches.new.loose.items ≡ watches.old.loose.items) ⊎ (watches.new.loose.items ≡ watches.old.loose.items ++ id ∷ []) }
-    ensures ok { OnOk result (IsLooseOrWatched clause.now id watches.new.loose.items (rows watches.new.lists.items) watches.new.pairs.items (take _head trail.now.steps) trail.now.steps) }
+    ensures watching { IsWatchingIn trail.now watches.new _head }
+    ensures blocked { (seen : Seen) → IsSameBut trail.now.attached seen id clause.now → AllBlockedIn seen watches.new }
+    ensures loose { (watches.new.loose.items ≡ watches.old.loose.items)
+        ⊎ (watches.new.loose.items ≡ watches.old.loose.items ++ id ∷ []) }
+    ensures ok { OnOk result
+        (IsLooseOrWatchedIn watches.new clause.now id (take _head trail.now.steps) trail.now.steps) }
 {
     make_free(&mut watches.lists, watches.pairs.len(), id);
     let Some(pair) = choose(trail, clause) else {

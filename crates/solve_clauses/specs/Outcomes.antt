@@ -1,5 +1,6 @@
 -- How a run ends.
-use Rattle.std.specs.Prelude.{ℕ, ◌≡◌, ◌≤◌, List, [], ◌∷◌, ◌++◌, flat_map, codes, decimal, Option, Some, None, Result, Ok, Err, IsSome, ◌⊎◌}
+use Rattle.std.specs.Prelude.{ℕ, ◌≡◌, ◌≤◌, List, [], ◌∷◌, ◌++◌, flat_map, codes, decimal, Option, Some, None, Result}
+use Rattle.std.specs.Prelude.{Ok, Err, IsSome, ◌⊎◌}
 use Rattle.std.proofs.Common.{inl, inr}
 use Rattle.sat_clause.specs.Clauses.{Store, live_clause}
 use Rattle.sat_clause.specs.Hints.{follow_of}
@@ -12,7 +13,8 @@ use Rattle.sat_core.specs.declared.solver.Answer.{Answer}
 use Rattle.sat_core.specs.declared.solver.Answer.TheVariants as answer
 use Rattle.solve_clauses.specs.declared.formula.Formula.{Formula}
 use Rattle.solve_clauses.specs.declared.outcome.Outcome.{Outcome}
-use Rattle.solve_clauses.specs.declared.outcome.Outcome.TheVariants.{Sat, Unsat, Spent, DoesNotFollow, Text, Memory, Usage, File, TooLong}
+use Rattle.solve_clauses.specs.declared.outcome.Outcome.TheVariants.{Sat, Unsat, Spent, DoesNotFollow, Text, Memory}
+use Rattle.solve_clauses.specs.declared.outcome.Outcome.TheVariants.{Usage, File, TooLong}
 use Rattle.solve_clauses.specs.Replays.{fault_from}
 
 -- a derived clause follows, or a forgotten one is live
@@ -45,7 +47,8 @@ told_of answer.Memory lines = Memory
 
 -- what the end of a run over these clauses says, where at most so many lines may be derived
 abbrev pub Ends : Formula → ℕ → Outcome → Type 0
-Ends f conflicts (Sat lines values) = IsModel f.clauses [] f.vars values × AreRecorded f.clauses lines None × (lines ≤ conflicts)
+Ends f conflicts (Sat lines values) =
+    IsModel f.clauses [] f.vars values × AreRecorded f.clauses lines None × (lines ≤ conflicts)
 Ends f conflicts (Unsat lines) = HasNoModel f.clauses [] × AreRecorded f.clauses lines None × (lines ≤ conflicts)
 Ends f conflicts (Spent lines) = AreRecorded f.clauses lines None × (lines ≡ conflicts)
 Ends f conflicts (DoesNotFollow line) = (lines : ℕ) × AreRecorded f.clauses lines (Some line) × (lines ≤ conflicts)

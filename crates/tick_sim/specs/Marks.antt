@@ -22,8 +22,10 @@ mark_grants granted tick old = map (λ p. (p.1.0, or_this p.1.1 (nat_lt p.0 gran
 abbrev pub mark_passes : TrainState → ℕ → List Stop → List (NodeNo × Option ℕ) → List (NodeNo × Option ℕ)
 mark_passes s tick stops old = map (λ p. (p.0.node, or_this p.1.1 (is_passed s p.0) tick)) (zip stops old)
 
-abbrev pub mark_releases : TrainState → ℕ → List Release → List (RouteNo × SectionNo × Option ℕ) → List (RouteNo × SectionNo × Option ℕ)
-mark_releases s tick releases old = map (λ p. (p.0.route, p.0.section, or_this p.1.2 (is_released s p.0) tick)) (zip releases old)
+abbrev pub mark_releases : TrainState → ℕ → List Release
+    → List (RouteNo × SectionNo × Option ℕ) → List (RouteNo × SectionNo × Option ℕ)
+mark_releases s tick releases old =
+    map (λ p. (p.0.route, p.0.section, or_this p.1.2 (is_released s p.0) tick)) (zip releases old)
 
 -- the visit, where it is made now
 abbrev pub made_now : Stop → Bool → ℕ → Option (NodeNo × ℕ)

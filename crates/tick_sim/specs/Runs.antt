@@ -11,19 +11,23 @@ use Rattle.rail_spec.specs.Dispatches.{rates, stretches, authority}
 use Rattle.rail_spec.specs.Run.{state_at}
 
 -- these are the states at a tick up to 86,400
-pub record IsReached (d : Station) (routes : List Route) (plan : List (List Command)) (s : List TrainState) : Type 0 where
+pub record IsReached (d : Station) (routes : List Route) (plan : List (List Command))
+    (s : List TrainState) : Type 0 where
   pub tick : ℕ
   pub early : tick ≤ 86400
   pub is : s ≡ state_at d routes plan tick
 
 -- full braking is permitted by what is granted after the tick, and the numbers are in range
-pub record CanMove (d : Station) (routes : List Route) (plan : List (List Command)) (t : TrainNo) (granted : ℕ) (s : TrainState) : Type 0 where
+pub record CanMove (d : Station) (routes : List Route) (plan : List (List Command)) (t : TrainNo)
+    (granted : ℕ) (s : TrainState) : Type 0 where
   pub within : granted ≤ length (path plan t)
-  pub braking : 1 ≤ granted → permitted (rates d t) (stretches d (take granted (path_routes routes plan t))) (authority (take granted (path_routes routes plan t))) s.x s.v (s.v - (rates d t).brake) ≡ true
+  pub braking : 1 ≤ granted → let given = take granted (path_routes routes plan t) in
+      permitted (rates d t) (stretches d given) (authority given) s.x s.v (s.v - (rates d t).brake) ≡ true
   pub near : s.x < 2 ^ 46
   pub slow : s.v ≤ 100000
 
 -- these are the states at a tick from 1 on
-pub record IsNow (d : Station) (routes : List Route) (plan : List (List Command)) (tick : ℕ) (s : List TrainState) : Type 0 where
+pub record IsNow (d : Station) (routes : List Route) (plan : List (List Command)) (tick : ℕ)
+    (s : List TrainState) : Type 0 where
   pub first : 1 ≤ tick
   pub is : s ≡ state_at d routes plan tick

@@ -55,4 +55,6 @@ pass_line d n k = codes "pass " ++ node_name d n ++ at_tick k ++ codes "\n"
 
 -- `visit <j> <node> tick <k> ms <time>`
 abbrev pub visit_line : Station → ℕ → NodeNo → ℕ → List ℕ
-visit_line d j n k = codes "visit " ++ decimal j ++ codes " " ++ node_name d n ++ at_tick k ++ codes " ms " ++ decimal (k * d.tick_ms) ++ codes "\n"
+visit_line d j n k =
+    codes "visit " ++ decimal j ++ codes " " ++ node_name d n ++ at_tick k
+    ++ codes " ms " ++ decimal (k * d.tick_ms) ++ codes "\n"

@@ -8,7 +8,8 @@ use Rattle.rail_base.specs.declared.route.RouteNo.{RouteNo}
 use Rattle.rail_base.specs.declared.history.TrainHistory.{TrainHistory}
 use Rattle.rail_base.specs.declared.history.Verdict.{Verdict}
 use Rattle.rail_base.specs.declared.history.Verdict.TheVariants.{Met, Failed, Undecided}
-use Rattle.timetable.specs.Lines.{is_path_failure, met_line, failure_line, train_line, grant_line, pass_line, visit_line}
+use Rattle.timetable.specs.Lines.{is_path_failure, met_line, failure_line, train_line, grant_line, pass_line}
+use Rattle.timetable.specs.Lines.{visit_line}
 
 -- ---- what is told of an event: its line, where it has come
 
@@ -51,7 +52,8 @@ history_lines d history = flat_map (λ train. train_lines d (record { 0 = train.
 -- how the run ends, then all trains unless a path fails; nothing where the run was too short to tell
 abbrev pub timetable_of : Station → Verdict → List (List ℕ)
 timetable_of d (Met history k) = met_line k ∷ history_lines d history
-timetable_of d (Failed history k violation) = failure_line d k violation ∷ (if is_path_failure violation then [] else history_lines d history)
+timetable_of d (Failed history k violation) =
+    failure_line d k violation ∷ (if is_path_failure violation then [] else history_lines d history)
 timetable_of d Undecided = []
 
 -- its lines, one after the other

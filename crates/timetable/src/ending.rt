@@ -38,7 +38,8 @@ fn train_failure(
     counted: &[u8],
     number: u32,
 ) -> Result<Vec<u8>, AllocError>
-    ensures { IfOk result (λ line. line.items ≡ what.now ++ train_name design.now.station train ++ counted.now ++ decimal number) }
+    ensures { IfOk result (λ line. line.items
+        ≡ what.now ++ train_name design.now.station train ++ counted.now ++ decimal number) }
 {
     let mut line = Vec::from_slice(alloc, what)?;
     line.extend_from_slice(train_name(design, train.0 as usize))?;

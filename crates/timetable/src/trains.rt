@@ -34,7 +34,8 @@ fn push_passes(
     passes: &[(NodeNo, Option<u64>)],
     lines: &mut Vec<Vec<u8>>,
 ) -> Result<(), AllocError>
-    ensures { OnOk result (lines_of lines.new.items ≡ lines_of lines.old.items ++ pass_lines design.now.station passes.now) }
+    ensures { OnOk result (lines_of lines.new.items
+        ≡ lines_of lines.old.items ++ pass_lines design.now.station passes.now) }
 {
     for (node, tick) in passes {
         if let Some(tick) = tick {
@@ -51,7 +52,8 @@ fn push_visits(
     visits: &[Option<(NodeNo, u64)>],
     lines: &mut Vec<Vec<u8>>,
 ) -> Result<(), AllocError>
-    ensures { OnOk result (lines_of lines.new.items ≡ lines_of lines.old.items ++ visit_lines design.now.station visits.now) }
+    ensures { OnOk result (lines_of lines.new.items
+        ≡ lines_of lines.old.items ++ visit_lines design.now.station visits.now) }
 {
     for (index, visit) in visits.iter().enumerate() {
         if let Some((node, tick)) = visit {
@@ -69,7 +71,8 @@ fn push_train(
     train: &TrainHistory,
     lines: &mut Vec<Vec<u8>>,
 ) -> Result<(), AllocError>
-    ensures { OnOk result (lines_of lines.new.items ≡ lines_of lines.old.items ++ train_lines design.now.station (record { 0 = number }) train.now) }
+    ensures { OnOk result (lines_of lines.new.items
+        ≡ lines_of lines.old.items ++ train_lines design.now.station (record { 0 = number }) train.now) }
 {
     lines.push(train_line(alloc, design, number)?)?;
     push_grants(alloc, train.grants.as_slice(), lines)?;
@@ -84,7 +87,8 @@ pub fn push_history(
     history: &[TrainHistory],
     lines: &mut Vec<Vec<u8>>,
 ) -> Result<(), AllocError>
-    ensures { OnOk result (lines_of lines.new.items ≡ lines_of lines.old.items ++ history_lines design.now.station history.now) }
+    ensures { OnOk result (lines_of lines.new.items
+        ≡ lines_of lines.old.items ++ history_lines design.now.station history.now) }
 {
     for (index, train) in history.iter().enumerate() {
         push_train(alloc, design, index + 1, train, lines)?;

@@ -29,7 +29,9 @@ use Rattle.sat_core.specs.Lines.{Derived, text_of}
 use Rattle.sat_core.specs.Texts.{ended}
 use Rattle.verify_loop.specs.declared.outcome.Budgets.{Budgets}
 use Rattle.verify_loop.specs.declared.outcome.Outcome.{Outcome}
-use Rattle.verify_loop.specs.declared.outcome.Outcome.TheVariants.{Plan, Infeasible, ConflictsSpent, TicksSpent, LogSpent, TooLarge, Memory}
+use Rattle.verify_loop.specs.declared.outcome.Outcome.TheVariants.{Plan, Infeasible, ConflictsSpent, TicksSpent}
+use Rattle.verify_loop.specs.declared.outcome.Outcome.TheVariants.{LogSpent, TooLarge, Memory}
+use Rattle.sat_clause.specs.declared.lit.Lit.{Lit}
 
 -- a plan that failed, and the cone of its failure
 pub record Refutal : Type 0 where
@@ -51,12 +53,16 @@ module _ (d : Station) (n : ℕ) where
   abbrev pub vars : ℕ
   vars = variable_count d (routes_of d) n
 
+  -- the clauses of the base, and those of these cones
+  abbrev pub clauses_with : List Cone → List (List Lit)
+  clauses_with cones = base_clauses d (routes_of d) n ++ map (numbered_clause d (routes_of d) n) cones
+
   -- ---- plans that fail
 
   -- a plan that can be carried out, and whose model makes the clauses true, those of these cones too
   pub record IsFound (cones : List Cone) (plan : List (List Command)) : Type 0 where
     pub runnable : IsRunnable d (routes_of d) n plan
-    pub model : list_all (clause_holds (model_of d (routes_of d) n plan)) (base_clauses d (routes_of d) n ++ map (numbered_clause d (routes_of d) n) cones) ≡ true
+    pub model : list_all (clause_holds (model_of d (routes_of d) n plan)) (clauses_with cones) ≡ true
 
   -- the plan fails, and the cone is the slice of its failure
   pub record IsConeOf (plan : List (List Command)) (cone : Cone) : Type 0 where
@@ -96,7 +102,8 @@ module _ (d : Station) (n : ℕ) where
   abbrev pub IsNextLine : List LogLine → List Refutal → ℕ → Type 0
   IsNextLine lines rs next =
       ((line : Derived) × IsNext lines line × (next ≡ length (text_of line)))
-      ⊎ ((r : Refutal) × IsFound (cones_in rs) r.plan × IsConeOf r.plan r.cone × (next ≡ length (ended (text_of_line (Refute r.cone)))))
+      ⊎ ((r : Refutal) × IsFound (cones_in rs) r.plan × IsConeOf r.plan r.cone
+      × (next ≡ length (ended (text_of_line (Refute r.cone)))))
 
   -- ---- budgets
 
@@ -118,7 +125,8 @@ module _ (d : Station) (n : ℕ) where
   IsFull b log bytes next =
       (bytes ≡ length log) × (b.log_bytes < bytes + next)
       × (((log ≡ []) × (next ≡ length (ended head)))
-      ⊎ ((lines : List LogLine) × (rs : List Refutal) × IsLog lines rs log × IsWithin b lines (plans_of rs) × IsNextLine lines rs next))
+      ⊎ ((lines : List LogLine) × (rs : List Refutal) × IsLog lines rs log × IsWithin b lines (plans_of rs)
+      × IsNextLine lines rs next))
 
   -- a log of the search with the line that ends it, which is a file that shows that there is no plan of n steps
   pub record IsProof (b : Budgets) (log : List ℕ) : Type 0 where
@@ -137,7 +145,8 @@ module _ (d : Station) (n : ℕ) where
 
   -- what the end of a search within these budgets says
   abbrev pub Says : Budgets → Outcome → Type 0
-  Says b (Plan plan verdict) = IsFeasible d n plan.steps × HasFewestSteps plan.steps × (verdict ≡ verdict_of d (routes_of d) plan.steps (horizon d)) × IsReached b plan.steps
+  Says b (Plan plan verdict) = IsFeasible d n plan.steps × HasFewestSteps plan.steps
+      × (verdict ≡ verdict_of d (routes_of d) plan.steps (horizon d)) × IsReached b plan.steps
   Says b (Infeasible log) = IsInfeasible d n × IsProof b log.items × (length log.items ≤ b.log_bytes)
   Says b (ConflictsSpent log clause hints) =
       (lines : List LogLine) × (rs : List Refutal) × IsLog lines rs log.items × IsWithin b lines (plans_of rs)

@@ -8,5 +8,6 @@ ghost use Rattle.verify_loop.specs.Outcomes.{AreRefuted, Refutal, plans_of};
 
 /// The plans that failed in a search are pairwise different, so no search is spent on one plan twice.
 pub fn refuted_plans_differ()
-    ensures { (d : Station) → IsAdmitted d → (n : ℕ) → 1 ≤ n → (rs : List Refutal) → AreRefuted d n [] rs → Differ (plans_of rs) }
+    ensures { (d : Station) → IsAdmitted d → (n : ℕ) → 1 ≤ n → (rs : List Refutal) → AreRefuted d n [] rs
+        → Differ (plans_of rs) }
 {}

@@ -1,10 +1,13 @@
 -- The track of a station: tracks side by side, joined at both ends by switches.
-use Rattle.std.specs.Prelude.{ℕ, ◌+◌, ◌*◌, ◌-◌, true, false, List, [], ◌∷◌, ◌++◌, map, flat_map, nat_lt, if◌then◌else◌, decimal, codes}
+use Rattle.std.specs.Prelude.{ℕ, ◌+◌, ◌*◌, ◌-◌, true, false, List, [], ◌∷◌, ◌++◌, map, flat_map, nat_lt, if◌then◌else◌}
+use Rattle.std.specs.Prelude.{decimal, codes}
 use Rattle.rail_base.specs.declared.station.Node.{Node}
 use Rattle.rail_base.specs.declared.station.Edge.{Edge}
 use Rattle.rail_base.specs.declared.station.Signal.{Signal}
 use Rattle.rail_base.specs.declared.station.Side.TheVariants.{A, B}
 use Rattle.rail_base.specs.Numbering.{one_to}
+use Rattle.rail_base.specs.declared.station.NodeNo.{NodeNo}
+use Rattle.rail_base.specs.declared.station.Side.{Side}
 
 -- letters and then a number
 abbrev pub numbered : List ℕ → ℕ → List ℕ
@@ -16,17 +19,25 @@ numbered letters i = letters ++ decimal i
 abbrev pub inner : List ℕ → ℕ → Node
 inner letters i = record { name = numbered letters i; boundary = false }
 
+-- two nodes inside the station, of one number
+abbrev pub inner_pair : List ℕ → List ℕ → ℕ → List Node
+inner_pair first second i = inner first i ∷ inner second i ∷ []
+
 -- the two ends of a track
 abbrev pub track_ends : ℕ → List Node
-track_ends i = inner (codes "l") i ∷ inner (codes "r") i ∷ []
+track_ends = inner_pair (codes "l") (codes "r")
 
 -- the switches before and behind a track
 abbrev pub switches : ℕ → List Node
-switches i = inner (codes "p") i ∷ inner (codes "q") i ∷ []
+switches = inner_pair (codes "p") (codes "q")
+
+-- the two boundaries, in the west and in the east
+abbrev pub boundaries : List Node
+boundaries = record { name = codes "w"; boundary = true } ∷ record { name = codes "e"; boundary = true } ∷ []
 
 -- the two boundaries, the ends of all tracks, and the switches of all tracks but the last
 abbrev pub nodes : ℕ → List Node
-nodes size = record { name = codes "w"; boundary = true } ∷ record { name = codes "e"; boundary = true } ∷ flat_map track_ends (one_to size) ++ flat_map switches (one_to (size - 1))
+nodes size = boundaries ++ flat_map track_ends (one_to size) ++ flat_map switches (one_to (size - 1))
 
 -- ---- the numbers of nodes
 
@@ -69,7 +80,10 @@ edge number from to length section = record {
 
 -- from the switch of a track to it, and on to the next
 abbrev pub west_legs : ℕ → ℕ → List Edge
-west_legs size i = edge (2 * i) (fork size i) (left i) 50000 1 ∷ edge (2 * i + 1) (fork size i) (fork size (i + 1)) 50000 1 ∷ []
+west_legs size i =
+    edge (2 * i) (fork size i) (left i) 50000 1
+    ∷ edge (2 * i + 1) (fork size i) (fork size (i + 1)) 50000 1
+    ∷ []
 
 -- section 1, from the boundary in the west to all tracks
 abbrev pub west : ℕ → List Edge
@@ -81,11 +95,16 @@ track size length i = edge (2 * size + i - 1) (left i) (right i) (length i) (i +
 
 -- from a track to its switch, and from the next
 abbrev pub east_legs : ℕ → ℕ → List Edge
-east_legs size i = edge (3 * size + 2 * i - 1) (right i) (join size i) 50000 (size + 2) ∷ edge (3 * size + 2 * i) (join size (i + 1)) (join size i) 50000 (size + 2) ∷ []
+east_legs size i =
+    edge (3 * size + 2 * i - 1) (right i) (join size i) 50000 (size + 2)
+    ∷ edge (3 * size + 2 * i) (join size (i + 1)) (join size i) 50000 (size + 2)
+    ∷ []
 
 -- the last section, from all tracks to the boundary in the east
 abbrev pub east : ℕ → List Edge
-east size = edge (3 * size) (join size 1) east_boundary 200000 (size + 2) ∷ flat_map (east_legs size) (one_to (size - 1))
+east size =
+    edge (3 * size) (join size 1) east_boundary 200000 (size + 2)
+    ∷ flat_map (east_legs size) (one_to (size - 1))
 
 -- all edges, for tracks of these lengths
 abbrev pub edges : ℕ → (ℕ → ℕ) → List Edge
@@ -97,9 +116,16 @@ edges size length = west size ++ map (track size length) (one_to size) ++ east s
 abbrev pub sections : ℕ → List (List ℕ)
 sections size = codes "W" ∷ map (numbered (codes "T")) (one_to size) ++ codes "E" ∷ []
 
+-- a signal with these letters and the number of its track
+abbrev pub signal : List ℕ → ℕ → NodeNo → Side → Signal
+signal letters i node toward = record { name = numbered letters i; node = node; toward = toward }
+
 -- the signals of a track: at its east end to the east, at its west end to the west
 abbrev pub signals_of : ℕ → List Signal
-signals_of i = record { name = numbered (codes "re") i; node = record { 0 = right i }; toward = B } ∷ record { name = numbered (codes "lw") i; node = record { 0 = left i }; toward = A } ∷ []
+signals_of i =
+    signal (codes "re") i (record { 0 = right i }) B
+    ∷ signal (codes "lw") i (record { 0 = left i }) A
+    ∷ []
 
 -- the signals of all tracks
 abbrev pub signals : ℕ → List Signal

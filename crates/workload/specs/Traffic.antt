@@ -21,11 +21,21 @@ way_out runs_east = record { 0 = if runs_east then east_boundary else west_bound
 
 -- a train from the one boundary to the other
 abbrev pub train : ℕ → Bool → Train
-train j runs_east = record { name = numbered (codes "t") j; vehicle = record { 0 = 1 }; visits = (entrance runs_east ∷ []) ∷ (way_out runs_east ∷ []) ∷ [] }
+train j runs_east = record {
+  name = numbered (codes "t") j;
+  vehicle = record { 0 = 1 };
+  visits = (entrance runs_east ∷ []) ∷ (way_out runs_east ∷ []) ∷ [];
+}
 
 -- the time that a train has from its first visit to its second
 abbrev pub within : ℕ → ℕ → Within
-within j time = record { from_train = record { 0 = j }; from_visit = 1; to_train = record { 0 = j }; to_visit = 2; max_ms = time }
+within j time = record {
+  from_train = record { 0 = j };
+  from_visit = 1;
+  to_train = record { 0 = j };
+  to_visit = 2;
+  max_ms = time;
+}
 
 -- a train for each track, by the ways that they run
 abbrev pub trains : ℕ → (ℕ → Bool) → List Train

@@ -30,7 +30,8 @@ fn push_edge(
     length_mm: u32,
     section: SectionNo,
 ) -> Result<(), AllocError>
-    ensures { OnOk result (edges.new.items ≡ edges.old.items ++ edge number ends.0.0 ends.1.0 length_mm section.0 ∷ []) }
+    ensures { OnOk result (edges.new.items
+        ≡ edges.old.items ++ edge number ends.0.0 ends.1.0 length_mm section.0 ∷ []) }
 {
     let (from, to) = ends;
     edges.push(Edge {
@@ -97,7 +98,8 @@ fn push_tracks(
 ) -> Result<(), AllocError>
     requires low { 1 ≤ size }
     requires high { size ≤ 6 }
-    ensures edges { OnOk result (edges.new.items ≡ edges.old.items ++ map (track size (track_length draws.old.state)) (one_to size)) }
+    ensures edges { OnOk result (edges.new.items
+        ≡ edges.old.items ++ map (track size (track_length draws.old.state)) (one_to size)) }
     ensures draws { OnOk result (draws.new.state ≡ drawn draws.old.state size) }
 {
     for track in 1..size + 1 {

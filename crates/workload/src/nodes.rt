@@ -3,6 +3,7 @@
 ghost use Rattle.std.specs.Prelude.{◌≡◌, ◌≤◌, ◌-◌, ◌∷◌, [], ◌++◌, flat_map, false, true, IfOk, OnOk, codes};
 ghost use Rattle.rail_base.specs.Numbering.{one_to};
 ghost use Rattle.workload.specs.Track.{inner, nodes, left, right, fork, join, signals_of, signals, numbered};
+ghost use Rattle.workload.specs.Track.{boundaries, inner_pair, signal};
 
 use crate::names::{numbered, plain};
 use rail_base::list::List;
@@ -82,7 +83,8 @@ fn push_inner_pairs(
     tracks: u32,
 ) -> Result<(), AllocError>
     requires { tracks ≤ 6 }
-    ensures { OnOk result (nodes.new.items ≡ nodes.old.items ++ flat_map (λ i. inner first.now i ∷ inner second.now i ∷ []) (one_to tracks)) }
+    ensures { OnOk result (nodes.new.items
+        ≡ nodes.old.items ++ flat_map (inner_pair first.now second.now) (one_to tracks)) }
 {
     for track in 1..tracks + 1 {
         push_inner(alloc, nodes, first, track)?;
@@ -93,7 +95,7 @@ fn push_inner_pairs(
 
 /// The two boundaries.
 fn boundaries(alloc: Global) -> Result<Vec<Node>, AllocError>
-    ensures { IfOk result (λ both. both.items ≡ record { name = codes "w"; boundary = true } ∷ record { name = codes "e"; boundary = true } ∷ []) }
+    ensures { IfOk result (λ both. both.items ≡ boundaries) }
 {
     let west = Node {
         name: plain(alloc, b"w")?,
@@ -127,7 +129,7 @@ fn push_signal(
     node: NodeNo,
     toward: Side,
 ) -> Result<(), AllocError>
-    ensures { OnOk result (signals.new.items ≡ signals.old.items ++ record { name = numbered letters.now track; node = node; toward = toward } ∷ []) }
+    ensures { OnOk result (signals.new.items ≡ signals.old.items ++ signal letters.now track node toward ∷ []) }
 {
     signals.push(Signal {
         name: numbered(alloc, letters, track)?,

@@ -82,8 +82,11 @@ fn within(number: u32, max_ms: u32) -> Within
 impl Traffic {
     /// Adds a train. Its way and then its time are drawn.
     fn add(&mut self, alloc: Global, number: u32, draws: &mut Draws) -> Result<(), AllocError>
-        ensures trains { OnOk result (self.new.trains.items ≡ self.old.trains.items ++ train number (below 2 (next draws.old.state) == 0) ∷ []) }
-        ensures withins { OnOk result (self.new.withins.items ≡ self.old.withins.items ++ within number (120000 + 1000 * below 240 (next (next draws.old.state))) ∷ []) }
+        ensures trains { OnOk result (self.new.trains.items
+            ≡ self.old.trains.items ++ train number (below 2 (next draws.old.state) == 0) ∷ []) }
+        ensures withins { OnOk result (self.new.withins.items
+            ≡ self.old.withins.items
+            ++ within number (120000 + 1000 * below 240 (next (next draws.old.state))) ∷ []) }
         ensures draws { draws.new.state ≡ next (next draws.old.state) }
     {
         let runs_east = draws.below(2) == 0;

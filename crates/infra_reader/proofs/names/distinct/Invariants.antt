@@ -1,6 +1,6 @@
 use Rattle.std.proofs.Common.{◌≡◌, ◌+◌, take, drop}
 use Rattle.infra_reader.specs.Names.{repeated}
-use Rattle.infra_reader.specs.Seen.{texts}
+use Rattle.design_table.specs.Texts.{texts}
 use Rattle.infra_reader.proofs.Walking.{places_from}
 use Rattle.infra_reader.proofs.Repeats.{repeat_at}
 use Rattle.infra_reader.proofs.names.distinct.Given as goal

@@ -1,6 +1,6 @@
 use Rattle.std.proofs.Common.{◌≡◌, drop, fold}
 use Rattle.infra_reader.specs.Names.{with_name, each_once}
-use Rattle.infra_reader.specs.Seen.{texts}
+use Rattle.design_table.specs.Texts.{texts}
 use Rattle.infra_reader.proofs.names.each_once.Given as goal
 
 abbrev pub invariant-loop-name : goal.invariant-loop-name

@@ -1,5 +1,5 @@
 use Rattle.std.proofs.Common.{◌∙◌, sym, refl}
-use Rattle.infra_reader.specs.Seen.{texts}
+use Rattle.design_table.specs.Texts.{texts}
 use Rattle.infra_reader.proofs.Numbers.{reads_number, refuses_name}
 use Rattle.infra_reader.proofs.names.number_at.Goals as goal
 

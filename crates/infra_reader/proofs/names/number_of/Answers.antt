@@ -1,6 +1,6 @@
 use Rattle.std.proofs.Common.{◌∙◌, sym}
 use Rattle.std.proofs.lemmas.List.{length-map}
-use Rattle.infra_reader.specs.Seen.{texts}
+use Rattle.design_table.specs.Texts.{texts}
 use Rattle.infra_reader.proofs.Numbers.{number_past}
 use Rattle.infra_reader.proofs.names.number_of.Goals as goal
 

@@ -1,5 +1,5 @@
 use Rattle.std.proofs.Common.{◌≡◌, ◌++◌, drop}
-use Rattle.infra_reader.specs.Seen.{texts}
+use Rattle.design_table.specs.Texts.{texts}
 use Rattle.infra_reader.proofs.resolve.owned_each.Given as goal
 
 abbrev pub invariant-loop-name : goal.invariant-loop-name

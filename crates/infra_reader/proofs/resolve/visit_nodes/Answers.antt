@@ -2,7 +2,7 @@ use Rattle.std.proofs.Common.{refl, ap}
 use Rattle.std.proofs.lemmas.Result.{err_from_is_err_and}
 use Rattle.design_table.specs.declared.fault.Code.TheVariants.{D04}
 use Rattle.infra_reader.specs.Names.{is_among, number_in}
-use Rattle.infra_reader.specs.Seen.{texts}
+use Rattle.design_table.specs.Texts.{texts}
 use Rattle.infra_reader.specs.Unknown.{unless_among}
 use Rattle.infra_reader.proofs.AllOf.{one_fails, one_passes}
 use Rattle.infra_reader.proofs.Walking.{entry_read}

@@ -2,7 +2,7 @@ use Rattle.std.specs.List.{list_all}
 use Rattle.std.proofs.lemmas.Result.{err_from_is_err_and}
 use Rattle.design_table.specs.declared.fault.Code.TheVariants.{D04}
 use Rattle.infra_reader.specs.Names.{is_among}
-use Rattle.infra_reader.specs.Seen.{texts}
+use Rattle.design_table.specs.Texts.{texts}
 use Rattle.infra_reader.proofs.AllOf.{one_fails}
 use Rattle.infra_reader.proofs.resolve.visits_nodes.Goals as goal
 

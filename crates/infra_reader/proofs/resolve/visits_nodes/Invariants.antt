@@ -1,7 +1,7 @@
 use Rattle.std.proofs.Common.{◌≡◌, ◌++◌, drop, map}
 use Rattle.std.specs.List.{list_all}
 use Rattle.infra_reader.specs.Names.{is_among}
-use Rattle.infra_reader.specs.Seen.{texts, visits_seen}
+use Rattle.design_table.specs.Texts.{texts, visits_seen}
 use Rattle.infra_reader.specs.Stations.{nodes_in}
 use Rattle.infra_reader.proofs.resolve.visits_nodes.Given as goal
 

@@ -1,0 +1,150 @@
+-- The run of a dispatch over its traffic, and what is known of the trains that are followed in it.
+use Rattle.std.specs.Prelude.{ℕ, List, map, take, Option}
+use Rattle.rail_base.specs.declared.history.TrainHistory.{TrainHistory}
+use Rattle.rail_base.specs.declared.route.Route.{Route}
+use Rattle.rail_base.specs.declared.state.TrainState.{TrainState}
+use Rattle.rail_base.specs.declared.station.TrainNo.{TrainNo}
+use Rattle.rail_base.specs.Stations.{trains}
+use Rattle.rail_spec.specs.Dispatches.{Dispatch, authority, moved, state_at, state_of, stretches}
+use Rattle.rail_spec.specs.Motion.{Stretch}
+use Rattle.rail_course.specs.declared.course.Course.{Course}
+use Rattle.rail_course.specs.Tracks.{routes_at}
+use Rattle.dispatch_quiet.specs.Forecasts.{IsSeen}
+use Rattle.dispatch_quiet.specs.Histories.{history_at, train_history}
+use Rattle.dispatch_quiet.specs.Quiet.{ComesNowhere, drift}
+use Rattle.dispatch_run.specs.declared.looks.Look.{Look}
+use Rattle.dispatch_run.specs.declared.run.Progress.{Progress}
+use Rattle.dispatch_run.specs.declared.traffic.Follower.{Follower}
+use Rattle.dispatch_run.specs.declared.traffic.Traffic.{Traffic}
+use Rattle.dispatch_run.specs.Drifts.{going_with}
+use Rattle.dispatch_run.specs.Followers.{CanMove, IsCourse, IsFollower}
+use Rattle.dispatch_run.specs.Looks.{IsKnown}
+use Rattle.dispatch_run.specs.Progress.{IsProgress}
+use Rattle.dispatch_run.specs.Turns.{AreLookedAt, AreToBeTold, IsLook, IsLookedAt, IsToBeTold, IsTurn, looked_state}
+
+-- the train that a follower is of
+abbrev pub followed_train : Follower → TrainNo
+followed_train f = f.journey.now.course.now.train
+
+module _ (r : Traffic) where
+  -- the course is that of its train and of its own path
+  abbrev pub IsCourseIn : Course → Type 0
+  IsCourseIn = IsCourse r.interlocking.now.design.station r.interlocking.now.routes
+
+  -- the first routes of a course, so many of them
+  abbrev pub first_routes : Course → ℕ → List Route
+  first_routes c granted = take granted (routes_at r.interlocking.now.routes c.path.items)
+
+  -- their track
+  abbrev pub track_given : Course → ℕ → List Stretch
+  track_given c granted = stretches r.interlocking.now.design.station (first_routes c granted)
+
+  -- how far they let a train go
+  abbrev pub authority_given : Course → ℕ → Option ℕ
+  authority_given c granted = authority (first_routes c granted)
+
+module _ (r : Traffic) (dispatch : Dispatch) where
+  -- the follower is that of its train
+  abbrev pub IsFollowerIn : Follower → Type 0
+  IsFollowerIn = IsFollower r.interlocking.now.design.station r.interlocking.now.routes dispatch
+
+  -- full braking is permitted by so many grants, and the numbers are in range
+  abbrev pub CanMoveIn : Follower → ℕ → TrainState → Type 0
+  CanMoveIn f = CanMove r.interlocking.now.design.station r.interlocking.now.routes dispatch (followed_train f)
+
+  -- ---- the run
+
+  -- all trains at a tick
+  abbrev pub states_in : ℕ → List TrainState
+  states_in = state_at r.interlocking.now.design.station r.interlocking.now.routes dispatch
+
+  -- a train at a tick
+  abbrev pub state_in : ℕ → Follower → TrainState
+  state_in tick f = state_of (states_in tick) (followed_train f)
+
+  -- a train after a tick in which it moves, and so many of its commands are granted
+  abbrev pub moved_in : Follower → TrainState → ℕ → TrainState
+  moved_in f = moved r.interlocking.now.design.station r.interlocking.now.routes dispatch (followed_train f)
+
+  -- the same after some ticks
+  abbrev pub going_in : Follower → ℕ → ℕ → TrainState → TrainState
+  going_in f = going_with r.interlocking.now.design.station r.interlocking.now.routes dispatch (followed_train f)
+
+  -- a train after some ticks from a tick on, in which it is granted nothing
+  abbrev pub drift_in : Follower → ℕ → ℕ → TrainState → TrainState
+  drift_in f = drift r.interlocking.now.design.station r.interlocking.now.routes dispatch (followed_train f)
+
+  -- from one place to the other the train comes to no node and to no place at which it releases a section
+  abbrev pub ComesNowhereIn : Follower → ℕ → ℕ → Type 0
+  ComesNowhereIn f =
+      ComesNowhere r.interlocking.now.design.station r.interlocking.now.routes dispatch (followed_train f)
+
+  -- so it is where the train moves for some ticks
+  abbrev pub IsClearFor : Follower → TrainState → ℕ → Type 0
+  IsClearFor f s ticks = ComesNowhereIn f s.x (going_in f s.granted ticks s).x
+
+  -- and where it goes on for some ticks from a tick on, in which it is granted nothing
+  abbrev pub IsIdleFor : Follower → ℕ → TrainState → ℕ → Type 0
+  IsIdleFor f tick s ticks = ComesNowhereIn f s.x (drift_in f tick ticks s).x
+
+  -- what has happened to a train by a tick
+  abbrev pub train_history_in : ℕ → Follower → TrainHistory
+  train_history_in tick f =
+      train_history r.interlocking.now.design.station r.interlocking.now.routes dispatch tick (followed_train f)
+
+  -- what has happened to each train by a tick
+  abbrev pub history_in : ℕ → List TrainHistory
+  history_in = history_at r.interlocking.now.design.station r.interlocking.now.routes dispatch
+
+  -- what is known at its tick, and what has happened by then
+  abbrev pub IsProgressIn : Progress → Type 0
+  IsProgressIn = IsProgress r.interlocking.now.design.station r.interlocking.now.routes dispatch
+
+  -- ---- looks at trains
+
+  -- what is known of all trains at a tick
+  abbrev pub IsKnownIn : ℕ → List TrainState → List Look → Type 0
+  IsKnownIn = IsKnown r.interlocking.now.design.station r.interlocking.now.routes dispatch
+
+  -- the tick is the next after one at which all is known
+  abbrev pub IsTurnIn : ℕ → List TrainState → List Look → Type 0
+  IsTurnIn = IsTurn r.interlocking.now.design.station r.interlocking.now.routes dispatch
+
+  -- what is known of a train at a tick, of which nothing is granted since one tick and nowhere is come to before another
+  abbrev pub IsSeenIn : ℕ → Follower → TrainState → ℕ → ℕ → Type 0
+  IsSeenIn tick f = IsSeen r.interlocking.now.design.station r.interlocking.now.routes dispatch tick (followed_train f)
+
+  -- a train that is to be looked at then has its state of the tick, and another the one that it had
+  abbrev pub looked_state_in : ℕ → List TrainState → List Look → Follower → TrainState
+  looked_state_in tick states looks f =
+      looked_state r.interlocking.now.design.station r.interlocking.now.routes dispatch tick states looks
+      (followed_train f)
+
+  -- so it is with all trains
+  abbrev pub looked_states_in : ℕ → List TrainState → List Look → List TrainState
+  looked_states_in tick states looks =
+      map (looked_state r.interlocking.now.design.station r.interlocking.now.routes dispatch tick states looks)
+      (trains r.interlocking.now.design.station)
+
+  -- a train after the tick
+  abbrev pub IsLookedAtIn : ℕ → Follower → TrainState → Look → Type 0
+  IsLookedAtIn tick f =
+      IsLookedAt r.interlocking.now.design.station r.interlocking.now.routes dispatch tick (followed_train f)
+
+  -- all trains after the tick
+  abbrev pub AreLookedAtIn : ℕ → List TrainState → List Look → Type 0
+  AreLookedAtIn = AreLookedAt r.interlocking.now.design.station r.interlocking.now.routes dispatch
+
+  -- what is known of the history of a train, before it is marked
+  abbrev pub IsToBeToldIn : ℕ → Follower → TrainState → Look → TrainHistory → Type 0
+  IsToBeToldIn tick f =
+      IsToBeTold r.interlocking.now.design.station r.interlocking.now.routes dispatch tick (followed_train f)
+
+  -- of the histories of all trains
+  abbrev pub AreToBeToldIn : ℕ → List TrainState → List Look → List TrainHistory → Type 0
+  AreToBeToldIn = AreToBeTold r.interlocking.now.design.station r.interlocking.now.routes dispatch
+
+  -- the next look at a train is soon enough
+  abbrev pub IsLookIn : ℕ → List TrainState → Follower → Look → Type 0
+  IsLookIn tick states f =
+      IsLook r.interlocking.now.design.station r.interlocking.now.routes dispatch tick states (followed_train f)

@@ -1,0 +1,10 @@
+-- What a solver keeps.
+use Rattle.sat_core.specs.declared.recorder.Recorder.{Ghosts}
+use Rattle.sat_core.specs.declared.solver.Solver.{Solver}
+use Rattle.sat_core.specs.Runs.{State, state_of}
+
+-- the clauses and the text of its recorder, the limit, the numbers of the derived clauses, and how many were derived
+abbrev pub state_in : {R : Type 0} {recorded : Ghosts R} → Solver R recorded → State
+state_in {R} {recorded} solver =
+    let kept = solver.recorder in
+    state_of (recorded.clauses kept) (recorded.text kept) (recorded.limit kept) (recorded.learnt kept) solver.derives
