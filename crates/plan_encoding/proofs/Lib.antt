@@ -9,3 +9,5 @@ pub mod Released
 pub mod Starting
 pub mod Ordering
 pub mod Based
+pub mod Beginning
+pub mod Sorting

@@ -11,6 +11,7 @@ use Rattle.rail_base.specs.Stations.{trains}
 use Rattle.rail_spec.specs.Plans.{all_commands, commands_of, contend, route_numbers}
 use Rattle.plan_clauses.specs.Variables.{Given, Before, By, yes, no, if_given, number_of, pairs}
 use Rattle.plan_clauses.specs.Clauses.{Clause, all_given, excluded, first_pairs, in_order, makes_visits, may_visit, not_at_once, starts_rightly, stays_given, waits}
+use Rattle.alike_clauses.specs.Turns.{in_turn}
 use Rattle.plan_encoding.specs.declared.frame.Frame.{Frame}
 use Rattle.plan_encoding.specs.Frames.{over, station, table}
 
@@ -31,6 +32,10 @@ one_given t rs i = map (λ w. yes (Given (record { train = t; route = w }) i)) r
 -- or not one of them
 abbrev pub one_not_given : TrainNo → List RouteNo → ℕ → Clause
 one_not_given t rs i = map (λ w. no (Given (record { train = t; route = w }) i)) rs
+
+-- where a command is given by a step, one of these routes is given to the train by it
+abbrev pub begun : TrainNo → List RouteNo → Command → ℕ → Clause
+begun t rs c i = no (Given c i) ∷ one_given t rs i
 
 -- where the first one's train is given the chain and no route further on, the second is not new in the next step
 abbrev pub waiting : Command → Command → List RouteNo → List RouteNo → ℕ → Clause
@@ -65,6 +70,10 @@ module _ (f : Frame) where
   -- by step k the command is given, if it is given at all
   abbrev pub given_by : ℕ → Command → Clause
   given_by k c = no (By k) ∷ no (Given c f.steps.count) ∷ yes (Given c k) ∷ []
+
+  -- one of these routes is given to the train by whichever step the command is given
+  abbrev pub begun_throughout : TrainNo → List RouteNo → Command → List Clause
+  begun_throughout t rs c = map (begun t rs c) (one_to f.steps.count)
 
   -- ---- numbers of variables
 
@@ -114,6 +123,10 @@ module _ (f : Frame) where
   -- what the variables of steps say
   abbrev pub all_by_steps : List Clause
   all_by_steps = flat_map (over f all_given) (one_to (f.steps.count - 1))
+
+  -- the trains of each pair come in turn
+  abbrev pub all_in_turn : List (TrainNo × TrainNo) → List Clause
+  all_in_turn pairs = flat_map (over f in_turn) pairs
 
   -- what commands and trains ask by themselves
   abbrev pub alone : List Clause

@@ -7,5 +7,6 @@ pub mod Families
 pub mod Waits
 pub mod Orders
 pub mod Bases
+pub mod Sorted
 pub mod Nodes
 pub mod Releases

@@ -1,6 +1,6 @@
 //! Clauses that are listed one after another: counted first, and then kept.
 
-ghost use Rattle.std.specs.Prelude.{◌≡◌, [], ◌∷◌, OnOk, IfErr};
+ghost use Rattle.std.specs.Prelude.{◌≡◌, true, [], ◌∷◌, OnOk, IfErr};
 ghost use Rattle.plan_encoding.specs.Drafts.{Listed, listed, FaultSays};
 ghost use Rattle.plan_encoding.specs.declared.draft.BaseFault.TheVariants.{Memory};
 
@@ -67,6 +67,17 @@ impl Draft {
         Draft {
             keep,
             literals: 0,
+            clauses: Arena::new(alloc),
+        }
+    }
+
+    /// An empty draft that keeps clauses, and goes on counting their literals from this one.
+    pub fn after(&self, alloc: Global) -> Draft
+        ensures { result ≡ record { keep = true; literals = self.now.literals; clauses = [] } }
+    {
+        Draft {
+            keep: true,
+            literals: self.literals,
             clauses: Arena::new(alloc),
         }
     }

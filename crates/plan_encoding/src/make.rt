@@ -48,7 +48,7 @@ impl Tables<'_> {
     }
 
     /// Lists all clauses, family by family.
-    fn put_all(&self, alloc: Global, draft: &mut Draft) -> Result<(), BaseFault>
+    pub fn put_all(&self, alloc: Global, draft: &mut Draft) -> Result<(), BaseFault>
         ensures ok { OnOk result (Lists self.now.frame (over self.now.frame clauses) draft.old draft.new) }
         ensures err { IfErr result (Stops self.now.frame (over self.now.frame clauses) draft.old) }
     {
@@ -72,7 +72,7 @@ impl Tables<'_> {
     }
 
     /// All contending pairs.
-    fn pairs(&self, alloc: Global) -> Result<Vec<(Command, Command)>, AllocError>
+    pub fn pairs(&self, alloc: Global) -> Result<Vec<(Command, Command)>, AllocError>
         ensures { IfOk result (λ ps. ps.items ≡ pairs (station self.now.frame) (table self.now.frame)) }
     {
         let mut pairs = Vec::new(alloc);

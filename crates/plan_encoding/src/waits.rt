@@ -37,7 +37,7 @@ impl Frame<'_> {
     }
 
     /// Puts at the end of a clause that a train is given routes by a step.
-    fn push_all_given(
+    pub fn push_all_given(
         &self,
         clause: &mut Vec<Lit>,
         train: TrainNo,

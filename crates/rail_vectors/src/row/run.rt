@@ -1,4 +1,4 @@
-//! The runs and searches of a worked example.
+//! The runs and searches of a worked example, and the clauses that its trains come in turn.
 
 use crate::row::fields::Fields;
 use anyhow::Result;
@@ -24,6 +24,14 @@ pub(crate) struct Search {
     pub(crate) next: Option<u64>,
 }
 
+/// The clauses for so many steps that trains that are alike come in turn.
+#[derive(Drop)]
+pub(crate) struct Turns<'a> {
+    pub(crate) steps: u32,
+    /// The literals of each, with a space between each and the next.
+    pub(crate) clauses: Vec<&'a str>,
+}
+
 /// A run.
 fn run_of(value: &Value) -> Result<Run> {
     let fields = Fields::of(value, &["ticks", "met"])?;
@@ -44,6 +52,15 @@ fn search_of(value: &Value) -> Result<Search> {
     })
 }
 
+/// Clauses.
+fn turns_of<'a>(alloc: Global, value: &'a Value) -> Result<Turns<'a>> {
+    let fields = Fields::of(value, &["steps", "clauses"])?;
+    Ok(Turns {
+        steps: u32::try_from(fields.needed_number("steps")?)?,
+        clauses: fields.texts(alloc, "clauses")?,
+    })
+}
+
 /// The runs of a worked example.
 pub(crate) fn runs_of(alloc: Global, row: Fields<'_>) -> Result<Vec<Run>> {
     let mut runs = Vec::new(alloc);
@@ -60,4 +77,13 @@ pub(crate) fn searches_of(alloc: Global, row: Fields<'_>) -> Result<Vec<Search>>
         searches.push(search_of(entry)?)?;
     }
     Ok(searches)
+}
+
+/// The clauses of a worked example.
+pub(crate) fn all_turns_of<'a>(alloc: Global, row: Fields<'a>) -> Result<Vec<Turns<'a>>> {
+    let mut turns = Vec::new(alloc);
+    for entry in row.entries("turns")? {
+        turns.push(turns_of(alloc, entry)?)?;
+    }
+    Ok(turns)
 }

@@ -1,0 +1,59 @@
+//! The base with the clauses that each train comes in turn with the next one that is like it.
+
+ghost use Rattle.std.specs.Prelude.{◌≡◌, IfOk, OnOk, IfErr, None};
+ghost use Rattle.plan_clauses.specs.Clauses.{past_limit};
+ghost use Rattle.alike_clauses.specs.Sorted.{sorted_base};
+ghost use Rattle.plan_encoding.specs.Sorted.{IsSortedBaseOf, IsSortedRefused};
+
+use crate::draft::{BaseFault, Draft};
+use crate::frame::Frame;
+use crate::numbered::{Base, base_of};
+use interlocking::{Interlocking, Steps};
+use rail_alike::neighbors;
+use sat_clause::Arena;
+use std::alloc::Global;
+
+/// A base, and apart from it the clauses that each train comes in turn with the next one that is like it, all live. They
+/// are over the base's variables.
+#[derive(Drop)]
+pub struct SortedBase {
+    pub base: Base,
+    pub turns: Arena,
+}
+
+/// The base of a design and its routes, for plans of up to so many steps, and the clauses that each train comes in turn
+/// with the next one that is like it. Where a plan is feasible, the model of some plan of no more steps makes all of them
+/// true.
+///
+/// # Errors
+///
+/// `TooLarge` exactly where all of them have more than 4,000,000 literals; `Memory` where memory is wanting.
+pub fn sorted_base(
+    alloc: Global,
+    interlocking: &Interlocking,
+    steps: Steps,
+) -> Result<SortedBase, BaseFault>
+    ensures base { IfOk result (IsSortedBaseOf interlocking.now.design.station interlocking.now.routes steps.count) }
+    ensures within { OnOk result (past_limit 4000000 0
+        (sorted_base interlocking.now.design.station interlocking.now.routes steps.count) ≡ None) }
+    ensures fault { IfErr result
+        (IsSortedRefused interlocking.now.design.station interlocking.now.routes steps.count) }
+{
+    let frame = Frame {
+        interlocking,
+        steps,
+    };
+    let tables = frame.tables(alloc)?;
+    let pairs = tables.pairs(alloc)?;
+    let neighbors = neighbors(alloc, &interlocking.design)?;
+    let mut count = Draft::new(alloc, false);
+    tables.put_all(alloc, &mut count)?;
+    let mut draft = Draft::new(alloc, true);
+    tables.put_all(alloc, &mut draft)?;
+    let mut turns = draft.after(alloc);
+    tables.put_turns(alloc, &mut turns, neighbors.as_slice())?;
+    Ok(SortedBase {
+        base: base_of(interlocking, steps, pairs, draft.into_clauses()),
+        turns: turns.into_clauses(),
+    })
+}

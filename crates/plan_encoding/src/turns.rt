@@ -1,0 +1,141 @@
+//! Each train comes in turn with the next one that is like it.
+
+ghost use Rattle.std.specs.Prelude.{◌≡◌, ◌≤◌, All, IfOk, OnOk, IfErr};
+ghost use Rattle.rail_base.specs.Routes.{IsRoute};
+ghost use Rattle.rail_base.specs.Stations.{IsTrain};
+ghost use Rattle.rail_alike.specs.Turns.{AreNamed};
+ghost use Rattle.alike_clauses.specs.Turns.{beginnings, begins, in_turn};
+ghost use Rattle.plan_encoding.specs.Families.{all_in_turn, begun, begun_throughout};
+ghost use Rattle.plan_encoding.specs.Frames.{IsCommand, Lists, Stops, over, station, table, written};
+
+use crate::draft::{BaseFault, Draft};
+use crate::frame::Frame;
+use crate::links::{push_if, starts_in};
+use crate::tables::Tables;
+use rail_base::plan::Command;
+use rail_base::route::{RouteNo, route_at};
+use rail_base::station::TrainNo;
+use sat_clause::Lit;
+use std::alloc::{AllocError, Global};
+
+impl Frame<'_> {
+    /// Whether a train may begin with a route.
+    fn begins(&self, train: TrainNo, route: RouteNo) -> bool
+        requires train { IsTrain (station self.now) train }
+        requires route { IsRoute (table self.now) route }
+        ensures { result ≡ over self.now begins train route }
+    {
+        let start = route_at(&self.interlocking.routes, route).start;
+        match self
+            .interlocking
+            .design
+            .train(train)
+            .visits
+            .as_slice()
+            .first()
+        {
+            Some(set) => starts_in(set, start),
+            None => false,
+        }
+    }
+
+    /// The clause that, where a command is given by a step, one of these routes is given to an earlier train by it.
+    fn begun(
+        &self,
+        alloc: Global,
+        earlier: TrainNo,
+        routes: &[RouteNo],
+        command: Command,
+        step: u32,
+    ) -> Result<Vec<Lit>, AllocError>
+        requires earlier { IsTrain (station self.now) earlier }
+        requires routes { All (IsRoute (table self.now)) routes.now }
+        requires command { IsCommand self.now command }
+        requires step { step ≤ self.now.steps.count }
+        ensures { IfOk result (λ clause. clause.items ≡ written self.now (begun earlier routes.now command step)) }
+    {
+        let mut clause = Vec::new(alloc);
+        clause.push(self.not_given(command, step))?;
+        self.push_all_given(&mut clause, earlier, routes, step)?;
+        Ok(clause)
+    }
+
+    /// Lists this for each step.
+    fn put_begun(
+        &self,
+        alloc: Global,
+        draft: &mut Draft,
+        earlier: TrainNo,
+        routes: &[RouteNo],
+        command: Command,
+    ) -> Result<(), BaseFault>
+        requires earlier { IsTrain (station self.now) earlier }
+        requires routes { All (IsRoute (table self.now)) routes.now }
+        requires command { IsCommand self.now command }
+        ensures ok { OnOk result (Lists self.now (begun_throughout self.now earlier routes.now command)
+            draft.old draft.new) }
+        ensures err { IfErr result (Stops self.now (begun_throughout self.now earlier routes.now command) draft.old) }
+    {
+        for step in 1..self.steps.count + 1 {
+            let clause = self.begun(alloc, earlier, routes, command, step)?;
+            draft.put(&clause)?;
+        }
+        Ok(())
+    }
+}
+
+impl Tables<'_> {
+    /// The routes with which a train may begin.
+    fn beginnings(&self, alloc: Global, train: TrainNo) -> Result<Vec<RouteNo>, AllocError>
+        requires { IsTrain (station self.now.frame) train }
+        ensures { IfOk result (λ rs. rs.items ≡ over self.now.frame beginnings train) }
+    {
+        let mut routes = Vec::new(alloc);
+        for route in &self.numbers {
+            let belongs = self.frame.begins(train, *route);
+            push_if(&mut routes, *route, belongs)?;
+        }
+        Ok(routes)
+    }
+
+    /// Lists that two trains come in turn.
+    fn put_turns_of(
+        &self,
+        alloc: Global,
+        draft: &mut Draft,
+        pair: (TrainNo, TrainNo),
+    ) -> Result<(), BaseFault>
+        requires earlier { IsTrain (station self.now.frame) pair.0 }
+        requires later { IsTrain (station self.now.frame) pair.1 }
+        ensures ok { OnOk result (Lists self.now.frame (over self.now.frame in_turn pair) draft.old draft.new) }
+        ensures err { IfErr result (Stops self.now.frame (over self.now.frame in_turn pair) draft.old) }
+    {
+        let first = self.beginnings(alloc, pair.0)?;
+        let then = self.beginnings(alloc, pair.1)?;
+        for route in &then {
+            let command = Command {
+                train: pair.1,
+                route: *route,
+            };
+            self.frame.put_begun(alloc, draft, pair.0, &first, command)?;
+        }
+        Ok(())
+    }
+
+    /// Lists that the trains of each pair come in turn.
+    pub fn put_turns(
+        &self,
+        alloc: Global,
+        draft: &mut Draft,
+        pairs: &[(TrainNo, TrainNo)],
+    ) -> Result<(), BaseFault>
+        requires { AreNamed (station self.now.frame) pairs.now }
+        ensures ok { OnOk result (Lists self.now.frame (all_in_turn self.now.frame pairs.now) draft.old draft.new) }
+        ensures err { IfErr result (Stops self.now.frame (all_in_turn self.now.frame pairs.now) draft.old) }
+    {
+        for pair in pairs {
+            self.put_turns_of(alloc, draft, *pair)?;
+        }
+        Ok(())
+    }
+}

@@ -1,0 +1,9 @@
+pub mod Equivariant
+pub mod Exchanging
+pub mod Feasibility
+pub mod Turns
+pub mod Testing
+pub mod Rows
+pub mod Next
+pub mod Beginnings
+pub mod AlikeRows

@@ -1,0 +1,34 @@
+-- Trains that are alike, and what is the same where two of them are exchanged.
+use Rattle.std.specs.Prelude.{◌≡◌, ◌<◌, List, if◌then◌else◌}
+use Rattle.rail_base.specs.declared.station.Station.{Station}
+use Rattle.rail_base.specs.declared.station.Order.{Order}
+use Rattle.rail_base.specs.declared.station.Within.{Within}
+use Rattle.rail_base.specs.declared.station.TrainNo.{TrainNo}
+use Rattle.rail_base.specs.declared.plan.Command.{Command}
+use Rattle.rail_base.specs.Members.{In}
+use Rattle.rail_base.specs.Stations.{train_of, IsTrain}
+use Rattle.rail_spec.specs.Plans.{is_train}
+use Rattle.rail_alike.specs.Renaming.{renamed, renamed_order, renamed_within}
+
+-- each of the two for the other, and any other train as it is
+abbrev pub exchange : TrainNo → TrainNo → TrainNo → TrainNo
+exchange t u x = if is_train x t then u else if is_train x u then t else x
+
+-- the plan in which each command of t is given to u, and the other way round
+abbrev pub exchanged : TrainNo → TrainNo → List (List Command) → List (List Command)
+exchanged t u plan = renamed (exchange t u) plan
+
+-- the two have one vehicle and the same visits, and each order and within is one of the design with them exchanged
+pub record AreAlike (d : Station) (t u : TrainNo) : Type 0 where
+  pub one : IsTrain d t
+  pub other : IsTrain d u
+  pub vehicle : (train_of d t).vehicle ≡ (train_of d u).vehicle
+  pub visits : (train_of d t).visits ≡ (train_of d u).visits
+  pub order : (o : Order) → In o d.orders → In (renamed_order (exchange t u) o) d.orders
+  pub within : (w : Within) → In w d.withins → In (renamed_within (exchange t u) w) d.withins
+
+-- the two are alike, and no train between them is like the first
+pub record AreNeighbors (d : Station) (t u : TrainNo) : Type 0 where
+  pub alike : AreAlike d t u
+  pub later : t.0 < u.0
+  pub next : (x : TrainNo) → t.0 < x.0 → x.0 < u.0 → AreAlike d t x → ⊥

@@ -1,0 +1,72 @@
+-- The test of trains that are alike, and those of them that are next to each other.
+use Rattle.std.specs.Prelude.{Bool, ◌&&◌, ◌==◌, nat_le, nat_lt, List, [], ◌∷◌, flat_map, length, Option, None, Some, find}
+use Rattle.std.specs.List.{list_any, list_all, zip}
+use Rattle.rail_base.specs.declared.station.Station.{Station}
+use Rattle.rail_base.specs.declared.station.Order.{Order}
+use Rattle.rail_base.specs.declared.station.Within.{Within}
+use Rattle.rail_base.specs.declared.station.NodeNo.{NodeNo}
+use Rattle.rail_base.specs.declared.station.TrainNo.{TrainNo}
+use Rattle.rail_base.specs.Stations.{train_of, trains}
+use Rattle.rail_spec.specs.Plans.{is_train}
+use Rattle.rail_alike.specs.Renaming.{renamed_order, renamed_within}
+use Rattle.rail_alike.specs.Alike.{exchange}
+
+-- the two lists have one length, and members at one place are the same by the test
+abbrev pub are_same : {X : Type 0} → (X → X → Bool) → List X → List X → Bool
+are_same same xs ys = (length xs == length ys) && list_all (λ p. same p.0 p.1) (zip xs ys)
+
+-- the two are one node
+abbrev pub is_node : NodeNo → NodeNo → Bool
+is_node m n = m.0 == n.0
+
+-- the two are one order
+abbrev pub is_order : Order → Order → Bool
+is_order a b = is_train a.first_train b.first_train && (a.first_visit == b.first_visit)
+    && is_train a.then_train b.then_train && (a.then_visit == b.then_visit)
+
+-- the two are one within
+abbrev pub is_within : Within → Within → Bool
+is_within a b = is_train a.from_train b.from_train && (a.from_visit == b.from_visit)
+    && is_train a.to_train b.to_train && (a.to_visit == b.to_visit) && (a.max_ms == b.max_ms)
+
+-- a train has this number
+abbrev pub is_named : Station → TrainNo → Bool
+is_named d t = nat_le 1 t.0 && nat_le t.0 (length d.trains)
+
+module _ (d : Station) (t u : TrainNo) where
+  -- the two have one vehicle
+  abbrev pub same_vehicle : Bool
+  same_vehicle = (train_of d t).vehicle.0 == (train_of d u).vehicle.0
+
+  -- and the same visits
+  abbrev pub same_visits : Bool
+  same_visits = are_same (are_same is_node) (train_of d t).visits (train_of d u).visits
+
+  -- each order is one of the design with the two exchanged
+  abbrev pub orders_stay : Bool
+  orders_stay = list_all (λ o. list_any (is_order (renamed_order (exchange t u) o)) d.orders) d.orders
+
+  -- so is each within
+  abbrev pub withins_stay : Bool
+  withins_stay = list_all (λ w. list_any (is_within (renamed_within (exchange t u) w)) d.withins) d.withins
+
+  -- the two trains are alike
+  abbrev pub are_alike : Bool
+  are_alike = is_named d t && is_named d u && same_vehicle && same_visits && orders_stay && withins_stay
+
+-- u comes after t, and is like it
+abbrev pub is_later_alike : Station → TrainNo → TrainNo → Bool
+is_later_alike d t u = nat_lt t.0 u.0 && are_alike d t u
+
+-- the first train after this one that is like it
+abbrev pub next_alike : Station → TrainNo → Option TrainNo
+next_alike d t = find (is_later_alike d t) (trains d)
+
+-- a train with the next one, where there is one
+abbrev pub pair_with : TrainNo → Option TrainNo → List (TrainNo × TrainNo)
+pair_with t None = []
+pair_with t (Some u) = (t, u) ∷ []
+
+-- each train with the next one that is like it
+abbrev pub neighbors : Station → List (TrainNo × TrainNo)
+neighbors d = flat_map (λ t. pair_with t (next_alike d t)) (trains d)
