@@ -1,0 +1,5 @@
+use Rattle.bound_clause.proofs.Holding.{clause_rises}
+use Rattle.bound_clause.proofs.laws.clauses_stand_in_order.Goals as goal
+
+pub returns : goal.returns
+returns c = clause_rises

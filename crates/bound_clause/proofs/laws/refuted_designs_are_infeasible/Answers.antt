@@ -1,0 +1,5 @@
+use Rattle.bound_clause.proofs.Holding.{refuted}
+use Rattle.bound_clause.proofs.laws.refuted_designs_are_infeasible.Goals as goal
+
+pub returns : goal.returns
+returns c = refuted

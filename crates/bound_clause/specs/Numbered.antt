@@ -1,0 +1,19 @@
+-- The clause of a certificate over the numbers that the base gives its variables.
+use Rattle.std.specs.Prelude.{ℕ, List, ◌++◌, map}
+use Rattle.rail_base.specs.declared.station.Station.{Station}
+use Rattle.rail_base.specs.declared.route.Route.{Route}
+use Rattle.rail_spec.specs.Track.{routes_of}
+use Rattle.sat_clause.specs.declared.lit.Lit.{Lit}
+use Rattle.rail_cone.specs.declared.Cone.{Cone}
+use Rattle.cone_clause.specs.Numbered.{lit_of, numbered_clause}
+use Rattle.rail_bound.specs.declared.Bound.{Bound}
+use Rattle.rail_bound.specs.Clauses.{clause_of_bound}
+
+-- the certificate's clause, with the numbers of the base
+abbrev pub numbered_bound : Station → List Route → ℕ → Bound → List Lit
+numbered_bound d routes n b = map (lit_of d routes n) (clause_of_bound d routes b)
+
+-- the clauses of these cones and certificates
+abbrev pub clauses_shown : Station → ℕ → List Cone → List Bound → List (List Lit)
+clauses_shown d n cones bounds =
+    map (numbered_clause d (routes_of d) n) cones ++ map (numbered_bound d (routes_of d) n) bounds

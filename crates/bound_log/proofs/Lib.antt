@@ -1,0 +1,4 @@
+pub mod Gathering
+pub mod Joining
+pub mod Told
+pub mod ReadBack

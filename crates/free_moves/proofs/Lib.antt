@@ -1,0 +1,5 @@
+pub mod Gaining
+pub mod Stepping
+pub mod Further
+pub mod Least
+pub mod Lined

@@ -1,0 +1,9 @@
+use Rattle.std.proofs.Common.{◌≡◌, drop, map}
+use Rattle.rail_base.specs.Routes.{route_at}
+use Rattle.rail_cone.specs.Clauses.{goes_further}
+use Rattle.free_moves.proofs.Further.{further_after}
+use Rattle.free_moves.proofs.following.goes_further.Given as goal
+
+-- what is left to ask tells the same
+abbrev pub invariant-loop-number : goal.invariant-loop-number
+invariant-loop-number l = further_after l.next l.goes (map (route_at l.routes) (drop l.number-index l.way)) ≡ goes_further (map (route_at l.routes) l.way) l.next

@@ -1,0 +1,26 @@
+use Rattle.std.proofs.Common.{ap, ◌∙◌, arith}
+use Rattle.rail_motion.specs.Motor.{rates_of}
+use Rattle.rail_motion.specs.Track.{stretches_of}
+use Rattle.rail_base.specs.Stations.{horizon}
+use Rattle.rail_course.specs.Tracks.{routes_at}
+use Rattle.free_moves.proofs.Least.{short_way, on_leg}
+use Rattle.free_moves.proofs.trips.Trip.leg_ticks.Goals as goal
+
+pub spans_of-requires-clause-short : goal.spans_of-requires-clause-short
+spans_of-requires-clause-short c = short_way c.args.self.now.interlocking.now c.args.path.now c.requires.few
+
+pub length_of-requires-clause-short : goal.length_of-requires-clause-short
+length_of-requires-clause-short c = short_way c.args.self.now.interlocking.now c.args.path.now c.requires.few
+
+pub end_of-requires : goal.end_of-requires
+end_of-requires c =
+    let long = c.length_of.ensures in
+    let short = short_way c.args.self.now.interlocking.now c.args.path.now c.requires.few in
+    omega arith
+
+pub returns : goal.returns
+returns c =
+    let p = c.args.self.now in
+    let d = p.interlocking.now.design.station in
+    on_leg d p.train (routes_at p.interlocking.now.routes c.args.path.now) c.args.closed c.args.rest p.waits (horizon d) p.from p.to (rates_of c.motor_of.result) (stretches_of c.deref.result.now) _ c.length_of.result c.ticks_on.result
+    c.motor_of.ensures (ap stretches_of c.deref.ensures.value ∙ c.in_ok-spans.ensures.track) c.length_of.ensures c.end_of.ensures.value c.ticks_on.ensures

@@ -1,0 +1,47 @@
+//! The way on which a train gains its speed.
+
+ghost use Rattle.std.specs.Prelude.{◌≡◌, ◌<◌, ◌≤◌, ◌+◌, ◌-◌, ◌^◌, not, ◌&&◌, ◌||◌, nat_abs, nat_lt, nat_le};
+ghost use Rattle.rail_motion.specs.Track.{stretches_of};
+ghost use Rattle.rail_free.specs.Free.{behind, rise};
+
+use rail_motion::Span;
+
+/// How far a train has come at speeds above a limit, before a move by `speed`, if it gains at most `accel` in a tick.
+pub(crate) fn rise(accel: u64, speed: u64, limit: u64) -> u64
+    requires accel { 1 ≤ accel }
+    requires speed { speed ≤ 100000 }
+    requires limit { limit ≤ 100000 }
+    ensures { result ≡ rise accel speed limit }
+{
+    let gains = speed.saturating_sub(limit + 1) / accel;
+    let twice = 2 * (gains * speed) - accel * (gains * (gains + 1));
+    twice / 2
+}
+
+/// Whether the way since the end of a span is enough to gain a speed from its limit. Only a span that ends past `from`, and up
+/// to the place, matters.
+fn allows(span: &Span, from: u64, accel: u64, place: u64, speed: u64) -> bool
+    requires accel { 1 ≤ accel }
+    requires speed { speed ≤ 100000 }
+    ensures { result ≡ (not (nat_lt from (nat_abs span.now.end) && nat_le (nat_abs span.now.end) place)
+        || nat_le (rise accel speed (nat_abs span.now.limit)) (place - nat_abs span.now.end)) }
+{
+    let end = span.end as u64;
+    end <= from || end > place || rise(accel, speed, span.limit as u64) <= place - end
+}
+
+/// Whether the limits behind a place allow a speed there.
+pub(crate) fn behind(spans: &[Span], accel: u64, place: u64, speed: u64) -> bool
+    requires accel { 1 ≤ accel }
+    requires speed { speed ≤ 100000 }
+    ensures { result ≡ behind accel 0 (stretches_of spans.now) place speed }
+{
+    let mut from = 0;
+    for span in spans {
+        if !allows(span, from, accel, place, speed) {
+            return false;
+        }
+        from = from.max(span.end as u64);
+    }
+    true
+}

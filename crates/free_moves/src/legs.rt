@@ -1,0 +1,139 @@
+//! The least ticks of trips on legs, and whatever follows a way.
+
+ghost use Rattle.std.specs.Prelude.{◌≡◌, ◌<◌, ◌≤◌, ◌^◌, ◌+◌, All, IfOk, length, None, Some, if◌then◌else◌, nat_abs};
+ghost use Rattle.std.specs.Option.{ForSome};
+ghost use Rattle.rail_motion.specs.Ranges.{IsPlace};
+ghost use Rattle.rail_motion.specs.Track.{end_of};
+ghost use Rattle.rail_base.specs.Routes.{IsRoute, route_at};
+ghost use Rattle.rail_base.specs.Stations.{horizon};
+ghost use Rattle.rail_cone.specs.Validity.{from_boundary};
+ghost use Rattle.rail_course.specs.Tracks.{routes_at, way};
+ghost use Rattle.rail_free.specs.Free.{steps, steps_from_stop};
+ghost use Rattle.rail_free.specs.Legs.{following, least_over, least_whatever_follows, with_next};
+ghost use Rattle.free_moves.specs.Moves.{free_on};
+ghost use Rattle.free_moves.specs.Trips.{trip_ticks};
+
+use crate::following::{exits, from_boundary, goes_further, is_dead, length_of};
+use crate::moves::LegTrack;
+use crate::trips::Trip;
+use rail_base::route::{RouteNo, route_at};
+use rail_course::{motor_of, spans_of};
+use rail_motion::Ahead;
+use std::alloc::{AllocError, Global};
+
+/// Where the track of a leg ends, if no train goes past its end.
+fn end_of(closed: bool, length: u64) -> Option<i64>
+    requires { length < 2 ^ 47 }
+    ensures value { end_of result ≡ (if closed then Some length else None) }
+    ensures range { ForSome result IsPlace }
+{
+    if closed { Some(length as i64) } else { None }
+}
+
+impl Trip<'_> {
+    /// The least ticks of the trip on the track of a leg, or one more than the horizon where that doesn't reach.
+    fn ticks_on(&self, track: &LegTrack) -> u64
+        ensures { let most = horizon self.now.interlocking.now.design.station in
+            let gain = nat_abs track.now.motor.accel + nat_abs track.now.motor.brake in
+            result ≡ (if self.now.waits
+            then steps_from_stop (free_on track.now) gain self.now.from 0 most self.now.from self.now.to
+            else steps (free_on track.now) most self.now.from self.now.to) }
+    {
+        let most = self.interlocking.design.horizon();
+        if self.waits {
+            track.steps_from_stop(most, self.from, self.to)
+        } else {
+            track.steps(most, self.from, self.to)
+        }
+    }
+
+    /// The same on routes in a row, past which no train goes where they are closed.
+    fn leg_ticks(
+        &self,
+        alloc: Global,
+        path: &[RouteNo],
+        closed: bool,
+        rest: bool,
+    ) -> Result<u64, AllocError>
+        requires routes { All (IsRoute self.now.interlocking.now.routes) path.now }
+        requires few { length path.now ≤ 65 }
+        ensures { IfOk result (λ n. n ≡ trip_ticks self.now
+            (record { routes = routes_at self.now.interlocking.now.routes path.now; closed = closed; rest = rest })) }
+    {
+        let interlocking = self.interlocking;
+        let spans = spans_of(alloc, interlocking, path)?;
+        let track = LegTrack {
+            motor: motor_of(&interlocking.design, self.train),
+            ahead: Ahead {
+                spans: &spans,
+                end: end_of(closed, length_of(&interlocking.routes, path)),
+            },
+            rest,
+        };
+        Ok(self.ticks_on(&track))
+    }
+
+    /// The same on a way and one more route.
+    fn ticks_with_next(
+        &self,
+        alloc: Global,
+        path: &[RouteNo],
+        rest: bool,
+        next: RouteNo,
+    ) -> Result<u64, AllocError>
+        requires routes { All (IsRoute self.now.interlocking.now.routes) path.now }
+        requires next { IsRoute self.now.interlocking.now.routes next }
+        requires few { length path.now ≤ 64 }
+        ensures { let routes = self.now.interlocking.now.routes in
+            let longer = with_next (routes_at routes path.now) rest (route_at routes next) in
+            IfOk result (λ n. n ≡ trip_ticks self.now longer) }
+    {
+        let mut longer = Vec::new(alloc);
+        longer.extend_from_slice(path)?;
+        longer.push(next)?;
+        let closed = is_dead(route_at(&self.interlocking.routes, next).finish);
+        self.leg_ticks(alloc, &longer, closed, rest)
+    }
+
+    /// The least of `first` and of what the trip takes on the way with each route that goes further.
+    fn least_following(
+        &self,
+        alloc: Global,
+        path: &[RouteNo],
+        rest: bool,
+        first: u64,
+    ) -> Result<u64, AllocError>
+        requires routes { All (IsRoute self.now.interlocking.now.routes) path.now }
+        requires few { length path.now ≤ 64 }
+        ensures { let routes = self.now.interlocking.now.routes in
+            let legs = following routes (routes_at routes path.now) rest in
+            IfOk result (λ n. n ≡ least_over (trip_ticks self.now) first legs) }
+    {
+        let routes = &self.interlocking.routes;
+        let mut least = first;
+        for number in 1..routes.len() as u32 + 1 {
+            let next = RouteNo(number);
+            if goes_further(routes, path, route_at(routes, next)) {
+                least = least.min(self.ticks_with_next(alloc, path, rest, next)?);
+            }
+        }
+        Ok(least)
+    }
+
+    /// The least ticks of the trip on a way, whatever follows it.
+    pub(crate) fn least_ticks(&self, alloc: Global, path: &[RouteNo]) -> Result<u64, AllocError>
+        requires routes { All (IsRoute self.now.interlocking.now.routes) path.now }
+        requires few { length path.now ≤ 64 }
+        ensures { let routes = self.now.interlocking.now.routes in
+            let way = routes_at routes path.now in
+            IfOk result (λ n. n ≡ least_whatever_follows (trip_ticks self.now) routes way (from_boundary way)) }
+    {
+        let routes = &self.interlocking.routes;
+        let rest = from_boundary(routes, path);
+        if path.is_empty() || exits(routes, path) {
+            return self.leg_ticks(alloc, path, false, rest);
+        }
+        let closed = self.leg_ticks(alloc, path, true, rest)?;
+        self.least_following(alloc, path, rest, closed)
+    }
+}

@@ -1,0 +1,19 @@
+//! The least ticks that a train takes on a way, however other trains move.
+//!
+//! Places and lengths are in mm from the start of the way, and speeds in mm per tick.
+#![tactic(auto)]
+
+mod following;
+mod gains;
+mod legs;
+mod moves;
+mod steps;
+mod ticks;
+mod trips;
+
+pub use ticks::{on_ticks, run_ticks};
+
+#[cfg(test)]
+mod line;
+#[cfg(test)]
+mod tests;

@@ -1,0 +1,13 @@
+pub mod Clearing
+pub mod Links
+pub mod Hops
+pub mod Told
+pub mod Ways
+pub mod Rides
+pub mod Visits
+pub mod Premises
+pub mod Backwards
+pub mod Meeting
+pub mod Chains
+pub mod Certified
+mod Rows

@@ -1,0 +1,7 @@
+-- Lower bounds on the ticks between what happens in a run, however other trains move.
+pub mod Events
+pub mod Ways
+pub mod Rides
+pub mod Certificates
+pub mod Clauses
+pub mod Validity
