@@ -1,9 +1,10 @@
 -- Where a route goes further than a way, one route of the way at a time.
-use Rattle.std.proofs.Common.{◌≡◌, ℕ, ◌+◌, ◌<◌, Bool, true, false, not, ◌&&◌, List, [], ◌∷◌, map, drop, get_or, length, refl, sym, ap, ◌∙◌}
+use Rattle.std.proofs.Common.{◌≡◌, ℕ, suc, ◌+◌, ◌-◌, ◌<◌, Bool, true, false, not, ◌&&◌, List, [], ◌∷◌, map, drop, get_or, length, slice_get, Option, None, Some, refl, sym, ap, subst, ◌∙◌, arith, true≢false}
 use Rattle.std.proofs.lemmas.List.{drop_more}
 use Rattle.rail_base.specs.declared.route.Route.{Route}
 use Rattle.rail_base.specs.declared.route.RouteNo.{RouteNo}
 use Rattle.rail_base.specs.Routes.{route_at}
+use Rattle.rail_base.proofs.Members.{and_left, and_right}
 use Rattle.rail_spec.specs.Plans.{is_start, goes_on}
 use Rattle.rail_cone.specs.Clauses.{goes_further}
 
@@ -41,3 +42,22 @@ module _ (routes : List Route) (q : Route) (path : List RouteNo) (i : ℕ) (othe
 
   pub further_next : (b s g t : Bool) → s ≡ is_start r.start q.start → s ≡ false → g ≡ goes_on r.finish q.start → further_after q b (map (route_at routes) (drop i path)) ≡ t → further_after q g (map (route_at routes) (drop (i + 1) path)) ≡ t
   further_next b s g t e f k h = ap (λ x. further_after q x (map (route_at routes) (drop (i + 1) path))) k ∙ (sym (passes q b r (map (route_at routes) (drop (i + 1) path)) (sym e ∙ f)) ∙ (sym (ap (further_after q b) here) ∙ h))
+
+value_or : RouteNo → Option RouteNo → RouteNo
+value_or x None = x
+value_or x (Some y) = y
+
+-- a route that goes further starts at the signal where the last of the way ends
+pub last_goes : (f : RouteNo → Route) (q : Route) (xs : List RouteNo) (x : RouteNo) → Some x ≡ slice_get xs (length xs - 1) → goes_further (map f xs) q ≡ true → goes_on (f x).finish q.start ≡ true
+unfolding value_or
+last_goes f q [] x e h = absurd (true≢false (sym h))
+last_goes f q (y ∷ []) x e h =
+    let i : length (y ∷ []) - 1 ≡ 0 = omega arith in
+    let same : x ≡ y = ap (value_or x) (e ∙ ap (slice_get (y ∷ [])) i) in
+    subst (λ z. goes_on (f z).finish q.start ≡ true) (sym same) (and_left _ _ h)
+last_goes f q (y ∷ z ∷ zs) x e h =
+    let i : length (y ∷ z ∷ zs) - 1 ≡ suc (length (z ∷ zs) - 1) = omega arith in
+    last_goes f q (z ∷ zs) x (e ∙ ap (slice_get (y ∷ z ∷ zs)) i) (and_right (not (is_start y'.start q.start)) _ h)
+  where
+    y' : Route
+    y' = f y

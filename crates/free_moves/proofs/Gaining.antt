@@ -1,8 +1,12 @@
 -- The way of the speeds gained, and the greatest free move.
-use Rattle.std.proofs.Common.{◌≡◌, ℕ, zero, suc, ◌+◌, ◌-◌, ◌*◌, ◌/◌, ◌≤◌, ◌<◌, Bool, true, false, if◌then◌else◌, List, Option, refl, sym, subst, arith}
+use Rattle.std.proofs.Common.{◌≡◌, ℕ, zero, suc, ◌+◌, ◌-◌, ◌*◌, ◌/◌, ◌≤◌, ◌<◌, max, nat_abs, Bool, true, false, not, ◌&&◌, ◌||◌, nat_lt, nat_le, if◌then◌else◌, List, [], ◌∷◌, drop, length, slice_index_or, Option, refl, sym, ap, subst, arith}
+use Rattle.std.proofs.lemmas.List.{get_or-drop, length-drop}
+use Rattle.rail_motion.specs.declared.Span.{Span}
+use Rattle.rail_motion.specs.Track.{stretches_of, IsRising}
+use Rattle.rail_motion.proofs.Rising.{ends_rise}
 use Rattle.rail_base.specs.Numbering.{greatest}
 use Rattle.rail_spec.specs.Motion.{Rates, Stretch}
-use Rattle.rail_free.specs.Free.{rise, is_free, free}
+use Rattle.rail_free.specs.Free.{rise, behind, is_free, free}
 use Rattle.rail_free.proofs.Lower.{lower, rise_is}
 
 pub rise_found : (a u l gap : ℕ) → 1 ≤ a → gap ≡ u - (l + 1) → 2 * rise a u l + a * (gap / a * (gap / a + 1)) ≡ 2 * (gap / a * u)
@@ -27,3 +31,24 @@ free_found m ss end rest x low high slows apart within close passes above =
     go : (w : ℕ) → low < w → w ≤ m.top → (t : Bool) → is_free m ss end rest x w ≡ t → is_free m ss end rest x w ≡ false
     go w more most false e = e
     go w more most true e = let k = lower m ss end rest x w high slows most (omega arith) e in let l = above (omega arith) in cc
+
+-- ---- spans past a place
+
+skipped : (from e x : ℕ) (b c : Bool) → x < e → c ≡ true → ((not (nat_lt from e && nat_le e x) || b) && c) ≡ true
+skipped from e x b c past h = grind arith
+
+all_past : (a from : ℕ) (spans : List Span) (x u : ℕ) (d : Span) → ((j : ℕ) → j < length spans → x < nat_abs (slice_index_or spans j d).end) → behind a from (stretches_of spans) x u ≡ true
+all_past a from [] x u d past = refl
+all_past a from (s ∷ spans) x u d past =
+    skipped from (nat_abs s.end) x (nat_le (rise a u (nat_abs s.limit)) (x - nat_abs s.end)) (behind a (max from (nat_abs s.end)) (stretches_of spans) x u) (past 0 (omega arith))
+    (all_past a (max from (nat_abs s.end)) spans x u d (λ j less. past (suc j) (omega arith)))
+
+-- where one of rising spans ends past a place so do all from there on
+pub rest_past : (a from : ℕ) (spans : List Span) (i x u : ℕ) (s : Span) → IsRising spans → s ≡ slice_index_or spans i s → x < nat_abs s.end → behind a from (stretches_of (drop i spans)) x u ≡ true
+rest_past a from spans i x u s rising here past =
+    all_past a from (drop i spans) x u s (λ j less.
+    let long = length-drop i spans in
+    let later = ends_rise spans rising i (i + j) s (omega arith) (omega arith) in
+    let first = ap (λ (t : Span). nat_abs t.end) here in
+    let same = ap (λ (t : Span). nat_abs t.end) (get_or-drop i spans j s) in
+    omega arith)

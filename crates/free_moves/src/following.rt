@@ -1,6 +1,6 @@
 //! The ends of ways, and which routes can follow them.
 
-ghost use Rattle.std.specs.Prelude.{◌≡◌, ◌<◌, ◌^◌, All, map};
+ghost use Rattle.std.specs.Prelude.{◌≡◌, ◌<◌, ◌^◌, All, false, map};
 ghost use Rattle.std.specs.List.{list_any};
 ghost use Rattle.rail_base.specs.Routes.{IsRoute, route_at, exits};
 ghost use Rattle.rail_spec.specs.Plans.{goes_on, is_start};
@@ -35,8 +35,27 @@ pub(crate) fn is_dead(finish: Finish) -> bool
     matches!(finish, Finish::Dead(_))
 }
 
+/// Whether a route starts where a way ends, at a signal.
+fn is_next(routes: &RouteTable, way: &[RouteNo], next: &Route) -> bool
+    requires { All (IsRoute routes.now) way.now }
+    ensures { result ≡ false → goes_further (map (route_at routes.now) way.now) next.now ≡ false }
+{
+    match way.last() {
+        Some(last) => goes_on(route_at(routes, *last).finish, next.start),
+        None => false,
+    }
+}
+
 /// Whether a route starts at the signal where a way ends, which is not a start of one of the way's routes.
-pub(crate) fn goes_further(routes: &RouteTable, way: &[RouteNo], next: &Route) -> bool
+pub fn goes_further(routes: &RouteTable, way: &[RouteNo], next: &Route) -> bool
+    requires { All (IsRoute routes.now) way.now }
+    ensures { result ≡ goes_further (map (route_at routes.now) way.now) next.now }
+{
+    is_next(routes, way, next) && starts_no_other(routes, way, next)
+}
+
+/// The same, by the whole way.
+fn starts_no_other(routes: &RouteTable, way: &[RouteNo], next: &Route) -> bool
     requires { All (IsRoute routes.now) way.now }
     ensures { result ≡ goes_further (map (route_at routes.now) way.now) next.now }
 {

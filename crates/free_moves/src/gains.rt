@@ -1,7 +1,7 @@
 //! The way on which a train gains its speed.
 
 ghost use Rattle.std.specs.Prelude.{◌≡◌, ◌<◌, ◌≤◌, ◌+◌, ◌-◌, ◌^◌, not, ◌&&◌, ◌||◌, nat_abs, nat_lt, nat_le};
-ghost use Rattle.rail_motion.specs.Track.{stretches_of};
+ghost use Rattle.rail_motion.specs.Track.{IsRising, stretches_of};
 ghost use Rattle.rail_free.specs.Free.{behind, rise};
 
 use rail_motion::Span;
@@ -18,6 +18,13 @@ pub(crate) fn rise(accel: u64, speed: u64, limit: u64) -> u64
     twice / 2
 }
 
+/// Where a span ends.
+fn end_of(span: &Span) -> u64
+    ensures { result ≡ nat_abs span.now.end }
+{
+    span.end as u64
+}
+
 /// Whether the way since the end of a span is enough to gain a speed from its limit. Only a span that ends past `from`, and up
 /// to the place, matters.
 fn allows(span: &Span, from: u64, accel: u64, place: u64, speed: u64) -> bool
@@ -26,22 +33,27 @@ fn allows(span: &Span, from: u64, accel: u64, place: u64, speed: u64) -> bool
     ensures { result ≡ (not (nat_lt from (nat_abs span.now.end) && nat_le (nat_abs span.now.end) place)
         || nat_le (rise accel speed (nat_abs span.now.limit)) (place - nat_abs span.now.end)) }
 {
-    let end = span.end as u64;
+    let end = end_of(span);
     end <= from || end > place || rise(accel, speed, span.limit as u64) <= place - end
 }
 
-/// Whether the limits behind a place allow a speed there.
+/// Whether the limits behind a place allow a speed there. Of rising spans none after the first that ends past it
+/// matters.
 pub(crate) fn behind(spans: &[Span], accel: u64, place: u64, speed: u64) -> bool
+    requires rising { IsRising spans.now }
     requires accel { 1 ≤ accel }
     requires speed { speed ≤ 100000 }
     ensures { result ≡ behind accel 0 (stretches_of spans.now) place speed }
 {
     let mut from = 0;
     for span in spans {
+        if place < end_of(span) {
+            return true;
+        }
         if !allows(span, from, accel, place, speed) {
             return false;
         }
-        from = from.max(span.end as u64);
+        from = from.max(end_of(span));
     }
     true
 }

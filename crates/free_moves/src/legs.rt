@@ -5,7 +5,6 @@ ghost use Rattle.std.specs.Option.{ForSome};
 ghost use Rattle.rail_motion.specs.Ranges.{IsPlace};
 ghost use Rattle.rail_motion.specs.Track.{end_of};
 ghost use Rattle.rail_base.specs.Routes.{IsRoute, route_at};
-ghost use Rattle.rail_base.specs.Stations.{horizon};
 ghost use Rattle.rail_cone.specs.Validity.{from_boundary};
 ghost use Rattle.rail_course.specs.Tracks.{routes_at, way};
 ghost use Rattle.rail_free.specs.Free.{steps, steps_from_stop};
@@ -31,19 +30,17 @@ fn end_of(closed: bool, length: u64) -> Option<i64>
 }
 
 impl Trip<'_> {
-    /// The least ticks of the trip on the track of a leg, or one more than the horizon where that doesn't reach.
+    /// The least ticks of the trip on the track of a leg, or one more than its most where so many don't reach.
     fn ticks_on(&self, track: &LegTrack) -> u64
-        ensures { let most = horizon self.now.interlocking.now.design.station in
-            let gain = nat_abs track.now.motor.accel + nat_abs track.now.motor.brake in
+        ensures { let gain = nat_abs track.now.motor.accel + nat_abs track.now.motor.brake in
             result ≡ (if self.now.waits
-            then steps_from_stop (free_on track.now) gain self.now.from 0 most self.now.from self.now.to
-            else steps (free_on track.now) most self.now.from self.now.to) }
+            then steps_from_stop (free_on track.now) gain self.now.from 0 self.now.most self.now.from self.now.to
+            else steps (free_on track.now) self.now.most self.now.from self.now.to) }
     {
-        let most = self.interlocking.design.horizon();
         if self.waits {
-            track.steps_from_stop(most, self.from, self.to)
+            track.steps_from_stop(self.most, self.from, self.to)
         } else {
-            track.steps(most, self.from, self.to)
+            track.steps(self.most, self.from, self.to)
         }
     }
 

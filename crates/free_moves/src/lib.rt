@@ -11,6 +11,7 @@ mod steps;
 mod ticks;
 mod trips;
 
+pub use following::goes_further;
 pub use ticks::{on_ticks, run_ticks};
 
 #[cfg(test)]

@@ -7,11 +7,12 @@ use rail_base::station::TrainNo;
 use std::test::Fail;
 
 /// Heads 500, 1500, 3000, 5000 and so on, by 2,000 a tick: to the exit, and to where a train of 2,000 mm has left the first
-/// section. Who stops at the signal comes no farther in any tick, so the second route may follow the first or not.
+/// section.
 #[test]
 fn ticks_from_the_grant(rt: HostRuntime) -> Result<(), Fail> {
     let alloc = rt.alloc();
     let line = line(alloc)?;
+    let way = [RouteNo(1), RouteNo(2)];
     for (place, ticks) in [
         (0u16, 0),
         (500, 0),
@@ -20,11 +21,22 @@ fn ticks_from_the_grant(rt: HostRuntime) -> Result<(), Fail> {
         (16_000, 9),
         (30_000, 12),
     ] {
-        let to = u64::from(place);
-        let both = run_ticks(alloc, &line, TrainNo(1), &[RouteNo(1), RouteNo(2)], to)?;
-        assert_eq!(rt; both, ticks, "{place}");
-        let first = run_ticks(alloc, &line, TrainNo(1), &[RouteNo(1)], to)?;
-        assert_eq!(rt; first, ticks, "{place}");
+        let taken = run_ticks(alloc, &line, TrainNo(1), &way, u64::from(place), 12)?;
+        assert_eq!(rt; taken, ticks, "{place}");
+    }
+    Ok(())
+}
+
+/// No more ticks are counted than the most. Who stops at the signal comes no farther in any tick, so the second route
+/// may follow the first or not.
+#[test]
+fn ticks_up_to_a_most(rt: HostRuntime) -> Result<(), Fail> {
+    let alloc = rt.alloc();
+    let line = line(alloc)?;
+    let way = [RouteNo(1)];
+    for (place, ticks) in [(501u16, 1), (12_000, 7), (16_000, 8), (30_000, 8)] {
+        let taken = run_ticks(alloc, &line, TrainNo(1), &way, u64::from(place), 8)?;
+        assert_eq!(rt; taken, ticks, "{place}");
     }
     Ok(())
 }
@@ -35,7 +47,14 @@ fn ticks_after_a_wait(rt: HostRuntime) -> Result<(), Fail> {
     let alloc = rt.alloc();
     let line = line(alloc)?;
     for (place, ticks) in [(1200u16, 0), (1201, 1), (6000, 3)] {
-        let taken = run_ticks(alloc, &line, TrainNo(1), &[RouteNo(2)], u64::from(place))?;
+        let taken = run_ticks(
+            alloc,
+            &line,
+            TrainNo(1),
+            &[RouteNo(2)],
+            u64::from(place),
+            12,
+        )?;
         assert_eq!(rt; taken, ticks, "{place}");
     }
     Ok(())
@@ -54,7 +73,7 @@ fn ticks_from_a_place(rt: HostRuntime) -> Result<(), Fail> {
         (16_000, 6),
         (30_000, 12),
     ] {
-        let taken = on_ticks(alloc, &line, TrainNo(1), &way, 4000, u64::from(place))?;
+        let taken = on_ticks(alloc, &line, TrainNo(1), &way, 4000, u64::from(place), 12)?;
         assert_eq!(rt; taken, ticks, "{place}");
     }
     Ok(())

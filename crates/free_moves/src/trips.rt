@@ -1,6 +1,6 @@
 //! Trips of trains.
 
-ghost use Rattle.std.specs.Prelude.{◌<◌, ◌^◌};
+ghost use Rattle.std.specs.Prelude.{◌<◌, ◌≤◌, ◌^◌};
 ghost use Rattle.rail_base.specs.Stations.{IsTrain};
 
 use interlocking::Interlocking;
@@ -13,8 +13,11 @@ pub(crate) struct Trip<'a> {
     pub train: TrainNo,
     pub from: u64,
     pub to: u64,
+    /// No more ticks than these are counted.
+    pub most: u64,
     /// Whether it could stop at the first place, since it waits for more track.
     pub waits: bool,
     pub ghost named: { IsTrain interlocking.now.design.station train },
     pub ghost near: { to < 2 ^ 47 },
+    pub ghost few: { most ≤ 86400 },
 }

@@ -50,7 +50,7 @@ use Rattle.rail_bound.specs.Ways.{ways}
 use Rattle.rail_bound.specs.Rides.{Ride, Rides, way_of, first_of, reaches, granted_first, passes, first_target, Chained, arrives, waits_out, first_place, release_place}
 use Rattle.rail_bound.specs.Certificates.{VisitOf, routes_of_place, first_of_leg, last_of_leg, ride_of, visit_offset, visit_place, visit_from, visit_to, train_to, target, cone_of}
 use Rattle.rail_bound.specs.Clauses.{any_next, may_join, begins_at_once, clause_of_bound}
-use Rattle.rail_bound.specs.Validity.{is_empty, first_leg, last_leg, legs_before_last, leg_in_design, place_in_design, most_places, places_of, are_few_choices, contend_where_they_meet, requirement_in_design, can_visit, comes_before, is_used, is_visited, is_just, reaches_target, is_made_at_end, begins_with, is_first_route, is_ahead, are_ahead, ticks_to, ticks_from_visit, passes_between, is_too_long, is_too_late, origin_in_design, is_consistent, in_design, origin_covered, covered, is_made_at, cone_shows, is_shown, shown, first_fault, is_valid_bound}
+use Rattle.rail_bound.specs.Validity.{most_looks, stretches_of, followed, is_empty, first_leg, last_leg, legs_before_last, leg_in_design, place_in_design, most_places, places_of, are_few_choices, contend_where_they_meet, requirement_in_design, can_visit, comes_before, is_used, is_visited, is_just, reaches_target, is_made_at_end, begins_with, is_first_route, is_ahead, are_ahead, ticks_to, ticks_from_visit, passes_between, is_too_long, is_too_late, origin_in_design, is_consistent, in_design, origin_covered, covered, is_made_at, cone_shows, is_shown, shown, first_fault, is_valid_bound}
 use Rattle.rail_bound.proofs.Premises.{Premises, premises, cone_denied}
 use Rattle.rail_bound.proofs.Backwards.{Ridden, in_middle, first_splits, numbered}
 use Rattle.rail_bound.proofs.Visits.{way, MadeOn, made_on, first_made, second_by}
@@ -196,13 +196,13 @@ module _ (d : Station) (adm : IsAdmitted d) (n : ℕ) (b : Bound) (plan : List (
   from_start : (m : Leg) (i : Ridden_on m) (e : Event) (c k : ℕ) → Takes d (routes_of d) plan (granted_first d (routes_of d) plan (ride_of (routes_of d) m) i) e c k → 1 + c ≤ k
   from_start m i e c k h = let some = granted_later m i (k - c) h.happened in let l = h.not_before in omega arith
 
-  visit_after : (v : VisitOf) (k : ℕ) (l : Leg) (ls : List Leg) → Chain (Comes v k) l ls → 1 + ticks_to d (routes_of d) (Some v) (l ∷ ls) ≤ k
-  visit_after v k l ls c = from_start l c.ride _ (ticks_to d (routes_of d) (Some v) (l ∷ ls)) k
-      (chain_takes d adm n plan well (ride_of (routes_of d) l) c.ride (map (ride_of (routes_of d)) ls) c.chained (target d v) k (arrives_so v k l ls c.ride c.chained c.ends))
+  visit_after : (most : ℕ) (v : VisitOf) (k : ℕ) (l : Leg) (ls : List Leg) → Chain (Comes v k) l ls → 1 + ticks_to d (routes_of d) most (Some v) (l ∷ ls) ≤ k
+  visit_after most v k l ls c = from_start l c.ride _ (ticks_to d (routes_of d) most (Some v) (l ∷ ls)) k
+      (chain_takes d adm n plan well most (ride_of (routes_of d) l) c.ride (map (ride_of (routes_of d)) ls) c.chained (target d v) k (arrives_so v k l ls c.ride c.chained c.ends))
 
-  grant_after : (k : ℕ) (l : Leg) (ls : List Leg) → Chain (Goes k) l ls → 1 + ticks_to d (routes_of d) None (l ∷ ls) ≤ k
-  grant_after k l ls c = from_start l c.ride _ (ticks_to d (routes_of d) None (l ∷ ls)) k
-      (waits_take d adm n plan well (ride_of (routes_of d) l) c.ride (map (ride_of (routes_of d)) ls) c.chained k (waits_so k l ls c.ride c.chained c.ends))
+  grant_after : (most k : ℕ) (l : Leg) (ls : List Leg) → Chain (Goes k) l ls → 1 + ticks_to d (routes_of d) most None (l ∷ ls) ≤ k
+  grant_after most k l ls c = from_start l c.ride _ (ticks_to d (routes_of d) most None (l ∷ ls)) k
+      (waits_take d adm n plan well most (ride_of (routes_of d) l) c.ride (map (ride_of (routes_of d)) ls) c.chained k (waits_so k l ls c.ride c.chained c.ends))
 
   -- ---- from a visit
 
@@ -347,9 +347,9 @@ module _ (d : Station) (adm : IsAdmitted d) (n : ℕ) (b : Bound) (plan : List (
           w.first k (granted_later l i k so) (and_both _ _ (le-leb w.stop.command (at k v.train).granted (omega arith)) (le-leb w.stop.offset (at k v.train).x (omega arith)))
 
   -- the ticks from the one visit to the other
-  between : (from to : VisitOf) (x y : ℕ) (l : Leg) (ls : List Leg) → from.train ≡ l.train → begins_with d (routes_of d) from (first_of_leg l) ≡ true → Makes d adm n plan feasible from x → Chain (Comes to y) l ls
-      → (test : ℕ → Bool) → passes_between d (routes_of d) from to (l ∷ ls) test ≡ true → (c : ℕ) × (test c ≡ true) × (x + c ≤ y)
-  between from to x y l ls same begins makes c test h = go (nat_le from.number 1) refl h
+  between : (most : ℕ) (from to : VisitOf) (x y : ℕ) (l : Leg) (ls : List Leg) → from.train ≡ l.train → begins_with d (routes_of d) from (first_of_leg l) ≡ true → Makes d adm n plan feasible from x → Chain (Comes to y) l ls
+      → (test : ℕ → Bool) → passes_between d (routes_of d) most from to (l ∷ ls) test ≡ true → (c : ℕ) × (test c ≡ true) × (x + c ≤ y)
+  between most from to x y l ls same begins makes c test h = go (nat_le from.number 1) refl h
     where
       ride : Ride
       ride = ride_of (routes_of d) l
@@ -373,20 +373,20 @@ module _ (d : Station) (adm : IsAdmitted d) (n : ℕ) (b : Bound) (plan : List (
               → visit_place d from (way_of d (routes_of d) plan (ride_of (routes_of d) l) c.ride) ≤ first_target d (routes_of d) plan (ride_of (routes_of d) l) c.ride (map (ride_of (routes_of d)) ls) ch (target d to)
           at_legs [] ch k = leb-true _ _ k
           at_legs (m ∷ ms) ch k = leb-true _ _ (list_all_at (λ s. nat_le (visit_place d from (way_of d (routes_of d) plan (ride_of (routes_of d) l) c.ride)) (release_place d l.train (way_of d (routes_of d) plan (ride_of (routes_of d) l) c.ride) s)) (first_place (ride_of (routes_of d) m)) _ k
-              (next_in d adm n plan well (ride_of (routes_of d) l) c.ride (ride_of (routes_of d) m) ch.0))
+              (next_in d adm n plan well most (ride_of (routes_of d) l) c.ride (ride_of (routes_of d) m) ch.0))
 
-      go : (z : Bool) → nat_le from.number 1 ≡ z → (if z then test (ticks_to d (routes_of d) (Some to) (l ∷ ls)) else are_ahead d (routes_of d) from to (l ∷ ls) && test (ticks_from_visit d (routes_of d) from to (l ∷ ls))) ≡ true → (c : ℕ) × (test c ≡ true) × (x + c ≤ y)
+      go : (z : Bool) → nat_le from.number 1 ≡ z → (if z then test (ticks_to d (routes_of d) most (Some to) (l ∷ ls)) else are_ahead d (routes_of d) from to (l ∷ ls) && test (ticks_from_visit d (routes_of d) most from to (l ∷ ls))) ≡ true → (c : ℕ) × (test c ≡ true) × (x + c ≤ y)
       go true early h =
-          let t = chain_takes d adm n plan well (ride_of (routes_of d) l) c.ride (map (ride_of (routes_of d)) ls) c.chained (target d to) y so in
-          let b = first_visited_by from x (y - ticks_to d (routes_of d) (Some to) (l ∷ ls)) l c.ride same c.first begins early makes t.happened in
+          let t = chain_takes d adm n plan well most (ride_of (routes_of d) l) c.ride (map (ride_of (routes_of d)) ls) c.chained (target d to) y so in
+          let b = first_visited_by from x (y - ticks_to d (routes_of d) most (Some to) (l ∷ ls)) l c.ride same c.first begins early makes t.happened in
           let k = t.not_before in
-          (ticks_to d (routes_of d) (Some to) (l ∷ ls), h, omega arith)
+          (ticks_to d (routes_of d) most (Some to) (l ∷ ls), h, omega arith)
       go false later h =
           let a = ahead (and_left (are_ahead d (routes_of d) from to (l ∷ ls)) _ h) in
-          let t = chain_takes_from d adm n plan well (visit_place d from) (ride_of (routes_of d) l) c.ride (map (ride_of (routes_of d)) ls) c.chained (target d to) y a so in
-          let b = visited_by_then from x (y - ticks_from_visit d (routes_of d) from to (l ∷ ls)) l c.ride same c.first begins later makes t.happened in
+          let t = chain_takes_from d adm n plan well most (visit_place d from) (ride_of (routes_of d) l) c.ride (map (ride_of (routes_of d)) ls) c.chained (target d to) y a so in
+          let b = visited_by_then from x (y - ticks_from_visit d (routes_of d) most from to (l ∷ ls)) l c.ride same c.first begins later makes t.happened in
           let k = t.not_before in
-          (ticks_from_visit d (routes_of d) from to (l ∷ ls), and_right (are_ahead d (routes_of d) from to (l ∷ ls)) _ h, omega arith)
+          (ticks_from_visit d (routes_of d) most from to (l ∷ ls), and_right (are_ahead d (routes_of d) from to (l ∷ ls)) _ h, omega arith)
 
   -- ---- the first tick
 
@@ -620,17 +620,21 @@ module _ (d : Station) (adm : IsAdmitted d) (n : ℕ) (b : Bound) (plan : List (
   clash = at_legs (some_leg b.legs s.some)
     where
       at_legs : ((l : Leg) × (ms : List Leg) × (b.legs ≡ l ∷ ms)) → ⊥
-      at_legs (l, ls, e) = by_origin b.origin refl (visit_from d b.requirement) refl (visit_to d b.requirement) refl s.origin s.begins is
+      at_legs (l, ls, e) = by_origin b.origin refl (visit_from d b.requirement) refl (visit_to d b.requirement) refl s.origin s.begins (and_right (nat_le (stretches_of d (routes_of d) b.legs) most_looks) _ is)
         where
+          -- so many ticks of each leg are known at the most
+          most : ℕ
+          most = followed d (routes_of d) b.legs
+
           ticks : Option VisitOf → ℕ
-          ticks v = ticks_to d (routes_of d) v b.legs
+          ticks v = ticks_to d (routes_of d) most v b.legs
 
           -- the requirement with two visits
           two : (from to : VisitOf) → visit_from d b.requirement ≡ Some from → visit_to d b.requirement ≡ Some to → TwoVisits d adm n plan feasible b.requirement from to
           two from to ef et = two_visits d adm n plan feasible b.requirement from to s.required ef et
 
           after : (to : VisitOf) (y : ℕ) → visit_to d b.requirement ≡ Some to → Makes d adm n plan feasible to y → 1 + ticks (Some to) ≤ y
-          after to y et makes = subst (λ legs. 1 + ticks_to d (routes_of d) (Some to) legs ≤ y) (sym e) (visit_after d adm n b plan feasible p to y l ls (to_last to y l ls e et makes))
+          after to y et makes = subst (λ legs. 1 + ticks_to d (routes_of d) most (Some to) legs ≤ y) (sym e) (visit_after d adm n b plan feasible p most to y l ls (to_last to y l ls e et makes))
 
           by_origin : (o : Origin) → b.origin ≡ o → (vf : Option VisitOf) → visit_from d b.requirement ≡ vf → (vt : Option VisitOf) → visit_to d b.requirement ≡ vt
               → origin_in_design d (routes_of d) b o vf ≡ true → origin_covered d (routes_of d) b o vf ≡ true → is_shown d (routes_of d) b o vf vt ≡ true → ⊥
@@ -638,7 +642,7 @@ module _ (d : Station) (adm : IsAdmitted d) (n : ℕ) (b : Bound) (plan : List (
               let w = two from to ef et in
               let same : from.train ≡ l.train = sym (same_train (first_leg b.legs).train from.train fits) ∙ ap (λ ls. (first_leg ls).train) e in
               let starts : begins_with d (routes_of d) from (first_of_leg l) ≡ true = subst (λ ls. begins_with d (routes_of d) from (first_of_leg (first_leg ls)) ≡ true) e begins in
-              let g = between d adm n b plan feasible p from to w.first w.second l ls same starts w.made_first (to_last to w.second l ls e et w.made_second) (is_too_long d (routes_of d) b.requirement) (subst (λ ls. passes_between d (routes_of d) from to ls (is_too_long d (routes_of d) b.requirement) ≡ true) e shows) in
+              let g = between d adm n b plan feasible p most from to w.first w.second l ls same starts w.made_first (to_last to w.second l ls e et w.made_second) (is_too_long d (routes_of d) b.requirement) (subst (λ ls. passes_between d (routes_of d) most from to ls (is_too_long d (routes_of d) b.requirement) ≡ true) e shows) in
               w.not_long g.0 g.1 g.2
           by_origin origin.FirstTick eo (Some from) ef vt et fits begins shows =
               let t = two_ends b.requirement from ef in
@@ -658,10 +662,10 @@ module _ (d : Station) (adm : IsAdmitted d) (n : ℕ) (b : Bound) (plan : List (
                   omega arith
               at_end None et late =
                   let c = chain_of (Goes d adm n b plan feasible p (horizon d)) l ls e (granted_last b.requirement et s.reaches) in
-                  let y = subst (λ legs. 1 + ticks_to d (routes_of d) None legs ≤ horizon d) (sym e) (grant_after d adm n b plan feasible p (horizon d) l ls c) in
+                  let y = subst (λ legs. 1 + ticks_to d (routes_of d) most None legs ≤ horizon d) (sym e) (grant_after d adm n b plan feasible p most (horizon d) l ls c) in
                   let l = leb-true _ _ late in
                   omega arith
-          by_origin (origin.Cone k ts ps) eo (Some from) ef vt et fits begins shows =
+          by_origin (origin.Cone k cone) eo (Some from) ef vt et fits begins shows =
               let t = two_ends b.requirement from ef in
               let w = two from t.0 ef t.1 in
               let x = by_cone k from w.first fits (and_left (cone_shows d (routes_of d) b k from) _ shows) w.made_first in
@@ -672,7 +676,7 @@ module _ (d : Station) (adm : IsAdmitted d) (n : ℕ) (b : Bound) (plan : List (
           by_origin origin.Visit eo None ef vt et fits begins shows = absurd (true≢false (sym shows))
           by_origin origin.FirstTick eo None ef vt et fits begins shows = absurd (true≢false (sym shows))
           by_origin origin.Start eo (Some from) ef vt et fits begins shows = absurd (true≢false (sym shows))
-          by_origin (origin.Cone k ts ps) eo None ef vt et fits begins shows = absurd (true≢false (sym shows))
+          by_origin (origin.Cone k cone) eo None ef vt et fits begins shows = absurd (true≢false (sym shows))
 
 -- the clause of a valid certificate is true of every feasible plan
 pub true_of_feasible : (d : Station) → IsAdmitted d → (n : ℕ) (b : Bound) (plan : List (List Command)) → is_valid_bound d (routes_of d) b ≡ true → IsFeasible d n plan → is_false_of plan (clause_of_bound d (routes_of d) b) ≡ false

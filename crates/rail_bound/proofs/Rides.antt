@@ -13,7 +13,7 @@ use Rattle.rail_base.specs.declared.plan.Command.{Command}
 use Rattle.rail_base.specs.declared.state.TrainState.{TrainState}
 use Rattle.rail_base.specs.Admitted.{IsAdmitted}
 use Rattle.rail_base.specs.Members.{In, all_neighbors}
-use Rattle.rail_base.specs.Stations.{IsTrain, horizon, train_length}
+use Rattle.rail_base.specs.Stations.{IsTrain, train_length}
 use Rattle.rail_spec.specs.Track.{routes_of}
 use Rattle.rail_spec.specs.Plans.{route_at, length_mm, shared, release_offset, path, path_routes, preceding, goes_on}
 use Rattle.rail_spec.specs.Feasible.{IsWellFormed}
@@ -72,7 +72,7 @@ starts_there : (bs ws more : List Route) → all_neighbors (λ r q. goes_on r.fi
 starts_there bs [] more g h = absurd (true≢false (sym h))
 starts_there bs (w ∷ ws) more g h = starts_first bs w (ws ++ more) ws g h
 
-module _ (d : Station) (adm : IsAdmitted d) (n : ℕ) (plan : List (List Command)) (well : IsWellFormed d (routes_of d) n plan) where
+module _ (d : Station) (adm : IsAdmitted d) (n : ℕ) (plan : List (List Command)) (well : IsWellFormed d (routes_of d) n plan) (h : ℕ) where
   abbrev at : ℕ → TrainNo → TrainState
   at k t = state_of (state_at d (routes_of d) plan k) t
 
@@ -120,30 +120,30 @@ module _ (d : Station) (adm : IsAdmitted d) (n : ℕ) (plan : List (List Command
         ap (λ m. sum_by length_mm (take m (path_routes (routes_of d) plan r.train))) e ∙ ap (λ zs. sum_by length_mm (take (length before_routes) zs)) split ∙ ap (sum_by length_mm) (take_front before_routes (way ++ map f i.more))
 
     -- from the grant of its first route to a place
-    run_takes : (y k : ℕ) → has_happened d (routes_of d) plan (reaches d (routes_of d) plan r i y) k ≡ true → Takes d (routes_of d) plan (granted_first d (routes_of d) plan r i) (reaches d (routes_of d) plan r i y) (run_ticks d (routes_of d) r.train way y) k
+    run_takes : (y k : ℕ) → has_happened d (routes_of d) plan (reaches d (routes_of d) plan r i y) k ≡ true → Takes d (routes_of d) plan (granted_first d (routes_of d) plan r i) (reaches d (routes_of d) plan r i y) (run_ticks d (routes_of d) h r.train way y) k
     run_takes y k so =
         let c = count in
         let e = end_is in
         hop_by d adm n plan well.formed (granted_first d (routes_of d) plan r i) (reaches d (routes_of d) plan r i y) refl (omega arith) (omega arith) (λ a. (at a r.train).granted < length i.before + 1)
         (let s = (at_start d adm n plan well.formed r.train).0 in omega arith) (λ a no. not_granted d adm n plan well.formed (granted_first d (routes_of d) plan r i) a refl no) _
-        (λ a b short there. whatever_follows d adm n plan well r.train before_routes way (from_boundary way) has_way (λ l. least_ticks_waited d r.train l (horizon d) 0 y) b
-        (λ l own. waited d adm n plan well.formed r.train before_routes l own (length i.before + 1) a 0 y named (omega arith) short (omega arith) (horizon d) b there)) k so
+        (λ a b short there. whatever_follows d adm n plan well r.train before_routes way (from_boundary way) has_way (λ l. least_ticks_waited d r.train l h 0 y) b
+        (λ l own. waited d adm n plan well.formed r.train before_routes l own (length i.before + 1) a 0 y named (omega arith) short (omega arith) h b there)) k so
 
     -- from one place to another
-    on_takes : (x y k : ℕ) → x ≤ y → has_happened d (routes_of d) plan (reaches d (routes_of d) plan r i y) k ≡ true → Takes d (routes_of d) plan (passes d (routes_of d) plan r i x) (reaches d (routes_of d) plan r i y) (on_ticks d (routes_of d) r.train way x y) k
+    on_takes : (x y k : ℕ) → x ≤ y → has_happened d (routes_of d) plan (reaches d (routes_of d) plan r i y) k ≡ true → Takes d (routes_of d) plan (passes d (routes_of d) plan r i x) (reaches d (routes_of d) plan r i y) (on_ticks d (routes_of d) h r.train way x y) k
     on_takes x y k order so =
         let c = count in
         let e = end_is in
         hop_by d adm n plan well.formed (passes d (routes_of d) plan r i x) (reaches d (routes_of d) plan r i y) refl (omega arith) (omega arith) (λ a. (at a r.train).x ≤ sum_by length_mm before_routes + (x - 1))
         (let s = (at_start d adm n plan well.formed r.train).1 in omega arith) (λ a no. let w = not_yet d adm n plan well.formed (passes d (routes_of d) plan r i x) a (λ some. named) (omega arith) no in omega arith) _
-        (λ a b near there. whatever_follows d adm n plan well r.train before_routes way (from_boundary way) has_way (λ l. least_ticks d r.train l (horizon d) (x - 1) y) b
-        (λ l own. takes d adm n plan well.formed r.train before_routes l own (horizon d) a b (x - 1) y near there)) k so
+        (λ a b near there. whatever_follows d adm n plan well r.train before_routes way (from_boundary way) has_way (λ l. least_ticks d r.train l h (x - 1) y) b
+        (λ l own. takes d adm n plan well.formed r.train before_routes l own h a b (x - 1) y near there)) k so
 
     pub ride_takes : (target : List Route → ℕ) (k : ℕ) → has_happened d (routes_of d) plan (reaches d (routes_of d) plan r i (target way)) k ≡ true
-        → Takes d (routes_of d) plan (granted_first d (routes_of d) plan r i) (reaches d (routes_of d) plan r i (target way)) (ride_ticks d (routes_of d) r target) k
+        → Takes d (routes_of d) plan (granted_first d (routes_of d) plan r i) (reaches d (routes_of d) plan r i (target way)) (ride_ticks d (routes_of d) h r target) k
     ride_takes target k so =
-        fewer d adm n plan well (granted_first d (routes_of d) plan r i) (reaches d (routes_of d) plan r i (target way)) (ride_ticks d (routes_of d) r target) (run_ticks d (routes_of d) r.train way (target way)) k
-        (through_places d adm n plan well r.train before_routes way (map f i.more) split r.places i.lies (λ rs. run_ticks d (routes_of d) r.train rs (target rs)) (horizon d) _ (le_refl _)) (run_takes (target way) k so)
+        fewer d adm n plan well (granted_first d (routes_of d) plan r i) (reaches d (routes_of d) plan r i (target way)) (ride_ticks d (routes_of d) h r target) (run_ticks d (routes_of d) h r.train way (target way)) k
+        (through_places d adm n plan well r.train before_routes way (map f i.more) split r.places i.lies (λ rs. run_ticks d (routes_of d) h r.train rs (target rs)) h _ (le_refl _)) (run_takes (target way) k so)
 
     -- to where it has released what the next waits for
     module _ (s : Ride) (j : Rides d (routes_of d) plan s) where
@@ -162,11 +162,11 @@ module _ (d : Station) (adm : IsAdmitted d) (n : ℕ) (plan : List (List Command
           go (q ∷ front) (p ∷ ps) lie = lie.0
           go (q ∷ front) [] lie = absurd lie
 
-      release_takes : (k : ℕ) → has_happened d (routes_of d) plan (reaches d (routes_of d) plan r i place) k ≡ true → Takes d (routes_of d) plan (granted_first d (routes_of d) plan r i) (reaches d (routes_of d) plan r i place) (release_ticks d (routes_of d) r s) k
+      release_takes : (k : ℕ) → has_happened d (routes_of d) plan (reaches d (routes_of d) plan r i place) k ≡ true → Takes d (routes_of d) plan (granted_first d (routes_of d) plan r i) (reaches d (routes_of d) plan r i place) (release_ticks d (routes_of d) h r s) k
       release_takes k so =
-          fewer d adm n plan well (granted_first d (routes_of d) plan r i) (reaches d (routes_of d) plan r i place) (release_ticks d (routes_of d) r s) (run_ticks d (routes_of d) r.train way place) k
-          (through_places d adm n plan well r.train before_routes way (map f i.more) split r.places i.lies (λ rs. least_route (λ q. run_ticks d (routes_of d) r.train rs (release_place d r.train rs q)) (horizon d) (first_place s)) (horizon d) _
-          (least_of_route (λ q. run_ticks d (routes_of d) r.train way (release_place d r.train way q)) (horizon d) (first_place s) next next_in))
+          fewer d adm n plan well (granted_first d (routes_of d) plan r i) (reaches d (routes_of d) plan r i place) (release_ticks d (routes_of d) h r s) (run_ticks d (routes_of d) h r.train way place) k
+          (through_places d adm n plan well r.train before_routes way (map f i.more) split r.places i.lies (λ rs. least_route (λ q. run_ticks d (routes_of d) h r.train rs (release_place d r.train rs q)) h (first_place s)) h _
+          (least_of_route (λ q. run_ticks d (routes_of d) h r.train way (release_place d r.train way q)) h (first_place s) next next_in))
           (run_takes place k so)
 
       place_is : (front : List RouteNo) → release_place d r.train (map f (front ++ i.last ∷ [])) next ≡ sum_by length_mm (map f front) + (greatest_of (release_offset (f i.last)) (shared (f i.last) next) + train_length d r.train)
@@ -207,41 +207,41 @@ module _ (d : Station) (adm : IsAdmitted d) (n : ℕ) (plan : List (List Command
               (subst (λ (m : ℕ). Takes d (routes_of d) plan (record { train = r.train; command = length (routes_before d (routes_of d) plan (last_command d (routes_of d) plan r i)) + 1; place = sum_by length_mm before_routes + place }) (record { train = s.train; command = m; place = 0 }) 1 k) c_number h)
 
   pub chain_takes : (r : Ride) (i : Rides d (routes_of d) plan r) (ss : List Ride) (c : Chained d (routes_of d) plan r i ss) (target : List Route → ℕ) (k : ℕ) → has_happened d (routes_of d) plan (arrives d (routes_of d) plan r i ss c target) k ≡ true
-      → Takes d (routes_of d) plan (granted_first d (routes_of d) plan r i) (arrives d (routes_of d) plan r i ss c target) (chain_ticks d (routes_of d) r ss target) k
+      → Takes d (routes_of d) plan (granted_first d (routes_of d) plan r i) (arrives d (routes_of d) plan r i ss c target) (chain_ticks d (routes_of d) h r ss target) k
   chain_takes r i [] c target k so = ride_takes r i target k so
   chain_takes r i (s ∷ ss) c target k so =
       let j = c.0 in
       let released = reaches d (routes_of d) plan r i (place r i s j) in
       let last = arrives d (routes_of d) plan s j ss c.3 target in
-      add d (routes_of d) plan (granted_first d (routes_of d) plan r i) released last (release_ticks d (routes_of d) r s) (1 + chain_ticks d (routes_of d) s ss target) k (release_takes r i s j)
-      (add d (routes_of d) plan released (granted_first d (routes_of d) plan s j) last 1 (chain_ticks d (routes_of d) s ss target) k (link r i s j c.1 c.2.0 c.2.1) (chain_takes s j ss c.3 target k so))
+      add d (routes_of d) plan (granted_first d (routes_of d) plan r i) released last (release_ticks d (routes_of d) h r s) (1 + chain_ticks d (routes_of d) h s ss target) k (release_takes r i s j)
+      (add d (routes_of d) plan released (granted_first d (routes_of d) plan s j) last 1 (chain_ticks d (routes_of d) h s ss target) k (link r i s j c.1 c.2.0 c.2.1) (chain_takes s j ss c.3 target k so))
 
   -- the same to the grant for which the last ride waits
   pub waits_take : (r : Ride) (i : Rides d (routes_of d) plan r) (ss : List Ride) (c : Chained d (routes_of d) plan r i ss) (k : ℕ) → has_happened d (routes_of d) plan (waits_out d (routes_of d) plan r i ss c) k ≡ true
-      → Takes d (routes_of d) plan (granted_first d (routes_of d) plan r i) (waits_out d (routes_of d) plan r i ss c) (wait_ticks d (routes_of d) r ss) k
+      → Takes d (routes_of d) plan (granted_first d (routes_of d) plan r i) (waits_out d (routes_of d) plan r i ss c) (wait_ticks d (routes_of d) h r ss) k
   waits_take r i [] c k so = let same : k ≡ k - 0 = omega arith in record { not_before = omega arith; happened = subst (λ i'. has_happened d (routes_of d) plan (granted_first d (routes_of d) plan r i) i' ≡ true) same so }
   waits_take r i (s ∷ ss) c k so =
       let j = c.0 in
       let released = reaches d (routes_of d) plan r i (place r i s j) in
       let last = waits_out d (routes_of d) plan s j ss c.3 in
-      add d (routes_of d) plan (granted_first d (routes_of d) plan r i) released last (release_ticks d (routes_of d) r s) (1 + wait_ticks d (routes_of d) s ss) k (release_takes r i s j)
-      (add d (routes_of d) plan released (granted_first d (routes_of d) plan s j) last 1 (wait_ticks d (routes_of d) s ss) k (link r i s j c.1 c.2.0 c.2.1) (waits_take s j ss c.3 k so))
+      add d (routes_of d) plan (granted_first d (routes_of d) plan r i) released last (release_ticks d (routes_of d) h r s) (1 + wait_ticks d (routes_of d) h s ss) k (release_takes r i s j)
+      (add d (routes_of d) plan released (granted_first d (routes_of d) plan s j) last 1 (wait_ticks d (routes_of d) h s ss) k (link r i s j c.1 c.2.0 c.2.1) (waits_take s j ss c.3 k so))
 
   pub chain_takes_from : (origin : List Route → ℕ) (r : Ride) (i : Rides d (routes_of d) plan r) (ss : List Ride) (c : Chained d (routes_of d) plan r i ss) (target : List Route → ℕ) (k : ℕ) → origin (way_of d (routes_of d) plan r i) ≤ first_target d (routes_of d) plan r i ss c target
       → has_happened d (routes_of d) plan (arrives d (routes_of d) plan r i ss c target) k ≡ true
-      → Takes d (routes_of d) plan (passes d (routes_of d) plan r i (origin (way_of d (routes_of d) plan r i))) (arrives d (routes_of d) plan r i ss c target) (chain_ticks_from d (routes_of d) origin r ss target) k
+      → Takes d (routes_of d) plan (passes d (routes_of d) plan r i (origin (way_of d (routes_of d) plan r i))) (arrives d (routes_of d) plan r i ss c target) (chain_ticks_from d (routes_of d) h origin r ss target) k
   chain_takes_from origin r i [] c target k order so =
-      fewer d adm n plan well (passes d (routes_of d) plan r i (origin (way r i))) (reaches d (routes_of d) plan r i (target (way r i))) _ (on_ticks d (routes_of d) r.train (way r i) (origin (way r i)) (target (way r i))) k
-      (through_places d adm n plan well r.train (before_routes r i) (way r i) (map (route_at (routes_of d)) i.more) (split r i) r.places i.lies (λ rs. on_ticks d (routes_of d) r.train rs (origin rs) (target rs)) (horizon d) _ (le_refl _))
+      fewer d adm n plan well (passes d (routes_of d) plan r i (origin (way r i))) (reaches d (routes_of d) plan r i (target (way r i))) _ (on_ticks d (routes_of d) h r.train (way r i) (origin (way r i)) (target (way r i))) k
+      (through_places d adm n plan well r.train (before_routes r i) (way r i) (map (route_at (routes_of d)) i.more) (split r i) r.places i.lies (λ rs. on_ticks d (routes_of d) h r.train rs (origin rs) (target rs)) h _ (le_refl _))
       (on_takes r i (origin (way r i)) (target (way r i)) k order so)
   chain_takes_from origin r i (s ∷ ss) c target k order so =
       let j = c.0 in
       let released = reaches d (routes_of d) plan r i (place r i s j) in
       let last = arrives d (routes_of d) plan s j ss c.3 target in
       let first = passes d (routes_of d) plan r i (origin (way r i)) in
-      add d (routes_of d) plan first released last _ (1 + chain_ticks d (routes_of d) s ss target) k
-      (λ m now. fewer d adm n plan well first released _ (on_ticks d (routes_of d) r.train (way r i) (origin (way r i)) (place r i s j)) m
-      (through_places d adm n plan well r.train (before_routes r i) (way r i) (map (route_at (routes_of d)) i.more) (split r i) r.places i.lies (λ rs. least_route (λ q. on_ticks d (routes_of d) r.train rs (origin rs) (release_place d r.train rs q)) (horizon d) (first_place s)) (horizon d) _
-      (least_of_route (λ q. on_ticks d (routes_of d) r.train (way r i) (origin (way r i)) (release_place d r.train (way r i) q)) (horizon d) (first_place s) (next r i s j) (next_in r i s j)))
+      add d (routes_of d) plan first released last _ (1 + chain_ticks d (routes_of d) h s ss target) k
+      (λ m now. fewer d adm n plan well first released _ (on_ticks d (routes_of d) h r.train (way r i) (origin (way r i)) (place r i s j)) m
+      (through_places d adm n plan well r.train (before_routes r i) (way r i) (map (route_at (routes_of d)) i.more) (split r i) r.places i.lies (λ rs. least_route (λ q. on_ticks d (routes_of d) h r.train rs (origin rs) (release_place d r.train rs q)) h (first_place s)) h _
+      (least_of_route (λ q. on_ticks d (routes_of d) h r.train (way r i) (origin (way r i)) (release_place d r.train (way r i) q)) h (first_place s) (next r i s j) (next_in r i s j)))
       (on_takes r i (origin (way r i)) (place r i s j) m order now))
-      (add d (routes_of d) plan released (granted_first d (routes_of d) plan s j) last 1 (chain_ticks d (routes_of d) s ss target) k (link r i s j c.1 c.2.0 c.2.1) (chain_takes s j ss c.3 target k so))
+      (add d (routes_of d) plan released (granted_first d (routes_of d) plan s j) last 1 (chain_ticks d (routes_of d) h s ss target) k (link r i s j c.1 c.2.0 c.2.1) (chain_takes s j ss c.3 target k so))

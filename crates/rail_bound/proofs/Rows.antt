@@ -12,10 +12,12 @@ use Rattle.rail_bound.specs.declared.Origin.TheVariants as origin
 use Rattle.rail_bound.specs.declared.Place.{Place}
 use Rattle.rail_bound.specs.declared.Place.TheVariants as place
 use Rattle.rail_bound.specs.declared.Leg.{Leg}
+use Rattle.rail_base.specs.declared.plan.Violation.TheVariants as violation
 use Rattle.rail_bound.specs.declared.Bound.{Bound}
 use Rattle.rail_bound.specs.declared.BoundFault.TheVariants as fault
 use Rattle.rail_bound.specs.Certificates.{visit_to}
 use Rattle.rail_bound.specs.Clauses.{clause_of_bound}
+use Rattle.rail_base.specs.Stations.{horizon}
 use Rattle.rail_bound.specs.Validity.{ticks_to, fault_of}
 
 abbrev route : ℕ → RouteNo
@@ -38,7 +40,7 @@ abbrev through : Bound
 through = record { requirement = requirement.Within 1; origin = origin.Visit; legs = leg 1 (named 1 ∷ named 2 ∷ []) ∷ [] }
 
 -- nine ticks from entry to exit, exactly as in its run
-through_ticks : ticks_to (alone 8000 12000) (routes_of (alone 8000 12000)) (visit_to (alone 8000 12000) (requirement.Within 1)) (leg 1 (named 1 ∷ named 2 ∷ []) ∷ []) ≡ 9
+through_ticks : ticks_to (alone 8000 12000) (routes_of (alone 8000 12000)) (horizon (alone 8000 12000)) (visit_to (alone 8000 12000) (requirement.Within 1)) (leg 1 (named 1 ∷ named 2 ∷ []) ∷ []) ≡ 9
 through_ticks = refl
 
 through_run : visit_tick (alone 8000 12000) (routes_of (alone 8000 12000)) plan_one 12 (record { 0 = 1 }) 2 ≡ Some 10
@@ -57,7 +59,7 @@ through_clause = refl
 abbrev behind : List Place → Bound
 behind first = record { requirement = requirement.Within 1; origin = origin.Visit; legs = leg 1 first ∷ leg 2 (named 1 ∷ named 2 ∷ []) ∷ [] }
 
-behind_ticks : ticks_to (in_turn 0 20000) (routes_of (in_turn 0 20000)) (visit_to (in_turn 0 20000) (requirement.Within 1)) (behind (named 1 ∷ [])).legs ≡ 17
+behind_ticks : ticks_to (in_turn 0 20000) (routes_of (in_turn 0 20000)) (horizon (in_turn 0 20000)) (visit_to (in_turn 0 20000) (requirement.Within 1)) (behind (named 1 ∷ [])).legs ≡ 17
 behind_ticks = refl
 
 behind_run : visit_tick (in_turn 0 20000) (routes_of (in_turn 0 20000)) plan_two 20 (record { 0 = 2 }) 2 ≡ Some 18
@@ -70,7 +72,7 @@ long_second ms = line (edge "e1" (at 1 B) (at 2 A) 4000 2000 1 ∷ edge "e2" (at
 abbrev stands : Bound
 stands = record { requirement = requirement.Within 1; origin = origin.Visit; legs = leg 1 (named 1 ∷ named 2 ∷ []) ∷ leg 2 (named 2 ∷ []) ∷ [] }
 
-stands_ticks : ticks_to (long_second 0) (routes_of (long_second 0)) (visit_to (long_second 0) (requirement.Within 1)) stands.legs ≡ 25
+stands_ticks : ticks_to (long_second 0) (routes_of (long_second 0)) (horizon (long_second 0)) (visit_to (long_second 0) (requirement.Within 1)) stands.legs ≡ 25
 stands_ticks = refl
 
 stands_run : visit_tick (long_second 0) (routes_of (long_second 0)) plan_two 30 (record { 0 = 2 }) 2 ≡ Some 27
@@ -143,7 +145,7 @@ at_once_shown = refl
 abbrev by_cone : ℕ → Bound
 by_cone tick = record {
   requirement = requirement.Within 1;
-  origin = origin.Cone tick (record { train = record { 0 = 1 }; horizon = 1; free = 1; path = route 1 ∷ []; holder = None } ∷ []) [];
+  origin = origin.Cone tick (record { trains = record { train = record { 0 = 1 }; horizon = 1; free = 1; path = route 1 ∷ []; holder = None } ∷ []; pairs = []; violation = violation.Within 1 });
   legs = leg 1 (named 1 ∷ []) ∷ leg 2 (named 1 ∷ named 2 ∷ []) ∷ [];
 }
 

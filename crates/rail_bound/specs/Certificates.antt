@@ -141,7 +141,7 @@ violation_of (requirement.Grant c) = violation.Grant c.train 1
 
 -- the cone that the origin names, or one of no train
 abbrev pub cone_at : Requirement → Origin → Cone
-cone_at q (origin.Cone k ts ps) = record { trains = ts; pairs = ps; violation = violation_of q }
+cone_at q (origin.Cone k c) = c
 cone_at q origin.Visit = record { trains = []; pairs = []; violation = violation_of q }
 cone_at q origin.Start = record { trains = []; pairs = []; violation = violation_of q }
 cone_at q origin.FirstTick = record { trains = []; pairs = []; violation = violation_of q }

@@ -55,7 +55,7 @@ module _ (d : Station) (routes : List Route) (b : Bound) where
   begins_at_once origin.FirstTick None c = false
   begins_at_once origin.Visit v c = false
   begins_at_once origin.Start v c = false
-  begins_at_once (origin.Cone k ts ps) v c = false
+  begins_at_once (origin.Cone k cone) v c = false
 
   -- ---- what is taken for granted
 

@@ -7,7 +7,7 @@ use Rattle.rail_base.specs.declared.route.Route.{Route}
 use Rattle.rail_base.specs.declared.route.RouteNo.{RouteNo}
 use Rattle.rail_base.specs.declared.plan.Command.{Command}
 use Rattle.rail_base.specs.Members.{In}
-use Rattle.rail_base.specs.Stations.{horizon, train_length}
+use Rattle.rail_base.specs.Stations.{train_length}
 use Rattle.rail_spec.specs.Plans.{route_at, length_mm, shared, release_offset, path, preceding}
 use Rattle.rail_cone.specs.Validity.{from_boundary}
 use Rattle.rail_bound.specs.Events.{Event}
@@ -43,47 +43,45 @@ abbrev pub least_route : (Route → ℕ) → ℕ → List Route → ℕ
 least_route f n [] = n
 least_route f n (q ∷ qs) = min (f q) (least_route f n qs)
 
--- the least ticks from the grant of the first route to a place
-abbrev pub run_ticks : Station → List Route → TrainNo → List Route → ℕ → ℕ
-run_ticks d routes t rs y =
-    least_whatever_follows (λ l. least_ticks_waited d t l (horizon d) 0 y) routes rs (from_boundary rs) - 1
+module _ (d : Station) (routes : List Route) (h : ℕ) where
+  -- the least ticks from the grant of a way's first route to a place, or h where it takes more
+  abbrev pub run_ticks : TrainNo → List Route → ℕ → ℕ
+  run_ticks t rs y =
+      least_whatever_follows (λ l. least_ticks_waited d t l h 0 y) routes rs (from_boundary rs) - 1
 
--- the least ticks of a ride over all its ways to a place
-abbrev pub ride_ticks : Station → List Route → Ride → (List Route → ℕ) → ℕ
-ride_ticks d routes r target = least_way (λ rs. run_ticks d routes r.train rs (target rs)) (horizon d) (ways r.places)
+  -- the least ticks from one place of a way to another, or h where it takes more
+  abbrev pub on_ticks : TrainNo → List Route → ℕ → ℕ → ℕ
+  on_ticks t rs x y = least_whatever_follows (λ l. least_ticks d t l h (x - 1) y) routes rs (from_boundary rs) - 1
 
--- the least of what it takes to where a way has released what the next ride waits for, over the routes that can be that one's first
-abbrev pub least_release : Station → TrainNo → List Route → Ride → (ℕ → ℕ) → ℕ
-least_release d t rs next ticks = least_route (λ q. ticks (release_place d t rs q)) (horizon d) (first_place next)
+  -- the least ticks of a ride over all its ways to a place
+  abbrev pub ride_ticks : Ride → (List Route → ℕ) → ℕ
+  ride_ticks r target = least_way (λ rs. run_ticks r.train rs (target rs)) h (ways r.places)
 
--- the least ticks to there over all ways of a ride
-abbrev pub release_ticks : Station → List Route → Ride → Ride → ℕ
-release_ticks d routes r s =
-    least_way (λ rs. least_release d r.train rs s (run_ticks d routes r.train rs)) (horizon d) (ways r.places)
+  -- the least of what it takes to where a way has released what the next ride waits for, over the routes that can be that one's first
+  abbrev pub least_release : TrainNo → List Route → Ride → (ℕ → ℕ) → ℕ
+  least_release t rs next ticks = least_route (λ q. ticks (release_place d t rs q)) h (first_place next)
 
--- the least ticks from the grant of the first ride's first route to a place on the last ride
-abbrev pub chain_ticks : Station → List Route → Ride → List Ride → (List Route → ℕ) → ℕ
-chain_ticks d routes r [] target = ride_ticks d routes r target
-chain_ticks d routes r (s ∷ ss) target = release_ticks d routes r s + (1 + chain_ticks d routes s ss target)
+  -- the least ticks to there over all ways of a ride
+  abbrev pub release_ticks : Ride → Ride → ℕ
+  release_ticks r s = least_way (λ rs. least_release r.train rs s (run_ticks r.train rs)) h (ways r.places)
 
--- the least ticks from the grant of the first ride's first route to that of the last ride's
-abbrev pub wait_ticks : Station → List Route → Ride → List Ride → ℕ
-wait_ticks d routes r [] = 0
-wait_ticks d routes r (s ∷ ss) = release_ticks d routes r s + (1 + wait_ticks d routes s ss)
+  -- the least ticks from the grant of the first ride's first route to a place on the last ride
+  abbrev pub chain_ticks : Ride → List Ride → (List Route → ℕ) → ℕ
+  chain_ticks r [] target = ride_ticks r target
+  chain_ticks r (s ∷ ss) target = release_ticks r s + (1 + chain_ticks s ss target)
 
--- the least ticks from one place of a way to another
-abbrev pub on_ticks : Station → List Route → TrainNo → List Route → ℕ → ℕ → ℕ
-on_ticks d routes t rs x y =
-    least_whatever_follows (λ l. least_ticks d t l (horizon d) (x - 1) y) routes rs (from_boundary rs) - 1
+  -- the least ticks from the grant of the first ride's first route to that of the last ride's
+  abbrev pub wait_ticks : Ride → List Ride → ℕ
+  wait_ticks r [] = 0
+  wait_ticks r (s ∷ ss) = release_ticks r s + (1 + wait_ticks s ss)
 
--- the least ticks from a place on the first ride to a place on the last ride
-abbrev pub chain_ticks_from : Station → List Route → (List Route → ℕ) → Ride → List Ride → (List Route → ℕ) → ℕ
-chain_ticks_from d routes origin r [] target =
-    least_way (λ rs. on_ticks d routes r.train rs (origin rs) (target rs)) (horizon d) (ways r.places)
-chain_ticks_from d routes origin r (s ∷ ss) target =
-    least_way (λ rs. least_release d r.train rs s (on_ticks d routes r.train rs (origin rs)))
-    (horizon d) (ways r.places)
-    + (1 + chain_ticks d routes s ss target)
+  -- the least ticks from a place on the first ride to a place on the last ride
+  abbrev pub chain_ticks_from : (List Route → ℕ) → Ride → List Ride → (List Route → ℕ) → ℕ
+  chain_ticks_from origin r [] target =
+      least_way (λ rs. on_ticks r.train rs (origin rs) (target rs)) h (ways r.places)
+  chain_ticks_from origin r (s ∷ ss) target =
+      least_way (λ rs. least_release r.train rs s (on_ticks r.train rs (origin rs))) h (ways r.places)
+      + (1 + chain_ticks s ss target)
 
 module _ (d : Station) (routes : List Route) (plan : List (List Command)) where
   -- the train's path has such a way

@@ -1,5 +1,5 @@
 -- Which certificates are valid, and the first reason against one that is not.
-use Rattle.std.specs.Prelude.{ℕ, ◌+◌, ◌*◌, Bool, true, false, not, ◌&&◌, ◌||◌, ◌==◌, if◌then◌else◌, List, [], ◌∷◌, map, length, nat_le, nat_lt, Option, None, Some, is_none, sum_by}
+use Rattle.std.specs.Prelude.{ℕ, ◌+◌, ◌*◌, ◌/◌, min, Bool, true, false, not, ◌&&◌, ◌||◌, ◌==◌, if◌then◌else◌, List, [], ◌∷◌, map, length, nat_le, nat_lt, Option, None, Some, is_none, sum_by}
 use Rattle.std.specs.List.{list_any, list_all}
 use Rattle.rail_base.specs.declared.station.Station.{Station}
 use Rattle.rail_base.specs.declared.station.TrainNo.{TrainNo}
@@ -28,6 +28,8 @@ use Rattle.rail_bound.specs.declared.Leg.{Leg}
 use Rattle.rail_bound.specs.declared.Bound.{Bound}
 use Rattle.rail_bound.specs.declared.BoundFault.{BoundFault}
 use Rattle.rail_bound.specs.declared.BoundFault.TheVariants as fault
+use Rattle.rail_free.specs.Legs.{following}
+use Rattle.rail_free.specs.Legs.{Leg as Track}
 use Rattle.rail_bound.specs.Ways.{ways}
 use Rattle.rail_bound.specs.Rides.{release_place, chain_ticks, chain_ticks_from, wait_ticks, first_place}
 use Rattle.rail_bound.specs.Certificates.{VisitOf, routes_of_place, kept_out, first_of_leg, last_of_leg, ride_of, nodes_of_visit, visit_offset, visit_from, visit_to, train_to, target, visit_place, cone_of}
@@ -53,6 +55,14 @@ places_of legs = sum_by (λ (l : Leg). length l.places) legs
 -- of a leg with more choices of one route for each place, and for the place that waits for it, nothing is shown
 abbrev pub most_choices : ℕ
 most_choices = 4096
+
+-- each stretch of each track is looked at in each tick; of a certificate that asks for more looks fewer ticks are known
+abbrev pub most_looks : ℕ
+most_looks = 33554432
+
+-- how many stretches a track has
+abbrev pub stretches_in : List Route → ℕ
+stretches_in rs = sum_by (λ (r : Route). length r.edges) rs
 
 -- how many choices of one route for each place there are
 abbrev pub choices : List Place → ℕ
@@ -211,23 +221,44 @@ module _ (d : Station) (routes : List Route) where
   are_ahead from to [] = false
   are_ahead from to (l ∷ ls) = list_all (is_ahead from to l ls) (ways (ride_of routes l).places)
 
-  -- the least ticks from the grant of the first leg's first command to a visit, or to the grant of the last leg's first
-  abbrev pub ticks_to : Option VisitOf → List Leg → ℕ
-  ticks_to v [] = 0
-  ticks_to None (l ∷ ls) = wait_ticks d routes (ride_of routes l) (map (ride_of routes) ls)
-  ticks_to (Some v) (l ∷ ls) = chain_ticks d routes (ride_of routes l) (map (ride_of routes) ls) (target d v)
+  -- ---- how long the tracks of the legs are followed
 
-  -- the least ticks from a visit on the first leg's first route to another
-  abbrev pub ticks_from_visit : VisitOf → VisitOf → List Leg → ℕ
-  ticks_from_visit from to [] = 0
-  ticks_from_visit from to (l ∷ ls) =
-      chain_ticks_from d routes (visit_place d from) (ride_of routes l) (map (ride_of routes) ls) (target d to)
+  -- how many stretches the tracks of a way have: by itself, and with each route that goes on where it ends
+  abbrev pub stretches_of_way : List Route → ℕ
+  stretches_of_way rs = stretches_in rs + sum_by (λ (l : Track). stretches_in l.routes) (following routes rs true)
 
-  -- the least ticks from the one visit to the other are such: the first visit is made as its train's first command is granted
-  abbrev pub passes_between : VisitOf → VisitOf → List Leg → (ℕ → Bool) → Bool
-  passes_between from to ls test =
-      if nat_le from.number 1 then test (ticks_to (Some to) ls)
-      else are_ahead from to ls && test (ticks_from_visit from to ls)
+  -- those of all ways of a leg, for each of the places to which they lead
+  abbrev pub stretches_of_leg : Leg → ℕ → ℕ
+  stretches_of_leg l places = sum_by stretches_of_way (ways (ride_of routes l).places) * places
+
+  -- those of all legs: each leads to what the routes of the next leg's first place wait for, and the last to one place
+  abbrev pub stretches_of : List Leg → ℕ
+  stretches_of [] = 0
+  stretches_of (l ∷ []) = stretches_of_leg l 1
+  stretches_of (l ∷ m ∷ ls) = stretches_of_leg l (length (routes_of_place (first_of_leg m))) + stretches_of (m ∷ ls)
+
+  -- each stretch is looked at in so many ticks at the most, all of them in no more than most_looks
+  abbrev pub followed : List Leg → ℕ
+  followed ls = min (horizon d) (most_looks / stretches_of ls)
+
+  module _ (h : ℕ) where
+    -- the least ticks, h of a leg at the most, from the grant of the first leg's first command to a visit, or to the grant of the last leg's first
+    abbrev pub ticks_to : Option VisitOf → List Leg → ℕ
+    ticks_to v [] = 0
+    ticks_to None (l ∷ ls) = wait_ticks d routes h (ride_of routes l) (map (ride_of routes) ls)
+    ticks_to (Some v) (l ∷ ls) = chain_ticks d routes h (ride_of routes l) (map (ride_of routes) ls) (target d v)
+
+    -- the least ticks from a visit on the first leg's first route to another
+    abbrev pub ticks_from_visit : VisitOf → VisitOf → List Leg → ℕ
+    ticks_from_visit from to [] = 0
+    ticks_from_visit from to (l ∷ ls) =
+        chain_ticks_from d routes h (visit_place d from) (ride_of routes l) (map (ride_of routes) ls) (target d to)
+
+    -- the least ticks from the one visit to the other are such: the first visit is made as its train's first command is granted
+    abbrev pub passes_between : VisitOf → VisitOf → List Leg → (ℕ → Bool) → Bool
+    passes_between from to ls test =
+        if nat_le from.number 1 then test (ticks_to (Some to) ls)
+        else are_ahead from to ls && test (ticks_from_visit from to ls)
 
   -- so many ticks from the one visit to the other are too many
   abbrev pub is_too_long : Requirement → ℕ → Bool
@@ -248,12 +279,12 @@ module _ (d : Station) (routes : List Route) where
     abbrev pub origin_in_design : Origin → Option VisitOf → Bool
     origin_in_design origin.Visit (Some v) = is_train (first_leg b.legs).train v.train
     origin_in_design origin.FirstTick (Some v) = v.number == 1
-    origin_in_design (origin.Cone k ts ps) (Some v) = cone.in_design d routes (cone_of b)
+    origin_in_design (origin.Cone k c) (Some v) = cone.in_design d routes (cone_of b)
     origin_in_design origin.Start (Some v) = false
     origin_in_design origin.Start None = true
     origin_in_design origin.Visit None = false
     origin_in_design origin.FirstTick None = false
-    origin_in_design (origin.Cone k ts ps) None = false
+    origin_in_design (origin.Cone k c) None = false
 
     -- nothing is taken for granted both ways
     abbrev pub is_consistent : Bool
@@ -265,12 +296,16 @@ module _ (d : Station) (routes : List Route) where
 
     -- ---- the first reason: bound not in design
 
-    abbrev pub in_design : Bool
-    in_design = requirement_in_design b.requirement && not (is_empty b.legs) && list_all leg_in_design b.legs
+    -- what it names is there, and the legs can wait for each other
+    abbrev pub names_design : Bool
+    names_design = requirement_in_design b.requirement && not (is_empty b.legs) && list_all leg_in_design b.legs
         && nat_le (places_of b.legs) most_places && are_few_choices b.legs
         && all_neighbors contend_where_they_meet b.legs
         && is_train (last_leg b.legs).train (train_to d b.requirement)
-        && origin_in_design b.origin (visit_from d b.requirement) && is_consistent
+        && origin_in_design b.origin (visit_from d b.requirement)
+
+    abbrev pub in_design : Bool
+    in_design = names_design && is_consistent
 
     -- ---- the second: place not covered
 
@@ -280,7 +315,7 @@ module _ (d : Station) (routes : List Route) where
     origin_covered origin.Visit None = true
     origin_covered origin.Start v = true
     origin_covered origin.FirstTick v = true
-    origin_covered (origin.Cone k ts ps) v = true
+    origin_covered (origin.Cone k c) v = true
 
     abbrev pub covered : Bool
     covered = list_all (λ l. all_neighbors comes_before l.places) b.legs
@@ -303,19 +338,21 @@ module _ (d : Station) (routes : List Route) where
 
     -- by the origin the ticks from the one visit to the other, or from the start of the run, are too many
     abbrev pub is_shown : Origin → Option VisitOf → Option VisitOf → Bool
-    is_shown origin.Visit (Some from) (Some to) = passes_between from to b.legs (is_too_long b.requirement)
-    is_shown origin.FirstTick (Some from) to = is_too_long b.requirement (ticks_to to b.legs)
-    is_shown origin.Start None to = nat_lt (horizon d) (1 + ticks_to to b.legs)
-    is_shown (origin.Cone k ts ps) (Some from) to =
-        cone_shows k from && is_too_late b.requirement k (1 + ticks_to to b.legs)
+    is_shown origin.Visit (Some from) (Some to) =
+        passes_between (followed b.legs) from to b.legs (is_too_long b.requirement)
+    is_shown origin.FirstTick (Some from) to = is_too_long b.requirement (ticks_to (followed b.legs) to b.legs)
+    is_shown origin.Start None to = nat_lt (horizon d) (1 + ticks_to (followed b.legs) to b.legs)
+    is_shown (origin.Cone k c) (Some from) to =
+        cone_shows k from && is_too_late b.requirement k (1 + ticks_to (followed b.legs) to b.legs)
     is_shown origin.Visit (Some from) None = false
     is_shown origin.Visit None to = false
     is_shown origin.FirstTick None to = false
     is_shown origin.Start (Some from) to = false
-    is_shown (origin.Cone k ts ps) None to = false
+    is_shown (origin.Cone k c) None to = false
 
     abbrev pub shown : Bool
-    shown = is_shown b.origin (visit_from d b.requirement) (visit_to d b.requirement)
+    shown = nat_le (stretches_of b.legs) most_looks
+        && is_shown b.origin (visit_from d b.requirement) (visit_to d b.requirement)
 
     -- the first reason that holds
     abbrev pub fault_of : Option BoundFault

@@ -63,21 +63,23 @@ pub fn ways_take_the_least_of_their_places()
 
 /// A chain of rides, each of which waits for what the one before releases, takes the sum of their least ticks over all ways
 /// through their places: from the grant of the first ride, or from a place on it, to a place on the last, or to its grant.
+/// Of each ride no more than h ticks are counted.
 pub fn chains_of_rides_take_their_ticks()
     ensures granted { InEveryRun (λ d plan. let routes = routes_of d in
         (r : Ride) (i : Rides d routes plan r) (ss : List Ride) (c : Chained d routes plan r i ss)
-        → (target : List Route → ℕ) → let arriving = arrives d routes plan r i ss c target in
-        HopTakes d routes plan (granted_first d routes plan r i) arriving (chain_ticks d routes r ss target)) }
+        → (h : ℕ) (target : List Route → ℕ) → let arriving = arrives d routes plan r i ss c target in
+        HopTakes d routes plan (granted_first d routes plan r i) arriving (chain_ticks d routes h r ss target)) }
     ensures waits { InEveryRun (λ d plan. let routes = routes_of d in
         (r : Ride) (i : Rides d routes plan r) (ss : List Ride) (c : Chained d routes plan r i ss)
-        → let waiting = waits_out d routes plan r i ss c in
-        HopTakes d routes plan (granted_first d routes plan r i) waiting (wait_ticks d routes r ss)) }
+        → (h : ℕ) → let waiting = waits_out d routes plan r i ss c in
+        HopTakes d routes plan (granted_first d routes plan r i) waiting (wait_ticks d routes h r ss)) }
     ensures passed { InEveryRun (λ d plan. let routes = routes_of d in
         (r : Ride) (i : Rides d routes plan r) (ss : List Ride) (c : Chained d routes plan r i ss)
-        → (from target : List Route → ℕ) → from (way_of d routes plan r i) ≤ first_target d routes plan r i ss c target
+        → (h : ℕ) (from target : List Route → ℕ)
+        → from (way_of d routes plan r i) ≤ first_target d routes plan r i ss c target
         → let passing = passes d routes plan r i (from (way_of d routes plan r i)) in
         let arriving = arrives d routes plan r i ss c target in
-        HopTakes d routes plan passing arriving (chain_ticks_from d routes from r ss target)) }
+        HopTakes d routes plan passing arriving (chain_ticks_from d routes h from r ss target)) }
 {}
 
 /// The clause of a valid certificate is true of every feasible plan, whatever other commands it has.

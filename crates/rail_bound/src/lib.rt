@@ -8,7 +8,7 @@ use rail_base::list::List;
 use rail_base::plan::Command;
 use rail_base::route::RouteNo;
 use rail_base::station::TrainNo;
-use rail_cone::ConeTrain;
+use rail_cone::{Cone, ConeFault};
 
 /// What is shown to fail. Visits of a train, orders and withins are counted from 1.
 #[derive(Clone, Copy, Debug, PartialEq, Eq)]
@@ -32,14 +32,9 @@ pub enum Origin {
     Start,
     /// From the start of the run, where the first of the requirement's two visits is made in the first tick.
     FirstTick,
-    /// From the start of the run, where the first of the two visits is made at this tick by what a cone says.
-    Cone {
-        tick: u64,
-        /// In increasing order.
-        trains: List<ConeTrain>,
-        /// The second command of each waits for the first. In increasing order.
-        pairs: List<(Command, Command)>,
-    },
+    /// From the start of the run, where the first of the two visits is made at this tick in the run of a cone. The cone's
+    /// violation is that of the requirement.
+    Cone { tick: u64, cone: Cone },
 }
 
 /// What is known of one route of a leg.
@@ -69,6 +64,22 @@ pub struct Bound {
     pub requirement: Requirement,
     pub origin: Origin,
     pub legs: List<Leg>,
+}
+
+/// What the clause of a line of a proof is shown by.
+#[derive(Drop)]
+pub enum Evidence {
+    /// How a failure of a plan comes about.
+    Cone(Cone),
+    /// How long a chain of trains takes.
+    Bound(Bound),
+}
+
+/// Why it shows nothing.
+#[derive(Clone, Copy, Debug, PartialEq, Eq)]
+pub enum EvidenceFault {
+    Cone(ConeFault),
+    Bound(BoundFault),
 }
 
 /// Why a certificate shows nothing: the first of these that holds.

@@ -2,7 +2,7 @@ use Rattle.std.proofs.Common.{◌≡◌, drop, map}
 use Rattle.rail_base.specs.Routes.{route_at}
 use Rattle.rail_cone.specs.Clauses.{goes_further}
 use Rattle.free_moves.proofs.Further.{further_after}
-use Rattle.free_moves.proofs.following.goes_further.Given as goal
+use Rattle.free_moves.proofs.following.starts_no_other.Given as goal
 
 -- what is left to ask tells the same
 abbrev pub invariant-loop-number : goal.invariant-loop-number
