@@ -24,7 +24,7 @@ use Rattle.dispatch_run.specs.declared.traffic.Follower.{Follower}
 use Rattle.dispatch_run.specs.Followers.{AreFollowers}
 use Rattle.cone_run.specs.declared.layout.Layout.{Layout}
 use Rattle.cone_run.specs.Checks.{IsEntry}
-use Rattle.cone_run.specs.Runs.{AreLed, free_plan, listed_waits, run_of}
+use Rattle.cone_run.specs.Runs.{AreLed, free_plan, listed_waits, run_of, visit_shown}
 use Rattle.cone_run.specs.Runs as runs
 
 module _ (l : Layout) where
@@ -123,3 +123,7 @@ module _ (l : Layout) where
   -- the first reason against the cone
   abbrev pub fault_in : Option ConeFault
   fault_in = validity.fault_of station_of routes_in l.cone.now
+
+  -- the tick of a visit, where the cone's commands are granted or held up as it says
+  abbrev pub shown_visit : TrainNo → ℕ → Option ℕ
+  shown_visit = visit_shown l.contention.interlocking.now l.cone.now

@@ -1,5 +1,7 @@
 -- The run of a cone: its free commands as a plan, what each of them waits for, and the journeys of its trains.
-use Rattle.std.specs.Prelude.{◌≡◌, ℕ, List, [], ◌∷◌, All, map, flat_map, fold, max, take, Option}
+use Rattle.std.specs.Prelude.{◌≡◌, ℕ, ◌&&◌, if◌then◌else◌, List, [], ◌∷◌, All, map, flat_map, fold, max, take}
+use Rattle.std.specs.Prelude.{Option, None}
+use Rattle.std.specs.List.{list_all}
 use Rattle.rail_base.specs.declared.station.Station.{Station}
 use Rattle.rail_base.specs.declared.station.TrainNo.{TrainNo}
 use Rattle.rail_base.specs.declared.route.Route.{Route}
@@ -14,8 +16,8 @@ use Rattle.interlocking.specs.declared.railway.Interlocking.{Interlocking}
 use Rattle.rail_cone.specs.declared.ConeTrain.{ConeTrain}
 use Rattle.rail_cone.specs.declared.Cone.{Cone}
 use Rattle.rail_cone.specs.declared.ConeFault.{ConeFault}
-use Rattle.rail_cone.specs.Cones.{free_path, of_cone}
-use Rattle.rail_cone.specs.Validity.{fault_of}
+use Rattle.rail_cone.specs.Cones.{free_path, named, of_cone}
+use Rattle.rail_cone.specs.Validity.{fault_of, free_granted, held, cone_visit}
 use Rattle.dispatch_quiet.specs.Histories.{history_at}
 use Rattle.rail_base.specs.declared.history.TrainHistory.{TrainHistory}
 
@@ -35,6 +37,12 @@ module _ (i : Interlocking) (k : Cone) where
   -- the first reason against the cone
   abbrev pub first_reason : Option ConeFault
   first_reason = fault_of i.design.station i.routes k
+
+  -- the tick, up to the train's horizon, of a visit in the run, where the commands are granted or held up as the cone says
+  abbrev pub visit_shown : TrainNo → ℕ → Option ℕ
+  visit_shown t v = let d = i.design.station in
+      if list_all (free_granted d i.routes k) k.trains && list_all (λ c. held d i.routes k c c.holder) k.trains
+      then cone_visit d i.routes k (named k t).horizon t v else None
 
   -- what happens to each train in the run, up to the greatest horizon
   abbrev pub run_of : List TrainHistory

@@ -1,0 +1,85 @@
+//! The ticks of visits in the runs of cones.
+
+ghost use Rattle.std.specs.Prelude.{◌≡◌, true, IfOk};
+ghost use Rattle.rail_base.specs.Stations.{IsTrain};
+ghost use Rattle.cone_design.specs.Fits.{fits};
+ghost use Rattle.cone_run.specs.Layouts.{shown_visit, station_of};
+ghost use Rattle.cone_run.specs.Runs.{visit_shown};
+
+use crate::checked::ConeRun;
+use crate::free::free_plan;
+use crate::layout::Layout;
+use crate::waits::horizon_of;
+use cone_design::Contention;
+use rail_base::station::TrainNo;
+use rail_cone::Cone;
+use rail_course::{Courses, Itineraries};
+use std::alloc::{AllocError, Global};
+
+impl ConeRun<'_> {
+    /// The tick, up to the train's horizon, of a visit, where the cone's commands are granted or held up as it says.
+    fn visit_made(&self, train: TrainNo, visit: u32) -> Option<u64>
+        requires train { IsTrain (station_of self.now.layout) train }
+        ensures { result ≡ shown_visit self.now.layout train visit }
+    {
+        if !self.all_granted() || !self.all_held() {
+            return None;
+        }
+        self.visit_tick(horizon_of(self.layout.cone, train), train, visit)
+    }
+}
+
+impl Layout<'_> {
+    /// The tick, up to the train's horizon, of a visit, where the cone's commands are granted or held up as it says.
+    fn visit_made(
+        &self,
+        alloc: Global,
+        train: TrainNo,
+        visit: u32,
+    ) -> Result<Option<u64>, AllocError>
+        requires train { IsTrain (station_of self.now) train }
+        ensures { IfOk result (λ tick. tick ≡ shown_visit self.now train visit) }
+    {
+        let history = self.history(alloc)?;
+        let run = ConeRun {
+            layout: *self,
+            history: history.as_slice(),
+        };
+        Ok(run.visit_made(train, visit))
+    }
+}
+
+/// The tick at which a train makes a visit in the run of a cone, up to the train's horizon. None where it is not made,
+/// or where some free command is not granted or some holder is not valid.
+///
+/// # Errors
+///
+/// Want of memory alone.
+pub fn visit_shown<'a>(
+    alloc: Global,
+    contention: &Contention<'a>,
+    cone: &'a Cone,
+    train: TrainNo,
+    visit: u32,
+) -> Result<Option<u64>, AllocError>
+    requires known { fits contention.now.interlocking.now cone.now ≡ true }
+    requires train { IsTrain contention.now.interlocking.now.design.station train }
+    ensures { IfOk result (λ tick. tick ≡ visit_shown contention.now.interlocking.now cone.now train visit) }
+{
+    let plan = free_plan(alloc, cone)?;
+    let given = Itineraries {
+        interlocking: contention.interlocking,
+        plan: &plan,
+    };
+    let courses = given.courses(alloc)?;
+    let courses = Courses {
+        given,
+        courses: courses.as_slice(),
+    };
+    let layout = Layout {
+        contention: *contention,
+        cone,
+        courses,
+    };
+    layout.visit_made(alloc, train, visit)
+}
