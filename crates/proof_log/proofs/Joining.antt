@@ -2,9 +2,16 @@
 use Rattle.std.proofs.Common.{◌≡◌, ℕ, List, [], ◌∷◌, ◌++◌, append_assoc, append-nil, refl, sym, ap, ◌∙◌, map, flat_map, codes, decimal}
 use Rattle.std.specs.List.{join_with_byte}
 use Rattle.sat_clause.specs.declared.lit.Lit.{Lit}
+use Rattle.rail_base.specs.declared.route.RouteNo.{RouteNo}
 use Rattle.rail_cone.specs.declared.Cone.{Cone}
-use Rattle.proof_log.specs.declared.line.Line.TheVariants.{Derive, Refute, Forget}
-use Rattle.proof_log.specs.Text.{literal_word, list_words, train_words, pair_words, violation_words, text_of_line}
+use Rattle.rail_bound.specs.declared.Origin.TheVariants as origins
+use Rattle.rail_bound.specs.declared.Place.TheVariants as place
+use Rattle.rail_bound.specs.declared.Leg.{Leg}
+use Rattle.rail_bound.specs.declared.Bound.{Bound}
+use Rattle.proof_log.specs.declared.line.Line.TheVariants.{Derive, Forget}
+use Rattle.proof_log.specs.ConeText.{literal_word, route_word, list_words, train_words, pair_words, violation_words, cone_words}
+use Rattle.proof_log.specs.BoundText.{requirement_words, origin_words, place_words, leg_words, bound_words}
+use Rattle.proof_log.specs.Text.{text_of_line}
 use Rattle.proof_log.specs.Writing.{spaced}
 
 pub join-spaced : (word : List ℕ) (more : List (List ℕ)) → join_with_byte 32 (word ∷ more) ≡ word ++ spaced more
@@ -39,14 +46,39 @@ text-parts clause hints =
 pub forget-parts : (clauses : List ℕ) → text_of_line (Forget clauses) ≡ codes "x" ++ spaced (map decimal clauses) ++ codes " 0"
 forget-parts clauses = join-spaced (codes "x") _ ∙ ap (λ t. 120 ∷ t) (spaced-list decimal clauses)
 
--- the text of a refute line, by its parts
-pub refute-parts : (k : Cone) → text_of_line (Refute k) ≡ codes "r" ++ spaced (violation_words k.violation) ++ flat_map (λ c. spaced (train_words c)) k.trains ++ flat_map (λ p. spaced (pair_words p)) k.pairs
-refute-parts k =
+-- the text of a cone, by its parts
+pub cone-parts : (k : Cone) → spaced (cone_words k) ≡ spaced (violation_words k.violation) ++ flat_map (λ c. spaced (train_words c)) k.trains ++ flat_map (λ p. spaced (pair_words p)) k.pairs
+cone-parts k =
     let violation : List ℕ = spaced (violation_words k.violation) in
     let trains : List ℕ = flat_map (λ c. spaced (train_words c)) k.trains in
     let pairs : List ℕ = flat_map (λ p. spaced (pair_words p)) k.pairs in
     let after : spaced (flat_map train_words k.trains ++ flat_map pair_words k.pairs) ≡ trains ++ pairs =
     spaced-append (flat_map train_words k.trains) (flat_map pair_words k.pairs) ∙ rw (spaced-parts train_words k.trains, spaced-parts pair_words k.pairs) refl in
-    let all : spaced (violation_words k.violation ++ (flat_map train_words k.trains ++ flat_map pair_words k.pairs)) ≡ violation ++ (trains ++ pairs) =
-    spaced-append (violation_words k.violation) _ ∙ ap (λ t. violation ++ t) after in
-    join-spaced (codes "r") _ ∙ ap (λ t. 114 ∷ t) (all ∙ sym (append_assoc violation trains pairs))
+    spaced-append (violation_words k.violation) _ ∙ ap (λ t. violation ++ t) after ∙ sym (append_assoc violation trains pairs)
+
+-- the text of a place of some routes, by its parts
+pub among-parts : (routes without : List RouteNo) → spaced (place_words (place.Among routes without)) ≡ codes " a" ++ spaced (list_words route_word routes) ++ spaced (list_words route_word without)
+among-parts routes without = ap (λ t. codes " a" ++ t) (spaced-append (list_words route_word routes) (list_words route_word without))
+
+-- the text of a leg, by its parts
+pub leg-parts : (l : Leg) → spaced (leg_words l) ≡ spaced (codes "l" ∷ decimal l.train.0 ∷ []) ++ flat_map (λ p. spaced (place_words p)) l.places
+leg-parts l = spaced-append (codes "l" ∷ decimal l.train.0 ∷ []) (flat_map place_words l.places) ∙ ap (λ t. spaced (codes "l" ∷ decimal l.train.0 ∷ []) ++ t) (spaced-parts place_words l.places)
+
+-- the text of an origin with a cone, by its parts
+pub origin-parts : (tick : ℕ) (k : Cone) → spaced (origin_words (origins.Cone tick k)) ≡ spaced (codes "cone" ∷ decimal tick ∷ []) ++ flat_map (λ c. spaced (train_words c)) k.trains ++ flat_map (λ p. spaced (pair_words p)) k.pairs
+origin-parts tick k =
+    let front : List (List ℕ) = codes "cone" ∷ decimal tick ∷ [] in
+    let trains : List ℕ = flat_map (λ c. spaced (train_words c)) k.trains in
+    let pairs : List ℕ = flat_map (λ p. spaced (pair_words p)) k.pairs in
+    let after : spaced (flat_map train_words k.trains ++ flat_map pair_words k.pairs) ≡ trains ++ pairs =
+    spaced-append (flat_map train_words k.trains) (flat_map pair_words k.pairs) ∙ rw (spaced-parts train_words k.trains, spaced-parts pair_words k.pairs) refl in
+    spaced-append front (flat_map train_words k.trains ++ flat_map pair_words k.pairs) ∙ ap (λ t. spaced front ++ t) after ∙ sym (append_assoc (spaced front) trains pairs)
+
+-- the text of a bound, by its parts
+pub bound-parts : (b : Bound) → spaced (bound_words b) ≡ spaced (requirement_words b.requirement) ++ spaced (origin_words b.origin) ++ flat_map (λ l. spaced (leg_words l)) b.legs
+bound-parts b =
+    let wanted : List ℕ = spaced (requirement_words b.requirement) in
+    let from : List ℕ = spaced (origin_words b.origin) in
+    let legs : List ℕ = flat_map (λ l. spaced (leg_words l)) b.legs in
+    let after : spaced (origin_words b.origin ++ flat_map leg_words b.legs) ≡ from ++ legs = spaced-append (origin_words b.origin) (flat_map leg_words b.legs) ∙ ap (λ t. from ++ t) (spaced-parts leg_words b.legs) in
+    spaced-append (requirement_words b.requirement) _ ∙ ap (λ t. wanted ++ t) after ∙ sym (append_assoc wanted from legs)

@@ -1,7 +1,12 @@
 pub mod Splitting
-pub mod Gathering
-pub mod Joining
 pub mod Spelled
 pub mod Told
+pub mod BoundsTold
 pub mod OneText
+pub mod Gathering
+pub mod BoundsGathering
+pub mod Joining
+pub mod Back
+pub mod BoundsBack
 pub mod ReadBack
+pub mod Heads

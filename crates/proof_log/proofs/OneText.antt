@@ -1,17 +1,21 @@
 -- Bytes that are read as a line are the text of that line.
-use Rattle.std.proofs.Common.{◌≡◌, ℕ, Bool, true, ◌&&◌, List, [], ◌∷◌, ◌++◌, append-nil, append_assoc, map, codes, decimal, Option, Some, None, refl, sym, ap, ◌∙◌}
+use Rattle.std.proofs.Common.{◌≡◌, ℕ, Bool, true, ◌&&◌, List, [], ◌∷◌, ◌++◌, append_assoc, map, codes, decimal, Option, Some, None, refl, sym, ap, ◌∙◌}
 use Rattle.std.specs.List.{list_all, join_with_byte}
 use Rattle.std.specs.Str.{bytes_eq}
 use Rattle.std.proofs.lemmas.List.Splits.{join_with_byte-slice_split}
 use Rattle.sat_clause.specs.declared.lit.Lit.{Lit}
 use Rattle.proof_log.specs.declared.line.Line.{Line}
-use Rattle.proof_log.specs.declared.line.Line.TheVariants.{Derive, Refute, Forget}
+use Rattle.proof_log.specs.declared.line.Line.TheVariants.{Forget}
 use Rattle.proof_log.specs.Words.{greatest_variable, greatest_clause_number, is_from_1_to, words_of, literal_of, clause_number_of, members_of}
 use Rattle.proof_log.specs.Parts.{made, has_member, cone}
-use Rattle.proof_log.specs.Lines.{is_increasing, if_increasing, derivation, clause_numbers, if_all, line_of_kind, line_of_words, line_of}
-use Rattle.proof_log.specs.Text.{literal_word, list_words, cone_words, words_of_line, text_of_line, keeps_cone, keeps_grammar}
+use Rattle.proof_log.specs.Bounds.{bound}
+use Rattle.proof_log.specs.Lines.{is_increasing, if_increasing, derivation, clause_numbers, derive_by, refute_by_cone, refute_by_bound, if_all, line_of_kind, line_of_words, line_of}
+use Rattle.proof_log.specs.ConeText.{literal_word, list_words, cone_words, keeps_cone}
+use Rattle.proof_log.specs.BoundText.{bound_words, keeps_bound}
+use Rattle.proof_log.specs.Text.{words_of_line, text_of_line, keeps_grammar}
 use Rattle.proof_log.proofs.Spelled.{clause_number-spelled, literal-spelled, members-spelled}
-use Rattle.proof_log.proofs.Told.{Told, next-told, tested-told, any-told, choose, named-told, cone-told}
+use Rattle.proof_log.proofs.Told.{Told, next-told, tested-told, any-told, choose, named-told, cone-told, all-told}
+use Rattle.proof_log.proofs.BoundsTold.{bound-told}
 
 abbrev good_numbers : List ℕ → Bool
 good_numbers = list_all (is_from_1_to greatest_clause_number)
@@ -37,29 +41,25 @@ forgotten-told : (words : List (List ℕ)) → Told (list_words decimal) (λ c. 
 forgotten-told words = any-told (list_words decimal) good_numbers words (members_of clause_number_of words) (numbers-told words)
 
 -- the words of a derive line are the clause's and then those of the hints
-derive-words : (d : List Lit × List ℕ) → words_of_line (Derive d.0 d.1) ≡ codes "d" ∷ (list_words literal_word d.0 ++ list_words decimal d.1)
+derive-words : (d : List Lit × List ℕ) → words_of_line (derive_by d) ≡ codes "d" ∷ (list_words literal_word d.0 ++ list_words decimal d.1)
 derive-words d = ap (λ w. codes "d" ∷ w) (sym (append_assoc (map literal_word d.0) (codes "0" ∷ []) (list_words decimal d.1)))
-
--- a line that takes all words
-all-told : (words : List (List ℕ)) (o : Option (Line × List (List ℕ))) (line : Line) → Told words_of_line keeps_grammar words o → if_all o ≡ Some line → (words ≡ words_of_line line) × (keeps_grammar line ≡ true)
-all-told words None line told e = absurd (cc)
-all-told words (Some (found, [])) line told e =
-    let same : found ≡ line = cc in
-    let t = told (found, []) refl in
-    (t.0 ∙ append-nil (words_of_line found) ∙ ap words_of_line same, ap keeps_grammar (sym same) ∙ t.1)
-all-told words (Some (found, word ∷ more)) line told e = absurd (cc)
 
 kind-told : (kind : List ℕ) (more : List (List ℕ)) (line : Line) → line_of_kind kind more ≡ Some line → (kind ∷ more ≡ words_of_line line) × (keeps_grammar line ≡ true)
 kind-told kind more line e =
-    choose kind (codes "d") (if_all (made (λ d. Derive d.0 d.1) (derivation more))) _ line
-    (λ n. all-told (kind ∷ more) (made (λ d. Derive d.0 d.1) (derivation more)) line
-    (named-told (codes "d") (λ d. Derive d.0 d.1) (λ d. list_words literal_word d.0 ++ list_words decimal d.1) (λ d. (is_increasing d.0 && good_variables d.0) && good_numbers d.1) words_of_line keeps_grammar derive-words (λ d h. h) kind more (derivation more) (derivation-told more) n))
-    (choose kind (codes "r") (if_all (made Refute (cone more))) _ line
-    (λ n. all-told (kind ∷ more) (made Refute (cone more)) line (named-told (codes "r") Refute cone_words keeps_cone words_of_line keeps_grammar (λ k. refl) (λ k h. h) kind more (cone more) (cone-told more) n))
+    choose kind (codes "d") (if_all (made derive_by (derivation more))) _ line
+    (λ n. all-told words_of_line keeps_grammar (kind ∷ more) (made derive_by (derivation more)) line
+    (named-told (codes "d") derive_by (λ d. list_words literal_word d.0 ++ list_words decimal d.1) (λ d. (is_increasing d.0 && good_variables d.0) && good_numbers d.1) words_of_line keeps_grammar derive-words (λ d h. h) kind more (derivation more) (derivation-told more) n))
+    (choose kind (codes "r") (if_all (made refute_by_cone (cone more))) _ line
+    (λ n. all-told words_of_line keeps_grammar (kind ∷ more) (made refute_by_cone (cone more)) line
+    (named-told (codes "r") refute_by_cone cone_words keeps_cone words_of_line keeps_grammar (λ k. refl) (λ k h. h) kind more (cone more) (cone-told more) n))
+    (choose kind (codes "b") (if_all (made refute_by_bound (bound more))) _ line
+    (λ n. all-told words_of_line keeps_grammar (kind ∷ more) (made refute_by_bound (bound more)) line
+    (named-told (codes "b") refute_by_bound bound_words keeps_bound words_of_line keeps_grammar (λ b. refl) (λ b h. h) kind more (bound more) (bound-told more) n))
     (choose kind (codes "x") (if_all (made Forget (clause_numbers more))) None line
-    (λ n. all-told (kind ∷ more) (made Forget (clause_numbers more)) line
+    (λ n. all-told words_of_line keeps_grammar (kind ∷ more) (made Forget (clause_numbers more)) line
     (named-told (codes "x") Forget (list_words decimal) (λ c. has_member c && good_numbers c) words_of_line keeps_grammar (λ c. refl) (λ c h. h) kind more (clause_numbers more) (forgotten-told more) n))
     (λ none. absurd (cc)) (bytes_eq kind (codes "x")) refl)
+    (bytes_eq kind (codes "b")) refl)
     (bytes_eq kind (codes "r")) refl)
     (bytes_eq kind (codes "d")) refl e
 

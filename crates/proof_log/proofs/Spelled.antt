@@ -11,7 +11,7 @@ use Rattle.rail_base.specs.declared.route.RouteNo.{RouteNo}
 use Rattle.rail_text.specs.Numbers.{number_of}
 use Rattle.sat_clause.specs.declared.lit.Lit.{Lit}
 use Rattle.proof_log.specs.Words.{greatest_variable, greatest_clause_number, is_from_1_to, is_small, plain_number_of, if_small, small_number_of, if_from_1_to, variable_of, route_of, clause_number_of, literal_of, is_end, member_before, members_of}
-use Rattle.proof_log.specs.Text.{literal_word, route_word, list_words}
+use Rattle.proof_log.specs.ConeText.{literal_word, route_word, list_words}
 
 digits_test : IsDigitsTest (λ ds. list_all is_ascii_digit ds ≡ true)
 digits_test = search rules

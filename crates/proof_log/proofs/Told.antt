@@ -1,5 +1,5 @@
 -- What is read from words on has those words as its text.
-use Rattle.std.proofs.Common.{◌≡◌, ℕ, zero, suc, Bool, true, false, not, cond, ◌&&◌, nat_eq, eqb-true, List, [], ◌∷◌, ◌++◌, length, flat_map, codes, decimal, nat_le, Option, Some, None, option_map, refl, sym, ap, subst, ◌∙◌, append_assoc}
+use Rattle.std.proofs.Common.{◌≡◌, ℕ, zero, suc, Bool, true, false, not, cond, ◌&&◌, nat_eq, eqb-true, List, [], ◌∷◌, ◌++◌, length, flat_map, codes, decimal, nat_le, Option, Some, None, option_map, refl, sym, ap, subst, ◌∙◌, append_assoc, append-nil}
 use Rattle.std.specs.List.{list_all}
 use Rattle.std.specs.Str.{bytes_eq}
 use Rattle.std.proofs.lemmas.Slice.Eq.{bytes_eq-Decides}
@@ -10,7 +10,8 @@ use Rattle.rail_base.specs.declared.route.RouteNo.{RouteNo}
 use Rattle.rail_cone.specs.declared.ConeTrain.{ConeTrain}
 use Rattle.proof_log.specs.Words.{greatest_variable, greatest_clause_number, is_from_1_to, is_small, plain_number_of, small_number_of, route_of, members_of}
 use Rattle.proof_log.specs.Parts.{Reads, made, with_next, first_of, has_member, if_any, part_before, parts_of, all_parts, small_number, two_numbers, command_by, command, path_by, grant_by, visit_by, violation_of, violation, is_nothing, holder_of, train_front, train_path, train_by, cone_train, pair, cone_by, cone}
-use Rattle.proof_log.specs.Text.{route_word, list_words, command_words, violation_words, holder_words, train_words, pair_words, cone_words, keeps_command, keeps_violation, keeps_holder, keeps_path, keeps_train, keeps_pair, keeps_cone}
+use Rattle.proof_log.specs.Lines.{if_all}
+use Rattle.proof_log.specs.ConeText.{route_word, list_words, command_words, violation_words, holder_words, train_words, pair_words, cone_words, keeps_command, keeps_violation, keeps_holder, keeps_path, keeps_train, keeps_pair, keeps_cone}
 use Rattle.proof_log.proofs.Spelled.{plain-spelled, small-spelled, route-spelled, members-spelled}
 
 -- the words are those of what was found and those after it, and what was found is in range
@@ -42,20 +43,20 @@ made-told make write good writes goods same words (Some f) told =
     let s = same f.0 t.1 in
     some-told writes goods words (make f.0) f.1 (t.0 ∙ ap (λ w. w ++ f.1) (sym s.0), s.1)
 
-second-told : {X Y : Type 0} (x : X) (front : List (List ℕ)) (write : Y → List (List ℕ)) (good : Y → Bool) (writes : X × Y → List (List ℕ)) (goods : X × Y → Bool)
-    → ((y : Y) → writes (x, y) ≡ front ++ write y) → ((y : Y) → good y ≡ true → goods (x, y) ≡ true)
-    → (words left : List (List ℕ)) (o : Option (Y × List (List ℕ))) → words ≡ front ++ left → Told write good left o → Told writes goods words (made (λ y. (x, y)) o)
-second-told x front write good writes goods w g words left None e told = none-told writes goods words
-second-told x front write good writes goods w g words left (Some f) e told =
+-- what is made of a part after words that are known
+pub behind-told : {X Y : Type 0} (make : X → Y) (front : List (List ℕ)) (write : X → List (List ℕ)) (good : X → Bool) (writes : Y → List (List ℕ)) (goods : Y → Bool) → ((x : X) → writes (make x) ≡ front ++ write x)
+    → ((x : X) → good x ≡ true → goods (make x) ≡ true) → (words left : List (List ℕ)) (o : Option (X × List (List ℕ))) → words ≡ front ++ left → Told write good left o → Told writes goods words (made make o)
+behind-told make front write good writes goods w g words left None e told = none-told writes goods words
+behind-told make front write good writes goods w g words left (Some f) e told =
     let t = told f refl in
-    some-told writes goods words (x, f.0) f.1 (e ∙ ap (λ l. front ++ l) t.0 ∙ sym (append_assoc front (write f.0) f.1) ∙ ap (λ l. l ++ f.1) (sym (w f.0)), g f.0 t.1)
+    some-told writes goods words (make f.0) f.1 (e ∙ ap (λ l. front ++ l) t.0 ∙ sym (append_assoc front (write f.0) f.1) ∙ ap (λ l. l ++ f.1) (sym (w f.0)), g f.0 t.1)
 
 pub next-told : {X Y : Type 0} (write : X → List (List ℕ)) (good : X → Bool) (writes : Y → List (List ℕ)) (goods : Y → Bool) (next : Reads Y) → ((w : List (List ℕ)) → Told writes goods w (next w))
     → (words : List (List ℕ)) (o : Option (X × List (List ℕ))) → Told write good words o → Told (λ p. write p.0 ++ writes p.1) (λ p. good p.0 && goods p.1) words (with_next o next)
 next-told write good writes goods next after words None told = none-told (λ p. write p.0 ++ writes p.1) (λ p. good p.0 && goods p.1) words
 next-told write good writes goods next after words (Some f) told =
     let t = told f refl in
-    second-told f.0 (write f.0) writes goods (λ p. write p.0 ++ writes p.1) (λ p. good p.0 && goods p.1) (λ y. refl) (λ y h. both (good f.0) (goods y) t.1 h) words f.1 (next f.1) t.0 (after f.1)
+    behind-told (λ y. (f.0, y)) (write f.0) writes goods (λ p. write p.0 ++ writes p.1) (λ p. good p.0 && goods p.1) (λ y. refl) (λ y h. both (good f.0) (goods y) t.1 h) words f.1 (next f.1) t.0 (after f.1)
 
 word-told : {X : Type 0} (word_of : X → List ℕ) (good : X → Bool) (word : List ℕ) (more : List (List ℕ)) (o : Option X) → ((x : X) → o ≡ Some x → (word_of x ≡ word) × (good x ≡ true))
     → Told (λ x. word_of x ∷ []) good (word ∷ more) (option_map (λ x. (x, more)) o)
@@ -246,3 +247,14 @@ cone-told words =
     (next-told violation_words keeps_violation (λ p. flat_map train_words p.0 ++ flat_map pair_words p.1) (λ p. (has_member p.0 && list_all keeps_train p.0) && list_all keeps_pair p.1) (λ w. with_next (if_any (all_parts (codes "t") cone_train w)) (λ v. all_parts (codes "p") pair v))
     (λ w. next-told (flat_map train_words) (λ cs. has_member cs && list_all keeps_train cs) (flat_map pair_words) (list_all keeps_pair) (λ v. all_parts (codes "p") pair v) pairs-told w (if_any (all_parts (codes "t") cone_train w)) (trains-told w))
     words (violation words) (violation-told words))
+
+-- ---- all words
+
+-- what takes all words
+pub all-told : {X : Type 0} (write : X → List (List ℕ)) (good : X → Bool) (words : List (List ℕ)) (o : Option (X × List (List ℕ))) (x : X) → Told write good words o → if_all o ≡ Some x → (words ≡ write x) × (good x ≡ true)
+all-told write good words None x told e = absurd (cc)
+all-told write good words (Some (found, [])) x told e =
+    let same : found ≡ x = cc in
+    let t = told (found, []) refl in
+    (t.0 ∙ append-nil (write found) ∙ ap write same, ap good (sym same) ∙ t.1)
+all-told write good words (Some (found, word ∷ more)) x told e = absurd (cc)

@@ -1,6 +1,8 @@
 -- What reading and writing have to do with one another.
 use Rattle.std.specs.Prelude.{◌≡◌, ℕ, List, Some, IsTrue}
+use Rattle.proof_log.specs.declared.head.Head.{Head}
 use Rattle.proof_log.specs.declared.line.Line.{Line}
+use Rattle.proof_log.specs.Heads.{head_of, head_text, keeps_head}
 use Rattle.proof_log.specs.Lines.{line_of}
 use Rattle.proof_log.specs.Text.{text_of_line, keeps_grammar}
 
@@ -12,3 +14,12 @@ LinesReadBack = (line : Line) → IsTrue (keeps_grammar line) → line_of (text_
 abbrev pub LinesHaveOneText : Type 0
 LinesHaveOneText = (bytes : List ℕ) (line : Line) → line_of bytes ≡ Some line
     → (text_of_line line ≡ bytes) × IsTrue (keeps_grammar line)
+
+-- the text of a head whose numbers are not too great is read as that head
+abbrev pub HeadsReadBack : Type 0
+HeadsReadBack = (head : Head) → IsTrue (keeps_head head) → head_of (head_text head) ≡ Some head
+
+-- bytes that are read as a head are the text of that head
+abbrev pub HeadsHaveOneText : Type 0
+HeadsHaveOneText = (bytes : List ℕ) (head : Head) → head_of bytes ≡ Some head
+    → (head_text head ≡ bytes) × IsTrue (keeps_head head)

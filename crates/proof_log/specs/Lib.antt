@@ -1,7 +1,11 @@
 pub mod Words
 pub mod Parts
+pub mod Bounds
 pub mod Lines
+pub mod ConeText
+pub mod BoundText
 pub mod Text
+pub mod Heads
 pub mod Reading
 pub mod Writing
 pub mod Laws

@@ -3,14 +3,14 @@ use Rattle.std.specs.Prelude.{ℕ, Bool, List, [], ◌∷◌, drop, nat_lt, Opti
 use Rattle.std.specs.List.{list_all, zip}
 use Rattle.std.specs.Str.{bytes_eq}
 use Rattle.sat_clause.specs.declared.lit.Lit.{Lit}
+use Rattle.rail_cone.specs.declared.Cone.{Cone}
+use Rattle.rail_bound.specs.declared.Bound.{Bound}
+use Rattle.rail_bound.specs.declared.Evidence.TheVariants as evidence
 use Rattle.proof_log.specs.declared.line.Line.{Line}
 use Rattle.proof_log.specs.declared.line.Line.TheVariants.{Derive, Refute, Forget}
 use Rattle.proof_log.specs.Words.{words_of, literal_of, clause_number_of, members_of}
 use Rattle.proof_log.specs.Parts.{Reads, made, with_next, if_any, cone}
-
--- the first line of a file
-abbrev pub head : List ℕ
-head = codes "rcvlog 1"
+use Rattle.proof_log.specs.Bounds.{bound}
 
 -- each variable is below the next one
 abbrev pub is_increasing : List Lit → Bool
@@ -35,11 +35,24 @@ if_all None = None
 if_all (Some (found, [])) = Some found
 if_all (Some (found, word ∷ more)) = None
 
--- the line of a kind: `d` with a derivation, `r` with a cone, `x` with numbers of clauses
+-- the line of a clause with its hints, by both
+abbrev pub derive_by : List Lit × List ℕ → Line
+derive_by parts = Derive parts.0 parts.1
+
+-- the line of a cone
+abbrev pub refute_by_cone : Cone → Line
+refute_by_cone cone = Refute (evidence.Cone cone)
+
+-- the line of a bound
+abbrev pub refute_by_bound : Bound → Line
+refute_by_bound bound = Refute (evidence.Bound bound)
+
+-- the line of a kind: `d` with a derivation, `r` with a cone, `b` with a bound, `x` with numbers of clauses
 abbrev pub line_of_kind : List ℕ → List (List ℕ) → Option Line
 line_of_kind kind words =
-    if bytes_eq kind (codes "d") then if_all (made (λ d. Derive d.0 d.1) (derivation words))
-    else if bytes_eq kind (codes "r") then if_all (made Refute (cone words))
+    if bytes_eq kind (codes "d") then if_all (made derive_by (derivation words))
+    else if bytes_eq kind (codes "r") then if_all (made refute_by_cone (cone words))
+    else if bytes_eq kind (codes "b") then if_all (made refute_by_bound (bound words))
     else if bytes_eq kind (codes "x") then if_all (made Forget (clause_numbers words))
     else None
 

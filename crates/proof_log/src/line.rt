@@ -1,7 +1,7 @@
 //! Lines, and why bytes are none.
 
 use rail_base::list::List;
-use rail_cone::Cone;
+use rail_bound::Evidence;
 use sat_clause::Lit;
 
 /// A line of a proof file.
@@ -9,8 +9,8 @@ use sat_clause::Lit;
 pub enum Line {
     /// A clause that follows from the clauses of these numbers, taken in order.
     Derive { clause: List<Lit>, hints: List<u64> },
-    /// The clause of a cone.
-    Refute { cone: Cone },
+    /// The clause that a cone or a bound shows.
+    Refute { evidence: Evidence },
     /// Clauses that are taken out.
     Forget { clauses: List<u64> },
 }

@@ -1,25 +1,22 @@
 //! Lines from their bytes.
 
-ghost use Rattle.std.specs.Prelude.{◌≡◌, ◌↔◌, IsTrue, IfOk, Some, None, Err};
+ghost use Rattle.std.specs.Prelude.{◌≡◌, IfOk, Some, None, Err};
 ghost use Rattle.proof_log.specs.Parts.{made, cone};
-ghost use Rattle.proof_log.specs.Lines.{head, is_increasing, derivation, clause_numbers, if_all, line_of_kind, line_of};
+ghost use Rattle.proof_log.specs.Bounds.{bound};
+ghost use Rattle.proof_log.specs.Lines.{is_increasing, derivation, clause_numbers, if_all, line_of_kind, line_of};
+ghost use Rattle.proof_log.specs.Lines.{derive_by, refute_by_cone, refute_by_bound};
 ghost use Rattle.proof_log.specs.Reading.{words_left};
-ghost use Rattle.proof_log.specs.declared.line.Line.TheVariants.{Derive, Refute, Forget};
+ghost use Rattle.proof_log.specs.declared.line.Line.TheVariants.{Forget};
 ghost use Rattle.proof_log.specs.declared.line.LineFault.TheVariants.{Text};
 
+use crate::bounds::bound;
 use crate::cones::cone;
 use crate::line::{Line, LineFault};
 use crate::members::{has_member, read_members};
 use crate::words::first_word;
+use rail_bound::Evidence;
 use sat_clause::Lit;
 use std::alloc::Global;
-
-/// Whether bytes are the first line of a proof file.
-pub fn is_head(bytes: &[u8]) -> bool
-    ensures { IsTrue result ↔ (bytes.now ≡ head) }
-{
-    bytes == b"rcvlog 1".as_slice()
-}
 
 /// Whether the variables stand in strictly increasing order.
 fn are_increasing(clause: &[Lit]) -> bool
@@ -45,9 +42,8 @@ fn whole(line: Line, after: Option<&[u8]>) -> Result<Line, LineFault>
 
 /// The line of a clause and its hints, after the word `d`.
 fn derive_line(alloc: Global, text: Option<&[u8]>) -> Result<Line, LineFault>
-    ensures ok { IfOk result (λ line.
-        if_all (made (λ d. Derive d.0 d.1) (derivation (words_left text.entry))) ≡ Some line) }
-    ensures text { result ≡ Err Text → if_all (made (λ d. Derive d.0 d.1) (derivation (words_left text.entry))) ≡ None }
+    ensures ok { IfOk result (λ line. if_all (made derive_by (derivation (words_left text.entry))) ≡ Some line) }
+    ensures text { result ≡ Err Text → if_all (made derive_by (derivation (words_left text.entry))) ≡ None }
 {
     let (clause, after) = read_members::<Lit>(alloc, text)?;
     if !are_increasing(clause.as_slice()) {
@@ -58,12 +54,23 @@ fn derive_line(alloc: Global, text: Option<&[u8]>) -> Result<Line, LineFault>
 }
 
 /// The line of a cone, after the word `r`.
-fn refute_line(alloc: Global, text: Option<&[u8]>) -> Result<Line, LineFault>
-    ensures ok { IfOk result (λ line. if_all (made Refute (cone (words_left text.entry))) ≡ Some line) }
-    ensures text { result ≡ Err Text → if_all (made Refute (cone (words_left text.entry))) ≡ None }
+fn cone_line(alloc: Global, text: Option<&[u8]>) -> Result<Line, LineFault>
+    ensures ok { IfOk result (λ line. if_all (made refute_by_cone (cone (words_left text.entry))) ≡ Some line) }
+    ensures text { result ≡ Err Text → if_all (made refute_by_cone (cone (words_left text.entry))) ≡ None }
 {
     let (cone, after) = cone(alloc, text)?;
-    whole(Line::Refute { cone }, after)
+    let evidence = Evidence::Cone(cone);
+    whole(Line::Refute { evidence }, after)
+}
+
+/// The line of a bound, after the word `b`.
+fn bound_line(alloc: Global, text: Option<&[u8]>) -> Result<Line, LineFault>
+    ensures ok { IfOk result (λ line. if_all (made refute_by_bound (bound (words_left text.entry))) ≡ Some line) }
+    ensures text { result ≡ Err Text → if_all (made refute_by_bound (bound (words_left text.entry))) ≡ None }
+{
+    let (bound, after) = bound(alloc, text)?;
+    let evidence = Evidence::Bound(bound);
+    whole(Line::Refute { evidence }, after)
 }
 
 /// The line of clauses that are taken out, after the word `x`.
@@ -86,7 +93,9 @@ fn line_of_kind(alloc: Global, kind: &[u8], text: Option<&[u8]>) -> Result<Line,
     if kind == b"d".as_slice() {
         derive_line(alloc, text)
     } else if kind == b"r".as_slice() {
-        refute_line(alloc, text)
+        cone_line(alloc, text)
+    } else if kind == b"b".as_slice() {
+        bound_line(alloc, text)
     } else if kind == b"x".as_slice() {
         forget_line(alloc, text)
     } else {
@@ -96,7 +105,8 @@ fn line_of_kind(alloc: Global, kind: &[u8], text: Option<&[u8]>) -> Result<Line,
 
 /// Reads a line, without the LF that ends it in a file.
 ///
-/// `Text` says that the bytes spell no line.
+/// Ticks, horizons and numbers of clauses have at most 18 digits, and all other numbers at most 32 bits.
+/// `Text` says that the bytes spell no line, `Memory` that memory ran out; an `Err` leaves nothing.
 pub fn read_line(alloc: Global, bytes: &[u8]) -> Result<Line, LineFault>
     ensures line { IfOk result (λ line. line_of bytes.now ≡ Some line) }
     ensures text { result ≡ Err Text → line_of bytes.now ≡ None }

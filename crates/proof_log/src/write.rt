@@ -1,12 +1,16 @@
 //! The text of lines.
 
 ghost use Rattle.std.specs.Prelude.{◌≡◌, ◌++◌, ◌∷◌, [], map, codes, decimal, IfOk, OnOk, if◌then◌else◌};
-ghost use Rattle.proof_log.specs.Text.{literal_word, text_of_line};
+ghost use Rattle.proof_log.specs.ConeText.{literal_word};
+ghost use Rattle.proof_log.specs.Lines.{refute_by_cone, refute_by_bound};
+ghost use Rattle.proof_log.specs.Text.{text_of_line};
 ghost use Rattle.proof_log.specs.Writing.{spaced};
 ghost use Rattle.proof_log.specs.declared.line.Line.TheVariants.{Derive, Refute, Forget};
 
+use crate::bound_text::put_bound;
+use crate::cone_text::put_cone;
 use crate::line::Line;
-use crate::write_cone::{put_pairs, put_trains, put_violation};
+use rail_bound::{Bound, Evidence};
 use rail_cone::Cone;
 use rail_text::put_number;
 use sat_clause::Lit;
@@ -78,14 +82,31 @@ fn write_forget(alloc: Global, clauses: &[u64]) -> Result<Vec<u8>, AllocError>
 }
 
 /// The text of the line of a cone.
-fn write_refute(alloc: Global, cone: &Cone) -> Result<Vec<u8>, AllocError>
-    ensures { IfOk result (λ text. text.items ≡ text_of_line (Refute cone.now)) }
+fn write_cone(alloc: Global, cone: &Cone) -> Result<Vec<u8>, AllocError>
+    ensures { IfOk result (λ text. text.items ≡ text_of_line (refute_by_cone cone.now)) }
 {
     let mut text = Vec::from_slice(alloc, b"r")?;
-    put_violation(&mut text, cone.violation)?;
-    put_trains(&mut text, cone.trains.as_slice())?;
-    put_pairs(&mut text, cone.pairs.as_slice())?;
+    put_cone(&mut text, cone)?;
     Ok(text)
+}
+
+/// The text of the line of a bound.
+fn write_bound(alloc: Global, bound: &Bound) -> Result<Vec<u8>, AllocError>
+    ensures { IfOk result (λ text. text.items ≡ text_of_line (refute_by_bound bound.now)) }
+{
+    let mut text = Vec::from_slice(alloc, b"b")?;
+    put_bound(&mut text, bound)?;
+    Ok(text)
+}
+
+/// The text of the line of what shows a clause.
+fn write_refute(alloc: Global, evidence: &Evidence) -> Result<Vec<u8>, AllocError>
+    ensures { IfOk result (λ text. text.items ≡ text_of_line (Refute evidence.now)) }
+{
+    match evidence {
+        Evidence::Cone(cone) => write_cone(alloc, cone),
+        Evidence::Bound(bound) => write_bound(alloc, bound),
+    }
 }
 
 /// The text of a line, without an LF.
@@ -94,7 +115,7 @@ pub fn write_line(alloc: Global, line: &Line) -> Result<Vec<u8>, AllocError>
 {
     match line {
         Line::Derive { clause, hints } => write_derive(alloc, clause.as_slice(), hints.as_slice()),
-        Line::Refute { cone } => write_refute(alloc, cone),
+        Line::Refute { evidence } => write_refute(alloc, evidence),
         Line::Forget { clauses } => write_forget(alloc, clauses.as_slice()),
     }
 }

@@ -1,5 +1,5 @@
 use Rattle.std.proofs.Common.{◌≡◌, ◌++◌, map, drop}
-use Rattle.proof_log.specs.Text.{literal_word}
+use Rattle.proof_log.specs.ConeText.{literal_word}
 use Rattle.proof_log.specs.Writing.{spaced}
 use Rattle.proof_log.proofs.write.put_literals.Given as goal
 

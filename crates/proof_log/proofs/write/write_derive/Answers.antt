@@ -1,6 +1,6 @@
 use Rattle.std.proofs.Common.{◌≡◌, ◌++◌, ◌∙◌, sym, map, codes, decimal, arith}
 use Rattle.std.proofs.lemmas.Grind.{common_steps}
-use Rattle.proof_log.specs.Text.{literal_word}
+use Rattle.proof_log.specs.ConeText.{literal_word}
 use Rattle.proof_log.specs.Writing.{spaced}
 use Rattle.proof_log.proofs.Joining.{text-parts}
 use Rattle.proof_log.proofs.write.write_derive.Goals as goal

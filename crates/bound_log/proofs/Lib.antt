@@ -1,4 +1,0 @@
-pub mod Gathering
-pub mod Joining
-pub mod Told
-pub mod ReadBack

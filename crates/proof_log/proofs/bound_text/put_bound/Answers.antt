@@ -1,0 +1,7 @@
+use Rattle.std.proofs.Common.{arith}
+use Rattle.std.proofs.lemmas.Grind.{common_steps}
+use Rattle.proof_log.proofs.Joining.{bound-parts}
+use Rattle.proof_log.proofs.bound_text.put_bound.Goals as goal
+
+pub returns : goal.returns
+returns c = grind (arith, common_steps, bound-parts c.args.bound.now)

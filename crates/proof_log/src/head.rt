@@ -1,0 +1,88 @@
+//! The first line of a proof file.
+
+ghost use Rattle.std.specs.Prelude.{◌≡◌, IfOk};
+ghost use Rattle.proof_log.specs.Parts.{made, two_numbers};
+ghost use Rattle.proof_log.specs.Lines.{if_all};
+ghost use Rattle.proof_log.specs.Heads.{head_of, head_after, head_of_version, sorted_by, head_text};
+ghost use Rattle.proof_log.specs.Reading.{words_left};
+
+use crate::cone_text::put_two;
+use crate::parts::two_numbers;
+use crate::words::first_word;
+use std::alloc::{AllocError, Global};
+
+/// What the first line of a proof file says of the clauses before the other lines.
+#[derive(Clone, Copy, PartialEq, Eq, Debug)]
+pub enum Head {
+    /// They are those of the base.
+    Plain,
+    /// They are those of the base and of trains that come in turn, for designs of this version and plans of so many
+    /// steps. Bounds may stand in the file.
+    Sorted { version: u32, steps: u32 },
+}
+
+/// A head, where no word is left after it.
+#[tactic(auto, using(crate::proofs::Gathering::words_are_left))]
+fn whole(head: Head, after: Option<&[u8]>) -> Option<Head>
+    ensures { result ≡ if_all (Some (head, words_left after.entry)) }
+{
+    if after.is_some() {
+        return None;
+    }
+    Some(head)
+}
+
+/// The head of sorted trains, by the version of the design and the number of steps.
+fn sorted(text: Option<&[u8]>) -> Option<Head>
+    ensures { result ≡ if_all (made sorted_by (two_numbers (words_left text.entry))) }
+{
+    let ((version, steps), after) = two_numbers(text)?;
+    whole(Head::Sorted { version, steps }, after)
+}
+
+/// The head of a version of the file, by the words after it.
+fn head_of_version(version: &[u8], text: Option<&[u8]>) -> Option<Head>
+    ensures { result ≡ head_of_version version.now (words_left text.entry) }
+{
+    if version == b"1".as_slice() {
+        whole(Head::Plain, text)
+    } else if version == b"4".as_slice() {
+        sorted(text)
+    } else {
+        None
+    }
+}
+
+/// The head by the words after the first.
+fn head_after(text: Option<&[u8]>) -> Option<Head>
+    ensures { result ≡ head_after (words_left text.entry) }
+{
+    let (version, after) = first_word(text?);
+    head_of_version(version, after)
+}
+
+/// The head that the first line of a file spells, without the LF that ends it. None where it is none.
+pub fn read_head(bytes: &[u8]) -> Option<Head>
+    ensures { result ≡ head_of bytes.now }
+{
+    let (name, after) = first_word(bytes);
+    if name == b"rcvlog".as_slice() {
+        head_after(after)
+    } else {
+        None
+    }
+}
+
+/// The text of a head, without an LF.
+pub fn write_head(alloc: Global, head: Head) -> Result<Vec<u8>, AllocError>
+    ensures { IfOk result (λ text. text.items ≡ head_text head) }
+{
+    match head {
+        Head::Plain => Vec::from_slice(alloc, b"rcvlog 1"),
+        Head::Sorted { version, steps } => {
+            let mut text = Vec::from_slice(alloc, b"rcvlog 4")?;
+            put_two(&mut text, version, steps)?;
+            Ok(text)
+        }
+    }
+}
