@@ -75,8 +75,8 @@ module _ (d : Station) (routes : List Route) (b : Bound) (fits : in_design d rou
       none o eo unlisted = absurd (true≢false (sym h ∙ ap (λ o. is_listed (cone_at b.requirement o) e c) eo ∙ unlisted))
 
       go : (o : Origin) → b.origin ≡ o → (v : Option VisitOf) → visit_from d b.requirement ≡ v → origin_in_design d routes b o v ≡ true → contend routes e c ≡ true
-      go (origin.Cone k ts ps) eo (Some v) ev k' = of_cone k'
-      go (origin.Cone k ts ps) eo None ev k' = absurd (true≢false (sym k'))
+      go (origin.Cone k cone) eo (Some v) ev k' = of_cone k'
+      go (origin.Cone k cone) eo None ev k' = absurd (true≢false (sym k'))
       go origin.Visit eo v ev k' = none origin.Visit eo refl
       go origin.Start eo v ev k' = none origin.Start eo refl
       go origin.FirstTick eo v ev k' = none origin.FirstTick eo refl

@@ -1,3 +1,11 @@
 pub mod Known
 pub mod ClauseOrder
 pub mod Holding
+mod Putting
+mod Settling
+mod Saying
+mod Ordering
+mod Nothing
+mod Lasting
+mod Fitting
+mod Placing

@@ -1,2 +1,5 @@
 -- The clause of a certificate as literals of the base.
 pub mod Numbered
+pub mod Said
+pub mod Spoken
+pub mod Order

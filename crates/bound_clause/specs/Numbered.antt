@@ -1,5 +1,5 @@
 -- The clause of a certificate over the numbers that the base gives its variables.
-use Rattle.std.specs.Prelude.{ℕ, List, ◌++◌, map}
+use Rattle.std.specs.Prelude.{ℕ, if◌then◌else◌, List, ◌++◌, map, Option, None, Some}
 use Rattle.rail_base.specs.declared.station.Station.{Station}
 use Rattle.rail_base.specs.declared.route.Route.{Route}
 use Rattle.rail_spec.specs.Track.{routes_of}
@@ -8,6 +8,7 @@ use Rattle.rail_cone.specs.declared.Cone.{Cone}
 use Rattle.cone_clause.specs.Numbered.{lit_of, numbered_clause}
 use Rattle.rail_bound.specs.declared.Bound.{Bound}
 use Rattle.rail_bound.specs.Clauses.{clause_of_bound}
+use Rattle.rail_bound.specs.Validity.{is_consistent}
 
 -- the certificate's clause, with the numbers of the base
 abbrev pub numbered_bound : Station → List Route → ℕ → Bound → List Lit
@@ -17,3 +18,7 @@ numbered_bound d routes n b = map (lit_of d routes n) (clause_of_bound d routes 
 abbrev pub clauses_shown : Station → ℕ → List Cone → List Bound → List (List Lit)
 clauses_shown d n cones bounds =
     map (numbered_clause d (routes_of d) n) cones ++ map (numbered_bound d (routes_of d) n) bounds
+
+-- the clause, where nothing is taken for granted both ways
+abbrev pub clause_if_consistent : Station → List Route → ℕ → Bound → Option (List Lit)
+clause_if_consistent d routes n b = if is_consistent d routes b then Some (numbered_bound d routes n b) else None

@@ -2,3 +2,12 @@
 #![tactic(auto)]
 
 pub mod laws;
+mod listing;
+mod meetings;
+mod numbered;
+mod order;
+mod places;
+mod starts;
+mod variables;
+
+pub use crate::listing::clause_of;

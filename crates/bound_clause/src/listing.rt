@@ -1,0 +1,75 @@
+//! How the clause of a certificate is listed.
+
+ghost use Rattle.std.specs.Prelude.{◌≡◌, IfOk, option_map, true};
+ghost use Rattle.rail_bound.specs.Certificates.{cone_of};
+ghost use Rattle.rail_bound.specs.Validity.{names_design};
+ghost use Rattle.rail_cone.specs.Clauses.{clause_of_cone};
+ghost use Rattle.bound_clause.specs.Numbered.{clause_if_consistent};
+ghost use Rattle.bound_clause.specs.Said.{said};
+ghost use Rattle.bound_clause.specs.Spoken.{numbered, routes_in, station_of};
+
+use crate::numbered::NumberedBound;
+use crate::order::{put_in_order, rises};
+use cone_clause::clause_of as clause_of_cone;
+use cone_design::Contention;
+use interlocking::Steps;
+use rail_bound::{Bound, Origin};
+use sat_clause::Lit;
+use std::alloc::{AllocError, Global};
+
+impl NumberedBound<'_> {
+    /// The clause of the certificate's cone; nothing where it names none.
+    fn of_cone(&self, alloc: Global) -> Result<Vec<Lit>, AllocError>
+        ensures { IfOk result (λ c. c.items ≡ numbered self.now
+            (clause_of_cone (station_of self.now) (routes_in self.now) (cone_of self.now.bound.now))) }
+    {
+        match &self.bound.origin {
+            Origin::Cone { cone, .. } => clause_of_cone(alloc, &self.contention, self.steps, cone),
+            Origin::Visit | Origin::Start | Origin::FirstTick => Ok(Vec::new(alloc)),
+        }
+    }
+
+    /// All that the certificate says, in some order; one literal may stand there twice.
+    fn said(&self, alloc: Global) -> Result<Vec<Lit>, AllocError>
+        ensures { IfOk result (λ c. c.items
+            ≡ numbered self.now (said (station_of self.now) (routes_in self.now) self.now.bound.now)) }
+    {
+        let mut clause = self.of_cone(alloc)?;
+        self.push_legs(&mut clause)?;
+        self.push_meetings(&mut clause)?;
+        self.push_origin(&mut clause)?;
+        Ok(clause)
+    }
+}
+
+/// The clause of a certificate, over the variables of the base for plans of so many steps, by increasing variable. None
+/// where the certificate takes something for granted both ways.
+///
+/// # Errors
+///
+/// Want of memory alone.
+pub fn clause_of(
+    alloc: Global,
+    contention: &Contention,
+    steps: Steps,
+    bound: &Bound,
+) -> Result<Option<Vec<Lit>>, AllocError>
+    requires names { names_design contention.now.interlocking.now.design.station
+        contention.now.interlocking.now.routes bound.now ≡ true }
+    ensures { IfOk result (λ c. option_map (λ v. v.items) c
+        ≡ clause_if_consistent contention.now.interlocking.now.design.station
+        contention.now.interlocking.now.routes steps.count bound.now) }
+{
+    let bound = NumberedBound {
+        contention: *contention,
+        steps,
+        bound,
+    };
+    let mut clause = bound.said(alloc)?;
+    put_in_order(&mut clause);
+    if rises(&clause) {
+        Ok(Some(clause))
+    } else {
+        Ok(None)
+    }
+}

@@ -1,0 +1,18 @@
+//! Certificates over the variables of the base.
+
+ghost use Rattle.std.specs.Prelude.{◌≡◌, true};
+ghost use Rattle.rail_bound.specs.Validity.{names_design};
+
+use cone_design::Contention;
+use interlocking::Steps;
+use rail_bound::Bound;
+
+/// A certificate that speaks of the design, and how many steps the plans have that its clause is for.
+#[derive(Clone, Copy)]
+pub(crate) struct NumberedBound<'a> {
+    pub contention: Contention<'a>,
+    pub steps: Steps,
+    pub bound: &'a Bound,
+    pub ghost known: { names_design contention.interlocking.now.design.station
+        contention.interlocking.now.routes bound.now ≡ true },
+}

@@ -1,0 +1,107 @@
+//! What a certificate says of the commands with which a train begins in the first tick.
+
+ghost use Rattle.std.specs.Prelude.{◌≡◌, ◌++◌, OnOk, option_map};
+ghost use Rattle.rail_base.specs.Routes.{IsRoute, route_at};
+ghost use Rattle.rail_base.specs.Stations.{IsTrain, first_visit, train_of};
+ghost use Rattle.rail_bound.specs.Certificates.{visit_from};
+ghost use Rattle.rail_spec.specs.Plans.{has_node, starts_in};
+ghost use Rattle.bound_clause.specs.Said.{said_before, said_of_origin, said_of_start, said_of_starts};
+ghost use Rattle.bound_clause.specs.Spoken.{numbered, pairs_in, routes_in, station_of};
+
+use crate::numbered::NumberedBound;
+use rail_base::list::List;
+use rail_base::plan::Command;
+use rail_base::route::{RouteNo, Start, route_at};
+use rail_base::station::{NodeNo, TrainNo};
+use rail_bound::{Origin, Requirement};
+use sat_clause::Lit;
+use std::alloc::AllocError;
+
+/// Whether a node is one of these.
+fn has_node(nodes: &List<NodeNo>, node: NodeNo) -> bool
+    ensures { result ≡ has_node nodes.now node }
+{
+    nodes.as_slice().iter().any(|other| other.0 == node.0)
+}
+
+impl NumberedBound<'_> {
+    /// Whether the route of a command starts at a boundary of its train's first visit.
+    fn begins(&self, command: Command) -> bool
+        requires train { IsTrain (station_of self.now) command.train }
+        requires route { IsRoute (routes_in self.now) command.route }
+        ensures { result ≡ starts_in (first_visit (train_of (station_of self.now) command.train))
+            (route_at (routes_in self.now) command.route).start }
+    {
+        let interlocking = self.contention.interlocking;
+        let start = route_at(&interlocking.routes, command.route).start;
+        let visits = interlocking.design.train(command.train).visits.as_slice();
+        match (start, visits.first()) {
+            (Start::Boundary(node), Some(nodes)) => has_node(nodes, node),
+            _ => false,
+        }
+    }
+
+    /// Puts that some command that contends with this one is given before it at the end of a clause.
+    fn push_before(&self, clause: &mut Vec<Lit>, command: Command) -> Result<(), AllocError>
+        ensures { OnOk result (clause.new.items ≡ clause.old.items
+            ++ numbered self.now (said_before (pairs_in self.now) command)) }
+    {
+        for pair in self.contention.sorted().pairs_from(command) {
+            clause.push(self.before((pair.1, command), false))?;
+        }
+        Ok(())
+    }
+
+    /// The same, where the command is one with which its train can begin.
+    fn push_start(&self, clause: &mut Vec<Lit>, command: Command) -> Result<(), AllocError>
+        requires train { IsTrain (station_of self.now) command.train }
+        requires route { IsRoute (routes_in self.now) command.route }
+        ensures { OnOk result (clause.new.items ≡ clause.old.items
+            ++ numbered self.now (said_of_start (station_of self.now) (routes_in self.now) command)) }
+    {
+        if self.begins(command) {
+            self.push_before(clause, command)?;
+        }
+        Ok(())
+    }
+
+    /// The same of each command of a train.
+    fn push_starts(&self, clause: &mut Vec<Lit>, train: TrainNo) -> Result<(), AllocError>
+        requires { IsTrain (station_of self.now) train }
+        ensures { OnOk result (clause.new.items ≡ clause.old.items
+            ++ numbered self.now (said_of_starts (station_of self.now) (routes_in self.now) train)) }
+    {
+        for number in 1..self.contention.interlocking.routes.len() as u32 + 1 {
+            let route = RouteNo(number);
+            self.push_start(clause, Command { train, route })?;
+        }
+        Ok(())
+    }
+
+    /// The train of the visit from which ticks are counted.
+    fn train_from(&self) -> Option<TrainNo>
+        ensures { result ≡ option_map (λ v. v.train) (visit_from (station_of self.now) self.now.bound.now.requirement) }
+    {
+        let station = &self.contention.interlocking.design.station;
+        match self.bound.requirement {
+            Requirement::Within { within } => {
+                Some(station.withins.as_slice()[within as usize - 1].from_train)
+            }
+            Requirement::Order { order } => {
+                Some(station.orders.as_slice()[order as usize - 1].then_train)
+            }
+            Requirement::Visit { .. } | Requirement::Grant { .. } => None,
+        }
+    }
+
+    /// Puts what is said of the origin's first tick at the end.
+    pub(crate) fn push_origin(&self, clause: &mut Vec<Lit>) -> Result<(), AllocError>
+        ensures { OnOk result (clause.new.items ≡ clause.old.items
+            ++ numbered self.now (said_of_origin (station_of self.now) (routes_in self.now) self.now.bound.now)) }
+    {
+        match (&self.bound.origin, self.train_from()) {
+            (Origin::FirstTick, Some(train)) => self.push_starts(clause, train),
+            _ => Ok(()),
+        }
+    }
+}

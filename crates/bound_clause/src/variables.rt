@@ -1,0 +1,54 @@
+//! The literals of the base that say that a command is used, or that it is given before another.
+
+ghost use Rattle.std.specs.Prelude.{◌≡◌, ◌≤◌};
+ghost use Rattle.rail_base.specs.Members.{In};
+ghost use Rattle.rail_base.specs.Routes.{IsRoute};
+ghost use Rattle.rail_base.specs.Stations.{IsTrain};
+ghost use Rattle.rail_cone.specs.Clauses.{Before, Used};
+ghost use Rattle.cone_clause.specs.Numbered.{lit_of};
+ghost use Rattle.bound_clause.specs.Spoken.{pairs_in, routes_in, station_of, used_count};
+
+use crate::numbered::NumberedBound;
+use rail_base::plan::Command;
+use sat_clause::Lit;
+
+impl NumberedBound<'_> {
+    /// Whether a command is used: the literal that says so, or that it is not.
+    pub(crate) fn used(&self, command: Command, negated: bool) -> Lit
+        requires train { IsTrain (station_of self.now) command.train }
+        requires route { IsRoute (routes_in self.now) command.route }
+        ensures { result ≡ lit_of (station_of self.now) (routes_in self.now) self.now.steps.count
+            (record { fact = Used command; negated = negated }) }
+    {
+        let routes = self.contention.interlocking.routes.len() as u32;
+        let steps = self.steps.count;
+        let place = (command.train.0 - 1) * routes + (command.route.0 - 1);
+        Lit {
+            var: place * steps + steps,
+            negated,
+        }
+    }
+
+    /// How many variables say that a command is given by a step.
+    fn used_count(&self) -> u32
+        ensures value { result ≡ used_count self.now }
+        ensures bound { result ≤ 4096000 }
+    {
+        let interlocking = self.contention.interlocking;
+        let trains = interlocking.design.station.trains.len() as u32;
+        trains * interlocking.routes.len() as u32 * self.steps.count
+    }
+
+    /// Whether one of two contending commands is given before the other: the literal that says so, or that it is not.
+    pub(crate) fn before(&self, pair: (Command, Command), negated: bool) -> Lit
+        requires { In pair (pairs_in self.now) }
+        ensures { result ≡ lit_of (station_of self.now) (routes_in self.now) self.now.steps.count
+            (record { fact = Before pair.0 pair.1; negated = negated }) }
+    {
+        let place = self.contention.sorted().place_of(pair);
+        Lit {
+            var: self.used_count() + place as u32 + 1,
+            negated,
+        }
+    }
+}

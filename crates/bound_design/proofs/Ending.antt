@@ -1,0 +1,59 @@
+-- The last of places and of legs.
+use Rattle.std.proofs.Common.{◌≡◌, suc, ◌-◌, Bool, true, not, List, [], ◌∷◌, length, get_or, ◌≤◌, Option, Some, None, slice_get, refl, ap, ◌∙◌, arith}
+use Rattle.std.specs.List.{list_all}
+use Rattle.rail_base.proofs.Members.{and_left, and_right}
+use Rattle.rail_bound.specs.declared.Place.{Place}
+use Rattle.rail_bound.specs.declared.Leg.{Leg}
+use Rattle.rail_bound.specs.Certificates.{first_of_places, last_of_places}
+use Rattle.rail_bound.specs.Validity.{is_empty, last_leg}
+
+-- what is there, or else this
+abbrev or_else : {X : Type 0} → X → Option X → X
+or_else x None = x
+or_else x (Some y) = y
+
+-- the value
+the_value : {X : Type 0} (x y : X) → Some x ≡ Some y → x ≡ y
+the_value x y e = ap (or_else x) e
+
+-- the last of two and more is that of those after the first
+behind : {X : Type 0} (x y : X) (xs : List X) → slice_get (x ∷ y ∷ xs) (length (x ∷ y ∷ xs) - 1) ≡ slice_get (y ∷ xs) (length (y ∷ xs) - 1)
+behind x y xs =
+    let e : length (x ∷ y ∷ xs) - 1 ≡ suc (length (y ∷ xs) - 1) = omega arith in
+    ap (slice_get (x ∷ y ∷ xs)) e
+
+pub last_place : (ps : List Place) (p : Place) → Some p ≡ slice_get ps (length ps - 1) → p ≡ last_of_places ps
+last_place [] p e = absurd (cc)
+last_place (q ∷ []) p e = the_value p q e
+last_place (q ∷ r ∷ ps) p e = last_place (r ∷ ps) p (e ∙ behind q r ps)
+
+pub last_of_legs : (ls : List Leg) (l : Leg) → Some l ≡ slice_get ls (length ls - 1) → l ≡ last_leg ls
+last_of_legs [] l e = absurd (cc)
+last_of_legs (m ∷ []) l e = the_value l m e
+last_of_legs (m ∷ n ∷ ls) l e = last_of_legs (n ∷ ls) l (e ∙ behind m n ls)
+
+pub first_passes : (test : Place → Bool) (ps : List Place) → not (is_empty ps) ≡ true → list_all test ps ≡ true → test (first_of_places ps) ≡ true
+first_passes test [] e h = absurd (cc)
+first_passes test (p ∷ ps) e h = and_left (test p) (list_all test ps) h
+
+pub last_passes : (test : Place → Bool) (ps : List Place) → not (is_empty ps) ≡ true → list_all test ps ≡ true → test (last_of_places ps) ≡ true
+last_passes test [] e h = absurd (cc)
+last_passes test (p ∷ []) e h = and_left (test p) true h
+last_passes test (p ∷ q ∷ ps) e h = last_passes test (q ∷ ps) refl (and_right (test p) (list_all test (q ∷ ps)) h)
+
+-- ---- places by their index
+
+pub some_places : (ps : List Place) → not (is_empty ps) ≡ true → 1 ≤ length ps
+some_places [] e = absurd (cc)
+some_places (p ∷ ps) e = omega arith
+
+pub first_at : (ps : List Place) (other : Place) → not (is_empty ps) ≡ true → get_or ps 0 other ≡ first_of_places ps
+first_at [] other e = absurd (cc)
+first_at (p ∷ ps) other e = refl
+
+pub last_at : (ps : List Place) (other : Place) → not (is_empty ps) ≡ true → get_or ps (length ps - 1) other ≡ last_of_places ps
+last_at [] other e = absurd (cc)
+last_at (p ∷ []) other e = refl
+last_at (p ∷ q ∷ ps) other e =
+    let k : length (p ∷ q ∷ ps) - 1 ≡ suc (length (q ∷ ps) - 1) = omega arith in
+    ap (λ n. get_or (p ∷ q ∷ ps) n other) k ∙ last_at (q ∷ ps) other refl

@@ -1,0 +1,45 @@
+//! From where the ticks of a certificate are counted.
+
+ghost use Rattle.std.specs.Prelude.{◌≡◌, true, IfOk, Some};
+ghost use Rattle.bound_design.specs.Named.{origin_fits, visit_said};
+ghost use Rattle.bound_design.specs.Named.{first_visit, requirement_fits};
+
+use crate::legs::first_train;
+use crate::requirement::first_visit;
+use cone_design::{Contention, is_in_design};
+use rail_base::station::TrainNo;
+use rail_bound::{Bound, Origin};
+use std::alloc::{AllocError, Global};
+
+/// Whether the origin goes with a visit of this train and number.
+fn goes_with(
+    alloc: Global,
+    contention: &Contention,
+    bound: &Bound,
+    visit: (TrainNo, u32),
+) -> Result<bool, AllocError>
+    ensures { IfOk result (λ b. b ≡ origin_fits contention.now.interlocking.now bound.now (visit_said (Some visit))) }
+{
+    match &bound.origin {
+        Origin::Visit => Ok(first_train(bound.legs.as_slice()) == visit.0),
+        Origin::FirstTick => Ok(visit.1 == 1),
+        Origin::Cone { cone, .. } => is_in_design(alloc, contention, cone),
+        Origin::Start => Ok(false),
+    }
+}
+
+/// Whether the origin goes with the requirement: two visits have one from which ticks are counted.
+pub(crate) fn origin_in_design(
+    alloc: Global,
+    contention: &Contention,
+    bound: &Bound,
+) -> Result<bool, AllocError>
+    requires { requirement_fits contention.now.interlocking.now bound.now.requirement ≡ true }
+    ensures { IfOk result (λ b. b ≡ origin_fits contention.now.interlocking.now bound.now
+        (first_visit contention.now.interlocking.now bound.now.requirement)) }
+{
+    match first_visit(contention.interlocking, bound.requirement) {
+        Some(visit) => goes_with(alloc, contention, bound, visit),
+        None => Ok(matches!(bound.origin, Origin::Start)),
+    }
+}

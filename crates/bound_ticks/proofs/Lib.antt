@@ -1,0 +1,10 @@
+pub mod Greatest
+pub mod Adding
+pub mod Longer
+pub mod Reaching
+pub mod Parts
+pub mod Least
+pub mod Chained
+pub mod Aheads
+pub mod Requiring
+pub mod Naming

@@ -1,0 +1,13 @@
+use Rattle.std.proofs.Common.{◌≡◌, drop, map}
+use Rattle.rail_course.specs.Tracks.{routes_at}
+use Rattle.rail_bound.specs.Ways.{least_way}
+use Rattle.bound_ticks.specs.Chains.{to_visit}
+use Rattle.bound_ticks.specs.Visits.{origin_of, visit_of}
+use Rattle.bound_ticks.proofs.legs.Ride.leg_to_visit.Given as goal
+
+-- the least so far, and of the ways left
+abbrev pub invariant-loop-way : goal.invariant-loop-way
+invariant-loop-way l =
+    let i = l.self.interlocking.now in
+    let f = to_visit i.design.station i.routes l.self.most (origin_of l.self.from) l.self.leg.now.train (visit_of l.visit) in
+    least_way f l.least (map (routes_at i.routes) (drop l.way-index l.way-items)) ≡ least_way f l.self.most (map (routes_at i.routes) l.way-items)

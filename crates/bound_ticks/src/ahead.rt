@@ -1,0 +1,88 @@
+//! Whether a visit is made before the place to which the first leg leads.
+
+ghost use Rattle.std.specs.Prelude.{◌≡◌, ◌≤◌, All, IfOk, length};
+ghost use Rattle.rail_base.specs.Routes.{IsRoute};
+ghost use Rattle.rail_base.specs.Stations.{IsTrain};
+ghost use Rattle.rail_bound.specs.Validity.{are_ahead};
+ghost use Rattle.bound_ticks.specs.Visits.{visit_of};
+ghost use Rattle.bound_ticks.specs.Ways.{IsLeg};
+
+use crate::targets::{Visit, release_place, target, visit_place};
+use crate::ways::{first_routes, ways_of};
+use interlocking::Interlocking;
+use rail_base::route::RouteNo;
+use rail_base::station::TrainNo;
+use rail_bound::Leg;
+use std::alloc::{AllocError, Global};
+
+/// Two visits, from one of which ticks are counted to the other.
+#[derive(Clone, Copy)]
+pub(crate) struct Between<'a> {
+    pub interlocking: &'a Interlocking,
+    pub from: Visit,
+    pub to: Visit,
+    pub ghost first: { IsTrain interlocking.now.design.station from.train },
+    pub ghost second: { IsTrain interlocking.now.design.station to.train },
+}
+
+impl Between<'_> {
+    ghost use Rattle.bound_ticks.specs.Ahead.{ahead_on, ahead_on_all, all_past};
+
+    /// Whether a place is not past where a way has released what any of these routes waits for.
+    fn all_past(&self, train: TrainNo, way: &[RouteNo], place: u64, next: &[RouteNo]) -> bool
+        requires train { IsTrain self.now.interlocking.now.design.station train }
+        requires way { All (IsRoute self.now.interlocking.now.routes) way.now }
+        requires few { length way.now ≤ 64 }
+        requires next { All (IsRoute self.now.interlocking.now.routes) next.now }
+        ensures { result ≡ all_past self.now.interlocking.now train way.now place next.now }
+    {
+        for route in next {
+            if place > release_place(self.interlocking, train, way, *route) {
+                return false;
+            }
+        }
+        true
+    }
+
+    /// Whether on a way the first visit's place is not past where the way leads.
+    fn ahead_on(&self, leg: &Leg, rest: &[Leg], way: &[RouteNo]) -> bool
+        requires leg { IsLeg self.now.interlocking.now leg.now }
+        requires rest { All (IsLeg self.now.interlocking.now) rest.now }
+        requires way { All (IsRoute self.now.interlocking.now.routes) way.now }
+        requires few { length way.now ≤ 64 }
+        ensures { result ≡ ahead_on self.now leg.now rest.now way.now }
+    {
+        let place = visit_place(self.interlocking, self.from, way);
+        if rest.is_empty() {
+            return place <= target(self.interlocking, self.to, way);
+        }
+        self.all_past(leg.train, way, place, first_routes(rest))
+    }
+
+    /// Whether it is so on all ways of the leg.
+    fn ahead_on_all(&self, alloc: Global, leg: &Leg, rest: &[Leg]) -> Result<bool, AllocError>
+        requires leg { IsLeg self.now.interlocking.now leg.now }
+        requires rest { All (IsLeg self.now.interlocking.now) rest.now }
+        ensures { IfOk result (λ b. b ≡ ahead_on_all self.now leg.now rest.now) }
+    {
+        let ways = ways_of(alloc, &self.interlocking.routes, leg.places.as_slice())?;
+        for way in &ways {
+            if !self.ahead_on(leg, rest, way.as_slice()) {
+                return Ok(false);
+            }
+        }
+        Ok(true)
+    }
+
+    /// Whether it is so on all ways of the first of some legs.
+    pub(crate) fn are_ahead(&self, alloc: Global, legs: &[Leg]) -> Result<bool, AllocError>
+        requires { All (IsLeg self.now.interlocking.now) legs.now }
+        ensures { let i = self.now.interlocking.now in IfOk result (λ b. b
+            ≡ are_ahead i.design.station i.routes (visit_of self.now.from) (visit_of self.now.to) legs.now) }
+    {
+        match legs {
+            [] => Ok(false),
+            [leg, rest @ ..] => self.ahead_on_all(alloc, leg, rest),
+        }
+    }
+}

@@ -1,0 +1,75 @@
+//! The least ticks of legs that wait for each other.
+
+ghost use Rattle.std.specs.Prelude.{◌≡◌, ◌≤◌, ◌+◌, All, IfOk, None, length};
+ghost use Rattle.std.specs.Option.{ForSome};
+ghost use Rattle.rail_base.specs.Stations.{IsTrain};
+ghost use Rattle.bound_ticks.specs.Chains.{chain_of, end_ticks};
+ghost use Rattle.bound_ticks.specs.Visits.{origin_of};
+ghost use Rattle.bound_ticks.specs.Ways.{IsLeg};
+
+use crate::legs::Ride;
+use crate::targets::Visit;
+use crate::ways::first_routes;
+use interlocking::Interlocking;
+use rail_bound::Leg;
+use std::alloc::{AllocError, Global};
+
+/// How many ticks of each leg are counted at the most, and to which visit: none where they end with a grant.
+#[derive(Clone, Copy)]
+pub(crate) struct Chain<'a> {
+    pub interlocking: &'a Interlocking,
+    pub most: u64,
+    pub to: Option<Visit>,
+    pub ghost few: { most ≤ 86400 },
+    pub ghost end: { ForSome to (λ v. IsTrain interlocking.now.design.station v.train) },
+}
+
+impl Chain<'_> {
+    /// The least ticks of the last leg.
+    fn end_ticks(&self, alloc: Global, from: Option<Visit>, leg: &Leg) -> Result<u64, AllocError>
+        requires leg { IsLeg self.now.interlocking.now leg.now }
+        requires from { ForSome from (λ v. IsTrain self.now.interlocking.now.design.station v.train) }
+        ensures { let i = self.now.interlocking.now in IfOk result (λ n. n
+            ≡ end_ticks i.design.station i.routes self.now.most (origin_of from) (origin_of self.now.to) leg.now) }
+    {
+        let Some(visit) = self.to else {
+            return Ok(0);
+        };
+        let ride = Ride {
+            interlocking: self.interlocking,
+            leg,
+            from,
+            most: self.most,
+        };
+        ride.leg_to_visit(alloc, visit)
+    }
+
+    /// The least ticks of all legs.
+    pub(crate) fn ticks(
+        &self,
+        alloc: Global,
+        from: Option<Visit>,
+        legs: &[Leg],
+    ) -> Result<u64, AllocError>
+        requires legs { All (IsLeg self.now.interlocking.now) legs.now }
+        requires many { length legs.now ≤ 64 }
+        requires from { ForSome from (λ v. IsTrain self.now.interlocking.now.design.station v.train) }
+        ensures { let i = self.now.interlocking.now in IfOk result (λ n. n
+            ≡ chain_of i.design.station i.routes self.now.most (origin_of from) (origin_of self.now.to) legs.now) }
+    {
+        match legs {
+            [] => Ok(0),
+            [last] => self.end_ticks(alloc, from, last),
+            [leg, rest @ ..] => {
+                let ride = Ride {
+                    interlocking: self.interlocking,
+                    leg,
+                    from,
+                    most: self.most,
+                };
+                let here = ride.leg_to_release(alloc, first_routes(rest))?;
+                Ok(here + 1 + self.ticks(alloc, None, rest)?)
+            }
+        }
+    }
+}

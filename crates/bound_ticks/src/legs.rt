@@ -1,0 +1,115 @@
+//! The least ticks of a leg.
+
+ghost use Rattle.std.specs.Prelude.{◌≡◌, ◌<◌, ◌≤◌, ◌^◌, All, IfOk, length, map, Option, option_map};
+ghost use Rattle.std.specs.Option.{ForSome};
+ghost use Rattle.rail_base.specs.Routes.{IsRoute};
+ghost use Rattle.rail_base.specs.Stations.{IsTrain};
+ghost use Rattle.rail_course.specs.Tracks.{routes_at};
+ghost use Rattle.rail_bound.specs.Certificates.{VisitOf};
+ghost use Rattle.bound_ticks.specs.Chains.{leg_to_release, leg_to_visit, ticks_on, to_release, to_visit};
+ghost use Rattle.bound_ticks.specs.Visits.{origin_of, visit_of};
+ghost use Rattle.bound_ticks.specs.Ways.{IsLeg};
+
+use crate::targets::{Visit, release_place, target, visit_place};
+use crate::ways::ways_of;
+use free_moves::{on_ticks, run_ticks};
+use interlocking::Interlocking;
+use rail_base::route::RouteNo;
+use rail_bound::Leg;
+use std::alloc::{AllocError, Global};
+
+/// From where the ticks of a leg are counted, and how many of them at the most.
+#[derive(Clone, Copy)]
+pub(crate) struct Ride<'a> {
+    pub interlocking: &'a Interlocking,
+    pub leg: &'a Leg,
+    /// The visit from which they are counted, or none where they are from the grant of the first command.
+    pub from: Option<Visit>,
+    pub most: u64,
+    pub ghost legged: { IsLeg interlocking.now leg.now },
+    pub ghost origin: { ForSome from (λ v. IsTrain interlocking.now.design.station v.train) },
+    pub ghost few: { most ≤ 86400 },
+}
+
+impl Ride<'_> {
+    /// The least ticks to a place of a way.
+    fn ticks_on(&self, alloc: Global, way: &[RouteNo], place: u64) -> Result<u64, AllocError>
+        requires way { All (IsRoute self.now.interlocking.now.routes) way.now }
+        requires few { length way.now ≤ 64 }
+        requires place { place < 2 ^ 47 }
+        ensures { let i = self.now.interlocking.now in let rs = routes_at i.routes way.now in
+            let from = origin_of self.now.from in IfOk result (λ n. n
+            ≡ ticks_on i.design.station i.routes self.now.most from self.now.leg.now.train rs place) }
+    {
+        let train = self.leg.train;
+        match self.from {
+            None => run_ticks(alloc, self.interlocking, train, way, place, self.most),
+            Some(visit) => {
+                let from = visit_place(self.interlocking, visit, way);
+                on_ticks(alloc, self.interlocking, train, way, from, place, self.most)
+            }
+        }
+    }
+
+    /// The least ticks to where a visit can be made on a way.
+    fn to_visit(&self, alloc: Global, way: &[RouteNo], visit: Visit) -> Result<u64, AllocError>
+        requires way { All (IsRoute self.now.interlocking.now.routes) way.now }
+        requires few { length way.now ≤ 64 }
+        requires visit { IsTrain self.now.interlocking.now.design.station visit.train }
+        ensures { let i = self.now.interlocking.now in let rs = routes_at i.routes way.now in
+            let from = origin_of self.now.from in let train = self.now.leg.now.train in IfOk result (λ n. n
+            ≡ to_visit i.design.station i.routes self.now.most from train (visit_of visit) rs) }
+    {
+        self.ticks_on(alloc, way, target(self.interlocking, visit, way))
+    }
+
+    /// The least ticks to where a way has released what one of these routes waits for.
+    fn to_release(
+        &self,
+        alloc: Global,
+        way: &[RouteNo],
+        next: &[RouteNo],
+    ) -> Result<u64, AllocError>
+        requires way { All (IsRoute self.now.interlocking.now.routes) way.now }
+        requires few { length way.now ≤ 64 }
+        requires next { All (IsRoute self.now.interlocking.now.routes) next.now }
+        ensures { let i = self.now.interlocking.now in let rs = routes_at i.routes way.now in
+            let from = origin_of self.now.from in let train = self.now.leg.now.train in IfOk result (λ n. n
+            ≡ to_release i.design.station i.routes self.now.most from train next.now rs) }
+    {
+        let mut least = self.most;
+        for route in next {
+            let place = release_place(self.interlocking, self.leg.train, way, *route);
+            least = least.min(self.ticks_on(alloc, way, place)?);
+        }
+        Ok(least)
+    }
+
+    /// The least ticks to a visit over all ways of the leg.
+    pub(crate) fn leg_to_visit(&self, alloc: Global, visit: Visit) -> Result<u64, AllocError>
+        requires { IsTrain self.now.interlocking.now.design.station visit.train }
+        ensures { let i = self.now.interlocking.now in let from = origin_of self.now.from in IfOk result (λ n. n
+            ≡ leg_to_visit i.design.station i.routes self.now.most from self.now.leg.now (visit_of visit)) }
+    {
+        let ways = ways_of(alloc, &self.interlocking.routes, self.leg.places.as_slice())?;
+        let mut least = self.most;
+        for way in &ways {
+            least = least.min(self.to_visit(alloc, way.as_slice(), visit)?);
+        }
+        Ok(least)
+    }
+
+    /// The least ticks to a release over all ways of the leg.
+    pub(crate) fn leg_to_release(&self, alloc: Global, next: &[RouteNo]) -> Result<u64, AllocError>
+        requires { All (IsRoute self.now.interlocking.now.routes) next.now }
+        ensures { let i = self.now.interlocking.now in let from = origin_of self.now.from in IfOk result (λ n. n
+            ≡ leg_to_release i.design.station i.routes self.now.most from self.now.leg.now next.now) }
+    {
+        let ways = ways_of(alloc, &self.interlocking.routes, self.leg.places.as_slice())?;
+        let mut least = self.most;
+        for way in &ways {
+            least = least.min(self.to_release(alloc, way.as_slice(), next)?);
+        }
+        Ok(least)
+    }
+}

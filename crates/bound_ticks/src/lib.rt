@@ -1,0 +1,16 @@
+//! Whether certificates of lower bounds show what they say: the ticks that chains of trains take at the least.
+//!
+//! Places and lengths are in mm from the start of a way.
+#![tactic(auto)]
+
+mod ahead;
+mod chain;
+mod claim;
+mod legs;
+mod requirement;
+mod shown;
+mod stretches;
+mod targets;
+mod ways;
+
+pub use shown::is_shown;

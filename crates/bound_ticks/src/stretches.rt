@@ -1,0 +1,103 @@
+//! How many stretches the tracks of legs have, counted no further than one past the most that are looked at.
+
+ghost use Rattle.std.specs.Prelude.{◌≡◌, ◌≤◌, ◌/◌, All, IfOk, min};
+ghost use Rattle.rail_base.specs.Routes.{IsRoute};
+ghost use Rattle.rail_base.specs.Stations.{horizon};
+ghost use Rattle.rail_course.specs.Tracks.{routes_at};
+ghost use Rattle.rail_bound.specs.Validity.{most_looks, stretches_in, stretches_of, stretches_of_leg, stretches_of_way};
+ghost use Rattle.bound_ticks.specs.Looks.{capped};
+ghost use Rattle.bound_ticks.specs.Ways.{IsLeg};
+
+use crate::ways::{first_routes, ways_of};
+use free_moves::goes_further;
+use interlocking::Interlocking;
+use rail_base::route::{RouteNo, RouteTable, route_at};
+use rail_bound::Leg;
+use std::alloc::{AllocError, Global};
+
+/// No more stretches are looked at.
+pub(crate) const MOST_LOOKS: u64 = 33_554_432;
+
+/// A count, or one more than the most.
+fn capped(count: u64) -> u64
+    ensures { result ≡ capped count }
+{
+    count.min(MOST_LOOKS + 1)
+}
+
+/// The stretches of a way.
+fn stretches_in(routes: &RouteTable, way: &[RouteNo]) -> u64
+    requires { All (IsRoute routes.now) way.now }
+    ensures { result ≡ capped (stretches_in (routes_at routes.now way.now)) }
+{
+    let mut count = 0;
+    for number in way {
+        count = capped(count + capped(route_at(routes, *number).edges.len() as u64));
+    }
+    count
+}
+
+/// The stretches of a way, by itself and with each route that goes on where it ends.
+fn stretches_of_way(interlocking: &Interlocking, way: &[RouteNo]) -> u64
+    requires { All (IsRoute interlocking.now.routes) way.now }
+    ensures { let routes = interlocking.now.routes in result
+        ≡ capped (stretches_of_way interlocking.now.design.station routes (routes_at routes way.now)) }
+{
+    let routes = &interlocking.routes;
+    let own = stretches_in(routes, way);
+    let mut count = own;
+    for next in routes.as_slice() {
+        if goes_further(routes, way, next) {
+            count = capped(count + own + capped(next.edges.len() as u64));
+        }
+    }
+    count
+}
+
+/// The stretches of all ways of a leg, for each of the places to which they lead.
+fn stretches_of_leg(
+    alloc: Global,
+    interlocking: &Interlocking,
+    leg: &Leg,
+    places: usize,
+) -> Result<u64, AllocError>
+    requires { IsLeg interlocking.now leg.now }
+    ensures { let d = interlocking.now.design.station in
+        IfOk result (λ n. n ≡ capped (stretches_of_leg d interlocking.now.routes leg.now places)) }
+{
+    let ways = ways_of(alloc, &interlocking.routes, leg.places.as_slice())?;
+    let mut count = 0;
+    for way in &ways {
+        count = capped(count + stretches_of_way(interlocking, way.as_slice()));
+    }
+    Ok(capped(count * capped(places as u64)))
+}
+
+/// The stretches of all legs, each of which leads to what the next waits for.
+pub(crate) fn stretches_of(
+    alloc: Global,
+    interlocking: &Interlocking,
+    legs: &[Leg],
+) -> Result<u64, AllocError>
+    requires { All (IsLeg interlocking.now) legs.now }
+    ensures { let d = interlocking.now.design.station in
+        IfOk result (λ n. n ≡ capped (stretches_of d interlocking.now.routes legs.now)) }
+{
+    match legs {
+        [] => Ok(0),
+        [last] => stretches_of_leg(alloc, interlocking, last, 1),
+        [leg, rest @ ..] => {
+            let own = stretches_of_leg(alloc, interlocking, leg, first_routes(rest).len())?;
+            Ok(capped(own + stretches_of(alloc, interlocking, rest)?))
+        }
+    }
+}
+
+/// The ticks in which so many stretches may be looked at.
+pub(crate) fn followed(interlocking: &Interlocking, stretches: u64) -> u64
+    ensures ticks { result ≡ min (horizon interlocking.now.design.station) (most_looks / stretches) }
+    ensures few { result ≤ 86400 }
+{
+    let most = MOST_LOOKS.checked_div(stretches).unwrap_or(0);
+    interlocking.design.horizon().min(most)
+}
