@@ -2,8 +2,9 @@
 use Rattle.std.proofs.Common.{◌≡◌, ℕ, ◌+◌, Bool, true, false, List, [], ◌∷◌, if◌then◌else◌, is_some, Option, Some, None, Result, Ok, Err, refl, subst}
 use Rattle.rail_text.specs.Pieces.{pieces}
 use Rattle.rail_text.specs.Pieces.{Line as Piece}
-use Rattle.rail_cone.specs.declared.Cone.{Cone}
-use Rattle.rail_cone.specs.declared.ConeFault.{ConeFault}
+use Rattle.rail_bound.specs.declared.Evidence.{Evidence}
+use Rattle.rail_bound.specs.declared.EvidenceFault.{EvidenceFault}
+use Rattle.proof_log.specs.declared.head.Head.{Head}
 use Rattle.sat_clause.specs.declared.lit.Lit.{Lit}
 use Rattle.sat_clause.specs.declared.follow.Follow.{Follow}
 use Rattle.sat_clause.specs.declared.follow.Follow.TheVariants as follow
@@ -15,7 +16,7 @@ use Rattle.log_checker.specs.declared.shown.Shown.TheVariants.{Yes, No}
 use Rattle.log_checker.specs.declared.shown.Reason.{Reason}
 use Rattle.log_checker.specs.declared.shown.Reason.TheVariants as reason
 use Rattle.log_checker.specs.Truth.{clauses_hold}
-use Rattle.log_checker.specs.Verdict.{SoFar, at_first, with_clause, is_derived, forgotten, spelled, by_follow, by_cone, by_forget, taken, steps_denied, at_end, after_line, shown_from, is_headed, shown_by}
+use Rattle.log_checker.specs.Verdict.{SoFar, at_first, with_clause, is_derived, forgotten, spelled, by_follow, by_evidence, by_forget, taken, steps_denied, at_end, after_line, shown_from, is_headed, shown_by}
 use Rattle.log_checker.specs.Laws.{AllHold, Denies, ShownIsSo}
 use Rattle.log_checker.proofs.Kept.{follows-true, push-holds, without-holds}
 use Rattle.log_checker.proofs.Denied.{clause-denies}
@@ -32,7 +33,7 @@ forgets values derived store left (id ∷ ids) e h =
     forget-step values left (forgotten derived (without store id) ids) (is_some (live_clause store id)) (is_derived derived id) e
     (λ f. forgets values derived (without store id) left ids f (without-holds values store id h))
 
-module _ (refute : Cone → Result (List Lit) ConeFault) (vars steps : ℕ) (base : Store) where
+module _ (head : Head) (refute : Evidence → Result (List Lit) EvidenceFault) (vars steps : ℕ) (base : Store) where
   -- all clauses are true wherever those of the base and of the cones are, and what is shown is denied
   record IsSo (s : SoFar) : Type 0 where
     holds : (values : ℕ → Bool) → AllHold refute values base → clauses_hold values s.store ≡ true
@@ -60,11 +61,11 @@ module _ (refute : Cone → Result (List Lit) ConeFault) (vars steps : ℕ) (bas
   followed s t clause hints follow.NotUnit so y e = absurd (cc)
   followed s t clause hints follow.NoConflict so y e = absurd (cc)
 
-  refuted : (s t : SoFar) (cone : Cone) (r : Result (List Lit) ConeFault) → IsSo s → refute cone ≡ r → by_cone s r ≡ Ok t → IsSo t
-  refuted s t cone (Ok clause) so r e =
+  refuted : (s t : SoFar) (e : Evidence) (r : Result (List Lit) EvidenceFault) → IsSo s → refute e ≡ r → by_evidence s r ≡ Ok t → IsSo t
+  refuted s t shown (Ok clause) so r e =
       let same : with_clause s clause false None ≡ t = cc in
-      subst IsSo same (goes-on s clause false None so (λ values h. h.cones cone clause r) (λ k n. absurd (cc)))
-  refuted s t cone (Err fault) so r e = absurd (cc)
+      subst IsSo same (goes-on s clause false None so (λ values h. h.shown shown clause r) (λ k n. absurd (cc)))
+  refuted s t shown (Err fault) so r e = absurd (cc)
 
   forgot : (s t : SoFar) (ids : List ℕ) (r : Result Store Reason) → IsSo s → forgotten s.derived s.store ids ≡ r → by_forget s r ≡ Ok t → IsSo t
   forgot s t ids (Ok left) so r e =
@@ -73,10 +74,10 @@ module _ (refute : Cone → Result (List Lit) ConeFault) (vars steps : ℕ) (bas
       subst IsSo same (record { holds = λ values h. forgets values s.derived s.store left ids r (so.holds values h); denied = λ k n. absurd (cc) })
   forgot s t ids (Err fault) so r e = absurd (cc)
 
-  takes : (s t : SoFar) (line : Option Line) → IsSo s → taken refute vars steps s line ≡ Ok t → IsSo t
+  takes : (s t : SoFar) (line : Option Line) → IsSo s → taken head refute vars steps s line ≡ Ok t → IsSo t
   takes s t None so e = absurd (cc)
   takes s t (Some (Derive clause hints)) so e = followed s t clause hints (follow_of s.store clause hints) so refl e
-  takes s t (Some (Refute cone)) so e = refuted s t cone (refute cone) so refl e
+  takes s t (Some (Refute shown)) so e = refuted s t shown (refute shown) so refl e
   takes s t (Some (Forget ids)) so e = forgot s t ids (forgotten s.derived s.store ids) so refl e
 
   module _ (k : ℕ) where
@@ -88,19 +89,19 @@ module _ (refute : Cone → Result (List Lit) ConeFault) (vars steps : ℕ) (bas
     further here (Err reason) next e go = absurd (cc)
     further here (Ok t) next e go = go t refl e
 
-    shown_from-so : (here : ℕ) (s : SoFar) (lines : List Piece) → IsSo s → shown_from refute vars steps here s lines ≡ Yes k → Denies refute vars steps base k
+    shown_from-so : (here : ℕ) (s : SoFar) (lines : List Piece) → IsSo s → shown_from head refute vars steps here s lines ≡ Yes k → Denies refute vars steps base k
     shown_from-so here s [] so e = ended here s.shown so.denied e
     shown_from-so here s (piece ∷ more) so e =
-        further here (taken refute vars steps s (spelled vars piece)) (λ t. shown_from refute vars steps (here + 1) t more) e
-        (λ t r f. shown_from-so (here + 1) t more (takes s t (spelled vars piece) so r) f)
+        further here (taken head refute vars steps s (spelled head vars piece)) (λ t. shown_from head refute vars steps (here + 1) t more) e
+        (λ t r f. shown_from-so (here + 1) t more (takes s t (spelled head vars piece) so r) f)
 
-    headed : (b : Bool) (more : List Piece) → (if b then shown_from refute vars steps 2 (at_first base) more else No 1 reason.Text) ≡ Yes k → Denies refute vars steps base k
+    headed : (b : Bool) (more : List Piece) → (if b then shown_from head refute vars steps 2 (at_first base) more else No 1 reason.Text) ≡ Yes k → Denies refute vars steps base k
     headed true more e = shown_from-so 2 (at_first base) more begins e
     headed false more e = absurd (cc)
 
-    lines-so : (lines : List Piece) → shown_by refute vars steps base lines ≡ Yes k → Denies refute vars steps base k
+    lines-so : (lines : List Piece) → shown_by head refute vars steps base lines ≡ Yes k → Denies refute vars steps base k
     lines-so [] e = absurd (cc)
-    lines-so (first ∷ more) e = headed (is_headed first) more e
+    lines-so (first ∷ more) e = headed (is_headed head first) more e
 
 pub shown-so : ShownIsSo
-shown-so refute vars steps base k bytes e = lines-so refute vars steps base k (pieces bytes) e
+shown-so head refute vars steps base k bytes e = lines-so head refute vars steps base k (pieces bytes) e

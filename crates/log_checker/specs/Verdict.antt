@@ -5,8 +5,9 @@ use Rattle.std.specs.List.{list_all}
 use Rattle.std.specs.Str.{bytes_eq}
 use Rattle.rail_text.specs.Pieces.{pieces}
 use Rattle.rail_text.specs.Pieces.{Line as Piece}
-use Rattle.rail_cone.specs.declared.Cone.{Cone}
-use Rattle.rail_cone.specs.declared.ConeFault.{ConeFault}
+use Rattle.rail_bound.specs.declared.Evidence.{Evidence}
+use Rattle.rail_bound.specs.declared.Evidence.TheVariants as evidence
+use Rattle.rail_bound.specs.declared.EvidenceFault.{EvidenceFault}
 use Rattle.sat_clause.specs.declared.lit.Lit.{Lit}
 use Rattle.sat_clause.specs.declared.follow.Follow.{Follow}
 use Rattle.sat_clause.specs.declared.follow.Follow.TheVariants as follow
@@ -14,7 +15,10 @@ use Rattle.sat_clause.specs.Clauses.{Store, live_clause, without}
 use Rattle.sat_clause.specs.Hints.{follow_of}
 use Rattle.proof_log.specs.declared.line.Line.{Line}
 use Rattle.proof_log.specs.declared.line.Line.TheVariants.{Derive, Refute, Forget}
-use Rattle.proof_log.specs.Lines.{head, line_of}
+use Rattle.proof_log.specs.declared.head.Head.{Head}
+use Rattle.proof_log.specs.declared.head.Head.TheVariants.{Plain, Sorted}
+use Rattle.proof_log.specs.Heads.{head_of, head_text}
+use Rattle.proof_log.specs.Lines.{line_of}
 use Rattle.log_checker.specs.declared.shown.Shown.{Shown}
 use Rattle.log_checker.specs.declared.shown.Shown.TheVariants.{Yes, No}
 use Rattle.log_checker.specs.declared.shown.Reason.{Reason}
@@ -23,17 +27,23 @@ use Rattle.log_checker.specs.declared.shown.Reason.TheVariants.{DropRefused, Not
 
 -- ---- lines
 
--- the line, where no variable of a clause that it derives is past the last one
-abbrev pub if_within : ℕ → Option Line → Option Line
-if_within vars None = None
-if_within vars (Some (Derive clause hints)) =
-    if list_all (λ l. nat_le l.var vars) clause then Some (Derive clause hints) else None
-if_within vars (Some (Refute cone)) = Some (Refute cone)
-if_within vars (Some (Forget ids)) = Some (Forget ids)
+-- bounds stand where trains are sorted alone
+abbrev pub may_stand : Head → Evidence → Bool
+may_stand head (evidence.Cone cone) = true
+may_stand Plain (evidence.Bound bound) = false
+may_stand (Sorted version steps) (evidence.Bound bound) = true
 
--- the line that a piece of a file spells: an LF ends it, and no variable is past the last one
-abbrev pub spelled : ℕ → Piece → Option Line
-spelled vars piece = if piece.ended then if_within vars (line_of piece.bytes) else None
+-- the line, where no variable of a clause that it derives is past the last one, and it may stand in a file with this head
+abbrev pub if_within : Head → ℕ → Option Line → Option Line
+if_within head vars None = None
+if_within head vars (Some (Derive clause hints)) =
+    if list_all (λ l. nat_le l.var vars) clause then Some (Derive clause hints) else None
+if_within head vars (Some (Refute e)) = if may_stand head e then Some (Refute e) else None
+if_within head vars (Some (Forget ids)) = Some (Forget ids)
+
+-- the line that a piece of a file spells: an LF ends it, no variable is past the last one, and it may stand there
+abbrev pub spelled : Head → ℕ → Piece → Option Line
+spelled head vars piece = if piece.ended then if_within head vars (line_of piece.bytes) else None
 
 -- ---- what the last line shows
 
@@ -93,10 +103,10 @@ by_follow s clause shown follow.NoConflict = Err NoConflict
 abbrev pub derived_by : SoFar → List Lit → List ℕ → Option ℕ → Result SoFar Reason
 derived_by s clause hints shown = by_follow s clause shown (follow_of s.store clause hints)
 
--- with the clause of a cone, or why it shows nothing
-abbrev pub by_cone : SoFar → Result (List Lit) ConeFault → Result SoFar Reason
-by_cone s (Ok clause) = Ok (with_clause s clause false None)
-by_cone s (Err fault) = Err (NotRefuted fault)
+-- with the clause of a cone or a bound, or why it shows nothing
+abbrev pub by_evidence : SoFar → Result (List Lit) EvidenceFault → Result SoFar Reason
+by_evidence s (Ok clause) = Ok (with_clause s clause false None)
+by_evidence s (Err fault) = Err (NotRefuted fault)
 
 -- with these clauses left
 abbrev pub by_forget : SoFar → Result Store Reason → Result SoFar Reason
@@ -117,29 +127,35 @@ abbrev pub at_end : ℕ → Option ℕ → Shown
 at_end here None = No here NoFinalLine
 at_end here (Some k) = Yes k
 
--- an LF ends the first line, and it is the head
-abbrev pub is_headed : Piece → Bool
-is_headed first = first.ended && bytes_eq first.bytes head
+-- the head of a file: what its first line spells, where an LF ends it
+abbrev pub head_in : List Piece → Option Head
+head_in [] = None
+head_in (first ∷ more) = if first.ended then head_of first.bytes else None
 
--- ---- all lines, where these cones are refuted, over so many variables and for plans of so many steps
+-- an LF ends the first line, and it is this head
+abbrev pub is_headed : Head → Piece → Bool
+is_headed head first = first.ended && bytes_eq first.bytes (head_text head)
 
-module _ (refute : Cone → Result (List Lit) ConeFault) (vars steps : ℕ) where
+-- ---- all lines after this head, where cones and bounds show such clauses, over so many variables and for plans of so many steps
+
+module _ (head : Head) (refute : Evidence → Result (List Lit) EvidenceFault) (vars steps : ℕ) where
   -- with a line taken, or why it is bad
   abbrev pub taken : SoFar → Option Line → Result SoFar Reason
   taken s None = Err Text
   taken s (Some (Derive clause hints)) = derived_by s clause hints (steps_denied vars steps clause)
-  taken s (Some (Refute cone)) = by_cone s (refute cone)
+  taken s (Some (Refute e)) = by_evidence s (refute e)
   taken s (Some (Forget ids)) = forgotten_by s ids
 
   -- what the lines from this place on show
   abbrev pub shown_from : ℕ → SoFar → List Piece → Shown
   shown_from here s [] = at_end here s.shown
-  shown_from here s (piece ∷ more) = after_line here (taken s (spelled vars piece)) (λ t. shown_from (here + 1) t more)
+  shown_from here s (piece ∷ more) =
+      after_line here (taken s (spelled head vars piece)) (λ t. shown_from (here + 1) t more)
 
   -- what the lines of a file show, the head being the first of them
   abbrev pub shown_by : Store → List Piece → Shown
   shown_by base [] = No 1 NoFinalLine
-  shown_by base (first ∷ more) = if is_headed first then shown_from 2 (at_first base) more else No 1 Text
+  shown_by base (first ∷ more) = if is_headed head first then shown_from 2 (at_first base) more else No 1 Text
 
   -- what a file shows over the clauses of a base
   abbrev pub log_verdict : Store → List ℕ → Shown

@@ -3,14 +3,14 @@
 ghost use Rattle.std.specs.Prelude.{◌≡◌, ◌∷◌, ◌++◌, IfOk, OnOk, Ok, Err, Some, None, is_some, true, List, ℕ};
 ghost use Rattle.sat_clause.specs.Clauses.{live_clause, without};
 ghost use Rattle.sat_clause.specs.Hints.{follow_of};
-ghost use Rattle.log_checker.specs.Verdict.{at_first, with_clause, is_derived, forgotten, by_follow, by_cone};
+ghost use Rattle.log_checker.specs.Verdict.{at_first, with_clause, is_derived, forgotten, by_follow, by_evidence};
 ghost use Rattle.log_checker.specs.Verdict.{by_forget, derived_by, forgotten_by};
 ghost use Rattle.log_checker.specs.declared.shown.Reason.{Reason};
 ghost use Rattle.log_checker.specs.declared.held.Fault.TheVariants.{Bad};
 
 use crate::refuter::{RefuteFault, Refuter};
 use crate::shown::Reason;
-use rail_cone::Cone;
+use rail_bound::Evidence;
 use rup_check::{Follow, Marks, follows};
 use sat_clause::{Arena, Lit};
 use std::alloc::{AllocError, Global};
@@ -97,18 +97,18 @@ impl Held {
         }
     }
 
-    /// Puts the clause of a cone at the end.
+    /// Puts the clause that a cone or a bound shows at the end.
     pub fn refute<R: Refuter>(
         &mut self,
         alloc: Global,
         refuter: &R,
-        cone: &Cone,
+        evidence: &Evidence,
     ) -> Result<(), Fault>
-        ensures ok { OnOk result (by_cone self.old (R.refute refuter.now cone.now) ≡ Ok self.new) }
+        ensures ok { OnOk result (by_evidence self.old (R.refute refuter.now evidence.now) ≡ Ok self.new) }
         ensures bad { (reason : Reason) → result ≡ Err (Bad reason)
-            → by_cone self.old (R.refute refuter.now cone.now) ≡ Err reason }
+            → by_evidence self.old (R.refute refuter.now evidence.now) ≡ Err reason }
     {
-        match refuter.clause_of(alloc, cone) {
+        match refuter.clause_of(alloc, evidence) {
             Ok(clause) => self.push(&clause, false, None),
             Err(RefuteFault::NotRefuted(fault)) => Err(Fault::Bad(Reason::NotRefuted(fault))),
             Err(RefuteFault::Memory) => Err(Fault::Memory),

@@ -2,7 +2,8 @@
 
 ghost use Rattle.std.specs.Prelude.{◌≡◌, ◌+◌, ◌<◌, ◌^◌, ℕ, IfOk, Ok, length};
 ghost use Rattle.rail_text.specs.Cursors.{lines_left};
-ghost use Rattle.log_checker.specs.Verdict.{at_first, shown_from, log_verdict};
+ghost use Rattle.rail_text.specs.Pieces.{pieces};
+ghost use Rattle.log_checker.specs.Verdict.{at_first, head_in, shown_from, log_verdict};
 ghost use Rattle.log_checker.specs.Laws.{Denies};
 ghost use Rattle.log_checker.specs.declared.shown.Shown.TheVariants.{Yes};
 
@@ -10,7 +11,7 @@ use crate::held::{Fault, Held};
 use crate::line::Judge;
 use crate::refuter::Refuter;
 use crate::shown::{Reason, Shown};
-use proof_log::is_head;
+use proof_log::{Head, read_head, write_head};
 use rail_text::Cursor;
 use rup_check::Marks;
 use sat_clause::Arena;
@@ -21,7 +22,7 @@ impl<R: Refuter> Judge<'_, R> {
     fn judge_lines(&self, base: Arena, lines: Cursor<'_>) -> Result<Shown, AllocError>
         requires few { length (lines_left lines) + 2 < 2 ^ 64 }
         ensures { IfOk result (λ shown. shown
-            ≡ shown_from (R.refute self.now.refuter.now) self.now.vars self.now.steps 2 (at_first base)
+            ≡ shown_from self.now.head (R.refute self.now.refuter.now) self.now.vars self.now.steps 2 (at_first base)
             (lines_left lines.entry)) }
     {
         let mut marks = Marks::new(self.alloc);
@@ -45,15 +46,16 @@ impl<R: Refuter> Judge<'_, R> {
     }
 }
 
-/// What a proof file shows.
+/// What a proof file with the judge's head shows.
 fn shown_by<R: Refuter>(
     judge: &Judge<'_, R>,
     base: Arena,
     bytes: &[u8],
 ) -> Result<Shown, AllocError>
     ensures { IfOk result (λ shown. shown
-        ≡ log_verdict (R.refute judge.now.refuter.now) judge.now.vars judge.now.steps base bytes.now) }
+        ≡ log_verdict judge.now.head (R.refute judge.now.refuter.now) judge.now.vars judge.now.steps base bytes.now) }
 {
+    let head = write_head(judge.alloc, judge.head)?;
     let mut lines = Cursor::new(bytes);
     let Some(first) = lines.next() else {
         return Ok(Shown::No {
@@ -61,7 +63,7 @@ fn shown_by<R: Refuter>(
             reason: Reason::NoFinalLine,
         });
     };
-    if !first.ended || !is_head(first.bytes) {
+    if !first.ended || first.bytes != head.as_slice() {
         return Ok(Shown::No {
             line: 1,
             reason: Reason::Text,
@@ -70,27 +72,41 @@ fn shown_by<R: Refuter>(
     judge.judge_lines(base, lines)
 }
 
-/// Judges a proof file over the clauses of a base, and those of the cones that are refuted.
+/// The head of a proof file, where its first line is one and an LF ends it.
+pub fn head_in(bytes: &[u8]) -> Option<Head>
+    ensures { result ≡ head_in (pieces bytes.now) }
+{
+    let mut lines = Cursor::new(bytes);
+    let first = lines.next()?;
+    if !first.ended {
+        return None;
+    }
+    read_head(first.bytes)
+}
+
+/// Judges a proof file that is to have this head, over the clauses of a base, and those that its cones and bounds show.
 ///
 /// The base has the variables 1 to `vars`; the last `steps` of them say that all is given by step 1, 2, and
 /// so on. The answer is the number of steps for which the file shows that there is no plan, or the first
 /// bad line. The time is linear in the file, in the literals of the clauses that its hints name, and in what
-/// its cones take.
+/// its cones and bounds take.
 pub fn judge_log<R: Refuter>(
     alloc: Global,
     refuter: &R,
+    head: Head,
     base: Arena,
     vars: u32,
     steps: u32,
     bytes: &[u8],
 ) -> Result<Shown, AllocError>
     ensures value { IfOk result (λ shown. shown
-        ≡ log_verdict (R.refute refuter.now) vars steps base bytes.now) }
+        ≡ log_verdict head (R.refute refuter.now) vars steps base bytes.now) }
     ensures sound { (k : ℕ) → result ≡ Ok (Yes k) → Denies (R.refute refuter.now) vars steps base k }
 {
     let judge = Judge {
         alloc,
         refuter,
+        head,
         vars,
         steps,
     };

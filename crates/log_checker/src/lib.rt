@@ -1,4 +1,4 @@
-//! Whether a proof file shows that there is no plan, from the clauses of a base and of cones alone.
+//! Whether a proof file shows that there is no plan, from the clauses of a base, of cones and of bounds alone.
 #![tactic(auto)]
 
 mod held;
@@ -8,7 +8,7 @@ mod line;
 mod refuter;
 mod shown;
 
-pub use judge::judge_log;
+pub use judge::{head_in, judge_log};
 pub use laws::shown_is_so;
 pub use refuter::{RefuteFault, Refuter};
 pub use shown::{Reason, Shown};

@@ -3,7 +3,7 @@
 ghost use Rattle.std.specs.Prelude.{◌≡◌, nat_le, IfOk, OnOk, Ok, Err, Some, None, if◌then◌else◌};
 ghost use Rattle.std.specs.List.{list_all};
 ghost use Rattle.rail_text.specs.Lines.{line_of};
-ghost use Rattle.log_checker.specs.Verdict.{if_within, spelled, steps_denied, taken};
+ghost use Rattle.log_checker.specs.Verdict.{if_within, may_stand, spelled, steps_denied, taken};
 ghost use Rattle.log_checker.specs.declared.shown.Reason.{Reason};
 ghost use Rattle.log_checker.specs.declared.shown.Reason.TheVariants.{Text};
 ghost use Rattle.log_checker.specs.declared.held.Fault.TheVariants.{Bad};
@@ -11,7 +11,8 @@ ghost use Rattle.log_checker.specs.declared.held.Fault.TheVariants.{Bad};
 use crate::held::{Fault, Held};
 use crate::refuter::Refuter;
 use crate::shown::Reason;
-use proof_log::{Line, LineFault, read_line};
+use proof_log::{Head, Line, LineFault, read_line};
+use rail_bound::Evidence;
 use rail_text::Piece;
 use rup_check::Marks;
 use sat_clause::Lit;
@@ -24,22 +25,33 @@ fn are_within(clause: &[Lit], vars: u32) -> bool
     clause.iter().all(|lit| lit.var <= vars)
 }
 
-/// Whether no variable of a clause that the line derives is past the last one.
-fn is_within(line: &Line, vars: u32) -> bool
-    ensures { (if result then Some line.now else None) ≡ if_within vars (Some line.now) }
+/// Whether a cone or a bound may stand in a file with this head.
+fn may_stand(head: Head, evidence: &Evidence) -> bool
+    ensures { result ≡ may_stand head evidence.now }
+{
+    match (head, evidence) {
+        (_, Evidence::Cone(_)) => true,
+        (Head::Plain, Evidence::Bound(_)) => false,
+        (Head::Sorted { .. }, Evidence::Bound(_)) => true,
+    }
+}
+
+/// Whether no variable of a clause that the line derives is past the last one, and it may stand in a file with this head.
+fn is_within(head: Head, line: &Line, vars: u32) -> bool
+    ensures { (if result then Some line.now else None) ≡ if_within head vars (Some line.now) }
 {
     match line {
         Line::Derive { clause, .. } => are_within(clause.as_slice(), vars),
-        Line::Refute { .. } => true,
+        Line::Refute { evidence } => may_stand(head, evidence),
         Line::Forget { .. } => true,
     }
 }
 
 /// The line that a piece of a file spells.
-fn spell(alloc: Global, vars: u32, piece: &Piece<'_>) -> Result<Line, Fault>
-    ensures ok { IfOk result (λ line. spelled vars (line_of piece.now) ≡ Some line) }
+fn spell(alloc: Global, head: Head, vars: u32, piece: &Piece<'_>) -> Result<Line, Fault>
+    ensures ok { IfOk result (λ line. spelled head vars (line_of piece.now) ≡ Some line) }
     ensures bad { (reason : Reason) → result ≡ Err (Bad reason)
-        → (reason ≡ Text) × (spelled vars (line_of piece.now) ≡ None) }
+        → (reason ≡ Text) × (spelled head vars (line_of piece.now) ≡ None) }
 {
     if !piece.ended {
         return Err(Fault::Bad(Reason::Text));
@@ -49,7 +61,7 @@ fn spell(alloc: Global, vars: u32, piece: &Piece<'_>) -> Result<Line, Fault>
         Err(LineFault::Text) => return Err(Fault::Bad(Reason::Text)),
         Err(LineFault::Memory) => return Err(Fault::Memory),
     };
-    if !is_within(&line, vars) {
+    if !is_within(head, &line, vars) {
         return Err(Fault::Bad(Reason::Text));
     }
     Ok(line)
@@ -73,11 +85,12 @@ fn deny_steps(vars: u32, steps: u32, clause: &[Lit]) -> Option<u32>
     }
 }
 
-/// Lines judged over a base of so many variables, for plans of so many steps.
+/// Lines after a head, judged over a base of so many variables, for plans of so many steps.
 #[derive(Drop)]
 pub struct Judge<'a, R: Refuter> {
     pub alloc: Global,
     pub refuter: &'a R,
+    pub head: Head,
     pub vars: u32,
     pub steps: u32,
 }
@@ -86,17 +99,18 @@ impl<R: Refuter> Judge<'_, R> {
     /// Takes a line.
     pub fn take(&self, marks: &mut Marks, held: &mut Held, line: &Line) -> Result<(), Fault>
         ensures ok { OnOk result
-            (taken (R.refute self.now.refuter.now) self.now.vars self.now.steps held.old (Some line.now)
+            (taken self.now.head (R.refute self.now.refuter.now) self.now.vars self.now.steps held.old (Some line.now)
             ≡ Ok held.new) }
         ensures bad { (reason : Reason) → result ≡ Err (Bad reason)
-            → taken (R.refute self.now.refuter.now) self.now.vars self.now.steps held.old (Some line.now) ≡ Err reason }
+            → taken self.now.head (R.refute self.now.refuter.now) self.now.vars self.now.steps held.old (Some line.now)
+            ≡ Err reason }
     {
         match line {
             Line::Derive { clause, hints } => {
                 let shown = deny_steps(self.vars, self.steps, clause.as_slice());
                 held.derive(marks, clause.as_slice(), hints.as_slice(), shown)
             }
-            Line::Refute { cone } => held.refute(self.alloc, self.refuter, cone),
+            Line::Refute { evidence } => held.refute(self.alloc, self.refuter, evidence),
             Line::Forget { clauses } => held.forget(clauses.as_slice()),
         }
     }
@@ -109,13 +123,13 @@ impl<R: Refuter> Judge<'_, R> {
         piece: &Piece<'_>,
     ) -> Result<(), Fault>
         ensures ok { OnOk result
-            (taken (R.refute self.now.refuter.now) self.now.vars self.now.steps held.old
-            (spelled self.now.vars (line_of piece.now)) ≡ Ok held.new) }
+            (taken self.now.head (R.refute self.now.refuter.now) self.now.vars self.now.steps held.old
+            (spelled self.now.head self.now.vars (line_of piece.now)) ≡ Ok held.new) }
         ensures bad { (reason : Reason) → result ≡ Err (Bad reason)
-            → taken (R.refute self.now.refuter.now) self.now.vars self.now.steps held.old
-            (spelled self.now.vars (line_of piece.now)) ≡ Err reason }
+            → taken self.now.head (R.refute self.now.refuter.now) self.now.vars self.now.steps held.old
+            (spelled self.now.head self.now.vars (line_of piece.now)) ≡ Err reason }
     {
-        match spell(self.alloc, self.vars, piece) {
+        match spell(self.alloc, self.head, self.vars, piece) {
             Ok(line) => self.take(marks, held, &line),
             Err(fault) => Err(fault),
         }

@@ -1,1 +1,4 @@
+pub mod Living
+pub mod Deciding
 pub mod Sound
+pub mod Under

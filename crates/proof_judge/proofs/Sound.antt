@@ -1,27 +1,44 @@
 -- A file that shows k shows that no plan of k steps is feasible.
-use Rattle.std.proofs.Common.{◌≡◌, ◌≤◌, ◌<◌, ◌+◌, ◌-◌, ℕ, Bool, true, ◌&&◌, List, [], ◌∷◌, length, refl, ap, sym, ◌∙◌, subst, arith, is_none, Option, Some, None, Ok}
+use Rattle.std.proofs.Common.{◌≡◌, ◌≤◌, ◌<◌, ◌+◌, ◌-◌, ℕ, Bool, true, false, not, ◌&&◌, ◌==◌, if◌then◌else◌, List, [], ◌∷◌, ◌++◌, refl, ap, sym, ◌∙◌, arith, le_refl, is_none, is_some, Option, Some, None, Ok}
 use Rattle.std.specs.List.{list_all}
+use Rattle.rail_text.specs.Pieces.{pieces}
+use Rattle.alike_clauses.specs.Sorted.{sorted_base, HasSortedModel}
+use Rattle.alike_clauses.specs.Turns.{turn_clauses}
+use Rattle.alike_clauses.proofs.Holding.{has_model}
+use Rattle.bound_clause.proofs.Holding.{bound_holds}
+use Rattle.bound_clause.specs.Numbered.{numbered_bound}
+use Rattle.cone_clause.specs.Numbered.{numbered_clause}
+use Rattle.cone_clause.proofs.Agreeing.{holds_of_feasible}
+use Rattle.log_checker.specs.declared.shown.Shown.TheVariants.{Yes, No}
+use Rattle.log_checker.specs.declared.shown.Reason.TheVariants.{HeadDiffers, BaseTooLarge}
+use Rattle.log_checker.specs.Laws.{Denies}
 use Rattle.log_checker.specs.Truth.{clauses_hold}
-use Rattle.log_checker.specs.Laws.{AllHold, Denies}
+use Rattle.log_checker.specs.Verdict.{head_in}
 use Rattle.log_checker.proofs.ShownSo.{shown-so}
+use Rattle.plan_clauses.specs.Clauses.{base_clauses, past_limit}
+use Rattle.plan_clauses.specs.Models.{model_of}
 use Rattle.plan_clauses.specs.Variables.{By, number_of, variable_count}
-use Rattle.plan_clauses.specs.Clauses.{base_clauses}
-use Rattle.rail_base.specs.declared.station.Station.{Station}
+use Rattle.proof_log.specs.declared.head.Head.{Head}
+use Rattle.proof_log.specs.declared.head.Head.TheVariants.{Plain, Sorted}
+use Rattle.rail_alike.specs.Tests.{neighbors}
+use Rattle.rail_base.specs.declared.plan.Command.{Command}
 use Rattle.rail_base.specs.declared.route.Route.{Route}
+use Rattle.rail_base.specs.declared.station.Station.{Station}
 use Rattle.rail_base.specs.Admitted.{IsAdmitted}
+use Rattle.rail_bound.specs.declared.Evidence.{Evidence}
+use Rattle.rail_bound.specs.declared.Evidence.TheVariants as evidence
+use Rattle.rail_bound.specs.declared.EvidenceFault.{EvidenceFault}
+use Rattle.rail_bound.specs.declared.EvidenceFault.TheVariants as of
+use Rattle.rail_bound.specs.Validity as bound
 use Rattle.rail_cone.specs.declared.Cone.{Cone}
 use Rattle.rail_cone.specs.declared.ConeFault.{ConeFault}
-use Rattle.rail_cone.specs.Validity.{fault_of, in_design, is_valid_cone}
+use Rattle.rail_cone.specs.Validity as cone
 use Rattle.rail_cone.proofs.Refusing.{holds_of_valid, timed_of}
-use Rattle.cone_clause.specs.Numbered.{numbered_clause}
-use Rattle.cone_clause.proofs.Agreeing.{none_of_valid}
-use Rattle.plan_encoding.specs.Bases.{IsBaseOf, Numbered}
-use Rattle.plan_encoding.specs.declared.numbered.Counts.{Counts}
-use Rattle.rail_spec.specs.Feasible.{IsInfeasible}
+use Rattle.rail_spec.specs.Feasible.{IsFeasible, IsInfeasible}
 use Rattle.rail_spec.specs.Track.{routes_of}
-use Rattle.sat_clause.specs.Clauses.{Store, clause_holds}
+use Rattle.sat_clause.specs.Clauses.{clause_holds}
 use Rattle.sat_clause.specs.declared.lit.Lit.{Lit}
-use Rattle.proof_judge.specs.Judged.{all_live, unless, refuted, YesIsInfeasible}
+use Rattle.proof_judge.specs.Judged.{all_live, clauses_under, judged_by, judged_under, unless, refuted, YesIsInfeasible}
 
 live_hold : (values : ℕ → Bool) (cs : List (List Lit)) → list_all (clause_holds values) cs ≡ clauses_hold values (all_live cs)
 live_hold values [] = refl
@@ -32,38 +49,62 @@ by_number : (d : Station) (n k : ℕ) → number_of d (routes_of d) n (By k) ≡
 by_number d n k = omega arith
 
 -- a cone with no fault speaks of the design
-pub names_design : (d : Station) (routes : List Route) (cone : Cone) (found : Option ConeFault) → found ≡ fault_of d routes cone → found ≡ None → in_design d routes cone ≡ true
-names_design d routes cone found is none = (holds_of_valid d routes cone (ap is_none (sym is ∙ none))).in_design
+pub names_design : (d : Station) (routes : List Route) (k : Cone) (found : Option ConeFault) → found ≡ cone.fault_of d routes k → found ≡ None → cone.in_design d routes k ≡ true
+names_design d routes k found is none = (holds_of_valid d routes k (ap is_none (sym is ∙ none))).in_design
 
--- a clause that is shown is that of a valid cone
-valid_shown : (found : Option ConeFault) (own clause : List Lit) → unless found own ≡ Ok clause → (is_none found ≡ true) × (own ≡ clause)
-valid_shown None own clause e = (refl, cc)
-valid_shown (Some fault) own clause e = absurd (cc)
+-- a clause that is shown is that of something valid
+valid_shown : {F : Type 0} (of : F → EvidenceFault) (found : Option F) (own clause : List Lit) → unless of found own ≡ Ok clause → (is_none found ≡ true) × (own ≡ clause)
+valid_shown of None own clause e = (refl, cc)
+valid_shown of (Some fault) own clause e = absurd (cc)
 
--- values that make the base and the clauses of all valid cones true
-all_hold : (d : Station) (n : ℕ) (values : ℕ → Bool) → list_all (clause_holds values) (base_clauses d (routes_of d) n) ≡ true
-    → ((cone : Cone) → is_valid_cone d (routes_of d) cone ≡ true → clause_holds values (numbered_clause d (routes_of d) n cone) ≡ true) → AllHold (refuted d n) values (all_live (base_clauses d (routes_of d) n))
-all_hold d n values holds cones = record {
-  clauses = sym (live_hold values (base_clauses d (routes_of d) n)) ∙ holds;
-  cones = λ cone clause e.
-      let shown = valid_shown (fault_of d (routes_of d) cone) (numbered_clause d (routes_of d) n cone) clause e in
-      ap (clause_holds values) (sym shown.1) ∙ cones cone shown.0;
-}
+-- what is shown is true in the model of each feasible plan
+pub evidence_holds : (d : Station) → IsAdmitted d → (n : ℕ) → 1 ≤ n → (plan : List (List Command)) → IsFeasible d n plan → (e : Evidence) (clause : List Lit) → refuted d n e ≡ Ok clause → clause_holds (model_of d (routes_of d) n plan) clause ≡ true
+evidence_holds d admitted n some plan feasible (evidence.Cone k) clause shows =
+    let s = valid_shown of.Cone (cone.fault_of d (routes_of d) k) (numbered_clause d (routes_of d) n k) clause shows in
+    ap (clause_holds (model_of d (routes_of d) n plan)) (sym s.1) ∙ holds_of_feasible d n n k plan some (le_refl n) (timed_of d admitted) feasible s.0
+evidence_holds d admitted n some plan feasible (evidence.Bound b) clause shows =
+    let s = valid_shown of.Bound (bound.fault_of d (routes_of d) b) (numbered_bound d (routes_of d) n b) clause shows in
+    ap (clause_holds (model_of d (routes_of d) n plan)) (sym s.1) ∙ bound_holds d admitted n b plan some s.0 feasible
 
-pub denied_infeasible : (d : Station) → IsAdmitted d → (n k : ℕ) → 1 ≤ n → Denies (refuted d n) (variable_count d (routes_of d) n) n (all_live (base_clauses d (routes_of d) n)) k → IsInfeasible d k
-denied_infeasible d admitted n k some denies =
+-- where the clauses of the base of trains in turn are true, so are those that a head names
+both : (a b : Bool) → (a && b) ≡ true → (a ≡ true) × (b ≡ true)
+both true b h = (refl, h)
+both false b h = absurd (cc)
+
+front : (values : ℕ → Bool) (xs ys : List (List Lit)) → list_all (clause_holds values) (xs ++ ys) ≡ true → list_all (clause_holds values) xs ≡ true
+front values [] ys h = refl
+front values (x ∷ xs) ys h =
+    let p = both (clause_holds values x) (list_all (clause_holds values) (xs ++ ys)) h in
+    rw (p.0, front values xs ys p.1) refl
+
+named_hold : (head : Head) (d : Station) (n : ℕ) (values : ℕ → Bool) → list_all (clause_holds values) (sorted_base d (routes_of d) n) ≡ true → list_all (clause_holds values) (clauses_under head d n) ≡ true
+named_hold Plain d n values h = front values (base_clauses d (routes_of d) n) (turn_clauses d (routes_of d) n (neighbors d)) h
+named_hold (Sorted version steps) d n values h = h
+
+pub denied_infeasible : (d : Station) → IsAdmitted d → (head : Head) (n k : ℕ) → 1 ≤ n → Denies (refuted d n) (variable_count d (routes_of d) n) n (all_live (clauses_under head d n)) k → IsInfeasible d k
+denied_infeasible d admitted head n k some denies plan feasible =
     let first : 0 < k = denies.least (omega arith) in
-    none_of_valid d n k (omega arith) denies.most (timed_of d admitted) (λ values holds cones by. denies.never values (all_hold d n values holds cones) (ap values (sym (by_number d n k)) ∙ by))
+    let m : HasSortedModel d n k = has_model d n k (omega arith) denies.most plan feasible in
+    let values : ℕ → Bool = model_of d (routes_of d) n m.plan in
+    denies.never values (record {
+      clauses = sym (live_hold values (clauses_under head d n)) ∙ named_hold head d n values m.holds;
+      shown = evidence_holds d admitted n some m.plan m.feasible;
+    }) (ap values (sym (by_number d n k)) ∙ m.by)
+
+under_so : (d : Station) → IsAdmitted d → (head : Head) (n k : ℕ) (bytes : List ℕ) → 1 ≤ n → judged_under head d n bytes ≡ Yes k → (k ≤ n) × IsInfeasible d k
+under_so d admitted head n k bytes some e =
+    let denies = shown-so head (refuted d n) (variable_count d (routes_of d) n) n (all_live (clauses_under head d n)) k bytes e in
+    (denies.most, denied_infeasible d admitted head n k some denies)
+
+by_so : (d : Station) → IsAdmitted d → (n k : ℕ) (bytes : List ℕ) → 1 ≤ n → (head : Option Head) → judged_by d n bytes head ≡ Yes k → (k ≤ n) × IsInfeasible d k
+by_so d admitted n k bytes some None e = under_so d admitted Plain n k bytes some e
+by_so d admitted n k bytes some (Some Plain) e = under_so d admitted Plain n k bytes some e
+by_so d admitted n k bytes some (Some (Sorted version steps)) e = go (not (version == d.version && steps == n)) (is_some (past_limit 4000000 0 (clauses_under (Sorted version steps) d n))) e
+  where
+    go : (differs large : Bool) → (if differs then No 1 HeadDiffers else if large then No 1 BaseTooLarge else judged_under (Sorted version steps) d n bytes) ≡ Yes k → (k ≤ n) × IsInfeasible d k
+    go true large e = absurd (cc)
+    go false true e = absurd (cc)
+    go false false e = under_so d admitted (Sorted version steps) n k bytes some e
 
 pub yes_infeasible : YesIsInfeasible
-yes_infeasible d admitted n k bytes some e =
-    let denies = shown-so (refuted d n) (variable_count d (routes_of d) n) n (all_live (base_clauses d (routes_of d) n)) k bytes e in
-    (denies.most, denied_infeasible d admitted n k some denies)
-
--- what is denied over the base of the design
-pub judged_so : (d : Station) → IsAdmitted d → (n k : ℕ) (b : Numbered) (counts : Counts) (clauses : Store) → 1 ≤ n → IsBaseOf d (routes_of d) n b
-    → counts ≡ record { trains = length d.trains; routes = length (routes_of d); steps = n; vars = variable_count d (routes_of d) n } → clauses ≡ b.clauses
-    → Denies (refuted d counts.steps) counts.vars counts.steps clauses k → IsInfeasible d k
-judged_so d good n k b counts clauses some is counted same denies =
-    let numbers = subst (λ (q : Counts). Denies (refuted d q.steps) q.vars q.steps clauses k) counted denies in
-    denied_infeasible d good n k some (subst (λ (s : Store). Denies (refuted d n) (variable_count d (routes_of d) n) n s k) (same ∙ is.clauses) numbers)
+yes_infeasible d admitted n k bytes some e = by_so d admitted n k bytes some (head_in (pieces bytes)) e

@@ -1,16 +1,26 @@
 -- What a proof file shows of a design.
-use Rattle.std.specs.Prelude.{◌≡◌, ℕ, ◌≤◌, true, List, map, Option, Some, None, Result, Ok, Err}
+use Rattle.std.specs.Prelude.{◌≡◌, ℕ, ◌≤◌, ◌==◌, true, not, ◌&&◌, if◌then◌else◌, List, map, Option, Some, None}
+use Rattle.std.specs.Prelude.{is_some, Result, Ok, Err}
+use Rattle.rail_text.specs.Pieces.{pieces}
+use Rattle.alike_clauses.specs.Sorted.{sorted_base}
+use Rattle.bound_clause.specs.Numbered.{numbered_bound}
+use Rattle.cone_clause.specs.Numbered.{numbered_clause}
 use Rattle.log_checker.specs.declared.shown.Shown.{Shown}
-use Rattle.log_checker.specs.declared.shown.Shown.TheVariants.{Yes}
-use Rattle.log_checker.specs.Verdict.{log_verdict}
-use Rattle.plan_clauses.specs.Clauses.{base_clauses}
+use Rattle.log_checker.specs.declared.shown.Shown.TheVariants.{Yes, No}
+use Rattle.log_checker.specs.declared.shown.Reason.TheVariants.{HeadDiffers, BaseTooLarge}
+use Rattle.log_checker.specs.Verdict.{head_in, log_verdict}
+use Rattle.plan_clauses.specs.Clauses.{base_clauses, past_limit}
 use Rattle.plan_clauses.specs.Variables.{variable_count}
+use Rattle.proof_log.specs.declared.head.Head.{Head}
+use Rattle.proof_log.specs.declared.head.Head.TheVariants.{Plain, Sorted}
 use Rattle.rail_base.specs.declared.station.Station.{Station}
 use Rattle.rail_base.specs.Admitted.{IsAdmitted}
-use Rattle.rail_cone.specs.declared.Cone.{Cone}
-use Rattle.rail_cone.specs.declared.ConeFault.{ConeFault}
-use Rattle.rail_cone.specs.Validity.{fault_of}
-use Rattle.cone_clause.specs.Numbered.{numbered_clause}
+use Rattle.rail_bound.specs.declared.Evidence.{Evidence}
+use Rattle.rail_bound.specs.declared.Evidence.TheVariants as evidence
+use Rattle.rail_bound.specs.declared.EvidenceFault.{EvidenceFault}
+use Rattle.rail_bound.specs.declared.EvidenceFault.TheVariants as of
+use Rattle.rail_bound.specs.Validity as bound
+use Rattle.rail_cone.specs.Validity as cone
 use Rattle.rail_spec.specs.Feasible.{IsInfeasible}
 use Rattle.rail_spec.specs.Track.{routes_of}
 use Rattle.sat_clause.specs.declared.lit.Lit.{Lit}
@@ -21,18 +31,38 @@ abbrev pub all_live : List (List Lit) → Store
 all_live clauses = map (λ c. (c, true)) clauses
 
 -- the clause, or why it is not shown
-abbrev pub unless : Option ConeFault → List Lit → Result (List Lit) ConeFault
-unless None clause = Ok clause
-unless (Some fault) clause = Err fault
+abbrev pub unless : {F : Type 0} → (F → EvidenceFault) → Option F → List Lit → Result (List Lit) EvidenceFault
+unless of None clause = Ok clause
+unless of (Some fault) clause = Err (of fault)
 
--- the clause of a valid cone, over the variables of n steps, or why the cone is not valid
-abbrev pub refuted : Station → ℕ → Cone → Result (List Lit) ConeFault
-refuted d n cone = unless (fault_of d (routes_of d) cone) (numbered_clause d (routes_of d) n cone)
+-- the clause of a valid cone or bound, over the variables of n steps, or why it is not valid
+abbrev pub refuted : Station → ℕ → Evidence → Result (List Lit) EvidenceFault
+refuted d n (evidence.Cone k) = unless of.Cone (cone.fault_of d (routes_of d) k) (numbered_clause d (routes_of d) n k)
+refuted d n (evidence.Bound b) = unless of.Bound (bound.fault_of d (routes_of d) b) (numbered_bound d (routes_of d) n b)
 
--- what the bytes show of the clauses that every plan of at most n steps makes true, and of those of valid cones
+-- the clauses that a head names: those that each plan of at most n steps makes true, or each in which trains come in turn
+abbrev pub clauses_under : Head → Station → ℕ → List (List Lit)
+clauses_under Plain d n = base_clauses d (routes_of d) n
+clauses_under (Sorted version steps) d n = sorted_base d (routes_of d) n
+
+-- what the bytes show of the clauses that a head names, and of those of valid cones and bounds
+abbrev pub judged_under : Head → Station → ℕ → List ℕ → Shown
+judged_under head d n bytes =
+    let base = all_live (clauses_under head d n) in
+    log_verdict head (refuted d n) (variable_count d (routes_of d) n) n base bytes
+
+-- the same, where a head that names a design and a number of steps names these, and its clauses are not too many
+abbrev pub judged_by : Station → ℕ → List ℕ → Option Head → Shown
+judged_by d n bytes (Some (Sorted version steps)) =
+    if not (version == d.version && steps == n) then No 1 HeadDiffers
+    else if is_some (past_limit 4000000 0 (clauses_under (Sorted version steps) d n)) then No 1 BaseTooLarge
+    else judged_under (Sorted version steps) d n bytes
+judged_by d n bytes (Some Plain) = judged_under Plain d n bytes
+judged_by d n bytes None = judged_under Plain d n bytes
+
+-- what the bytes show
 abbrev pub judged : Station → ℕ → List ℕ → Shown
-judged d n bytes =
-    log_verdict (refuted d n) (variable_count d (routes_of d) n) n (all_live (base_clauses d (routes_of d) n)) bytes
+judged d n bytes = judged_by d n bytes (head_in (pieces bytes))
 
 -- where a file shows k, no plan of k steps is feasible, whoever wrote the file
 abbrev pub YesIsInfeasible : Type 0

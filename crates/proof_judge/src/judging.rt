@@ -1,21 +1,159 @@
 //! A proof file judged over the clauses of a design.
 
-ghost use Rattle.std.specs.Prelude.{◌≡◌, ℕ, ◌≤◌, IfOk, Ok, length};
+ghost use Rattle.std.specs.Prelude.{◌≡◌, ℕ, ◌++◌, List, IfOk, OnOk, Ok, Some};
 ghost use Rattle.rail_spec.specs.Feasible.{IsInfeasible};
 ghost use Rattle.rail_spec.specs.Track.{routes_of};
-ghost use Rattle.log_checker.specs.declared.shown.Shown.TheVariants.{Yes};
+ghost use Rattle.sat_clause.specs.declared.lit.Lit.{Lit};
+ghost use Rattle.log_checker.specs.declared.shown.Shown.TheVariants.{No, Yes};
+ghost use Rattle.log_checker.specs.Verdict.{log_verdict};
+ghost use Rattle.plan_clauses.specs.Variables.{pairs};
 ghost use Rattle.plan_encoding.specs.Bases.{IsBaseOf};
-ghost use Rattle.proof_judge.specs.Judged.{judged};
+ghost use Rattle.plan_encoding.specs.Sorted.{IsSortedBaseOf};
+ghost use Rattle.proof_log.specs.declared.head.Head.TheVariants.{Plain, Sorted};
+ghost use Rattle.proof_judge.specs.Judged.{all_live, judged, judged_by, judged_under, refuted};
 
-use crate::cones::Cones;
+use crate::evidence::ByDesign;
 use cone_design::Contention;
-use interlocking::Interlocking;
-use log_checker::{Shown, judge_log};
-use plan_encoding::Base;
+use interlocking::{Interlocking, Steps};
+use log_checker::{Reason, Shown, head_in, judge_log};
+use plan_encoding::{Base, BaseFault, SortedBase, sorted_base};
+use proof_log::Head;
+use rail_base::plan::Command;
+use sat_clause::Arena;
 use std::alloc::{AllocError, Global};
 
+/// Puts clauses, all live, behind others.
+fn append(clauses: &mut Arena, more: &Arena) -> Result<(), AllocError>
+    requires { (cs : List (List Lit)) × (more.now ≡ all_live cs) }
+    ensures { OnOk result (clauses.new ≡ clauses.old ++ more.now) }
+{
+    'clauses: for done in 0..more.count() {
+        clauses.push(more.clause(done + 1))?;
+    }
+    Ok(())
+}
+
+/// What a head of a file, by itself, is bad for.
+fn bad_head(reason: Reason) -> Shown
+    ensures { result ≡ No 1 reason }
+{
+    Shown::No { line: 1, reason }
+}
+
+/// What the bytes of a file that is to have this head show over so many variables and these clauses.
+fn judge_clauses(
+    alloc: Global,
+    design: &ByDesign,
+    head: Head,
+    vars: u32,
+    clauses: Arena,
+    bytes: &[u8],
+) -> Result<Shown, AllocError>
+    ensures { let d = design.now.contention.interlocking.now.design.station in
+        IfOk result (λ shown. shown
+        ≡ log_verdict head (refuted d design.now.steps.count) vars design.now.steps.count clauses bytes.now) }
+{
+    judge_log(
+        alloc,
+        design,
+        head,
+        clauses,
+        vars,
+        design.steps.count,
+        bytes,
+    )
+}
+
+/// What the bytes of a file show over the clauses of a base.
+fn judge_plain(
+    alloc: Global,
+    interlocking: &Interlocking,
+    base: Base,
+    bytes: &[u8],
+) -> Result<Shown, AllocError>
+    requires base { let d = interlocking.now.design.station in IsBaseOf d (routes_of d) base.steps base }
+    ensures { IfOk result (λ shown. shown
+        ≡ judged_under Plain interlocking.now.design.station base.steps bytes.now) }
+{
+    let vars = base.counts().vars;
+    let steps = base.steps();
+    let (clauses, pairs) = base.into_parts();
+    let contention = Contention {
+        interlocking,
+        pairs: &pairs,
+    };
+    judge_clauses(
+        alloc,
+        &ByDesign { contention, steps },
+        Head::Plain,
+        vars,
+        clauses,
+        bytes,
+    )
+}
+
+/// What the bytes of a file show that names this version of designs and so many steps, over the clauses of a base and those of
+/// trains that come in turn.
+fn judge_sorted(
+    alloc: Global,
+    interlocking: &Interlocking,
+    version: u32,
+    named: u32,
+    sorted: SortedBase,
+    bytes: &[u8],
+) -> Result<Shown, AllocError>
+    requires base { let d = interlocking.now.design.station in IsSortedBaseOf d (routes_of d) sorted.base.steps sorted }
+    ensures { IfOk result (λ shown. shown
+        ≡ judged_under (Sorted version named) interlocking.now.design.station sorted.base.steps bytes.now) }
+{
+    let SortedBase { base, turns } = sorted;
+    let vars = base.counts().vars;
+    let steps = base.steps();
+    let (mut clauses, pairs) = base.into_parts();
+    append(&mut clauses, &turns)?;
+    let contention = Contention {
+        interlocking,
+        pairs: &pairs,
+    };
+    let head = Head::Sorted {
+        version,
+        steps: named,
+    };
+    judge_clauses(
+        alloc,
+        &ByDesign { contention, steps },
+        head,
+        vars,
+        clauses,
+        bytes,
+    )
+}
+
+/// What the bytes of a file show whose head names this version of designs and so many steps.
+fn judge_named(
+    alloc: Global,
+    interlocking: &Interlocking,
+    steps: Steps,
+    version: u32,
+    named: u32,
+    bytes: &[u8],
+) -> Result<Shown, AllocError>
+    ensures { IfOk result (λ shown. shown
+        ≡ judged_by interlocking.now.design.station steps.count bytes.now (Some (Sorted version named))) }
+{
+    if version != interlocking.design.station.version || named != steps.count {
+        return Ok(bad_head(Reason::HeadDiffers));
+    }
+    match sorted_base(alloc, interlocking, steps) {
+        Ok(sorted) => judge_sorted(alloc, interlocking, version, named, sorted, bytes),
+        Err(BaseFault::TooLarge { .. }) => Ok(bad_head(Reason::BaseTooLarge)),
+        Err(BaseFault::Memory) => Err(AllocError),
+    }
+}
+
 /// What the bytes of a proof file show of the design whose clauses these are: that it has no plan of so many steps, or the
-/// first bad line. The error is want of memory.
+/// first bad line. Where the file's head names the base of trains that come in turn, its further clauses are made here.
+/// The error is want of memory.
 pub fn judge(
     alloc: Global,
     interlocking: &Interlocking,
@@ -26,13 +164,15 @@ pub fn judge(
     ensures value { IfOk result (λ shown. shown ≡ judged interlocking.now.design.station base.steps bytes.now) }
     ensures sound { (k : ℕ) → result ≡ Ok (Yes k) → IsInfeasible interlocking.now.design.station k }
 {
-    let counts = base.counts();
     let steps = base.steps();
-    let (clauses, pairs) = base.into_parts();
-    let contention = Contention {
-        interlocking,
-        pairs: &pairs,
-    };
-    let cones = Cones { contention, steps };
-    judge_log(alloc, &cones, clauses, counts.vars, counts.steps, bytes)
+    match head_in(bytes) {
+        Some(
+            Head::Sorted {
+                version,
+                steps: named,
+            },
+        ) => judge_named(alloc, interlocking, steps, version, named, bytes),
+        Some(Head::Plain) => judge_plain(alloc, interlocking, base, bytes),
+        None => judge_plain(alloc, interlocking, base, bytes),
+    }
 }

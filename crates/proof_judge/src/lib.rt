@@ -1,10 +1,10 @@
 //! What a proof file shows of a design.
 #![tactic(auto)]
 
-mod cones;
+mod evidence;
 mod judging;
 mod laws;
 
-pub use cones::Cones;
+pub use evidence::ByDesign;
 pub use judging::judge;
 pub use laws::yes_is_infeasible;

@@ -1,28 +1,33 @@
 -- Lines that go on, and then a last one, are a file that shows n.
 use Rattle.std.proofs.Common.{◌≡◌, ℕ, zero, suc, ◌+◌, ◌≤◌, Bool, true, false, ◌||◌, List, [], ◌∷◌, ◌++◌, flat_map, length, Some, None, is_some, Ok, Result, ◌⊎◌, inl, inr, refl, sym, ap, ◌∙◌, subst, arith, length-append}
-use Rattle.std.specs.Prelude.{nat_eq, replicate}
+use Rattle.std.specs.Prelude.{nat_eq, replicate, if◌then◌else◌}
 use Rattle.std.proofs.lemmas.Bool.Decides.{eqb_tells}
+use Rattle.std.proofs.lemmas.Slice.Eq.{bytes_eq-Decides}
 use Rattle.sat_trail.proofs.Rows.{among-append}
 use Rattle.sat_core.proofs.Forgets.{without-length}
-use Rattle.rail_text.specs.Pieces.{pieces_from}
+use Rattle.rail_text.specs.Pieces.{pieces, pieces_from}
 use Rattle.rail_text.specs.Pieces.{Line as Piece}
 use Rattle.sat_clause.specs.declared.lit.Lit.{Lit}
-use Rattle.rail_cone.specs.declared.Cone.{Cone}
-use Rattle.rail_cone.specs.declared.ConeFault.{ConeFault}
+use Rattle.rail_bound.specs.declared.Evidence.{Evidence}
+use Rattle.rail_bound.specs.declared.EvidenceFault.{EvidenceFault}
+use Rattle.proof_log.specs.declared.head.Head.{Head}
+use Rattle.proof_log.specs.declared.head.Head.TheVariants.{Plain}
 use Rattle.sat_clause.specs.Clauses.{Store, live_clause, without}
 use Rattle.sat_trail.specs.Attached.{is_among}
 use Rattle.sat_core.specs.Lines.{Derived, text_of}
 use Rattle.sat_core.specs.Texts.{ended}
 use Rattle.proof_log.specs.declared.line.Line.{Line}
 use Rattle.proof_log.specs.declared.line.Line.TheVariants.{Derive, Refute, Forget}
-use Rattle.proof_log.specs.Lines.{head, line_of}
+use Rattle.proof_log.specs.Heads.{head_text}
+use Rattle.proof_log.specs.Lines.{line_of}
 use Rattle.proof_log.specs.Laws.{LinesReadBack}
 use Rattle.proof_log.specs.Text.{text_of_line}
-use Rattle.log_checker.specs.declared.shown.Shown.TheVariants.{Yes}
-use Rattle.log_checker.specs.Verdict.{SoFar, at_first, with_clause, is_derived, forgotten, if_within, spelled, by_cone, by_forget, taken, steps_denied, at_end, after_line, shown_from, shown_by}
-use Rattle.run_log.specs.Logs.{LogLine, Learnt, Forgot, Refuted, line_text, with_log, IsGoodLine, IsGoodForget, IsGoodCone, AllGoOn, IsLast}
+use Rattle.log_checker.specs.declared.shown.Shown.TheVariants.{Yes, No}
+use Rattle.log_checker.specs.declared.shown.Reason.TheVariants.{Text}
+use Rattle.log_checker.specs.Verdict.{SoFar, at_first, with_clause, is_derived, forgotten, if_within, spelled, by_evidence, by_forget, taken, steps_denied, at_end, after_line, head_in, shown_from, shown_by}
+use Rattle.run_log.specs.Logs.{LogLine, Learnt, Forgot, Refuted, line_text, log_text, with_log, IsGoodLine, IsGoodForget, IsGoodEvidence, AllGoOn, IsLast}
 use Rattle.run_log.specs.Laws.{EndedRunsAreAccepted}
-use Rattle.run_log.proofs.Lines.{is_one_line, first-piece, line-apart, forget-apart, cone-apart}
+use Rattle.run_log.proofs.Lines.{is_one_line, first-piece, line-apart, forget-apart, evidence-apart, head-apart}
 
 -- the piece that a line is
 abbrev piece_of : ℕ → Line → Piece
@@ -108,7 +113,7 @@ flagged-first base = record { same_length = length-flags base; within = λ id h.
 forgets-one : (flags : List Bool) (store : Store) (id : ℕ) → is_some (live_clause store id) ≡ true → is_derived flags id ≡ true → forgotten flags store (id ∷ []) ≡ Ok (without store id)
 forgets-one flags store id a b = rw (a, b) refl
 
-module _ (refute : Cone → Result (List Lit) ConeFault) (vars n : ℕ) (back : LinesReadBack) where
+module _ (head : Head) (refute : Evidence → Result (List Lit) EvidenceFault) (vars n : ℕ) (back : LinesReadBack) where
   -- the clauses with that of a derived line
   abbrev after : SoFar → Derived → SoFar
   after s d = with_clause s d.0 true (steps_denied vars n d.0)
@@ -118,33 +123,33 @@ module _ (refute : Cone → Result (List Lit) ConeFault) (vars n : ℕ) (back : 
   after_cone s clause = with_clause s clause false None
 
   -- a good line is taken
-  good-takes : (place : ℕ) (s : SoFar) (d : Derived) → IsGoodLine vars s.store d → taken refute vars n s (spelled vars (piece_of place (Derive d.0 d.1))) ≡ Ok (after s d)
+  good-takes : (place : ℕ) (s : SoFar) (d : Derived) → IsGoodLine vars s.store d → taken head refute vars n s (spelled head vars (piece_of place (Derive d.0 d.1))) ≡ Ok (after s d)
   good-takes place s d g =
       let read : line_of (text_of_line (Derive d.0 d.1)) ≡ Some (Derive d.0 d.1) = back (Derive d.0 d.1) g.written in
-      ap (λ o. taken refute vars n s (if_within vars o)) read ∙ rw (g.within, g.follows) refl
+      ap (λ o. taken head refute vars n s (if_within head vars o)) read ∙ rw (g.within, g.follows) refl
 
   -- a good cone is taken
-  cone-takes : (place : ℕ) (s : SoFar) (cone : Cone) (clause : List Lit) → IsGoodCone refute cone clause → taken refute vars n s (spelled vars (piece_of place (Refute cone))) ≡ Ok (after_cone s clause)
+  cone-takes : (place : ℕ) (s : SoFar) (cone : Evidence) (clause : List Lit) → IsGoodEvidence head refute cone clause → taken head refute vars n s (spelled head vars (piece_of place (Refute cone))) ≡ Ok (after_cone s clause)
   cone-takes place s cone clause g =
       let read : line_of (text_of_line (Refute cone)) ≡ Some (Refute cone) = back (Refute cone) g.written in
-      ap (λ o. taken refute vars n s (if_within vars o)) read ∙ ap (by_cone s) g.shows
+      ap (λ o. taken head refute vars n s (if_within head vars o)) read ∙ ap (λ b. taken head refute vars n s (if b then Some (Refute cone) else None)) g.stands ∙ ap (by_evidence s) g.shows
 
   -- what is shown after a line that is taken is what the rest shows
-  taken-step : (here place : ℕ) (s t : SoFar) (line : Line) (rest : List ℕ) → is_one_line (text_of_line line) ≡ true → taken refute vars n s (spelled vars (piece_of place line)) ≡ Ok t
-      → shown_from refute vars n here s (pieces_from place (ended (text_of_line line) ++ rest)) ≡ shown_from refute vars n (here + 1) t (pieces_from (place + 1) rest)
+  taken-step : (here place : ℕ) (s t : SoFar) (line : Line) (rest : List ℕ) → is_one_line (text_of_line line) ≡ true → taken head refute vars n s (spelled head vars (piece_of place line)) ≡ Ok t
+      → shown_from head refute vars n here s (pieces_from place (ended (text_of_line line) ++ rest)) ≡ shown_from head refute vars n (here + 1) t (pieces_from (place + 1) rest)
   taken-step here place s t line rest h e =
-      ap (shown_from refute vars n here s) (first-piece place (text_of_line line) rest h)
-      ∙ ap (λ r. after_line here r (λ u. shown_from refute vars n (here + 1) u (pieces_from (place + 1) rest))) e
+      ap (shown_from head refute vars n here s) (first-piece place (text_of_line line) rest h)
+      ∙ ap (λ r. after_line here r (λ u. shown_from head refute vars n (here + 1) u (pieces_from (place + 1) rest))) e
 
   -- so it is with a good line
   good-step : (here place : ℕ) (s : SoFar) (d : Derived) (rest : List ℕ) → IsGoodLine vars s.store d
-      → shown_from refute vars n here s (pieces_from place (text_of d ++ rest)) ≡ shown_from refute vars n (here + 1) (after s d) (pieces_from (place + 1) rest)
+      → shown_from head refute vars n here s (pieces_from place (text_of d ++ rest)) ≡ shown_from head refute vars n (here + 1) (after s d) (pieces_from (place + 1) rest)
   good-step here place s d rest g = taken-step here place s (after s d) (Derive d.0 d.1) rest (line-apart d.0 d.1 g.written) (good-takes place s d g)
 
   -- and with a good cone
-  cone-step : (here place : ℕ) (s : SoFar) (cone : Cone) (clause : List Lit) (rest : List ℕ) → IsGoodCone refute cone clause
-      → shown_from refute vars n here s (pieces_from place (line_text (Refuted cone clause) ++ rest)) ≡ shown_from refute vars n (here + 1) (after_cone s clause) (pieces_from (place + 1) rest)
-  cone-step here place s cone clause rest g = taken-step here place s (after_cone s clause) (Refute cone) rest (cone-apart cone g.written) (cone-takes place s cone clause g)
+  cone-step : (here place : ℕ) (s : SoFar) (cone : Evidence) (clause : List Lit) (rest : List ℕ) → IsGoodEvidence head refute cone clause
+      → shown_from head refute vars n here s (pieces_from place (line_text (Refuted cone clause) ++ rest)) ≡ shown_from head refute vars n (here + 1) (after_cone s clause) (pieces_from (place + 1) rest)
+  cone-step here place s cone clause rest g = taken-step here place s (after_cone s clause) (Refute cone) rest (evidence-apart cone g.written) (cone-takes place s cone clause g)
 
   -- the clauses without one
   abbrev after_forget : SoFar → ℕ → SoFar
@@ -152,24 +157,24 @@ module _ (refute : Cone → Result (List Lit) ConeFault) (vars n : ℕ) (back : 
 
   -- a clause that may be forgotten is taken out
   forget-takes : (place : ℕ) (s : SoFar) (learnt : List ℕ) (id : ℕ) → AreFlagged s.derived learnt s.store → IsGoodForget s.store learnt id
-      → taken refute vars n s (spelled vars (piece_of place (Forget (id ∷ [])))) ≡ Ok (after_forget s id)
+      → taken head refute vars n s (spelled head vars (piece_of place (Forget (id ∷ [])))) ≡ Ok (after_forget s id)
   forget-takes place s learnt id f g =
       let read : line_of (text_of_line (Forget (id ∷ []))) ≡ Some (Forget (id ∷ [])) = back (Forget (id ∷ [])) g.written in
-      ap (λ o. taken refute vars n s (if_within vars o)) read
+      ap (λ o. taken head refute vars n s (if_within head vars o)) read
       ∙ ap (by_forget s) (forgets-one s.derived s.store id g.may.is_live (f.flagged id g.may.is_learnt))
 
   -- and what is shown after it
   forget-step : (here place : ℕ) (s : SoFar) (learnt : List ℕ) (id : ℕ) (rest : List ℕ) → AreFlagged s.derived learnt s.store → IsGoodForget s.store learnt id
-      → shown_from refute vars n here s (pieces_from place (line_text (Forgot id) ++ rest)) ≡ shown_from refute vars n (here + 1) (after_forget s id) (pieces_from (place + 1) rest)
+      → shown_from head refute vars n here s (pieces_from place (line_text (Forgot id) ++ rest)) ≡ shown_from head refute vars n (here + 1) (after_forget s id) (pieces_from (place + 1) rest)
   forget-step here place s learnt id rest f g = taken-step here place s (after_forget s id) (Forget (id ∷ [])) rest (forget-apart (id ∷ []) g.written) (forget-takes place s learnt id f g)
 
   -- the last line alone
-  last-shown : (here place : ℕ) (s : SoFar) (d : Derived) → IsLast vars n s.store d → shown_from refute vars n here s (pieces_from place (text_of d ++ [])) ≡ Yes n
+  last-shown : (here place : ℕ) (s : SoFar) (d : Derived) → IsLast vars n s.store d → shown_from head refute vars n here s (pieces_from place (text_of d ++ [])) ≡ Yes n
   last-shown here place s d l = good-step here place s d [] l.good ∙ ap (at_end (here + 1)) l.last
 
   -- the lines, and then the last one
-  all-shown : (here place : ℕ) (s : SoFar) (learnt : List ℕ) (lines : List LogLine) (d : Derived) → AreFlagged s.derived learnt s.store → AllGoOn refute vars n s.store learnt lines → IsLast vars n (with_log s.store lines) d
-      → shown_from refute vars n here s (pieces_from place (flat_map line_text (lines ++ Learnt d ∷ []))) ≡ Yes n
+  all-shown : (here place : ℕ) (s : SoFar) (learnt : List ℕ) (lines : List LogLine) (d : Derived) → AreFlagged s.derived learnt s.store → AllGoOn head refute vars n s.store learnt lines → IsLast vars n (with_log s.store lines) d
+      → shown_from head refute vars n here s (pieces_from place (flat_map line_text (lines ++ Learnt d ∷ []))) ≡ Yes n
   all-shown here place s learnt [] d f a l = last-shown here place s d l
   all-shown here place s learnt (Learnt m ∷ ms) d f a l =
       good-step here place s m (flat_map line_text (ms ++ Learnt d ∷ [])) a.0.good
@@ -182,6 +187,11 @@ module _ (refute : Cone → Result (List Lit) ConeFault) (vars n : ℕ) (back : 
       ∙ all-shown (here + 1) (place + 1) (after_cone s clause) learnt ms d (flagged-cone s.derived learnt s.store clause f) a.1 l
 
 pub accepted : LinesReadBack → EndedRunsAreAccepted
-accepted back refute vars n base lines d a l =
-    ap (shown_by refute vars n base) (first-piece 1 head (flat_map line_text (lines ++ Learnt d ∷ [])) refl)
-    ∙ all-shown refute vars n back 2 2 (at_first base) [] lines d (flagged-first base) a l
+accepted back head refute vars n base lines d keeps a l =
+    ap (shown_by head refute vars n base) (first-piece 1 (head_text head) (flat_map line_text (lines ++ Learnt d ∷ [])) (head-apart head keeps))
+    ∙ ap (λ b. if b then shown_from head refute vars n 2 (at_first base) (pieces_from 2 (flat_map line_text (lines ++ Learnt d ∷ []))) else No 1 Text) ((bytes_eq-Decides (head_text head) (head_text head)).1 refl)
+    ∙ all-shown head refute vars n back 2 2 (at_first base) [] lines d (flagged-first base) a l
+
+-- a log with a plain head is a file with that head
+pub plain-headed : (lines : List LogLine) → head_in (pieces (log_text Plain lines)) ≡ Some Plain
+plain-headed lines = ap head_in (first-piece 1 (head_text Plain) (flat_map line_text lines) refl)

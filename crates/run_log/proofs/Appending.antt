@@ -1,12 +1,15 @@
 -- A log with more lines at its end.
 use Rattle.std.proofs.Common.{◌≡◌, ℕ, suc, ◌+◌, List, [], ◌∷◌, ◌++◌, map, flat_map, Result, inl, inr, refl, sym, ap, ◌∙◌, arith, append_assoc}
 use Rattle.rail_cone.specs.declared.Cone.{Cone}
-use Rattle.rail_cone.specs.declared.ConeFault.{ConeFault}
+use Rattle.rail_bound.specs.declared.Evidence.{Evidence}
+use Rattle.rail_bound.specs.declared.Evidence.TheVariants as evidence
+use Rattle.rail_bound.specs.declared.EvidenceFault.{EvidenceFault}
+use Rattle.proof_log.specs.declared.head.Head.{Head}
 use Rattle.sat_clause.specs.declared.lit.Lit.{Lit}
 use Rattle.sat_clause.specs.Clauses.{Store}
 use Rattle.sat_core.specs.Lines.{Entry, entry_text, with_lines, learnt_with, derive_count, after_entry, learnt_after}
 use Rattle.sat_core.specs.Texts.{ended}
-use Rattle.proof_log.specs.Lines.{head}
+use Rattle.proof_log.specs.Heads.{head_text}
 use Rattle.run_log.specs.Logs.{LogLine, Learnt, Forgot, Refuted, line_of, line_text, log_text, with_line, with_log, learnt_by, learnt_in, learnt_count, cones_of, AllGoOn}
 
 -- ---- the clauses
@@ -33,9 +36,9 @@ learnt_in-lines store learnt (inr id ∷ es) = learnt_in-lines (after_entry stor
 
 -- ---- lines that go on
 
-pub go-on-append : (refute : Cone → Result (List Lit) ConeFault) (vars n : ℕ) (store : Store) (learnt : List ℕ) (xs ys : List LogLine) → AllGoOn refute vars n store learnt xs → AllGoOn refute vars n (with_log store xs) (learnt_in store learnt xs) ys → AllGoOn refute vars n store learnt (xs ++ ys)
-go-on-append refute vars n store learnt [] ys a b = b
-go-on-append refute vars n store learnt (x ∷ xs) ys a b = (a.0, go-on-append refute vars n (with_line store x) (learnt_by store learnt x) xs ys a.1 b)
+pub go-on-append : (head : Head) (refute : Evidence → Result (List Lit) EvidenceFault) (vars n : ℕ) (store : Store) (learnt : List ℕ) (xs ys : List LogLine) → AllGoOn head refute vars n store learnt xs → AllGoOn head refute vars n (with_log store xs) (learnt_in store learnt xs) ys → AllGoOn head refute vars n store learnt (xs ++ ys)
+go-on-append head refute vars n store learnt [] ys a b = b
+go-on-append head refute vars n store learnt (x ∷ xs) ys a b = (a.0, go-on-append head refute vars n (with_line store x) (learnt_by store learnt x) xs ys a.1 b)
 
 -- ---- the text
 
@@ -43,8 +46,8 @@ lines-append : (xs ys : List LogLine) → flat_map line_text (xs ++ ys) ≡ flat
 lines-append [] ys = refl
 lines-append (x ∷ xs) ys = ap (λ t. line_text x ++ t) (lines-append xs ys) ∙ sym (append_assoc (line_text x) (flat_map line_text xs) (flat_map line_text ys))
 
-pub log_text-append : (xs ys : List LogLine) → log_text (xs ++ ys) ≡ log_text xs ++ flat_map line_text ys
-log_text-append xs ys = ap (λ t. ended head ++ t) (lines-append xs ys) ∙ sym (append_assoc (ended head) (flat_map line_text xs) (flat_map line_text ys))
+pub log_text-append : (head : Head) (xs ys : List LogLine) → log_text head (xs ++ ys) ≡ log_text head xs ++ flat_map line_text ys
+log_text-append head xs ys = ap (λ t. ended (head_text head) ++ t) (lines-append xs ys) ∙ sym (append_assoc (ended (head_text head)) (flat_map line_text xs) (flat_map line_text ys))
 
 pub text-lines : (more : List Entry) → flat_map line_text (map line_of more) ≡ flat_map entry_text more
 text-lines [] = refl
@@ -64,7 +67,7 @@ count-lines (Learnt d ∷ xs) more = let c = count-lines xs more in omega (arith
 count-lines (Forgot id ∷ xs) more = count-lines xs more
 count-lines (Refuted k c ∷ xs) more = count-lines xs more
 
-pub count-refuted : (xs : List LogLine) (k : Cone) (c : List Lit) → learnt_count (xs ++ Refuted k c ∷ []) ≡ learnt_count xs
+pub count-refuted : (xs : List LogLine) (k : Evidence) (c : List Lit) → learnt_count (xs ++ Refuted k c ∷ []) ≡ learnt_count xs
 count-refuted [] k c = refl
 count-refuted (Learnt d ∷ xs) k c = ap suc (count-refuted xs k c)
 count-refuted (Forgot id ∷ xs) k c = count-refuted xs k c
@@ -78,10 +81,12 @@ cones-lines [] (inl d ∷ es) = cones-lines [] es
 cones-lines [] (inr id ∷ es) = cones-lines [] es
 cones-lines (Learnt d ∷ xs) more = cones-lines xs more
 cones-lines (Forgot id ∷ xs) more = cones-lines xs more
-cones-lines (Refuted k c ∷ xs) more = ap (λ ks. k ∷ ks) (cones-lines xs more)
+cones-lines (Refuted (evidence.Cone k) c ∷ xs) more = ap (λ ks. k ∷ ks) (cones-lines xs more)
+cones-lines (Refuted (evidence.Bound b) c ∷ xs) more = cones-lines xs more
 
-pub cones-refuted : (xs : List LogLine) (k : Cone) (c : List Lit) → cones_of (xs ++ Refuted k c ∷ []) ≡ cones_of xs ++ k ∷ []
+pub cones-refuted : (xs : List LogLine) (k : Cone) (c : List Lit) → cones_of (xs ++ Refuted (evidence.Cone k) c ∷ []) ≡ cones_of xs ++ k ∷ []
 cones-refuted [] k c = refl
 cones-refuted (Learnt d ∷ xs) k c = cones-refuted xs k c
 cones-refuted (Forgot id ∷ xs) k c = cones-refuted xs k c
-cones-refuted (Refuted j b ∷ xs) k c = ap (λ ks. j ∷ ks) (cones-refuted xs k c)
+cones-refuted (Refuted (evidence.Cone j) b ∷ xs) k c = ap (λ ks. j ∷ ks) (cones-refuted xs k c)
+cones-refuted (Refuted (evidence.Bound j) b ∷ xs) k c = cones-refuted xs k c

@@ -1,7 +1,8 @@
 -- What a live clause of a run log says is so.
 use Rattle.std.proofs.Common.{◌≡◌, ℕ, zero, suc, Bool, true, false, List, [], ◌∷◌, Some, Ok, Result, slice_get, subst}
-use Rattle.rail_cone.specs.declared.Cone.{Cone}
-use Rattle.rail_cone.specs.declared.ConeFault.{ConeFault}
+use Rattle.rail_bound.specs.declared.Evidence.{Evidence}
+use Rattle.rail_bound.specs.declared.EvidenceFault.{EvidenceFault}
+use Rattle.proof_log.specs.declared.head.Head.{Head}
 use Rattle.sat_clause.specs.declared.lit.Lit.{Lit}
 use Rattle.sat_clause.specs.Clauses.{Store, live_clause, if_live, clause_holds}
 use Rattle.sat_trail.proofs.Members.{both}
@@ -22,19 +23,19 @@ live-holds : (values : ℕ → Bool) (store : Store) (id : ℕ) (c : List Lit) �
 live-holds values store zero c h e = absurd (cc)
 live-holds values store (suc i) c h e = at-holds values store i c h e
 
-module _ (refute : Cone → Result (List Lit) ConeFault) (vars n : ℕ) (values : ℕ → Bool) (cones : (cone : Cone) (clause : List Lit) → refute cone ≡ Ok clause → clause_holds values clause ≡ true) where
+module _ (head : Head) (refute : Evidence → Result (List Lit) EvidenceFault) (vars n : ℕ) (values : ℕ → Bool) (shown : (cone : Evidence) (clause : List Lit) → refute cone ≡ Ok clause → clause_holds values clause ≡ true) where
   -- the clauses of a log are true wherever those before it and those of cones are
-  log-holds : (store : Store) (learnt : List ℕ) (lines : List LogLine) → AllGoOn refute vars n store learnt lines → clauses_hold values store ≡ true → clauses_hold values (with_log store lines) ≡ true
+  log-holds : (store : Store) (learnt : List ℕ) (lines : List LogLine) → AllGoOn head refute vars n store learnt lines → clauses_hold values store ≡ true → clauses_hold values (with_log store lines) ≡ true
   log-holds store learnt [] a h = h
   log-holds store learnt (Learnt d ∷ ls) a h =
       log-holds (with_line store (Learnt d)) (learnt_by store learnt (Learnt d)) ls a.1 (push-holds values store d.0 h (follows-true values store d.0 d.1 a.0.good.follows h))
   log-holds store learnt (Forgot id ∷ ls) a h = log-holds (with_line store (Forgot id)) learnt ls a.1 (without-holds values store id h)
-  log-holds store learnt (Refuted cone clause ∷ ls) a h = log-holds (with_line store (Refuted cone clause)) learnt ls a.1 (push-holds values store clause h (cones cone clause a.0.shows))
+  log-holds store learnt (Refuted cone clause ∷ ls) a h = log-holds (with_line store (Refuted cone clause)) learnt ls a.1 (push-holds values store clause h (shown cone clause a.0.shows))
 
 pub denied : DenialsAreSo
-denied refute vars n base lines id k clause a live denies =
+denied head refute vars n base lines id k clause a live denies =
     let d = clause-denies vars n clause k denies in record {
       most = d.most;
       least = d.least;
-      never = λ values h by. d.never values (live-holds values (with_log base lines) id clause (log-holds refute vars n values h.cones base [] lines a h.clauses) live) by;
+      never = λ values h by. d.never values (live-holds values (with_log base lines) id clause (log-holds head refute vars n values h.shown base [] lines a h.clauses) live) by;
     }

@@ -13,12 +13,28 @@ use Rattle.rail_base.specs.declared.plan.Violation.TheVariants.{Path, Within, Or
 use Rattle.rail_cone.specs.declared.Cone.{Cone}
 use Rattle.rail_cone.specs.declared.ConeTrain.{ConeTrain}
 use Rattle.sat_clause.specs.declared.lit.Lit.{Lit}
+use Rattle.rail_base.specs.declared.route.RouteNo.{RouteNo}
+use Rattle.rail_bound.specs.declared.Requirement.{Requirement}
+use Rattle.rail_bound.specs.declared.Requirement.TheVariants as requirements
+use Rattle.rail_bound.specs.declared.Origin.{Origin}
+use Rattle.rail_bound.specs.declared.Origin.TheVariants as origins
+use Rattle.rail_bound.specs.declared.Place.{Place}
+use Rattle.rail_bound.specs.declared.Place.TheVariants as places
+use Rattle.rail_bound.specs.declared.Leg.{Leg}
+use Rattle.rail_bound.specs.declared.Bound.{Bound}
+use Rattle.rail_bound.specs.declared.Evidence.{Evidence}
+use Rattle.rail_bound.specs.declared.Evidence.TheVariants as evidence
+use Rattle.proof_log.specs.declared.head.Head.{Head}
+use Rattle.proof_log.specs.declared.head.Head.TheVariants as heads
+use Rattle.proof_log.specs.Heads.{head_text, keeps_head}
+use Rattle.proof_log.specs.BoundText.{requirement_words, origin_words, place_words, leg_words, bound_words, is_of, keeps_route, keeps_requirement, keeps_origin, keeps_place, keeps_leg, keeps_bound}
 use Rattle.sat_core.specs.Texts.{ended}
 use Rattle.proof_log.specs.declared.line.Line.TheVariants.{Derive, Refute, Forget}
 use Rattle.proof_log.specs.Words.{greatest_variable, greatest_clause_number, is_from_1_to, is_small}
 use Rattle.proof_log.specs.Parts.{has_member, is_nothing}
 use Rattle.proof_log.specs.Lines.{is_increasing}
-use Rattle.proof_log.specs.Text.{literal_word, route_word, list_words, command_words, violation_words, holder_words, train_words, pair_words, cone_words, text_of_line, keeps_command, keeps_violation, keeps_holder, keeps_path, keeps_train, keeps_pair, keeps_grammar}
+use Rattle.proof_log.specs.ConeText.{literal_word, route_word, list_words, command_words, violation_words, holder_words, train_words, pair_words, cone_words, keeps_command, keeps_violation, keeps_holder, keeps_path, keeps_train, keeps_pair, keeps_cone}
+use Rattle.proof_log.specs.Text.{text_of_line, keeps_grammar}
 use Rattle.proof_log.proofs.Spelled.{own}
 
 -- no LF is in the bytes
@@ -153,7 +169,7 @@ pair-apart p h =
     let a = both (keeps_command p.0) (keeps_command p.1) h in
     append-apart (command_words p.0) (command_words p.1) (two-apart p.0.train.0 p.0.route.0 a.0) (two-apart p.1.train.0 p.1.route.0 a.1)
 
-pub cone-apart : (k : Cone) → keeps_grammar (Refute k) ≡ true → is_one_line (text_of_line (Refute k)) ≡ true
+cone-apart : (k : Cone) → keeps_cone k ≡ true → is_one_line (text_of_line (Refute (evidence.Cone k))) ≡ true
 cone-apart k h =
     let a = both (keeps_violation k.violation) ((has_member k.trains && list_all keeps_train k.trains) && list_all keeps_pair k.pairs) h in
     let b = both (has_member k.trains && list_all keeps_train k.trains) (list_all keeps_pair k.pairs) a.1 in
@@ -162,3 +178,62 @@ cone-apart k h =
     let pairs : list_all is_one_line (flat_map pair_words k.pairs) ≡ true = parts-apart pair_words keeps_pair pair-apart k.pairs b.1 in
     joined (codes "r") (cone_words k) refl
     (append-apart (violation_words k.violation) _ (violation-apart k.violation a.0) (append-apart (flat_map train_words k.trains) (flat_map pair_words k.pairs) trains pairs))
+
+-- ---- the line of a bound is one line
+
+route-apart : (r : RouteNo) → keeps_route r ≡ true → is_one_line (route_word r) ≡ true
+route-apart r h = from-1 greatest_variable r.0 (lit< tt) h
+
+requirement-apart : (q : Requirement) → keeps_requirement q ≡ true → list_all is_one_line (requirement_words q) ≡ true
+requirement-apart (requirements.Within within) h = rw (small-apart within h) refl
+requirement-apart (requirements.Order order) h = rw (small-apart order h) refl
+requirement-apart (requirements.Visit train visit) h = two-apart train.0 visit h
+requirement-apart (requirements.Grant c) h = let p = both (is_small c.train.0) (keeps_route c.route) h in rw (small-apart c.train.0 p.0, route-apart c.route p.1) refl
+
+origin-apart : (q : Requirement) (o : Origin) → keeps_origin q o ≡ true → list_all is_one_line (origin_words o) ≡ true
+origin-apart q origins.Visit h = refl
+origin-apart q origins.Start h = refl
+origin-apart q origins.FirstTick h = refl
+origin-apart q (origins.Cone tick k) h =
+    let cone : Bool = (has_member k.trains && list_all keeps_train k.trains) && list_all keeps_pair k.pairs in
+    let a = both (nat_le tick greatest_clause_number) (is_of q k.violation && cone) h in
+    let b = both (is_of q k.violation) cone a.1 in
+    let c = both (has_member k.trains && list_all keeps_train k.trains) (list_all keeps_pair k.pairs) b.1 in
+    let d = both (has_member k.trains) (list_all keeps_train k.trains) c.0 in
+    let trains : list_all is_one_line (flat_map train_words k.trains) ≡ true = parts-apart train_words keeps_train train-apart k.trains d.1 in
+    let pairs : list_all is_one_line (flat_map pair_words k.pairs) ≡ true = parts-apart pair_words keeps_pair pair-apart k.pairs c.1 in
+    rw (up-to greatest_clause_number tick (lit< tt) a.0) (append-apart (flat_map train_words k.trains) (flat_map pair_words k.pairs) trains pairs)
+
+place-apart : (p : Place) → keeps_place p ≡ true → list_all is_one_line (place_words p) ≡ true
+place-apart (places.Named r) h = rw (route-apart r h) refl
+place-apart (places.Among rs without) h =
+    let a = both (keeps_path rs) (list_all keeps_route without) h in
+    let b = both (has_member rs) (list_all keeps_route rs) a.0 in
+    append-apart (list_words route_word rs) (list_words route_word without) (list-apart route_word keeps_route route-apart rs b.1) (list-apart route_word keeps_route route-apart without a.1)
+
+leg-apart : (l : Leg) → keeps_leg l ≡ true → list_all is_one_line (leg_words l) ≡ true
+leg-apart l h =
+    let a = both (is_small l.train.0) (has_member l.places && list_all keeps_place l.places) h in
+    let b = both (has_member l.places) (list_all keeps_place l.places) a.1 in
+    rw (small-apart l.train.0 a.0) (parts-apart place_words keeps_place place-apart l.places b.1)
+
+bound-apart : (b : Bound) → keeps_bound b ≡ true → is_one_line (text_of_line (Refute (evidence.Bound b))) ≡ true
+bound-apart b h =
+    let p = both (keeps_requirement b.requirement) (keeps_origin b.requirement b.origin && (has_member b.legs && list_all keeps_leg b.legs)) h in
+    let q = both (keeps_origin b.requirement b.origin) (has_member b.legs && list_all keeps_leg b.legs) p.1 in
+    let r = both (has_member b.legs) (list_all keeps_leg b.legs) q.1 in
+    joined (codes "b") (bound_words b) refl
+    (append-apart (requirement_words b.requirement) _ (requirement-apart b.requirement p.0)
+    (append-apart (origin_words b.origin) _ (origin-apart b.requirement b.origin q.0) (parts-apart leg_words keeps_leg leg-apart b.legs r.1)))
+
+pub evidence-apart : (e : Evidence) → keeps_grammar (Refute e) ≡ true → is_one_line (text_of_line (Refute e)) ≡ true
+evidence-apart (evidence.Cone k) h = cone-apart k h
+evidence-apart (evidence.Bound b) h = bound-apart b h
+
+-- ---- a head is one line
+
+pub head-apart : (head : Head) → keeps_head head ≡ true → is_one_line (head_text head) ≡ true
+head-apart heads.Plain h = refl
+head-apart (heads.Sorted version steps) h =
+    let p = both (is_small version) (is_small steps) h in
+    joined (codes "rcvlog") (codes "4" ∷ decimal version ∷ decimal steps ∷ []) refl (rw (small-apart version p.0, small-apart steps p.1) refl)

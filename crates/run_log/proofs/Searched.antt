@@ -3,8 +3,9 @@ use Rattle.std.proofs.Common.{◌≡◌, ℕ, zero, suc, ◌+◌, ◌-◌, ◌<�
 use Rattle.std.specs.Prelude.{IsSome}
 use Rattle.std.specs.List.{list_all}
 use Rattle.std.proofs.lemmas.Bool.Decides.{nat_tests}
-use Rattle.rail_cone.specs.declared.Cone.{Cone}
-use Rattle.rail_cone.specs.declared.ConeFault.{ConeFault}
+use Rattle.rail_bound.specs.declared.Evidence.{Evidence}
+use Rattle.rail_bound.specs.declared.EvidenceFault.{EvidenceFault}
+use Rattle.proof_log.specs.declared.head.Head.{Head}
 use Rattle.sat_clause.specs.declared.lit.Lit.{Lit}
 use Rattle.sat_clause.specs.declared.follow.Follow.{Follow}
 use Rattle.sat_clause.specs.declared.follow.Follow.TheVariants.{Yes}
@@ -299,17 +300,17 @@ module _ (vars n : ℕ) (most : vars ≤ greatest_variable) (some : 1 ≤ n) whe
   length-lines store (inr id ∷ es) = let r = length-lines (after_entry store (inr id)) es in let a = without-length store id in omega arith
 
   -- what a solver records goes on, whatever cones are refuted
-  pub all-go-on : (refute : Cone → Result (List Lit) ConeFault) (assumptions : List Lit) (store : Store) (learnt : List ℕ) (more : List Entry) → length (with_lines store more) ≤ greatest_clause_number → AllBelow vars store → AllNew assumptions store learnt more → AllGoOn refute vars n store learnt (map line_of more)
-  all-go-on refute assumptions store learnt [] few a h = tt
-  all-go-on refute assumptions store learnt (inl d ∷ es) few a h =
+  pub all-go-on : (head : Head) (refute : Evidence → Result (List Lit) EvidenceFault) (assumptions : List Lit) (store : Store) (learnt : List ℕ) (more : List Entry) → length (with_lines store more) ≤ greatest_clause_number → AllBelow vars store → AllNew assumptions store learnt more → AllGoOn head refute vars n store learnt (map line_of more)
+  all-go-on head refute assumptions store learnt [] few a h = tt
+  all-go-on head refute assumptions store learnt (inl d ∷ es) few a h =
       let size = length-lines store (inl d ∷ es) in (
         goes-on assumptions store d (omega arith) a h.0,
-        all-go-on refute assumptions (after_entry store (inl d)) (learnt_after store learnt (inl d)) es few (below-more vars store d.0 a (standing-below vars store d.0 a h.0.0.stand)) h.1,
+        all-go-on head refute assumptions (after_entry store (inl d)) (learnt_after store learnt (inl d)) es few (below-more vars store d.0 a (standing-below vars store d.0 a h.0.0.stand)) h.1,
       )
-  all-go-on refute assumptions store learnt (inr id ∷ es) few a h =
+  all-go-on head refute assumptions store learnt (inr id ∷ es) few a h =
       let size = length-lines store (inr id ∷ es) in (
         good-forget store learnt id (omega arith) h.0,
-        all-go-on refute assumptions (after_entry store (inr id)) learnt es few (below-less vars store id a) h.1,
+        all-go-on head refute assumptions (after_entry store (inr id)) learnt es few (below-less vars store id a) h.1,
       )
 
   -- a derived line that may follow the lines of a log, where e(k) is assumed, may come next

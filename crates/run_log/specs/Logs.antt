@@ -1,10 +1,12 @@
--- The text of a search for a plan of n steps: the head, and a line for each clause that is derived or forgotten, and for each cone.
+-- The text of a search for a plan of n steps: a head, and a line for each clause that is derived, forgotten, or shown by a cone or a bound.
 use Rattle.std.specs.Prelude.{ℕ, ◌≡◌, ◌+◌, ◌-◌, Bool, true, false, List, [], ◌∷◌, ◌++◌, filter, flat_map, length}
 use Rattle.std.specs.Prelude.{nat_le, Some, Result, Ok, ◌⊎◌}
 use Rattle.std.proofs.Common.{inl, inr}
 use Rattle.std.specs.List.{list_all}
 use Rattle.rail_cone.specs.declared.Cone.{Cone}
-use Rattle.rail_cone.specs.declared.ConeFault.{ConeFault}
+use Rattle.rail_bound.specs.declared.Evidence.{Evidence}
+use Rattle.rail_bound.specs.declared.Evidence.TheVariants as evidence
+use Rattle.rail_bound.specs.declared.EvidenceFault.{EvidenceFault}
 use Rattle.sat_clause.specs.declared.lit.Lit.{Lit}
 use Rattle.sat_clause.specs.declared.follow.Follow.TheVariants.{Yes}
 use Rattle.sat_clause.specs.Clauses.{Store, live_clause, without}
@@ -13,17 +15,18 @@ use Rattle.sat_clause.specs.Hints.{follow_of}
 use Rattle.sat_core.specs.Lines.{Derived, Entry, MayForget, text_of}
 use Rattle.sat_core.specs.Texts.{ended, forget_line}
 use Rattle.proof_log.specs.declared.line.Line.TheVariants.{Derive, Refute, Forget}
-use Rattle.proof_log.specs.Lines.{head}
+use Rattle.proof_log.specs.declared.head.Head.{Head}
+use Rattle.proof_log.specs.Heads.{head_text}
 use Rattle.proof_log.specs.Text.{keeps_grammar, text_of_line}
-use Rattle.log_checker.specs.Verdict.{steps_denied}
+use Rattle.log_checker.specs.Verdict.{may_stand, steps_denied}
 
 -- ---- lines
 
--- a line of a search: a clause that was derived, the number of one that was forgotten, or a cone with the clause that it shows
+-- a line of a search: a clause that was derived, the number of one that was forgotten, or a cone or a bound with the clause that it shows
 pub data LogLine : Type 0 where
   Learnt : Derived → LogLine
   Forgot : ℕ → LogLine
-  Refuted : Cone → List Lit → LogLine
+  Refuted : Evidence → List Lit → LogLine
 
 -- the line of what a solver records
 abbrev pub line_of : Entry → LogLine
@@ -34,17 +37,17 @@ line_of (inr id) = Forgot id
 abbrev pub line_text : LogLine → List ℕ
 line_text (Learnt d) = text_of d
 line_text (Forgot id) = forget_line id
-line_text (Refuted cone clause) = ended (text_of_line (Refute cone))
+line_text (Refuted e clause) = ended (text_of_line (Refute e))
 
 -- the head, and then each line
-abbrev pub log_text : List LogLine → List ℕ
-log_text lines = ended head ++ flat_map line_text lines
+abbrev pub log_text : Head → List LogLine → List ℕ
+log_text head lines = ended (head_text head) ++ flat_map line_text lines
 
 -- the clauses after a line
 abbrev pub with_line : Store → LogLine → Store
 with_line store (Learnt d) = store ++ (d.0, true) ∷ []
 with_line store (Forgot id) = without store id
-with_line store (Refuted cone clause) = store ++ (clause, true) ∷ []
+with_line store (Refuted e clause) = store ++ (clause, true) ∷ []
 
 -- the clauses after all lines
 abbrev pub with_log : Store → List LogLine → Store
@@ -55,7 +58,7 @@ with_log store (l ∷ ls) = with_log (with_line store l) ls
 abbrev pub learnt_by : Store → List ℕ → LogLine → List ℕ
 learnt_by store learnt (Learnt d) = learnt ++ length (store ++ (d.0, true) ∷ []) ∷ []
 learnt_by store learnt (Forgot id) = learnt
-learnt_by store learnt (Refuted cone clause) = learnt
+learnt_by store learnt (Refuted e clause) = learnt
 
 -- the numbers of the derived clauses after all lines
 abbrev pub learnt_in : Store → List ℕ → List LogLine → List ℕ
@@ -66,7 +69,7 @@ learnt_in store learnt (l ∷ ls) = learnt_in (with_line store l) (learnt_by sto
 abbrev pub is_learnt : LogLine → Bool
 is_learnt (Learnt d) = true
 is_learnt (Forgot id) = false
-is_learnt (Refuted cone clause) = false
+is_learnt (Refuted e clause) = false
 
 -- how many clauses were derived
 abbrev pub learnt_count : List LogLine → ℕ
@@ -77,7 +80,8 @@ abbrev pub cones_of : List LogLine → List Cone
 cones_of [] = []
 cones_of (Learnt d ∷ ls) = cones_of ls
 cones_of (Forgot id ∷ ls) = cones_of ls
-cones_of (Refuted cone clause ∷ ls) = cone ∷ cones_of ls
+cones_of (Refuted (evidence.Cone cone) clause ∷ ls) = cone ∷ cones_of ls
+cones_of (Refuted (evidence.Bound bound) clause ∷ ls) = cones_of ls
 
 -- ---- which lines may stand where
 
@@ -113,19 +117,21 @@ pub record IsGoodForget (store : Store) (learnt : List ℕ) (id : ℕ) : Type 0 
   pub may : MayForget store learnt id
   pub written : keeps_grammar (Forget (id ∷ [])) ≡ true
 
--- a cone that shows the clause, and keeps the grammar
-pub record IsGoodCone (refute : Cone → Result (List Lit) ConeFault) (cone : Cone) (clause : List Lit) : Type 0 where
-  pub shows : refute cone ≡ Ok clause
-  pub written : keeps_grammar (Refute cone) ≡ true
+-- a cone or a bound that shows the clause, keeps the grammar, and may stand in a file with this head
+pub record IsGoodEvidence (head : Head) (refute : Evidence → Result (List Lit) EvidenceFault)
+    (e : Evidence) (clause : List Lit) : Type 0 where
+  pub shows : refute e ≡ Ok clause
+  pub written : keeps_grammar (Refute e) ≡ true
+  pub stands : may_stand head e ≡ true
 
--- ---- logs, where these cones are refuted, over a base of clauses of so many variables
+-- ---- logs with this head, where cones and bounds show such clauses, over a base of clauses of so many variables
 
-module _ (refute : Cone → Result (List Lit) ConeFault) (vars n : ℕ) where
+module _ (head : Head) (refute : Evidence → Result (List Lit) EvidenceFault) (vars n : ℕ) where
   -- the line may stand after these clauses, of which those of these numbers were derived
   abbrev pub MayStand : Store → List ℕ → LogLine → Type 0
   MayStand store learnt (Learnt d) = GoesOn vars n store d
   MayStand store learnt (Forgot id) = IsGoodForget store learnt id
-  MayStand store learnt (Refuted cone clause) = IsGoodCone refute cone clause
+  MayStand store learnt (Refuted e clause) = IsGoodEvidence head refute e clause
 
   -- each line may stand after the clauses before it
   abbrev pub AllGoOn : Store → List ℕ → List LogLine → Type 0
@@ -134,13 +140,13 @@ module _ (refute : Cone → Result (List Lit) ConeFault) (vars n : ℕ) where
 
   -- the bytes are a run log of these lines: the head, and lines that go on
   pub record IsRunLog (base : Store) (lines : List LogLine) (log : List ℕ) : Type 0 where
-    pub text : log ≡ log_text lines
+    pub text : log ≡ log_text head lines
     pub go_on : AllGoOn base [] lines
 
   -- the bytes are a run log of these lines, with the line that ends it
   pub record IsEndedLog (base : Store) (lines : List LogLine) (log : List ℕ) : Type 0 where
     pub last : Derived
-    pub text : log ≡ log_text (lines ++ Learnt last ∷ [])
+    pub text : log ≡ log_text head (lines ++ Learnt last ∷ [])
     pub go_on : AllGoOn base [] lines
     pub is_last : IsLast vars n (with_log base lines) last
 

@@ -1,5 +1,6 @@
 -- A search that goes on is within its budgets, and so is a plan that it comes to.
 use Rattle.std.proofs.Common.{ℕ, ◌+◌, ◌≤◌, List, [], ◌∷◌, subst, arith}
+use Rattle.proof_log.specs.declared.head.Head.TheVariants.{Plain}
 use Rattle.std.proofs.lemmas.List.Sums.{sum_by-append}
 use Rattle.rail_base.specs.declared.plan.Command.{Command}
 use Rattle.rail_base.specs.declared.plan.Plan.{Plan}
@@ -17,7 +18,7 @@ module _ (d : Station) (n : ℕ) (b : Budgets) (recorder : Text) (solver_vars de
   within_so s = record { derived = s.learnt; timed = (let so = s.cost in let left = s.left in omega arith) }
 
   -- its log, as the text of its lines
-  pub log_told : (s : IsSearch d n b recorder solver_vars derives failed sum steps) → IsLog d n s.lines s.rs (log_text s.lines)
+  pub log_told : (s : IsSearch d n b recorder solver_vars derives failed sum steps) → IsLog d n s.lines s.rs (log_text Plain s.lines)
   log_told s = subst (IsLog d n s.lines s.rs) s.log.run.text s.log
 
   -- the plan at hand, where its run costs no more than is left

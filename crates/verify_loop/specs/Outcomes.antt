@@ -8,7 +8,9 @@ use Rattle.plan_clauses.specs.Models.{model_of}
 use Rattle.plan_clauses.specs.Variables.{variable_count}
 use Rattle.proof_judge.specs.Judged.{all_live, judged, refuted}
 use Rattle.proof_log.specs.declared.line.Line.TheVariants.{Refute}
-use Rattle.proof_log.specs.Lines.{head}
+use Rattle.rail_bound.specs.declared.Evidence.TheVariants as evidence
+use Rattle.proof_log.specs.declared.head.Head.TheVariants.{Plain}
+use Rattle.proof_log.specs.Heads.{head_text}
 use Rattle.proof_log.specs.Text.{text_of_line}
 use Rattle.rail_base.specs.declared.history.TrainHistory.{TrainHistory}
 use Rattle.rail_base.specs.declared.history.Verdict.TheVariants.{Failed}
@@ -91,7 +93,7 @@ module _ (d : Station) (n : ℕ) where
 
   -- a log of the search, with these lines and plans that failed
   pub record IsLog (lines : List LogLine) (rs : List Refutal) (log : List ℕ) : Type 0 where
-    pub run : IsRunLog (refuted d n) vars n base lines log
+    pub run : IsRunLog Plain (refuted d n) vars n base lines log
     pub shown : AreShown lines rs
 
   -- a derived line that the search may record next
@@ -103,7 +105,7 @@ module _ (d : Station) (n : ℕ) where
   IsNextLine lines rs next =
       ((line : Derived) × IsNext lines line × (next ≡ length (text_of line)))
       ⊎ ((r : Refutal) × IsFound (cones_in rs) r.plan × IsConeOf r.plan r.cone
-      × (next ≡ length (ended (text_of_line (Refute r.cone)))))
+      × (next ≡ length (ended (text_of_line (Refute (evidence.Cone r.cone))))))
 
   -- ---- budgets
 
@@ -116,7 +118,7 @@ module _ (d : Station) (n : ℕ) where
   pub record IsReached (b : Budgets) (plan : List (List Command)) : Type 0 where
     pub lines : List LogLine
     pub rs : List Refutal
-    pub log : IsLog lines rs (log_text lines)
+    pub log : IsLog lines rs (log_text Plain lines)
     pub found : IsFound (cones_in rs) plan
     pub within : IsWithin b lines (plans_of rs ++ plan ∷ [])
 
@@ -124,7 +126,7 @@ module _ (d : Station) (n : ℕ) where
   abbrev pub IsFull : Budgets → List ℕ → ℕ → ℕ → Type 0
   IsFull b log bytes next =
       (bytes ≡ length log) × (b.log_bytes < bytes + next)
-      × (((log ≡ []) × (next ≡ length (ended head)))
+      × (((log ≡ []) × (next ≡ length (ended (head_text Plain))))
       ⊎ ((lines : List LogLine) × (rs : List Refutal) × IsLog lines rs log × IsWithin b lines (plans_of rs)
       × IsNextLine lines rs next))
 
@@ -132,7 +134,7 @@ module _ (d : Station) (n : ℕ) where
   pub record IsProof (b : Budgets) (log : List ℕ) : Type 0 where
     pub lines : List LogLine
     pub rs : List Refutal
-    pub ended_log : IsEndedLog (refuted d n) vars n base lines log
+    pub ended_log : IsEndedLog Plain (refuted d n) vars n base lines log
     pub shown : AreShown lines rs
     pub accepted : judged d n log ≡ Yes n
     pub within : IsWithin b (lines ++ Learnt ended_log.last ∷ []) (plans_of rs)
@@ -152,7 +154,8 @@ module _ (d : Station) (n : ℕ) where
       (lines : List LogLine) × (rs : List Refutal) × IsLog lines rs log.items × IsWithin b lines (plans_of rs)
       × (learnt_count lines ≡ b.conflicts) × IsNext lines (clause.items, hints.items)
   Says b (TicksSpent failed sum at_hand) =
-      (lines : List LogLine) × (rs : List Refutal) × IsLog lines rs (log_text lines) × IsWithin b lines (plans_of rs)
+      (lines : List LogLine) × (rs : List Refutal) × IsLog lines rs (log_text Plain lines)
+      × IsWithin b lines (plans_of rs)
       × (map (λ (p : PlanOf). p.steps) failed.items ≡ plans_of rs) × (sum ≡ cost_of (plans_of rs))
       × IsFound (cones_in rs) at_hand.steps × (b.ticks < sum + cost d (routes_of d) at_hand.steps)
   Says b (LogSpent log bytes next) = IsFull b log.items bytes next

@@ -1,18 +1,50 @@
-use Rattle.std.proofs.Common.{◌≡◌, ℕ, ◌≤◌, sym, subst, arith, ◌∙◌}
-use Rattle.log_checker.specs.Laws.{Denies}
+use Rattle.std.proofs.Common.{◌≡◌, ℕ, ◌≤◌, ◌∙◌, List, Result, Ok, None, Some, ap, sym, subst, IfOk, arith}
+use Rattle.rail_text.specs.Pieces.{pieces}
+use Rattle.log_checker.specs.declared.shown.Shown.{Shown}
+use Rattle.log_checker.specs.declared.shown.Shown.TheVariants.{Yes}
+use Rattle.log_checker.specs.Verdict.{head_in}
+use Rattle.proof_log.specs.declared.head.Head.TheVariants.{Plain, Sorted}
+use Rattle.rail_base.specs.declared.station.Station.{Station}
+use Rattle.rail_base.specs.Admitted.{IsAdmitted}
 use Rattle.rail_base.proofs.Admitting.{admitted}
-use Rattle.rail_spec.specs.Track.{routes_of}
-use Rattle.proof_judge.specs.Judged.{refuted}
-use Rattle.proof_judge.proofs.Sound.{judged_so}
+use Rattle.rail_spec.specs.Feasible.{IsInfeasible}
+use Rattle.proof_judge.specs.Judged.{judged, judged_by}
+use Rattle.proof_judge.proofs.Sound.{yes_infeasible}
+use Rattle.proof_judge.proofs.Under.{by_head}
 use Rattle.proof_judge.proofs.judging.judge.Goals as goal
 
-pub returns-clause-sound : goal.returns-clause-sound
-returns-clause-sound c = λ k e.
+sound : {E : Type 0} (d : Station) → IsAdmitted d → (n : ℕ) (bytes : List ℕ) → 1 ≤ n → (r : Result Shown E) → IfOk r (λ shown. shown ≡ judged d n bytes) → (k : ℕ) → r ≡ Ok (Yes k) → IsInfeasible d k
+sound d good n bytes some r value k e = (yes_infeasible d good n k bytes some (sym (subst (λ z. IfOk z (λ shown. shown ≡ judged d n bytes)) e value))).1
+
+pub returns-in-Some-Sorted-clause-value : goal.returns-in-Some-Sorted-clause-value
+returns-in-Some-Sorted-clause-value c =
     let d = c.args.interlocking.now.design.station in
-    let steps = c.steps-steps.ensures in
+    let named = Sorted c.in-Some-Sorted.version c.in-Some-Sorted.named in
+    by_head d c.args.base.steps c.args.bytes.now c.judge_named.result (head_in (pieces c.args.bytes.now)) (Some named) (sym c.head_in.ensures ∙ (c.in-Some-Sorted.is ∙ ap Some c.in-Some-Sorted.field-0-is))
+    (subst (λ (n : ℕ). IfOk c.judge_named.result (λ shown. shown ≡ judged_by d n c.args.bytes.now (Some named))) c.steps-steps.ensures c.judge_named.ensures)
+
+pub returns-in-Some-Sorted-clause-sound : goal.returns-in-Some-Sorted-clause-sound
+returns-in-Some-Sorted-clause-sound c =
+    let d = c.args.interlocking.now.design.station in
     let first = c.steps-steps.result.some in
+    let same = c.steps-steps.ensures in
     let some : 1 ≤ c.args.base.steps = omega arith in
-    let same : c.steps-steps.result.count ≡ c.counts-counts.result.steps = steps ∙ sym c.counts-counts.ensures.steps in
-    judged_so d (admitted d c.args.interlocking.now.design.admitted) c.args.base.steps k c.args.base c.counts-counts.result c.into_parts-clauses.result.0 some c.requires.base
-    (c.counts-counts.ensures.value d (routes_of d) c.args.base.steps c.requires.base) c.into_parts-clauses.ensures.clauses
-    (subst (λ (m : ℕ). Denies (refuted d m) c.counts-counts.result.vars c.counts-counts.result.steps c.into_parts-clauses.result.0 k) same (c.judge_log.ensures.sound k e))
+    sound d (admitted d c.args.interlocking.now.design.admitted) c.args.base.steps c.args.bytes.now some c.judge_named.result (returns-in-Some-Sorted-clause-value c)
+
+pub returns-in-Some-Plain-clause-sound : goal.returns-in-Some-Plain-clause-sound
+returns-in-Some-Plain-clause-sound c =
+    let d = c.args.interlocking.now.design.station in
+    let first = c.steps-steps.result.some in
+    let same = c.steps-steps.ensures in
+    let some : 1 ≤ c.args.base.steps = omega arith in
+    sound d (admitted d c.args.interlocking.now.design.admitted) c.args.base.steps c.args.bytes.now some c.judge_plain.result
+    (by_head d c.args.base.steps c.args.bytes.now c.judge_plain.result (head_in (pieces c.args.bytes.now)) (Some Plain) (sym c.head_in.ensures ∙ (c.in-Some-Plain.is ∙ ap Some c.in-Some-Plain.field-0-is)) c.judge_plain.ensures)
+
+pub returns-in-None-clause-sound : goal.returns-in-None-clause-sound
+returns-in-None-clause-sound c =
+    let d = c.args.interlocking.now.design.station in
+    let first = c.steps-steps.result.some in
+    let same = c.steps-steps.ensures in
+    let some : 1 ≤ c.args.base.steps = omega arith in
+    sound d (admitted d c.args.interlocking.now.design.admitted) c.args.base.steps c.args.bytes.now some c.judge_plain-in-None.result
+    (by_head d c.args.base.steps c.args.bytes.now c.judge_plain-in-None.result (head_in (pieces c.args.bytes.now)) None (sym c.head_in.ensures ∙ c.in-None.is) c.judge_plain-in-None.ensures)

@@ -1,0 +1,11 @@
+-- The clauses that cones and bounds of a design show.
+use Rattle.std.specs.Prelude.{List, Result}
+use Rattle.rail_bound.specs.declared.Evidence.{Evidence}
+use Rattle.rail_bound.specs.declared.EvidenceFault.{EvidenceFault}
+use Rattle.sat_clause.specs.declared.lit.Lit.{Lit}
+use Rattle.proof_judge.specs.declared.evidence.ByDesign.{ByDesign}
+use Rattle.proof_judge.specs.Judged.{refuted}
+
+-- the clause that a cone or a bound shows of the design, or why it shows none
+abbrev pub shows : ByDesign → Evidence → Result (List Lit) EvidenceFault
+shows c = refuted c.contention.interlocking.now.design.station c.steps.count
