@@ -144,6 +144,47 @@ def proof(*lines):
     return "rcvlog 1\n" + "".join(line + "\n" for line in lines)
 
 
+def sorted_proof(steps, *lines):
+    """A proof file of these lines over the clauses of trains that come in turn."""
+    return f"rcvlog 4 1 {steps}\n" + "".join(line + "\n" for line in lines)
+
+
+def creeping(edges):
+    """A train that is on its only route, of so many edges, for more than a day."""
+    station = Station()
+    first = station.node(boundary=True)
+    last = station.node(boundary=True)
+    station.train(first, last)
+    station.edge(station.line(first, edges - 1), last)
+    return station.text().replace("length_mm=1000,", "length_mm=10000000,")
+
+
+def stages(many, switches=0):
+    """A line of places, each with two ways to the next signal, for two trains; beyond the last signal is a tree of so many switches
+    in a row."""
+    station = Station()
+    first = station.node(boundary=True)
+    node = station.line(first, 1, "z")
+    for _ in range(many):
+        station.signal(node)
+        end = station.node()
+        station.edge(node, end, "z")
+        station.edge(node, end, "z")
+        node = station.line(end, 1, "z")
+    station.signal(node)
+    ends = [station.line(node, 1, "z")]
+    for _ in range(switches):
+        ends = [station.line(end, 1, "z") for end in ends for _ in range(2)]
+    for _ in range(2):
+        station.train(first, node)
+    return station.text()
+
+
+def both_ways(train, first, many):
+    """A leg over so many places of the stages, each with both of its routes."""
+    return f"l {train} " + " ".join(f"a {2 * place} {2 * place + 1} 0 0" for place in range(first, first + many))
+
+
 def listed(routes):
     """A valid cone of two trains that lists all pairs but those that would hold up the first command."""
     path = " ".join(str(number) for number in range(1, routes + 1))
@@ -196,6 +237,17 @@ def cases():
     yield "1,000 lines that are followed for 1,000 ticks", 5, ladder(600, 2, ticks=1000), 1, proof(*["r visit 1 2 t 1 1000 1 1 0 0 0"] * 1_000)
     day = " ".join(f"t {number} 86400 1 {number} 0 0 0" for number in range(1, 33))
     yield "one line, 32 trains that are followed for a day", 2, side_by_side(32, 50), 1, proof(f"r visit 1 2 {day}")
+    yield "a bound of a train that creeps for a day", 2, creeping(20), 1, sorted_proof(1, "b visit 1 2 zero l 1 n 1")
+    yield "a bound of a train on 1,900 edges", 2, creeping(1900), 1, sorted_proof(1, "b visit 1 2 zero l 1 n 1")
+    yield "a bound with 4,096 ways", 2, stages(12), 1, sorted_proof(1, f"b visit 1 2 zero {both_ways(1, 1, 12)}")
+    slow = stages(12).replace("length_mm=1000,", "length_mm=10000000,")
+    yield "a bound with 4,096 slow ways", 2, slow, 1, sorted_proof(1, f"b visit 1 2 zero {both_ways(1, 1, 12)}")
+    legs = " ".join(both_ways(1 + leg % 2, 1, 11) + " n 24" for leg in range(4)) + " " + both_ways(1, 1, 12)
+    yield "a bound with five legs of many ways", 2, stages(12), 1, sorted_proof(1, f"b visit 1 2 zero {legs}")
+    yield "a bound with 512 routes behind it", 2, stages(4, 9), 1, sorted_proof(1, f"b visit 1 2 zero {both_ways(1, 1, 4)}")
+    routes = " ".join(str(number % 600 + 1) for number in range(2_500_000))
+    yield "a bound of 2,500,000 routes", 2, ladder(600, 2), 1, sorted_proof(1, f"b visit 1 2 zero l 1 a {routes} 0 0")
+    yield "20,000 bounds of one place", 5, ladder(600, 2), 1, sorted_proof(1, *["b visit 1 2 zero l 1 a 1 2 3 0 0"] * 20_000)
     yield "one line that forgets 1,000,000 clauses", 2, ladder(2, 2), 1, proof("x " + " ".join(["1"] * 1_000_000) + " 0")
     yield "one line of 1,000,000 hints", 2, ladder(2, 2), 1, proof("d 0 " + " ".join(["1"] * 1_000_000) + " 0")
 
