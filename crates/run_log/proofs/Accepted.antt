@@ -11,14 +11,15 @@ use Rattle.sat_clause.specs.declared.lit.Lit.{Lit}
 use Rattle.rail_bound.specs.declared.Evidence.{Evidence}
 use Rattle.rail_bound.specs.declared.EvidenceFault.{EvidenceFault}
 use Rattle.proof_log.specs.declared.head.Head.{Head}
-use Rattle.proof_log.specs.declared.head.Head.TheVariants.{Plain}
 use Rattle.sat_clause.specs.Clauses.{Store, live_clause, without}
 use Rattle.sat_trail.specs.Attached.{is_among}
 use Rattle.sat_core.specs.Lines.{Derived, text_of}
 use Rattle.sat_core.specs.Texts.{ended}
 use Rattle.proof_log.specs.declared.line.Line.{Line}
 use Rattle.proof_log.specs.declared.line.Line.TheVariants.{Derive, Refute, Forget}
-use Rattle.proof_log.specs.Heads.{head_text}
+use Rattle.proof_log.specs.Heads.{head_text, keeps_head}
+use Rattle.proof_log.proofs.Heads.{read-back}
+use Rattle.rail_text.specs.Laws.{NumbersReadBack}
 use Rattle.proof_log.specs.Lines.{line_of}
 use Rattle.proof_log.specs.Laws.{LinesReadBack}
 use Rattle.proof_log.specs.Text.{text_of_line}
@@ -192,6 +193,6 @@ accepted back head refute vars n base lines d keeps a l =
     ∙ ap (λ b. if b then shown_from head refute vars n 2 (at_first base) (pieces_from 2 (flat_map line_text (lines ++ Learnt d ∷ []))) else No 1 Text) ((bytes_eq-Decides (head_text head) (head_text head)).1 refl)
     ∙ all-shown head refute vars n back 2 2 (at_first base) [] lines d (flagged-first base) a l
 
--- a log with a plain head is a file with that head
-pub plain-headed : (lines : List LogLine) → head_in (pieces (log_text Plain lines)) ≡ Some Plain
-plain-headed lines = ap head_in (first-piece 1 (head_text Plain) (flat_map line_text lines) refl)
+-- a log is a file with its head
+pub headed : NumbersReadBack → (head : Head) → keeps_head head ≡ true → (lines : List LogLine) → head_in (pieces (log_text head lines)) ≡ Some head
+headed back head keeps lines = ap head_in (first-piece 1 (head_text head) (flat_map line_text lines) (head-apart head keeps)) ∙ read-back back head keeps

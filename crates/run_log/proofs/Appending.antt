@@ -1,8 +1,6 @@
 -- A log with more lines at its end.
 use Rattle.std.proofs.Common.{◌≡◌, ℕ, suc, ◌+◌, List, [], ◌∷◌, ◌++◌, map, flat_map, Result, inl, inr, refl, sym, ap, ◌∙◌, arith, append_assoc}
-use Rattle.rail_cone.specs.declared.Cone.{Cone}
 use Rattle.rail_bound.specs.declared.Evidence.{Evidence}
-use Rattle.rail_bound.specs.declared.Evidence.TheVariants as evidence
 use Rattle.rail_bound.specs.declared.EvidenceFault.{EvidenceFault}
 use Rattle.proof_log.specs.declared.head.Head.{Head}
 use Rattle.sat_clause.specs.declared.lit.Lit.{Lit}
@@ -10,7 +8,7 @@ use Rattle.sat_clause.specs.Clauses.{Store}
 use Rattle.sat_core.specs.Lines.{Entry, entry_text, with_lines, learnt_with, derive_count, after_entry, learnt_after}
 use Rattle.sat_core.specs.Texts.{ended}
 use Rattle.proof_log.specs.Heads.{head_text}
-use Rattle.run_log.specs.Logs.{LogLine, Learnt, Forgot, Refuted, line_of, line_text, log_text, with_line, with_log, learnt_by, learnt_in, learnt_count, cones_of, AllGoOn}
+use Rattle.run_log.specs.Logs.{LogLine, Learnt, Forgot, Refuted, line_of, line_text, log_text, with_line, with_log, learnt_by, learnt_in, learnt_count, evidence_of, AllGoOn}
 
 -- ---- the clauses
 
@@ -73,20 +71,18 @@ count-refuted (Learnt d ∷ xs) k c = ap suc (count-refuted xs k c)
 count-refuted (Forgot id ∷ xs) k c = count-refuted xs k c
 count-refuted (Refuted j b ∷ xs) k c = count-refuted xs k c
 
--- ---- the cones
+-- ---- the cones and bounds
 
-pub cones-lines : (xs : List LogLine) (more : List Entry) → cones_of (xs ++ map line_of more) ≡ cones_of xs
-cones-lines [] [] = refl
-cones-lines [] (inl d ∷ es) = cones-lines [] es
-cones-lines [] (inr id ∷ es) = cones-lines [] es
-cones-lines (Learnt d ∷ xs) more = cones-lines xs more
-cones-lines (Forgot id ∷ xs) more = cones-lines xs more
-cones-lines (Refuted (evidence.Cone k) c ∷ xs) more = ap (λ ks. k ∷ ks) (cones-lines xs more)
-cones-lines (Refuted (evidence.Bound b) c ∷ xs) more = cones-lines xs more
+pub evidence-lines : (xs : List LogLine) (more : List Entry) → evidence_of (xs ++ map line_of more) ≡ evidence_of xs
+evidence-lines [] [] = refl
+evidence-lines [] (inl d ∷ es) = evidence-lines [] es
+evidence-lines [] (inr id ∷ es) = evidence-lines [] es
+evidence-lines (Learnt d ∷ xs) more = evidence-lines xs more
+evidence-lines (Forgot id ∷ xs) more = evidence-lines xs more
+evidence-lines (Refuted e c ∷ xs) more = ap (λ es. e ∷ es) (evidence-lines xs more)
 
-pub cones-refuted : (xs : List LogLine) (k : Cone) (c : List Lit) → cones_of (xs ++ Refuted (evidence.Cone k) c ∷ []) ≡ cones_of xs ++ k ∷ []
-cones-refuted [] k c = refl
-cones-refuted (Learnt d ∷ xs) k c = cones-refuted xs k c
-cones-refuted (Forgot id ∷ xs) k c = cones-refuted xs k c
-cones-refuted (Refuted (evidence.Cone j) b ∷ xs) k c = ap (λ ks. j ∷ ks) (cones-refuted xs k c)
-cones-refuted (Refuted (evidence.Bound j) b ∷ xs) k c = cones-refuted xs k c
+pub evidence-refuted : (xs : List LogLine) (e : Evidence) (c : List Lit) → evidence_of (xs ++ Refuted e c ∷ []) ≡ evidence_of xs ++ e ∷ []
+evidence-refuted [] e c = refl
+evidence-refuted (Learnt d ∷ xs) e c = evidence-refuted xs e c
+evidence-refuted (Forgot id ∷ xs) e c = evidence-refuted xs e c
+evidence-refuted (Refuted f b ∷ xs) e c = ap (λ es. f ∷ es) (evidence-refuted xs e c)

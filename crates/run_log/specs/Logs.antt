@@ -3,9 +3,7 @@ use Rattle.std.specs.Prelude.{ℕ, ◌≡◌, ◌+◌, ◌-◌, Bool, true, fals
 use Rattle.std.specs.Prelude.{nat_le, Some, Result, Ok, ◌⊎◌}
 use Rattle.std.proofs.Common.{inl, inr}
 use Rattle.std.specs.List.{list_all}
-use Rattle.rail_cone.specs.declared.Cone.{Cone}
 use Rattle.rail_bound.specs.declared.Evidence.{Evidence}
-use Rattle.rail_bound.specs.declared.Evidence.TheVariants as evidence
 use Rattle.rail_bound.specs.declared.EvidenceFault.{EvidenceFault}
 use Rattle.sat_clause.specs.declared.lit.Lit.{Lit}
 use Rattle.sat_clause.specs.declared.follow.Follow.TheVariants.{Yes}
@@ -75,13 +73,12 @@ is_learnt (Refuted e clause) = false
 abbrev pub learnt_count : List LogLine → ℕ
 learnt_count lines = length (filter is_learnt lines)
 
--- the cones, in order
-abbrev pub cones_of : List LogLine → List Cone
-cones_of [] = []
-cones_of (Learnt d ∷ ls) = cones_of ls
-cones_of (Forgot id ∷ ls) = cones_of ls
-cones_of (Refuted (evidence.Cone cone) clause ∷ ls) = cone ∷ cones_of ls
-cones_of (Refuted (evidence.Bound bound) clause ∷ ls) = cones_of ls
+-- the cones and bounds, in order
+abbrev pub evidence_of : List LogLine → List Evidence
+evidence_of [] = []
+evidence_of (Learnt d ∷ ls) = evidence_of ls
+evidence_of (Forgot id ∷ ls) = evidence_of ls
+evidence_of (Refuted e clause ∷ ls) = e ∷ evidence_of ls
 
 -- ---- which lines may stand where
 
