@@ -10,7 +10,7 @@ use Rattle.clap.specs.Simple.{Shape, argument_words, built, label_of}
 use Rattle.clap.specs.Walk.{Row, Text, answers_to, first_of, rows_after}
 use Rattle.clap.specs.Words.{fault_of}
 use Rattle.rail_words.specs.FixedCommand.{rcv_app, is_taken, simulate_app, routes_app, verify_app, check_app, trial_app}
-use Rattle.rail_words.specs.Requests.{asked_by, check, check_with, conflicts_of, request_of, seed_of, size_of, steps_of, ticks_of, trial_with, trial_within, verify_with, verify_within}
+use Rattle.rail_words.specs.Requests.{asked_by, check, check_with, conflicts_of, is_given, request_of, seed_of, size_of, steps_of, ticks_of, trial_with, trial_within, verify_with, verify_within}
 use Rattle.rail_words.specs.Laws.{LacksNumber, HasNumberOutOfRange, AsksForNothing, SilenceHasACause}
 use Rattle.rail_words.proofs.Entered.{IsAmong, IsNotHelp, level_enters}
 use Rattle.rail_words.proofs.Reading.{request_of-refused, request_of-taken}
@@ -18,15 +18,15 @@ use Rattle.rail_words.proofs.Values.{AreGiven, level_given, gives}
 
 -- ---- values that are there
 
-verify_numbers : (steps conflicts ticks : Option ℕ) (design proof : Text) → IsSome (verify_within steps conflicts ticks design proof) ⊎ (steps ≡ None) ⊎ (conflicts ≡ None) ⊎ (ticks ≡ None)
-verify_numbers None conflicts ticks design proof = inr (inl refl)
-verify_numbers (Some n) None ticks design proof = inr (inr (inl refl))
-verify_numbers (Some n) (Some c) None design proof = inr (inr (inr refl))
-verify_numbers (Some n) (Some c) (Some t) design proof = inl refl
+verify_numbers : (steps conflicts ticks : Option ℕ) (bounds : Bool) (design proof : Text) → IsSome (verify_within steps conflicts ticks bounds design proof) ⊎ (steps ≡ None) ⊎ (conflicts ≡ None) ⊎ (ticks ≡ None)
+verify_numbers None conflicts ticks bounds design proof = inr (inl refl)
+verify_numbers (Some n) None ticks bounds design proof = inr (inr (inl refl))
+verify_numbers (Some n) (Some c) None bounds design proof = inr (inr (inr refl))
+verify_numbers (Some n) (Some c) (Some t) bounds design proof = inl refl
 
-verify_values : (a b c d e : Option Text) (steps conflicts ticks design proof : Text) → a ≡ Some steps → b ≡ Some conflicts → c ≡ Some ticks → d ≡ Some design → e ≡ Some proof
-    → IsSome (verify_with a b c d e) ⊎ (steps_of steps ≡ None) ⊎ (conflicts_of conflicts ≡ None) ⊎ (ticks_of ticks ≡ None)
-verify_values a b c d e steps conflicts ticks design proof f g h i j = rw (f, g, h, i, j) (verify_numbers (steps_of steps) (conflicts_of conflicts) (ticks_of ticks) design proof)
+verify_values : (a b c : Option Text) (bounds : Bool) (d e : Option Text) (steps conflicts ticks design proof : Text) → a ≡ Some steps → b ≡ Some conflicts → c ≡ Some ticks → d ≡ Some design → e ≡ Some proof
+    → IsSome (verify_with a b c bounds d e) ⊎ (steps_of steps ≡ None) ⊎ (conflicts_of conflicts ≡ None) ⊎ (ticks_of ticks ≡ None)
+verify_values a b c bounds d e steps conflicts ticks design proof f g h i j = rw (f, g, h, i, j) (verify_numbers (steps_of steps) (conflicts_of conflicts) (ticks_of ticks) bounds design proof)
 
 check_number : (steps : Option ℕ) (design proof : Text) → IsSome (option_map (λ n. check n design proof) steps) ⊎ (steps ≡ None)
 check_number None design proof = inr refl
@@ -63,9 +63,9 @@ verify_asks rows given =
     let steps = given.0 refl in
     let conflicts = given.1.0 refl in
     let ticks = given.1.1.0 refl in
-    let design = given.1.1.1.0 refl in
-    let proof = given.1.1.1.1.0 refl in
-    elim (verify_values _ _ _ _ _ steps.0 conflicts.0 ticks.0 design.0 proof.0 steps.1 conflicts.1 ticks.1 design.1 proof.1) [
+    let design = given.1.1.1.1.0 refl in
+    let proof = given.1.1.1.1.1.0 refl in
+    elim (verify_values _ _ _ (is_given (codes "bounds") rows) _ _ steps.0 conflicts.0 ticks.0 design.0 proof.0 steps.1 conflicts.1 ticks.1 design.1 proof.1) [
       | inl ok ↦ inl ok
       | inr (inl none) ↦ inr (inl (refl, inl (steps.0, steps.1, none)))
       | inr (inr (inl none)) ↦ inr (inl (refl, inr (inl (conflicts.0, conflicts.1, none))))
@@ -146,11 +146,11 @@ asks_nothing words none = go (is_taken words) refl
 
 -- ---- a number out of range
 
-verify_lacks : (steps conflicts ticks : Option ℕ) (design proof : Text) → (steps ≡ None) ⊎ (conflicts ≡ None) ⊎ (ticks ≡ None) → verify_within steps conflicts ticks design proof ≡ None
-verify_lacks None conflicts ticks design proof out = refl
-verify_lacks (Some n) None ticks design proof out = refl
-verify_lacks (Some n) (Some c) None design proof out = refl
-verify_lacks (Some n) (Some c) (Some t) design proof out = grind arith
+verify_lacks : (steps conflicts ticks : Option ℕ) (bounds : Bool) (design proof : Text) → (steps ≡ None) ⊎ (conflicts ≡ None) ⊎ (ticks ≡ None) → verify_within steps conflicts ticks bounds design proof ≡ None
+verify_lacks None conflicts ticks bounds design proof out = refl
+verify_lacks (Some n) None ticks bounds design proof out = refl
+verify_lacks (Some n) (Some c) None bounds design proof out = refl
+verify_lacks (Some n) (Some c) (Some t) bounds design proof out = grind arith
 
 -- the value is there, but is no number in its range
 abbrev IsOut : (Text → Option ℕ) → Option Text → Type 0
@@ -159,15 +159,15 @@ IsOut number_of_text value = (text : Text) × (value ≡ Some text) × (number_o
 unread : (number_of_text : Text → Option ℕ) (text : Text) → IsOut number_of_text (Some text) → number_of_text text ≡ None
 unread number_of_text text (other, is, none) = let same : text ≡ other = cc in ap number_of_text same ∙ none
 
-verify_unread : (a b c d e : Option Text) → IsOut steps_of a ⊎ IsOut conflicts_of b ⊎ IsOut ticks_of c → verify_with a b c d e ≡ None
-verify_unread None b c d e out = refl
-verify_unread (Some steps) None c d e out = refl
-verify_unread (Some steps) (Some conflicts) None d e out = refl
-verify_unread (Some steps) (Some conflicts) (Some ticks) None e out = refl
-verify_unread (Some steps) (Some conflicts) (Some ticks) (Some design) None out = refl
-verify_unread (Some steps) (Some conflicts) (Some ticks) (Some design) (Some proof) (inl out) = verify_lacks _ _ _ design proof (inl (unread steps_of steps out))
-verify_unread (Some steps) (Some conflicts) (Some ticks) (Some design) (Some proof) (inr (inl out)) = verify_lacks _ _ _ design proof (inr (inl (unread conflicts_of conflicts out)))
-verify_unread (Some steps) (Some conflicts) (Some ticks) (Some design) (Some proof) (inr (inr out)) = verify_lacks _ _ _ design proof (inr (inr (unread ticks_of ticks out)))
+verify_unread : (a b c : Option Text) (bounds : Bool) (d e : Option Text) → IsOut steps_of a ⊎ IsOut conflicts_of b ⊎ IsOut ticks_of c → verify_with a b c bounds d e ≡ None
+verify_unread None b c bounds d e out = refl
+verify_unread (Some steps) None c bounds d e out = refl
+verify_unread (Some steps) (Some conflicts) None bounds d e out = refl
+verify_unread (Some steps) (Some conflicts) (Some ticks) bounds None e out = refl
+verify_unread (Some steps) (Some conflicts) (Some ticks) bounds (Some design) None out = refl
+verify_unread (Some steps) (Some conflicts) (Some ticks) bounds (Some design) (Some proof) (inl out) = verify_lacks _ _ _ bounds design proof (inl (unread steps_of steps out))
+verify_unread (Some steps) (Some conflicts) (Some ticks) bounds (Some design) (Some proof) (inr (inl out)) = verify_lacks _ _ _ bounds design proof (inr (inl (unread conflicts_of conflicts out)))
+verify_unread (Some steps) (Some conflicts) (Some ticks) bounds (Some design) (Some proof) (inr (inr out)) = verify_lacks _ _ _ bounds design proof (inr (inr (unread ticks_of ticks out)))
 
 check_unread : (a b c : Option Text) → IsOut steps_of a → check_with a b c ≡ None
 check_unread None b c out = refl
@@ -188,7 +188,7 @@ trial_unread (Some seed) (Some size) (inr out) = trial_lacks _ _ (inr (unread si
 
 -- a subcommand with a number out of range asks for nothing
 lacking : (name : Text) (rows : List Row) → LacksNumber (name, rows) → asked_by (name, rows) ≡ None
-lacking name rows (inl (is, out)) = rw is (verify_unread (first_of (codes "steps") rows) (first_of (codes "conflicts") rows) (first_of (codes "ticks") rows) (first_of (codes "DESIGN") rows) (first_of (codes "PROOF") rows) out)
+lacking name rows (inl (is, out)) = rw is (verify_unread (first_of (codes "steps") rows) (first_of (codes "conflicts") rows) (first_of (codes "ticks") rows) (is_given (codes "bounds") rows) (first_of (codes "DESIGN") rows) (first_of (codes "PROOF") rows) out)
 lacking name rows (inr (inl (is, out))) = rw is (check_unread (first_of (codes "steps") rows) (first_of (codes "DESIGN") rows) (first_of (codes "PROOF") rows) out)
 lacking name rows (inr (inr (is, out))) = rw is (trial_unread (first_of (codes "SEED") rows) (first_of (codes "SIZE") rows) out)
 

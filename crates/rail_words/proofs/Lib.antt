@@ -1,7 +1,9 @@
 pub mod Refusals
+pub mod Flags
 pub mod Reading
 pub mod Walks
 pub mod Searches
+pub mod Bounded
 pub mod Trials
 pub mod Taken
 pub mod Ranges

@@ -4,7 +4,7 @@ use Rattle.clap.specs.Words.{Row, Text, first_of, subcommand_of}
 use Rattle.std.specs.Str.Parse.{digits_value}
 use Rattle.rail_text.specs.Numbers.{is_numeral, number_of}
 use Rattle.rail_words.specs.FixedCommand.{rcv_app, is_taken}
-use Rattle.rail_words.specs.Requests.{Asked, simulate, routes, verify, check, trial, IsInRange, simulate_with, routes_with, verify_within, verify_with, check_with, trial_within, trial_with, steps_of, conflicts_of, ticks_of, seed_of, size_of, asked_by, request_of}
+use Rattle.rail_words.specs.Requests.{Asked, simulate, routes, verify, check, trial, IsInRange, simulate_with, routes_with, verify_within, verify_with, check_with, trial_within, trial_with, steps_of, conflicts_of, ticks_of, seed_of, size_of, asked_by, is_given, request_of}
 use Rattle.rail_words.specs.Laws.{RequestsAreInRange}
 use Rattle.rail_words.specs.Words.{asked_of}
 use Rattle.rail_words.specs.declared.request.Request.{Request}
@@ -43,19 +43,19 @@ checked_so (Some steps) None proof a e = absurd (cc)
 checked_so (Some steps) (Some design) None a e = absurd (cc)
 checked_so (Some steps) (Some design) (Some proof) a e = check_made (steps_of steps) design proof a (λ n h. kept 64 (number_of steps) n h) e
 
-verify_made : (steps conflicts ticks : Option ℕ) (design proof : Text) (a : Asked) → ((n : ℕ) → steps ≡ Some n → (1 ≤ n) × (n ≤ 64)) → verify_within steps conflicts ticks design proof ≡ Some a → IsInRange a
-verify_made None conflicts ticks design proof a h e = absurd (cc)
-verify_made (Some n) None ticks design proof a h e = absurd (cc)
-verify_made (Some n) (Some c) None design proof a h e = absurd (cc)
-verify_made (Some n) (Some c) (Some t) design proof a h e = let same : verify n c t design proof ≡ a = cc in subst IsInRange same (h n refl)
+verify_made : (steps conflicts ticks : Option ℕ) (bounds : Bool) (design proof : Text) (a : Asked) → ((n : ℕ) → steps ≡ Some n → (1 ≤ n) × (n ≤ 64)) → verify_within steps conflicts ticks bounds design proof ≡ Some a → IsInRange a
+verify_made None conflicts ticks bounds design proof a h e = absurd (cc)
+verify_made (Some n) None ticks bounds design proof a h e = absurd (cc)
+verify_made (Some n) (Some c) None bounds design proof a h e = absurd (cc)
+verify_made (Some n) (Some c) (Some t) bounds design proof a h e = let same : verify n c t bounds design proof ≡ a = cc in subst IsInRange same (h n refl)
 
-verified_so : (steps conflicts ticks design proof : Option Text) (a : Asked) → verify_with steps conflicts ticks design proof ≡ Some a → IsInRange a
-verified_so None conflicts ticks design proof a e = absurd (cc)
-verified_so (Some s) None ticks design proof a e = absurd (cc)
-verified_so (Some s) (Some c) None design proof a e = absurd (cc)
-verified_so (Some s) (Some c) (Some t) None proof a e = absurd (cc)
-verified_so (Some s) (Some c) (Some t) (Some design) None a e = absurd (cc)
-verified_so (Some s) (Some c) (Some t) (Some design) (Some proof) a e = verify_made (steps_of s) (conflicts_of c) (ticks_of t) design proof a (λ n h. kept 64 (number_of s) n h) e
+verified_so : (steps conflicts ticks : Option Text) (bounds : Bool) (design proof : Option Text) (a : Asked) → verify_with steps conflicts ticks bounds design proof ≡ Some a → IsInRange a
+verified_so None conflicts ticks bounds design proof a e = absurd (cc)
+verified_so (Some s) None ticks bounds design proof a e = absurd (cc)
+verified_so (Some s) (Some c) None bounds design proof a e = absurd (cc)
+verified_so (Some s) (Some c) (Some t) bounds None proof a e = absurd (cc)
+verified_so (Some s) (Some c) (Some t) bounds (Some design) None a e = absurd (cc)
+verified_so (Some s) (Some c) (Some t) bounds (Some design) (Some proof) a e = verify_made (steps_of s) (conflicts_of c) (ticks_of t) bounds design proof a (λ n h. kept 64 (number_of s) n h) e
 
 simulated_so : (design plan : Option Text) (a : Asked) → simulate_with design plan ≡ Some a → IsInRange a
 simulated_so None plan a e = absurd (cc)
@@ -76,19 +76,19 @@ tried_so None size a e = absurd (cc)
 tried_so (Some seed) None a e = absurd (cc)
 tried_so (Some seed) (Some size) a e = trial_made (seed_of seed) (size_of size) a (seed_fits seed) (λ n h. kept 6 (number_of size) n h) e
 
-chosen : (first second third fourth fifth : Bool) (design plan file steps conflicts ticks of proof seed size : Option Text) (a : Asked)
-    → (if first then simulate_with design plan else if second then routes_with file else if third then verify_with steps conflicts ticks of proof else if fourth then check_with steps of proof else if fifth then trial_with seed size else None) ≡ Some a → IsInRange a
-chosen true second third fourth fifth design plan file steps conflicts ticks of proof seed size a e = simulated_so design plan a e
-chosen false true third fourth fifth design plan file steps conflicts ticks of proof seed size a e = routed_so file a e
-chosen false false true fourth fifth design plan file steps conflicts ticks of proof seed size a e = verified_so steps conflicts ticks of proof a e
-chosen false false false true fifth design plan file steps conflicts ticks of proof seed size a e = checked_so steps of proof a e
-chosen false false false false true design plan file steps conflicts ticks of proof seed size a e = tried_so seed size a e
-chosen false false false false false design plan file steps conflicts ticks of proof seed size a e = absurd (cc)
+chosen : (first second third fourth fifth bounds : Bool) (design plan file steps conflicts ticks of proof seed size : Option Text) (a : Asked)
+    → (if first then simulate_with design plan else if second then routes_with file else if third then verify_with steps conflicts ticks bounds of proof else if fourth then check_with steps of proof else if fifth then trial_with seed size else None) ≡ Some a → IsInRange a
+chosen true second third fourth fifth bounds design plan file steps conflicts ticks of proof seed size a e = simulated_so design plan a e
+chosen false true third fourth fifth bounds design plan file steps conflicts ticks of proof seed size a e = routed_so file a e
+chosen false false true fourth fifth bounds design plan file steps conflicts ticks of proof seed size a e = verified_so steps conflicts ticks bounds of proof a e
+chosen false false false true fifth bounds design plan file steps conflicts ticks of proof seed size a e = checked_so steps of proof a e
+chosen false false false false true bounds design plan file steps conflicts ticks of proof seed size a e = tried_so seed size a e
+chosen false false false false false bounds design plan file steps conflicts ticks of proof seed size a e = absurd (cc)
 
 named : (entered : Option (Text × List Row)) (a : Asked) → option_and_then asked_by entered ≡ Some a → IsInRange a
 named None a e = absurd (cc)
 named (Some entered) a e =
-    chosen (bytes_eq entered.0 (codes "simulate")) (bytes_eq entered.0 (codes "routes")) (bytes_eq entered.0 (codes "verify")) (bytes_eq entered.0 (codes "check")) (bytes_eq entered.0 (codes "trial"))
+    chosen (bytes_eq entered.0 (codes "simulate")) (bytes_eq entered.0 (codes "routes")) (bytes_eq entered.0 (codes "verify")) (bytes_eq entered.0 (codes "check")) (bytes_eq entered.0 (codes "trial")) (is_given (codes "bounds") entered.1)
     (first_of (codes "DESIGN") entered.1) (first_of (codes "PLAN") entered.1) (first_of (codes "DESIGN") entered.1)
     (first_of (codes "steps") entered.1) (first_of (codes "conflicts") entered.1) (first_of (codes "ticks") entered.1) (first_of (codes "DESIGN") entered.1) (first_of (codes "PROOF") entered.1)
     (first_of (codes "SEED") entered.1) (first_of (codes "SIZE") entered.1) a e

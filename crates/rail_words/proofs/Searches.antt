@@ -7,12 +7,13 @@ use Rattle.clap.specs.Faults.{walk_fault, turn_fault, level_fault, defaults_faul
 use Rattle.clap.specs.Words.{subcommand_of}
 use Rattle.clap.proofs.OnLiterals.{clap_on_literals}
 use Rattle.rail_words.specs.FixedCommand.{rcv_app, verify_app}
+use Rattle.rail_words.specs.Requests.{is_given}
 use Rattle.rail_words.proofs.Walks.{stand, plain_walked, plain_turn}
 
 abbrev pub leaf : Shape
 leaf = slice_index_or (built rcv_app).subs 2 verify_app.top
 
-abbrev after : Walk → Text → Walk
+abbrev pub after : Walk → Text → Walk
 after w word = after_step leaf.rules word w (plain_word leaf.rules w.waiting word w.held).0 (plain_word leaf.rules w.waiting word w.held).1
 
 -- what an option is followed by
@@ -22,11 +23,11 @@ at_option h name = stand h (option name) 1
 abbrev first_held : Held
 first_held = record { rows = []; pending = Some (codes "steps", []); skip = 0 }
 
-start : walked leaf.rules [] (walk_from nothing_held) (codes "--steps") ≡ at_option first_held (codes "steps")
+pub start : walked leaf.rules [] (walk_from nothing_held) (codes "--steps") ≡ at_option first_held (codes "steps")
 unfolding clap_on_literals
 start = refl
 
-start_turn : turn_fault leaf [] (walk_from nothing_held) (codes "--steps") ≡ []
+pub start_turn : turn_fault leaf [] (walk_from nothing_held) (codes "--steps") ≡ []
 unfolding clap_on_literals
 start_turn = refl
 
@@ -44,11 +45,11 @@ module _ (x : ℕ) (xs : Text) (u : ℕ) (us : Text) (v : ℕ) (vs : Text) (y : 
   abbrev w3 : Walk
   w3 = at_option held3 (codes "conflicts")
 
-  to_w3 : walked leaf.rules [] w2 (codes "--conflicts") ≡ w3
+  pub to_w3 : walked leaf.rules [] w2 (codes "--conflicts") ≡ w3
   unfolding clap_on_literals
   to_w3 = refl
 
-  turn3 : turn_fault leaf [] w2 (codes "--conflicts") ≡ []
+  pub turn3 : turn_fault leaf [] w2 (codes "--conflicts") ≡ []
   unfolding clap_on_literals
   turn3 = refl
 
@@ -61,15 +62,15 @@ module _ (x : ℕ) (xs : Text) (u : ℕ) (us : Text) (v : ℕ) (vs : Text) (y : 
   abbrev w5 : Walk
   w5 = at_option held5 (codes "ticks")
 
-  to_w5 : walked leaf.rules [] w4 (codes "--ticks") ≡ w5
+  pub to_w5 : walked leaf.rules [] w4 (codes "--ticks") ≡ w5
   unfolding clap_on_literals
   to_w5 = refl
 
-  turn5 : turn_fault leaf [] w4 (codes "--ticks") ≡ []
+  pub turn5 : turn_fault leaf [] w4 (codes "--ticks") ≡ []
   unfolding clap_on_literals
   turn5 = refl
 
-  abbrev w6 : Walk
+  abbrev pub w6 : Walk
   w6 = after w5 (v ∷ vs)
 
   abbrev w7 : Walk
@@ -82,13 +83,13 @@ module _ (x : ℕ) (xs : Text) (u : ℕ) (us : Text) (v : ℕ) (vs : Text) (y : 
   words = codes "--steps" ∷ (x ∷ xs) ∷ codes "--conflicts" ∷ (u ∷ us) ∷ codes "--ticks" ∷ (v ∷ vs) ∷ (y ∷ ys) ∷ (z ∷ zs) ∷ []
 
   module _ (a : (x == 45) ≡ false) (b : (u == 45) ≡ false) (c : (v == 45) ≡ false) (f : (y == 45) ≡ false) (g : (z == 45) ≡ false) where
-    to_w2 : walked leaf.rules [] w1 (x ∷ xs) ≡ w2
+    pub to_w2 : walked leaf.rules [] w1 (x ∷ xs) ≡ w2
     to_w2 = plain_walked leaf w1.held w1.position x xs a w1.waiting
 
-    to_w4 : walked leaf.rules [] w3 (u ∷ us) ≡ w4
+    pub to_w4 : walked leaf.rules [] w3 (u ∷ us) ≡ w4
     to_w4 = plain_walked leaf w3.held w3.position u us b w3.waiting
 
-    to_w6 : walked leaf.rules [] w5 (v ∷ vs) ≡ w6
+    pub to_w6 : walked leaf.rules [] w5 (v ∷ vs) ≡ w6
     to_w6 = plain_walked leaf w5.held w5.position v vs c w5.waiting
 
     to_w7 : walked leaf.rules [] w6 (y ∷ ys) ≡ w7
@@ -100,13 +101,13 @@ module _ (x : ℕ) (xs : Text) (u : ℕ) (us : Text) (v : ℕ) (vs : Text) (y : 
     walk_is : walk leaf.rules [] nothing_held words ≡ w8
     walk_is = rw (start, to_w2, to_w3, to_w4, to_w5, to_w6, to_w7, to_w8) refl
 
-    turn2 : turn_fault leaf [] w1 (x ∷ xs) ≡ []
+    pub turn2 : turn_fault leaf [] w1 (x ∷ xs) ≡ []
     turn2 = plain_turn leaf w1.held w1.position x xs a w1.waiting
 
-    turn4 : turn_fault leaf [] w3 (u ∷ us) ≡ []
+    pub turn4 : turn_fault leaf [] w3 (u ∷ us) ≡ []
     turn4 = plain_turn leaf w3.held w3.position u us b w3.waiting
 
-    turn6 : turn_fault leaf [] w5 (v ∷ vs) ≡ []
+    pub turn6 : turn_fault leaf [] w5 (v ∷ vs) ≡ []
     turn6 = plain_turn leaf w5.held w5.position v vs c w5.waiting
 
     turn7 : turn_fault leaf [] w6 (y ∷ ys) ≡ []
@@ -142,6 +143,10 @@ module _ (x : ℕ) (xs : Text) (u : ℕ) (us : Text) (v : ℕ) (vs : Text) (y : 
     pub proof_read : first_of (codes "PROOF") (rows_after leaf.rules [] words) ≡ Some (z ∷ zs)
     unfolding clap_on_literals
     proof_read = rw walk_is refl
+
+    pub no_bounds : is_given (codes "bounds") (rows_after leaf.rules [] words) ≡ false
+    unfolding clap_on_literals
+    no_bounds = rw walk_is refl
 
 -- the rows of the subcommand
 pub verify_rows : (program a b c d e f g h : Text) → subcommand_of rcv_app (program ∷ codes "verify" ∷ a ∷ b ∷ c ∷ d ∷ e ∷ f ∷ g ∷ h ∷ []) ≡ Some (codes "verify", rows_after leaf.rules [] (a ∷ b ∷ c ∷ d ∷ e ∷ f ∷ g ∷ h ∷ []))

@@ -7,11 +7,12 @@ use Rattle.rail_text.specs.Numbers.{is_numeral, number_of}
 use Rattle.clap.proofs.OnLiterals.{clap_on_literals}
 use Rattle.clap.specs.Words.{Row, Text, first_of, subcommand_of, fault_of}
 use Rattle.rail_words.specs.FixedCommand.{rcv_app}
-use Rattle.rail_words.specs.Requests.{request_of, number_to, steps_of, conflicts_of, ticks_of, seed_of, size_of, verify, check, trial}
+use Rattle.rail_words.specs.Requests.{request_of, number_to, steps_of, conflicts_of, ticks_of, seed_of, size_of, is_given, verify, check, trial}
 use Rattle.rail_words.proofs.Walks.{level, steps_read, design_read, proof_read, check_rows, check_top}
 use Rattle.rail_words.proofs.Searches as search
+use Rattle.rail_words.proofs.Bounded as bounded
 use Rattle.rail_words.proofs.Trials as trials
-use Rattle.rail_words.specs.Laws.{is_plain, SimulateIsRead, RoutesIsRead, VerifyIsRead, CheckIsRead, TrialIsRead}
+use Rattle.rail_words.specs.Laws.{is_plain, verify_words, bounds_words, SimulateIsRead, RoutesIsRead, VerifyIsRead, BoundsAreRead, CheckIsRead, TrialIsRead}
 
 off : (b : Bool) → not b ≡ true → b ≡ false
 off true h = absurd (false≢true h)
@@ -79,11 +80,12 @@ check_read program (x ∷ xs) (y ∷ ys) (z ∷ zs) n h i j =
     (steps_read x xs y ys z zs e f g) (design_read x xs y ys z zs e f g) (proof_read x xs y ys z zs e f g) h
 
 -- what is read of the rows of a search
-search_rows : (words : List Text) (rows : List Row) (steps conflicts ticks design proof : Text) (n c t : ℕ) → fault_of rcv_app words ≡ [] → subcommand_of rcv_app words ≡ Some (codes "verify", rows)
-    → first_of (codes "steps") rows ≡ Some steps → first_of (codes "conflicts") rows ≡ Some conflicts → first_of (codes "ticks") rows ≡ Some ticks → first_of (codes "DESIGN") rows ≡ Some design → first_of (codes "PROOF") rows ≡ Some proof
-    → steps_of steps ≡ Some n → conflicts_of conflicts ≡ Some c → ticks_of ticks ≡ Some t → request_of words ≡ Some (verify n c t design proof)
+search_rows : (words : List Text) (rows : List Row) (steps conflicts ticks design proof : Text) (n c t : ℕ) (bounds : Bool) → fault_of rcv_app words ≡ [] → subcommand_of rcv_app words ≡ Some (codes "verify", rows)
+    → first_of (codes "steps") rows ≡ Some steps → first_of (codes "conflicts") rows ≡ Some conflicts → first_of (codes "ticks") rows ≡ Some ticks → is_given (codes "bounds") rows ≡ bounds
+    → first_of (codes "DESIGN") rows ≡ Some design → first_of (codes "PROOF") rows ≡ Some proof
+    → steps_of steps ≡ Some n → conflicts_of conflicts ≡ Some c → ticks_of ticks ≡ Some t → request_of words ≡ Some (verify n c t bounds design proof)
 unfolding request_of
-search_rows words rows steps conflicts ticks design proof n c t taken named a b e f g h i j = rw (taken, named, a, b, e, f, g, h, i, j) refl
+search_rows words rows steps conflicts ticks design proof n c t bounds taken named a b e flag f g h i j = rw (taken, named, a, b, e, flag, f, g, h, i, j) refl
 
 pub verify_read : VerifyIsRead
 verify_read program [] conflicts ticks design proof n c t p q r i j = absurd (cc)
@@ -97,10 +99,27 @@ verify_read program (x ∷ xs) (u ∷ us) (v ∷ vs) (y ∷ ys) (z ∷ zs) n c t
     let d : (v == 45) ≡ false = off (v == 45) (digits_plain 1000000000000 (v ∷ vs) t r) in
     let f : (y == 45) ≡ false = off (y == 45) i in
     let g : (z == 45) ≡ false = off (z == 45) j in
-    search_rows (program ∷ codes "verify" ∷ codes "--steps" ∷ (x ∷ xs) ∷ codes "--conflicts" ∷ (u ∷ us) ∷ codes "--ticks" ∷ (v ∷ vs) ∷ (y ∷ ys) ∷ (z ∷ zs) ∷ []) _ (x ∷ xs) (u ∷ us) (v ∷ vs) (y ∷ ys) (z ∷ zs) n c t
+    search_rows (verify_words program (x ∷ xs) (u ∷ us) (v ∷ vs) (y ∷ ys) (z ∷ zs)) _ (x ∷ xs) (u ∷ us) (v ∷ vs) (y ∷ ys) (z ∷ zs) n c t false
     (search.verify_top program _ _ _ _ _ _ _ _ ∙ rw (search.level x xs u us v vs y ys z zs a b d f g) refl) (search.verify_rows program _ _ _ _ _ _ _ _)
     (search.steps_read x xs u us v vs y ys z zs a b d f g) (search.conflicts_read x xs u us v vs y ys z zs a b d f g) (search.ticks_read x xs u us v vs y ys z zs a b d f g)
-    (search.design_read x xs u us v vs y ys z zs a b d f g) (search.proof_read x xs u us v vs y ys z zs a b d f g) p q r
+    (search.no_bounds x xs u us v vs y ys z zs a b d f g) (search.design_read x xs u us v vs y ys z zs a b d f g) (search.proof_read x xs u us v vs y ys z zs a b d f g) p q r
+
+pub bounds_read : BoundsAreRead
+bounds_read program [] conflicts ticks design proof n c t p q r i j = absurd (cc)
+bounds_read program (x ∷ xs) [] ticks design proof n c t p q r i j = absurd (cc)
+bounds_read program (x ∷ xs) (u ∷ us) [] design proof n c t p q r i j = absurd (cc)
+bounds_read program (x ∷ xs) (u ∷ us) (v ∷ vs) [] proof n c t p q r i j = absurd (false≢true i)
+bounds_read program (x ∷ xs) (u ∷ us) (v ∷ vs) (y ∷ ys) [] n c t p q r i j = absurd (false≢true j)
+bounds_read program (x ∷ xs) (u ∷ us) (v ∷ vs) (y ∷ ys) (z ∷ zs) n c t p q r i j =
+    let a : (x == 45) ≡ false = off (x == 45) (digits_plain 64 (x ∷ xs) n p) in
+    let b : (u == 45) ≡ false = off (u == 45) (digits_plain 10000000 (u ∷ us) c q) in
+    let d : (v == 45) ≡ false = off (v == 45) (digits_plain 1000000000000 (v ∷ vs) t r) in
+    let f : (y == 45) ≡ false = off (y == 45) i in
+    let g : (z == 45) ≡ false = off (z == 45) j in
+    search_rows (bounds_words program (x ∷ xs) (u ∷ us) (v ∷ vs) (y ∷ ys) (z ∷ zs)) _ (x ∷ xs) (u ∷ us) (v ∷ vs) (y ∷ ys) (z ∷ zs) n c t true
+    (bounded.bounds_top program _ _ _ _ _ _ _ _ _ ∙ rw (bounded.level x xs u us v vs y ys z zs a b d f g) refl) (bounded.bounds_rows program _ _ _ _ _ _ _ _ _)
+    (bounded.steps_read x xs u us v vs y ys z zs a b d f g) (bounded.conflicts_read x xs u us v vs y ys z zs a b d f g) (bounded.ticks_read x xs u us v vs y ys z zs a b d f g)
+    (bounded.with_bounds x xs u us v vs y ys z zs a b d f g) (bounded.design_read x xs u us v vs y ys z zs a b d f g) (bounded.proof_read x xs u us v vs y ys z zs a b d f g) p q r
 
 -- what is read of the rows of a trial
 trial_rows : (words : List Text) (rows : List Row) (seed size : Text) (s k : ℕ) → fault_of rcv_app words ≡ [] → subcommand_of rcv_app words ≡ Some (codes "trial", rows)

@@ -11,7 +11,7 @@ use Rattle.clap.specs.Lexer.{long_of, short_of}
 use Rattle.clap.specs.Simple.{Shape}
 use Rattle.clap.specs.Takes.{is_given}
 use Rattle.clap.specs.Values.{is_request}
-use Rattle.clap.specs.Walk.{Held, Names, Outcome, Row, Rule, Step, Text, Waiting, Walk, action_of, after_flag, after_step, arg_by_id, arg_by_index, arg_by_long, arg_by_short, at_row, attached_value, bundle_met, bundle_step, default_rows, done, finished, first_of, flag_met, idle, is_pending, long_met, long_or_other, more_values, most_values, next, nothing_held, option, option_met, option_word, plain, plain_word, positional, reacted, reading_by, refused, rows_after, settled, settled_rows, short_met, short_or_plain, subcommand, subcommand_met, subcommand_or_other, takes_several, takes_values, to_positional, trailing, used, used_as, used_by_id, value, waits, walk, walk_from, walked, walked_from, with_default, with_values, without, word_met, has_row}
+use Rattle.clap.specs.Walk.{Held, Names, Outcome, Row, Rule, Step, Text, Waiting, Walk, action_of, after_flag, after_step, arg_by_id, arg_by_index, arg_by_long, arg_by_short, at_row, attached_value, bundle_met, bundle_step, default_rows, done, finished, first_of, flag_met, idle, is_pending, long_met, long_or_other, more_values, most_values, next, nothing_held, option, option_met, option_word, plain, plain_word, positional, reacted, reading_by, refused, rows_after, settled, settled_rows, short_met, short_or_plain, subcommand, subcommand_met, subcommand_or_other, takes_several, takes_values, to_positional, trailing, used, used_as, used_by_id, value, waits, walk, walk_from, walked, walked_from, with_default, with_values, without, word_met, has_row, is_empty}
 use Rattle.clap.specs.declared.builder.action.ArgAction.{ArgAction}
 use Rattle.clap.specs.declared.builder.action.ArgAction.TheVariants as action
 use Rattle.clap.specs.declared.builder.value_parser.Reading.{Reading}
@@ -54,9 +54,9 @@ with_kept id how s v vs rows r = at_row_kept id (more_values s (v ∷ vs)) (reco
 
 -- ---- one use of an argument
 
--- a use that passes has a value, or leaves the rows as they are
+-- a use that passes has a value, or one that stands for none, or leaves the rows as they are
 abbrev pub gives : Rule → Bool
-gives a = is_request (action_of a) || nat_lt 0 (unwrap_or_range a.range).start_inclusive
+gives a = is_request (action_of a) || (not (is_empty a.missing) || nat_lt 0 (unwrap_or_range a.range).start_inclusive)
 
 pub both_none : (a b : Kinds) → or_else a b ≡ [] → (a ≡ []) × (b ≡ [])
 both_none [] b e = (refl, e)
@@ -90,11 +90,13 @@ as_asked action.Version id how vs rows e r = r
 -- rows keep their values through a use that passes
 used_kept : (again : Bool) (a : Rule) (values : List Text) (rows : List Row) → gives a ≡ true → use_fault again a values rows ≡ [] → HaveValues rows → HaveValues (used a values rows)
 used_kept again a (v ∷ vs) rows g e r = as_used (action_of a) a.id (reading_by a) v vs rows r
-used_kept again a [] rows g e r = go (is_request (action_of a)) refl g
+used_kept again a [] rows g e r = go (is_request (action_of a)) a.missing refl g
   where
-    go : (b : Bool) → is_request (action_of a) ≡ b → (b || nat_lt 0 (unwrap_or_range a.range).start_inclusive) ≡ true → HaveValues (used a [] rows)
-    go true h g = as_asked (action_of a) a.id (reading_by a) a.missing rows h r
-    go false h g = absurd (none_given (unwrap_or_range a.range).start_inclusive (most_values a) g (both_none _ _ e).0)
+    go : (b : Bool) (missing : List Text) → is_request (action_of a) ≡ b → (b || (not (is_empty missing) || nat_lt 0 (unwrap_or_range a.range).start_inclusive)) ≡ true
+        → HaveValues (used_as (action_of a) a.id (reading_by a) missing rows)
+    go true missing h g = as_asked (action_of a) a.id (reading_by a) missing rows h r
+    go false (v ∷ vs) h g = as_used (action_of a) a.id (reading_by a) v vs rows r
+    go false [] h g = absurd (none_given (unwrap_or_range a.range).start_inclusive (most_values a) g (both_none _ _ e).0)
 
 abbrev FoundGives : Option Rule → Type 0
 FoundGives None = Unit {0}

@@ -1,6 +1,7 @@
 -- The fixed command: `rcv` with one required subcommand for each line of the usage.
 use Rattle.std.specs.Prelude.{◌==◌, Bool, true, List, length, Some, codes}
 use Rattle.clap.specs.Words.{App, Rule, Text, new_app, new_rule, with_rule, with_subcommand, fault_of}
+use Rattle.clap.specs.declared.builder.action.ArgAction.TheVariants.{SetTrue}
 
 -- a required value read as text, by its place
 abbrev pub positional_rule : Text → Rule
@@ -10,6 +11,10 @@ positional_rule name = record (new_rule name) { required = true }
 abbrev pub option_rule : Text → Rule
 option_rule name = record (new_rule name) { long = Some name; required = true }
 
+-- a flag, which takes no value and may be left out
+abbrev pub flag_rule : Text → Rule
+flag_rule name = record (new_rule name) { long = Some name; action = Some SetTrue }
+
 -- a command that takes one more value, by its place
 abbrev pub with_value : App → Text → App
 with_value app name = with_rule app (positional_rule name)
@@ -17,6 +22,10 @@ with_value app name = with_rule app (positional_rule name)
 -- a command that takes one more option
 abbrev pub with_option : App → Text → App
 with_option app name = with_rule app (option_rule name)
+
+-- a command that takes one more flag
+abbrev pub with_flag : App → Text → App
+with_flag app name = with_rule app (flag_rule name)
 
 -- `simulate DESIGN PLAN`
 abbrev pub simulate_app : App
@@ -26,15 +35,16 @@ simulate_app = with_value (with_value (new_app (codes "simulate")) (codes "DESIG
 abbrev pub routes_app : App
 routes_app = with_value (new_app (codes "routes")) (codes "DESIGN")
 
--- `verify --steps N --conflicts C --ticks T`, before its files
+-- `verify --steps N --conflicts C --ticks T`, before its flag and its files
 abbrev pub verify_options_app : App
 verify_options_app =
     with_option (with_option (with_option (new_app (codes "verify")) (codes "steps")) (codes "conflicts"))
     (codes "ticks")
 
--- `verify --steps N --conflicts C --ticks T DESIGN PROOF`
+-- `verify --steps N --conflicts C --ticks T [--bounds] DESIGN PROOF`
 abbrev pub verify_app : App
-verify_app = with_value (with_value verify_options_app (codes "DESIGN")) (codes "PROOF")
+verify_app =
+    with_value (with_value (with_flag verify_options_app (codes "bounds")) (codes "DESIGN")) (codes "PROOF")
 
 -- `check --steps N DESIGN PROOF`
 abbrev pub check_app : App

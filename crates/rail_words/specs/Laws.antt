@@ -33,7 +33,23 @@ VerifyIsRead = (program steps conflicts ticks design proof : Text) (n c t : ℕ)
     → ticks_of ticks ≡ Some t
     → is_plain design ≡ true
     → is_plain proof ≡ true
-    → request_of (verify_words program steps conflicts ticks design proof) ≡ Some (verify n c t design proof)
+    → request_of (verify_words program steps conflicts ticks design proof) ≡ Some (verify n c t false design proof)
+
+-- the words `verify --steps N --conflicts C --ticks T --bounds DESIGN PROOF` behind the program's name
+abbrev pub bounds_words : Text → Text → Text → Text → Text → Text → List Text
+bounds_words program steps conflicts ticks design proof =
+    program ∷ codes "verify"
+    ∷ codes "--steps" ∷ steps ∷ codes "--conflicts" ∷ conflicts ∷ codes "--ticks" ∷ ticks ∷ codes "--bounds"
+    ∷ design ∷ proof ∷ []
+
+abbrev pub BoundsAreRead : Type 0
+BoundsAreRead = (program steps conflicts ticks design proof : Text) (n c t : ℕ)
+    → steps_of steps ≡ Some n
+    → conflicts_of conflicts ≡ Some c
+    → ticks_of ticks ≡ Some t
+    → is_plain design ≡ true
+    → is_plain proof ≡ true
+    → request_of (bounds_words program steps conflicts ticks design proof) ≡ Some (verify n c t true design proof)
 
 abbrev pub CheckIsRead : Type 0
 CheckIsRead = (program steps design proof : Text) (n : ℕ)

@@ -1,7 +1,8 @@
 -- What the words of a command line ask for.
-use Rattle.std.specs.Prelude.{ℕ, ◌≤◌, ◌&&◌, nat_le, List, Option, Some, None, codes, if◌then◌else◌, bytes_eq}
-use Rattle.std.specs.Prelude.{option_and_then, option_map}
-use Rattle.clap.specs.Words.{Row, Text, first_of, subcommand_of}
+use Rattle.std.specs.Prelude.{ℕ, ◌≤◌, ◌&&◌, nat_le, Bool, false, List, Option, Some, None, codes, if◌then◌else◌}
+use Rattle.std.specs.Prelude.{bytes_eq, option_and_then, option_map}
+use Rattle.std.specs.Option.{option_map_or}
+use Rattle.clap.specs.Words.{Row, Text, first_of, one_of, subcommand_of}
 use Rattle.rail_text.specs.Numbers.{number_of}
 use Rattle.rail_words.specs.FixedCommand.{rcv_app, is_taken}
 
@@ -34,7 +35,7 @@ size_of = number_to 6
 pub data Asked : Type 0 where
   simulate : Text → Text → Asked
   routes : Text → Asked
-  verify : ℕ → ℕ → ℕ → Text → Text → Asked
+  verify : ℕ → ℕ → ℕ → Bool → Text → Text → Asked
   check : ℕ → Text → Text → Asked
   trial : ℕ → ℕ → Asked
 
@@ -42,7 +43,7 @@ pub data Asked : Type 0 where
 abbrev pub IsInRange : Asked → Type 0
 IsInRange (simulate design plan) = Unit {0}
 IsInRange (routes design) = Unit {0}
-IsInRange (verify n conflicts ticks design proof) = (1 ≤ n) × (n ≤ 64)
+IsInRange (verify n conflicts ticks bounds design proof) = (1 ≤ n) × (n ≤ 64)
 IsInRange (check n design proof) = (1 ≤ n) × (n ≤ 64)
 IsInRange (trial seed size) = (seed ≤ 18446744073709551615) × (1 ≤ size) × (size ≤ 6)
 
@@ -54,14 +55,15 @@ abbrev pub routes_with : Option Text → Option Asked
 routes_with design = option_map routes design
 
 -- a search with these numbers, if all of them are there
-abbrev pub verify_within : Option ℕ → Option ℕ → Option ℕ → Text → Text → Option Asked
-verify_within (Some n) (Some conflicts) (Some ticks) design proof = Some (verify n conflicts ticks design proof)
-verify_within _ _ _ design proof = None
+abbrev pub verify_within : Option ℕ → Option ℕ → Option ℕ → Bool → Text → Text → Option Asked
+verify_within (Some n) (Some conflicts) (Some ticks) bounds design proof =
+    Some (verify n conflicts ticks bounds design proof)
+verify_within _ _ _ bounds design proof = None
 
-abbrev pub verify_with : Option Text → Option Text → Option Text → Option Text → Option Text → Option Asked
-verify_with (Some steps) (Some conflicts) (Some ticks) (Some design) (Some proof) =
-    verify_within (steps_of steps) (conflicts_of conflicts) (ticks_of ticks) design proof
-verify_with _ _ _ _ _ = None
+abbrev pub verify_with : Option Text → Option Text → Option Text → Bool → Option Text → Option Text → Option Asked
+verify_with (Some steps) (Some conflicts) (Some ticks) bounds (Some design) (Some proof) =
+    verify_within (steps_of steps) (conflicts_of conflicts) (ticks_of ticks) bounds design proof
+verify_with _ _ _ bounds _ _ = None
 
 abbrev pub check_with : Option Text → Option Text → Option Text → Option Asked
 check_with (Some steps) (Some design) (Some proof) = option_map (λ n. check n design proof) (steps_of steps)
@@ -75,6 +77,10 @@ trial_within _ _ = None
 abbrev pub trial_with : Option Text → Option Text → Option Asked
 trial_with (Some seed) (Some size) = trial_within (seed_of seed) (size_of size)
 trial_with _ _ = None
+
+-- the flag is given: it reads as `true`
+abbrev pub is_given : Text → List Row → Bool
+is_given flag rows = option_map_or (λ text. bytes_eq text (codes "true")) (one_of flag rows) false
 
 -- ---- what the values of the arguments of each subcommand ask for
 
@@ -90,6 +96,7 @@ verify_by rows =
     (first_of (codes "steps") rows)
     (first_of (codes "conflicts") rows)
     (first_of (codes "ticks") rows)
+    (is_given (codes "bounds") rows)
     (first_of (codes "DESIGN") rows)
     (first_of (codes "PROOF") rows)
 

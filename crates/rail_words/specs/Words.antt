@@ -14,6 +14,7 @@ texts_of words = map (λ word. string_bytes word) words
 abbrev pub asked_of : Request → Asked
 asked_of (Simulate design plan) = simulate design.now plan.now
 asked_of (Routes design) = routes design.now
-asked_of (Verify steps conflicts ticks design proof) = verify steps conflicts ticks design.now proof.now
+asked_of (Verify steps conflicts ticks bounds design proof) =
+    verify steps conflicts ticks bounds design.now proof.now
 asked_of (Check steps design proof) = check steps design.now proof.now
 asked_of (Trial seed size) = trial seed size

@@ -3,11 +3,12 @@
 ghost use Rattle.std.specs.Prelude.{◌≡◌, IfOk, false};
 ghost use Rattle.clap.specs.Words.{app_of, rule_of};
 ghost use Rattle.clap.specs.declared.builder.command.Command.TheViews.{out-Command as fields_of};
-ghost use Rattle.rail_words.specs.FixedCommand.{option_rule, positional_rule, simulate_app, routes_app, numberless_app};
+ghost use Rattle.rail_words.specs.FixedCommand.{flag_rule, option_rule, positional_rule};
+ghost use Rattle.rail_words.specs.FixedCommand.{simulate_app, routes_app, numberless_app};
 ghost use Rattle.rail_words.specs.FixedCommand.{verify_options_app, verify_app, check_app, trial_app, files_app};
 ghost use Rattle.rail_words.specs.FixedCommand.{rcv_app};
 
-use clap::{Arg, Command};
+use clap::{Arg, ArgAction, Command};
 use std::alloc::{AllocError, Global};
 
 /// A required value, by its place.
@@ -24,6 +25,14 @@ fn option<'a>(alloc: Global, name: &'a str) -> Arg<'a>
     ensures local { result.global ≡ false }
 {
     Arg::new(alloc, name).long(name).required(true)
+}
+
+/// A flag, which takes no value and may be left out.
+fn flag<'a>(alloc: Global, name: &'a str) -> Arg<'a>
+    ensures rule { rule_of result ≡ flag_rule name.entry.now }
+    ensures local { result.global ≡ false }
+{
+    Arg::new(alloc, name).long(name).action(ArgAction::SetTrue)
 }
 
 fn simulate_command<'a>(alloc: Global) -> Result<Command<'a>, AllocError>
@@ -58,6 +67,7 @@ fn verify_command<'a>(alloc: Global) -> Result<Command<'a>, AllocError>
     ensures local { IfOk result (λ command. (fields_of command).has_globals ≡ false) }
 {
     verify_options(alloc)?
+        .arg(flag(alloc, "bounds"))?
         .arg(positional(alloc, "DESIGN"))?
         .arg(positional(alloc, "PROOF"))
 }

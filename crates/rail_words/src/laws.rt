@@ -1,7 +1,7 @@
 //! Which words are taken.
 
 ghost use Rattle.rail_words.specs.Laws.{SimulateIsRead, RoutesIsRead, VerifyIsRead, CheckIsRead, TrialIsRead};
-ghost use Rattle.rail_words.specs.Laws.{RequestsAreInRange, SilenceHasACause};
+ghost use Rattle.rail_words.specs.Laws.{BoundsAreRead, RequestsAreInRange, SilenceHasACause};
 
 /// `simulate DESIGN PLAN` after the program's name, no value empty or beginning with a hyphen, asks for that.
 pub fn simulate_is_read()
@@ -14,9 +14,15 @@ pub fn routes_is_read()
 {}
 
 /// `verify --steps N --conflicts C --ticks T DESIGN PROOF` after the program's name, the numbers in digits and in range, with
-/// such values, asks for that.
+/// such values, asks for that, without bounds.
 pub fn verify_is_read()
     ensures { VerifyIsRead }
+{}
+
+/// `verify --steps N --conflicts C --ticks T --bounds DESIGN PROOF` after the program's name, the numbers in digits and in
+/// range, with such values, asks for the same, with bounds.
+pub fn bounds_are_read()
+    ensures { BoundsAreRead }
 {}
 
 /// `check --steps N DESIGN PROOF` after the program's name, N from 1 to 64 in digits, with such values, asks for that.

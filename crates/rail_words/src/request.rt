@@ -4,7 +4,8 @@ ghost use Rattle.std.specs.Prelude.{◌≡◌, ◌≢◌, IfOk, OnOk, Err, Some,
 ghost use Rattle.std.specs.Prelude.{codes};
 ghost use Rattle.clap.specs.Words.{first_of, rows_of, found_of, subcommand_of, subcommand_rows_of};
 ghost use Rattle.rail_words.specs.FixedCommand.{rcv_app, is_taken};
-ghost use Rattle.rail_words.specs.Requests.{IsInRange, asked_by, check_with, conflicts_of, number_to, request_of};
+ghost use Rattle.rail_words.specs.Requests.{IsInRange, asked_by, check_with, conflicts_of, is_given, number_to};
+ghost use Rattle.rail_words.specs.Requests.{request_of};
 ghost use Rattle.rail_words.specs.Requests.{simulate_by, routes_by, verify_by, check_by, trial_by};
 ghost use Rattle.rail_words.specs.Requests.{simulate_with, steps_of, ticks_of, routes_with, seed_of, size_of};
 ghost use Rattle.rail_words.specs.Requests.{trial_with, trial_within, verify_with, verify_within};
@@ -36,6 +37,8 @@ pub enum Request<'a> {
         steps: u32,
         conflicts: u64,
         ticks: u64,
+        /// Whether plans that fail are excluded by lower bounds where one is found.
+        bounds: bool,
         design: &'a str,
         proof: &'a str,
     },
@@ -108,6 +111,13 @@ fn value<'a>(values: &ArgMatches<'a>, name: &str) -> Option<&'a str>
     values.get_str(name)
 }
 
+/// Whether a flag is given: what `get_flag` answers, whose contract leaves open texts that are neither `true` nor `false`.
+fn is_given(values: &ArgMatches, flag: &str) -> bool
+    ensures { result ≡ is_given flag.now (rows_of (found_of values.now)) }
+{
+    values.get_one::<bool>(flag).unwrap_or(false)
+}
+
 /// What the values of `simulate` ask for.
 fn simulate<'a>(values: &ArgMatches<'a>) -> Option<Request<'a>>
     ensures { option_map asked_of result ≡ simulate_by (rows_of (found_of values.now)) }
@@ -156,11 +166,13 @@ fn verify_within<'a>(
     steps: &str,
     conflicts: &str,
     ticks: &str,
+    bounds: bool,
     design: &'a str,
     proof: &'a str,
 ) -> Option<Request<'a>>
     ensures { option_map asked_of result
-        ≡ verify_within (steps_of steps.now) (conflicts_of conflicts.now) (ticks_of ticks.now) design.now proof.now }
+        ≡ verify_within (steps_of steps.now) (conflicts_of conflicts.now) (ticks_of ticks.now)
+        bounds design.now proof.now }
 {
     let Some(steps) = steps_of(steps) else {
         return None;
@@ -175,6 +187,7 @@ fn verify_within<'a>(
         steps,
         conflicts,
         ticks,
+        bounds,
         design,
         proof,
     })
@@ -199,7 +212,8 @@ fn verify<'a>(values: &ArgMatches<'a>) -> Option<Request<'a>>
     let Some(proof) = value(values, "PROOF") else {
         return None;
     };
-    verify_within(steps, conflicts, ticks, design, proof)
+    let bounds = is_given(values, "bounds");
+    verify_within(steps, conflicts, ticks, bounds, design, proof)
 }
 
 /// What the values of `check` ask for.
