@@ -19,3 +19,4 @@ mod visits;
 
 pub use covering::is_covered;
 pub use stated::names_design;
+pub use visit::{Visit, visit_of};

@@ -16,9 +16,9 @@ use rail_base::route::{Route, Start};
 use rail_base::station::{NodeNo, Station, TrainNo};
 use std::alloc::{AllocError, Global};
 
-/// A visit by its number, counted from 1, and its nodes as a list and as a set.
+/// A visit by its place among the visits of a train, counted from 1, and its nodes as a list and as a set.
 #[derive(Drop)]
-pub(crate) struct Visit<'a> {
+pub struct Visit<'a> {
     pub number: usize,
     pub list: &'a [NodeNo],
     pub set: NumberSet,
@@ -59,8 +59,9 @@ fn node_set(alloc: Global, nodes: &[NodeNo]) -> Result<NumberSet, AllocError>
     Ok(set)
 }
 
-/// A visit of a train.
-pub(crate) fn visit_of(
+/// A visit of a train, counted from 1. It has no nodes where the train is not of the station or has not so many visits.
+/// `Err` where memory ran out.
+pub fn visit_of(
     alloc: Global,
     station: &Station,
     train: TrainNo,
@@ -105,8 +106,8 @@ impl Visit<'_> {
         self.has_later_node(route)
     }
 
-    /// Whether the visit may be made on a route.
-    pub(crate) fn may_visit(&self, route: &Route) -> bool
+    /// Whether the visit may be made on a route: the first at its start, a later one at the end of one of its edges.
+    pub fn may_visit(&self, route: &Route) -> bool
         ensures { result ≡ may_visit self.now.number self.now.list.now route.now }
     {
         match self.number {

@@ -20,7 +20,7 @@ use std::alloc::{AllocError, Global};
 
 /// From where the ticks of a leg are counted, and how many of them at the most.
 #[derive(Clone, Copy)]
-pub(crate) struct Ride<'a> {
+pub struct Ride<'a> {
     pub interlocking: &'a Interlocking,
     pub leg: &'a Leg,
     /// The visit from which they are counted, or none where they are from the grant of the first command.
@@ -86,7 +86,7 @@ impl Ride<'_> {
     }
 
     /// The least ticks to a visit over all ways of the leg.
-    pub(crate) fn leg_to_visit(&self, alloc: Global, visit: Visit) -> Result<u64, AllocError>
+    pub fn leg_to_visit(&self, alloc: Global, visit: Visit) -> Result<u64, AllocError>
         requires { IsTrain self.now.interlocking.now.design.station visit.train }
         ensures { let i = self.now.interlocking.now in let from = origin_of self.now.from in IfOk result (λ n. n
             ≡ leg_to_visit i.design.station i.routes self.now.most from self.now.leg.now (visit_of visit)) }
@@ -100,7 +100,7 @@ impl Ride<'_> {
     }
 
     /// The least ticks to a release over all ways of the leg.
-    pub(crate) fn leg_to_release(&self, alloc: Global, next: &[RouteNo]) -> Result<u64, AllocError>
+    pub fn leg_to_release(&self, alloc: Global, next: &[RouteNo]) -> Result<u64, AllocError>
         requires { All (IsRoute self.now.interlocking.now.routes) next.now }
         ensures { let i = self.now.interlocking.now in let from = origin_of self.now.from in IfOk result (λ n. n
             ≡ leg_to_release i.design.station i.routes self.now.most from self.now.leg.now next.now) }

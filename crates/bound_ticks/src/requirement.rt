@@ -33,7 +33,7 @@ fn order_of(station: &Station, order: u32) -> &Order
 }
 
 /// The visit from which the ticks of a within or an order are counted.
-pub(crate) fn visit_from(interlocking: &Interlocking, requirement: Requirement) -> Option<Visit>
+pub fn visit_from(interlocking: &Interlocking, requirement: Requirement) -> Option<Visit>
     requires { requirement_fits interlocking.now requirement ≡ true }
     ensures visit { origin_of result ≡ visit_from interlocking.now.design.station requirement }
     ensures train { ForSome result (λ v. IsTrain interlocking.now.design.station v.train) }
@@ -59,7 +59,7 @@ pub(crate) fn visit_from(interlocking: &Interlocking, requirement: Requirement) 
 }
 
 /// The visit at which the ticks end.
-pub(crate) fn visit_to(interlocking: &Interlocking, requirement: Requirement) -> Option<Visit>
+pub fn visit_to(interlocking: &Interlocking, requirement: Requirement) -> Option<Visit>
     requires { requirement_fits interlocking.now requirement ≡ true }
     ensures visit { origin_of result ≡ visit_to interlocking.now.design.station requirement }
     ensures train { ForSome result (λ v. IsTrain interlocking.now.design.station v.train) }

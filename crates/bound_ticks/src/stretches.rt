@@ -74,7 +74,7 @@ fn stretches_of_leg(
 }
 
 /// The stretches of all legs, each of which leads to what the next waits for.
-pub(crate) fn stretches_of(
+pub fn stretches_of(
     alloc: Global,
     interlocking: &Interlocking,
     legs: &[Leg],
@@ -94,7 +94,7 @@ pub(crate) fn stretches_of(
 }
 
 /// The ticks in which so many stretches may be looked at.
-pub(crate) fn followed(interlocking: &Interlocking, stretches: u64) -> u64
+pub fn followed(interlocking: &Interlocking, stretches: u64) -> u64
     ensures ticks { result ≡ min (horizon interlocking.now.design.station) (most_looks / stretches) }
     ensures few { result ≤ 86400 }
 {

@@ -16,10 +16,11 @@ use rail_base::design::Design;
 use rail_base::route::{Route, RouteNo, route_at};
 use rail_base::station::{NodeNo, TrainNo};
 
-/// A visit of a train, counted from 1.
+/// A visit that a train has to make.
 #[derive(Clone, Copy)]
-pub(crate) struct Visit {
+pub struct Visit {
     pub train: TrainNo,
+    /// Its place among the visits of the train, counted from 1.
     pub number: u32,
 }
 
@@ -36,8 +37,9 @@ fn greatest_release(route: &Route, next: &Route) -> u64
     greatest
 }
 
-/// Where the last route of a way has released all that it shares with another.
-pub(crate) fn release_place(
+/// Where the head of a train is on a way, in mm from the way's start, when the last route has released all that it
+/// shares with another. It is 0 on a way without routes.
+pub fn release_place(
     interlocking: &Interlocking,
     train: TrainNo,
     way: &[RouteNo],
@@ -125,8 +127,9 @@ fn visit_offset(design: &Design, visit: Visit, route: &Route) -> u64
     )
 }
 
-/// Where on the last route of a way a visit can be made at the earliest.
-pub(crate) fn target(interlocking: &Interlocking, visit: Visit, way: &[RouteNo]) -> u64
+/// Where on the last route of a way a visit can be made at the earliest, in mm from the way's start. It is the route's
+/// start for a first visit and where the visit can't be made on the route, and 0 on a way without routes.
+pub fn target(interlocking: &Interlocking, visit: Visit, way: &[RouteNo]) -> u64
     requires train { IsTrain interlocking.now.design.station visit.train }
     requires way { All (IsRoute interlocking.now.routes) way.now }
     requires few { length way.now ≤ 64 }
@@ -144,8 +147,9 @@ pub(crate) fn target(interlocking: &Interlocking, visit: Visit, way: &[RouteNo])
     }
 }
 
-/// Where on the first route of a way a visit is made at the latest.
-pub(crate) fn visit_place(interlocking: &Interlocking, visit: Visit, way: &[RouteNo]) -> u64
+/// Where on the first route of a way a visit is made at the latest, in mm from the way's start. It is 0 for a first
+/// visit, where the visit can't be made on the route, and on a way without routes.
+pub fn visit_place(interlocking: &Interlocking, visit: Visit, way: &[RouteNo]) -> u64
     requires train { IsTrain interlocking.now.design.station visit.train }
     requires way { All (IsRoute interlocking.now.routes) way.now }
     ensures { let rs = routes_at interlocking.now.routes way.now in

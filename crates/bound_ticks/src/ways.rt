@@ -13,7 +13,7 @@ use std::alloc::{AllocError, Global};
 use std::slice::from_ref;
 
 /// The routes of a place.
-pub(crate) fn routes_of_place(place: &Place) -> &[RouteNo]
+pub fn routes_of_place(place: &Place) -> &[RouteNo]
     ensures { result.now ≡ routes_of_place place.now }
 {
     match place {
@@ -23,7 +23,7 @@ pub(crate) fn routes_of_place(place: &Place) -> &[RouteNo]
 }
 
 /// The routes of the first place of the first of some legs.
-pub(crate) fn first_routes(legs: &[Leg]) -> &[RouteNo]
+pub fn first_routes(legs: &[Leg]) -> &[RouteNo]
     ensures { result.now ≡ first_routes legs.now }
 {
     match legs {

@@ -1,0 +1,224 @@
+//! Finders of lower bounds.
+
+ghost use Rattle.std.specs.Prelude.{◌<◌, IfSome, length};
+
+use crate::choosing::{Breadth, Form, has_route};
+use crate::goals::{Beginning, Goal, goals};
+use crate::known::contend;
+use crate::links::{Link, Search};
+use crate::paths::{Given, Paths, Span};
+use crate::tables::Tables;
+use crate::ticks::Ticks;
+use cone_design::Contention;
+use rail_base::history::History;
+use rail_base::plan::{Plan, Violation};
+use rail_bound::Bound;
+use std::alloc::{AllocError, Global};
+
+/// No leg gets more choices of one route for each place, in turn, until its ticks can still be followed.
+const MOST_CHOICES: [usize; 3] = [256, 16, 2];
+
+/// No more widened bounds are proposed.
+const MOST_BOUNDS: usize = 3;
+
+/// Looks for lower bounds by which plans fail. Keeps the least ticks that it has found out, which are those of one design.
+#[derive(Drop)]
+pub struct Finder {
+    alloc: Global,
+    tables: Option<Tables>,
+    ticks: Ticks,
+}
+
+/// A chain that shows a goal to fail, and its widened bound with how many literals that has.
+#[derive(Drop)]
+struct Candidate {
+    goal: Goal,
+    legs: Vec<Span>,
+    bound: Bound,
+    size: usize,
+}
+
+impl Search<'_> {
+    /// Whether no command stands before the first of a train that makes a goal's first visit there.
+    fn begins_at_once(&self, goal: &Goal) -> bool {
+        let Some(from) = goal.from else {
+            return false;
+        };
+        if from.number != 1 {
+            return false;
+        }
+        let (first, end) = self.paths.span(from.train);
+        if end <= first {
+            return false;
+        }
+        let routes = self.tables.visit(from.train, 1);
+        self.paths
+            .commands(from.train)
+            .iter()
+            .filter(|given| has_route(routes, given.command.route))
+            .all(|given| self.waits_for_none(given))
+    }
+
+    /// Whether no command of another train that contends with one stands before it.
+    fn waits_for_none(&self, own: &Given) -> bool {
+        self.paths.given.iter().all(|given| {
+            own.step <= given.step || !contend(self.interlocking, given.command, own.command)
+        })
+    }
+
+    /// The chain that shows a goal to fail, with the beginning by which it does, if there is one.
+    fn first_chain(
+        &mut self,
+        goal: &Goal,
+        links: &[Link],
+    ) -> Result<Option<(Goal, Vec<Span>)>, AllocError> {
+        if let Some(legs) = self.chain(goal, links)? {
+            return Ok(Some((*goal, legs)));
+        }
+        if !self.begins_at_once(goal) {
+            return Ok(None);
+        }
+        let goal = Goal {
+            beginning: Beginning::FirstTick,
+            ..*goal
+        };
+        let legs = self.chain(&goal, links)?;
+        Ok(legs.map(|legs| (goal, legs)))
+    }
+
+    /// A chain's bound in a breadth, with as many choices as can be followed.
+    fn bound_in<'b>(
+        &mut self,
+        goal: &'b Goal,
+        legs: &'b [Span],
+        breadth: Breadth,
+    ) -> Result<Option<Bound>, AllocError> {
+        for most_choices in MOST_CHOICES {
+            let form = Form {
+                goal,
+                legs,
+                breadth,
+                most_choices,
+            };
+            if let Some(bound) = self.bound(&form)? {
+                return Ok(Some(bound));
+            }
+        }
+        Ok(None)
+    }
+
+    /// A chain's bound as wide as can be had.
+    fn widest(&mut self, goal: &Goal, legs: &[Span]) -> Result<Option<Bound>, AllocError> {
+        for breadth in [Breadth::Whole, Breadth::Alike, Breadth::Own] {
+            if let Some(bound) = self.bound_in(goal, legs, breadth)? {
+                return Ok(Some(bound));
+            }
+        }
+        Ok(None)
+    }
+
+    /// The chains of all goals that have one, each with its bound.
+    fn candidates(&mut self, goals: &[Goal]) -> Result<Vec<Candidate>, AllocError> {
+        let links = self.links()?;
+        let mut all = Vec::new(self.alloc);
+        for goal in goals {
+            let Some((goal, legs)) = self.first_chain(goal, links.as_slice())? else {
+                continue;
+            };
+            if let Some(bound) = self.widest(&goal, legs.as_slice())? {
+                let size = self.size(&goal, &bound);
+                all.push(Candidate {
+                    goal,
+                    legs,
+                    bound,
+                    size,
+                })?;
+            }
+        }
+        Ok(all)
+    }
+
+    /// The bounds of these, the shortest first, and behind them the shortest as it is without being widened.
+    fn in_order(&mut self, found: Vec<Candidate>) -> Result<Vec<Bound>, AllocError> {
+        let mut found = found;
+        let mut bounds = Vec::new(self.alloc);
+        let mut last = None;
+        for index in 0..MOST_BOUNDS {
+            let Some(least) = least_of(found.as_slice()) else {
+                break;
+            };
+            let Candidate {
+                goal,
+                legs,
+                bound,
+                size: _,
+            } = found.swap_remove(least);
+            if index == 0 {
+                last = self.bound_in(&goal, legs.as_slice(), Breadth::Own)?;
+            }
+            bounds.push(bound)?;
+        }
+        if let Some(bound) = last {
+            bounds.push(bound)?;
+        }
+        Ok(bounds)
+    }
+}
+
+/// Which has the fewest literals.
+fn least_of(found: &[Candidate]) -> Option<usize>
+    ensures { IfSome result (λ index. index < length found.now) }
+{
+    let mut least: Option<(usize, usize)> = None;
+    for (index, one) in found.iter().enumerate() {
+        let is_less = match least {
+            Some((_, size)) => one.size < size,
+            None => true,
+        };
+        if is_less {
+            least = Some((index, one.size));
+        }
+    }
+    let (index, _) = least?;
+    Some(index)
+}
+
+impl Finder {
+    /// A finder that knows nothing yet.
+    pub fn new(alloc: Global) -> Finder {
+        Finder {
+            alloc,
+            tables: None,
+            ticks: Ticks::new(alloc),
+        }
+    }
+
+    /// Bounds that may exclude a plan that fails in this way, the best first; each is still to be judged and tried against
+    /// the plan. `Err` where memory ran out; the finder may then be used on.
+    pub fn bounds(
+        &mut self,
+        contention: &Contention,
+        plan: &Plan,
+        _history: &History,
+        violation: Violation,
+    ) -> Result<Vec<Bound>, AllocError> {
+        let interlocking = contention.interlocking;
+        if self.tables.is_none() {
+            self.tables = Some(Tables::of(self.alloc, interlocking)?);
+        }
+        let Some(tables) = &self.tables else {
+            return Ok(Vec::new(self.alloc));
+        };
+        let paths = Paths::of(self.alloc, interlocking, plan)?;
+        let goals = goals(self.alloc, interlocking, &paths, violation)?;
+        let mut search = Search {
+            alloc: self.alloc,
+            interlocking,
+            tables,
+            paths: &paths,
+            ticks: &mut self.ticks,
+        };
+        let found = search.candidates(goals.as_slice())?;
+        search.in_order(found)
+    }
+}

@@ -1,0 +1,135 @@
+//! What is asked of a design by numbers that it may not have.
+
+ghost use Rattle.std.specs.Prelude.{◌≡◌, ◌≤◌, IsTrue, All, length};
+ghost use Rattle.rail_base.specs.Routes.{IsRoute};
+ghost use Rattle.rail_base.specs.Stations.{IsTrain};
+
+use bound_ticks::Visit;
+use cone_design::goes_on;
+use interlocking::Interlocking;
+use rail_base::plan::Command;
+use rail_base::route::{Route, RouteNo, Start};
+use rail_base::station::TrainNo;
+
+/// No way has more routes, since no plan has more steps.
+const MOST_ROUTES: usize = 64;
+
+/// How many trains a design has.
+pub(crate) fn count_trains(interlocking: &Interlocking) -> u32
+    ensures value { result ≡ length interlocking.now.design.station.trains }
+    ensures few { result ≤ 32 }
+{
+    interlocking.design.station.trains.len() as u32
+}
+
+/// How many routes it has.
+pub(crate) fn count_routes(interlocking: &Interlocking) -> u32
+    ensures value { result ≡ length interlocking.now.routes }
+    ensures few { result ≤ 2000 }
+{
+    interlocking.routes.len() as u32
+}
+
+/// Whether a train is one of a design.
+pub(crate) fn is_train(interlocking: &Interlocking, train: TrainNo) -> bool
+    ensures { IsTrue result → IsTrain interlocking.now.design.station train }
+{
+    1 <= train.0 && train.0 <= count_trains(interlocking)
+}
+
+/// Whether a route is one of a design.
+pub(crate) fn is_route(interlocking: &Interlocking, route: RouteNo) -> bool
+    ensures { IsTrue result → IsRoute interlocking.now.routes route }
+{
+    1 <= route.0 && route.0 <= count_routes(interlocking)
+}
+
+/// Whether the routes of a way are of a design, and few.
+pub(crate) fn is_way(interlocking: &Interlocking, way: &[RouteNo]) -> bool
+    ensures routes { IsTrue result → All (IsRoute interlocking.now.routes) way.now }
+    ensures few { IsTrue result → length way.now ≤ 64 }
+{
+    way.len() <= MOST_ROUTES && way.iter().all(|route| is_route(interlocking, *route))
+}
+
+/// The route of a number, if there is one.
+pub(crate) fn route(interlocking: &Interlocking, number: RouteNo) -> Option<&Route> {
+    if is_route(interlocking, number) {
+        Some(interlocking.route(number))
+    } else {
+        None
+    }
+}
+
+/// Whether two routes have a section in common.
+pub(crate) fn share(interlocking: &Interlocking, one: RouteNo, other: RouteNo) -> bool {
+    is_route(interlocking, one) && is_route(interlocking, other) && interlocking.share(one, other)
+}
+
+/// Whether two commands contend.
+pub(crate) fn contend(interlocking: &Interlocking, one: Command, other: Command) -> bool {
+    one.train != other.train && share(interlocking, one.route, other.route)
+}
+
+/// Whether a route starts at a boundary.
+pub(crate) fn starts_at_boundary(interlocking: &Interlocking, number: RouteNo) -> bool {
+    match route(interlocking, number) {
+        Some(route) => matches!(route.start, Start::Boundary(_)),
+        None => false,
+    }
+}
+
+/// Whether two routes start at one place.
+pub(crate) fn starts_like(interlocking: &Interlocking, one: RouteNo, other: RouteNo) -> bool {
+    match (route(interlocking, one), route(interlocking, other)) {
+        (Some(one), Some(other)) => one.start == other.start,
+        _ => false,
+    }
+}
+
+/// Whether a route goes on to a way, if that has routes.
+pub(crate) fn leads_to(interlocking: &Interlocking, number: RouteNo, way: &[RouteNo]) -> bool {
+    let Some(next) = way.first() else {
+        return true;
+    };
+    match (route(interlocking, number), route(interlocking, *next)) {
+        (Some(one), Some(other)) => goes_on(one.finish, other.start),
+        _ => false,
+    }
+}
+
+/// Where on a way a train has released what a route waits for, in mm from the way's start.
+pub(crate) fn release_place(
+    interlocking: &Interlocking,
+    train: TrainNo,
+    way: &[RouteNo],
+    next: RouteNo,
+) -> Option<u64> {
+    if is_train(interlocking, train) && is_way(interlocking, way) && is_route(interlocking, next) {
+        Some(bound_ticks::release_place(interlocking, train, way, next))
+    } else {
+        None
+    }
+}
+
+/// Where on the last route of a way a visit can be made at the earliest, in mm from the way's start.
+pub(crate) fn target(interlocking: &Interlocking, visit: Visit, way: &[RouteNo]) -> Option<u64> {
+    if is_train(interlocking, visit.train) && is_way(interlocking, way) {
+        Some(bound_ticks::target(interlocking, visit, way))
+    } else {
+        None
+    }
+}
+
+/// Where on the first route of a way a visit is made at the latest, in mm from the way's start.
+pub(crate) fn visit_place(
+    interlocking: &Interlocking,
+    visit: Visit,
+    way: &[RouteNo],
+) -> Option<u64> {
+    if is_train(interlocking, visit.train) && is_way(interlocking, way) {
+        Some(bound_ticks::visit_place(interlocking, visit, way))
+    } else {
+        None
+    }
+}
