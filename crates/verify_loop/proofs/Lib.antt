@@ -2,13 +2,12 @@ pub mod Held
 pub mod Made
 pub mod Timing
 pub mod Known
+pub mod Heading
+pub mod Turning
 pub mod Modelling
 pub mod Within
 pub mod Rounds
 pub mod Each
-pub mod Below
 pub mod Refuting
-pub mod Failure
-pub mod Written
 pub mod Answering
 pub mod Differing

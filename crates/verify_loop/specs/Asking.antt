@@ -1,13 +1,11 @@
 -- Where a search is that answers a question.
-use Rattle.std.specs.Prelude.{ℕ, ◌≡◌, ◌+◌, ◌<◌, List, [], ◌∷◌}
-use Rattle.rail_base.specs.declared.history.TrainHistory.{TrainHistory}
-use Rattle.rail_base.specs.declared.history.Verdict.TheVariants.{Failed}
+use Rattle.std.specs.Prelude.{ℕ, ◌≡◌, ◌+◌, ◌<◌, Bool, List, [], ◌∷◌}
+use Rattle.plan_exclusion.specs.declared.exclusion.Exclusion.{Exclusion}
+use Rattle.plan_exclusion.specs.Exclusions.{IsExclusion}
+use Rattle.plan_exclusion.specs.Failures.{TellOf}
 use Rattle.rail_base.specs.declared.plan.Command.{Command}
-use Rattle.rail_base.specs.declared.plan.Violation.{Violation}
 use Rattle.rail_base.specs.declared.station.Station.{Station}
-use Rattle.rail_cone.specs.declared.Cone.{Cone}
-use Rattle.rail_spec.specs.Histories.{verdict_of}
-use Rattle.rail_spec.specs.Track.{routes_of}
+use Rattle.rail_bound.specs.declared.Evidence.{Evidence}
 use Rattle.run_log.specs.Logs as logs
 use Rattle.sat_clause.specs.declared.lit.Lit.{Lit}
 use Rattle.sat_clause.specs.Clauses.{opposite}
@@ -37,18 +35,17 @@ module _ (q : Question) where
 
   -- ---- plans
 
-  -- the plan was found where the cones of some were known
+  -- the plan was found where some cones and bounds were known
   abbrev pub WasFound : List (List Command) → Type 0
-  WasFound plan = (cones : List Cone) × IsFound station_of most_steps cones plan
+  WasFound plan = (known : List Evidence) × IsFound q.method station_of most_steps known plan
 
-  -- the plan fails in this way
-  abbrev pub Fails : List (List Command) → List TrainHistory → ℕ → Violation → Type 0
-  Fails plan history tick violation =
-      (ticks : ℕ) × (verdict_of station_of (routes_of station_of) plan ticks ≡ Failed history tick violation)
+  -- the values tell of the plan
+  abbrev pub Tells : List Bool → List (List Command) → Type 0
+  Tells = TellOf station_of most_steps
 
-  -- the line and the clause of the cone of a plan that fails
-  abbrev pub IsWritten : List (List Command) → List ℕ → List Lit → Type 0
-  IsWritten = searching.IsWritten station_of most_steps
+  -- the line and the clause of a cone or a bound that shows that a plan fails
+  abbrev pub Excludes : List (List Command) → Exclusion → Type 0
+  Excludes plan e = IsExclusion q.method station_of most_steps plan e.line.items e.clause.items
 
   -- how many ticks the plan costs
   abbrev pub ticks_of : List (List Command) → ℕ
@@ -59,19 +56,19 @@ module _ (q : Question) where
   -- the search goes on, and nothing is spent
   abbrev pub IsSearch : Search → Type 0
   IsSearch s =
-      searching.IsSearch station_of most_steps q.budgets s.solver.recorder s.solver.vars s.solver.derives
+      searching.IsSearch q.method station_of most_steps q.budgets s.solver.recorder s.solver.vars s.solver.derives
       s.failed.items s.sum s.steps
 
   -- it came to this plan
   abbrev pub IsAtPlan : Search → List (List Command) → Type 0
   IsAtPlan s plan =
-      searching.IsAtPlan station_of most_steps q.budgets s.solver.recorder s.solver.vars s.solver.derives
+      searching.IsAtPlan q.method station_of most_steps q.budgets s.solver.recorder s.solver.vars s.solver.derives
       s.failed.items s.sum s.steps plan
 
   -- the last line of its log shows by this clause that there is no plan, or none of so many steps
   abbrev pub IsDenied : Search → List Lit → Type 0
   IsDenied s clause =
-      searching.IsDenied station_of most_steps q.budgets s.solver.recorder s.solver.vars s.solver.derives
+      searching.IsDenied q.method station_of most_steps q.budgets s.solver.recorder s.solver.vars s.solver.derives
       s.failed.items s.sum s.steps clause
 
   -- where it may look for longer plans, no clause says that there is none of so many steps
@@ -84,4 +81,4 @@ module _ (q : Question) where
 
   -- what its end says
   abbrev pub EndsWith : Outcome → Type 0
-  EndsWith = Says station_of most_steps q.budgets
+  EndsWith = Says q.method station_of most_steps q.budgets

@@ -3,4 +3,4 @@ use Rattle.verify_loop.proofs.Differing.{plans_differ}
 use Rattle.verify_loop.proofs.laws.refuted_plans_differ.Goals as goal
 
 pub returns : goal.returns
-returns c = λ d good n some rs refuted. plans_differ d good n some [] rs refuted
+returns c = λ m d good n some rs refuted. plans_differ m d good n some [] rs refuted

@@ -8,6 +8,7 @@ use Rattle.verify_loop.proofs.question.Question.denied.Goals.{then-is_empty-via-
 
 pub returns-then-is_empty-clause-ends : goal.returns-then-is_empty-clause-ends
 returns-then-is_empty-clause-ends c =
+    let m = c.args.self.now.method in
     let d = c.args.self.now.interlocking.now.design.station in
     let n = c.args.self.now.base.now.steps in
     let b = c.args.self.now.budgets in
@@ -15,7 +16,7 @@ returns-then-is_empty-clause-ends c =
       | then-is_empty-via-then-is_empty w ↦ inl (empty-so c.args.core.now c.is_empty.result c.is_empty.ensures w.if-is_empty.true)
       | then-is_empty-via-else-is_empty+then-search-counts w ↦ inr (w.if-search-counts.true ∙ w.counts.ensures.steps)
     ] in
-    subst (λ (log : List ℕ). IsInfeasible d n × IsProof d n b log × (length log ≤ b.log_bytes)) (sym (ap (λ v. v.items) c.log_of.ensures)) (c.requires.of_all which)
+    subst (λ (log : List ℕ). IsInfeasible d n × IsProof m d n b log × (length log ≤ b.log_bytes)) (sym (ap (λ v. v.items) c.log_of.ensures)) (c.requires.of_all which)
 
 pub longer-requires-clause-known : goal.longer-requires-clause-known
 longer-requires-clause-known c =

@@ -1,0 +1,32 @@
+use Rattle.rail_base.proofs.Admitting.{admitted}
+use Rattle.rail_cone.proofs.Refusing.{holds_of_valid}
+use Rattle.plan_exclusion.proofs.Failure.{formed_so, fails_so, refutes_so, excluded_so}
+use Rattle.plan_exclusion.proofs.exclusion.FailedPlan.by_cone.Goals as goal
+
+pub slice-requires-clause-formed : goal.slice-requires-clause-formed
+slice-requires-clause-formed c =
+    let f = c.args.self.now in
+    let i = f.contention.interlocking.now in
+    formed_so i.design.station f.steps.count i.routes i.table f.plan.now.steps f.runs 64 f.steps.most
+
+pub slice-requires-clause-fails : goal.slice-requires-clause-fails
+slice-requires-clause-fails c =
+    let f = c.args.self.now in
+    let i = f.contention.interlocking.now in
+    fails_so i.design.station f.steps.count i.routes i.table f.plan.now.steps f.runs f.history.now f.tick f.violation f.fails
+
+pub clause_of-requires : goal.clause_of-requires
+clause_of-requires c =
+    let f = c.args.self.now in
+    let i = f.contention.interlocking.now in
+    record {
+      fits = (holds_of_valid i.design.station i.routes c.in_ok-cone.cone
+          (refutes_so i.design.station f.steps.count i.routes i.table f.plan.now.steps f.runs (admitted i.design.station i.design.admitted) f.each f.steps.some f.steps.most c.in_ok-cone.cone c.in_ok-cone.ensures.refutes c.in_ok-cone.ensures.small).valid).in_design;
+    }
+
+pub returns : goal.returns
+returns c =
+    let f = c.args.self.now in
+    let i = f.contention.interlocking.now in
+    excluded_so i.design.station f.steps.count i.routes i.table f.plan.now.steps f.runs (admitted i.design.station i.design.admitted) f.each f.steps.some f.steps.most c.in_ok-cone.cone c.in_ok-cone.ensures.refutes c.in_ok-cone.ensures.small
+    c.args.method f.history.now f.tick f.violation f.fails c.in_ok-cone.ensures.value c.in_ok-line.line.items c.in_ok-clause.clause.items c.in_ok-line.ensures c.in_ok-clause.ensures

@@ -1,0 +1,5 @@
+-- Plans that fail, and what excludes them.
+pub mod Failures
+pub mod Exclusions
+pub mod Written
+pub mod Laws

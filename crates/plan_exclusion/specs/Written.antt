@@ -1,0 +1,41 @@
+-- What excludes a plan, as the code has it.
+use Rattle.std.specs.Prelude.{◌≡◌, ℕ, false, List, Some, Ok}
+use Rattle.proof_judge.specs.Judged.{refuted}
+use Rattle.proof_log.specs.declared.line.Line.TheVariants.{Refute}
+use Rattle.proof_log.specs.Lines.{line_of}
+use Rattle.proof_log.specs.Text.{text_of_line}
+use Rattle.rail_bound.specs.declared.Bound.{Bound}
+use Rattle.rail_bound.specs.declared.Evidence.{Evidence}
+use Rattle.rail_bound.specs.declared.Evidence.TheVariants as evidence
+use Rattle.sat_clause.specs.declared.lit.Lit.{Lit}
+use Rattle.sat_clause.specs.Clauses.{clause_holds}
+use Rattle.sat_core.specs.Models.{value_in}
+use Rattle.plan_exclusion.specs.declared.exclusion.Exclusion.{Exclusion}
+use Rattle.plan_exclusion.specs.declared.exclusion.FailedPlan.{FailedPlan}
+use Rattle.plan_exclusion.specs.declared.method.Method.{Method}
+use Rattle.plan_exclusion.specs.Exclusions.{IsExclusion}
+
+-- it excludes the plan that fails
+abbrev pub IsExclusionOf : FailedPlan → Method → Exclusion → Type 0
+IsExclusionOf f m e =
+    IsExclusion m f.contention.interlocking.now.design.station f.steps.count f.plan.now.steps
+    e.line.items e.clause.items
+
+-- the evidence shows the clause, which is false by the values that tell of the plan
+abbrev pub DeniedBy : FailedPlan → Evidence → List Lit → Type 0
+DeniedBy f e clause = (refuted f.contention.interlocking.now.design.station f.steps.count e ≡ Ok clause)
+    × (clause_holds (value_in f.values.now) clause ≡ false)
+
+-- it shows no clause that is false by those values
+abbrev pub DeniesNothing : FailedPlan → Evidence → Type 0
+DeniesNothing f e = (clause : List Lit) → DeniedBy f e clause → ⊥
+
+-- the line is that of no bound
+abbrev pub SpellsNoBound : List ℕ → Type 0
+SpellsNoBound line = (b : Bound) → line_of line ≡ Some (Refute (evidence.Bound b)) → ⊥
+
+-- no bound that its line spells shows such a clause
+abbrev pub ExcludesNothing : FailedPlan → Bound → Type 0
+ExcludesNothing f bound = (b : Bound)
+    → line_of (text_of_line (Refute (evidence.Bound bound))) ≡ Some (Refute (evidence.Bound b))
+    → DeniesNothing f (evidence.Bound b)

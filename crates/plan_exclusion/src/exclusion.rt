@@ -1,0 +1,169 @@
+//! The line that excludes a plan.
+
+ghost use Rattle.std.specs.Prelude.{◌≡◌, IfOk, MatchOption, Some};
+ghost use Rattle.std.specs.Option.{ForSome};
+ghost use Rattle.proof_log.specs.declared.line.Line.TheVariants.{Refute};
+ghost use Rattle.proof_log.specs.Lines.{line_of};
+ghost use Rattle.rail_bound.specs.declared.Evidence.TheVariants as evidence;
+ghost use Rattle.rail_slice.specs.Holders.{GivesEach};
+ghost use Rattle.rail_spec.specs.Feasible.{IsRunnable};
+ghost use Rattle.rail_spec.specs.Track.{routes_of};
+ghost use Rattle.plan_exclusion.specs.Failures.{FailsSo, TellOf};
+ghost use Rattle.plan_exclusion.specs.declared.method.Method.TheVariants as by;
+
+use crate::denied::is_denied;
+use crate::method::Method;
+use bound_finder::Finder;
+use cone_clause::clause_of;
+use cone_design::Contention;
+use interlocking::Steps;
+use log_checker::{RefuteFault, Refuter};
+use proof_judge::ByDesign;
+use proof_log::{Line, LineFault, read_line, write_line};
+use rail_base::history::History;
+use rail_base::plan::{Plan, Violation};
+use rail_bound::{Bound, Evidence};
+use sat_clause::Lit;
+use sat_core::Assignment;
+use std::alloc::{AllocError, Global};
+use timing_refuter::slice;
+
+/// A line of a proof by which a plan is excluded, without its end, and the clause that it shows.
+#[derive(Drop)]
+pub struct Exclusion {
+    pub line: Vec<u8>,
+    pub clause: Vec<Lit>,
+}
+
+/// A plan that can be carried out and fails, and how.
+#[derive(Clone, Copy)]
+pub struct FailedPlan<'a, 'b> {
+    pub contention: Contention<'a>,
+    /// It has no more steps.
+    pub steps: Steps,
+    pub plan: &'b Plan,
+    /// The values of the variables, from the first on, that tell of the plan.
+    pub values: &'b Assignment,
+    /// Its history up to the tick at which it fails.
+    pub history: &'b History,
+    pub tick: u64,
+    pub violation: Violation,
+    pub ghost runs: { let d = contention.interlocking.now.design.station in
+        IsRunnable d (routes_of d) steps.count plan.now.steps },
+    pub ghost each: { GivesEach contention.interlocking.now.design.station plan.now.steps },
+    pub ghost fails: { FailsSo contention.interlocking.now.design.station plan.now.steps history.now tick violation },
+    pub ghost told: { TellOf contention.interlocking.now.design.station steps.count values.now plan.now.steps },
+}
+
+impl FailedPlan<'_, '_> {
+    ghost use Rattle.plan_exclusion.specs.Written.{DeniedBy, DeniesNothing, ExcludesNothing, IsExclusionOf, SpellsNoBound};
+
+    /// What the design says of evidence.
+    fn by_design(&self) -> ByDesign<'_>
+        ensures design { result.contention ≡ self.now.contention }
+        ensures steps { result.steps ≡ self.now.steps }
+    {
+        ByDesign {
+            contention: self.contention,
+            steps: self.steps,
+        }
+    }
+
+    /// The exclusion by the cone of the failure.
+    fn by_cone(&self, alloc: Global, method: Method) -> Result<Exclusion, AllocError>
+        ensures { IfOk result (IsExclusionOf self.now method) }
+    {
+        let cone = slice(
+            alloc,
+            self.contention.interlocking,
+            self.plan,
+            self.history,
+            self.tick,
+            self.violation,
+        )?;
+        let clause = clause_of(alloc, &self.contention, self.steps, &cone)?;
+        let evidence = Evidence::Cone(cone);
+        let line = write_line(alloc, &Line::Refute { evidence })?;
+        Ok(Exclusion { line, clause })
+    }
+
+    /// The bound of a line as it is read back, or none where the line does not spell one.
+    fn read_back(&self, alloc: Global, line: &[u8]) -> Result<Option<Bound>, AllocError>
+        ensures { IfOk result (λ read. MatchOption read (SpellsNoBound line.now)
+            (λ b. line_of line.now ≡ Some (Refute (evidence.Bound b)))) }
+    {
+        match read_line(alloc, line) {
+            Ok(
+                Line::Refute {
+                    evidence: Evidence::Bound(bound),
+                },
+            ) => Ok(Some(bound)),
+            Ok(_) | Err(LineFault::Text) => Ok(None),
+            Err(LineFault::Memory) => Err(AllocError),
+        }
+    }
+
+    /// The clause of a bound that is valid, and whose clause is false of the plan; else none.
+    fn clause_by(&self, alloc: Global, evidence: &Evidence) -> Result<Option<Vec<Lit>>, AllocError>
+        ensures { IfOk result (λ o. MatchOption o (DeniesNothing self.now evidence.now)
+            (λ clause. DeniedBy self.now evidence.now clause.items)) }
+    {
+        match self.by_design().clause_of(alloc, evidence) {
+            Ok(clause) if is_denied(self.values, &clause) => Ok(Some(clause)),
+            Ok(_) | Err(RefuteFault::NotRefuted(_)) => Ok(None),
+            Err(RefuteFault::Memory) => Err(AllocError),
+        }
+    }
+
+    /// The exclusion by a bound, as its line is read back: none where the bound is not valid, or excludes other plans alone.
+    fn by_bound(&self, alloc: Global, bound: Bound) -> Result<Option<Exclusion>, AllocError>
+        ensures { IfOk result (λ e. MatchOption e (ExcludesNothing self.now bound)
+            (IsExclusionOf self.now by.Bounds)) }
+    {
+        let evidence = Evidence::Bound(bound);
+        let line = write_line(alloc, &Line::Refute { evidence })?;
+        let Some(bound) = self.read_back(alloc, &line)? else {
+            return Ok(None);
+        };
+        match self.clause_by(alloc, &Evidence::Bound(bound))? {
+            Some(clause) => Ok(Some(Exclusion { line, clause })),
+            None => Ok(None),
+        }
+    }
+
+    /// The exclusion by the first of the bounds that are found that is one, if any is.
+    fn by_bounds(&self, alloc: Global, finder: &mut Finder) -> Result<Option<Exclusion>, AllocError>
+        ensures { IfOk result (λ e. ForSome e (IsExclusionOf self.now by.Bounds)) }
+    {
+        let bounds = finder.bounds(&self.contention, self.plan, self.history, self.violation)?;
+        for bound in bounds {
+            if let Some(exclusion) = self.by_bound(alloc, bound)? {
+                return Ok(Some(exclusion));
+            }
+        }
+        Ok(None)
+    }
+
+    /// What excludes the plan: by the method of cones the cone of its failure, and by that of bounds one of the bounds that
+    /// are found, or the cone where none of them excludes it.
+    ///
+    /// # Errors
+    ///
+    /// Want of memory alone.
+    pub fn exclusion(
+        &self,
+        alloc: Global,
+        method: Method,
+        finder: &mut Finder,
+    ) -> Result<Exclusion, AllocError>
+        ensures { IfOk result (IsExclusionOf self.now method) }
+    {
+        match method {
+            Method::Cones => self.by_cone(alloc, method),
+            Method::Bounds => match self.by_bounds(alloc, finder)? {
+                Some(exclusion) => Ok(exclusion),
+                None => self.by_cone(alloc, method),
+            },
+        }
+    }
+}

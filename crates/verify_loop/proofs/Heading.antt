@@ -1,0 +1,29 @@
+-- The log of a search is judged over the clauses with which it begins.
+use Rattle.std.proofs.Common.{◌≡◌, ℕ, ◌≤◌, true, not, ◌&&◌, ◌==◌, is_some, if◌then◌else◌, List, Some, None, refl, ap, ◌∙◌, eq-eqb, arith, le-leb}
+use Rattle.log_checker.specs.declared.shown.Shown.TheVariants.{No}
+use Rattle.log_checker.specs.declared.shown.Reason.TheVariants.{HeadDiffers, BaseTooLarge}
+use Rattle.plan_clauses.specs.Clauses.{past_limit}
+use Rattle.plan_exclusion.specs.declared.method.Method.{Method}
+use Rattle.plan_exclusion.specs.declared.method.Method.TheVariants.{Cones, Bounds}
+use Rattle.proof_judge.specs.Judged.{judged_by, judged_under}
+use Rattle.proof_log.specs.Heads.{keeps_head}
+use Rattle.proof_log.specs.Words.{is_small}
+use Rattle.rail_base.specs.declared.station.Station.{Station}
+use Rattle.rail_base.specs.Admitted.{IsAdmitted}
+use Rattle.rail_base.proofs.Members.{and_both}
+use Rattle.verify_loop.specs.Outcomes.{head, first_clauses}
+
+-- its numbers are small
+pub kept_so : (m : Method) (d : Station) (n : ℕ) → IsAdmitted d → n ≤ 64 → keeps_head (head m d n) ≡ true
+kept_so Cones d n good few = refl
+kept_so Bounds d n good few =
+    let one = good.version in
+    and_both (is_small d.version) (is_small n) (le-leb d.version 4294967295 (omega arith)) (le-leb n 4294967295 (omega arith))
+
+-- it names the design and the number of steps
+pub judged_so : (m : Method) (d : Station) (n : ℕ) (bytes : List ℕ) → past_limit 4000000 0 (first_clauses m d n) ≡ None → judged_by d n bytes (Some (head m d n)) ≡ judged_under (head m d n) d n bytes
+judged_so Cones d n bytes fits = refl
+judged_so Bounds d n bytes fits =
+    ap (λ b. if not (b && n == n) then No 1 HeadDiffers else if is_some (past_limit 4000000 0 (first_clauses Bounds d n)) then No 1 BaseTooLarge else judged_under (head Bounds d n) d n bytes) (eq-eqb d.version d.version refl)
+    ∙ (ap (λ b. if not b then No 1 HeadDiffers else if is_some (past_limit 4000000 0 (first_clauses Bounds d n)) then No 1 BaseTooLarge else judged_under (head Bounds d n) d n bytes) (eq-eqb n n refl)
+    ∙ ap (λ o. if is_some o then No 1 BaseTooLarge else judged_under (head Bounds d n) d n bytes) fits)
