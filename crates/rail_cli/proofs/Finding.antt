@@ -1,10 +1,12 @@
 -- Searches: what they end with, and what their answers say.
-use Rattle.std.proofs.Common.{◌≡◌, ◌≤◌, ℕ, true, List, length, Option, None, Some, Result, Ok, Err, Vec, Global, refl, ap, sym, ◌∙◌, subst, inl, inr}
+use Rattle.std.proofs.Common.{◌≡◌, ◌≤◌, ℕ, Bool, true, List, length, Option, None, Some, Result, Ok, Err, Vec, Global, refl, ap, sym, ◌∙◌, subst, inl, inr}
 use Rattle.std.specs.List.{concat}
 use Rattle.std.proofs.lemmas.List.{append-nil}
 use Rattle.infra_reader.specs.Design.{design_of}
 use Rattle.log_checker.specs.declared.shown.Shown.TheVariants.{Yes}
-use Rattle.plan_clauses.specs.Clauses.{base_clauses, past_limit}
+use Rattle.plan_clauses.specs.Clauses.{past_limit}
+use Rattle.plan_exclusion.specs.declared.method.Method.{Method}
+use Rattle.plan_exclusion.specs.declared.method.Method.TheVariants.{Cones}
 use Rattle.proof_judge.specs.Judged.{judged}
 use Rattle.proof_judge.proofs.Sound.{yes_infeasible}
 use Rattle.infra_reader.proofs.Reading.{spelled_admitted}
@@ -18,13 +20,12 @@ use Rattle.rail_base.specs.declared.history.Verdict.{Verdict}
 use Rattle.rail_outside.specs.Files.{Files}
 use Rattle.rail_outside.specs.Growth.{grown}
 use Rattle.rail_spec.specs.Feasible.{IsFeasible}
-use Rattle.rail_spec.specs.Track.{routes_of}
 use Rattle.rail_words.specs.Requests.{Asked, simulate, routes, verify, check, trial, request_of, IsInRange}
 use Rattle.rail_words.proofs.Ranges.{requests_in_range}
 use Rattle.verify_loop.specs.declared.outcome.Budgets.{Budgets}
 use Rattle.verify_loop.specs.declared.outcome.Outcome.{Outcome}
 use Rattle.verify_loop.specs.declared.outcome.Outcome.TheVariants as outcome
-use Rattle.verify_loop.specs.Outcomes.{Says, Fits}
+use Rattle.verify_loop.specs.Outcomes.{Says, Fits, first_clauses}
 use Rattle.rail_cli.specs.declared.status.Status.{Status}
 use Rattle.rail_cli.specs.declared.status.Status.TheVariants as statuses
 use Rattle.rail_cli.specs.declared.input.InputFile.TheVariants as file
@@ -33,7 +34,8 @@ use Rattle.rail_cli.specs.declared.ending.Ending.{Ending}
 use Rattle.rail_cli.specs.declared.ending.Ending.TheVariants as ending
 use Rattle.rail_cli.specs.Statuses.{is_answered, is_verdict}
 use Rattle.rail_cli.specs.Texts.{limit_of, usage_line, too_large_line, yes_line, infeasible_line}
-use Rattle.rail_cli.specs.Answers.{Answer, one_line, within_limit, with_routes, design_in, and_then, unless_too_large, with_clauses, unless_refused, told, checked_against, with_proof, checked, plan_told, told_outcome, searched_in, searched, answer_to, answer_of}
+use Rattle.rail_cli.specs.Answers.{Answer, one_line, within_limit, with_routes, design_in, and_then, unless_too_large, with_clauses, unless_refused, told, checked_against, with_proof, checked, plan_told, told_outcome, searched_in, method_of, searched, answer_to, answer_of}
+use Rattle.rail_cli.specs.Shows.{shown_by}
 use Rattle.rail_cli.specs.Replies.{reply_seen, Reads, RefusesFile, OnlyFails, Replies, EndsIn, EndsWith, RepliesSo, RepliesTrial}
 use Rattle.rail_cli.specs.Searches.{budgets_of, Finds, HoldsLog, HoldsProof, SearchLeaves, Leaves, Searches, TellsPlan, TellsNone}
 use Rattle.rail_cli.specs.Checks.{Checks, TellsInfeasible}
@@ -42,7 +44,7 @@ use Rattle.rail_cli.specs.Prints.{Prints}
 use Rattle.rail_cli.proofs.Passing.{passed, long_refuses, design_refuses, clauses_refuse, read-same}
 use Rattle.rail_cli.proofs.Refusing.{file_is, file_fits}
 use Rattle.rail_cli.proofs.Deciding.{answered_next, answered_refusal, prints_answer, tells_of_reply}
-use Rattle.rail_cli.proofs.Judging.{small_passes, too_large_refused, tells_infeasible}
+use Rattle.rail_cli.proofs.Judging.{small_passes, too_large_refused, base_passes, tells_infeasible}
 use Rattle.rail_cli.proofs.Showing.{done_exactly, met_first, runs_safely}
 
 -- ---- what a search ends with
@@ -54,7 +56,7 @@ may_want files (Some (simulate design plan)) = tt
 may_want files (Some (routes design)) = tt
 may_want files (Some (check n design proof)) = tt
 may_want files (Some (trial seed size)) = (tt, tt)
-may_want files (Some (verify n conflicts ticks design proof)) = inl refl
+may_want files (Some (verify n conflicts ticks bounds design proof)) = inl refl
 
 -- the outcome says what it is to say of the design that the file spells
 pub finds_so : (files : Files) (asked : Option Asked) (found : Outcome) → EndsWith files asked found → Finds files asked found
@@ -63,11 +65,11 @@ finds_so files (Some (simulate design plan)) found ends = tt
 finds_so files (Some (routes design)) found ends = tt
 finds_so files (Some (check n design proof)) found ends = tt
 finds_so files (Some (trial seed size)) found ends = ends
-finds_so files (Some (verify n conflicts ticks design proof)) found (inl same) = λ d spelled. subst (λ (o : Outcome). Says d n (budgets_of conflicts ticks) o × Fits d n o) (sym same) (tt, tt)
-finds_so files (Some (verify n conflicts ticks design proof)) found (inr e) = λ d spelled.
+finds_so files (Some (verify n conflicts ticks bounds design proof)) found (inl same) = λ d spelled. subst (λ (o : Outcome). Says (method_of bounds) d n (budgets_of conflicts ticks) o × Fits (method_of bounds) d n o) (sym same) (tt, tt)
+finds_so files (Some (verify n conflicts ticks bounds design proof)) found (inr e) = λ d spelled.
     (let one : Ok e.design.station ≡ Ok d = sym e.spelled ∙ spelled in
     let same : e.design.station ≡ d = cc in
-    subst (λ (x : Station). Says x n (budgets_of conflicts ticks) found × Fits x n found) same (e.says, e.fits))
+    subst (λ (x : Station). Says (method_of bounds) x n (budgets_of conflicts ticks) found × Fits (method_of bounds) x n found) same (e.says, e.fits))
 
 -- ---- what is told of it
 
@@ -79,19 +81,19 @@ never_memory (Err ending.Memory) want answer is h = tt
 never_memory (Err ending.ShelfFault) want answer is h = tt
 
 -- for any way to tell an outcome that tells too many clauses as the refusal
-module _ (d : Station) (n : ℕ) (b : Budgets) (tell : Outcome → Answer) (large : (literals : ℕ) → tell (outcome.TooLarge literals) ≡ one_line statuses.DesignRefused too_large_line) (want : (tell outcome.Memory).status ≡ statuses.Memory) where
+module _ (m : Method) (d : Station) (n : ℕ) (b : Budgets) (tell : Outcome → Answer) (large : (literals : ℕ) → tell (outcome.TooLarge literals) ≡ one_line statuses.DesignRefused too_large_line) (want : (tell outcome.Memory).status ≡ statuses.Memory) where
   -- what is told, unless the clauses are too many
   abbrev unless_many : Outcome → Answer
-  unless_many found = unless_refused (with_clauses n d) (λ same. tell found)
+  unless_many found = unless_refused (with_clauses m n d) (λ same. tell found)
 
-  few_told : (found : Outcome) → past_limit 4000000 0 (base_clauses d (routes_of d) n) ≡ None → unless_many found ≡ tell found
-  few_told found few = answered_next (with_clauses n d) d (λ same. tell found) (small_passes n d few)
+  few_told : (found : Outcome) → past_limit 4000000 0 (first_clauses m d n) ≡ None → unless_many found ≡ tell found
+  few_told found few = answered_next (with_clauses m n d) d (λ same. tell found) (small_passes m n d few)
 
-  many_told : (literals : ℕ) → past_limit 4000000 0 (base_clauses d (routes_of d) n) ≡ Some literals → unless_many (outcome.TooLarge literals) ≡ tell (outcome.TooLarge literals)
-  many_told literals many = answered_refusal (with_clauses n d) _ (λ same. tell (outcome.TooLarge literals)) (too_large_refused n d literals many) ∙ sym (large literals)
+  many_told : (literals : ℕ) → past_limit 4000000 0 (first_clauses m d n) ≡ Some literals → unless_many (outcome.TooLarge literals) ≡ tell (outcome.TooLarge literals)
+  many_told literals many = answered_refusal (with_clauses m n d) _ (λ same. tell (outcome.TooLarge literals)) (too_large_refused m n d literals many) ∙ sym (large literals)
 
   -- the reply to the end of a search is one to the search
-  pub told_unless_many : (r : Result Reply Ending) (found : Outcome) → Says d n b found → Fits d n found → Replies r (tell found) → Replies r (unless_many found)
+  pub told_unless_many : (r : Result Reply Ending) (found : Outcome) → Says m d n b found → Fits m d n found → Replies r (tell found) → Replies r (unless_many found)
   told_unless_many r outcome.Memory says fits h = never_memory r _ _ want h
   told_unless_many r (outcome.TooLarge literals) says fits h = subst (Replies r) (sym (many_told literals says)) h
   told_unless_many r (outcome.Plan plan verdict) says fits h = subst (Replies r) (sym (few_told (outcome.Plan plan verdict) fits)) h
@@ -105,8 +107,8 @@ module _ (d : Station) (n : ℕ) (b : Budgets) where
   abbrev outcome_told : Outcome → Answer
   outcome_told found = told_outcome d n b.conflicts b.ticks found
 
-  pub searched_so : (r : Result Reply Ending) (found : Outcome) → Says d n b found → Fits d n found → Replies r (outcome_told found) → Replies r (searched_in d n b.conflicts b.ticks found)
-  searched_so r found says fits h = told_unless_many d n b outcome_told (λ literals. refl) refl r found says fits h
+  pub searched_so : (m : Method) (r : Result Reply Ending) (found : Outcome) → Says m d n b found → Fits m d n found → Replies r (outcome_told found) → Replies r (searched_in m d n b.conflicts b.ticks found)
+  searched_so m r found says fits h = told_unless_many m d n b outcome_told (λ literals. refl) refl r found says fits h
 
   -- it is never that the words ask for nothing
   outcome_no_usage : (found : Outcome) → (outcome_told found).status ≡ statuses.Usage → ⊥
@@ -121,6 +123,10 @@ module _ (d : Station) (n : ℕ) (b : Budgets) where
   pub told_no_usage : (found : Outcome) (reply : Reply) → reply_seen reply ≡ outcome_told found → reply.status ≡ statuses.Usage → ⊥
   told_no_usage found reply seen e = outcome_no_usage found (ap (λ (a : Answer). a.status) (sym seen) ∙ e)
 
+-- a plan comes with what its run shows
+pub comes_shown : (d : Station) (n : ℕ) (b : Budgets) (found : Outcome) (plan : Plan) (verdict : Verdict) → found ≡ outcome.Plan plan verdict → (m : Method) × Says m d n b found → verdict ≡ shown_by d plan.steps
+comes_shown d n b found plan verdict is h = (subst (λ (o : Outcome). Says h.0 d n b o) is h.1).2
+
 -- a store that failed tells nothing
 pub failed_so : (e : Ending) (r : Result Reply Ending) (answer : Answer) → r ≡ Err e → OnlyFails {X = Unit {0}} (Err e) → Replies r answer
 failed_so (ending.Told reply) r answer is h = absurd h
@@ -134,56 +140,63 @@ failed_refuses ending.ShelfFault r is h = subst (λ (x : Result Reply Ending). R
 
 -- ---- the design is read
 
-module _ (n conflicts ticks : ℕ) (design_bytes : List ℕ) (found : Outcome) where
+module _ (m : Method) (n conflicts ticks : ℕ) (design_bytes : List ℕ) (found : Outcome) where
   -- the rest of a search, with the design's text
   abbrev with_text : List ℕ → Answer
-  with_text text = unless_refused (design_in text) (λ d. searched_in d n conflicts ticks found)
+  with_text text = unless_refused (design_in text) (λ d. searched_in m d n conflicts ticks found)
 
-  pub unfetched : (view : Vec ℕ Global → List ℕ) (e : Ending) → Reads view (Err e) (within_limit file.Design design_bytes) → Replies (Err e) (searched n conflicts ticks design_bytes found)
+  pub unfetched : (view : Vec ℕ Global → List ℕ) (e : Ending) → Reads view (Err e) (within_limit file.Design design_bytes) → Replies (Err e) (searched m n conflicts ticks design_bytes found)
   unfetched view (ending.Told reply) h = answered_refusal (within_limit file.Design design_bytes) (reply_seen reply) with_text h
   unfetched view ending.Memory h = tt
   unfetched view ending.ShelfFault h = tt
 
   module _ (text : List ℕ) (fits : within_limit file.Design design_bytes ≡ Ok text) where
-    fetched_so : searched n conflicts ticks design_bytes found ≡ with_text text
+    fetched_so : searched m n conflicts ticks design_bytes found ≡ with_text text
     fetched_so = answered_next (within_limit file.Design design_bytes) text with_text fits
 
-    pub unread : {X : Type 0} (view : X → Station) (e : Ending) → Reads view (Err e) (design_in text) → Replies (Err e) (searched n conflicts ticks design_bytes found)
-    unread view (ending.Told reply) h = fetched_so ∙ answered_refusal (design_in text) (reply_seen reply) (λ d. searched_in d n conflicts ticks found) h
+    pub unread : {X : Type 0} (view : X → Station) (e : Ending) → Reads view (Err e) (design_in text) → Replies (Err e) (searched m n conflicts ticks design_bytes found)
+    unread view (ending.Told reply) h = fetched_so ∙ answered_refusal (design_in text) (reply_seen reply) (λ d. searched_in m d n conflicts ticks found) h
     unread view ending.Memory h = tt
     unread view ending.ShelfFault h = tt
 
-    pub read_so : (d : Station) → design_in text ≡ Ok d → searched n conflicts ticks design_bytes found ≡ searched_in d n conflicts ticks found
-    read_so d reads = fetched_so ∙ answered_next (design_in text) d (λ d. searched_in d n conflicts ticks found) reads
+    pub read_so : (d : Station) → design_in text ≡ Ok d → searched m n conflicts ticks design_bytes found ≡ searched_in m d n conflicts ticks found
+    read_so d reads = fetched_so ∙ answered_next (design_in text) d (λ d. searched_in m d n conflicts ticks found) reads
 
 -- ---- the replies to a search
 
-pub within_budgets : (d : Station) (n : ℕ) (b : Budgets) (found : Outcome) → b.log_bytes ≡ limit_of file.Proof → Says d n b found → Says d n (budgets_of b.conflicts b.ticks) found
-within_budgets d n b found room says = subst (λ (k : ℕ). Says d n (record { conflicts = b.conflicts; ticks = b.ticks; log_bytes = k }) found) room says
+pub within_budgets : (m : Method) (d : Station) (n : ℕ) (b : Budgets) (found : Outcome) → b.log_bytes ≡ limit_of file.Proof → Says m d n b found → Says m d n (budgets_of b.conflicts b.ticks) found
+within_budgets m d n b found room says = subst (λ (k : ℕ). Says m d n (record { conflicts = b.conflicts; ticks = b.ticks; log_bytes = k }) found) room says
 
-module _ (files : Files) (n : ℕ) (b : Budgets) (design proof : List ℕ) where
+-- the reply to a search in a design by a method, for an outcome with which it may end
+abbrev pub RepliesBy : Result Reply Ending → Station → ℕ → Budgets → Method → Type 0
+RepliesBy r d n b m = (found : Outcome) × Says m d n b found × Fits m d n found × Replies r (searched_in m d n b.conflicts b.ticks found)
+
+module _ (files : Files) (n : ℕ) (bounds : Bool) (b : Budgets) (design proof : List ℕ) where
   -- what is asked
   abbrev search_asked : Option Asked
-  search_asked = Some (verify n b.conflicts b.ticks design proof)
+  search_asked = Some (verify n b.conflicts b.ticks bounds design proof)
+
+  -- how plans that fail are excluded
+  abbrev by : Method
+  by = method_of bounds
 
   pub unfetched_so : (view : Vec ℕ Global → List ℕ) (e : Ending) (r : Result Reply Ending) → r ≡ Err e → Reads view (Err e) (within_limit file.Design (files design)) → RepliesSo r files search_asked
-  unfetched_so view e r is h = subst (λ (x : Result Reply Ending). RepliesSo x files search_asked) (sym is) (outcome.Memory, inl refl, unfetched n b.conflicts b.ticks (files design) outcome.Memory view e h)
+  unfetched_so view e r is h = subst (λ (x : Result Reply Ending). RepliesSo x files search_asked) (sym is) (outcome.Memory, inl refl, unfetched by n b.conflicts b.ticks (files design) outcome.Memory view e h)
 
   module _ (text : List ℕ) (fits : within_limit file.Design (files design) ≡ Ok text) where
     pub unread_so : {X : Type 0} (view : X → Station) (e : Ending) (r : Result Reply Ending) → r ≡ Err e → Reads view (Err e) (design_in text) → RepliesSo r files search_asked
-    unread_so view e r is h = subst (λ (x : Result Reply Ending). RepliesSo x files search_asked) (sym is) (outcome.Memory, inl refl, unread n b.conflicts b.ticks (files design) outcome.Memory text fits view e h)
+    unread_so view e r is h = subst (λ (x : Result Reply Ending). RepliesSo x files search_asked) (sym is) (outcome.Memory, inl refl, unread by n b.conflicts b.ticks (files design) outcome.Memory text fits view e h)
 
     -- the name spells the design
     pub spelled_so : (d : Station) → design_in text ≡ Ok d → design_in (files design) ≡ Ok d
     spelled_so d reads = ap design_in (file_is file.Design (files design) text fits) ∙ reads
 
     pub ended_so : (d : Design) (r : Result Reply Ending) → b.log_bytes ≡ limit_of file.Proof → design_in text ≡ Ok d.station
-        → (found : Outcome) × Says d.station n b found × Fits d.station n found × Replies r (searched_in d.station n b.conflicts b.ticks found)
-        → RepliesSo r files search_asked
+        → RepliesBy r d.station n b by → RepliesSo r files search_asked
     ended_so d r room reads h = (
       h.0,
-      inr (record { design = d; spelled = spelled_so d.station reads; says = within_budgets d.station n b h.0 room h.1; fits = h.2 }),
-      subst (Replies r) (sym (read_so n b.conflicts b.ticks (files design) h.0 text fits d.station reads)) h.3,
+      inr (record { design = d; spelled = spelled_so d.station reads; says = within_budgets by d.station n b h.0 room h.1; fits = h.2 }),
+      subst (Replies r) (sym (read_so by n b.conflicts b.ticks (files design) h.0 text fits d.station reads)) h.3,
     )
 
 -- ---- the replies to a request
@@ -201,8 +214,8 @@ module _ (r : Result Reply Ending) (files : Files) (asked : Asked) where
   pub trial_so : (seed size : ℕ) → asked ≡ trial seed size → RepliesTrial r seed size → RepliesSo r files (Some asked)
   trial_so seed size is h = subst (λ (a : Asked). RepliesSo r files (Some a)) (sym is) h
 
-  pub verify_so : (n conflicts ticks : ℕ) (b : Budgets) (design proof : List ℕ) → b ≡ budgets_of conflicts ticks → asked ≡ verify n conflicts ticks design proof → RepliesSo r files (Some (verify n b.conflicts b.ticks design proof)) → RepliesSo r files (Some asked)
-  verify_so n conflicts ticks b design proof within is h = subst (λ (a : Asked). RepliesSo r files (Some a)) (sym is) (subst (λ (x : Budgets). RepliesSo r files (Some (verify n x.conflicts x.ticks design proof))) within h)
+  pub verify_so : (n conflicts ticks : ℕ) (bounds : Bool) (b : Budgets) (design proof : List ℕ) → b ≡ budgets_of conflicts ticks → asked ≡ verify n conflicts ticks bounds design proof → RepliesSo r files (Some (verify n b.conflicts b.ticks bounds design proof)) → RepliesSo r files (Some asked)
+  verify_so n conflicts ticks bounds b design proof within is h = subst (λ (a : Asked). RepliesSo r files (Some a)) (sym is) (subst (λ (x : Budgets). RepliesSo r files (Some (verify n x.conflicts x.ticks bounds design proof))) within h)
 
 -- the words ask for nothing
 pub usage_so : (files : Files) (asked : Option Asked) (reply : Reply) → asked ≡ None → reply_seen reply ≡ one_line statuses.Usage usage_line → RepliesSo (Ok reply) files asked
@@ -213,8 +226,8 @@ pub want_so : (r : Result Reply Ending) (files : Files) (asked : Option Asked) �
 want_so r files asked is = subst (λ (x : Result Reply Ending). RepliesSo x files asked) (sym is) (outcome.Memory, may_want files asked, tt)
 
 -- what a search was asked for, from a request that is in range
-pub search_steps : (asked : Asked) (n conflicts ticks : ℕ) (design proof : List ℕ) → asked ≡ verify n conflicts ticks design proof → IsInRange asked → (1 ≤ n) × (n ≤ 64)
-search_steps asked n conflicts ticks design proof is range = subst IsInRange is range
+pub search_steps : (asked : Asked) (n conflicts ticks : ℕ) (bounds : Bool) (design proof : List ℕ) → asked ≡ verify n conflicts ticks bounds design proof → IsInRange asked → (1 ≤ n) × (n ≤ 64)
+search_steps asked n conflicts ticks bounds design proof is range = subst IsInRange is range
 
 -- ---- runs
 
@@ -238,28 +251,28 @@ module _ (files : Files) (words : List (List ℕ)) (reply : Reply) (t : Status) 
 -- ---- where the answer is yes or no
 
 -- the design was read, its clauses are few, and the end of the search is told
-record Searched (n conflicts ticks : ℕ) (design_bytes : List ℕ) (found : Outcome) (d : Station) : Type 0 where
+record Searched (m : Method) (n conflicts ticks : ℕ) (design_bytes : List ℕ) (found : Outcome) (d : Station) : Type 0 where
   fits : within_limit file.Design design_bytes ≡ Ok design_bytes
   reads : design_in design_bytes ≡ Ok d
-  clauses : with_clauses n d ≡ Ok d
-  answer : searched n conflicts ticks design_bytes found ≡ told_outcome d n conflicts ticks found
+  clauses : with_clauses m n d ≡ Ok d
+  answer : searched m n conflicts ticks design_bytes found ≡ told_outcome d n conflicts ticks found
 
 same_clauses : (d : Station) (many : Option ℕ) (e : Station) → unless_too_large d many ≡ Ok e → unless_too_large d many ≡ Ok d
 same_clauses d None e h = refl
 same_clauses d (Some k) e h = absurd (cc)
 
-was_searched : (n conflicts ticks : ℕ) (design_bytes : List ℕ) (found : Outcome) (d : Station) → design_of design_bytes ≡ Ok d → is_verdict (searched n conflicts ticks design_bytes found).status ≡ true → Searched n conflicts ticks design_bytes found d
-was_searched n conflicts ticks design_bytes found d spells verdict =
-    let one = passed (within_limit file.Design design_bytes) (with_text n conflicts ticks design_bytes found) (long_refuses file.Design design_bytes) verdict in
-    let two = passed (design_in one.read) (λ e. searched_in e n conflicts ticks found) (design_refuses (and_then (design_of one.read) with_routes)) one.verdict in
-    let three = passed (with_clauses n two.read) (λ same. told_outcome two.read n conflicts ticks found) (clauses_refuse two.read (past_limit 4000000 0 (base_clauses two.read (routes_of two.read) n))) two.verdict in
+was_searched : (m : Method) (n conflicts ticks : ℕ) (design_bytes : List ℕ) (found : Outcome) (d : Station) → design_of design_bytes ≡ Ok d → is_verdict (searched m n conflicts ticks design_bytes found).status ≡ true → Searched m n conflicts ticks design_bytes found d
+was_searched m n conflicts ticks design_bytes found d spells verdict =
+    let one = passed (within_limit file.Design design_bytes) (with_text m n conflicts ticks design_bytes found) (long_refuses file.Design design_bytes) verdict in
+    let two = passed (design_in one.read) (λ e. searched_in m e n conflicts ticks found) (design_refuses (and_then (design_of one.read) with_routes)) one.verdict in
+    let three = passed (with_clauses m n two.read) (λ same. told_outcome two.read n conflicts ticks found) (clauses_refuse two.read (past_limit 4000000 0 (first_clauses m two.read n))) two.verdict in
     let text : design_bytes ≡ one.read = file_is file.Design design_bytes one.read one.is in
     let same : d ≡ two.read = read-same one.read d two.read (ap design_of (sym text) ∙ spells) two.is in
-    let few : with_clauses n two.read ≡ Ok two.read = same_clauses two.read (past_limit 4000000 0 (base_clauses two.read (routes_of two.read) n)) three.read three.is in
+    let few : with_clauses m n two.read ≡ Ok two.read = same_clauses two.read (past_limit 4000000 0 (first_clauses m two.read n)) three.read three.is in
     record {
       fits = one.is ∙ ap (λ (bytes : List ℕ). Ok bytes) (sym text);
       reads = ap design_in text ∙ (two.is ∙ ap (λ (e : Station). Ok e) (sym same));
-      clauses = subst (λ (e : Station). with_clauses n e ≡ Ok e) (sym same) few;
+      clauses = subst (λ (e : Station). with_clauses m n e ≡ Ok e) (sym same) few;
       answer = (one.comes ∙ (two.comes ∙ three.comes)) ∙ ap (λ (e : Station). told_outcome e n conflicts ticks found) (sym same);
     }
 
@@ -289,25 +302,29 @@ none_told d n conflicts ticks (outcome.TooLarge literals) e = absurd (cc)
 none_told d n conflicts ticks outcome.Memory e = absurd (cc)
 
 -- where a plan was found, memory was not wanting
-ended_in : (files : Files) (n conflicts ticks : ℕ) (design proof : List ℕ) (found : Outcome) → PlanFound found → EndsWith files (Some (verify n conflicts ticks design proof)) found → EndsIn files n conflicts ticks design found
-ended_in files n conflicts ticks design proof found p (inl same) = (let clash = sym same ∙ p.is in absurd (cc))
-ended_in files n conflicts ticks design proof found p (inr e) = e
+ended_in : (files : Files) (n conflicts ticks : ℕ) (bounds : Bool) (design proof : List ℕ) (found : Outcome) → PlanFound found → EndsWith files (Some (verify n conflicts ticks bounds design proof)) found → EndsIn files (method_of bounds) n conflicts ticks design found
+ended_in files n conflicts ticks bounds design proof found p (inl same) = (let clash = sym same ∙ p.is in absurd (cc))
+ended_in files n conflicts ticks bounds design proof found p (inr e) = e
 
 module _ (files : Files) (words : List (List ℕ)) (n : ℕ) (d : Station) (s : Searches files words n d) (reply : Reply) (t : Status) (text new_text : Option (List ℕ)) (pieces new_pieces : Option (List (List ℕ)))
     (replies : RepliesSo (Ok reply) files (request_of words)) (prints : Prints (reply_seen reply) t text new_text pieces new_pieces) where
   abbrev found_here : Outcome
   found_here = replies.0
 
-  answer_here : reply_seen reply ≡ searched n s.conflicts s.ticks (files s.design_name) found_here
+  -- how plans that fail were excluded
+  abbrev by_here : Method
+  by_here = method_of s.bounds
+
+  answer_here : reply_seen reply ≡ searched by_here n s.conflicts s.ticks (files s.design_name) found_here
   answer_here = sym replies.2 ∙ ap (answer_to files found_here) s.asked
 
-  searched_here : is_answered t ≡ true → is_verdict t ≡ true → Searched n s.conflicts s.ticks (files s.design_name) found_here d
-  searched_here answered verdict = was_searched n s.conflicts s.ticks (files s.design_name) found_here d s.spells_design (ap (λ (a : Answer). is_verdict a.status) (sym answer_here) ∙ (ap is_verdict (sym (prints.status answered)) ∙ verdict))
+  searched_here : is_answered t ≡ true → is_verdict t ≡ true → Searched by_here n s.conflicts s.ticks (files s.design_name) found_here d
+  searched_here answered verdict = was_searched by_here n s.conflicts s.ticks (files s.design_name) found_here d s.spells_design (ap (λ (a : Answer). is_verdict a.status) (sym answer_here) ∙ (ap is_verdict (sym (prints.status answered)) ∙ verdict))
 
   told_here : is_answered t ≡ true → is_verdict t ≡ true → reply_seen reply ≡ told_outcome d n s.conflicts s.ticks found_here
   told_here answered verdict = answer_here ∙ (searched_here answered verdict).answer
 
-  ends_here : EndsWith files (Some (verify n s.conflicts s.ticks s.design_name s.proof_name)) found_here
+  ends_here : EndsWith files (Some (verify n s.conflicts s.ticks s.bounds s.design_name s.proof_name)) found_here
   ends_here = subst (λ (a : Option Asked). EndsWith files a found_here) s.asked replies.1
 
   -- status 0 tells a plan
@@ -318,11 +335,11 @@ module _ (files : Files) (words : List (List ℕ)) (n : ℕ) (d : Station) (s : 
       let q = searched_here answered verdict in
       let told = told_here answered verdict in
       let p = plan_found d n s.conflicts s.ticks found_here (ap (λ (a : Answer). a.status) (sym told) ∙ (sym (prints.status answered) ∙ done)) in
-      let e = ended_in files n s.conflicts s.ticks s.design_name s.proof_name found_here p ends_here in
+      let e = ended_in files n s.conflicts s.ticks s.bounds s.design_name s.proof_name found_here p ends_here in
       let one : Ok e.design.station ≡ Ok d = sym e.spelled ∙ q.reads in
       let same : e.design.station ≡ d = cc in
       let good = admitted d (subst (λ (x : Station). is_admitted x ≡ true) same e.design.admitted) in
-      let says = subst (λ (o : Outcome). Says d n (budgets_of s.conflicts s.ticks) o) p.is (subst (λ (x : Station). Says x n (budgets_of s.conflicts s.ticks) found_here) same e.says) in
+      let says = subst (λ (o : Outcome). Says by_here d n (budgets_of s.conflicts s.ticks) o) p.is (subst (λ (x : Station). Says by_here x n (budgets_of s.conflicts s.ticks) found_here) same e.says) in
       let feasible : IsFeasible d n p.plan.steps = says.0 in
       let lines : reply_seen reply ≡ plan_told d p.plan.steps = told ∙ ap (told_outcome d n s.conflicts s.ticks) p.is in
       record {
@@ -335,11 +352,11 @@ module _ (files : Files) (words : List (List ℕ)) (n : ℕ) (d : Station) (s : 
       }
 
   -- what a check says of the stored log
-  log_passes : Searched n s.conflicts s.ticks (files s.design_name) found_here d → (log : List ℕ) → length log ≤ limit_of file.Proof → judged d n log ≡ Yes n → checked n (files s.design_name) log ≡ one_line statuses.Done (yes_line n)
+  log_passes : Searched by_here n s.conflicts s.ticks (files s.design_name) found_here d → (log : List ℕ) → length log ≤ limit_of file.Proof → judged d n log ≡ Yes n → checked n (files s.design_name) log ≡ one_line statuses.Done (yes_line n)
   log_passes q log short shows =
       answered_next (within_limit file.Design (files s.design_name)) (files s.design_name) (λ bytes. unless_refused (design_in bytes) (λ e. with_proof n e log)) q.fits
       ∙ (answered_next (design_in (files s.design_name)) d (λ e. with_proof n e log) q.reads
-      ∙ (answered_next (with_clauses n d) d (λ same. unless_refused (within_limit file.Proof log) (checked_against d n)) q.clauses
+      ∙ (answered_next (with_clauses Cones n d) d (λ same. unless_refused (within_limit file.Proof log) (checked_against d n)) (base_passes by_here n d q.clauses)
       ∙ (answered_next (within_limit file.Proof log) log (checked_against d n) (file_fits file.Proof log short)
       ∙ ap told shows)))
 
@@ -356,7 +373,7 @@ module _ (files : Files) (words : List (List ℕ)) (n : ℕ) (d : Station) (s : 
       let one : Ok proof.0 ≡ Ok d = sym proof.1 ∙ q.reads in
       let same : proof.0 ≡ d = cc in
       let log : HoldsLog files s.proof_name d n new = subst (λ (x : Station). HoldsLog files s.proof_name x n new) same proof.2 in
-      let some : 1 ≤ n = (requests_in_range words (verify n s.conflicts s.ticks s.design_name s.proof_name) s.asked).0 in
+      let some : 1 ≤ n = (requests_in_range words (verify n s.conflicts s.ticks s.bounds s.design_name s.proof_name) s.asked).0 in
       record {
         text = prints.written answered ∙ (ap (λ (a : Answer). grown text (concat a.lines)) line ∙ ap (grown text) (append-nil (infeasible_line n)));
         none = (yes_infeasible d (spelled_admitted (files s.design_name) d s.spells_design) n n log.log some log.proves.shows).1;

@@ -1,11 +1,13 @@
 -- Checks in which the file shows something.
-use Rattle.std.proofs.Common.{◌≡◌, ℕ, ◌≤◌, true, List, Option, Some, None, Ok, Err, refl, ap, sym, ◌∙◌, subst}
+use Rattle.std.proofs.Common.{◌≡◌, ℕ, ◌+◌, ◌≤◌, Bool, true, false, List, [], ◌∷◌, ◌++◌, length, nat_lt, if◌then◌else◌, Option, Some, None, Ok, Err, refl, ap, sym, ◌∙◌, subst}
 use Rattle.std.specs.List.{concat}
 use Rattle.std.proofs.lemmas.List.{append-nil}
 use Rattle.infra_reader.specs.Design.{design_of}
 use Rattle.log_checker.specs.declared.shown.Shown.{Shown}
 use Rattle.log_checker.specs.declared.shown.Shown.TheVariants.{Yes, No}
 use Rattle.plan_clauses.specs.Clauses.{base_clauses, past_limit}
+use Rattle.plan_exclusion.specs.declared.method.Method.{Method}
+use Rattle.plan_exclusion.specs.declared.method.Method.TheVariants.{Cones, Bounds}
 use Rattle.proof_judge.specs.Judged.{judged}
 use Rattle.proof_judge.proofs.Sound.{yes_infeasible}
 use Rattle.rail_base.specs.Admitted.{IsAdmitted}
@@ -32,6 +34,7 @@ use Rattle.plan_encoding.specs.declared.draft.BaseFault.{BaseFault}
 use Rattle.plan_encoding.specs.declared.draft.BaseFault.TheVariants.{TooLarge, Memory}
 use Rattle.rail_base.specs.declared.route.Route.{Route}
 use Rattle.verify_loop.specs.declared.outcome.Outcome.{Outcome}
+use Rattle.verify_loop.specs.Outcomes.{first_clauses}
 use Rattle.rail_cli.proofs.Passing.{passed, long_refuses, design_refuses, clauses_refuse, read-same}
 use Rattle.rail_cli.proofs.Refusing.{file_is}
 
@@ -65,7 +68,7 @@ checked_shows : (n : ℕ) (design_bytes proof_bytes : List ℕ) (d : Station) �
 checked_shows n design_bytes proof_bytes d some spells done =
     let one = passed (within_limit file.Design design_bytes) (λ text. unless_refused (design_in text) (λ e. with_proof n e proof_bytes)) (long_refuses file.Design design_bytes) (ap is_verdict done) in
     let two = passed (design_in one.read) (λ e. with_proof n e proof_bytes) (design_refuses (and_then (design_of one.read) with_routes)) one.verdict in
-    let three = passed (with_clauses n two.read) (λ same. unless_refused (within_limit file.Proof proof_bytes) (checked_against two.read n)) (clauses_refuse two.read (past_limit 4000000 0 (base_clauses two.read (routes_of two.read) n))) two.verdict in
+    let three = passed (with_clauses Cones n two.read) (λ same. unless_refused (within_limit file.Proof proof_bytes) (checked_against two.read n)) (clauses_refuse two.read (past_limit 4000000 0 (base_clauses two.read (routes_of two.read) n))) two.verdict in
     let four = passed (within_limit file.Proof proof_bytes) (checked_against two.read n) (long_refuses file.Proof proof_bytes) three.verdict in
     let text : design_bytes ≡ one.read = file_is file.Design design_bytes one.read one.is in
     let same : d ≡ two.read = read-same one.read d two.read (ap design_of (sym text) ∙ spells) two.is in
@@ -92,19 +95,42 @@ tells_infeasible files found words n d t text new_text pieces new_pieces prints 
 
 -- ---- the clauses of the design
 
-pub too_large_refused : (n : ℕ) (d : Station) (k : ℕ) → past_limit 4000000 0 (base_clauses d (routes_of d) n) ≡ Some k → with_clauses n d ≡ Err (one_line DesignRefused too_large_line)
-too_large_refused n d k e = ap (unless_too_large d) e
+pub too_large_refused : (m : Method) (n : ℕ) (d : Station) (k : ℕ) → past_limit 4000000 0 (first_clauses m d n) ≡ Some k → with_clauses m n d ≡ Err (one_line DesignRefused too_large_line)
+too_large_refused m n d k e = ap (unless_too_large d) e
 
-pub small_passes : (n : ℕ) (d : Station) → past_limit 4000000 0 (base_clauses d (routes_of d) n) ≡ None → with_clauses n d ≡ Ok d
-small_passes n d e = ap (unless_too_large d) e
+pub small_passes : (m : Method) (n : ℕ) (d : Station) → past_limit 4000000 0 (first_clauses m d n) ≡ None → with_clauses m n d ≡ Ok d
+small_passes m n d e = ap (unless_too_large d) e
 
-pub refused_so : (n : ℕ) (d : Station) (routes : List Route) (fault : BaseFault) (k : ℕ) → routes ≡ routes_of d → fault ≡ TooLarge k → IsRefused d routes n fault → with_clauses n d ≡ Err (one_line DesignRefused too_large_line)
-refused_so n d routes (TooLarge j) k table same e = too_large_refused n d j (ap (λ (r : List Route). past_limit 4000000 0 (base_clauses d r n)) (sym table) ∙ e)
+-- the front of clauses that fit fits
+front_fits : {X : Type 0} (limit sum : ℕ) (front more : List (List X)) → past_limit limit sum (front ++ more) ≡ None → past_limit limit sum front ≡ None
+front_fits limit sum [] more h = refl
+front_fits limit sum (c ∷ cs) more h = go (nat_lt limit (sum + length c)) (front_fits limit (sum + length c) cs more) h
+  where
+    go : (past : Bool) → (past_limit limit (sum + length c) (cs ++ more) ≡ None → past_limit limit (sum + length c) cs ≡ None)
+        → (if past then Some (sum + length c) else past_limit limit (sum + length c) (cs ++ more)) ≡ None
+        → (if past then Some (sum + length c) else past_limit limit (sum + length c) cs) ≡ None
+    go true next h = absurd (cc)
+    go false next h = next h
+
+-- where the clauses of a search by any method fit, those of a check do
+base_fits : (m : Method) (n : ℕ) (d : Station) → past_limit 4000000 0 (first_clauses m d n) ≡ None → past_limit 4000000 0 (first_clauses Cones d n) ≡ None
+base_fits Cones n d h = h
+base_fits Bounds n d h = front_fits 4000000 0 (base_clauses d (routes_of d) n) _ h
+
+not_many : (d : Station) (many : Option ℕ) (e : Station) → unless_too_large d many ≡ Ok e → many ≡ None
+not_many d None e h = refl
+not_many d (Some k) e h = absurd (cc)
+
+pub base_passes : (m : Method) (n : ℕ) (d : Station) → with_clauses m n d ≡ Ok d → with_clauses Cones n d ≡ Ok d
+base_passes m n d h = small_passes Cones n d (base_fits m n d (not_many d (past_limit 4000000 0 (first_clauses m d n)) d h))
+
+pub refused_so : (n : ℕ) (d : Station) (routes : List Route) (fault : BaseFault) (k : ℕ) → routes ≡ routes_of d → fault ≡ TooLarge k → IsRefused d routes n fault → with_clauses Cones n d ≡ Err (one_line DesignRefused too_large_line)
+refused_so n d routes (TooLarge j) k table same e = too_large_refused Cones n d j (ap (λ (r : List Route). past_limit 4000000 0 (base_clauses d r n)) (sym table) ∙ e)
 refused_so n d routes Memory k table same e = absurd (cc)
 
 -- ---- what is told of the proof
 
-pub proof_shown : (n : ℕ) (d : Station) (proof_bytes text : List ℕ) (shown : Shown) (reply : Reply) → with_clauses n d ≡ Ok d → within_limit file.Proof proof_bytes ≡ Ok text → shown ≡ judged d n text → reply_seen reply ≡ told shown → with_proof n d proof_bytes ≡ reply_seen reply
+pub proof_shown : (n : ℕ) (d : Station) (proof_bytes text : List ℕ) (shown : Shown) (reply : Reply) → with_clauses Cones n d ≡ Ok d → within_limit file.Proof proof_bytes ≡ Ok text → shown ≡ judged d n text → reply_seen reply ≡ told shown → with_proof n d proof_bytes ≡ reply_seen reply
 proof_shown n d proof_bytes text shown reply clauses fits is seen =
     ap (λ q. unless_refused q (λ (same : Station). unless_refused (within_limit file.Proof proof_bytes) (checked_against d n))) clauses
     ∙ (ap (λ q. unless_refused q (checked_against d n)) fits ∙ (ap told (sym is) ∙ sym seen))

@@ -1,5 +1,6 @@
 -- What a run leaves on the shelf.
-use Rattle.std.proofs.Common.{◌≡◌, ◌⊎◌, ℕ, true, List, Option, None, Some, Result, Ok, Err, Vec, Global, refl, ap, sym, ◌∙◌, subst, inl, inr}
+use Rattle.std.proofs.Common.{◌≡◌, ◌⊎◌, ℕ, Bool, true, List, Option, None, Some, Result, Ok, Err, Vec, Global, refl, ap, sym, ◌∙◌, subst, inl, inr}
+use Rattle.plan_exclusion.specs.declared.method.Method.{Method}
 use Rattle.rail_base.specs.declared.station.Station.{Station}
 use Rattle.rail_outside.specs.Files.{Files}
 use Rattle.rail_words.specs.Requests.{Asked, simulate, routes, verify, check, trial}
@@ -81,9 +82,9 @@ module _ (files : Files) (n : ℕ) (design proof : List ℕ) (held : Option File
       go ending.ShelfFault refuses = inr same
 
   -- what a search in the design that the file spells leaves
-  module _ (d : Station) (spelled : design_in (files design) ≡ Ok d) (b : Budgets) (room : b.log_bytes ≡ limit_of file.Proof) where
+  module _ (m : Method) (d : Station) (spelled : design_in (files design) ≡ Ok d) (b : Budgets) (room : b.log_bytes ≡ limit_of file.Proof) where
     -- the log of a search shows that there is no plan
-    log_shows : (log : Vec ℕ Global) → Says d n b (outcome.Infeasible log) → ShowsNone d n log.items
+    log_shows : (log : Vec ℕ Global) → Says m d n b (outcome.Infeasible log) → ShowsNone d n log.items
     log_shows log says = record { short = rw (← room) says.2; shows = says.1.accepted }
 
     -- it was not stored
@@ -92,7 +93,7 @@ module _ (files : Files) (n : ℕ) (design proof : List ℕ) (held : Option File
     unstored_leaves ending.Memory log shows h = inr h
     unstored_leaves ending.ShelfFault log shows h = inl (d, spelled, record { log = log; proves = shows; some = h.0; holds = h.1 })
 
-    unkept_leaves : (e : Ending) (found : Outcome) → Says d n b found → KeepsLog {X = Unit {0}} (Err e) files proof found held → OnEnd (Err e) left
+    unkept_leaves : (e : Ending) (found : Outcome) → Says m d n b found → KeepsLog {X = Unit {0}} (Err e) files proof found held → OnEnd (Err e) left
     unkept_leaves e (outcome.Infeasible log) says h = unstored_leaves e log.items (log_shows log says) h
     unkept_leaves e (outcome.Plan plan verdict) says h = absurd (let no = h.0 in cc)
     unkept_leaves e (outcome.ConflictsSpent log clause hints) says h = absurd (let no = h.0 in cc)
@@ -101,11 +102,11 @@ module _ (files : Files) (n : ℕ) (design proof : List ℕ) (held : Option File
     unkept_leaves e (outcome.TooLarge literals) says h = absurd (let no = h.0 in cc)
     unkept_leaves e outcome.Memory says h = absurd (let no = h.0 in cc)
 
-    pub failed_leaves : (r : Result Reply Ending) (e : Ending) (found : Outcome) → r ≡ Err e → Says d n b found → KeepsLog {X = Unit {0}} (Err e) files proof found held → OnEnd r left
+    pub failed_leaves : (r : Result Reply Ending) (e : Ending) (found : Outcome) → r ≡ Err e → Says m d n b found → KeepsLog {X = Unit {0}} (Err e) files proof found held → OnEnd r left
     failed_leaves r e found is says h = subst (λ (x : Result Reply Ending). OnEnd x left) (sym is) (unkept_leaves e found says h)
 
     -- what the search ended with is told, and a log that shows that there is no plan is stored
-    told_leaves : (found : Outcome) → Says d n b found → KeepsLog {X = Unit {0}} (Ok tt) files proof found held → is_answered (told_outcome d n b.conflicts b.ticks found).status ≡ true → left (told_outcome d n b.conflicts b.ticks found).status
+    told_leaves : (found : Outcome) → Says m d n b found → KeepsLog {X = Unit {0}} (Ok tt) files proof found held → is_answered (told_outcome d n b.conflicts b.ticks found).status ≡ true → left (told_outcome d n b.conflicts b.ticks found).status
     told_leaves (outcome.Infeasible log) says kept answered = (d, spelled, record { log = log.items; proves = log_shows log says; holds = kept })
     told_leaves (outcome.Plan plan verdict) says kept answered = kept.1
     told_leaves (outcome.ConflictsSpent log clause hints) says kept answered = kept.1
@@ -114,7 +115,7 @@ module _ (files : Files) (n : ℕ) (design proof : List ℕ) (held : Option File
     told_leaves (outcome.TooLarge literals) says kept answered = kept.1
     told_leaves outcome.Memory says kept answered = absurd (cc)
 
-    pub settled_leaves : (found : Outcome) (reply : Reply) → Says d n b found → KeepsLog {X = Unit {0}} (Ok tt) files proof found held → reply_seen reply ≡ told_outcome d n b.conflicts b.ticks found → left reply.status
+    pub settled_leaves : (found : Outcome) (reply : Reply) → Says m d n b found → KeepsLog {X = Unit {0}} (Ok tt) files proof found held → reply_seen reply ≡ told_outcome d n b.conflicts b.ticks found → left reply.status
     settled_leaves found reply says kept seen =
         let status : reply.status ≡ (told_outcome d n b.conflicts b.ticks found).status = ap (λ (a : Answer). a.status) seen in
         subst left (sym status) (told_leaves found says kept (ap is_answered (sym status) ∙ reply.answered))
@@ -152,8 +153,8 @@ module _ (r : Result Reply Ending) (old new : Option Files) (asked : Asked) wher
   pub trial_leaves : (seed size : ℕ) → asked ≡ trial seed size → new ≡ old → leaves asked
   trial_leaves seed size is same = subst leaves (sym is) (every_status r (λ s. new ≡ old) (λ s. same))
 
-  pub verify_leaves : (n conflicts ticks : ℕ) (design proof : List ℕ) → asked ≡ verify n conflicts ticks design proof → ((files : Files) → old ≡ Some files → OnEnd r (λ s. SearchLeaves files n design proof s new)) → leaves asked
-  verify_leaves n conflicts ticks design proof is h = subst leaves (sym is) (one_status r old (λ files s. SearchLeaves files n design proof s new) h)
+  pub verify_leaves : (n conflicts ticks : ℕ) (bounds : Bool) (design proof : List ℕ) → asked ≡ verify n conflicts ticks bounds design proof → ((files : Files) → old ≡ Some files → OnEnd r (λ s. SearchLeaves files n design proof s new)) → leaves asked
+  verify_leaves n conflicts ticks bounds design proof is h = subst leaves (sym is) (one_status r old (λ files s. SearchLeaves files n design proof s new) h)
 
 -- ---- a run
 
@@ -178,4 +179,4 @@ run_leaves (Some (simulate design plan)) s t old new answered same no_shelf h = 
 run_leaves (Some (routes design)) s t old new answered same no_shelf h = h
 run_leaves (Some (check n design proof)) s t old new answered same no_shelf h = h
 run_leaves (Some (trial seed size)) s t old new answered same no_shelf h = h
-run_leaves (Some (verify n conflicts ticks design proof)) s t old new answered same no_shelf h = λ files told. printed_leaves files n design proof new s t answered same no_shelf (h files told)
+run_leaves (Some (verify n conflicts ticks bounds design proof)) s t old new answered same no_shelf h = λ files told. printed_leaves files n design proof new s t answered same no_shelf (h files told)

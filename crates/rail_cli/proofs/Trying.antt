@@ -12,6 +12,7 @@ use Rattle.rail_spec.specs.Histories.{decided}
 use Rattle.rail_spec.specs.Requirements.{cost, path_violation, violation_at}
 use Rattle.rail_spec.specs.Track.{routes_of}
 use Rattle.plan_clauses.specs.Clauses.{base_clauses, past_limit}
+use Rattle.plan_exclusion.specs.declared.method.Method.TheVariants.{Cones}
 use Rattle.rail_words.specs.Requests.{Asked, simulate, routes, verify, check, trial, IsInRange}
 use Rattle.verify_loop.specs.declared.outcome.Budgets.{Budgets}
 use Rattle.verify_loop.specs.declared.outcome.Outcome.{Outcome}
@@ -76,12 +77,12 @@ module _ (seed size : ℕ) where
 
   -- the search came to its end
   pub listed_so : {X : Type 0} (view : X → Station) (d : Station) (x : X) (reply : Reply) → d ≡ made seed size → view x ≡ d → Reads view (Ok x) (design_or_answer (with_routes d))
-      → (found : Outcome) × Says d (2 * size) trial_budgets found × Fits d (2 * size) found × (reply_seen reply ≡ told_trial seed size d found)
+      → (found : Outcome) × Says Cones d (2 * size) trial_budgets found × Fits Cones d (2 * size) found × (reply_seen reply ≡ told_trial seed size d found)
       → RepliesTrial (Ok reply) seed size
   listed_so view d x reply same is reads h =
       let found = h.0 in
-      let ends : Says (made seed size) (2 * size) trial_budgets found × Fits (made seed size) (2 * size) found = subst (λ (e : Station). Says e (2 * size) trial_budgets found × Fits e (2 * size) found) same (h.1, h.2) in
-      let few : tried_in seed size d found ≡ reply_seen reply = told_unless_many d (2 * size) trial_budgets (told_trial seed size d) (λ literals. refl) refl (Ok reply) found h.1 h.2 (sym h.3) in
+      let ends : Says Cones (made seed size) (2 * size) trial_budgets found × Fits Cones (made seed size) (2 * size) found = subst (λ (e : Station). Says Cones e (2 * size) trial_budgets found × Fits Cones e (2 * size) found) same (h.1, h.2) in
+      let few : tried_in seed size d found ≡ reply_seen reply = told_unless_many Cones d (2 * size) trial_budgets (told_trial seed size d) (λ literals. refl) refl (Ok reply) found h.1 h.2 (sym h.3) in
       let here : of_station d found ≡ reply_seen reply = answered_next (design_or_answer (with_routes d)) d (λ e. tried_in seed size e found) (reads ∙ ap (λ (e : Station). Ok e) is) ∙ few in
       (found, ends, subst (λ (e : Station). of_station e found ≡ reply_seen reply) same here)
 
@@ -104,7 +105,7 @@ no_memory : (asked : Option Asked) → Tries asked (Err ending.Memory)
 no_memory None = tt
 no_memory (Some (simulate design plan)) = tt
 no_memory (Some (routes design)) = tt
-no_memory (Some (verify n conflicts ticks design proof)) = tt
+no_memory (Some (verify n conflicts ticks bounds design proof)) = tt
 no_memory (Some (check n design proof)) = tt
 no_memory (Some (trial seed size)) = (outcome.Memory, (tt, tt), tt)
 
@@ -156,7 +157,7 @@ module _ (seed size : ℕ) (t : Status) (text new_text : Option (List ℕ)) (pie
   was_tried : (found : Outcome) → is_verdict (tried seed size found).status ≡ true → tried seed size found ≡ told_trial seed size (made seed size) found
   was_tried found verdict =
       let one = passed (design_or_answer (with_routes (made seed size))) (λ d. tried_in seed size d found) (design_refuses (with_routes (made seed size))) verdict in
-      let two = passed (with_clauses (2 * size) one.read) (λ same. told_trial seed size one.read found) (clauses_refuse one.read (past_limit 4000000 0 (base_clauses one.read (routes_of one.read) (2 * size)))) one.verdict in
+      let two = passed (with_clauses Cones (2 * size) one.read) (λ same. told_trial seed size one.read found) (clauses_refuse one.read (past_limit 4000000 0 (base_clauses one.read (routes_of one.read) (2 * size)))) one.verdict in
       let same : made seed size ≡ one.read = listed-same (made seed size) one.read one.is in
       one.comes ∙ two.comes ∙ ap (λ (d : Station). told_trial seed size d found) (sym same)
 

@@ -1,8 +1,10 @@
 -- Runs over a shelf that need not tell what it holds.
-use Rattle.std.proofs.Common.{◌≡◌, ◌≤◌, ◌<◌, ◌+◌, ℕ, suc, List, [], length, replicate, Option, Some, None, Result, Ok, Err, IfOk, Vec, Global, refl, ap, sym, ◌∙◌, subst, arith}
+use Rattle.std.proofs.Common.{◌≡◌, ◌≤◌, ◌<◌, ◌+◌, ℕ, suc, List, [], length, replicate, Bool, Option, Some, None, Result, Ok, Err, IfOk, Vec, Global, refl, ap, sym, ◌∙◌, subst, arith}
 use Rattle.std.proofs.lemmas.List.{length-replicate}
 use Rattle.std.proofs.lemmas.Bool.{lt-ltb}
 use Rattle.std.specs.declared.alloc.AllocError.{AllocError}
+use Rattle.plan_exclusion.specs.declared.method.Method.{Method}
+use Rattle.plan_exclusion.specs.declared.method.Method.TheVariants.{Cones}
 use Rattle.rail_base.specs.declared.design.Design.{Design}
 use Rattle.rail_base.specs.declared.station.Station.{Station}
 use Rattle.rail_words.specs.Requests.{Asked, simulate, routes, verify, check, trial}
@@ -18,12 +20,12 @@ use Rattle.rail_cli.specs.declared.reply.Reply.{Reply}
 use Rattle.rail_cli.specs.declared.ending.Ending.{Ending}
 use Rattle.rail_cli.specs.declared.ending.Ending.TheVariants as ending
 use Rattle.rail_cli.specs.Texts.{limit_of, usage_line, too_long_line}
-use Rattle.rail_cli.specs.Answers.{Answer, one_line, within_limit, design_in, unless_refused, planned, simulated, listed, routes_listed, with_clauses, checked_against, with_proof, checked, searched_in, searched, answer_given}
+use Rattle.rail_cli.specs.Answers.{Answer, one_line, within_limit, design_in, unless_refused, planned, simulated, listed, routes_listed, with_clauses, checked_against, with_proof, checked, searched_in, method_of, searched, answer_given}
 use Rattle.rail_cli.specs.Replies.{reply_seen, ended, Reads, Replies, RepliesTrial, RepliesSome}
 use Rattle.rail_cli.specs.Searches.{budgets_of, EndsSearch, FindsGiven}
 use Rattle.rail_cli.specs.Prints.{Prints, PrintsSome}
 use Rattle.rail_cli.proofs.Deciding.{answered_next, answered_refusal, prints_answer}
-use Rattle.rail_cli.proofs.Finding.{within_budgets, read_so}
+use Rattle.rail_cli.proofs.Finding.{RepliesBy, within_budgets, read_so}
 use Rattle.rail_cli.proofs.Refusing.{file_is, file_fits, ended_reads}
 use Rattle.rail_cli.proofs.Silence.{silent_for_memory, silent_at_shelf}
 
@@ -67,7 +69,7 @@ module _ (r : Result Reply Ending) where
       never : (asked : Asked) → FindsGiven [] (Some asked) outcome.Memory
       never (simulate design plan) = tt
       never (routes design) = tt
-      never (verify n conflicts ticks design proof) = λ d spelled. (tt, tt)
+      never (verify n conflicts ticks bounds design proof) = λ d spelled. (tt, tt)
       never (check n design proof) = tt
       never (trial seed size) = (tt, tt)
 
@@ -83,8 +85,8 @@ simulated_text plan_bytes text = unless_refused (design_in text) (λ d. unless_r
 abbrev checked_text : ℕ → List ℕ → List ℕ → Answer
 checked_text n proof_bytes text = unless_refused (design_in text) (λ d. with_proof n d proof_bytes)
 
-abbrev searched_text : ℕ → ℕ → ℕ → Outcome → List ℕ → Answer
-searched_text n conflicts ticks found text = unless_refused (design_in text) (λ d. searched_in d n conflicts ticks found)
+abbrev searched_text : Method → ℕ → ℕ → ℕ → Outcome → List ℕ → Answer
+searched_text m n conflicts ticks found text = unless_refused (design_in text) (λ d. searched_in m d n conflicts ticks found)
 
 -- for any answer that reads the design first
 module _ (bytes text : List ℕ) (fits : within_limit file.Design bytes ≡ Ok text) (next : Station → Answer) where
@@ -164,47 +166,51 @@ module _ (r : Result Reply Ending) (n : ℕ) (d : Station) where
   abbrev with_bytes : List ℕ → Answer
   with_bytes bytes = unless_refused (within_limit file.Proof bytes) (checked_against d n)
 
-  pub no_base : {X : Type 0} (view : X → Station) (e : Ending) → r ≡ Err e → Reads view (Err e) (with_clauses n d) → ProvenSo
-  no_base view e is h = ([], ends_so r view e (with_clauses n d) (λ same. with_bytes []) _ is h refl)
+  pub no_base : {X : Type 0} (view : X → Station) (e : Ending) → r ≡ Err e → Reads view (Err e) (with_clauses Cones n d) → ProvenSo
+  no_base view e is h = ([], ends_so r view e (with_clauses Cones n d) (λ same. with_bytes []) _ is h refl)
 
-  pub no_proof : (e : Ending) → r ≡ Err e → with_clauses n d ≡ Ok d → (bytes : List ℕ) × Reads (λ (v : Vec ℕ Global). v.items) (Err e) (within_limit file.Proof bytes) → ProvenSo
-  no_proof e is few h = (h.0, ends_so r (λ (v : Vec ℕ Global). v.items) e _ (checked_against d n) _ is h.1 (answered_next (with_clauses n d) d (λ same. with_bytes h.0) few))
+  pub no_proof : (e : Ending) → r ≡ Err e → with_clauses Cones n d ≡ Ok d → (bytes : List ℕ) × Reads (λ (v : Vec ℕ Global). v.items) (Err e) (within_limit file.Proof bytes) → ProvenSo
+  no_proof e is few h = (h.0, ends_so r (λ (v : Vec ℕ Global). v.items) e _ (checked_against d n) _ is h.1 (answered_next (with_clauses Cones n d) d (λ same. with_bytes h.0) few))
 
   pub no_memory : r ≡ Err ending.Memory → ProvenSo
   no_memory is = ([], subst (λ (x : Result Reply Ending). Replies x (with_proof n d [])) (sym is) tt)
 
 -- ---- searches
 
-module _ (r : Result Reply Ending) (n : ℕ) (b : Budgets) (design proof : List ℕ) where
+module _ (r : Result Reply Ending) (n : ℕ) (bounds : Bool) (b : Budgets) (design proof : List ℕ) where
   abbrev SearchedSo : Type 0
-  SearchedSo = RepliesSome r (Some (verify n b.conflicts b.ticks design proof))
+  SearchedSo = RepliesSome r (Some (verify n b.conflicts b.ticks bounds design proof))
+
+  -- how plans that fail are excluded
+  abbrev by : Method
+  by = method_of bounds
 
   -- memory was wanting
-  wanting_so : (a : List ℕ) → Replies r (searched n b.conflicts b.ticks a outcome.Memory) → SearchedSo
+  wanting_so : (a : List ℕ) → Replies r (searched by n b.conflicts b.ticks a outcome.Memory) → SearchedSo
   wanting_so a h = record { design_bytes = a; other_bytes = []; found = outcome.Memory; finds = λ d spelled. (tt, tt); replies = h }
 
   pub unsearched : (e : Ending) → r ≡ Err e → (bytes : List ℕ) × Reads (λ (v : Vec ℕ Global). v.items) (Err e) (within_limit file.Design bytes) → SearchedSo
-  unsearched e is h = wanting_so h.0 (ends_so r (λ (v : Vec ℕ Global). v.items) e _ (searched_text n b.conflicts b.ticks outcome.Memory) _ is h.1 refl)
+  unsearched e is h = wanting_so h.0 (ends_so r (λ (v : Vec ℕ Global). v.items) e _ (searched_text by n b.conflicts b.ticks outcome.Memory) _ is h.1 refl)
 
   module _ (text : List ℕ) (first : (bytes : List ℕ) × (within_limit file.Design bytes ≡ Ok text)) where
     pub unsearched_design : {X : Type 0} (view : X → Station) (e : Ending) → r ≡ Err e → Reads view (Err e) (design_in text) → SearchedSo
-    unsearched_design view e is h = wanting_so first.0 (ends_so r view e (design_in text) (λ d. searched_in d n b.conflicts b.ticks outcome.Memory) _ is h (with_text first.0 text first.1 (λ d. searched_in d n b.conflicts b.ticks outcome.Memory)))
+    unsearched_design view e is h = wanting_so first.0 (ends_so r view e (design_in text) (λ d. searched_in by d n b.conflicts b.ticks outcome.Memory) _ is h (with_text first.0 text first.1 (λ d. searched_in by d n b.conflicts b.ticks outcome.Memory)))
 
     -- the outcome is that of the design
-    ends_search : (d : Station) (found : Outcome) → design_in text ≡ Ok d → Says d n (budgets_of b.conflicts b.ticks) found → Fits d n found → EndsSearch first.0 n b.conflicts b.ticks found
+    ends_search : (d : Station) (found : Outcome) → design_in text ≡ Ok d → Says by d n (budgets_of b.conflicts b.ticks) found → Fits by d n found → EndsSearch by first.0 n b.conflicts b.ticks found
     ends_search d found reads says fits e spelled =
         let one : Ok d ≡ Ok e = sym reads ∙ (ap design_in (sym (file_is file.Design first.0 text first.1)) ∙ spelled) in
         let same : d ≡ e = cc in
-        subst (λ (x : Station). Says x n (budgets_of b.conflicts b.ticks) found × Fits x n found) same (says, fits)
+        subst (λ (x : Station). Says by x n (budgets_of b.conflicts b.ticks) found × Fits by x n found) same (says, fits)
 
     pub all_searched : (d : Station) → b.log_bytes ≡ limit_of file.Proof → design_in text ≡ Ok d
-        → (found : Outcome) × Says d n b found × Fits d n found × Replies r (searched_in d n b.conflicts b.ticks found) → SearchedSo
+        → RepliesBy r d n b by → SearchedSo
     all_searched d room reads h = record {
       design_bytes = first.0;
       other_bytes = [];
       found = h.0;
-      finds = ends_search d h.0 reads (within_budgets d n b h.0 room h.1) h.2;
-      replies = subst (Replies r) (sym (read_so n b.conflicts b.ticks first.0 h.0 text first.1 d reads)) h.3;
+      finds = ends_search d h.0 reads (within_budgets by d n b h.0 room h.1) h.2;
+      replies = subst (Replies r) (sym (read_so by n b.conflicts b.ticks first.0 h.0 text first.1 d reads)) h.3;
     }
 
 -- ---- requests
@@ -216,8 +222,8 @@ asks_some r a b is h = subst (RepliesSome r) (sym is) h
 pub asks_named : (r : Result Reply Ending) (a b : Asked) → a ≡ b → RepliesSome r (Some b) → RepliesSome r (Some a)
 asks_named r a b is h = subst (λ (x : Asked). RepliesSome r (Some x)) (sym is) h
 
-pub some_search : (r : Result Reply Ending) (n conflicts ticks : ℕ) (b : Budgets) (design proof : List ℕ) → b ≡ budgets_of conflicts ticks → RepliesSome r (Some (verify n b.conflicts b.ticks design proof)) → RepliesSome r (Some (verify n conflicts ticks design proof))
-some_search r n conflicts ticks b design proof within h = subst (λ (x : Budgets). RepliesSome r (Some (verify n x.conflicts x.ticks design proof))) within h
+pub some_search : (r : Result Reply Ending) (n conflicts ticks : ℕ) (bounds : Bool) (b : Budgets) (design proof : List ℕ) → b ≡ budgets_of conflicts ticks → RepliesSome r (Some (verify n b.conflicts b.ticks bounds design proof)) → RepliesSome r (Some (verify n conflicts ticks bounds design proof))
+some_search r n conflicts ticks bounds b design proof within h = subst (λ (x : Budgets). RepliesSome r (Some (verify n x.conflicts x.ticks bounds design proof))) within h
 
 pub some_trial : (r : Result Reply Ending) (seed size : ℕ) → RepliesTrial r seed size → RepliesSome r (Some (trial seed size))
 some_trial r seed size h = record { design_bytes = []; other_bytes = []; found = h.0; finds = h.1; replies = h.2 }

@@ -5,25 +5,26 @@ use Rattle.std.proofs.lemmas.List.Sums.{sum_by-cons}
 use Rattle.infra_reader.specs.Design.{design_of}
 use Rattle.log_checker.specs.declared.shown.Shown.{Shown}
 use Rattle.log_checker.specs.declared.shown.Shown.TheVariants.{Yes, No}
-use Rattle.plan_clauses.specs.Clauses.{base_clauses, literals, past_limit}
+use Rattle.plan_clauses.specs.Clauses.{literals, past_limit}
+use Rattle.plan_exclusion.specs.declared.method.Method.{Method}
+use Rattle.plan_exclusion.specs.declared.method.Method.TheVariants.{Cones}
 use Rattle.proof_judge.specs.Judged.{judged}
 use Rattle.rail_base.specs.declared.history.Verdict.{Verdict}
 use Rattle.rail_base.specs.declared.history.Verdict.TheVariants as verdict
 use Rattle.rail_base.specs.declared.station.Station.{Station}
 use Rattle.rail_outside.specs.Files.{Files}
-use Rattle.rail_spec.specs.Track.{routes_of}
 use Rattle.rail_words.specs.Requests.{Asked, simulate, routes, verify, check, trial, request_of}
 use Rattle.verify_loop.specs.declared.outcome.Budgets.{Budgets}
 use Rattle.verify_loop.specs.declared.outcome.Outcome.{Outcome}
 use Rattle.verify_loop.specs.declared.outcome.Outcome.TheVariants as outcome
-use Rattle.verify_loop.specs.Outcomes.{Says, Fits}
+use Rattle.verify_loop.specs.Outcomes.{Says, Fits, first_clauses}
 use Rattle.workload.specs.Made.{made}
 use Rattle.rail_cli.specs.declared.status.Status.{Status}
 use Rattle.rail_cli.specs.declared.status.Status.TheVariants as statuses
 use Rattle.rail_cli.specs.declared.input.InputFile.TheVariants as file
 use Rattle.rail_cli.specs.Statuses.{is_answered}
 use Rattle.rail_cli.specs.Texts.{limit_of}
-use Rattle.rail_cli.specs.Answers.{Answer, within_limit, with_routes, design_or_answer, design_in, plan_or_answer, plan_in, shown, verdict_status, simulated, listed, routes_listed, with_clauses, told, checked_against, with_proof, checked, told_outcome, searched, trial_conflicts, trial_ticks, told_trial, tried_in, tried, unless_refused, answer_to, answer_of}
+use Rattle.rail_cli.specs.Answers.{Answer, within_limit, with_routes, design_or_answer, design_in, plan_or_answer, plan_in, shown, verdict_status, simulated, listed, routes_listed, with_clauses, told, checked_against, with_proof, checked, told_outcome, method_of, searched, trial_conflicts, trial_ticks, told_trial, tried_in, tried, unless_refused, answer_to, answer_of}
 use Rattle.rail_cli.specs.Shows.{shown_by}
 use Rattle.rail_cli.specs.Searches.{budgets_of, Finds}
 use Rattle.rail_cli.specs.Prints.{Prints}
@@ -41,11 +42,11 @@ within limit sum (c ∷ cs) few =
     let all : literals (c ∷ cs) ≡ length c + literals cs = sum_by-cons length c cs in
     rw (le-ltb limit (sum + length c) (omega arith)) (within limit (sum + length c) cs (omega arith))
 
-few_fit : (d : Station) (n : ℕ) → HasFewClauses d n → past_limit 4000000 0 (base_clauses d (routes_of d) n) ≡ None
-few_fit d n few = within 4000000 0 (base_clauses d (routes_of d) n) (omega arith)
+few_fit : (m : Method) (d : Station) (n : ℕ) → HasFewClauses m d n → past_limit 4000000 0 (first_clauses m d n) ≡ None
+few_fit m d n few = within 4000000 0 (first_clauses m d n) (omega arith)
 
-few_pass : (d : Station) (n : ℕ) → HasFewClauses d n → with_clauses n d ≡ Ok d
-few_pass d n few = small_passes n d (few_fit d n few)
+few_pass : (m : Method) (d : Station) (n : ℕ) → HasFewClauses m d n → with_clauses m n d ≡ Ok d
+few_pass m d n few = small_passes m n d (few_fit m d n few)
 
 routes_pass : (d : Station) → HasRoutes d → with_routes d ≡ Ok d
 routes_pass d has = refusing.routes_listed d has.once has.few
@@ -67,21 +68,21 @@ module _ (bytes : List ℕ) (d : Station) (s : SpellsDesign bytes d) where
   listed_so : routes_listed bytes ≡ listed d
   listed_so = answered_next (within_limit file.Design bytes) bytes (λ text. unless_refused (design_in text) listed) fits ∙ answered_next (design_in bytes) d listed reads
 
-  searched_so : (n conflicts ticks : ℕ) (found : Outcome) → HasFewClauses d n → searched n conflicts ticks bytes found ≡ told_outcome d n conflicts ticks found
-  searched_so n conflicts ticks found few =
-      read_so n conflicts ticks bytes found bytes fits d reads ∙ answered_next (with_clauses n d) d (λ same. told_outcome d n conflicts ticks found) (few_pass d n few)
+  searched_so : (m : Method) (n conflicts ticks : ℕ) (found : Outcome) → HasFewClauses m d n → searched m n conflicts ticks bytes found ≡ told_outcome d n conflicts ticks found
+  searched_so m n conflicts ticks found few =
+      read_so m n conflicts ticks bytes found bytes fits d reads ∙ answered_next (with_clauses m n d) d (λ same. told_outcome d n conflicts ticks found) (few_pass m d n few)
 
-  checked_so : (n : ℕ) (proof_bytes : List ℕ) → HasFewClauses d n → length proof_bytes ≤ limit_of file.Proof → checked n bytes proof_bytes ≡ told (judged d n proof_bytes)
+  checked_so : (n : ℕ) (proof_bytes : List ℕ) → HasFewClauses Cones d n → length proof_bytes ≤ limit_of file.Proof → checked n bytes proof_bytes ≡ told (judged d n proof_bytes)
   checked_so n proof_bytes few short =
       answered_next (within_limit file.Design bytes) bytes (λ text. unless_refused (design_in text) (λ e. with_proof n e proof_bytes)) fits
       ∙ (answered_next (design_in bytes) d (λ e. with_proof n e proof_bytes) reads
-      ∙ (answered_next (with_clauses n d) d (λ same. unless_refused (within_limit file.Proof proof_bytes) (checked_against d n)) (few_pass d n few)
+      ∙ (answered_next (with_clauses Cones n d) d (λ same. unless_refused (within_limit file.Proof proof_bytes) (checked_against d n)) (few_pass Cones d n few)
       ∙ answered_next (within_limit file.Proof proof_bytes) proof_bytes (checked_against d n) (refusing.file_fits file.Proof proof_bytes short)))
 
-tried_so : (seed size : ℕ) (found : Outcome) → HasRoutes (made seed size) → HasFewClauses (made seed size) (2 * size) → tried seed size found ≡ told_trial seed size (made seed size) found
+tried_so : (seed size : ℕ) (found : Outcome) → HasRoutes (made seed size) → HasFewClauses Cones (made seed size) (2 * size) → tried seed size found ≡ told_trial seed size (made seed size) found
 tried_so seed size found has few =
     answered_next (design_or_answer (with_routes (made seed size))) (made seed size) (λ d. tried_in seed size d found) (ap design_or_answer (routes_pass (made seed size) has))
-    ∙ answered_next (with_clauses (2 * size) (made seed size)) (made seed size) (λ same. told_trial seed size (made seed size) found) (few_pass (made seed size) (2 * size) few)
+    ∙ answered_next (with_clauses Cones (2 * size) (made seed size)) (made seed size) (λ same. told_trial seed size (made seed size) found) (few_pass Cones (made seed size) (2 * size) few)
 
 -- ---- their statuses
 
@@ -123,20 +124,20 @@ trial_status seed size d (outcome.TooLarge literals) = refl
 trial_status seed size d outcome.Memory = refl
 
 -- a search with few clauses ends with a verdict or a budget spent, unless memory was wanting
-module _ (d : Station) (n : ℕ) (b : Budgets) (few : HasFewClauses d n) (s : Status) (answered : is_answered s ≡ true) where
-  ends_so : (found : Outcome) → Says d n b found × Fits d n found → s ≡ status_of found → IsVerdict s ⊎ SpendsBudget d n b s
+module _ (m : Method) (d : Station) (n : ℕ) (b : Budgets) (few : HasFewClauses m d n) (s : Status) (answered : is_answered s ≡ true) where
+  ends_so : (found : Outcome) → Says m d n b found × Fits m d n found → s ≡ status_of found → IsVerdict s ⊎ SpendsBudget m d n b s
   ends_so (outcome.Plan plan verdict) ends is = inl (inl is)
   ends_so (outcome.Infeasible log) ends is = inl (inr is)
   ends_so (outcome.ConflictsSpent log clause hints) ends is = inr (record { found = outcome.ConflictsSpent log clause hints; spent = is; says = ends.0; fits = ends.1 })
   ends_so (outcome.TicksSpent failed sum at_hand) ends is = inr (record { found = outcome.TicksSpent failed sum at_hand; spent = is; says = ends.0; fits = ends.1 })
   ends_so (outcome.LogSpent log bytes next) ends is = inr (record { found = outcome.LogSpent log bytes next; spent = is; says = ends.0; fits = ends.1 })
-  ends_so (outcome.TooLarge k) ends is = (let many = ends.0 in let none = few_fit d n few in absurd (cc))
+  ends_so (outcome.TooLarge k) ends is = (let many = ends.0 in let none = few_fit m d n few in absurd (cc))
   ends_so outcome.Memory ends is = (let kind : is_answered s ≡ is_answered statuses.Memory = ap is_answered is in absurd (cc))
 
 -- of a design that is spelled
-spent_in : (d : Station) (bytes : List ℕ) (n : ℕ) (b : Budgets) (s : Status) → design_of bytes ≡ Ok d → IsVerdict s ⊎ SpendsBudget d n b s → IsVerdict s ⊎ ((e : Station) × (design_of bytes ≡ Ok e) × SpendsBudget e n b s)
-spent_in d bytes n b s spells (inl verdict) = inl verdict
-spent_in d bytes n b s spells (inr spent) = inr (d, spells, spent)
+spent_in : (m : Method) (d : Station) (bytes : List ℕ) (n : ℕ) (b : Budgets) (s : Status) → design_of bytes ≡ Ok d → IsVerdict s ⊎ SpendsBudget m d n b s → IsVerdict s ⊎ ((e : Station) × (design_of bytes ≡ Ok e) × SpendsBudget m e n b s)
+spent_in m d bytes n b s spells (inl verdict) = inl verdict
+spent_in m d bytes n b s spells (inr spent) = inr (d, spells, spent)
 
 -- ---- the run
 
@@ -148,13 +149,13 @@ comes_so files None found s finds is u answered = absurd u
 comes_so files (Some (simulate design plan)) found s finds is u answered =
     subst IsVerdict (sym (status_so _ _ s is (simulated_so (files design) u.0 u.1 (files plan) u.2))) (shown_verdict (shown_by u.0 u.2.plan))
 comes_so files (Some (routes design)) found s finds is u answered = status_so _ _ s is (listed_so (files design) u.0 u.1)
-comes_so files (Some (verify n conflicts ticks design proof)) found s finds is u answered =
-    spent_in u.0 (files design) n (budgets_of conflicts ticks) s u.1.spells
-    (ends_so u.0 n (budgets_of conflicts ticks) u.2 s answered found (finds u.0 (reads (files design) u.0 u.1)) (status_so _ _ s is (searched_so (files design) u.0 u.1 n conflicts ticks found u.2) ∙ search_status u.0 n conflicts ticks found))
+comes_so files (Some (verify n conflicts ticks bounds design proof)) found s finds is u answered =
+    spent_in (method_of bounds) u.0 (files design) n (budgets_of conflicts ticks) s u.1.spells
+    (ends_so (method_of bounds) u.0 n (budgets_of conflicts ticks) u.2 s answered found (finds u.0 (reads (files design) u.0 u.1)) (status_so _ _ s is (searched_so (files design) u.0 u.1 (method_of bounds) n conflicts ticks found u.2) ∙ search_status u.0 n conflicts ticks found))
 comes_so files (Some (check n design proof)) found s finds is u answered =
     subst IsVerdict (sym (status_so _ _ s is (checked_so (files design) u.0 u.1 n (files proof) u.2 u.3))) (told_verdict (judged u.0 n (files proof)))
 comes_so files (Some (trial seed size)) found s finds is u answered =
-    ends_so (made seed size) (2 * size) (budgets_of trial_conflicts trial_ticks) u.1 s answered found finds (status_so _ _ s is (tried_so seed size found u.0 u.1) ∙ trial_status seed size (made seed size) found)
+    ends_so Cones (made seed size) (2 * size) (budgets_of trial_conflicts trial_ticks) u.1 s answered found finds (status_so _ _ s is (tried_so seed size found u.0 u.1) ∙ trial_status seed size (made seed size) found)
 
 module _ (files : Files) (words : List (List ℕ)) (s : Status) (text new_text : Option (List ℕ)) (pieces new_pieces : Option (List (List ℕ))) where
   -- the answer was printed

@@ -1,6 +1,6 @@
 -- The answer to the words of a command line, for the files that are held.
-use Rattle.std.specs.Prelude.{ℕ, ◌*◌, List, [], ◌∷◌, length, map, nat_lt, nat_le, Option, None, Some, Result, Ok, Err}
-use Rattle.std.specs.Prelude.{if◌then◌else◌}
+use Rattle.std.specs.Prelude.{ℕ, ◌*◌, Bool, List, [], ◌∷◌, length, map, nat_lt, nat_le, if◌then◌else◌}
+use Rattle.std.specs.Prelude.{Option, None, Some, Result, Ok, Err}
 use Rattle.design_table.specs.declared.fault.Code.{Code}
 use Rattle.design_table.specs.declared.fault.Code.TheVariants.{D12, D13}
 use Rattle.design_table.specs.declared.place.EntryKind.TheVariants as kind
@@ -11,7 +11,9 @@ use Rattle.infra_reader.specs.Design.{design_of}
 use Rattle.log_checker.specs.declared.shown.Shown.{Shown}
 use Rattle.log_checker.specs.declared.shown.Shown.TheVariants as shown_
 use Rattle.proof_judge.specs.Judged.{judged}
-use Rattle.plan_clauses.specs.Clauses.{base_clauses, past_limit}
+use Rattle.plan_clauses.specs.Clauses.{past_limit}
+use Rattle.plan_exclusion.specs.declared.method.Method.{Method}
+use Rattle.plan_exclusion.specs.declared.method.Method.TheVariants.{Cones, Bounds}
 use Rattle.rail_base.specs.declared.station.Station.{Station}
 use Rattle.rail_base.specs.declared.station.EdgeNo.{EdgeNo}
 use Rattle.rail_base.specs.declared.plan.Command.{Command}
@@ -24,6 +26,7 @@ use Rattle.rail_spec.specs.Track.{routes_of, all_closings, edges_met_again}
 use Rattle.rail_spec.specs.Requirements.{cost}
 use Rattle.rail_words.specs.Requests.{Asked, simulate, routes, verify, check, trial, request_of}
 use Rattle.timetable.specs.Timetable.{timetable_of}
+use Rattle.verify_loop.specs.Outcomes.{first_clauses}
 use Rattle.verify_loop.specs.declared.outcome.Outcome.{Outcome}
 use Rattle.verify_loop.specs.declared.outcome.Outcome.TheVariants as outcome
 use Rattle.workload.specs.Made.{made}
@@ -132,9 +135,9 @@ abbrev pub unless_too_large : Station → Option ℕ → Result Station Answer
 unless_too_large d None = Ok d
 unless_too_large d (Some literals) = Err (one_line status.DesignRefused too_large_line)
 
--- a design whose clauses for plans of n steps have at most 4,000,000 literals
-abbrev pub with_clauses : ℕ → Station → Result Station Answer
-with_clauses n d = unless_too_large d (past_limit 4000000 0 (base_clauses d (routes_of d) n))
+-- a design of which the clauses that a search by the method begins with have at most 4,000,000 literals
+abbrev pub with_clauses : Method → ℕ → Station → Result Station Answer
+with_clauses m n d = unless_too_large d (past_limit 4000000 0 (first_clauses m d n))
 
 -- what a proof file shows
 abbrev pub told : Shown → Answer
@@ -148,7 +151,7 @@ checked_against d n bytes = told (judged d n bytes)
 -- the answer to a check of a design, for the bytes of the proof
 abbrev pub with_proof : ℕ → Station → List ℕ → Answer
 with_proof n d proof_bytes =
-    unless_refused (with_clauses n d) (λ same.
+    unless_refused (with_clauses Cones n d) (λ same.
     unless_refused (within_limit file.Proof proof_bytes) (checked_against d n))
 
 -- the answer to a check, for the bytes of the design and of the proof
@@ -178,17 +181,21 @@ told_outcome d n conflicts ticks (outcome.LogSpent log bytes next) =
 told_outcome d n conflicts ticks (outcome.TooLarge literals) = one_line status.DesignRefused too_large_line
 told_outcome d n conflicts ticks outcome.Memory = record { status = status.Memory; lines = [] }
 
--- the answer to a search in a design, by what it ended with
-abbrev pub searched_in : Station → ℕ → ℕ → ℕ → Outcome → Answer
-searched_in d n conflicts ticks found =
-    unless_refused (with_clauses n d) (λ same. told_outcome d n conflicts ticks found)
+-- the answer to a search in a design by a method, by what it ended with
+abbrev pub searched_in : Method → Station → ℕ → ℕ → ℕ → Outcome → Answer
+searched_in m d n conflicts ticks found =
+    unless_refused (with_clauses m n d) (λ same. told_outcome d n conflicts ticks found)
+
+-- plans that fail are excluded by bounds where these are asked for
+abbrev pub method_of : Bool → Method
+method_of bounds = if bounds then Bounds else Cones
 
 -- the answer to a search, for the bytes of the design, by what it ended with
-abbrev pub searched : ℕ → ℕ → ℕ → List ℕ → Outcome → Answer
-searched n conflicts ticks design_bytes found =
+abbrev pub searched : Method → ℕ → ℕ → ℕ → List ℕ → Outcome → Answer
+searched m n conflicts ticks design_bytes found =
     unless_refused (within_limit file.Design design_bytes) (λ design_text.
     unless_refused (design_in design_text) (λ d.
-    searched_in d n conflicts ticks found))
+    searched_in m d n conflicts ticks found))
 
 -- how many clauses a trial may derive
 abbrev pub trial_conflicts : ℕ
@@ -218,7 +225,7 @@ told_trial seed size d outcome.Memory = record { status = status.Memory; lines =
 
 -- the answer to a trial of a station with its routes, by what it ended with
 abbrev pub tried_in : ℕ → ℕ → Station → Outcome → Answer
-tried_in seed size d found = unless_refused (with_clauses (2 * size) d) (λ same. told_trial seed size d found)
+tried_in seed size d found = unless_refused (with_clauses Cones (2 * size) d) (λ same. told_trial seed size d found)
 
 -- the answer to a trial: the station that the seed and the size make is searched for a plan of twice as many steps as its size
 abbrev pub tried : ℕ → ℕ → Outcome → Answer
@@ -230,7 +237,8 @@ abbrev pub answer_to : Files → Outcome → Option Asked → Answer
 answer_to files found None = one_line status.Usage usage_line
 answer_to files found (Some (simulate design plan)) = simulated (files design) (files plan)
 answer_to files found (Some (routes design)) = routes_listed (files design)
-answer_to files found (Some (verify n conflicts ticks design proof)) = searched n conflicts ticks (files design) found
+answer_to files found (Some (verify n conflicts ticks bounds design proof)) =
+    searched (method_of bounds) n conflicts ticks (files design) found
 answer_to files found (Some (check n design proof)) = checked n (files design) (files proof)
 answer_to files found (Some (trial seed size)) = tried seed size found
 
@@ -239,8 +247,8 @@ abbrev pub answer_given : List ℕ → List ℕ → Outcome → Option Asked →
 answer_given design_bytes other_bytes found None = one_line status.Usage usage_line
 answer_given design_bytes other_bytes found (Some (simulate design plan)) = simulated design_bytes other_bytes
 answer_given design_bytes other_bytes found (Some (routes design)) = routes_listed design_bytes
-answer_given design_bytes other_bytes found (Some (verify n conflicts ticks design proof)) =
-    searched n conflicts ticks design_bytes found
+answer_given design_bytes other_bytes found (Some (verify n conflicts ticks bounds design proof)) =
+    searched (method_of bounds) n conflicts ticks design_bytes found
 answer_given design_bytes other_bytes found (Some (check n design proof)) = checked n design_bytes other_bytes
 answer_given design_bytes other_bytes found (Some (trial seed size)) = tried seed size found
 
@@ -255,7 +263,7 @@ abbrev pub asks_to : Option Asked → List Ask
 asks_to None = []
 asks_to (Some (simulate design plan)) = fetched design ∷ fetched plan ∷ []
 asks_to (Some (routes design)) = fetched design ∷ []
-asks_to (Some (verify n conflicts ticks design proof)) = fetched design ∷ stored proof ∷ []
+asks_to (Some (verify n conflicts ticks bounds design proof)) = fetched design ∷ stored proof ∷ []
 asks_to (Some (check n design proof)) = fetched design ∷ fetched proof ∷ []
 asks_to (Some (trial seed size)) = []
 

@@ -10,6 +10,7 @@ use Rattle.rail_outside.specs.Lines.{lines_of}
 use Rattle.rail_spec.specs.Feasible.{IsFeasible}
 use Rattle.rail_outside.specs.Files.{Files, updated}
 use Rattle.rail_words.specs.Requests.{Asked, simulate, routes, verify, check, trial}
+use Rattle.plan_exclusion.specs.declared.method.Method.{Method}
 use Rattle.verify_loop.specs.declared.outcome.Outcome.{Outcome}
 use Rattle.verify_loop.specs.declared.outcome.Outcome.TheVariants as outcome
 use Rattle.verify_loop.specs.Outcomes.{Says, Fits}
@@ -19,7 +20,7 @@ use Rattle.rail_cli.specs.declared.reply.Reply.{Reply}
 use Rattle.rail_cli.specs.declared.ending.Ending.{Ending}
 use Rattle.rail_cli.specs.declared.ending.Ending.TheVariants as ending
 use Rattle.rail_cli.specs.Statuses.{is_refusal}
-use Rattle.rail_cli.specs.Answers.{Answer, design_in, plan_in, tried, answer_to, answer_given}
+use Rattle.rail_cli.specs.Answers.{Answer, design_in, plan_in, method_of, tried, answer_to, answer_given}
 use Rattle.rail_cli.specs.Simulations.{RunsSafely}
 use Rattle.rail_cli.specs.Searches.{budgets_of, EndsTrial, FindsGiven}
 
@@ -108,23 +109,24 @@ abbrev pub DecidesRequest : Files → Asked → Result Reply Ending → Type 0
 DecidesRequest files (simulate design plan) result =
     IfOk result (λ reply. Decides (files design) (files plan) reply.status)
 DecidesRequest files (routes design) result = Unit {0}
-DecidesRequest files (verify n conflicts ticks design proof) result = Unit {0}
+DecidesRequest files (verify n conflicts ticks bounds design proof) result = Unit {0}
 DecidesRequest files (check n design proof) result = Unit {0}
 DecidesRequest files (trial seed size) result = Unit {0}
 
 -- ---- searches
 
 -- the file spells an admitted design, of which the outcome says what it is to say
-pub record EndsIn (files : Files) (n conflicts ticks : ℕ) (design_name : List ℕ) (found : Outcome) : Type 0 where
+pub record EndsIn (files : Files) (m : Method) (n conflicts ticks : ℕ) (design_name : List ℕ) (found : Outcome)
+    : Type 0 where
   pub design : Design
   pub spelled : design_in (files design_name) ≡ Ok design.station
-  pub says : Says design.station n (budgets_of conflicts ticks) found
-  pub fits : Fits design.station n found
+  pub says : Says m design.station n (budgets_of conflicts ticks) found
+  pub fits : Fits m design.station n found
 
 -- where a search is asked for, it ends so, or for want of memory; a trial too
 abbrev pub EndsWith : Files → Option Asked → Outcome → Type 0
-EndsWith files (Some (verify n conflicts ticks design proof)) found =
-    (found ≡ outcome.Memory) ⊎ EndsIn files n conflicts ticks design found
+EndsWith files (Some (verify n conflicts ticks bounds design proof)) found =
+    (found ≡ outcome.Memory) ⊎ EndsIn files (method_of bounds) n conflicts ticks design found
 EndsWith files (Some (trial seed size)) found = EndsTrial seed size found
 EndsWith files _ found = Unit {0}
 

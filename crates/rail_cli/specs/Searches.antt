@@ -1,8 +1,10 @@
 -- Searches for a plan: what they end with, what they leave on the shelf, and what their answers say of the design.
-use Rattle.std.specs.Prelude.{◌≡◌, ◌≤◌, ◌<◌, ◌⊎◌, ℕ, ◌*◌, List, ◌∷◌, length, Option, Some, Ok}
+use Rattle.std.specs.Prelude.{◌≡◌, ◌≤◌, ◌<◌, ◌⊎◌, ℕ, ◌*◌, Bool, List, ◌∷◌, length, Option, Some, Ok}
 use Rattle.std.specs.List.{concat}
 use Rattle.infra_reader.specs.Design.{design_of}
 use Rattle.log_checker.specs.declared.shown.Shown.TheVariants.{Yes}
+use Rattle.plan_exclusion.specs.declared.method.Method.{Method}
+use Rattle.plan_exclusion.specs.declared.method.Method.TheVariants.{Cones}
 use Rattle.proof_judge.specs.Judged.{judged}
 use Rattle.rail_base.specs.declared.plan.Command.{Command}
 use Rattle.rail_base.specs.declared.station.Station.{Station}
@@ -22,7 +24,7 @@ use Rattle.rail_cli.specs.declared.status.Status.{Status}
 use Rattle.rail_cli.specs.declared.status.Status.TheVariants.{Done, No, Memory, ShelfFault, SinkFault}
 use Rattle.rail_cli.specs.declared.input.InputFile.TheVariants as file
 use Rattle.rail_cli.specs.Texts.{limit_of, yes_line, plan_steps_line, plan_line, infeasible_line}
-use Rattle.rail_cli.specs.Answers.{one_line, design_in, checked, trial_conflicts, trial_ticks, plan_told}
+use Rattle.rail_cli.specs.Answers.{one_line, design_in, checked, method_of, trial_conflicts, trial_ticks, plan_told}
 use Rattle.rail_cli.specs.Shows.{shown_by}
 use Rattle.rail_cli.specs.Simulations.{RunsSafely}
 
@@ -35,24 +37,25 @@ budgets_of conflicts ticks = record { conflicts = conflicts; ticks = ticks; log_
 -- the outcome says what it is to say of the station that the seed and the size make, for twice as many steps as its size; want of memory says nothing
 abbrev pub EndsTrial : ℕ → ℕ → Outcome → Type 0
 EndsTrial seed size found =
-    Says (made seed size) (2 * size) (budgets_of trial_conflicts trial_ticks) found
-    × Fits (made seed size) (2 * size) found
+    Says Cones (made seed size) (2 * size) (budgets_of trial_conflicts trial_ticks) found
+    × Fits Cones (made seed size) (2 * size) found
 
 -- where the bytes spell a design, the outcome says what it is to say of that design and n, within the budgets
-abbrev pub EndsSearch : List ℕ → ℕ → ℕ → ℕ → Outcome → Type 0
-EndsSearch design_bytes n conflicts ticks found = (d : Station) → design_in design_bytes ≡ Ok d
-    → Says d n (budgets_of conflicts ticks) found × Fits d n found
+abbrev pub EndsSearch : Method → List ℕ → ℕ → ℕ → ℕ → Outcome → Type 0
+EndsSearch m design_bytes n conflicts ticks found = (d : Station) → design_in design_bytes ≡ Ok d
+    → Says m d n (budgets_of conflicts ticks) found × Fits m d n found
 
 -- a search that is asked for ends so for the design's file, and a trial for the station that is made
 abbrev pub Finds : Files → Option Asked → Outcome → Type 0
-Finds files (Some (verify n conflicts ticks design proof)) found = EndsSearch (files design) n conflicts ticks found
+Finds files (Some (verify n conflicts ticks bounds design proof)) found =
+    EndsSearch (method_of bounds) (files design) n conflicts ticks found
 Finds files (Some (trial seed size)) found = EndsTrial seed size found
 Finds files _ found = Unit {0}
 
 -- the same for the bytes of the design's file
 abbrev pub FindsGiven : List ℕ → Option Asked → Outcome → Type 0
-FindsGiven design_bytes (Some (verify n conflicts ticks design proof)) found =
-    EndsSearch design_bytes n conflicts ticks found
+FindsGiven design_bytes (Some (verify n conflicts ticks bounds design proof)) found =
+    EndsSearch (method_of bounds) design_bytes n conflicts ticks found
 FindsGiven design_bytes (Some (trial seed size)) found = EndsTrial seed size found
 FindsGiven design_bytes _ found = Unit {0}
 
@@ -97,7 +100,7 @@ SearchLeaves files n design proof _ held = held ≡ Some files
 
 -- what the shelf holds after a request with this status: only a search changes it
 abbrev pub Leaves : Option Asked → Status → Option Files → Option Files → Type 0
-Leaves (Some (verify n conflicts ticks design proof)) s old new =
+Leaves (Some (verify n conflicts ticks bounds design proof)) s old new =
     (files : Files) → old ≡ Some files → SearchLeaves files n design proof s new
 Leaves _ s old new = new ≡ old
 
@@ -107,9 +110,10 @@ Leaves _ s old new = new ≡ old
 pub record Searches (files : Files) (words : List (List ℕ)) (n : ℕ) (d : Station) : Type 0 where
   pub conflicts : ℕ
   pub ticks : ℕ
+  pub bounds : Bool
   pub design_name : List ℕ
   pub proof_name : List ℕ
-  pub asked : request_of words ≡ Some (verify n conflicts ticks design_name proof_name)
+  pub asked : request_of words ≡ Some (verify n conflicts ticks bounds design_name proof_name)
   pub spells_design : design_of (files design_name) ≡ Ok d
 
 -- the lines printed are `plan steps <number of steps>`, the plan and its timetable; the plan is feasible for n steps, and none of fewer steps is; and its run is safe

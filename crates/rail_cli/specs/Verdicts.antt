@@ -1,7 +1,9 @@
 -- Requests of which nothing is refused, and what a run of them comes to.
 use Rattle.std.specs.Prelude.{◌≡◌, ◌≤◌, ◌⊎◌, ℕ, ◌*◌, List, [], length, Option, None, Some, Ok}
 use Rattle.infra_reader.specs.Design.{design_of}
-use Rattle.plan_clauses.specs.Clauses.{base_clauses, literals}
+use Rattle.plan_clauses.specs.Clauses.{literals}
+use Rattle.plan_exclusion.specs.declared.method.Method.{Method}
+use Rattle.plan_exclusion.specs.declared.method.Method.TheVariants.{Cones}
 use Rattle.rail_base.specs.declared.plan.Command.{Command}
 use Rattle.rail_base.specs.declared.station.Station.{Station}
 use Rattle.rail_outside.specs.Files.{Files}
@@ -11,13 +13,13 @@ use Rattle.rail_words.specs.Requests.{Asked, simulate, routes, verify, check, tr
 use Rattle.verify_loop.specs.declared.outcome.Budgets.{Budgets}
 use Rattle.verify_loop.specs.declared.outcome.Outcome.{Outcome}
 use Rattle.verify_loop.specs.declared.outcome.Outcome.TheVariants as outcome
-use Rattle.verify_loop.specs.Outcomes.{Says, Fits}
+use Rattle.verify_loop.specs.Outcomes.{Says, Fits, first_clauses}
 use Rattle.workload.specs.Made.{made}
 use Rattle.rail_cli.specs.declared.status.Status.{Status}
 use Rattle.rail_cli.specs.declared.status.Status.TheVariants as status
 use Rattle.rail_cli.specs.declared.input.InputFile.TheVariants as file
 use Rattle.rail_cli.specs.Texts.{limit_of}
-use Rattle.rail_cli.specs.Answers.{trial_conflicts, trial_ticks}
+use Rattle.rail_cli.specs.Answers.{method_of, trial_conflicts, trial_ticks}
 use Rattle.rail_cli.specs.Searches.{budgets_of}
 
 -- ---- where nothing is refused
@@ -27,9 +29,9 @@ pub record HasRoutes (d : Station) : Type 0 where
   pub once : edges_met_again d ≡ []
   pub few : length (all_closings d) ≤ 2000
 
--- the clauses of the design for plans of n steps have at most 4,000,000 literals
-abbrev pub HasFewClauses : Station → ℕ → Type 0
-HasFewClauses d n = literals (base_clauses d (routes_of d) n) ≤ 4000000
+-- the clauses that a search by the method for plans of n steps begins with have at most 4,000,000 literals
+abbrev pub HasFewClauses : Method → Station → ℕ → Type 0
+HasFewClauses m d n = literals (first_clauses m d n) ≤ 4000000
 
 -- the file is within its limit and spells this design, whose routes can be listed
 pub record SpellsDesign (bytes : List ℕ) (d : Station) : Type 0 where
@@ -49,12 +51,13 @@ IsUnrefused files None = ⊥
 IsUnrefused files (Some (simulate design plan)) =
     (d : Station) × SpellsDesign (files design) d × SpellsPlan d (files plan)
 IsUnrefused files (Some (routes design)) = (d : Station) × SpellsDesign (files design) d
-IsUnrefused files (Some (verify n conflicts ticks design proof)) =
-    (d : Station) × SpellsDesign (files design) d × HasFewClauses d n
+IsUnrefused files (Some (verify n conflicts ticks bounds design proof)) =
+    (d : Station) × SpellsDesign (files design) d × HasFewClauses (method_of bounds) d n
 IsUnrefused files (Some (check n design proof)) =
-    (d : Station) × SpellsDesign (files design) d × HasFewClauses d n
+    (d : Station) × SpellsDesign (files design) d × HasFewClauses Cones d n
     × (length (files proof) ≤ limit_of file.Proof)
-IsUnrefused files (Some (trial seed size)) = HasRoutes (made seed size) × HasFewClauses (made seed size) (2 * size)
+IsUnrefused files (Some (trial seed size)) =
+    HasRoutes (made seed size) × HasFewClauses Cones (made seed size) (2 * size)
 
 -- ---- what a run comes to then
 
@@ -70,20 +73,21 @@ IsSpent (outcome.LogSpent log bytes next) s = s ≡ status.LogSpent
 IsSpent _ s = ⊥
 
 -- a search for a plan of n steps has spent one of these budgets: what it ended with is so of the design, and this is its status
-pub record SpendsBudget (d : Station) (n : ℕ) (budgets : Budgets) (s : Status) : Type 0 where
+pub record SpendsBudget (m : Method) (d : Station) (n : ℕ) (budgets : Budgets) (s : Status) : Type 0 where
   pub found : Outcome
   pub spent : IsSpent found s
-  pub says : Says d n budgets found
-  pub fits : Fits d n found
+  pub says : Says m d n budgets found
+  pub fits : Fits m d n found
 
 -- a run comes to a verdict, and one that lists routes to yes; a search or a trial may have spent a budget in its place
 abbrev pub ComesTo : Files → Option Asked → Status → Type 0
 ComesTo files None s = ⊥
 ComesTo files (Some (simulate design plan)) s = IsVerdict s
 ComesTo files (Some (routes design)) s = s ≡ status.Done
-ComesTo files (Some (verify n conflicts ticks design proof)) s =
+ComesTo files (Some (verify n conflicts ticks bounds design proof)) s =
     IsVerdict s
-    ⊎ ((d : Station) × (design_of (files design) ≡ Ok d) × SpendsBudget d n (budgets_of conflicts ticks) s)
+    ⊎ ((d : Station) × (design_of (files design) ≡ Ok d)
+    × SpendsBudget (method_of bounds) d n (budgets_of conflicts ticks) s)
 ComesTo files (Some (check n design proof)) s = IsVerdict s
 ComesTo files (Some (trial seed size)) s =
-    IsVerdict s ⊎ SpendsBudget (made seed size) (2 * size) (budgets_of trial_conflicts trial_ticks) s
+    IsVerdict s ⊎ SpendsBudget Cones (made seed size) (2 * size) (budgets_of trial_conflicts trial_ticks) s

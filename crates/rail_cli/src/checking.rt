@@ -5,6 +5,7 @@ ghost use Rattle.rail_outside.specs.Asks.{fetched};
 ghost use Rattle.rail_outside.specs.Files.{Files};
 ghost use Rattle.rail_outside.specs.Growth.{Rose, GrowsByFront};
 ghost use Rattle.rail_spec.specs.Track.{routes_of};
+ghost use Rattle.plan_exclusion.specs.declared.method.Method.TheVariants.{Cones};
 ghost use Rattle.plan_encoding.specs.Bases.{IsBaseOf};
 ghost use Rattle.rail_cli.specs.Statuses.{is_verdict};
 ghost use Rattle.rail_cli.specs.Answers.{with_clauses, told, with_proof, checked};
@@ -28,7 +29,8 @@ use std::alloc::{AllocError, Global};
 
 /// The clauses of a design, for plans of up to so many steps.
 fn encode(alloc: Global, interlocking: &Interlocking, steps: Steps) -> Result<Base, Ending>
-    ensures reads { let d = interlocking.now.design.station in Reads (λ _. d) result (with_clauses steps.count d) }
+    ensures reads { let d = interlocking.now.design.station in
+        Reads (λ _. d) result (with_clauses Cones steps.count d) }
     ensures refuses { OnlyRefuses result }
     ensures base { let d = interlocking.now.design.station in IfOk result (IsBaseOf d (routes_of d) steps.count) }
 {

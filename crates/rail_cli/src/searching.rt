@@ -6,9 +6,10 @@ ghost use Rattle.rail_outside.specs.Files.{Files};
 ghost use Rattle.rail_outside.specs.Growth.{Rose, GrowsByFront};
 ghost use Rattle.rail_outside.specs.Lines.{lines_of};
 ghost use Rattle.rail_words.specs.Requests.{verify};
+ghost use Rattle.plan_exclusion.specs.declared.method.Method.{Method};
 ghost use Rattle.verify_loop.specs.declared.outcome.Outcome.{Outcome};
 ghost use Rattle.verify_loop.specs.Outcomes.{Says, Fits};
-ghost use Rattle.rail_cli.specs.Answers.{design_in, one_line, plan_told, searched_in, told_outcome};
+ghost use Rattle.rail_cli.specs.Answers.{design_in, method_of, one_line, plan_told, searched_in, told_outcome};
 ghost use Rattle.rail_cli.specs.Shows.{shown_by};
 ghost use Rattle.rail_cli.specs.Replies.{KeepsLog, OnEnd, OnlyFails, RefusesFile, Replies, RepliesSo};
 ghost use Rattle.rail_cli.specs.Replies.{RepliesSome, StoresFile, Tells};
@@ -27,6 +28,7 @@ use crate::texts::{
     ticks_spent_line,
 };
 use interlocking::{Interlocking, Steps};
+use plan_exclusion::Method;
 use rail_base::design::Design;
 use rail_base::history::Verdict;
 use rail_base::plan::Plan;
@@ -43,6 +45,17 @@ pub(crate) fn budgets(conflicts: u64, ticks: u64) -> Budgets
         conflicts,
         ticks,
         log_bytes: InputFile::Proof.limit(),
+    }
+}
+
+/// How plans that fail are excluded.
+fn method_of(bounds: bool) -> Method
+    ensures { result ≡ method_of bounds }
+{
+    if bounds {
+        Method::Bounds
+    } else {
+        Method::Cones
     }
 }
 
@@ -120,7 +133,7 @@ fn tell(
     budgets: Budgets,
     found: &Outcome,
 ) -> Result<Reply, AllocError>
-    requires { Says design.now.station steps budgets found.now }
+    requires { (m : Method) × Says m design.now.station steps budgets found.now }
     ensures { Tells result (told_outcome design.now.station steps budgets.conflicts budgets.ticks found.now) }
 {
     match found {
@@ -176,7 +189,7 @@ fn settle<S: Shelf>(
     proof: &str,
     found: &Outcome,
 ) -> Result<Reply, Ending>
-    requires says { Says design.now.station steps budgets found.now }
+    requires says { (m : Method) × Says m design.now.station steps budgets found.now }
     requires room { budgets.log_bytes ≡ limit_of InputFile.Proof }
     ensures replies { Replies result (told_outcome design.now.station steps budgets.conflicts budgets.ticks found.now) }
     ensures no_usage { IfOk result (λ reply. reply.status ≢ Status.Usage) }
@@ -199,14 +212,15 @@ fn searched_in<S: Shelf>(
     shelf: &mut S,
     interlocking: &Interlocking,
     steps: Steps,
+    method: Method,
     budgets: Budgets,
     proof: &str,
 ) -> Result<Reply, Ending>
     requires room { budgets.log_bytes ≡ limit_of InputFile.Proof }
-    ensures replies { (found : Outcome) × Says interlocking.now.design.station steps.count budgets found
-        × Fits interlocking.now.design.station steps.count found
+    ensures replies { (found : Outcome) × Says method interlocking.now.design.station steps.count budgets found
+        × Fits method interlocking.now.design.station steps.count found
         × Replies result
-        (searched_in interlocking.now.design.station steps.count budgets.conflicts budgets.ticks found) }
+        (searched_in method interlocking.now.design.station steps.count budgets.conflicts budgets.ticks found) }
     ensures no_usage { IfOk result (λ reply. reply.status ≢ Status.Usage) }
     ensures refuses { RefusesFile result }
     ensures held { (files : Files) (name : List ℕ) → S.held shelf.old ≡ Some files
@@ -216,7 +230,7 @@ fn searched_in<S: Shelf>(
     ensures never_falls { S.fault_count shelf.old ≤ S.fault_count shelf.new }
     ensures asks { GrowsByFront (S.asked shelf.old) (S.asked shelf.new) (stored proof.now ∷ []) }
 {
-    let found = verify(alloc, interlocking, steps, budgets);
+    let found = verify(alloc, interlocking, steps, method, budgets);
     settle(
         alloc,
         shelf,
@@ -228,12 +242,13 @@ fn searched_in<S: Shelf>(
     )
 }
 
-/// The reply to a search for a plan of so many steps, 1 to 64, by the names of its files. Where there is no plan, the
-/// log that shows it is stored under the proof's name.
+/// The reply to a search for a plan of so many steps, 1 to 64, by the names of its files; plans that fail are excluded
+/// by bounds where these are asked for. Where there is no plan, the log that shows it is stored under the proof's name.
 pub(crate) fn searched<S: Shelf>(
     alloc: Global,
     shelf: &mut S,
     steps: u32,
+    bounds: bool,
     budgets: Budgets,
     design: &str,
     proof: &str,
@@ -242,8 +257,9 @@ pub(crate) fn searched<S: Shelf>(
     requires most { steps ≤ 64 }
     requires room { budgets.log_bytes ≡ limit_of InputFile.Proof }
     ensures replies { (files : Files) → S.held shelf.old ≡ Some files
-        → RepliesSo result files (Some (verify steps budgets.conflicts budgets.ticks design.now proof.now)) }
-    ensures some { RepliesSome result (Some (verify steps budgets.conflicts budgets.ticks design.now proof.now)) }
+        → RepliesSo result files (Some (verify steps budgets.conflicts budgets.ticks bounds design.now proof.now)) }
+    ensures some { RepliesSome result
+        (Some (verify steps budgets.conflicts budgets.ticks bounds design.now proof.now)) }
     ensures no_usage { IfOk result (λ reply. reply.status ≢ Status.Usage) }
     ensures refuses { RefusesFile result }
     ensures held { (files : Files) → S.held shelf.old ≡ Some files
@@ -255,5 +271,6 @@ pub(crate) fn searched<S: Shelf>(
     let bytes = fetch(alloc, shelf, InputFile::Design, design)?;
     let interlocking = admit(alloc, bytes.as_slice())?;
     let steps = Steps { count: steps };
-    searched_in(alloc, shelf, &interlocking, steps, budgets, proof)
+    let method = method_of(bounds);
+    searched_in(alloc, shelf, &interlocking, steps, method, budgets, proof)
 }

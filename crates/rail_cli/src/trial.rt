@@ -4,6 +4,7 @@ ghost use Rattle.std.specs.Prelude.{◌≡◌, ◌≢◌, ◌≤◌, ◌*◌, tr
 ghost use Rattle.rail_spec.specs.Feasible.{IsFeasible};
 ghost use Rattle.rail_spec.specs.Requirements.{cost};
 ghost use Rattle.rail_spec.specs.Track.{routes_of};
+ghost use Rattle.plan_exclusion.specs.declared.method.Method.TheVariants.{Cones};
 ghost use Rattle.verify_loop.specs.declared.outcome.Outcome.{Outcome};
 ghost use Rattle.verify_loop.specs.Outcomes.{Says, Fits};
 ghost use Rattle.rail_cli.specs.Statuses.{is_answered};
@@ -24,6 +25,7 @@ use crate::texts::{
     ticks_spent_line, trial_line,
 };
 use interlocking::{Interlocking, Steps};
+use plan_exclusion::Method;
 use rail_base::design::Design;
 use rail_base::history::Verdict;
 use rail_base::plan::Plan;
@@ -91,7 +93,8 @@ fn tell(
     found: &Outcome,
 ) -> Result<Reply, AllocError>
     requires high { size ≤ 6 }
-    requires says { Says interlocking.now.design.station (2 * size) (budgets_of trial_conflicts trial_ticks) found.now }
+    requires says { Says Cones interlocking.now.design.station (2 * size)
+        (budgets_of trial_conflicts trial_ticks) found.now }
     ensures told { Tells result (told_trial seed size interlocking.now.design.station found.now) }
     ensures no_usage { IfOk result (λ reply. reply.status ≢ Status.Usage) }
 {
@@ -138,13 +141,14 @@ fn tried_in(
     requires low { 1 ≤ size }
     requires high { size ≤ 6 }
     ensures told { (found : Outcome)
-        × Says interlocking.now.design.station (2 * size) (budgets_of trial_conflicts trial_ticks) found
-        × Fits interlocking.now.design.station (2 * size) found
+        × Says Cones interlocking.now.design.station (2 * size) (budgets_of trial_conflicts trial_ticks) found
+        × Fits Cones interlocking.now.design.station (2 * size) found
         × Tells result (told_trial seed size interlocking.now.design.station found) }
     ensures no_usage { IfOk result (λ reply. reply.status ≢ Status.Usage) }
 {
     let steps = Steps { count: 2 * size };
-    let found = verify(alloc, interlocking, steps, budgets(CONFLICTS, TICKS));
+    let budgets = budgets(CONFLICTS, TICKS);
+    let found = verify(alloc, interlocking, steps, Method::Cones, budgets);
     tell(alloc, seed, size, interlocking, &found)
 }
 

@@ -31,17 +31,17 @@ returns-in-Routes-clause-held g c = routes_leaves c.routes_listed.result _ _ (as
 
 pub returns-in-Verify-clause-replies : goal.returns-in-Verify-clause-replies
 returns-in-Verify-clause-replies g c = λ files told.
-    verify_so c.searched.result files (asked_of c.args.request) c.in-Verify.steps c.in-Verify.conflicts c.in-Verify.ticks c.budgets.result c.in-Verify.design.now c.in-Verify.proof.now c.budgets.ensures (search rules) (c.searched.ensures.replies files told)
+    verify_so c.searched.result files (asked_of c.args.request) c.in-Verify.steps c.in-Verify.conflicts c.in-Verify.ticks c.in-Verify.bounds c.budgets.result c.in-Verify.design.now c.in-Verify.proof.now c.budgets.ensures (search rules) (c.searched.ensures.replies files told)
 
 pub returns-in-Verify-clause-decides : goal.returns-in-Verify-clause-decides
-returns-in-Verify-clause-decides g c = λ files told. decides_verify files (asked_of c.args.request) c.in-Verify.steps c.in-Verify.conflicts c.in-Verify.ticks c.in-Verify.design.now c.in-Verify.proof.now c.searched.result (search rules)
+returns-in-Verify-clause-decides g c = λ files told. decides_verify files (asked_of c.args.request) c.in-Verify.steps c.in-Verify.conflicts c.in-Verify.ticks c.in-Verify.bounds c.in-Verify.design.now c.in-Verify.proof.now c.searched.result (search rules)
 
 pub returns-in-Verify-clause-held : goal.returns-in-Verify-clause-held
-returns-in-Verify-clause-held g c = verify_leaves c.searched.result (g.S.Shelf.held c.args.shelf.now) (g.S.Shelf.held c.searched.new.shelf) (asked_of c.args.request) c.in-Verify.steps c.in-Verify.conflicts c.in-Verify.ticks c.in-Verify.design.now c.in-Verify.proof.now (search rules) c.searched.ensures.held
+returns-in-Verify-clause-held g c = verify_leaves c.searched.result (g.S.Shelf.held c.args.shelf.now) (g.S.Shelf.held c.searched.new.shelf) (asked_of c.args.request) c.in-Verify.steps c.in-Verify.conflicts c.in-Verify.ticks c.in-Verify.bounds c.in-Verify.design.now c.in-Verify.proof.now (search rules) c.searched.ensures.held
 
 pub searched-requires : goal.searched-requires
 searched-requires g c =
-    let steps = search_steps (asked_of c.args.request) c.in-Verify.steps c.in-Verify.conflicts c.in-Verify.ticks c.in-Verify.design.now c.in-Verify.proof.now (search rules) c.requires.range in
+    let steps = search_steps (asked_of c.args.request) c.in-Verify.steps c.in-Verify.conflicts c.in-Verify.ticks c.in-Verify.bounds c.in-Verify.design.now c.in-Verify.proof.now (search rules) c.requires.range in
     record { some = steps.0; most = steps.1; room = ap (λ (b : Budgets). b.log_bytes) c.budgets.ensures }
 
 pub returns-in-Check-clause-replies : goal.returns-in-Check-clause-replies
@@ -65,7 +65,7 @@ pub returns-in-Routes-clause-tries : goal.returns-in-Routes-clause-tries
 returns-in-Routes-clause-tries g c = tries_other c.routes_listed.result (asked_of c.args.request) (routes c.in-Routes.design.now) (search rules) tt
 
 pub returns-in-Verify-clause-tries : goal.returns-in-Verify-clause-tries
-returns-in-Verify-clause-tries g c = tries_other c.searched.result (asked_of c.args.request) (verify c.in-Verify.steps c.in-Verify.conflicts c.in-Verify.ticks c.in-Verify.design.now c.in-Verify.proof.now) (search rules) tt
+returns-in-Verify-clause-tries g c = tries_other c.searched.result (asked_of c.args.request) (verify c.in-Verify.steps c.in-Verify.conflicts c.in-Verify.ticks c.in-Verify.bounds c.in-Verify.design.now c.in-Verify.proof.now) (search rules) tt
 
 pub returns-in-Check-clause-tries : goal.returns-in-Check-clause-tries
 returns-in-Check-clause-tries g c = tries_other c.checked.result (asked_of c.args.request) (check c.in-Check.steps c.in-Check.design.now c.in-Check.proof.now) (search rules) tt
@@ -98,8 +98,8 @@ returns-in-Routes-clause-some g c = asks_named c.routes_listed.result (asked_of 
 
 pub returns-in-Verify-clause-some : goal.returns-in-Verify-clause-some
 returns-in-Verify-clause-some g c =
-    asks_named c.searched.result (asked_of c.args.request) (verify c.in-Verify.steps c.in-Verify.conflicts c.in-Verify.ticks c.in-Verify.design.now c.in-Verify.proof.now) (search rules)
-    (some_search c.searched.result c.in-Verify.steps c.in-Verify.conflicts c.in-Verify.ticks c.budgets.result c.in-Verify.design.now c.in-Verify.proof.now c.budgets.ensures c.searched.ensures.some)
+    asks_named c.searched.result (asked_of c.args.request) (verify c.in-Verify.steps c.in-Verify.conflicts c.in-Verify.ticks c.in-Verify.bounds c.in-Verify.design.now c.in-Verify.proof.now) (search rules)
+    (some_search c.searched.result c.in-Verify.steps c.in-Verify.conflicts c.in-Verify.ticks c.in-Verify.bounds c.budgets.result c.in-Verify.design.now c.in-Verify.proof.now c.budgets.ensures c.searched.ensures.some)
 
 pub returns-in-Check-clause-some : goal.returns-in-Check-clause-some
 returns-in-Check-clause-some g c = asks_named c.checked.result (asked_of c.args.request) (check c.in-Check.steps c.in-Check.design.now c.in-Check.proof.now) (search rules) c.checked.ensures.some

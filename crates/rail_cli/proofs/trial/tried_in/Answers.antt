@@ -1,4 +1,5 @@
 use Rattle.std.proofs.Common.{◌*◌, subst}
+use Rattle.plan_exclusion.specs.declared.method.Method.TheVariants.{Cones}
 use Rattle.verify_loop.specs.declared.outcome.Budgets.{Budgets}
 use Rattle.verify_loop.specs.Outcomes.{Says}
 use Rattle.rail_cli.proofs.trial.tried_in.Goals as goal
@@ -6,7 +7,7 @@ use Rattle.rail_cli.proofs.trial.tried_in.Goals as goal
 pub returns-clause-told : goal.returns-clause-told
 returns-clause-told c = (
   c.verify-found.result,
-  subst (λ (b : Budgets). Says c.args.interlocking.now.design.station (2 * c.args.size) b c.verify-found.result) c.budgets.ensures c.verify-found.ensures.says,
+  subst (λ (b : Budgets). Says Cones c.args.interlocking.now.design.station (2 * c.args.size) b c.verify-found.result) c.budgets-budgets.ensures c.verify-found.ensures.says,
   c.verify-found.ensures.fits,
   c.tell.ensures.told,
 )
