@@ -1,0 +1,4 @@
+-- What cones mean, in sentences with the names of the design.
+pub mod Phrases
+pub mod Names
+pub mod Cones

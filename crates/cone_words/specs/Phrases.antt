@@ -1,0 +1,37 @@
+-- Phrases that sentences are made of.
+use Rattle.std.specs.Prelude.{ℕ, ◌==◌, if◌then◌else◌, List, [], ◌∷◌, ◌++◌, codes, decimal}
+use Rattle.std.specs.List.{flat_map}
+use Rattle.rail_base.specs.declared.route.RouteNo.{RouteNo}
+
+-- each of these, after the words
+abbrev pub each_after : {X : Type 0} → List ℕ → (X → List ℕ) → List X → List ℕ
+each_after between text xs = flat_map (λ x. between ++ text x) xs
+
+-- these, with the words between each and the next
+abbrev pub joined : {X : Type 0} → List ℕ → (X → List ℕ) → List X → List ℕ
+joined between text [] = []
+joined between text (x ∷ xs) = text x ++ each_after between text xs
+
+-- `line <n>: `, with which each sentence about the file's line of this number begins
+abbrev pub line_head : ℕ → List ℕ
+line_head n = codes "line " ++ decimal n ++ codes ": "
+
+-- a sentence about a line of the file, with its LF
+abbrev pub sentence : ℕ → List ℕ → List ℕ
+sentence n text = line_head n ++ text ++ codes "\n"
+
+-- `1 tick`, `2 ticks`
+abbrev pub ticks_text : ℕ → List ℕ
+ticks_text n = decimal n ++ (if n == 1 then codes " tick" else codes " ticks")
+
+-- the number of a route
+abbrev pub route_number : RouteNo → List ℕ
+route_number r = decimal r.0
+
+-- `route 3 or 5`
+abbrev pub any_route_text : List RouteNo → List ℕ
+any_route_text rs = codes "route " ++ joined (codes " or ") route_number rs
+
+-- `route 3, route 5`
+abbrev pub path_text : List RouteNo → List ℕ
+path_text rs = codes "route " ++ joined (codes ", route ") route_number rs

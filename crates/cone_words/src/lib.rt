@@ -1,0 +1,13 @@
+//! What cones mean, in sentences with the names of the design. A route is told by its number. Each sentence begins with the number
+//! of a file's line, and ends with an LF. Wherever a call answers with an error, it is want of memory.
+#![tactic(auto)]
+
+mod cones;
+mod names;
+mod phrases;
+mod sentences;
+
+pub use cones::{push_cone, push_opening, push_parts};
+pub use names::{order_of, train_name, within_of};
+pub use phrases::{most_ticks, put_any_route, put_makes, put_nodes, put_shared, put_ticks};
+pub use sentences::push_sentence;

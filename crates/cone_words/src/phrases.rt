@@ -1,0 +1,197 @@
+//! Phrases that sentences are made of. An error is want of memory.
+
+ghost use Rattle.std.specs.Prelude.{◌≡◌, ◌++◌, ◌==◌, codes, decimal, IfOk, OnOk, if◌then◌else◌};
+ghost use Rattle.rail_base.specs.Routes.{route_at, shared};
+ghost use Rattle.rail_spec.specs.Requirements.{most_ticks};
+ghost use Rattle.timetable.specs.Names.{node_name};
+ghost use Rattle.cone_words.specs.Names.{section_name, makes_text, nodes_text};
+ghost use Rattle.cone_words.specs.Phrases.{each_after, joined, ticks_text, route_number, any_route_text, path_text};
+ghost use Rattle.cone_words.specs.Cones.{sections_text};
+
+use crate::names::{has_section, node_name, nodes_of_visit, section_name, sections_of, train_name};
+use rail_base::design::Design;
+use rail_base::route::{RouteNo, RouteTable};
+use rail_base::station::{NodeNo, SectionNo, TrainNo, Within};
+use rail_text::put_number;
+use std::alloc::{AllocError, Global};
+
+/// The most ticks that a within allows.
+pub fn most_ticks(design: &Design, within: &Within) -> u64
+    ensures { result ≡ most_ticks design.now.station within.now }
+{
+    u64::from(within.max_ms / design.station.tick_ms)
+}
+
+/// Appends a number of ticks.
+pub fn put_ticks(text: &mut Vec<u8>, ticks: u64) -> Result<(), AllocError>
+    ensures { OnOk result (text.new.items ≡ text.old.items ++ ticks_text ticks) }
+{
+    put_number(text, ticks)?;
+    if ticks == 1 {
+        text.extend_from_slice(b" tick")
+    } else {
+        text.extend_from_slice(b" ticks")
+    }
+}
+
+/// Appends the words and a route, for each of these.
+fn put_each_route(text: &mut Vec<u8>, between: &[u8], routes: &[RouteNo]) -> Result<(), AllocError>
+    ensures { OnOk result (text.new.items ≡ text.old.items ++ each_after between.now route_number routes.now) }
+{
+    for route in routes {
+        text.extend_from_slice(between)?;
+        put_number(text, u64::from(route.0))?;
+    }
+    Ok(())
+}
+
+/// Appends routes, with the words between each and the next.
+fn put_joined(text: &mut Vec<u8>, between: &[u8], routes: &[RouteNo]) -> Result<(), AllocError>
+    ensures { OnOk result (text.new.items ≡ text.old.items ++ joined between.now route_number routes.now) }
+{
+    match routes {
+        [] => Ok(()),
+        [first, rest @ ..] => {
+            put_number(text, u64::from(first.0))?;
+            put_each_route(text, between, rest)
+        }
+    }
+}
+
+/// Appends routes, of which any may be the one.
+pub fn put_any_route(text: &mut Vec<u8>, routes: &[RouteNo]) -> Result<(), AllocError>
+    ensures { OnOk result (text.new.items ≡ text.old.items ++ any_route_text routes.now) }
+{
+    text.extend_from_slice(b"route ")?;
+    put_joined(text, b" or ", routes)
+}
+
+/// Appends routes in a row.
+pub fn put_path(text: &mut Vec<u8>, routes: &[RouteNo]) -> Result<(), AllocError>
+    ensures { OnOk result (text.new.items ≡ text.old.items ++ path_text routes.now) }
+{
+    text.extend_from_slice(b"route ")?;
+    put_joined(text, b", route ", routes)
+}
+
+/// Appends ` or ` and a node, for each of these.
+fn put_each_node(text: &mut Vec<u8>, design: &Design, nodes: &[NodeNo]) -> Result<(), AllocError>
+    ensures { OnOk result (text.new.items
+        ≡ text.old.items ++ each_after (codes " or ") (node_name design.now.station) nodes.now) }
+{
+    for node in nodes {
+        text.extend_from_slice(b" or ")?;
+        text.extend_from_slice(node_name(design, *node))?;
+    }
+    Ok(())
+}
+
+/// Appends nodes, with ` or ` between each and the next.
+fn put_joined_nodes(text: &mut Vec<u8>, design: &Design, nodes: &[NodeNo]) -> Result<(), AllocError>
+    ensures { OnOk result (text.new.items
+        ≡ text.old.items ++ joined (codes " or ") (node_name design.now.station) nodes.now) }
+{
+    match nodes {
+        [] => Ok(()),
+        [first, rest @ ..] => {
+            text.extend_from_slice(node_name(design, *first))?;
+            put_each_node(text, design, rest)
+        }
+    }
+}
+
+/// Appends `<train> makes visit <k>`.
+pub fn put_makes(
+    text: &mut Vec<u8>,
+    design: &Design,
+    train: TrainNo,
+    visit: u32,
+) -> Result<(), AllocError>
+    ensures { OnOk result (text.new.items ≡ text.old.items ++ makes_text design.now.station train visit) }
+{
+    text.extend_from_slice(train_name(design, train))?;
+    text.extend_from_slice(b" makes visit ")?;
+    put_number(text, u64::from(visit))?;
+    Ok(())
+}
+
+/// Appends the nodes of a visit.
+pub fn put_nodes(
+    text: &mut Vec<u8>,
+    design: &Design,
+    train: TrainNo,
+    visit: u32,
+) -> Result<(), AllocError>
+    ensures { OnOk result (text.new.items ≡ text.old.items ++ nodes_text design.now.station train visit) }
+{
+    text.extend_from_slice(b", at ")?;
+    put_joined_nodes(text, design, nodes_of_visit(design, train, visit))
+}
+
+/// Appends `, ` and a section, for each of these.
+fn put_each_section(
+    text: &mut Vec<u8>,
+    design: &Design,
+    sections: &[SectionNo],
+) -> Result<(), AllocError>
+    ensures { OnOk result (text.new.items
+        ≡ text.old.items ++ each_after (codes ", ") (section_name design.now.station) sections.now) }
+{
+    for section in sections {
+        text.extend_from_slice(b", ")?;
+        text.extend_from_slice(section_name(design, *section))?;
+    }
+    Ok(())
+}
+
+/// Appends sections.
+fn put_sections(
+    text: &mut Vec<u8>,
+    design: &Design,
+    sections: &[SectionNo],
+) -> Result<(), AllocError>
+    ensures { OnOk result (text.new.items ≡ text.old.items ++ sections_text design.now.station sections.now) }
+{
+    match sections {
+        [] => Ok(()),
+        [first, rest @ ..] => {
+            text.extend_from_slice(section_name(design, *first))?;
+            put_each_section(text, design, rest)
+        }
+    }
+}
+
+/// The sections of a route that another has too.
+fn shared_sections(
+    alloc: Global,
+    routes: &RouteTable,
+    route: RouteNo,
+    other: RouteNo,
+) -> Result<Vec<SectionNo>, AllocError>
+    ensures { IfOk result (λ found. found.items ≡ shared (route_at routes.now route) (route_at routes.now other)) }
+{
+    let mut found = Vec::new(alloc);
+    for part in sections_of(routes, route) {
+        if has_section(routes, other, part.0) {
+            found.push(part.0)?;
+        }
+    }
+    Ok(found)
+}
+
+/// Appends the sections of a route that another has too.
+pub fn put_shared(
+    alloc: Global,
+    text: &mut Vec<u8>,
+    design: &Design,
+    routes: &RouteTable,
+    route: RouteNo,
+    other: RouteNo,
+) -> Result<(), AllocError>
+    ensures { OnOk result (text.new.items
+        ≡ text.old.items
+        ++ sections_text design.now.station (shared (route_at routes.now route) (route_at routes.now other))) }
+{
+    let found = shared_sections(alloc, routes, route, other)?;
+    put_sections(text, design, &found)
+}

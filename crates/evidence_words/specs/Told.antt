@@ -1,0 +1,20 @@
+-- What is told of a cone or a bound.
+use Rattle.std.specs.Prelude.{ℕ, Bool, true, List}
+use Rattle.rail_base.specs.declared.station.Station.{Station}
+use Rattle.rail_base.specs.declared.route.Route.{Route}
+use Rattle.rail_bound.specs.declared.Evidence.{Evidence}
+use Rattle.rail_bound.specs.declared.Evidence.TheVariants as evidence
+use Rattle.rail_bound.specs.Validity.{names_design}
+use Rattle.cone_words.specs.Cones.{cone_told}
+use Rattle.evidence_words.specs.Bounds.{bound_told}
+
+module _ (d : Station) (routes : List Route) where
+  -- a bound names what the design has
+  abbrev pub names_what_is_there : Evidence → Bool
+  names_what_is_there (evidence.Cone c) = true
+  names_what_is_there (evidence.Bound b) = names_design d routes b
+
+  -- the sentences about the cone or the bound of the file's line of this number
+  abbrev pub evidence_told : ℕ → Evidence → List (List ℕ)
+  evidence_told n (evidence.Cone c) = cone_told d routes n c
+  evidence_told n (evidence.Bound b) = bound_told d routes b n

@@ -1,0 +1,178 @@
+//! The legs of a bound, told one after the other. An error is want of memory.
+
+ghost use Rattle.std.specs.Prelude.{◌≡◌, ◌≤◌, ◌+◌, ◌++◌, All, IfOk, OnOk, codes, decimal, length};
+ghost use Rattle.std.specs.Option.{ForSome};
+ghost use Rattle.rail_base.specs.Stations.{IsTrain};
+ghost use Rattle.rail_outside.specs.Lines.{lines_of};
+ghost use Rattle.bound_ticks.specs.Visits.{origin_of};
+ghost use Rattle.evidence_words.specs.Bounds.{moment_text};
+
+use crate::places::{first_train, last_routes, leg_text, put_meeting};
+use bound_ticks::{Ride, Visit, first_routes};
+use cone_words::{push_sentence, put_any_route, put_makes, put_ticks, train_name};
+use interlocking::Interlocking;
+use rail_base::design::Design;
+use rail_bound::Leg;
+use rail_text::put_number;
+use std::alloc::{AllocError, Global};
+
+/// Appends a tick of the run, or so many ticks after a visit.
+pub fn put_moment(
+    text: &mut Vec<u8>,
+    design: &Design,
+    after: Option<Visit>,
+    tick: u64,
+) -> Result<(), AllocError>
+    ensures { OnOk result (text.new.items
+        ≡ text.old.items ++ moment_text design.now.station (origin_of after) tick) }
+{
+    match after {
+        None => {
+            text.extend_from_slice(b"tick ")?;
+            put_number(text, tick)
+        }
+        Some(visit) => {
+            put_ticks(text, tick)?;
+            text.extend_from_slice(b" after ")?;
+            put_makes(text, design, visit.train, visit.number)?;
+            Ok(())
+        }
+    }
+}
+
+/// Legs that wait for each other, from when their ticks are counted, how many of each at the most, and to which visit: none
+/// where they end with a grant.
+#[derive(Clone, Copy)]
+pub struct Chain<'a> {
+    pub interlocking: &'a Interlocking,
+    /// The number of their line.
+    pub line: u64,
+    pub most: u64,
+    /// The visit after which ticks are counted, or none where they are ticks of the run.
+    pub after: Option<Visit>,
+    pub to: Option<Visit>,
+    pub ghost few: { most ≤ 86400 },
+    pub ghost end: { ForSome to (λ v. IsTrain interlocking.now.design.station v.train) },
+}
+
+impl Chain<'_> {
+    ghost use Rattle.bound_ticks.specs.Chains.{chain_of, end_ticks};
+    ghost use Rattle.bound_ticks.specs.Ways.{IsLeg};
+    ghost use Rattle.std.specs.Prelude.{◌∷◌, []};
+    ghost use Rattle.cone_words.specs.Phrases.{sentence};
+    ghost use Rattle.evidence_words.specs.Bounds.{leg_text, legs_told, wait_text};
+
+    /// That a leg's train is not granted its first route before a moment, since it waits for the leg before.
+    fn wait_text(
+        &self,
+        alloc: Global,
+        tick: u64,
+        leg: &Leg,
+        rest: &[Leg],
+    ) -> Result<Vec<u8>, AllocError>
+        ensures { let i = self.now.interlocking.now in IfOk result (λ text. text.items
+            ≡ wait_text i.design.station i.routes (origin_of self.now.after) tick leg.now rest.now) }
+    {
+        let design = &self.interlocking.design;
+        let first = first_routes(rest);
+        let mut text = Vec::from_slice(alloc, train_name(design, first_train(rest)))?;
+        text.extend_from_slice(b" cannot be granted ")?;
+        put_any_route(&mut text, first)?;
+        text.extend_from_slice(b" before ")?;
+        put_moment(&mut text, design, self.after, tick)?;
+        text.extend_from_slice(b": it waits for ")?;
+        text.extend_from_slice(train_name(design, leg.train))?;
+        text.extend_from_slice(b" to leave ")?;
+        put_meeting(alloc, &mut text, self.interlocking, last_routes(leg), first)?;
+        Ok(text)
+    }
+
+    /// The least ticks of the last leg.
+    fn end_ticks(&self, alloc: Global, from: Option<Visit>, leg: &Leg) -> Result<u64, AllocError>
+        requires leg { IsLeg self.now.interlocking.now leg.now }
+        requires from { ForSome from (λ v. IsTrain self.now.interlocking.now.design.station v.train) }
+        ensures { let i = self.now.interlocking.now in IfOk result (λ n. n
+            ≡ end_ticks i.design.station i.routes self.now.most (origin_of from) (origin_of self.now.to) leg.now) }
+    {
+        let Some(visit) = self.to else {
+            return Ok(0);
+        };
+        let ride = Ride {
+            interlocking: self.interlocking,
+            leg,
+            from,
+            most: self.most,
+        };
+        ride.leg_to_visit(alloc, visit)
+    }
+
+    /// Appends the sentence about a leg.
+    fn push_leg(&self, alloc: Global, leg: &Leg, lines: &mut Vec<Vec<u8>>) -> Result<(), AllocError>
+        ensures { let i = self.now.interlocking.now in OnOk result (lines_of lines.new.items
+            ≡ lines_of lines.old.items ++ sentence self.now.line (leg_text i.design.station leg.now) ∷ []) }
+    {
+        let text = leg_text(alloc, &self.interlocking.design, leg)?;
+        push_sentence(alloc, lines, self.line, &text)
+    }
+
+    /// Appends the sentences about a leg and about what the next one waits for.
+    fn push_waiting(
+        &self,
+        alloc: Global,
+        tick: u64,
+        leg: &Leg,
+        rest: &[Leg],
+        lines: &mut Vec<Vec<u8>>,
+    ) -> Result<(), AllocError>
+        ensures { let i = self.now.interlocking.now in let d = i.design.station in
+            OnOk result (lines_of lines.new.items
+            ≡ lines_of lines.old.items ++ (sentence self.now.line (leg_text d leg.now)
+            ∷ sentence self.now.line (wait_text d i.routes (origin_of self.now.after) tick leg.now rest.now) ∷ [])) }
+    {
+        self.push_leg(alloc, leg, lines)?;
+        let text = self.wait_text(alloc, tick, leg, rest)?;
+        push_sentence(alloc, lines, self.line, &text)?;
+        Ok(())
+    }
+
+    /// Appends the sentences about legs of which the first one's first command is granted at this tick at the earliest, and gives
+    /// the tick at which they are through at the earliest.
+    pub fn push_legs(
+        &self,
+        alloc: Global,
+        from: Option<Visit>,
+        tick: u64,
+        legs: &[Leg],
+        lines: &mut Vec<Vec<u8>>,
+    ) -> Result<u64, AllocError>
+        requires legs { All (IsLeg self.now.interlocking.now) legs.now }
+        requires few { let i = self.now.interlocking.now in let d = i.design.station in
+            tick + chain_of d i.routes self.now.most (origin_of from) (origin_of self.now.to) legs.now ≤ 10000000 }
+        requires from { ForSome from (λ v. IsTrain self.now.interlocking.now.design.station v.train) }
+        ensures end { let i = self.now.interlocking.now in IfOk result (λ n. n
+            ≡ tick + chain_of i.design.station i.routes self.now.most (origin_of from) (origin_of self.now.to) legs.now) }
+        ensures lines { let i = self.now.interlocking.now in OnOk result (lines_of lines.new.items
+            ≡ lines_of lines.old.items
+            ++ legs_told i.design.station i.routes self.now.most self.now.line (origin_of self.now.after)
+            (origin_of from) tick legs.now) }
+    {
+        match legs {
+            [] => Ok(tick),
+            [last] => {
+                self.push_leg(alloc, last, lines)?;
+                Ok(tick + self.end_ticks(alloc, from, last)?)
+            }
+            [leg, rest @ ..] => {
+                let ride = Ride {
+                    interlocking: self.interlocking,
+                    leg,
+                    from,
+                    most: self.most,
+                };
+                let next = tick + ride.leg_to_release(alloc, first_routes(rest))? + 1;
+                self.push_waiting(alloc, next, leg, rest, lines)?;
+                self.push_legs(alloc, None, next, rest, lines)
+            }
+        }
+    }
+}

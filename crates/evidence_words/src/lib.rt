@@ -1,0 +1,12 @@
+//! What bounds and cones mean, in sentences with the names of the design. A route is told by its number. Each sentence begins with
+//! the number of a file's line, and ends with an LF. Wherever a call answers with an error, it is want of memory.
+#![tactic(auto)]
+
+mod bounds;
+mod laws;
+mod legs;
+mod places;
+mod told;
+
+pub use laws::ticks_are_those_of_bounds;
+pub use told::push_evidence;

@@ -1,0 +1,139 @@
+//! The places of legs, told. An error is want of memory.
+
+ghost use Rattle.std.specs.Prelude.{◌≡◌, ◌++◌, codes, IfOk, OnOk};
+ghost use Rattle.rail_bound.specs.Certificates.{kept_out, last_of_leg, routes_of_place};
+ghost use Rattle.rail_bound.specs.Validity.{first_leg};
+ghost use Rattle.cone_words.specs.Phrases.{each_after, joined};
+ghost use Rattle.evidence_words.specs.Bounds.{leg_text, meeting_text, only, place_text, unused_text};
+
+use bound_ticks::routes_of_place;
+use cone_words::{put_any_route, put_shared, train_name};
+use interlocking::Interlocking;
+use rail_base::design::Design;
+use rail_base::route::RouteNo;
+use rail_base::station::TrainNo;
+use rail_bound::{Leg, Place};
+use std::alloc::{AllocError, Global};
+
+/// The routes that a place keeps out.
+fn kept_out(place: &Place) -> &[RouteNo]
+    ensures { result.now ≡ kept_out place.now }
+{
+    match place {
+        Place::Named { .. } => &[],
+        Place::Among { without, .. } => without.as_slice(),
+    }
+}
+
+/// Appends that the train uses none of these routes.
+fn put_unused(text: &mut Vec<u8>, routes: &[RouteNo]) -> Result<(), AllocError>
+    ensures { OnOk result (text.new.items ≡ text.old.items ++ unused_text routes.now) }
+{
+    match routes {
+        [] => Ok(()),
+        [_, ..] => {
+            text.extend_from_slice(b", since it does not use ")?;
+            put_any_route(text, routes)
+        }
+    }
+}
+
+/// Appends a place.
+fn put_place(text: &mut Vec<u8>, place: &Place) -> Result<(), AllocError>
+    ensures { OnOk result (text.new.items ≡ text.old.items ++ place_text place.now) }
+{
+    put_any_route(text, routes_of_place(place))?;
+    put_unused(text, kept_out(place))
+}
+
+/// Appends `, then ` and a place, for each of these.
+fn put_each_place(text: &mut Vec<u8>, places: &[Place]) -> Result<(), AllocError>
+    ensures { OnOk result (text.new.items ≡ text.old.items ++ each_after (codes ", then ") place_text places.now) }
+{
+    for place in places {
+        text.extend_from_slice(b", then ")?;
+        put_place(text, place)?;
+    }
+    Ok(())
+}
+
+/// Appends places in a row.
+fn put_places(text: &mut Vec<u8>, places: &[Place]) -> Result<(), AllocError>
+    ensures { OnOk result (text.new.items ≡ text.old.items ++ joined (codes ", then ") place_text places.now) }
+{
+    match places {
+        [] => Ok(()),
+        [first, rest @ ..] => {
+            put_place(text, first)?;
+            put_each_place(text, rest)
+        }
+    }
+}
+
+/// A leg: its train, and its places.
+pub fn leg_text(alloc: Global, design: &Design, leg: &Leg) -> Result<Vec<u8>, AllocError>
+    ensures { IfOk result (λ text. text.items ≡ leg_text design.now.station leg.now) }
+{
+    let mut text = Vec::from_slice(alloc, train_name(design, leg.train))?;
+    text.extend_from_slice(b" takes ")?;
+    put_places(&mut text, leg.places.as_slice())?;
+    Ok(text)
+}
+
+/// The routes of the last place of a leg.
+pub fn last_routes(leg: &Leg) -> &[RouteNo]
+    ensures { result.now ≡ routes_of_place (last_of_leg leg.now) }
+{
+    match leg.places.as_slice().last() {
+        Some(place) => routes_of_place(place),
+        None => &[],
+    }
+}
+
+/// The train of the first of some legs.
+pub fn first_train(legs: &[Leg]) -> TrainNo
+    ensures { result ≡ (first_leg legs.now).train }
+{
+    match legs.first() {
+        Some(leg) => leg.train,
+        None => TrainNo(0),
+    }
+}
+
+/// The one of these routes, if there is just one.
+fn only(routes: &[RouteNo]) -> Option<RouteNo>
+    ensures { result ≡ only routes.now }
+{
+    match routes {
+        [] => None,
+        [route] => Some(*route),
+        [_, _, ..] => None,
+    }
+}
+
+/// Appends the sections that two routes share, where there is just one of each.
+pub fn put_meeting(
+    alloc: Global,
+    text: &mut Vec<u8>,
+    interlocking: &Interlocking,
+    last: &[RouteNo],
+    first: &[RouteNo],
+) -> Result<(), AllocError>
+    ensures { let i = interlocking.now in OnOk result (text.new.items
+        ≡ text.old.items ++ meeting_text i.design.station i.routes (only last.now) (only first.now)) }
+{
+    let Some(route) = only(last) else {
+        return text.extend_from_slice(b"what the two routes share");
+    };
+    let Some(other) = only(first) else {
+        return text.extend_from_slice(b"what the two routes share");
+    };
+    put_shared(
+        alloc,
+        text,
+        &interlocking.design,
+        &interlocking.routes,
+        route,
+        other,
+    )
+}

@@ -1,0 +1,35 @@
+//! What is told of the evidence of a line.
+
+ghost use Rattle.std.specs.Prelude.{◌≡◌, ◌++◌, true, OnOk};
+ghost use Rattle.rail_outside.specs.Lines.{lines_of};
+ghost use Rattle.evidence_words.specs.Told.{evidence_told, names_what_is_there};
+
+use crate::bounds::push_bound;
+use cone_words::push_cone;
+use interlocking::Interlocking;
+use rail_bound::Evidence;
+use std::alloc::{AllocError, Global};
+
+/// Appends the sentences about a cone or a bound, each with its LF, that a file's line of this number gives. Of a bound the
+/// ticks are those that its legs take at the least.
+///
+/// # Errors
+///
+/// Want of memory alone, which leaves a front of the sentences.
+pub fn push_evidence(
+    alloc: Global,
+    interlocking: &Interlocking,
+    line: u64,
+    evidence: &Evidence,
+    lines: &mut Vec<Vec<u8>>,
+) -> Result<(), AllocError>
+    requires names { let i = interlocking.now in
+        names_what_is_there i.design.station i.routes evidence.now ≡ true }
+    ensures { let i = interlocking.now in OnOk result (lines_of lines.new.items
+        ≡ lines_of lines.old.items ++ evidence_told i.design.station i.routes line evidence.now) }
+{
+    match evidence {
+        Evidence::Cone(cone) => push_cone(alloc, interlocking, line, cone, lines),
+        Evidence::Bound(bound) => push_bound(alloc, interlocking, line, bound, lines),
+    }
+}

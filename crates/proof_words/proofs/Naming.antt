@@ -1,0 +1,126 @@
+-- In a file that shows that there is no plan each cone and each bound names what the design has.
+use Rattle.std.proofs.Common.{◌≡◌, ℕ, ◌+◌, Bool, true, false, not, ◌&&◌, ◌==◌, suc, zero, List, [], ◌∷◌, All, get_or, Option, Some, None, Result, Ok, Err, is_none, is_some, if◌then◌else◌, refl, sym, ap, ◌∙◌, arith}
+use Rattle.rail_base.specs.declared.station.Station.{Station}
+use Rattle.rail_base.specs.Numbering.{after_first}
+use Rattle.rail_base.proofs.Members.{and_left}
+use Rattle.rail_bound.specs.declared.BoundFault.{BoundFault}
+use Rattle.rail_bound.specs.declared.Evidence.{Evidence}
+use Rattle.rail_bound.specs.declared.Evidence.TheVariants as evidence
+use Rattle.rail_bound.specs.declared.EvidenceFault.{EvidenceFault}
+use Rattle.rail_bound.specs.declared.EvidenceFault.TheVariants as of
+use Rattle.rail_bound.specs.Validity.{covered, fault_of, first_fault, in_design, is_consistent, names_design, shown}
+use Rattle.rail_spec.specs.Track.{routes_of}
+use Rattle.rail_text.specs.Pieces.{pieces}
+use Rattle.rail_text.specs.Pieces.{Line as Piece}
+use Rattle.sat_clause.specs.declared.lit.Lit.{Lit}
+use Rattle.sat_clause.specs.Clauses.{Store}
+use Rattle.bound_clause.specs.Numbered.{numbered_bound}
+use Rattle.log_checker.specs.declared.shown.Shown.TheVariants.{Yes, No}
+use Rattle.log_checker.specs.declared.shown.Reason.{Reason}
+use Rattle.log_checker.specs.declared.shown.Reason.TheVariants.{HeadDiffers, BaseTooLarge, Text}
+use Rattle.log_checker.specs.Verdict.{SoFar, after_line, at_first, by_evidence, head_in, if_within, is_headed, may_stand, shown_by, shown_from, spelled, taken}
+use Rattle.plan_clauses.specs.Clauses.{past_limit}
+use Rattle.plan_clauses.specs.Variables.{variable_count}
+use Rattle.proof_log.specs.declared.head.Head.{Head}
+use Rattle.proof_log.specs.declared.head.Head.TheVariants.{Plain, Sorted}
+use Rattle.proof_log.specs.declared.line.Line.{Line}
+use Rattle.proof_log.specs.declared.line.Line.TheVariants.{Derive, Refute, Forget}
+use Rattle.proof_log.specs.Lines.{line_of}
+use Rattle.proof_judge.specs.Judged.{all_live, clauses_under, judged, judged_by, judged_under, refuted, unless}
+use Rattle.evidence_words.specs.Told.{names_what_is_there}
+use Rattle.proof_words.specs.Shown.{IsNamedPiece, names_line}
+
+-- ---- what shows a clause names what is there
+
+no_fault : (d b e : Bool) → is_none (first_fault d b e) ≡ true → d ≡ true
+no_fault false b e h = absurd (cc)
+no_fault true b e h = refl
+
+-- no fault is found where there is a clause
+none_of : (f : Option BoundFault) (made clause : List Lit) → unless of.Bound f made ≡ Ok clause → is_none f ≡ true
+none_of None made clause h = refl
+none_of (Some f) made clause h = absurd (cc)
+
+pub names_there : (d : Station) (n : ℕ) (e : Evidence) (clause : List Lit) → refuted d n e ≡ Ok clause → names_what_is_there d (routes_of d) e ≡ true
+names_there d n (evidence.Cone c) clause h = refl
+names_there d n (evidence.Bound b) clause h =
+    let none = none_of (fault_of d (routes_of d) b) (numbered_bound d (routes_of d) n b) clause h in
+    and_left (names_design d (routes_of d) b) (is_consistent d (routes_of d) b) (no_fault (in_design d (routes_of d) b) (covered d (routes_of d) b) (shown d (routes_of d) b) none)
+
+-- ---- the lines that are taken
+
+module _ (head : Head) (refute : Evidence → Result (List Lit) EvidenceFault) (vars steps : ℕ) where
+  -- a cone or a bound of a line that is taken shows a clause
+  evidence_taken : (s t : SoFar) (ended : Bool) (line : Option Line) (e : Evidence) → line ≡ Some (Refute e)
+      → taken head refute vars steps s (if ended then if_within head vars line else None) ≡ Ok t → (clause : List Lit) × (refute e ≡ Ok clause)
+  evidence_taken s t false line e is ok = absurd (cc)
+  evidence_taken s t true line e is ok = stands (may_stand head e) (sym (ap (λ l. taken head refute vars steps s (if_within head vars l)) is) ∙ ok)
+    where
+      by : (r : Result (List Lit) EvidenceFault) → refute e ≡ r → by_evidence s r ≡ Ok t → (clause : List Lit) × (refute e ≡ Ok clause)
+      by (Ok clause) h ok = (clause, h)
+      by (Err fault) h ok = absurd (cc)
+
+      stands : (b : Bool) → taken head refute vars steps s (if b then Some (Refute e) else None) ≡ Ok t → (clause : List Lit) × (refute e ≡ Ok clause)
+      stands false ok = absurd (cc)
+      stands true ok = by (refute e) refl ok
+
+  -- each piece shows the clause of its cone or bound
+  abbrev pub ShowsClause : Piece → Type 0
+  ShowsClause piece = (e : Evidence) → line_of piece.bytes ≡ Some (Refute e) → (clause : List Lit) × (refute e ≡ Ok clause)
+
+  piece_taken : (s t : SoFar) (piece : Piece) → taken head refute vars steps s (spelled head vars piece) ≡ Ok t → ShowsClause piece
+  piece_taken s t piece ok e is = evidence_taken s t piece.ended (line_of piece.bytes) e is ok
+
+  all_before : (p : Piece) (ps : List Piece) → ShowsClause p → All ShowsClause ps → All ShowsClause (p ∷ ps)
+  all_before p ps first more zero other less = first
+  all_before p ps first more (suc i) other less = more i other (omega arith)
+
+  pub all_taken : (here k : ℕ) (s : SoFar) (ps : List Piece) → shown_from head refute vars steps here s ps ≡ Yes k → All ShowsClause ps
+  all_taken here k s [] found = λ i other less. absurd (omega arith)
+  all_taken here k s (p ∷ ps) found = next (taken head refute vars steps s (spelled head vars p)) refl found (λ t later. all_taken (here + 1) k t ps later)
+    where
+      next : (r : Result SoFar Reason) → taken head refute vars steps s (spelled head vars p) ≡ r → after_line here r (λ t. shown_from head refute vars steps (here + 1) t ps) ≡ Yes k
+          → ((t : SoFar) → shown_from head refute vars steps (here + 1) t ps ≡ Yes k → All ShowsClause ps) → All ShowsClause (p ∷ ps)
+      next (Err reason) is found more = absurd (cc)
+      next (Ok t) is found more = all_before p ps (piece_taken s t p is) (more t found)
+
+  pub all_shown : (k : ℕ) (base : Store) (ps : List Piece) → shown_by head refute vars steps base ps ≡ Yes k → All ShowsClause (after_first ps)
+  all_shown k base [] found = absurd (cc)
+  all_shown k base (p ∷ ps) found = go (is_headed head p) found
+    where
+      go : (b : Bool) → (if b then shown_from head refute vars steps 2 (at_first base) ps else No 1 Text) ≡ Yes k → All ShowsClause ps
+      go false found = absurd (cc)
+      go true found = all_taken 2 k (at_first base) ps found
+
+-- ---- the file
+
+module _ (d : Station) (n : ℕ) where
+  named_line : (line : Line) → ((e : Evidence) → line ≡ Refute e → names_what_is_there d (routes_of d) e ≡ true) → names_line d line ≡ true
+  named_line (Derive clause hints) h = refl
+  named_line (Refute e) h = h e refl
+  named_line (Forget clauses) h = refl
+
+  piece_named : (head : Head) (vars : ℕ) (p : Piece) → ShowsClause head (refuted d n) vars n p → IsNamedPiece d p
+  piece_named head vars p shows line is = named_line line (λ e same. let c = shows e (is ∙ ap Some same) in names_there d n e c.0 c.1)
+
+  under_named : (head : Head) (bytes : List ℕ) (k : ℕ) → judged_under head d n bytes ≡ Yes k → All (IsNamedPiece d) (after_first (pieces bytes))
+  under_named head bytes k found i other less =
+      let vars = variable_count d (routes_of d) n in
+      piece_named head vars (get_or (after_first (pieces bytes)) i other) (all_shown head (refuted d n) vars n k (all_live (clauses_under head d n)) (pieces bytes) found i other less)
+
+  by_named : (bytes : List ℕ) (head : Option Head) (k : ℕ) → judged_by d n bytes head ≡ Yes k → All (IsNamedPiece d) (after_first (pieces bytes))
+  by_named bytes None k found = under_named Plain bytes k found
+  by_named bytes (Some Plain) k found = under_named Plain bytes k found
+  by_named bytes (Some (Sorted version steps)) k found = differs (not (version == d.version && steps == n)) found
+    where
+      large : (b : Bool) → (if b then No 1 BaseTooLarge else judged_under (Sorted version steps) d n bytes) ≡ Yes k → All (IsNamedPiece d) (after_first (pieces bytes))
+      large true found = absurd (cc)
+      large false found = under_named (Sorted version steps) bytes k found
+
+      differs : (b : Bool) → (if b then No 1 HeadDiffers else if is_some (past_limit 4000000 0 (clauses_under (Sorted version steps) d n)) then No 1 BaseTooLarge else judged_under (Sorted version steps) d n bytes) ≡ Yes k → All (IsNamedPiece d) (after_first (pieces bytes))
+      differs true found = absurd (cc)
+      differs false found = large (is_some (past_limit 4000000 0 (clauses_under (Sorted version steps) d n))) found
+
+  -- where a file shows k, each cone and bound of its lines names what the design has
+  pub judged_named : (bytes : List ℕ) (k : ℕ) → judged d n bytes ≡ Yes k → All (IsNamedPiece d) (after_first (pieces bytes))
+  judged_named bytes k found = by_named bytes (head_in (pieces bytes)) k found

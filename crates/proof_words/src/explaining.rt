@@ -1,0 +1,42 @@
+//! A proof file explained.
+
+ghost use Rattle.std.specs.Prelude.{◌≡◌, IfOk};
+ghost use Rattle.rail_spec.specs.Track.{routes_of};
+ghost use Rattle.plan_encoding.specs.Bases.{IsBaseOf};
+ghost use Rattle.proof_words.specs.Explained.{explained_of, sentences_or};
+
+use crate::meanings::file_told;
+use interlocking::Interlocking;
+use log_checker::Shown;
+use plan_encoding::Base;
+use proof_judge::judge;
+use rail_base::design::Design;
+use std::alloc::{AllocError, Global};
+
+/// What a proof file says.
+#[derive(Drop)]
+pub enum Explained {
+    /// It shows that there is no plan. The sentences about its cones and bounds, in the order of the file, each with its LF.
+    Sentences(Vec<Vec<u8>>),
+    /// It does not show that: its first bad line, and why it is bad.
+    Refused(Shown),
+}
+
+/// What the bytes of a proof file say of the design whose clauses these are: where it shows that there is no plan of so many steps,
+/// the sentences about its cones and bounds, and else what it shows. The error is want of memory.
+pub fn explain(
+    alloc: Global,
+    interlocking: &Interlocking,
+    base: Base,
+    bytes: &[u8],
+) -> Result<Explained, AllocError>
+    requires base { let d = interlocking.now.design.station in IsBaseOf d (routes_of d) base.steps base }
+    ensures { IfOk result (λ e. sentences_or e
+        ≡ explained_of interlocking.now.design.station base.steps bytes.now) }
+{
+    let shown = judge(alloc, interlocking, base, bytes)?;
+    match shown {
+        Shown::Yes { .. } => Ok(Explained::Sentences(file_told(alloc, interlocking, bytes)?)),
+        Shown::No { .. } => Ok(Explained::Refused(shown)),
+    }
+}

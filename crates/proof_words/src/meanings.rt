@@ -1,0 +1,89 @@
+//! The sentences about the lines of a proof file. An error is want of memory.
+
+ghost use Rattle.std.specs.Prelude.{◌≡◌, ◌++◌, true, All, IfOk, OnOk, Some, flat_map};
+ghost use Rattle.rail_base.specs.Numbering.{after_first};
+ghost use Rattle.rail_outside.specs.Lines.{lines_of};
+ghost use Rattle.rail_text.specs.Lines.{line_of as piece_of};
+ghost use Rattle.rail_text.specs.Cursors.{lines_left};
+ghost use Rattle.rail_text.specs.Pieces.{pieces};
+ghost use Rattle.proof_log.specs.Lines.{line_of};
+ghost use Rattle.proof_words.specs.Meanings.{file_told, line_told, piece_told};
+ghost use Rattle.proof_words.specs.Shown.{IsNamedPiece, names_line};
+
+use evidence_words::push_evidence;
+use interlocking::Interlocking;
+use proof_log::{Line, LineFault, read_line};
+use rail_text::{Cursor, Piece};
+use std::alloc::{AllocError, Global};
+
+/// Appends the sentences about a line of this number.
+fn push_line(
+    alloc: Global,
+    interlocking: &Interlocking,
+    number: u64,
+    line: &Line,
+    lines: &mut Vec<Vec<u8>>,
+) -> Result<(), AllocError>
+    requires { names_line interlocking.now.design.station line.now ≡ true }
+    ensures { OnOk result (lines_of lines.new.items
+        ≡ lines_of lines.old.items ++ line_told interlocking.now.design.station number (Some line.now)) }
+{
+    match line {
+        Line::Derive { .. } => Ok(()),
+        Line::Refute { evidence } => push_evidence(alloc, interlocking, number, evidence, lines),
+        Line::Forget { .. } => Ok(()),
+    }
+}
+
+/// Appends the sentences about a piece of a file.
+fn push_piece(
+    alloc: Global,
+    interlocking: &Interlocking,
+    piece: &Piece<'_>,
+    lines: &mut Vec<Vec<u8>>,
+) -> Result<(), AllocError>
+    requires { IsNamedPiece interlocking.now.design.station (piece_of piece.now) }
+    ensures { OnOk result (lines_of lines.new.items
+        ≡ lines_of lines.old.items ++ piece_told interlocking.now.design.station (piece_of piece.now)) }
+{
+    match read_line(alloc, piece.bytes) {
+        Ok(line) => push_line(alloc, interlocking, piece.line, &line, lines),
+        Err(LineFault::Text) => Ok(()),
+        Err(LineFault::Memory) => Err(AllocError),
+    }
+}
+
+/// Appends the sentences about the pieces of a file that are left.
+fn push_pieces(
+    alloc: Global,
+    interlocking: &Interlocking,
+    pieces: Cursor<'_>,
+    lines: &mut Vec<Vec<u8>>,
+) -> Result<(), AllocError>
+    requires { All (IsNamedPiece interlocking.now.design.station) (lines_left pieces) }
+    ensures { OnOk result (lines_of lines.new.items
+        ≡ lines_of lines.old.items ++ flat_map (piece_told interlocking.now.design.station) (lines_left pieces.entry)) }
+{
+    'pieces: for piece in pieces {
+        push_piece(alloc, interlocking, &piece, lines)?;
+    }
+    Ok(())
+}
+
+/// The sentences about the lines of a proof file after its head, where each cone and bound names what the design has.
+pub(crate) fn file_told(
+    alloc: Global,
+    interlocking: &Interlocking,
+    bytes: &[u8],
+) -> Result<Vec<Vec<u8>>, AllocError>
+    requires { All (IsNamedPiece interlocking.now.design.station) (after_first (pieces bytes.now)) }
+    ensures { IfOk result (λ lines. lines_of lines.items ≡ file_told interlocking.now.design.station bytes.now) }
+{
+    let mut lines = Vec::new(alloc);
+    let mut cursor = Cursor::new(bytes);
+    let Some(_head) = cursor.next() else {
+        return Ok(lines);
+    };
+    push_pieces(alloc, interlocking, cursor, &mut lines)?;
+    Ok(lines)
+}
