@@ -27,6 +27,15 @@ class Station:
         lengths = {vehicle["name"]: vehicle["length_mm"] for vehicle in text["vehicle"]}
         self.trains = [(lengths[train["vehicle"]], train["visits"]) for train in text["train"]]
         self.routes = list(self.find_routes())
+        names = [train["name"] for train in text["train"]]
+        self.froms = {
+            "within": [names.index(within["from_train"]) + 1 for within in text.get("within", [])],
+            "order": [names.index(order["then_train"]) + 1 for order in text.get("order", [])],
+        }
+
+    def counted_from(self, kind, number):
+        """The train of the visit from which the ticks of a within or an order are counted."""
+        return self.froms[kind][number - 1]
 
     def find_routes(self):
         """The routes, by their starts, and then by the first edge in which two differ."""
