@@ -1,9 +1,10 @@
--- In the run of a cone each train moves as the plan of its free commands says, and may brake at any tick.
+-- In the run of a cone each train may brake at any tick.
 use Rattle.std.proofs.Common.{◌≡◌, ℕ, zero, suc, ◌+◌, ◌-◌, ◌*◌, ◌/◌, ◌≤◌, ◌<◌, ◌⊎◌, inl, inr, Bool, true, false, if◌then◌else◌, List, [], ◌∷◌, map, take, length, slice_get, Option, None, Some, refl, sym, ap, subst, ◌∙◌, arith, mul-le-mul, le_refl, suc-mul, div-lt_iff_lt-mul, fold, max}
 use Rattle.rail_base.specs.declared.station.Station.{Station}
 use Rattle.rail_base.specs.declared.station.TrainNo.{TrainNo}
 use Rattle.rail_base.specs.declared.route.Route.{Route}
 use Rattle.rail_base.specs.declared.route.RouteNo.{RouteNo}
+use Rattle.rail_base.specs.declared.plan.Command.{Command}
 use Rattle.rail_base.specs.declared.state.TrainState.{TrainState}
 use Rattle.rail_base.specs.Admitted.{IsAdmitted}
 use Rattle.rail_base.specs.Members.{In}
@@ -16,6 +17,7 @@ use Rattle.rail_spec.specs.Dispatches.{state_of, state_at, rates, stretches, aut
 use Rattle.rail_spec.specs.Run as run
 use Rattle.rail_spec.proofs.MotionLaws.{permitted_after, next_speed_permitted}
 use Rattle.rail_spec.proofs.UnderWay.{IsSound, Travels, still}
+use Rattle.rail_course.specs.Tracks.{routes_at}
 use Rattle.rail_cone.specs.declared.Cone.{Cone}
 use Rattle.rail_cone.specs.declared.ConeTrain.{ConeTrain}
 use Rattle.rail_cone.specs.Cones.{named, free_path, of_cone}
@@ -23,8 +25,8 @@ use Rattle.rail_cone.specs.Validity.{in_design}
 use Rattle.rail_cone.proofs.Naming.{of_design, proper}
 use Rattle.rail_cone.proofs.Running.{Moves, Idles, after_tick, idle_at_first, granted_after_most, granted_on_path}
 use Rattle.dispatch_run.specs.Followers.{CanMove}
-use Rattle.cone_run.specs.Runs.{free_plan, last_tick}
-use Rattle.cone_run.proofs.Ranging.{given_path}
+use Rattle.cone_run.specs.Runs.{last_tick}
+use Rattle.cone_run.proofs.Pathing.{one_path, path_is}
 
 greatest_within : (test : ℕ → Bool) (n : ℕ) → greatest test n ≤ n
 greatest_within test zero = omega arith
@@ -42,13 +44,17 @@ top_speed d adm t h =
     let less : (vehicle_of d t).speed_mm_s * d.tick_ms / 1000 < 100001 = (div-lt_iff_lt-mul {k = 1000} {x = (vehicle_of d t).speed_mm_s * d.tick_ms} {y = 100001} (omega arith)).1 (omega arith) in
     omega arith
 
-module _ (d : Station) (routes : List Route) (k : Cone) (known : in_design d routes k ≡ true) where
-  same : (t : TrainNo) → path (free_plan k) t ≡ free_path k t
-  same = given_path d routes k known
+module _ (d : Station) (routes : List Route) (k : Cone) where
+  -- a plan that gives the train its free path
+  abbrev plan : TrainNo → List (List Command)
+  plan t = one_path t (free_path k t)
 
-  -- ---- what moves and grants look at is the same
+  same : (t : TrainNo) → path (plan t) t ≡ free_path k t
+  same t = path_is t (free_path k t)
 
-  pub moved_same : (t : TrainNo) (old : TrainState) (n : ℕ) → run.moved d routes (free_plan k) t old n ≡ moved d routes (of_cone k) t old n
+  -- ---- what moves and grants look at
+
+  moved_same : (t : TrainNo) (old : TrainState) (n : ℕ) → run.moved d routes (plan t) t old n ≡ moved d routes (of_cone k) t old n
   moved_same t old zero = refl
   moved_same t old (suc n) = ap (λ ps. with ps) (same t)
     where
@@ -72,38 +78,38 @@ module _ (d : Station) (routes : List Route) (k : Cone) (known : in_design d rou
   -- ---- braking
 
   abbrev given : TrainNo → ℕ → List Route
-  given t g = take g (path_routes routes (free_plan k) t)
+  given t g = take g (path_routes routes (plan t) t)
 
-  module _ (sound : IsSound d routes (free_plan k)) where
-    travels_on : (t : TrainNo) (named : IsTrain d t) (old : TrainState) (n : ℕ) → 1 ≤ (rates d t).brake → Travels d routes (free_plan k) t old → (n ≡ old.granted) ⊎ (n ≡ old.granted + 1) → Travels d routes (free_plan k) t (run.moved d routes (free_plan k) t old n)
+  module _ (sound : (t : TrainNo) → IsSound d routes (plan t)) where
+    travels_on : (t : TrainNo) (named : IsTrain d t) (old : TrainState) (n : ℕ) → 1 ≤ (rates d t).brake → Travels d routes (plan t) t old → (n ≡ old.granted) ⊎ (n ≡ old.granted + 1) → Travels d routes (plan t) t (run.moved d routes (plan t) t old n)
     travels_on t named old zero slows h (inl e) = h
     travels_on t named old zero slows h (inr e) = absurd (omega arith)
     travels_on t named old (suc n) slows h e =
-        let now = still d routes (free_plan k) sound t named old n h e in
+        let now = still d routes (plan t) (sound t) t named old n h e in
         let u = next_speed (rates d t) (stretches d (given t (suc n))) (authority (given t (suc n))) old.x old.v in
         record {
           waits = λ z. absurd (omega arith);
           braking = λ l. permitted_after (rates d t) (stretches d (given t (suc n))) (authority (given t (suc n))) old.x old.v u slows (next_speed_permitted (rates d t) (stretches d (given t (suc n))) (authority (given t (suc n))) old.x old.v _ now);
         }
 
-    travels : (n : ℕ) (t : TrainNo) → Travels d routes (free_plan k) t (state_of (state_at d routes (of_cone k) n) t)
-    travels zero t = subst (Travels d routes (free_plan k) t) (sym (idle_at_first d routes (of_cone k) t)) (record { waits = λ z. (refl, refl); braking = λ l. absurd (omega arith) })
+    travels : (n : ℕ) (t : TrainNo) → Travels d routes (plan t) t (state_of (state_at d routes (of_cone k) n) t)
+    travels zero t = subst (Travels d routes (plan t) t) (sym (idle_at_first d routes (of_cone k) t)) (record { waits = λ z. (refl, refl); braking = λ l. absurd (omega arith) })
     travels (suc n) t = go (after_tick d routes (of_cone k) n t) (travels n t)
       where
         brakes_of : (i : ℕ) → 1 ≤ i → i ≤ length d.trains → 1 ≤ (rates d (record { 0 = i })).brake
         brakes_of zero low high = absurd (omega arith)
-        brakes_of (suc i) low high = sound.slows i high
+        brakes_of (suc i) low high = (sound t).slows i high
 
-        step : (b : Bool) → IsTrain d t → Travels d routes (free_plan k) t (state_of (state_at d routes (of_cone k) n) t)
-            → Travels d routes (free_plan k) t (if b then moved d routes (of_cone k) t (state_of (state_at d routes (of_cone k) n) t) (granted_after d routes (of_cone k) (state_at d routes (of_cone k) n) t) else state_of (state_at d routes (of_cone k) n) t)
+        step : (b : Bool) → IsTrain d t → Travels d routes (plan t) t (state_of (state_at d routes (of_cone k) n) t)
+            → Travels d routes (plan t) t (if b then moved d routes (of_cone k) t (state_of (state_at d routes (of_cone k) n) t) (granted_after d routes (of_cone k) (state_at d routes (of_cone k) n) t) else state_of (state_at d routes (of_cone k) n) t)
         step false there h = h
         step true there h =
-            subst (Travels d routes (free_plan k) t) (moved_same t (state_of (state_at d routes (of_cone k) n) t) (granted_after d routes (of_cone k) (state_at d routes (of_cone k) n) t))
+            subst (Travels d routes (plan t) t) (moved_same t (state_of (state_at d routes (of_cone k) n) t) (granted_after d routes (of_cone k) (state_at d routes (of_cone k) n) t))
             (travels_on t there (state_of (state_at d routes (of_cone k) n) t) (granted_after d routes (of_cone k) (state_at d routes (of_cone k) n) t) (brakes_of t.0 there.0 there.1) h (next_grants (state_at d routes (of_cone k) n) t))
 
-        go : Moves d routes (of_cone k) n t ⊎ Idles d routes (of_cone k) n t → Travels d routes (free_plan k) t (state_of (state_at d routes (of_cone k) n) t) → Travels d routes (free_plan k) t (state_of (state_at d routes (of_cone k) (suc n)) t)
-        go (inl m) h = subst (Travels d routes (free_plan k) t) (sym m.by_rule) (step ((of_cone k).concerns (suc n) t) (m.first, m.last) h)
-        go (inr i) h = subst (Travels d routes (free_plan k) t) (i.old ∙ sym i.new) h
+        go : Moves d routes (of_cone k) n t ⊎ Idles d routes (of_cone k) n t → Travels d routes (plan t) t (state_of (state_at d routes (of_cone k) n) t) → Travels d routes (plan t) t (state_of (state_at d routes (of_cone k) (suc n)) t)
+        go (inl m) h = subst (Travels d routes (plan t) t) (sym m.by_rule) (step ((of_cone k).concerns (suc n) t) (m.first, m.last) h)
+        go (inr i) h = subst (Travels d routes (plan t) t) (i.old ∙ sym i.new) h
 
   -- ---- places and speeds stay small
 
@@ -135,11 +141,11 @@ module _ (d : Station) (routes : List Route) (k : Cone) (known : in_design d rou
 
   -- ---- every train may move on
 
-  pub can_move_at : IsAdmitted d → IsSound d routes (free_plan k) → (n : ℕ) → n ≤ 86400 → (t : TrainNo) → IsTrain d t
-      → CanMove d routes (run.of_plan routes (free_plan k)) t (granted_after d routes (of_cone k) (state_at d routes (of_cone k) n) t) (state_of (state_at d routes (of_cone k) n) t)
-  can_move_at adm sound n early t there = record {
-    within = subst (λ ps. granted_after d routes (of_cone k) (state_at d routes (of_cone k) n) t ≤ length ps) (sym (same t)) (granted_after_most d routes (of_cone k) (state_at d routes (of_cone k) n) t (granted_on_path d routes (of_cone k) n t));
-    braking = go (granted_after d routes (of_cone k) (state_at d routes (of_cone k) n) t) (next_grants (state_at d routes (of_cone k) n) t);
+  may_move : IsAdmitted d → ((t : TrainNo) → IsSound d routes (plan t)) → (n : ℕ) → n ≤ 86400 → (t : TrainNo) → IsTrain d t → (g : ℕ) → g ≤ length (free_path k t)
+      → (g ≡ (state_of (state_at d routes (of_cone k) n) t).granted) ⊎ (g ≡ (state_of (state_at d routes (of_cone k) n) t).granted + 1) → CanMove d routes (of_cone k) t g (state_of (state_at d routes (of_cone k) n) t)
+  may_move adm sound n early t there g within next = record {
+    within = within;
+    braking = subst (λ ps. 1 ≤ g → permitted (rates d t) (stretches d (take g (routes_at routes ps))) (authority (take g (routes_at routes ps))) old.x old.v (old.v - (rates d t).brake) ≡ true) (same t) (go g next);
     near = let x = small.x in let m : n * 100000 ≤ 86400 * 100000 = mul-le-mul early (le_refl 100000) in omega arith;
     slow = small.v;
   }
@@ -152,26 +158,17 @@ module _ (d : Station) (routes : List Route) (k : Cone) (known : in_design d rou
 
       go : (g : ℕ) → (g ≡ old.granted) ⊎ (g ≡ old.granted + 1) → 1 ≤ g → permitted (rates d t) (stretches d (given t g)) (authority (given t g)) old.x old.v (old.v - (rates d t).brake) ≡ true
       go zero e l = absurd (omega arith)
-      go (suc g) e l = still d routes (free_plan k) sound t there old g (travels sound n t) e
+      go (suc g) e l = still d routes (plan t) (sound t) t there old g (travels sound n t) e
 
-  pub can_go_at : IsAdmitted d → IsSound d routes (free_plan k) → (n : ℕ) → n ≤ 86400 → (t : TrainNo) → IsTrain d t
-      → CanMove d routes (run.of_plan routes (free_plan k)) t (state_of (state_at d routes (of_cone k) n) t).granted (state_of (state_at d routes (of_cone k) n) t)
-  can_go_at adm sound n early t there = record {
-    within = subst (λ ps. (state_of (state_at d routes (of_cone k) n) t).granted ≤ length ps) (sym (same t)) (granted_on_path d routes (of_cone k) n t);
-    braking = go old.granted refl;
-    near = let x = small.x in let m : n * 100000 ≤ 86400 * 100000 = mul-le-mul early (le_refl 100000) in omega arith;
-    slow = small.v;
-  }
-    where
-      old : TrainState
-      old = state_of (state_at d routes (of_cone k) n) t
+  pub can_move_at : IsAdmitted d → ((t : TrainNo) → IsSound d routes (plan t)) → (n : ℕ) → n ≤ 86400 → (t : TrainNo) → IsTrain d t
+      → CanMove d routes (of_cone k) t (granted_after d routes (of_cone k) (state_at d routes (of_cone k) n) t) (state_of (state_at d routes (of_cone k) n) t)
+  can_move_at adm sound n early t there =
+      let s = state_at d routes (of_cone k) n in
+      may_move adm sound n early t there (granted_after d routes (of_cone k) s t) (granted_after_most d routes (of_cone k) s t (granted_on_path d routes (of_cone k) n t)) (next_grants s t)
 
-      small : IsSmall n old
-      small = stays_small adm n t
-
-      go : (g : ℕ) → g ≡ old.granted → 1 ≤ g → permitted (rates d t) (stretches d (given t g)) (authority (given t g)) old.x old.v (old.v - (rates d t).brake) ≡ true
-      go zero e l = absurd (omega arith)
-      go (suc g) e l = still d routes (free_plan k) sound t there old g (travels sound n t) (inl e)
+  pub can_go_at : IsAdmitted d → ((t : TrainNo) → IsSound d routes (plan t)) → (n : ℕ) → n ≤ 86400 → (t : TrainNo) → IsTrain d t
+      → CanMove d routes (of_cone k) t (state_of (state_at d routes (of_cone k) n) t).granted (state_of (state_at d routes (of_cone k) n) t)
+  can_go_at adm sound n early t there = may_move adm sound n early t there (state_of (state_at d routes (of_cone k) n) t).granted (granted_on_path d routes (of_cone k) n t) (inl refl)
 
 -- the horizons are within that of the design
 fold_within : (f m : ℕ) (cs : List ConeTrain) → f ≤ m → ((c : ConeTrain) → In c cs → c.horizon ≤ m) → fold max f (map (λ (c : ConeTrain). c.horizon) cs) ≤ m

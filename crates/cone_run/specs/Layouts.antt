@@ -1,5 +1,5 @@
 -- A cone with its courses: what its run is, and what is asked of it.
-use Rattle.std.specs.Prelude.{ℕ, ◌+◌, ◌-◌, Bool, ◌&&◌, List, nat_le, Option, is_none}
+use Rattle.std.specs.Prelude.{ℕ, ◌+◌, ◌-◌, Bool, ◌&&◌, List, map, nat_le, Option, is_none}
 use Rattle.std.specs.List.{list_all}
 use Rattle.rail_base.specs.declared.station.Station.{Station}
 use Rattle.rail_base.specs.declared.station.Order.{Order}
@@ -15,6 +15,8 @@ use Rattle.rail_spec.specs.Dispatches as dispatches
 use Rattle.rail_spec.specs.Requirements.{most_ticks}
 use Rattle.rail_course.specs.declared.journey.Journey.{Journey}
 use Rattle.rail_course.specs.declared.waits.Wait.{Wait}
+use Rattle.rail_course.specs.Itineraries.{wait_in}
+use Rattle.rail_course.specs.Itineraries as itineraries
 use Rattle.rail_course.specs.Journeys.{AreJourneys}
 use Rattle.rail_cone.specs.declared.ConeFault.{ConeFault}
 use Rattle.rail_cone.specs.declared.ConeTrain.{ConeTrain}
@@ -24,8 +26,7 @@ use Rattle.dispatch_run.specs.declared.traffic.Follower.{Follower}
 use Rattle.dispatch_run.specs.Followers.{AreFollowers}
 use Rattle.cone_run.specs.declared.layout.Layout.{Layout}
 use Rattle.cone_run.specs.Checks.{IsEntry}
-use Rattle.cone_run.specs.Runs.{AreLed, free_plan, listed_waits, run_of, visit_shown}
-use Rattle.cone_run.specs.Runs as runs
+use Rattle.cone_run.specs.Runs.{run_of, visit_shown}
 
 module _ (l : Layout) where
   -- the station
@@ -42,25 +43,23 @@ module _ (l : Layout) where
   abbrev pub history_in : List TrainHistory
   history_in = run_of l.contention.interlocking.now l.cone.now
 
-  -- what a command waits for
+  -- what a command waits for: those that are listed before it
   abbrev pub waits_in : Command → List Wait
-  waits_in = listed_waits station_of routes_in l.cone.now
+  waits_in c = map (wait_in l.courses.given c) ((of_cone l.cone.now).before c)
 
   -- the waits of each free command of a train
-  abbrev pub waits_of_train : TrainNo → List (List Wait)
-  waits_of_train = runs.waits_of_train station_of routes_in l.cone.now
-
-  -- these are the journeys of all trains in a plan of the free commands, in file order
-  abbrev pub ArePlain : List Journey → Type 0
-  ArePlain = AreJourneys station_of routes_in (free_plan l.cone.now)
+  abbrev pub train_waits_in : TrainNo → List (List Wait)
+  train_waits_in = itineraries.train_waits_in l.courses.given (of_cone l.cone.now).before
 
   -- these are the journeys of all trains in the run, in file order
-  abbrev pub AreLedIn : List Journey → Type 0
-  AreLedIn = AreLed station_of routes_in l.cone.now
+  abbrev pub AreJourneysOf : List Journey → Type 0
+  AreJourneysOf = let i = l.courses.given.interlocking.now in
+      AreJourneys i.design.station i.routes (of_cone l.cone.now)
 
   -- these are the followers of all trains in the run, in file order
   abbrev pub AreFollowersOf : List Follower → Type 0
-  AreFollowersOf = AreFollowers station_of routes_in (of_cone l.cone.now)
+  AreFollowersOf = let i = l.courses.given.interlocking.now in
+      AreFollowers i.design.station i.routes (of_cone l.cone.now)
 
   -- ---- what is asked of it
 

@@ -5,8 +5,8 @@ ghost use Rattle.cone_run.specs.Layouts.{fault_in};
 ghost use Rattle.cone_run.specs.Runs.{first_reason};
 
 use crate::checked::ConeRun;
-use crate::free::free_plan;
 use crate::layout::Layout;
+use crate::paths::free_paths;
 use cone_design::{Contention, is_in_design};
 use rail_cone::{Cone, ConeFault};
 use rail_course::{Courses, Itineraries};
@@ -56,10 +56,11 @@ pub fn fault_of<'a>(
     if !fits {
         return Ok(Some(ConeFault::PathNotInDesign));
     }
-    let plan = free_plan(alloc, cone)?;
+    let interlocking = contention.interlocking;
+    let paths = free_paths(alloc, interlocking, cone)?;
     let given = Itineraries {
-        interlocking: contention.interlocking,
-        plan: &plan,
+        interlocking,
+        paths: paths.as_slice(),
     };
     let courses = given.courses(alloc)?;
     let courses = Courses {

@@ -9,8 +9,8 @@ ghost use Rattle.cone_design.specs.Fits.{fits};
 ghost use Rattle.cone_run.specs.Layouts.{history_in};
 ghost use Rattle.cone_run.specs.Runs.{last_tick, run_of};
 
-use crate::free::free_plan;
 use crate::layout::Layout;
+use crate::paths::free_paths;
 use cone_design::Contention;
 use dispatch_run::Traffic;
 use rail_base::history::{History, TrainHistory};
@@ -36,8 +36,7 @@ impl Layout<'_> {
         ensures { IfOk result (λ h. h.items ≡ history_in self.now) }
     {
         let interlocking = self.contention.interlocking;
-        let plain = self.courses.journeys(alloc)?;
-        let journeys = self.journeys(alloc, plain.as_slice())?;
+        let journeys = self.journeys(alloc)?;
         let followers = self.followers(alloc, journeys.as_slice())?;
         let traffic = Traffic {
             interlocking,
@@ -75,10 +74,11 @@ pub fn cone_history<'a>(
     requires known { fits contention.now.interlocking.now cone.now ≡ true }
     ensures { IfOk result (λ h. h ≡ run_of contention.now.interlocking.now cone.now) }
 {
-    let plan = free_plan(alloc, cone)?;
+    let interlocking = contention.interlocking;
+    let paths = free_paths(alloc, interlocking, cone)?;
     let given = Itineraries {
-        interlocking: contention.interlocking,
-        plan: &plan,
+        interlocking,
+        paths: paths.as_slice(),
     };
     let courses = given.courses(alloc)?;
     let courses = Courses {

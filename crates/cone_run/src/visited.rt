@@ -7,8 +7,8 @@ ghost use Rattle.cone_run.specs.Layouts.{shown_visit, station_of};
 ghost use Rattle.cone_run.specs.Runs.{visit_shown};
 
 use crate::checked::ConeRun;
-use crate::free::free_plan;
 use crate::layout::Layout;
+use crate::paths::free_paths;
 use crate::waits::horizon_of;
 use cone_design::Contention;
 use rail_base::station::TrainNo;
@@ -66,10 +66,11 @@ pub fn visit_shown<'a>(
     requires train { IsTrain contention.now.interlocking.now.design.station train }
     ensures { IfOk result (λ tick. tick ≡ visit_shown contention.now.interlocking.now cone.now train visit) }
 {
-    let plan = free_plan(alloc, cone)?;
+    let interlocking = contention.interlocking;
+    let paths = free_paths(alloc, interlocking, cone)?;
     let given = Itineraries {
-        interlocking: contention.interlocking,
-        plan: &plan,
+        interlocking,
+        paths: paths.as_slice(),
     };
     let courses = given.courses(alloc)?;
     let courses = Courses {

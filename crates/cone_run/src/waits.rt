@@ -4,15 +4,14 @@ ghost use Rattle.std.specs.Prelude.{◌≡◌, IfOk, map};
 ghost use Rattle.rail_base.specs.Routes.{IsRoute};
 ghost use Rattle.rail_base.specs.Stations.{IsTrain};
 ghost use Rattle.rail_cone.specs.Cones.{named};
-ghost use Rattle.cone_run.specs.Layouts.{AreFollowersOf, AreLedIn, ArePlain};
-ghost use Rattle.cone_run.specs.Layouts.{routes_in, station_of, waits_in, waits_of_train};
+ghost use Rattle.cone_run.specs.Layouts.{AreFollowersOf, AreJourneysOf, train_waits_in, waits_in};
 
 use crate::layout::Layout;
 use dispatch_run::Follower;
 use rail_base::plan::Command;
 use rail_base::station::TrainNo;
 use rail_cone::Cone;
-use rail_course::{Journey, Release, Wait};
+use rail_course::{Journey, Wait};
 use std::alloc::{AllocError, Global};
 
 /// The horizon of a train; of one that is not named it is 0.
@@ -39,17 +38,10 @@ pub(crate) fn free_of(cone: &Cone, train: TrainNo) -> u32
     0
 }
 
-/// The same releases once more.
-fn copied(alloc: Global, releases: &[Release]) -> Result<Vec<Release>, AllocError>
-    ensures { IfOk result (λ r. r.items ≡ releases.now) }
-{
-    releases.iter().copied().collect(alloc)
-}
-
 impl<'a> Layout<'a> {
     /// The waits of a command for those that are listed before it. They are among those that contend with it.
     fn waits_of(&self, alloc: Global, command: Command) -> Result<Vec<Wait>, AllocError>
-        requires { IsRoute (routes_in self.now) command.route }
+        requires { IsRoute self.now.courses.given.interlocking.now.routes command.route }
         ensures { IfOk result (λ w. w.items ≡ waits_in self.now command) }
     {
         let pairs = self.contention.sorted();
@@ -65,8 +57,8 @@ impl<'a> Layout<'a> {
 
     /// The waits of each free command of a train.
     fn waits_of_train(&self, alloc: Global, train: TrainNo) -> Result<Vec<Vec<Wait>>, AllocError>
-        requires { IsTrain (station_of self.now) train }
-        ensures { IfOk result (λ w. map (λ v. v.items) w.items ≡ waits_of_train self.now train) }
+        requires { IsTrain self.now.courses.given.interlocking.now.design.station train }
+        ensures { IfOk result (λ w. map (λ v. v.items) w.items ≡ train_waits_in self.now train) }
     {
         let mut waits = Vec::new(alloc);
         let course = self.courses.course(train);
@@ -80,22 +72,14 @@ impl<'a> Layout<'a> {
         Ok(waits)
     }
 
-    /// The journeys of all trains, in file order, of which the plain ones have all but the waits.
-    pub(crate) fn journeys(
-        &self,
-        alloc: Global,
-        plain: &[Journey<'a>],
-    ) -> Result<Vec<Journey<'a>>, AllocError>
-        requires { ArePlain self.now plain.now }
-        ensures { IfOk result (λ j. AreLedIn self.now j.items) }
+    /// The journeys of all trains, in file order.
+    pub(crate) fn journeys(&self, alloc: Global) -> Result<Vec<Journey<'a>>, AllocError>
+        ensures { IfOk result (λ journeys. AreJourneysOf self.now journeys.items) }
     {
         let mut journeys = Vec::new(alloc);
-        for journey in plain {
-            journeys.push(Journey {
-                course: journey.course,
-                waits: self.waits_of_train(alloc, journey.course.train)?,
-                releases: copied(alloc, journey.releases.as_slice())?,
-            })?;
+        for course in self.courses.courses {
+            let waits = self.waits_of_train(alloc, course.train)?;
+            journeys.push(self.courses.journey(alloc, course, waits)?)?;
         }
         Ok(journeys)
     }
@@ -106,7 +90,7 @@ impl<'a> Layout<'a> {
         alloc: Global,
         journeys: &'b [Journey<'a>],
     ) -> Result<Vec<Follower<'b>>, AllocError>
-        requires { AreLedIn self.now journeys.now }
+        requires { AreJourneysOf self.now journeys.now }
         ensures { IfOk result (λ f. AreFollowersOf self.now f.items) }
     {
         let mut followers = Vec::new(alloc);

@@ -8,6 +8,7 @@ use Rattle.rail_base.specs.Stations.{trains}
 use Rattle.rail_spec.specs.Dispatches.{Dispatch, authority, moved, state_at, state_of, stretches}
 use Rattle.rail_spec.specs.Motion.{Stretch}
 use Rattle.rail_course.specs.declared.course.Course.{Course}
+use Rattle.rail_course.specs.Courses.{IsCourse}
 use Rattle.rail_course.specs.Tracks.{routes_at}
 use Rattle.dispatch_quiet.specs.Forecasts.{IsSeen}
 use Rattle.dispatch_quiet.specs.Histories.{history_at, train_history}
@@ -17,7 +18,7 @@ use Rattle.dispatch_run.specs.declared.run.Progress.{Progress}
 use Rattle.dispatch_run.specs.declared.traffic.Follower.{Follower}
 use Rattle.dispatch_run.specs.declared.traffic.Traffic.{Traffic}
 use Rattle.dispatch_run.specs.Drifts.{going_with}
-use Rattle.dispatch_run.specs.Followers.{CanMove, IsCourse, IsFollower}
+use Rattle.dispatch_run.specs.Followers.{CanMove, IsFollower}
 use Rattle.dispatch_run.specs.Looks.{IsKnown}
 use Rattle.dispatch_run.specs.Progress.{IsProgress}
 use Rattle.dispatch_run.specs.Turns.{AreLookedAt, AreToBeTold, IsLook, IsLookedAt, IsToBeTold, IsTurn, looked_state}
@@ -27,9 +28,9 @@ abbrev pub followed_train : Follower → TrainNo
 followed_train f = f.journey.now.course.now.train
 
 module _ (r : Traffic) where
-  -- the course is that of its train and of its own path
+  -- the course is that of its train
   abbrev pub IsCourseIn : Course → Type 0
-  IsCourseIn = IsCourse r.interlocking.now.design.station r.interlocking.now.routes
+  IsCourseIn c = IsCourse r.interlocking.now.design.station r.interlocking.now.routes c.path.items c
 
   -- the first routes of a course, so many of them
   abbrev pub first_routes : Course → ℕ → List Route

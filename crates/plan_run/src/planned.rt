@@ -4,9 +4,9 @@ ghost use Rattle.std.specs.Prelude.{◌≡◌, IfOk};
 ghost use Rattle.rail_spec.specs.Run.{of_plan};
 ghost use Rattle.dispatch_run.specs.Followers.{AreFollowers};
 
-use crate::run::Run;
 use dispatch_run::Follower;
 use std::alloc::{AllocError, Global};
+use tick_sim::Run;
 
 /// The trains of a plan, each of which is followed for ever.
 pub(crate) fn followers<'a>(run: &Run<'a>, alloc: Global) -> Result<Vec<Follower<'a>>, AllocError>

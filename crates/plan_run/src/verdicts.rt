@@ -1,7 +1,6 @@
 //! The verdict of a plan.
 
-ghost use Rattle.std.specs.Prelude.{◌≡◌, ◌≤◌, ℕ, true, IfOk, None, length};
-ghost use Rattle.rail_spec.specs.Track.{routes_of};
+ghost use Rattle.std.specs.Prelude.{◌≡◌, ℕ, true, IfOk, None};
 ghost use Rattle.rail_spec.specs.Plans.{is_executable};
 ghost use Rattle.rail_spec.specs.Feasible.{IsWellFormed};
 ghost use Rattle.rail_spec.specs.Requirements.{path_violation};
@@ -13,15 +12,15 @@ ghost use Rattle.plan_run.specs.Planned.{IsPlanned};
 
 use crate::due::next_due;
 use crate::planned::followers;
-use crate::run::Run;
 use dispatch_run::Traffic;
 use interlocking::Interlocking;
 use rail_base::history::Verdict;
 use rail_base::list::List;
 use rail_base::plan::Plan;
-use rail_course::{Courses, Itineraries};
+use rail_course::{Courses, Itineraries, PlannedCourses, paths_of};
 use rail_require::{are_done, violation_shown};
 use std::alloc::{AllocError, Global};
+use tick_sim::Run;
 
 /// The verdict of a plan whose paths make all visits: it is asked at each tick at which something happens to a train or
 /// a greatest time may end.
@@ -87,6 +86,37 @@ fn verdict(run: &Run, alloc: Global, ticks: u64) -> Result<Verdict, AllocError>
     })
 }
 
+/// Runs a plan for so many ticks: what they show of it.
+fn run_plan<'a>(
+    alloc: Global,
+    interlocking: &'a Interlocking,
+    plan: &'a Plan,
+    ticks: u64,
+) -> Result<Verdict, AllocError>
+    requires { IsWellFormed interlocking.now.design.station interlocking.now.routes 64 plan.now.steps }
+    ensures { IfOk result (λ v. v
+        ≡ verdict_of interlocking.now.design.station interlocking.now.routes plan.now.steps ticks) }
+{
+    let paths = paths_of(alloc, interlocking, plan)?;
+    let given = Itineraries {
+        interlocking,
+        paths: paths.as_slice(),
+    };
+    let courses = given.courses(alloc)?;
+    let courses = Courses {
+        given,
+        courses: courses.as_slice(),
+    };
+    let planned = PlannedCourses { courses, plan };
+    let journeys = planned.journeys(alloc)?;
+    let run = Run {
+        interlocking,
+        plan,
+        journeys: journeys.as_slice(),
+    };
+    verdict(&run, alloc, ticks)
+}
+
 /// What so many ticks of a run show of a plan: that it meets the design, that it fails and why, or nothing yet. The
 /// history ends with the deciding tick.
 ///
@@ -107,17 +137,5 @@ pub fn simulate(
     ensures apart { is_executable interlocking.now.design.station interlocking.now.routes plan.now.steps ≡ true
         → (k : ℕ) → Clash interlocking.now.design.station interlocking.now.routes plan.now.steps k → ⊥ }
 {
-    let given = Itineraries { interlocking, plan };
-    let courses = given.courses(alloc)?;
-    let courses = Courses {
-        given,
-        courses: courses.as_slice(),
-    };
-    let journeys = courses.journeys(alloc)?;
-    let run = Run {
-        interlocking,
-        plan,
-        journeys: journeys.as_slice(),
-    };
-    verdict(&run, alloc, ticks)
+    run_plan(alloc, interlocking, plan, ticks)
 }

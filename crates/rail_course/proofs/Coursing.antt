@@ -1,7 +1,8 @@
 -- The courses of all trains, by their numbers, and what stands before a command on its path.
-use Rattle.std.proofs.Common.{◌≡◌, ℕ, zero, suc, ◌+◌, ◌-◌, ◌<◌, ◌≤◌, Bool, true, false, ◌||◌, if◌then◌else◌, List, [], ◌∷◌, ◌++◌, map, flat_map, length, take, fold, max, get_or, drop, sum_by, refl, sym, ap, ◌∙◌, append_assoc, arith, length-append}
+use Rattle.std.proofs.Common.{◌≡◌, ℕ, zero, suc, ◌+◌, ◌-◌, ◌<◌, ◌≤◌, Bool, true, false, ◌||◌, if◌then◌else◌, List, [], ◌∷◌, ◌++◌, map, flat_map, length, take, fold, max, get_or, drop, sum_by, refl, sym, ap, ◌∙◌, append_assoc, arith, length-append, ◌^◌, ◌⊎◌, inl, inr}
 use Rattle.std.specs.List.{list_any}
-use Rattle.std.proofs.lemmas.List.{map-append, drop_more}
+use Rattle.std.proofs.Math.Path.{fun_ext}
+use Rattle.std.proofs.lemmas.List.{append-nil, map-append, drop_more}
 use Rattle.std.proofs.lemmas.List.Sums.{sum_by-cons}
 use Rattle.rail_base.specs.declared.station.Station.{Station}
 use Rattle.rail_base.specs.declared.station.SectionNo.{SectionNo}
@@ -9,12 +10,12 @@ use Rattle.rail_base.specs.declared.station.TrainNo.{TrainNo}
 use Rattle.rail_base.specs.declared.route.Route.{Route}
 use Rattle.rail_base.specs.declared.route.RouteNo.{RouteNo}
 use Rattle.rail_base.specs.declared.plan.Command.{Command}
-use Rattle.rail_base.specs.Numbering.{count_from, before_first}
-use Rattle.rail_base.specs.Stations.{IsTrain}
-use Rattle.rail_spec.specs.Plans.{path, path_routes, is_route}
-use Rattle.rail_spec.specs.Run.{routes_before}
+use Rattle.rail_base.specs.Numbering.{count_from, before_first, entry}
+use Rattle.rail_base.specs.Stations.{IsTrain, trains}
+use Rattle.rail_spec.specs.Plans.{is_route}
+use Rattle.rail_spec.specs.Dispatches.{Dispatch, routes_before}
 use Rattle.rail_base.specs.Routes.{route_at, length_mm, exits, release_offset}
-use Rattle.rail_base.proofs.Members.{get_or-counted}
+use Rattle.rail_base.proofs.Members.{below_or_not, get_or-counted, get_or-counted_past, map-map}
 use Rattle.rail_base.proofs.Lists.{length-map}
 use Rattle.rail_course.specs.declared.course.Course.{Course}
 use Rattle.rail_course.specs.declared.fronts.Front.{Front}
@@ -32,11 +33,46 @@ length-count : (a n : ℕ) → length (count_from a n) ≡ n
 length-count a zero = refl
 length-count a (suc n) = ap suc (length-count (a + 1) n)
 
+-- the trains of these numbers
+abbrev pub numbered : ℕ → ℕ → List TrainNo
+numbered a n = map (λ n. record { 0 = n }) (count_from a n)
+
+-- ---- paths by the numbers of their trains
+
+-- the path of one more train
+pub paths_step : (f : TrainNo → List RouteNo) (old new : List (List RouteNo)) (n many : ℕ) (path : List RouteNo) (all : List (List RouteNo)) → n < many + 1 → new ≡ old ++ path ∷ [] → path ≡ f (record { 0 = n })
+    → old ++ map f (numbered n (many + 1 - n)) ≡ all → new ++ map f (numbered (n + 1) (many + 1 - (n + 1))) ≡ all
+paths_step f old new n many path all less made same before =
+    let rest = map f (numbered (n + 1) (many + 1 - (n + 1))) in
+    ap (λ ps. ps ++ rest) made ∙ append_assoc old (path ∷ []) rest ∙ ap (λ p. old ++ (p ∷ rest)) same
+    ∙ ap (λ ns. old ++ map f (map (λ (n : ℕ). record { 0 = n }) ns)) (sym (count_step n many less)) ∙ before
+
+pub paths_done : (f : TrainNo → List RouteNo) (old : List (List RouteNo)) (n many : ℕ) (all : List (List RouteNo)) → many + 1 ≤ n → old ++ map f (numbered n (many + 1 - n)) ≡ all → old ≡ all
+paths_done f old n many all past left = let none : many + 1 - n ≡ 0 = omega arith in sym (append-nil old) ∙ ap (λ k. old ++ map f (numbered n k)) (sym none) ∙ left
+
+pub many_trains : (d : Station) → length (trains d) ≡ length d.trains
+many_trains d = length-map (λ (n : ℕ). record { 0 = n }) (count_from 1 (length d.trains)) ∙ length-count 1 (length d.trains)
+
+-- paths by number are those of all trains, where no other has one
+pub path_of_number : (d : Station) (f : TrainNo → List RouteNo) (paths : List (List RouteNo)) → paths ≡ map f (trains d) → ((t : TrainNo) → (IsTrain d t → ⊥) → f t ≡ []) → (λ t. entry [] paths t.0) ≡ f
+path_of_number d f paths all none = fun_ext at
+  where
+    at : (t : TrainNo) → entry [] paths t.0 ≡ f t
+    at t = ap (λ ps. entry [] ps t.0) all ∙ ap (λ ps. entry [] ps t.0) (map-map f (λ (n : ℕ). record { 0 = n }) (count_from 1 (length d.trains))) ∙ go t.0
+      where
+        go : (n : ℕ) → entry [] (map (λ (m : ℕ). f (record { 0 = m })) (count_from 1 (length d.trains))) n ≡ f (record { 0 = n })
+        go zero = sym (none (record { 0 = 0 }) (λ h. let low = h.0 in absurd (omega arith)))
+        go (suc i) = which (below_or_not i (length d.trains))
+          where
+            which : (i < length d.trains) ⊎ (length d.trains ≤ i) → get_or (map (λ (m : ℕ). f (record { 0 = m })) (count_from 1 (length d.trains))) i [] ≡ f (record { 0 = suc i })
+            which (inl there) = let one : 1 + i ≡ suc i = omega arith in get_or-counted (λ (m : ℕ). f (record { 0 = m })) 1 (length d.trains) i [] there ∙ ap (λ (m : ℕ). f (record { 0 = m })) one
+            which (inr past) = get_or-counted_past (λ (m : ℕ). f (record { 0 = m })) 1 (length d.trains) i [] past ∙ sym (none (record { 0 = suc i }) (λ h. let high = h.1 in absurd (omega arith)))
+
 -- ---- courses by the numbers of their trains
 
-module _ (d : Station) (routes : List Route) (plan : List (List Command)) (cs : List Course) (h : AreCourses d routes plan cs) where
+module _ (d : Station) (routes : List Route) (path : TrainNo → List RouteNo) (cs : List Course) (h : AreCourses d routes path cs) where
   pub many_courses : length cs ≡ length d.trains
-  many_courses = sym (length-map (λ (c : Course). c.train) cs) ∙ ap length h.all ∙ length-map (λ (n : ℕ). record { 0 = n }) (count_from 1 (length d.trains)) ∙ length-count 1 (length d.trains)
+  many_courses = sym (length-map (λ (c : Course). c.train) cs) ∙ ap length h.all ∙ many_trains d
 
   at_map : (xs : List Course) (k : ℕ) (c : Course) (t : TrainNo) → k < length xs → (get_or xs k c).train ≡ get_or (map (λ (c : Course). c.train) xs) k t
   at_map [] k c t l = absurd (omega arith)
@@ -52,7 +88,7 @@ module _ (d : Station) (routes : List Route) (plan : List (List Command)) (cs : 
       let one : 1 + (t.0 - 1) ≡ t.0 = omega arith in
       at_map cs (t.0 - 1) c t (omega arith) ∙ ap (λ ts. get_or ts (t.0 - 1) t) h.all ∙ get_or-counted (λ (n : ℕ). record { 0 = n }) 1 (length d.trains) (t.0 - 1) t (omega arith) ∙ ap (λ (n : ℕ). record { 0 = n }) one
 
-  pub course_at : (t : TrainNo) (c : Course) → IsTrain d t → IsCourse d routes plan (get_or cs (t.0 - 1) c)
+  pub course_at : (t : TrainNo) (c : Course) → IsTrain d t → IsCourse d routes (path (get_or cs (t.0 - 1) c).train) (get_or cs (t.0 - 1) c)
   course_at t c there =
       let many = many_courses in
       let low = there.0 in
@@ -152,44 +188,45 @@ before_within test (x ∷ xs) = go (test x) (before_within test xs)
     go true l = omega arith
     go false l = omega arith
 
-module _ (d : Station) (routes : List Route) (plan : List (List Command)) (course : Course) (is : IsCourse d routes plan course) (e : Command) (same : course.train ≡ e.train) where
+module _ (d : Station) (routes : List Route) (p : Dispatch) (course : Course) (is : IsCourse d routes (p.path course.train) course) (e : Command) (same : course.train ≡ e.train) where
   abbrev test : RouteNo → Bool
   test = λ r. is_route r e.route
 
   abbrev number : ℕ
   number = length (before_first test course.path.items)
 
-  path_is : course.path.items ≡ path plan e.train
-  path_is = is.given ∙ ap (path plan) same
+  path_is : course.path.items ≡ p.path e.train
+  path_is = is.given ∙ ap p.path same
 
-  pub number_is : number ≡ length (routes_before d routes plan e)
-  number_is = ap (λ p. length (before_first test p)) path_is ∙ sym (length-map (route_at routes) (before_first test (path plan e.train)))
+  pub number_is : number ≡ length (routes_before d routes p e)
+  number_is = ap (λ rs. length (before_first test rs)) path_is ∙ sym (length-map (route_at routes) (before_first test (p.path e.train)))
 
-  number_within : number ≤ length (path_routes routes plan course.train)
+  number_within : number ≤ length (routes_at routes (p.path course.train))
   number_within =
       let l = before_within test course.path.items in
       let a = ap length is.given in
-      let b = length-map (route_at routes) (path plan course.train) in
+      let b = length-map (route_at routes) (p.path course.train) in
       omega arith
 
   pub number_fits : number < length course.fronts.items
-  number_fits = let l = number_within in let a = ap length is.parts in let b = many_fronts (path_routes routes plan course.train) in omega arith
+  number_fits = let l = number_within in let a = ap length is.parts in let b = many_fronts (routes_at routes (p.path course.train)) in omega arith
 
-  routes_before_is : take number (path_routes routes plan course.train) ≡ routes_before d routes plan e
+  routes_before_is : take number (routes_at routes (p.path course.train)) ≡ routes_before d routes p e
   routes_before_is =
-      ap (λ t. take number (path_routes routes plan t)) same ∙ take-map (route_at routes) number (path plan e.train)
-      ∙ ap (λ p. map (route_at routes) (take (length (before_first test p)) (path plan e.train))) path_is
-      ∙ ap (map (route_at routes)) (before_take test (path plan e.train))
+      ap (λ t. take number (routes_at routes (p.path t))) same ∙ take-map (route_at routes) number (p.path e.train)
+      ∙ ap (λ rs. map (route_at routes) (take (length (before_first test rs)) (p.path e.train))) path_is
+      ∙ ap (map (route_at routes)) (before_take test (p.path e.train))
 
-  pub front_is : (other : Front) → (get_or course.fronts.items number other).length ≡ sum_by length_mm (routes_before d routes plan e)
+  pub front_is : (other : Front) → (get_or course.fronts.items number other).length ≡ sum_by length_mm (routes_before d routes p e)
   front_is other =
-      let there : get_or course.fronts.items number other ≡ front_of (take number (path_routes routes plan course.train)) = ap (λ fs. get_or fs number other) is.parts ∙ front_at (path_routes routes plan course.train) number other number_within in
+      let there : get_or course.fronts.items number other ≡ front_of (take number (routes_at routes (p.path course.train))) = ap (λ fs. get_or fs number other) is.parts ∙ front_at (routes_at routes (p.path course.train)) number other number_within in
       ap (λ (g : Front). g.length) there ∙ ap (sum_by length_mm) routes_before_is
 
-  pub before_short : sum_by length_mm (routes_before d routes plan e) ≤ way routes (path plan e.train)
+  pub before_short : sum_by length_mm (routes_before d routes p e) < 2 ^ 47
   before_short =
-      let l = way_within routes number (path plan e.train) in
-      let s = ap (sum_by length_mm) (ap (λ t. take number (path_routes routes plan t)) (sym same) ∙ routes_before_is) in
+      let l = way_within routes number (p.path course.train) in
+      let s = ap (sum_by length_mm) routes_before_is in
+      let h = is.range.short in
       omega arith
 
 pub wait_same : (t : TrainNo) (a b m n : ℕ) → a ≡ b → m ≡ n → wait t a m ≡ wait t b n

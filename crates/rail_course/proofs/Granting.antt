@@ -1,9 +1,10 @@
 -- What is taken for granted of routes and paths holds of every well-formed plan of an admitted design.
-use Rattle.std.proofs.Common.{◌≡◌, ℕ, ◌<◌, ◌≤◌, ◌^◌, inl, inr, ◌&&◌, nat_le, List, [], ◌∷◌, length, All, nat_abs, ℤ, sum_by, get_or, refl, sym, subst, arith, leb-true, length-append}
+use Rattle.std.proofs.Common.{◌≡◌, ℕ, ◌<◌, ◌≤◌, ◌^◌, inl, inr, ◌&&◌, nat_le, List, [], ◌∷◌, map, length, All, nat_abs, ℤ, sum_by, get_or, refl, sym, ap, ◌∙◌, subst, arith, leb-true, length-append}
 use Rattle.std.proofs.lemmas.List.Sums.{sum_by-cons}
 use Rattle.rail_base.specs.declared.station.Station.{Station}
 use Rattle.rail_base.specs.declared.station.EdgeNo.{EdgeNo}
 use Rattle.rail_base.specs.declared.station.NodeNo.{NodeNo}
+use Rattle.rail_base.specs.declared.station.TrainNo.{TrainNo}
 use Rattle.rail_base.specs.declared.route.Route.{Route}
 use Rattle.rail_base.proofs.Admitting.{admitted}
 use Rattle.interlocking.specs.declared.railway.Interlocking.{Interlocking}
@@ -11,10 +12,10 @@ use Rattle.rail_base.specs.declared.route.RouteNo.{RouteNo}
 use Rattle.rail_base.specs.declared.plan.Command.{Command}
 use Rattle.rail_base.specs.Members.{In}
 use Rattle.rail_base.specs.Admitted.{IsAdmitted}
-use Rattle.rail_base.specs.Stations.{edge_of, length_of}
+use Rattle.rail_base.specs.Stations.{IsTrain, edge_of, length_of, trains}
 use Rattle.rail_base.specs.Routes.{IsRoute, no_route, route_at, length_mm}
 use Rattle.rail_base.proofs.Members.{and_left, and_right, list_all_at}
-use Rattle.rail_base.proofs.Lists.{in_flat_map, in_flat_map_back, in_map_back}
+use Rattle.rail_base.proofs.Lists.{in_flat_map, in_flat_map_back, in_map_back, length-map}
 use Rattle.rail_base.proofs.Contained.{in_at, contains_of_in}
 use Rattle.rail_spec.specs.Track.{routes_of}
 use Rattle.rail_spec.specs.Plans.{commands, path}
@@ -23,7 +24,8 @@ use Rattle.rail_spec.proofs.RouteLaws.{way_edges, route_is}
 use Rattle.rail_spec.proofs.Admits.{entry_is, good_route}
 use Rattle.rail_spec.proofs.Standing.{in_path}
 use Rattle.rail_spec.proofs.Small.{short_path, short_route}
-use Rattle.rail_course.specs.Tracks.{HasLimit, AreLaid, IsCommand, IsInRange, routes_at, edges_of, way}
+use Rattle.rail_course.specs.Tracks.{HasLimit, AreLaid, ArePaths, IsCommand, IsInRange, routes_at, edges_of, way}
+use Rattle.rail_course.proofs.Coursing.{many_trains}
 use Rattle.rail_course.proofs.Rating.{speed_small}
 
 pub all_from_in : {X : Type 0} (P : X → Type 0) (xs : List X) → ((x : X) → In x xs → P x) → All P xs
@@ -87,16 +89,64 @@ module _ (d : Station) (adm : IsAdmitted d) where
           (leb-true 1 c.route.0 (and_right (nat_le 1 c.train.0 && nat_le c.train.0 (length d.trains)) (nat_le 1 c.route.0) f), leb-true c.route.0 (length (routes_of d)) (and_right (nat_le 1 c.train.0 && nat_le c.train.0 (length d.trains) && nat_le 1 c.route.0) (nat_le c.route.0 (length (routes_of d))) h)),
         )
 
-    pub in_range : IsInRange d (routes_of d) plan
-    in_range = record {
-      laid = laid;
-      commands = all_from_in (λ step. All (IsCommand d (routes_of d)) step) plan (λ step m. all_from_in (IsCommand d (routes_of d)) step (λ c i. command_is c (in_flat_map (λ (s : List Command). s) plan step c m i)));
-      named = λ t. all_from_in (IsRoute (routes_of d)) (path plan t) (λ r m. (command_is (record { train = t; route = r }) (in_path t plan r m)).1);
-      short = λ t. let s = short_path d adm n plan formed many t in omega arith;
-      brief = λ r. entry_is (λ (q : Route). length_mm q < 2 ^ 47) no_route (routes_of d) r.0 (omega arith) (λ q m. let s = short_route d adm q m in omega arith);
-      few = λ t. let s = short_path d adm n plan formed many t in let e = edges_few (path plan t) in omega arith;
+    pub named : All (λ step. All (IsCommand d (routes_of d)) step) plan
+    named = all_from_in (λ step. All (IsCommand d (routes_of d)) step) plan (λ step m. all_from_in (IsCommand d (routes_of d)) step (λ c i. command_is c (in_flat_map (λ (s : List Command). s) plan step c m i)))
+
+    pub in_range : (t : TrainNo) → IsInRange (routes_of d) (path plan t)
+    in_range t = record {
+      named = all_from_in (IsRoute (routes_of d)) (path plan t) (λ r m. (command_is (record { train = t; route = r }) (in_path t plan r m)).1);
+      short = (let s = short_path d adm n plan formed many t in omega arith);
     }
 
--- the routes of an interlocking are laid
-pub laid_out : (i : Interlocking) → AreLaid i.design.station i.routes
-laid_out i = subst (AreLaid i.design.station) (sym i.table) (laid i.design.station (admitted i.design.station i.design.admitted))
+-- ---- over an interlocking
+
+module _ (i : Interlocking) where
+  abbrev station : Station
+  station = i.design.station
+
+  adm : IsAdmitted station
+  adm = admitted station i.design.admitted
+
+  -- its routes are laid
+  pub laid_out : AreLaid station i.routes
+  laid_out = subst (AreLaid station) (sym i.table) (laid station adm)
+
+  pub brief : (r : RouteNo) → length_mm (route_at i.routes r) < 2 ^ 47
+  brief r = subst (λ rs. length_mm (route_at rs r) < 2 ^ 47) (sym i.table)
+      (entry_is (λ (q : Route). length_mm q < 2 ^ 47) no_route (routes_of station) r.0 (omega arith) (λ q m. let s = short_route station adm q m in omega arith))
+
+  pub few_edges : (path : List RouteNo) → length (edges_of i.routes path) ≤ way i.routes path
+  few_edges path = subst (λ rs. length (edges_of rs path) ≤ way rs path) (sym i.table) (edges_few station adm path)
+
+  -- what a well-formed plan has
+  module _ (plan : List (List Command)) (formed : IsWellFormed station i.routes 64 plan) where
+    there : IsWellFormed station (routes_of station) 64 plan
+    there = subst (λ rs. IsWellFormed station rs 64 plan) i.table formed
+
+    few : length (routes_of station) ≤ 2000
+    few = subst (λ rs. length rs ≤ 2000) i.table i.few
+
+    pub plan_named : All (λ step. All (IsCommand station i.routes) step) plan
+    plan_named = subst (λ rs. All (λ step. All (IsCommand station rs) step) plan) (sym i.table) (named station adm 64 plan there few)
+
+    pub plan_in_range : (t : TrainNo) → IsInRange i.routes (path plan t)
+    plan_in_range = subst (λ rs. (t : TrainNo) → IsInRange rs (path plan t)) (sym i.table) (in_range station adm 64 plan there few)
+
+-- paths in range are those of all trains
+pub paths_are : (d : Station) (routes : List Route) (f : TrainNo → List RouteNo) → ((t : TrainNo) → IsInRange routes (f t)) → (paths : List (List RouteNo)) → paths ≡ map f (trains d) → ArePaths d routes f paths
+paths_are d routes f range paths all = record {
+  all = all;
+  many = ap length all ∙ length-map f (trains d) ∙ many_trains d;
+  range = subst (All (IsInRange routes)) (sym all) (all_from_in (IsInRange routes) (map f (trains d)) (λ ps m. let k = in_map_back f (trains d) ps m in subst (IsInRange routes) k.2 (range k.0)));
+}
+
+-- who is no train has no path in a plan whose commands name trains
+pub no_path : (d : Station) (routes : List Route) (plan : List (List Command)) → All (λ step. All (IsCommand d routes) step) plan → (t : TrainNo) → (IsTrain d t → ⊥) → path plan t ≡ []
+no_path d routes plan named t out = none (path plan t) (λ r m. out (at (in_flat_map_back (λ (s : List Command). s) plan (record { train = t; route = r }) (in_path t plan r m))))
+  where
+    none : (rs : List RouteNo) → ((r : RouteNo) → In r rs → ⊥) → rs ≡ []
+    none [] h = refl
+    none (r ∷ rs) h = absurd (h r (inl refl))
+
+    at : {r : RouteNo} → (step : List Command) × In step plan × In (record { train = t; route = r }) step → IsTrain d t
+    at (step, m, k) = (in_from_all (IsCommand d routes) step (in_from_all (λ step. All (IsCommand d routes) step) plan named step m) _ k).0

@@ -5,4 +5,5 @@ pub mod Rises
 pub mod Granting
 pub mod Waiting
 pub mod Coursing
+pub mod Fronting
 pub mod Gathering

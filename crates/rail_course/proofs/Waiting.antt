@@ -12,10 +12,10 @@ use Rattle.rail_base.specs.Stations.{train_length}
 use Rattle.rail_base.specs.Routes.{route_at, shared, share, has_section, sections, release_offset, length_mm}
 use Rattle.rail_base.proofs.Members.{and_left, and_right, and_both, list_any_gives, in_filter, same_bool, in_filter}
 use Rattle.rail_base.proofs.Lists.{in_map, in_filter_back}
-use Rattle.rail_spec.specs.Plans.{contend, step_of, precedes, preceding, commands}
-use Rattle.rail_spec.specs.Dispatches.{state_of}
-use Rattle.rail_spec.specs.Run.{routes_before, is_granted, has_released, has_cleared, is_ready}
-use Rattle.rail_course.specs.Waits.{is_over, wait_for, waits_of}
+use Rattle.rail_spec.specs.Plans.{contend, step_of, precedes, commands}
+use Rattle.rail_spec.specs.Dispatches.{Dispatch, state_of, routes_before, is_granted, has_released, has_cleared, is_ready}
+use Rattle.rail_spec.specs.Run.{of_plan}
+use Rattle.rail_course.specs.Waits.{IsContending, is_over, wait_for, waits_of}
 
 pub list_all-same : {X : Type 0} (p q : X → Bool) (xs : List X) → ((x : X) → In x xs → p x ≡ q x) → list_all p xs ≡ list_all q xs
 list_all-same p q [] h = refl
@@ -49,27 +49,28 @@ all_and : {X : Type 0} (g : Bool) (p : X → Bool) (z : X) (zs : List X) → lis
 all_and false p z zs = refl
 all_and true p z zs = refl
 
-module _ (d : Station) (routes : List Route) (plan : List (List Command)) (s : List TrainState) where
+module _ (d : Station) (routes : List Route) (p : Dispatch) (s : List TrainState) where
   some_shared : (r q : Route) → share r q ≡ true → (z : SectionNo) × In z (shared r q)
   some_shared r q h = let f = list_any_gives (λ p. has_section q p.0) r.sections h in (f.0.0, in_filter (has_section q) (sections r) f.0.0 (in_map (λ p. p.0) r.sections f.0 f.1) f.2)
 
-  pub over_when_cleared : (c e : Command) → share (route_at routes e.route) (route_at routes c.route) ≡ true → has_cleared d routes plan s c e ≡ is_over s (wait_for d routes plan c e)
+  pub over_when_cleared : (c e : Command) → share (route_at routes e.route) (route_at routes c.route) ≡ true → has_cleared d routes p s c e ≡ is_over s (wait_for d routes p c e)
   over_when_cleared c e h = go (shared (route_at routes e.route) (route_at routes c.route)) (some_shared (route_at routes e.route) (route_at routes c.route) h).1
     where
       go : (zs : List SectionNo) → In (some_shared (route_at routes e.route) (route_at routes c.route) h).0 zs
-          → list_all (has_released d routes plan s e) zs ≡ (is_granted d routes plan s e && nat_le (sum_by length_mm (routes_before d routes plan e) + fold max 0 (map (release_offset (route_at routes e.route)) zs) + train_length d e.train) (state_of s e.train).x)
+          → list_all (has_released d routes p s e) zs ≡ (is_granted d routes p s e && nat_le (sum_by length_mm (routes_before d routes p e) + fold max 0 (map (release_offset (route_at routes e.route)) zs) + train_length d e.train) (state_of s e.train).x)
       go [] m = absurd m
       go (z ∷ zs) m =
-          all_and (is_granted d routes plan s e) (λ y. nat_le (sum_by length_mm (routes_before d routes plan e) + release_offset (route_at routes e.route) y + train_length d e.train) (state_of s e.train).x) z zs
-          ∙ ap (λ b. is_granted d routes plan s e && b) (past_greatest (release_offset (route_at routes e.route)) (sum_by length_mm (routes_before d routes plan e)) (train_length d e.train) (state_of s e.train).x z zs)
+          all_and (is_granted d routes p s e) (λ y. nat_le (sum_by length_mm (routes_before d routes p e) + release_offset (route_at routes e.route) y + train_length d e.train) (state_of s e.train).x) z zs
+          ∙ ap (λ b. is_granted d routes p s e && b) (past_greatest (release_offset (route_at routes e.route)) (sum_by length_mm (routes_before d routes p e)) (train_length d e.train) (state_of s e.train).x z zs)
 
-  pub ready_when_over : (c : Command) → is_ready d routes plan s c ≡ list_all (is_over s) (waits_of d routes plan c)
-  ready_when_over c =
-      list_all-same (has_cleared d routes plan s c) (λ e. is_over s (wait_for d routes plan c e)) (preceding routes plan c) one
-      ∙ sym (list_all-map (is_over s) (wait_for d routes plan c) (preceding routes plan c))
-    where
-      one : (e : Command) → In e (preceding routes plan c) → has_cleared d routes plan s c e ≡ is_over s (wait_for d routes plan c e)
-      one e m =
-          let before = (in_filter_back (λ e. precedes routes plan e c) (commands plan) e m).1 in
-          let both = and_left (contend routes e c) (nat_lt (step_of plan e) (step_of plan c)) before in
-          over_when_cleared c e (and_right _ (share (route_at routes e.route) (route_at routes c.route)) both)
+  pub ready_when_over : IsContending d routes p → (c : Command) → is_ready d routes p s c ≡ list_all (is_over s) (waits_of d routes p c)
+  ready_when_over contending c =
+      list_all-same (has_cleared d routes p s c) (λ e. is_over s (wait_for d routes p c e)) (p.before c) (λ e m. over_when_cleared c e (contending c e m))
+      ∙ sym (list_all-map (is_over s) (wait_for d routes p c) (p.before c))
+
+-- in a plan each command shares a section with those that it waits for
+pub plan_contending : (d : Station) (routes : List Route) (plan : List (List Command)) → IsContending d routes (of_plan routes plan)
+plan_contending d routes plan c e m =
+    let before = (in_filter_back (λ e. precedes routes plan e c) (commands plan) e m).1 in
+    let both = and_left (contend routes e c) (nat_lt (step_of plan e) (step_of plan c)) before in
+    and_right _ (share (route_at routes e.route) (route_at routes c.route)) both

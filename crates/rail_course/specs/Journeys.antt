@@ -2,21 +2,20 @@
 use Rattle.std.specs.Prelude.{◌≡◌, List, All, map}
 use Rattle.rail_base.specs.declared.station.Station.{Station}
 use Rattle.rail_base.specs.declared.route.Route.{Route}
-use Rattle.rail_base.specs.declared.plan.Command.{Command}
 use Rattle.rail_base.specs.Stations.{trains}
+use Rattle.rail_spec.specs.Dispatches.{Dispatch}
 use Rattle.rail_course.specs.declared.journey.Journey.{Journey}
 use Rattle.rail_course.specs.Courses.{IsCourse}
 use Rattle.rail_course.specs.Waits.{waits_of_train}
 use Rattle.rail_course.specs.Releases.{releases_of_train}
 
 -- the journey is that of its train
-pub record IsJourney (d : Station) (routes : List Route) (plan : List (List Command)) (j : Journey) : Type 0 where
-  pub course : IsCourse d routes plan j.course.now
-  pub waiting : map (λ v. v.items) j.waits.items ≡ waits_of_train d routes plan j.course.now.train
-  pub releasing : j.releases.items ≡ releases_of_train d routes plan j.course.now.train
+pub record IsJourney (d : Station) (routes : List Route) (p : Dispatch) (j : Journey) : Type 0 where
+  pub course : IsCourse d routes (p.path j.course.now.train) j.course.now
+  pub waiting : map (λ v. v.items) j.waits.items ≡ waits_of_train d routes p j.course.now.train
+  pub releasing : j.releases.items ≡ releases_of_train d routes p j.course.now.train
 
 -- these are the journeys of all trains, in file order
-pub record AreJourneys (d : Station) (routes : List Route) (plan : List (List Command))
-    (js : List Journey) : Type 0 where
+pub record AreJourneys (d : Station) (routes : List Route) (p : Dispatch) (js : List Journey) : Type 0 where
   pub all : map (λ (j : Journey). j.course.now.train) js ≡ trains d
-  pub each : All (IsJourney d routes plan) js
+  pub each : All (IsJourney d routes p) js

@@ -7,3 +7,4 @@ pub mod Waits
 pub mod Releases
 pub mod Journeys
 pub mod Itineraries
+pub mod Planned

@@ -7,9 +7,8 @@ use Rattle.rail_base.specs.declared.station.TrainNo.{TrainNo}
 use Rattle.rail_base.specs.declared.route.Route.{Route}
 use Rattle.rail_base.specs.declared.route.RouteNo.{RouteNo}
 use Rattle.rail_base.specs.declared.plan.Command.{Command}
-use Rattle.rail_base.specs.Stations.{IsEdge, IsTrain, edge_of, length_of, per_tick_speed}
+use Rattle.rail_base.specs.Stations.{IsEdge, IsTrain, edge_of, length_of, per_tick_speed, trains}
 use Rattle.rail_base.specs.Routes.{IsRoute, route_at, length_mm, release_offset}
-use Rattle.rail_spec.specs.Plans.{path}
 
 -- the edge is there, has a length, and has a limit of 1 to 100,000 mm per tick
 pub record HasLimit (d : Station) (e : EdgeNo) : Type 0 where
@@ -45,11 +44,14 @@ edges_of routes path = flat_map (λ r. r.edges) (routes_at routes path)
 abbrev pub way : List Route → List RouteNo → ℕ
 way routes path = sum_by length_mm (routes_at routes path)
 
--- what the run of a plan takes for granted: its commands name trains and routes, and its paths are short enough
-pub record IsInRange (d : Station) (routes : List Route) (plan : List (List Command)) : Type 0 where
-  pub laid : AreLaid d routes
-  pub commands : All (λ step. All (IsCommand d routes) step) plan
-  pub named : (t : TrainNo) → All (IsRoute routes) (path plan t)
-  pub short : (t : TrainNo) → way routes (path plan t) < 2 ^ 47
-  pub brief : (r : RouteNo) → length_mm (route_at routes r) < 2 ^ 47
-  pub few : (t : TrainNo) → length (edges_of routes (path plan t)) < 2 ^ 47
+-- what a run takes for granted of a path: its routes are there, and it is short enough
+pub record IsInRange (routes : List Route) (path : List RouteNo) : Type 0 where
+  pub named : All (IsRoute routes) path
+  pub short : way routes path < 2 ^ 47
+
+-- these are the paths of all trains, in file order
+pub record ArePaths (d : Station) (routes : List Route) (path : TrainNo → List RouteNo)
+    (paths : List (List RouteNo)) : Type 0 where
+  pub all : paths ≡ map path (trains d)
+  pub many : length paths ≡ length d.trains
+  pub range : All (IsInRange routes) paths

@@ -2,7 +2,8 @@
 
 ghost use Rattle.std.specs.Prelude.{◌≡◌, IfOk};
 ghost use Rattle.rail_base.specs.Stations.{IsTrain};
-ghost use Rattle.rail_course.specs.Itineraries.{AreCoursesIn, IsCourseIn};
+ghost use Rattle.rail_course.specs.Itineraries.{AreCoursesIn, IsCourseIn, path_in};
+ghost use Rattle.rail_course.specs.Tracks.{IsInRange};
 
 use crate::fronts::{Front, fronts_of};
 use crate::itineraries::Itineraries;
@@ -13,7 +14,6 @@ use rail_base::route::RouteNo;
 use rail_base::state::Stop;
 use rail_base::station::TrainNo;
 use rail_motion::{Motor, Span};
-use rail_plan::paths::path_of;
 use std::alloc::{AllocError, Global};
 
 /// A train with its path, and what is worked out of them once.
@@ -23,7 +23,7 @@ pub struct Course {
     /// The length of the train, in mm.
     pub length: u64,
     pub motor: Motor,
-    /// The routes given to the train, in order.
+    /// The routes of the train's path, in order.
     pub path: Vec<RouteNo>,
     /// The fronts of the path, by how many routes they have.
     pub fronts: Vec<Front>,
@@ -35,7 +35,16 @@ pub struct Course {
     pub visits: Vec<Option<Stop>>,
 }
 
-impl Itineraries<'_> {
+impl<'a> Itineraries<'a> {
+    /// The path of a train.
+    fn path(&self, train: TrainNo) -> &'a [RouteNo]
+        requires { IsTrain self.now.interlocking.now.design.station train }
+        ensures path { result.now ≡ path_in self.now train }
+        ensures range { IsInRange self.now.interlocking.now.routes result.now }
+    {
+        self.paths[train.0 as usize - 1].as_slice()
+    }
+
     /// The course of a train.
     fn course_of(&self, alloc: Global, train: TrainNo) -> Result<Course, AllocError>
         requires train { IsTrain self.now.interlocking.now.design.station train }
@@ -43,16 +52,16 @@ impl Itineraries<'_> {
         ensures train { IfOk result (λ c. c.train ≡ train) }
     {
         let design = &self.interlocking.design;
-        let path = path_of(alloc, self.plan, train)?;
-        let fronts = fronts_of(alloc, &self.interlocking.routes, &path)?;
-        let spans = spans_of(alloc, self.interlocking, &path)?;
-        let stops = stops_of(alloc, self.interlocking, &path)?;
+        let path = self.path(train);
+        let fronts = fronts_of(alloc, &self.interlocking.routes, path)?;
+        let spans = spans_of(alloc, self.interlocking, path)?;
+        let stops = stops_of(alloc, self.interlocking, path)?;
         let visits = visits_of(alloc, design.train(train).visits.as_slice(), &stops)?;
         Ok(Course {
             train,
             length: u64::from(design.vehicle_of(train).length_mm),
             motor: motor_of(design, train),
-            path,
+            path: path.to_vec(alloc)?,
             fronts,
             spans,
             stops,

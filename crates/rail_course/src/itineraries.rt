@@ -1,14 +1,17 @@
-//! Plans that can be run.
+//! Paths that can be run.
 
+ghost use Rattle.std.specs.Prelude.{◌≡◌, All, length};
 ghost use Rattle.rail_course.specs.Tracks.{IsInRange};
 
 use interlocking::Interlocking;
-use rail_base::plan::Plan;
+use rail_base::list::List;
+use rail_base::route::RouteNo;
 
-/// A plan over an interlocking: its commands name trains and routes of it, and its paths are short enough.
+/// The paths of all trains over an interlocking, in file order. Their routes are there, and they are short enough.
 #[derive(Clone, Copy)]
 pub struct Itineraries<'a> {
     pub interlocking: &'a Interlocking,
-    pub plan: &'a Plan,
-    pub ghost range: { IsInRange interlocking.now.design.station interlocking.now.routes plan.now.steps },
+    pub paths: &'a [List<RouteNo>],
+    pub ghost many: { length paths.now ≡ length interlocking.now.design.station.trains },
+    pub ghost range: { All (IsInRange interlocking.now.routes) paths.now },
 }

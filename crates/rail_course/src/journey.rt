@@ -1,9 +1,9 @@
 //! The journeys of trains.
 
-ghost use Rattle.std.specs.Prelude.{◌≡◌, ◌++◌, IfOk, OnOk};
+ghost use Rattle.std.specs.Prelude.{◌≡◌, ◌++◌, IfOk, OnOk, map};
 ghost use Rattle.rail_base.specs.Routes.{IsRoute};
 ghost use Rattle.rail_base.specs.Stations.{IsTrain};
-ghost use Rattle.rail_course.specs.Itineraries.{AreJourneysIn, releases_in, route_releases_in};
+ghost use Rattle.rail_course.specs.Itineraries.{IsCourseIn, IsJourneyIn, releases_in, route_releases_in};
 
 use crate::course::Course;
 use crate::courses::Courses;
@@ -79,18 +79,22 @@ impl<'a> Courses<'a> {
         Ok(releases)
     }
 
-    /// The journeys of all trains, in file order, on their courses.
-    pub fn journeys(&self, alloc: Global) -> Result<Vec<Journey<'a>>, AllocError>
-        ensures { IfOk result (λ js. AreJourneysIn self.now.given js.items) }
+    /// The journey of a train on its course, where its commands wait so.
+    pub fn journey(
+        &self,
+        alloc: Global,
+        course: &'a Course,
+        waits: Vec<Vec<Wait>>,
+    ) -> Result<Journey<'a>, AllocError>
+        requires { IsCourseIn self.now.given course.now }
+        ensures course { IfOk result (λ j. j.course.now ≡ course.now) }
+        ensures journey { IfOk result (IsJourneyIn self.now.given course.now (map (λ w. w.items) waits.items)) }
     {
-        let mut journeys = Vec::new(alloc);
-        for course in self.courses {
-            journeys.push(Journey {
-                course,
-                waits: self.waits_of_train(alloc, course.train)?,
-                releases: self.releases_of_train(alloc, course.train)?,
-            })?;
-        }
-        Ok(journeys)
+        let releases = self.releases_of_train(alloc, course.train)?;
+        Ok(Journey {
+            course,
+            waits,
+            releases,
+        })
     }
 }

@@ -1,4 +1,4 @@
-//! Runs of plans, tick by tick.
+//! What runs need of each train, worked out once.
 #![tactic(auto)]
 
 mod course;
@@ -8,6 +8,8 @@ mod itineraries;
 mod journey;
 pub mod laws;
 mod motor;
+mod plan_waits;
+mod planned;
 mod spans;
 mod stops;
 mod waits;
@@ -18,6 +20,7 @@ pub use fronts::Front;
 pub use itineraries::Itineraries;
 pub use journey::{Journey, Release};
 pub use motor::motor_of;
+pub use planned::{PlannedCourses, paths_of};
 pub use spans::spans_of;
 pub use stops::{stops_of, visits_of};
 pub use waits::Wait;

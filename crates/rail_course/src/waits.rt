@@ -1,20 +1,16 @@
 //! What commands wait for.
 
-ghost use Rattle.std.specs.Prelude.{◌≡◌, ◌<◌, ◌≤◌, ◌^◌, ◌++◌, All, IfOk, OnOk, length, map, sum_by};
+ghost use Rattle.std.specs.Prelude.{◌≡◌, ◌<◌, ◌≤◌, ◌^◌, length, sum_by};
 ghost use Rattle.rail_base.specs.Routes.{IsRoute, length_mm};
 ghost use Rattle.rail_base.specs.Stations.{IsTrain};
 ghost use Rattle.rail_base.specs.Numbering.{before_first};
 ghost use Rattle.rail_spec.specs.Plans.{is_route};
-ghost use Rattle.rail_course.specs.Itineraries.{IsCommandIn, before_in};
-ghost use Rattle.rail_course.specs.Itineraries.{step_waits_in, train_waits_in, wait_in, waits_in};
+ghost use Rattle.rail_course.specs.Itineraries.{IsCommandIn, before_in, wait_in};
 
 use crate::courses::Courses;
-use rail_base::list::List;
 use rail_base::plan::Command;
 use rail_base::route::RouteNo;
 use rail_base::station::TrainNo;
-use rail_plan::paths::precedes;
-use std::alloc::{AllocError, Global};
 
 /// A wait for another train.
 #[derive(Clone, Copy, Debug)]
@@ -85,58 +81,5 @@ impl Courses<'_> {
             number: before.number,
             place: before.length + release + course.length,
         }
-    }
-
-    /// Adds the waits of a command for those of a step that precede it.
-    fn push_waits(
-        &self,
-        waits: &mut Vec<Wait>,
-        command: Command,
-        step: &List<Command>,
-    ) -> Result<(), AllocError>
-        requires command { IsRoute self.now.given.interlocking.now.routes command.route }
-        requires step { All (IsCommandIn self.now.given) step.now }
-        ensures { OnOk result (waits.new.items ≡ waits.old.items ++ step_waits_in self.now.given command step.now) }
-    {
-        let given = &self.given;
-        for other in step.as_slice() {
-            if precedes(given.interlocking, given.plan, *other, command) {
-                waits.push(self.wait_for(command, *other))?;
-            }
-        }
-        Ok(())
-    }
-
-    /// The waits of a command.
-    fn waits_of(&self, alloc: Global, command: Command) -> Result<Vec<Wait>, AllocError>
-        requires { IsRoute self.now.given.interlocking.now.routes command.route }
-        ensures { IfOk result (λ w. w.items ≡ waits_in self.now.given command) }
-    {
-        let mut waits = Vec::new(alloc);
-        for step in self.given.plan.steps.as_slice() {
-            self.push_waits(&mut waits, command, step)?;
-        }
-        Ok(waits)
-    }
-
-    /// The waits of each command of a train's path.
-    pub fn waits_of_train(
-        &self,
-        alloc: Global,
-        train: TrainNo,
-    ) -> Result<Vec<Vec<Wait>>, AllocError>
-        requires { IsTrain self.now.given.interlocking.now.design.station train }
-        ensures { IfOk result (λ w. map (λ v. v.items) w.items ≡ train_waits_in self.now.given train) }
-    {
-        let mut waits = Vec::new(alloc);
-        let course = self.course(train);
-        for route in &course.path {
-            let command = Command {
-                train,
-                route: *route,
-            };
-            waits.push(self.waits_of(alloc, command)?)?;
-        }
-        Ok(waits)
     }
 }

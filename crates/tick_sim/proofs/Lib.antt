@@ -1,5 +1,4 @@
 pub mod Reaching
-pub mod Fronting
 pub mod Marking
 pub mod Verdicting
 pub mod Lawful

@@ -17,12 +17,12 @@ use Rattle.std.proofs.lemmas.List.{map-append}
 use Rattle.rail_spec.specs.Visits.{is_passed}
 use Rattle.rail_spec.specs.Plans.{path}
 use Rattle.rail_spec.specs.Dispatches.{state_of}
-use Rattle.rail_spec.specs.Run.{state_at, pass_tick, passed, stops_of_train, visits_of_train}
+use Rattle.rail_spec.specs.Run.{of_plan, state_at, pass_tick, passed, stops_of_train, visits_of_train}
 use Rattle.rail_base.specs.declared.history.TrainHistory.{TrainHistory}
 use Rattle.rail_spec.specs.Histories.{grant_tick, granted, released, visit_made, train_history}
 use Rattle.rail_course.specs.declared.journey.Release.{Release}
-use Rattle.rail_course.specs.Releases.{release_for, releases_of_route, releases_of_train}
-use Rattle.tick_sim.specs.Marks.{is_released, mark_grants, mark_passes, mark_releases, mark_visits, made_now, made_or}
+use Rattle.rail_course.specs.Releases.{is_released, release_for, releases_of_route, releases_of_train}
+use Rattle.tick_sim.specs.Marks.{mark_grants, mark_passes, mark_releases, mark_visits, made_now, made_or}
 
 map-flat_map : {X Y Z : Type 0} (f : Y → Z) (g : X → List Y) (xs : List X) → map f (flat_map g xs) ≡ flat_map (λ x. map f (g x)) xs
 map-flat_map f g [] = refl
@@ -71,17 +71,17 @@ module _ (d : Station) (routes : List Route) (plan : List (List Command)) (t : T
   abbrev release : ℕ → Release → RouteNo × SectionNo × Option ℕ
   release k r = (r.route, r.section, least (λ i. is_released (now i) r) k)
 
-  pub released_is : (k : ℕ) → map (release k) (releases_of_train d routes plan t) ≡ released d routes plan k t
+  pub released_is : (k : ℕ) → map (release k) (releases_of_train d routes (of_plan routes plan) t) ≡ released d routes plan k t
   released_is k =
-      map-flat_map (release k) (releases_of_route d routes plan t) (path plan t)
-      ∙ flat_map-each (λ r. map (release k) (releases_of_route d routes plan t r)) _ (path plan t) (λ r. map-map (release k) (release_for d routes plan (record { train = t; route = r })) (sections (route_at routes r)))
+      map-flat_map (release k) (releases_of_route d routes (of_plan routes plan) t) (path plan t)
+      ∙ flat_map-each (λ r. map (release k) (releases_of_route d routes (of_plan routes plan) t r)) _ (path plan t) (λ r. map-map (release k) (release_for d routes (of_plan routes plan) (record { train = t; route = r })) (sections (route_at routes r)))
 
   releases_of : (k : ℕ) (rs : List Release) → mark_releases (now (suc k)) (suc k) rs (map (release k) rs) ≡ map (release (suc k)) rs
   releases_of k [] = refl
   releases_of k (r ∷ rs) = ap (λ xs. release (suc k) r ∷ xs) (releases_of k rs)
 
-  pub releases_marked : (k : ℕ) → mark_releases (now (suc k)) (suc k) (releases_of_train d routes plan t) (released d routes plan k t) ≡ released d routes plan (suc k) t
-  releases_marked k = ap (mark_releases (now (suc k)) (suc k) (releases_of_train d routes plan t)) (sym (released_is k)) ∙ releases_of k (releases_of_train d routes plan t) ∙ released_is (suc k)
+  pub releases_marked : (k : ℕ) → mark_releases (now (suc k)) (suc k) (releases_of_train d routes (of_plan routes plan) t) (released d routes plan k t) ≡ released d routes plan (suc k) t
+  releases_marked k = ap (mark_releases (now (suc k)) (suc k) (releases_of_train d routes (of_plan routes plan) t)) (sym (released_is k)) ∙ releases_of k (releases_of_train d routes (of_plan routes plan) t) ∙ released_is (suc k)
 
   -- ---- visits
 
@@ -132,7 +132,7 @@ module _ (d : Station) (routes : List Route) (plan : List (List Command)) (t : T
   -- what a run begins with
   pub history_begins : (g : List (RouteNo × Option ℕ)) (p : List (NodeNo × Option ℕ)) (r : List (RouteNo × SectionNo × Option ℕ)) (v : List (Option (NodeNo × ℕ)))
       → g ≡ map (λ x. (x, None)) (path plan t) → p ≡ map (λ (stop : Stop). (stop.node, None)) (stops_of_train d routes plan t)
-      → r ≡ map (λ (x : Release). (x.route, x.section, None)) (releases_of_train d routes plan t) → v ≡ map (λ x. None) (visits_of_train d routes plan t)
+      → r ≡ map (λ (x : Release). (x.route, x.section, None)) (releases_of_train d routes (of_plan routes plan) t) → v ≡ map (λ x. None) (visits_of_train d routes plan t)
       → told g p r v ≡ train_history d routes plan 0 t
   history_begins g p r v a b c e = told_same g _ p _ r _ v _ (a ∙ no_grants d routes plan t) b (c ∙ released_is d routes plan t 0) (e ∙ no_visits d routes plan t)
 
@@ -140,7 +140,7 @@ module _ (d : Station) (routes : List Route) (plan : List (List Command)) (t : T
   pub history_goes_on : (tick : ℕ) → 1 ≤ tick → (s : TrainState) → s ≡ state_of (state_at d routes plan tick) t → (old : TrainHistory) → old ≡ train_history d routes plan (tick - 1) t
       → (g : List (RouteNo × Option ℕ)) (p : List (NodeNo × Option ℕ)) (r : List (RouteNo × SectionNo × Option ℕ)) (v : List (Option (NodeNo × ℕ)))
       → g ≡ mark_grants s.granted tick old.grants → p ≡ mark_passes s tick (stops_of_train d routes plan t) old.passes
-      → r ≡ mark_releases s tick (releases_of_train d routes plan t) old.releases → v ≡ mark_visits s tick (visits_of_train d routes plan t) old.visits
+      → r ≡ mark_releases s tick (releases_of_train d routes (of_plan routes plan) t) old.releases → v ≡ mark_visits s tick (visits_of_train d routes plan t) old.visits
       → told g p r v ≡ train_history d routes plan tick t
   history_goes_on zero first s here old before g p r v a b c e = absurd (omega arith)
   history_goes_on (suc k) first s here old before g p r v a b c e =
@@ -149,5 +149,5 @@ module _ (d : Station) (routes : List Route) (plan : List (List Command)) (t : T
       told_same g _ p _ r _ v _
       (a ∙ ap₂ (λ (x : TrainState) (o : TrainHistory). mark_grants x.granted (suc k) o.grants) here was ∙ grants_marked d routes plan t k)
       (b ∙ ap₂ (λ (x : TrainState) (o : TrainHistory). mark_passes x (suc k) (stops_of_train d routes plan t) o.passes) here was ∙ passes_marked d routes plan t k)
-      (c ∙ ap₂ (λ (x : TrainState) (o : TrainHistory). mark_releases x (suc k) (releases_of_train d routes plan t) o.releases) here was ∙ releases_marked d routes plan t k)
+      (c ∙ ap₂ (λ (x : TrainState) (o : TrainHistory). mark_releases x (suc k) (releases_of_train d routes (of_plan routes plan) t) o.releases) here was ∙ releases_marked d routes plan t k)
       (e ∙ ap₂ (λ (x : TrainState) (o : TrainHistory). mark_visits x (suc k) (visits_of_train d routes plan t) o.visits) here was ∙ visits_marked d routes plan t k)

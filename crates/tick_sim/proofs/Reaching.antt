@@ -14,7 +14,7 @@ use Rattle.rail_spec.specs.Motion.{permitted}
 use Rattle.rail_spec.specs.Plans.{path, path_routes}
 use Rattle.rail_spec.specs.Feasible.{IsWellFormed}
 use Rattle.rail_spec.specs.Dispatches.{state_of, rates, stretches, authority}
-use Rattle.rail_spec.specs.Run.{state_at, granted_with, granted_after, moved, is_ready}
+use Rattle.rail_spec.specs.Run.{of_plan, state_at, granted_with, granted_after, moved, is_ready}
 use Rattle.rail_spec.proofs.Exclusion.{by_tick, idle_at_first}
 use Rattle.rail_spec.proofs.UnderWay.{still, next_grants, travels}
 use Rattle.rail_spec.proofs.Admits.{sound}
@@ -22,23 +22,21 @@ use Rattle.rail_spec.proofs.Small.{stays_small, IsSmall}
 use Rattle.rail_spec.proofs.Standing.{at_in}
 use Rattle.rail_course.specs.declared.waits.Wait.{Wait}
 use Rattle.rail_course.specs.Waits.{waits_of, waits_of_train}
-use Rattle.rail_course.specs.Tracks.{IsInRange}
-use Rattle.rail_course.proofs.Granting.{in_range}
-use Rattle.rail_course.proofs.Waiting.{ready_when_over}
+use Rattle.rail_course.proofs.Waiting.{plan_contending, ready_when_over}
 use Rattle.tick_sim.specs.Granting.{granted_on}
 use Rattle.tick_sim.specs.Runs.{CanMove, IsReached}
 
 module _ (d : Station) (routes : List Route) (plan : List (List Command)) where
   -- what the waits say is granted
-  pub granted_is : (s : List TrainState) (t : TrainNo) (ws : List (List Wait)) → ws ≡ waits_of_train d routes plan t → granted_on s (state_of s t).granted (slice_get ws (state_of s t).granted) ≡ granted_after d routes plan s t
+  pub granted_is : (s : List TrainState) (t : TrainNo) (ws : List (List Wait)) → ws ≡ waits_of_train d routes (of_plan routes plan) t → granted_on s (state_of s t).granted (slice_get ws (state_of s t).granted) ≡ granted_after d routes plan s t
   granted_is s t ws same =
       ap (λ w. granted_on s (state_of s t).granted (slice_get w (state_of s t).granted)) same
-      ∙ ap (granted_on s (state_of s t).granted) (slice_get-map (λ r. waits_of d routes plan (record { train = t; route = r })) (path plan t) (state_of s t).granted)
+      ∙ ap (granted_on s (state_of s t).granted) (slice_get-map (λ r. waits_of d routes (of_plan routes plan) (record { train = t; route = r })) (path plan t) (state_of s t).granted)
       ∙ go (slice_get (path plan t) (state_of s t).granted)
     where
-      go : (o : Option RouteNo) → granted_on s (state_of s t).granted (option_map (λ r. waits_of d routes plan (record { train = t; route = r })) o) ≡ granted_with d routes plan s t o
+      go : (o : Option RouteNo) → granted_on s (state_of s t).granted (option_map (λ r. waits_of d routes (of_plan routes plan) (record { train = t; route = r })) o) ≡ granted_with d routes plan s t o
       go None = refl
-      go (Some r) = ap (λ b. if b then (state_of s t).granted + 1 else (state_of s t).granted) (sym (ready_when_over d routes plan s (record { train = t; route = r })))
+      go (Some r) = ap (λ b. if b then (state_of s t).granted + 1 else (state_of s t).granted) (sym (ready_when_over d routes (of_plan routes plan) s (plan_contending d routes plan) (record { train = t; route = r })))
 
   -- no train is granted more than its path
   grants_within : (s : List TrainState) (t : TrainNo) → (state_of s t).granted ≤ length (path plan t) → granted_after d routes plan s t ≤ length (path plan t)
@@ -90,8 +88,3 @@ pub can_move_on : (d : Station) → IsAdmitted d → (routes : List Route) → r
 can_move_on d adm routes same plan =
     let P : List Route → Type 0 = λ rs. IsWellFormed d rs 64 plan → (s : List TrainState) → IsReached d rs plan s → (t : TrainNo) → IsTrain d t → CanMove d rs plan t (granted_after d rs plan s t) (state_of s t) in
     subst P (sym same) (λ f s r t n. can_move d adm plan f s r t n)
-
-pub run_in_range : (d : Station) → IsAdmitted d → (routes : List Route) → routes ≡ routes_of d → length routes ≤ 2000 → (plan : List (List Command)) → IsWellFormed d routes 64 plan → IsInRange d routes plan
-run_in_range d adm routes same few plan =
-    let P : List Route → Type 0 = λ rs. length rs ≤ 2000 → IsWellFormed d rs 64 plan → IsInRange d rs plan in
-    (subst P (sym same) (λ l f. in_range d adm 64 plan f l)) few

@@ -1,5 +1,5 @@
 -- One more tick of a history: what has its tick keeps it, and what comes by now gets this one.
-use Rattle.std.specs.Prelude.{ℕ, Bool, true, false, ◌&&◌, nat_le, nat_lt, List, map, Option, None, Some}
+use Rattle.std.specs.Prelude.{ℕ, Bool, true, false, nat_lt, List, map, Option, None, Some}
 use Rattle.std.specs.List.{enumerate_from, zip}
 use Rattle.rail_base.specs.declared.station.NodeNo.{NodeNo}
 use Rattle.rail_base.specs.declared.station.SectionNo.{SectionNo}
@@ -9,10 +9,7 @@ use Rattle.rail_base.specs.declared.state.TrainState.{TrainState}
 use Rattle.rail_base.specs.Numbering.{or_this}
 use Rattle.rail_spec.specs.Visits.{is_passed}
 use Rattle.rail_course.specs.declared.journey.Release.{Release}
-
--- the release has come
-abbrev pub is_released : TrainState → Release → Bool
-is_released s r = nat_lt r.number s.granted && nat_le r.place s.x
+use Rattle.rail_course.specs.Releases.{is_released}
 
 -- so many commands are granted by now
 abbrev pub mark_grants : ℕ → ℕ → List (RouteNo × Option ℕ) → List (RouteNo × Option ℕ)

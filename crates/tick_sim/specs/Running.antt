@@ -9,7 +9,7 @@ use Rattle.rail_base.specs.declared.station.TrainNo.{TrainNo}
 use Rattle.rail_spec.specs.Histories.{history_at, train_history, verdict_of}
 use Rattle.rail_spec.specs.Plans.{path_routes}
 use Rattle.rail_spec.specs.Requirements.{path_violation}
-use Rattle.rail_spec.specs.Run.{granted_after, moved, state_at, tick}
+use Rattle.rail_spec.specs.Run.{granted_after, moved, of_plan, state_at, tick}
 use Rattle.rail_course.specs.declared.journey.Journey.{Journey}
 use Rattle.rail_course.specs.Journeys.{IsJourney}
 use Rattle.tick_sim.specs.declared.run.Run.{Run}
@@ -18,7 +18,8 @@ use Rattle.tick_sim.specs.Runs.{CanMove, IsNow, IsReached}
 module _ (r : Run) where
   -- the journey is that of its train
   abbrev pub IsJourneyIn : Journey → Type 0
-  IsJourneyIn = IsJourney r.interlocking.now.design.station r.interlocking.now.routes r.plan.now.steps
+  IsJourneyIn = let routes = r.interlocking.now.routes in
+      IsJourney r.interlocking.now.design.station routes (of_plan routes r.plan.now.steps)
 
   -- these are the states at a tick up to 86,400
   abbrev pub IsReachedIn : List TrainState → Type 0

@@ -5,6 +5,7 @@ mod grants;
 mod histories;
 mod marks;
 mod moves;
+mod paths;
 mod ride;
 mod run;
 mod verdicts;

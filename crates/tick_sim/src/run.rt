@@ -1,6 +1,7 @@
 //! A plan that is run, tick by tick.
 
 ghost use Rattle.rail_spec.specs.Feasible.{IsWellFormed};
+ghost use Rattle.rail_spec.specs.Run.{of_plan};
 ghost use Rattle.rail_course.specs.Journeys.{AreJourneys};
 
 use interlocking::Interlocking;
@@ -14,5 +15,6 @@ pub struct Run<'a> {
     pub plan: &'a Plan,
     pub journeys: &'a [Journey<'a>],
     pub ghost formed: { IsWellFormed interlocking.now.design.station interlocking.now.routes 64 plan.now.steps },
-    pub ghost led: { AreJourneys interlocking.now.design.station interlocking.now.routes plan.now.steps journeys.now },
+    pub ghost led: { AreJourneys interlocking.now.design.station interlocking.now.routes
+        (of_plan interlocking.now.routes plan.now.steps) journeys.now },
 }

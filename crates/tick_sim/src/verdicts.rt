@@ -1,8 +1,6 @@
 //! The verdict of a plan.
 
-ghost use Rattle.std.specs.Prelude.{◌≡◌, ◌≤◌, ◌<◌, ◌^◌, ℕ, true, IfOk, None, is_none, length, map};
-ghost use Rattle.std.specs.List.{position_from};
-ghost use Rattle.rail_spec.specs.Track.{routes_of};
+ghost use Rattle.std.specs.Prelude.{◌≡◌, ℕ, true, IfOk, None};
 ghost use Rattle.rail_spec.specs.Plans.{is_executable};
 ghost use Rattle.rail_spec.specs.Feasible.{IsWellFormed};
 ghost use Rattle.rail_spec.specs.Histories.{verdict_of};
@@ -15,39 +13,13 @@ use crate::run::Run;
 use interlocking::Interlocking;
 use rail_base::history::Verdict;
 use rail_base::list::List;
-use rail_base::plan::{Plan, Violation};
-use rail_base::state::{Stop, TrainState};
-use rail_course::{Courses, Itineraries};
+use rail_base::plan::Plan;
+use rail_base::state::TrainState;
+use rail_course::{Courses, Itineraries, PlannedCourses, paths_of};
 use rail_require::{first_violation, is_done};
 use std::alloc::{AllocError, Global};
 
-/// The number of the first visit that is made nowhere.
-fn missed(visits: &[Option<Stop>]) -> Option<u32>
-    requires { length visits.now < 2 ^ 32 }
-    ensures { result ≡ position_from is_none 1 visits.now }
-{
-    visits
-        .iter()
-        .position(|place| place.is_none())
-        .map(|place| place as u32 + 1)
-}
-
 impl Run<'_> {
-    /// The first visit, by train, that no path makes.
-    fn path_violation(&self) -> Option<Violation>
-        ensures { result ≡ path_violation_in self.now }
-    {
-        for journey in self.journeys {
-            if let Some(visit) = missed(journey.course.visits.as_slice()) {
-                return Some(Violation::Path {
-                    train: journey.course.train,
-                    visit,
-                });
-            }
-        }
-        None
-    }
-
     /// All trains before the first tick.
     fn first_states(&self, alloc: Global) -> Result<Vec<TrainState>, AllocError>
         ensures { IfOk result (λ s. s.items ≡ states_in self.now 0) }
@@ -102,6 +74,37 @@ impl Run<'_> {
     }
 }
 
+/// Runs a plan for so many ticks: what they show of it.
+fn run_plan<'a>(
+    alloc: Global,
+    interlocking: &'a Interlocking,
+    plan: &'a Plan,
+    ticks: u64,
+) -> Result<Verdict, AllocError>
+    requires { IsWellFormed interlocking.now.design.station interlocking.now.routes 64 plan.now.steps }
+    ensures { IfOk result (λ v. v
+        ≡ verdict_of interlocking.now.design.station interlocking.now.routes plan.now.steps ticks) }
+{
+    let paths = paths_of(alloc, interlocking, plan)?;
+    let given = Itineraries {
+        interlocking,
+        paths: paths.as_slice(),
+    };
+    let courses = given.courses(alloc)?;
+    let courses = Courses {
+        given,
+        courses: courses.as_slice(),
+    };
+    let planned = PlannedCourses { courses, plan };
+    let journeys = planned.journeys(alloc)?;
+    let run = Run {
+        interlocking,
+        plan,
+        journeys: journeys.as_slice(),
+    };
+    run.verdict(alloc, ticks)
+}
+
 /// What so many ticks of a run show of a plan: that it meets the design, that it fails and why, or nothing yet. The
 /// history ends with the deciding tick.
 ///
@@ -122,17 +125,5 @@ pub fn simulate(
     ensures apart { is_executable interlocking.now.design.station interlocking.now.routes plan.now.steps ≡ true
         → (k : ℕ) → Clash interlocking.now.design.station interlocking.now.routes plan.now.steps k → ⊥ }
 {
-    let given = Itineraries { interlocking, plan };
-    let courses = given.courses(alloc)?;
-    let courses = Courses {
-        given,
-        courses: courses.as_slice(),
-    };
-    let journeys = courses.journeys(alloc)?;
-    let run = Run {
-        interlocking,
-        plan,
-        journeys: journeys.as_slice(),
-    };
-    run.verdict(alloc, ticks)
+    run_plan(alloc, interlocking, plan, ticks)
 }

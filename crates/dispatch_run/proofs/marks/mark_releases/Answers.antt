@@ -3,7 +3,7 @@ use Rattle.rail_base.specs.declared.station.SectionNo.{SectionNo}
 use Rattle.rail_base.specs.declared.route.RouteNo.{RouteNo}
 use Rattle.rail_course.specs.declared.journey.Release.{Release}
 use Rattle.rail_base.specs.Numbering.{or_this}
-use Rattle.dispatch_quiet.specs.Releases.{is_released}
+use Rattle.rail_course.specs.Releases.{is_released}
 use Rattle.dispatch_run.proofs.Filling.{filled}
 use Rattle.dispatch_run.proofs.Filling.{none_filled, next_is, one_more, length-filled, all_filled}
 use Rattle.dispatch_run.proofs.marks.mark_releases.Goals as goal

@@ -1,6 +1,6 @@
 use Rattle.std.proofs.Common.{◌≡◌}
 use Rattle.rail_base.specs.Numbering.{or_this}
-use Rattle.dispatch_quiet.specs.Releases.{is_released}
+use Rattle.rail_course.specs.Releases.{is_released}
 use Rattle.dispatch_run.proofs.Filling.{filled}
 use Rattle.dispatch_run.proofs.marks.mark_releases.Given as goal
 

@@ -8,6 +8,6 @@ use Rattle.cone_run.proofs.layout.Layout.followers.Given as goal
 
 abbrev pub invariant-loop-journey : goal.invariant-loop-journey
 invariant-loop-journey l = record {
-  each : All (IsFollower l.self.contention.interlocking.now.design.station l.self.contention.interlocking.now.routes (of_cone l.self.cone.now)) l.followers.items;
-  left : map (λ (f : Follower). f.journey.now.course.now.train) l.followers.items ++ map (λ (j : Journey). j.course.now.train) (drop l.journey-index l.journeys) ≡ trains l.self.contention.interlocking.now.design.station;
+  each : All (IsFollower l.self.courses.given.interlocking.now.design.station l.self.courses.given.interlocking.now.routes (of_cone l.self.cone.now)) l.followers.items;
+  left : map (λ (f : Follower). f.journey.now.course.now.train) l.followers.items ++ map (λ (j : Journey). j.course.now.train) (drop l.journey-index l.journeys) ≡ trains l.self.courses.given.interlocking.now.design.station;
 }

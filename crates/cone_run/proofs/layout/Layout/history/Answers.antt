@@ -1,5 +1,6 @@
 use Rattle.std.proofs.Common.{refl, sym, subst, arith}
 use Rattle.rail_base.proofs.Admitting.{admitted}
+use Rattle.interlocking.specs.declared.railway.Interlocking.{Interlocking}
 use Rattle.rail_cone.specs.Cones.{of_cone}
 use Rattle.dispatch_run.specs.Followers.{AreFollowers}
 use Rattle.cone_run.proofs.Riding.{last_within}
@@ -19,7 +20,7 @@ history_of-requires c =
       record {
         contending = contending d i.routes cone known;
         goes = may_go d i.routes cone known adm i.table i.few;
-        followers = subst (AreFollowers d i.routes (of_cone cone)) (sym c.as_slice-3.ensures.value) c.in_ok-followers.ensures;
+        followers = subst (AreFollowers d i.routes (of_cone cone)) (sym c.as_slice-2.ensures.value) (subst (λ (i : Interlocking). AreFollowers i.design.station i.routes (of_cone cone) c.in_ok-followers.followers.items) c.args.self.now.over c.in_ok-followers.ensures);
       },
       (refl, omega arith),
     )

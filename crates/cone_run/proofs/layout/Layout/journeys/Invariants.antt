@@ -1,11 +1,13 @@
 use Rattle.std.proofs.Common.{◌≡◌, ◌++◌, All, drop, map}
 use Rattle.rail_base.specs.Stations.{trains}
+use Rattle.rail_course.specs.declared.course.Course.{Course}
 use Rattle.rail_course.specs.declared.journey.Journey.{Journey}
-use Rattle.cone_run.specs.Runs.{IsLed}
+use Rattle.rail_course.specs.Journeys.{IsJourney}
+use Rattle.rail_cone.specs.Cones.{of_cone}
 use Rattle.cone_run.proofs.layout.Layout.journeys.Given as goal
 
-abbrev pub invariant-loop-journey : goal.invariant-loop-journey
-invariant-loop-journey l = record {
-  each : All (IsLed l.self.contention.interlocking.now.design.station l.self.contention.interlocking.now.routes l.self.cone.now) l.journeys.items;
-  left : map (λ (j : Journey). j.course.now.train) l.journeys.items ++ map (λ (j : Journey). j.course.now.train) (drop l.journey-index l.plain) ≡ trains l.self.contention.interlocking.now.design.station;
+abbrev pub invariant-loop-course : goal.invariant-loop-course
+invariant-loop-course l = record {
+  each : All (IsJourney l.self.courses.given.interlocking.now.design.station l.self.courses.given.interlocking.now.routes (of_cone l.self.cone.now)) l.journeys.items;
+  left : map (λ (j : Journey). j.course.now.train) l.journeys.items ++ map (λ (c : Course). c.train) (drop l.course-index l.self.courses.courses.now) ≡ trains l.self.courses.given.interlocking.now.design.station;
 }

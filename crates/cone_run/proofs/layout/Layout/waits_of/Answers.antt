@@ -6,9 +6,9 @@ use Rattle.rail_course.specs.declared.waits.Wait.{Wait}
 use Rattle.std.specs.List.{list_any}
 use Rattle.interlocking.specs.declared.railway.Interlocking.{Interlocking}
 use Rattle.rail_course.specs.Tracks.{IsCommand}
-use Rattle.rail_course.specs.Waits.{wait_for}
+use Rattle.rail_course.specs.Itineraries.{wait_in}
 use Rattle.plan_clauses.specs.Variables.{pairs}
-use Rattle.cone_run.specs.Runs.{free_plan, listed_waits}
+use Rattle.cone_run.specs.Layouts.{waits_in}
 use Rattle.cone_run.proofs.Listing.{listed_rivals, listed_next, unlisted_next}
 use Rattle.cone_run.proofs.Looking.{listed_there as listed_commands}
 use Rattle.cone_run.proofs.layout.Layout.waits_of.Goals.{then-is_among+in_ok-push, else-is_among}
@@ -22,7 +22,7 @@ loop-other-init c =
     let d = c.args.self.now.contention.interlocking.now.design.station in
     let routes = c.args.self.now.contention.interlocking.now.routes in
     let k = c.args.self.now.cone.now in
-    let wait = wait_for d routes (free_plan k) c.args.command in
+    let wait = wait_in c.args.self.now.courses.given c.args.command in
     let listed : Command → Bool = λ e. is_listed k e c.args.command in
     let run : List (Command × Command) = filter (λ (p : Command × Command). is_command p.0 c.args.command) (pairs d routes) in
     let items : c.pairs_from-other-items.result.now ≡ run = c.pairs_from-other-items.ensures ∙ ap (filter (λ (p : Command × Command). is_command p.0 c.args.command)) (c.sorted-pairs.ensures ∙ c.args.self.now.contention.ordered) in
@@ -42,7 +42,7 @@ pub loop-other-preserved : goal.loop-other-preserved
 unfolding none
 loop-other-preserved c =
     let k = c.args.self.now.cone.now in
-    let wait = wait_for c.args.self.now.contention.interlocking.now.design.station c.args.self.now.contention.interlocking.now.routes (free_plan k) c.args.command in
+    let wait = wait_in c.args.self.now.courses.given c.args.command in
     let run : List (Command × Command) = c.pairs_from-other-items.result.now in
     let e : Command = (get_or run c.loop-other.other-index (none, none)).1 in
     let listed : Command → Bool = λ e. is_listed k e c.args.command in
@@ -50,7 +50,7 @@ loop-other-preserved c =
     elim c.if-is_among.branch [
       | then-is_among+in_ok-push w ↦ listed_next wait listed run c.loop-other.other-index (none, none) c.loop-other-test.true c.loop-other.waits.items c.if-is_among.waits.items _ (sym is ∙ w.if-is_among.true)
           (ap (λ (v : Vec Wait Global). v.items) w.waits-is ∙ (w.in_ok-push.ensures.items ∙ ap (λ x. c.loop-other.waits.items ++ x ∷ [])
-          (w.wait_for.ensures ∙ ap (λ (i : Interlocking). wait_for i.design.station i.routes c.args.self.now.courses.given.plan.now.steps c.args.command e) c.args.self.now.over ∙ ap (λ (plan : List (List Command)). wait_for c.args.self.now.contention.interlocking.now.design.station c.args.self.now.contention.interlocking.now.routes plan c.args.command e) c.args.self.now.given))) c.loop-other.invariant
-      | else-is_among w ↦ subst (λ (v : Vec Wait Global). v.items ++ map wait (filter listed (map (λ (p : Command × Command). p.1) (drop (c.loop-other.other-index + 1) run))) ≡ listed_waits c.args.self.now.contention.interlocking.now.design.station c.args.self.now.contention.interlocking.now.routes k c.args.command) (sym w.waits-is)
+          w.wait_for.ensures)) c.loop-other.invariant
+      | else-is_among w ↦ subst (λ (v : Vec Wait Global). v.items ++ map wait (filter listed (map (λ (p : Command × Command). p.1) (drop (c.loop-other.other-index + 1) run))) ≡ waits_in c.args.self.now c.args.command) (sym w.waits-is)
           (unlisted_next wait listed run c.loop-other.other-index (none, none) c.loop-other-test.true c.loop-other.waits.items _ (sym is ∙ w.if-is_among.false) c.loop-other.invariant)
     ]

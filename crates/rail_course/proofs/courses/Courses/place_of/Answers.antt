@@ -2,8 +2,9 @@ use Rattle.std.proofs.Common.{◌≡◌, get_or, length, sum_by, ap, ap₂, ◌�
 use Rattle.rail_base.specs.Numbering.{before_first}
 use Rattle.rail_base.specs.Routes.{length_mm}
 use Rattle.rail_spec.specs.Plans.{is_route}
-use Rattle.rail_spec.specs.Run.{routes_before}
+use Rattle.rail_spec.specs.Dispatches.{routes_before}
 use Rattle.rail_course.specs.Fronts.{no_front}
+use Rattle.rail_course.specs.Itineraries.{going_in}
 use Rattle.rail_course.proofs.Coursing.{number_is, number_fits, front_is, before_short}
 use Rattle.rail_course.proofs.courses.Courses.place_of.Goals as goal
 
@@ -11,10 +12,10 @@ pub bounds-fronts-number : goal.bounds-fronts-number
 bounds-fronts-number c =
     let d = c.args.self.now.given.interlocking.now.design.station in
     let routes = c.args.self.now.given.interlocking.now.routes in
-    let plan = c.args.self.now.given.plan.now.steps in
+    let p = going_in c.args.self.now.given in
     let course = c.course-course.result.now in
     let number : c.number_of-number.result ≡ length (before_first (λ r. is_route r c.args.command.route) course.path.items) = c.number_of-number.ensures.value ∙ ap (λ p. length (before_first (λ r. is_route r c.args.command.route) p)) c.as_slice.ensures.value in
-    let fits = number_fits d routes plan course c.course-course.ensures.course c.args.command c.course-course.ensures.train in
+    let fits = number_fits d routes p course c.course-course.ensures.course c.args.command c.course-course.ensures.train in
     let items = ap length c.as_slice-fronts.ensures.value in
     omega arith
 
@@ -22,10 +23,10 @@ pub offset_bounds-fronts-number : goal.offset_bounds-fronts-number
 offset_bounds-fronts-number c =
     let d = c.args.self.now.given.interlocking.now.design.station in
     let routes = c.args.self.now.given.interlocking.now.routes in
-    let plan = c.args.self.now.given.plan.now.steps in
+    let p = going_in c.args.self.now.given in
     let course = c.course-course.result.now in
     let number : c.number_of-number.result ≡ length (before_first (λ r. is_route r c.args.command.route) course.path.items) = c.number_of-number.ensures.value ∙ ap (λ p. length (before_first (λ r. is_route r c.args.command.route) p)) c.as_slice.ensures.value in
-    let fits = number_fits d routes plan course c.course-course.ensures.course c.args.command c.course-course.ensures.train in
+    let fits = number_fits d routes p course c.course-course.ensures.course c.args.command c.course-course.ensures.train in
     let items = ap length c.as_slice-fronts.ensures.value in
     omega arith
 
@@ -33,10 +34,9 @@ pub returns : goal.returns
 returns c =
     let d = c.args.self.now.given.interlocking.now.design.station in
     let routes = c.args.self.now.given.interlocking.now.routes in
-    let plan = c.args.self.now.given.plan.now.steps in
+    let p = going_in c.args.self.now.given in
     let course = c.course-course.result.now in
     let number : c.number_of-number.result ≡ length (before_first (λ r. is_route r c.args.command.route) course.path.items) = c.number_of-number.ensures.value ∙ ap (λ p. length (before_first (λ r. is_route r c.args.command.route) p)) c.as_slice.ensures.value in
-    let begin : (get_or c.as_slice-fronts.result.now c.number_of-number.result no_front).length ≡ sum_by length_mm (routes_before d routes plan c.args.command) = ap₂ (λ fs n. (get_or fs n no_front).length) c.as_slice-fronts.ensures.value number ∙ front_is d routes plan course c.course-course.ensures.course c.args.command c.course-course.ensures.train no_front in
-    let short = before_short d routes plan course c.course-course.ensures.course c.args.command c.course-course.ensures.train in
-    let within = c.args.self.now.given.range.short c.args.command.train in
-    record { number = number ∙ number_is d routes plan course c.course-course.ensures.course c.args.command c.course-course.ensures.train; length = begin; short = omega arith }
+    let begin : (get_or c.as_slice-fronts.result.now c.number_of-number.result no_front).length ≡ sum_by length_mm (routes_before d routes p c.args.command) = ap₂ (λ fs n. (get_or fs n no_front).length) c.as_slice-fronts.ensures.value number ∙ front_is d routes p course c.course-course.ensures.course c.args.command c.course-course.ensures.train no_front in
+    let short = before_short d routes p course c.course-course.ensures.course c.args.command c.course-course.ensures.train in
+    record { number = number ∙ number_is d routes p course c.course-course.ensures.course c.args.command c.course-course.ensures.train; length = begin; short = omega arith }

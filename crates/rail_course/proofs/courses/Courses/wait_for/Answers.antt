@@ -4,6 +4,7 @@ use Rattle.rail_base.specs.Routes.{route_at, release_offset, length_mm, shared}
 use Rattle.interlocking.specs.Sections.{last_release}
 use Rattle.rail_course.proofs.Rating.{vehicle_is_good}
 use Rattle.rail_course.proofs.Coursing.{fold_within, wait_same}
+use Rattle.rail_course.proofs.Granting.{brief, laid_out}
 use Rattle.rail_course.proofs.courses.Courses.wait_for.Goals as goal
 
 pub overflow_add-result : goal.overflow_add-result
@@ -16,8 +17,8 @@ overflow_add-result c =
     let begin = c.place_of-before.ensures.length in
     let short = c.place_of-before.ensures.short in
     let release : c.last_release-release.result ≡ last_release (route_at routes c.args.other.route) (route_at routes c.args.command.route) = c.last_release-release.ensures in
-    let released = fold_within (release_offset (route_at routes c.args.other.route)) (length_mm (route_at routes c.args.other.route)) 0 (shared (route_at routes c.args.other.route) (route_at routes c.args.command.route)) (omega arith) (c.args.self.now.given.range.laid.each c.args.other.route).releases in
-    let brief = c.args.self.now.given.range.brief c.args.other.route in
+    let released = fold_within (release_offset (route_at routes c.args.other.route)) (length_mm (route_at routes c.args.other.route)) 0 (shared (route_at routes c.args.other.route) (route_at routes c.args.command.route)) (omega arith) ((laid_out c.args.self.now.given.interlocking.now).each c.args.other.route).releases in
+    let near = brief c.args.self.now.given.interlocking.now c.args.other.route in
     let long : course.length ≡ train_length d c.args.other.train = is.long ∙ ap (train_length d) same in
     let small = (vehicle_is_good c.args.self.now.given.interlocking.now.design c.args.other.train c.requires.other.0).length_mm.1 in
     omega arith
@@ -32,8 +33,8 @@ overflow_add-result-2 c =
     let begin = c.place_of-before.ensures.length in
     let short = c.place_of-before.ensures.short in
     let release : c.last_release-release.result ≡ last_release (route_at routes c.args.other.route) (route_at routes c.args.command.route) = c.last_release-release.ensures in
-    let released = fold_within (release_offset (route_at routes c.args.other.route)) (length_mm (route_at routes c.args.other.route)) 0 (shared (route_at routes c.args.other.route) (route_at routes c.args.command.route)) (omega arith) (c.args.self.now.given.range.laid.each c.args.other.route).releases in
-    let brief = c.args.self.now.given.range.brief c.args.other.route in
+    let released = fold_within (release_offset (route_at routes c.args.other.route)) (length_mm (route_at routes c.args.other.route)) 0 (shared (route_at routes c.args.other.route) (route_at routes c.args.command.route)) (omega arith) ((laid_out c.args.self.now.given.interlocking.now).each c.args.other.route).releases in
+    let near = brief c.args.self.now.given.interlocking.now c.args.other.route in
     let long : course.length ≡ train_length d c.args.other.train = is.long ∙ ap (train_length d) same in
     let small = (vehicle_is_good c.args.self.now.given.interlocking.now.design c.args.other.train c.requires.other.0).length_mm.1 in
     omega arith
@@ -48,8 +49,8 @@ returns c =
     let begin = c.place_of-before.ensures.length in
     let short = c.place_of-before.ensures.short in
     let release : c.last_release-release.result ≡ last_release (route_at routes c.args.other.route) (route_at routes c.args.command.route) = c.last_release-release.ensures in
-    let released = fold_within (release_offset (route_at routes c.args.other.route)) (length_mm (route_at routes c.args.other.route)) 0 (shared (route_at routes c.args.other.route) (route_at routes c.args.command.route)) (omega arith) (c.args.self.now.given.range.laid.each c.args.other.route).releases in
-    let brief = c.args.self.now.given.range.brief c.args.other.route in
+    let released = fold_within (release_offset (route_at routes c.args.other.route)) (length_mm (route_at routes c.args.other.route)) 0 (shared (route_at routes c.args.other.route) (route_at routes c.args.command.route)) (omega arith) ((laid_out c.args.self.now.given.interlocking.now).each c.args.other.route).releases in
+    let near = brief c.args.self.now.given.interlocking.now c.args.other.route in
     let long : course.length ≡ train_length d c.args.other.train = is.long ∙ ap (train_length d) same in
     let small = (vehicle_is_good c.args.self.now.given.interlocking.now.design c.args.other.train c.requires.other.0).length_mm.1 in
     wait_same c.args.other.train c.place_of-before.result.number _ _ _ c.place_of-before.ensures.number (ap₂ (λ m n. m + n) (ap₂ (λ m n. m + n) begin release) long)

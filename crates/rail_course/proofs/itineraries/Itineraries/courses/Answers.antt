@@ -3,7 +3,7 @@ use Rattle.std.proofs.lemmas.List.{map-append}
 use Rattle.std.proofs.lemmas.List.Elements.{All-push}
 use Rattle.rail_base.specs.declared.station.TrainNo.{TrainNo}
 use Rattle.rail_base.specs.Numbering.{count_from}
-use Rattle.rail_course.specs.Courses.{IsCourse}
+use Rattle.rail_course.specs.Itineraries.{IsCourseIn}
 use Rattle.rail_course.specs.declared.course.Course.{Course}
 use Rattle.rail_course.proofs.Coursing.{count_step}
 use Rattle.rail_course.proofs.itineraries.Itineraries.courses.Goals as goal
@@ -23,7 +23,7 @@ loop-number-preserved c =
     let next : map {B = TrainNo} number (count_from n (many + 1 - n)) ≡ number n ∷ rest = ap (map {B = TrainNo} number) (count_step n many less) in
     record {
       first = omega arith;
-      each = subst (All (IsCourse c.args.self.now.interlocking.now.design.station c.args.self.now.interlocking.now.routes c.args.self.now.plan.now.steps)) (sym items) (All-push (IsCourse c.args.self.now.interlocking.now.design.station c.args.self.now.interlocking.now.routes c.args.self.now.plan.now.steps) old course c.loop-number.invariant.each c.in_ok-course_of.ensures.course);
+      each = subst (All (IsCourseIn c.args.self.now)) (sym items) (All-push (IsCourseIn c.args.self.now) old course c.loop-number.invariant.each c.in_ok-course_of.ensures.course);
       left = ap (λ cs. map train cs ++ rest) items ∙ ap (λ ts. ts ++ rest) (map-append train old (course ∷ [])) ∙ append_assoc (map train old) (course.train ∷ []) rest
           ∙ ap (λ t. map train old ++ (t ∷ rest)) c.in_ok-course_of.ensures.train ∙ ap (λ ts. map train old ++ ts) (sym next) ∙ c.loop-number.invariant.left;
     }

@@ -1,13 +1,13 @@
 use Rattle.std.proofs.Common.{◌≡◌, ◌++◌, ◌+◌, ◌-◌, ◌≤◌, All, map, length}
 use Rattle.rail_base.specs.Numbering.{count_from}
 use Rattle.rail_base.specs.Stations.{trains}
-use Rattle.rail_course.specs.Courses.{IsCourse}
+use Rattle.rail_course.specs.Itineraries.{IsCourseIn}
 use Rattle.rail_course.specs.declared.course.Course.{Course}
 use Rattle.rail_course.proofs.itineraries.Itineraries.courses.Given as goal
 
 abbrev pub invariant-loop-number : goal.invariant-loop-number
 invariant-loop-number l = record {
   first : 1 ≤ l.number;
-  each : All (IsCourse l.self.interlocking.now.design.station l.self.interlocking.now.routes l.self.plan.now.steps) l.courses.items;
+  each : All (IsCourseIn l.self) l.courses.items;
   left : map (λ (c : Course). c.train) l.courses.items ++ map (λ n. record { 0 = n }) (count_from l.number (length l.self.interlocking.now.design.station.trains + 1 - l.number)) ≡ trains l.self.interlocking.now.design.station;
 }

@@ -5,7 +5,7 @@ use Rattle.rail_base.proofs.Admitting.{admitted}
 use Rattle.rail_base.specs.Stations.{train_of}
 use Rattle.rail_base.specs.declared.plan.Violation.TheVariants as violation
 use Rattle.rail_spec.specs.Requirements.{is_certain, visit_numbers}
-use Rattle.rail_spec.specs.Run.{visits_of_train, stops_of_train}
+use Rattle.rail_spec.specs.Run.{of_plan, visits_of_train, stops_of_train}
 use Rattle.rail_course.specs.declared.journey.Journey.{Journey}
 use Rattle.rail_course.specs.Journeys.{IsJourney}
 use Rattle.tick_sim.proofs.Verdicting.{length-visits_on, path_here, path_later}
@@ -20,7 +20,7 @@ missed-requires c =
     let routes = c.args.self.now.interlocking.now.routes in
     let plan = c.args.self.now.plan.now.steps in
     let j = c.journey-item.result in
-    let is : IsJourney d routes plan j = subst (IsJourney d routes plan) (sym c.journey-item.is) (c.args.self.now.led.each c.loop-journey.journey-index j c.loop-journey-test.true) in
+    let is : IsJourney d routes (of_plan routes plan) j = subst (IsJourney d routes (of_plan routes plan)) (sym c.journey-item.is) (c.args.self.now.led.each c.loop-journey.journey-index j c.loop-journey-test.true) in
     let many = ap length (c.as_slice.ensures.value ∙ is.course.visits) ∙ length-visits_on d routes plan (train_of d j.course.now.train).visits (stops_of_train d routes plan j.course.now.train) in
     let few = ((admitted d c.args.self.now.interlocking.now.design.admitted).train j.course.now.train is.course.train).visits.1 in
     omega arith
@@ -34,7 +34,7 @@ returns-in-Some c =
     let j = c.journey-item.result in
     let t = j.course.now.train in
     let train = λ (x : Journey). x.course.now.train in
-    let is : IsJourney d routes plan j = subst (IsJourney d routes plan) (sym c.journey-item.is) (c.args.self.now.led.each c.loop-journey.journey-index j c.loop-journey-test.true) in
+    let is : IsJourney d routes (of_plan routes plan) j = subst (IsJourney d routes (of_plan routes plan)) (sym c.journey-item.is) (c.args.self.now.led.each c.loop-journey.journey-index j c.loop-journey-test.true) in
     let rest = drop (c.loop-journey.journey-index + 1) js in
     let cut : drop c.loop-journey.journey-index js ≡ j ∷ rest = drop_more js c.loop-journey.journey-index j c.loop-journey-test.true ∙ ap (λ x. x ∷ rest) (sym c.journey-item.is) in
     let found : c.missed.result ≡ position_from is_none 1 (visits_of_train d routes plan t) = c.missed.ensures ∙ ap (position_from is_none 1) (c.as_slice.ensures.value ∙ is.course.visits) in
@@ -50,7 +50,7 @@ loop-journey-preserved c =
     let j = c.journey-item.result in
     let t = j.course.now.train in
     let train = λ (x : Journey). x.course.now.train in
-    let is : IsJourney d routes plan j = subst (IsJourney d routes plan) (sym c.journey-item.is) (c.args.self.now.led.each c.loop-journey.journey-index j c.loop-journey-test.true) in
+    let is : IsJourney d routes (of_plan routes plan) j = subst (IsJourney d routes (of_plan routes plan)) (sym c.journey-item.is) (c.args.self.now.led.each c.loop-journey.journey-index j c.loop-journey-test.true) in
     let rest = drop (c.loop-journey.journey-index + 1) js in
     let cut : drop c.loop-journey.journey-index js ≡ j ∷ rest = drop_more js c.loop-journey.journey-index j c.loop-journey-test.true ∙ ap (λ x. x ∷ rest) (sym c.journey-item.is) in
     let found : c.missed.result ≡ position_from is_none 1 (visits_of_train d routes plan t) = c.missed.ensures ∙ ap (position_from is_none 1) (c.as_slice.ensures.value ∙ is.course.visits) in

@@ -1,0 +1,40 @@
+//! The paths of the free commands of a cone.
+
+ghost use Rattle.std.specs.Prelude.{◌≡◌, true, IfOk};
+ghost use Rattle.rail_course.specs.Tracks.{ArePaths};
+ghost use Rattle.rail_cone.specs.Cones.{free_path};
+ghost use Rattle.cone_design.specs.Fits.{fits};
+
+use cone_design::free_path;
+use interlocking::Interlocking;
+use rail_base::list::List;
+use rail_base::route::RouteNo;
+use rail_base::station::TrainNo;
+use rail_cone::Cone;
+use std::alloc::{AllocError, Global};
+
+/// The path that a cone's free commands give a train.
+fn free_path_of(alloc: Global, cone: &Cone, train: TrainNo) -> Result<List<RouteNo>, AllocError>
+    ensures { IfOk result (λ path. path ≡ free_path cone.now train) }
+{
+    let path = free_path(cone, train).to_vec(alloc)?;
+    Ok(List::from_vec(path))
+}
+
+/// The paths that a cone's free commands give all trains, in file order.
+pub(crate) fn free_paths(
+    alloc: Global,
+    interlocking: &Interlocking,
+    cone: &Cone,
+) -> Result<Vec<List<RouteNo>>, AllocError>
+    requires { fits interlocking.now cone.now ≡ true }
+    ensures { IfOk result (λ paths. ArePaths interlocking.now.design.station interlocking.now.routes
+        (free_path cone.now) paths.items) }
+{
+    let mut paths = Vec::new(alloc);
+    for number in 1..interlocking.design.station.trains.len() as u32 + 1 {
+        let path = free_path_of(alloc, cone, TrainNo(number))?;
+        paths.push(path)?;
+    }
+    Ok(paths)
+}

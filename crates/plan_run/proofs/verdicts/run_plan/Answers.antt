@@ -1,0 +1,13 @@
+use Rattle.std.proofs.Common.{length, All, ap, sym, subst, ◌∙◌}
+use Rattle.rail_course.specs.Tracks.{IsInRange}
+use Rattle.rail_course.proofs.Granting.{plan_named}
+use Rattle.plan_run.proofs.verdicts.run_plan.Goals as goal
+
+pub invariant_of-given : goal.invariant_of-given
+invariant_of-given c = record {
+  many = ap length c.as_slice.ensures.value ∙ c.in_ok-paths.ensures.many;
+  range = subst (All (IsInRange c.args.interlocking.now.routes)) (sym c.as_slice.ensures.value) c.in_ok-paths.ensures.range;
+}
+
+pub invariant_of-planned : goal.invariant_of-planned
+invariant_of-planned c = record { named = plan_named c.args.interlocking.now c.args.plan.now.steps c.requires; paths = c.as_slice.ensures.value ∙ c.in_ok-paths.ensures.all }

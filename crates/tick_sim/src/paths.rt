@@ -1,0 +1,37 @@
+//! The first visit that no path makes.
+
+ghost use Rattle.std.specs.Prelude.{◌≡◌, ◌<◌, ◌^◌, is_none, length};
+ghost use Rattle.std.specs.List.{position_from};
+ghost use Rattle.tick_sim.specs.Running.{path_violation_in};
+
+use crate::run::Run;
+use rail_base::plan::Violation;
+use rail_base::state::Stop;
+
+/// The number of the first visit that is made nowhere.
+fn missed(visits: &[Option<Stop>]) -> Option<u32>
+    requires { length visits.now < 2 ^ 32 }
+    ensures { result ≡ position_from is_none 1 visits.now }
+{
+    visits
+        .iter()
+        .position(|place| place.is_none())
+        .map(|place| place as u32 + 1)
+}
+
+impl Run<'_> {
+    /// The first visit, by train, that no path makes.
+    pub fn path_violation(&self) -> Option<Violation>
+        ensures { result ≡ path_violation_in self.now }
+    {
+        for journey in self.journeys {
+            if let Some(visit) = missed(journey.course.visits.as_slice()) {
+                return Some(Violation::Path {
+                    train: journey.course.train,
+                    visit,
+                });
+            }
+        }
+        None
+    }
+}
