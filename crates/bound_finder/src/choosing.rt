@@ -1,13 +1,15 @@
 //! Which routes a place of a leg may have.
 
 use crate::goals::Goal;
-use crate::known::{contend, leads_to, starts_at_boundary, starts_like};
+use crate::known::{contend, leads_to, route, starts_at_boundary, starts_like};
 use crate::links::Search;
 use crate::paths::Span;
 use bound_ticks::Visit;
+use cone_design::is_named;
 use rail_base::plan::Command;
-use rail_base::route::RouteNo;
+use rail_base::route::{Finish, RouteNo, Start};
 use rail_base::station::TrainNo;
+use rail_bound::Origin;
 use std::alloc::AllocError;
 
 /// How far places are widened.
@@ -25,6 +27,7 @@ pub(crate) enum Breadth {
 #[derive(Clone, Copy)]
 pub(crate) struct Form<'a> {
     pub goal: &'a Goal,
+    pub origin: &'a Origin,
     pub legs: &'a [Span],
     pub breadth: Breadth,
     /// No leg gets more choices of one route for each place.
@@ -72,6 +75,16 @@ pub(crate) fn has_route(routes: &[RouteNo], route: RouteNo) -> bool {
     routes.iter().any(|other| *other == route)
 }
 
+impl Form<'_> {
+    /// Whether the cone from which ticks are counted names a train's command with a route.
+    fn names(&self, train: TrainNo, route: RouteNo) -> bool {
+        match self.origin {
+            Origin::Cone { cone, .. } => is_named(cone, Command { train, route }),
+            Origin::Visit | Origin::Start | Origin::FirstTick => false,
+        }
+    }
+}
+
 impl Wide<'_, '_> {
     /// Whether this is the leg's last place.
     pub(crate) fn is_last(&self, place: usize) -> bool {
@@ -87,6 +100,22 @@ impl Wide<'_, '_> {
 }
 
 impl Search<'_> {
+    /// Whether a train uses a route by the cone from which ticks are counted: it names it, or one that no other can follow.
+    pub(crate) fn is_known(&self, form: &Form<'_>, train: TrainNo, number: RouteNo) -> bool {
+        if form.names(train, number) {
+            return true;
+        }
+        let Some(route) = route(self.interlocking, number) else {
+            return false;
+        };
+        let Start::Signal(signal) = route.start else {
+            return false;
+        };
+        let before = self.tables.before(route.start);
+        let is_only = self.tables.after(Finish::Signal(signal)).len() == 1;
+        is_only && before.iter().any(|before| form.names(train, *before))
+    }
+
     /// Whether a train uses a route after another command is given.
     fn is_after(&self, command: Command, earlier: Command) -> bool {
         match (self.paths.step(command), self.paths.step(earlier)) {

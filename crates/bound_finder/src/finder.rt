@@ -3,7 +3,7 @@
 ghost use Rattle.std.specs.Prelude.{◌<◌, IfSome, length};
 
 use crate::choosing::{Breadth, Form, has_route};
-use crate::goals::{Beginning, Goal, goals};
+use crate::goals::{Goal, goals};
 use crate::known::contend;
 use crate::links::{Link, Search};
 use crate::paths::{Given, Paths, Span};
@@ -11,8 +11,9 @@ use crate::tables::Tables;
 use crate::ticks::Ticks;
 use cone_design::Contention;
 use rail_base::history::History;
+use rail_base::list::List;
 use rail_base::plan::{Plan, Violation};
-use rail_bound::Bound;
+use rail_bound::{Bound, Leg, Origin};
 use std::alloc::{AllocError, Global};
 
 /// No leg gets more choices of one route for each place, in turn, until its ticks can still be followed.
@@ -66,45 +67,45 @@ impl Search<'_> {
         })
     }
 
-    /// The chain that shows a goal to fail, with the beginning by which it does, if there is one.
-    fn first_chain(
-        &mut self,
-        goal: &Goal,
-        links: &[Link],
-    ) -> Result<Option<(Goal, Vec<Span>)>, AllocError> {
-        if let Some(legs) = self.chain(goal, links)? {
-            return Ok(Some((*goal, legs)));
-        }
-        if !self.begins_at_once(goal) {
-            return Ok(None);
-        }
-        let goal = Goal {
-            beginning: Beginning::FirstTick,
-            ..*goal
-        };
-        let legs = self.chain(&goal, links)?;
-        Ok(legs.map(|legs| (goal, legs)))
-    }
-
-    /// A chain's bound in a breadth, with as many choices as can be followed.
-    fn bound_in<'b>(
+    /// The legs of a chain's bound in a breadth, with as many choices as can be followed.
+    fn legs_in<'b>(
         &mut self,
         goal: &'b Goal,
+        origin: &'b Origin,
         legs: &'b [Span],
         breadth: Breadth,
-    ) -> Result<Option<Bound>, AllocError> {
+    ) -> Result<Option<List<Leg>>, AllocError> {
         for most_choices in MOST_CHOICES {
             let form = Form {
                 goal,
+                origin,
                 legs,
                 breadth,
                 most_choices,
             };
-            if let Some(bound) = self.bound(&form)? {
-                return Ok(Some(bound));
+            if let Some(legs) = self.legs(&form)? {
+                return Ok(Some(legs));
             }
         }
         Ok(None)
+    }
+
+    /// A chain's bound in a breadth.
+    fn bound_in(
+        &mut self,
+        goal: &Goal,
+        legs: &[Span],
+        breadth: Breadth,
+    ) -> Result<Option<Bound>, AllocError> {
+        let Some(origin) = self.origin(goal)? else {
+            return Ok(None);
+        };
+        let legs = self.legs_in(goal, &origin, legs, breadth)?;
+        Ok(legs.map(|legs| Bound {
+            requirement: goal.requirement,
+            origin,
+            legs,
+        }))
     }
 
     /// A chain's bound as wide as can be had.
@@ -117,22 +118,58 @@ impl Search<'_> {
         Ok(None)
     }
 
+    /// A goal with each beginning from which its ticks may be counted, the best first.
+    fn beginnings(&self, goal: &Goal) -> Result<Vec<Goal>, AllocError> {
+        let mut goals = vec![in self.alloc; *goal]?;
+        if self.begins_at_once(goal) {
+            goals.push(goal.from_first_tick())?;
+        }
+        if let Some(from) = goal.from
+            && let Some(tick) = self.visit_tick(from)
+        {
+            goals.push(goal.from_cone(tick))?;
+        }
+        Ok(goals)
+    }
+
+    /// The chain that shows a goal to fail, with its bound, if there is one.
+    fn candidate(&mut self, goal: Goal, links: &[Link]) -> Result<Option<Candidate>, AllocError> {
+        let Some(legs) = self.chain(&goal, links)? else {
+            return Ok(None);
+        };
+        let Some(bound) = self.widest(&goal, legs.as_slice())? else {
+            return Ok(None);
+        };
+        let size = self.size(&goal, &bound);
+        Ok(Some(Candidate {
+            goal,
+            legs,
+            bound,
+            size,
+        }))
+    }
+
+    /// The same from the first beginning that gives one.
+    fn first_candidate(
+        &mut self,
+        goal: &Goal,
+        links: &[Link],
+    ) -> Result<Option<Candidate>, AllocError> {
+        for goal in self.beginnings(goal)? {
+            if let Some(found) = self.candidate(goal, links)? {
+                return Ok(Some(found));
+            }
+        }
+        Ok(None)
+    }
+
     /// The chains of all goals that have one, each with its bound.
     fn candidates(&mut self, goals: &[Goal]) -> Result<Vec<Candidate>, AllocError> {
         let links = self.links()?;
         let mut all = Vec::new(self.alloc);
         for goal in goals {
-            let Some((goal, legs)) = self.first_chain(goal, links.as_slice())? else {
-                continue;
-            };
-            if let Some(bound) = self.widest(&goal, legs.as_slice())? {
-                let size = self.size(&goal, &bound);
-                all.push(Candidate {
-                    goal,
-                    legs,
-                    bound,
-                    size,
-                })?;
+            if let Some(found) = self.first_candidate(goal, links.as_slice())? {
+                all.push(found)?;
             }
         }
         Ok(all)
@@ -199,7 +236,7 @@ impl Finder {
         &mut self,
         contention: &Contention,
         plan: &Plan,
-        _history: &History,
+        history: &History,
         violation: Violation,
     ) -> Result<Vec<Bound>, AllocError> {
         let interlocking = contention.interlocking;
@@ -216,8 +253,11 @@ impl Finder {
             interlocking,
             tables,
             paths: &paths,
+            history,
             ticks: &mut self.ticks,
+            waits: Vec::new(self.alloc),
         };
+        search.waits = search.find_waits()?;
         let found = search.candidates(goals.as_slice())?;
         search.in_order(found)
     }

@@ -6,7 +6,7 @@ use bound_ticks::Visit;
 use interlocking::Interlocking;
 use rail_base::plan::{Command, Violation};
 use rail_base::station::{Order, TrainNo, Within};
-use rail_bound::{Origin, Requirement};
+use rail_bound::Requirement;
 use std::alloc::{AllocError, Global};
 
 /// From where ticks are counted.
@@ -15,6 +15,8 @@ pub(crate) enum Beginning {
     Visit,
     FirstTick,
     Start,
+    /// The start of the run, where a cone shows that the first visit is made at this tick.
+    Cone { tick: u64 },
 }
 
 /// A requirement that is to be shown to fail.
@@ -35,7 +37,7 @@ impl Goal {
     pub(crate) fn from_place(&self) -> Option<Visit> {
         match self.beginning {
             Beginning::Visit => self.from.filter(|visit| visit.number > 1),
-            Beginning::FirstTick | Beginning::Start => None,
+            Beginning::FirstTick | Beginning::Start | Beginning::Cone { .. } => None,
         }
     }
 
@@ -43,21 +45,35 @@ impl Goal {
     pub(crate) fn begins_with(&self) -> Option<Visit> {
         match self.beginning {
             Beginning::Visit => self.from,
-            Beginning::FirstTick | Beginning::Start => None,
+            Beginning::FirstTick | Beginning::Start | Beginning::Cone { .. } => None,
         }
+    }
+
+    /// Whether its requirement is an order.
+    fn is_order(&self) -> bool {
+        matches!(self.requirement, Requirement::Order { .. })
     }
 
     /// Whether any chain shows it, however few ticks it takes.
     pub(crate) fn takes_any(&self) -> bool {
-        matches!(self.requirement, Requirement::Order { .. })
+        self.is_order() && !matches!(self.beginning, Beginning::Cone { .. })
     }
 
-    /// The origin of its bounds.
-    pub(crate) fn origin(&self) -> Origin {
-        match self.beginning {
-            Beginning::Visit => Origin::Visit,
-            Beginning::FirstTick => Origin::FirstTick,
-            Beginning::Start => Origin::Start,
+    /// The goal with ticks counted from the start of the run, where the first visit is made in the first tick.
+    pub(crate) fn from_first_tick(&self) -> Goal {
+        Goal {
+            beginning: Beginning::FirstTick,
+            ..*self
+        }
+    }
+
+    /// The goal with ticks counted from the start of the run, where a cone shows that the first visit is made at a tick.
+    pub(crate) fn from_cone(&self, tick: u64) -> Goal {
+        let least = if self.is_order() { 0 } else { self.least };
+        Goal {
+            beginning: Beginning::Cone { tick },
+            least: tick.saturating_add(least).saturating_sub(1),
+            ..*self
         }
     }
 }

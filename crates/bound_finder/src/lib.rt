@@ -6,14 +6,17 @@
 
 mod chains;
 mod choosing;
+mod cones;
 mod finder;
 mod goals;
+mod horizons;
 mod known;
 mod links;
 mod paths;
 mod sizes;
 mod tables;
 mod ticks;
+mod waits;
 mod widening;
 
 pub use finder::Finder;

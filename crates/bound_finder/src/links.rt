@@ -5,8 +5,10 @@ use crate::known::{contend, count_trains, release_place, target, visit_place};
 use crate::paths::{Given, Paths, Span};
 use crate::tables::Tables;
 use crate::ticks::Ticks;
+use crate::waits::Wait;
 use bound_ticks::Visit;
 use interlocking::Interlocking;
+use rail_base::history::History;
 use rail_base::route::RouteNo;
 use rail_base::station::TrainNo;
 use std::alloc::{AllocError, Global};
@@ -18,7 +20,9 @@ pub(crate) struct Search<'a> {
     pub interlocking: &'a Interlocking,
     pub tables: &'a Tables,
     pub paths: &'a Paths,
+    pub history: &'a History,
     pub ticks: &'a mut Ticks,
+    pub waits: Vec<Wait>,
 }
 
 /// A command that waits for the last of some commands of another train, and the least ticks from the grant of their first

@@ -10,7 +10,7 @@ use interlocking::Interlocking;
 use rail_base::list::List;
 use rail_base::route::{Finish, RouteNo};
 use rail_base::station::TrainNo;
-use rail_bound::{Bound, Leg, Place};
+use rail_bound::{Leg, Place};
 use std::alloc::{AllocError, Global};
 
 /// Each stretch of each track is looked at in each tick; of a certificate that asks for more looks fewer ticks are known.
@@ -284,7 +284,8 @@ impl Search<'_> {
             return Ok(None);
         };
         let named = self.may_be_named(wide, place, *own, next);
-        if !named || wide.form.breadth != Breadth::Own {
+        let is_known = self.is_known(&wide.form, wide.train, *own);
+        if !named || (wide.form.breadth != Breadth::Own && !is_known) {
             if let Some(choice) = self.best_choice(wide, place, later, next, most)? {
                 let has_own = has_route(choice.routes.as_slice(), *own);
                 if has_own && (!named || choice.routes.len() > 1) {
@@ -383,8 +384,8 @@ impl Search<'_> {
         Ok(Some(all))
     }
 
-    /// The certificate of a chain, none where it can't be had in this breadth.
-    pub(crate) fn bound(&mut self, form: &Form<'_>) -> Result<Option<Bound>, AllocError> {
+    /// The legs of a chain's certificate, none where they can't be had in this breadth.
+    pub(crate) fn legs(&mut self, form: &Form<'_>) -> Result<Option<List<Leg>>, AllocError> {
         let Some(mut ticks) = self.own_ticks(form)? else {
             return Ok(None);
         };
@@ -418,11 +419,7 @@ impl Search<'_> {
         if !self.is_long(form, ticks.as_slice(), stretches) {
             return Ok(None);
         }
-        Ok(Some(Bound {
-            requirement: form.goal.requirement,
-            origin: form.goal.origin(),
-            legs: reversed(self.alloc, legs)?,
-        }))
+        Ok(Some(reversed(self.alloc, legs)?))
     }
 
     /// Whether the legs are still long enough if no more than so many stretches are looked at.
