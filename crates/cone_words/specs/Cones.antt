@@ -35,7 +35,8 @@ holder_text d (Some h) =
 -- a train: up to which tick it is followed, and its path
 abbrev pub followed_text : Station → ConeTrain → List ℕ
 followed_text d c =
-    train_name d c.train ++ codes " is followed up to tick " ++ decimal c.horizon ++ codes " over " ++ path_text c.path
+    train_name d c.train ++ codes " is followed up to tick " ++ decimal c.horizon
+    ++ codes " over " ++ path_text c.path
 
 -- the same, and how many commands of it are granted by then
 abbrev pub train_text : Station → ConeTrain → List ℕ

@@ -149,8 +149,9 @@ impl Chain<'_> {
         requires few { let i = self.now.interlocking.now in let d = i.design.station in
             tick + chain_of d i.routes self.now.most (origin_of from) (origin_of self.now.to) legs.now ≤ 10000000 }
         requires from { ForSome from (λ v. IsTrain self.now.interlocking.now.design.station v.train) }
-        ensures end { let i = self.now.interlocking.now in IfOk result (λ n. n
-            ≡ tick + chain_of i.design.station i.routes self.now.most (origin_of from) (origin_of self.now.to) legs.now) }
+        ensures end { let i = self.now.interlocking.now in let d = i.design.station in
+            IfOk result (λ n. n
+            ≡ tick + chain_of d i.routes self.now.most (origin_of from) (origin_of self.now.to) legs.now) }
         ensures lines { let i = self.now.interlocking.now in OnOk result (lines_of lines.new.items
             ≡ lines_of lines.old.items
             ++ legs_told i.design.station i.routes self.now.most self.now.line (origin_of self.now.after)

@@ -52,11 +52,11 @@ told_done (No line reason) done = absurd (cc)
 -- ---- the answer
 
 -- it is `yes steps <k>`, and no plan of k steps is feasible
-record Shows (n : ℕ) (d : Station) (a : Answer) : Type 0 where
-  steps : ℕ
-  within : steps ≤ n
-  answer : a ≡ one_line Done (yes_line steps)
-  none : IsInfeasible d steps
+pub record Shows (n : ℕ) (d : Station) (a : Answer) : Type 0 where
+  pub steps : ℕ
+  pub within : steps ≤ n
+  pub answer : a ≡ one_line Done (yes_line steps)
+  pub none : IsInfeasible d steps
 
 judged_shows : (n : ℕ) (d : Station) (bytes : List ℕ) → IsAdmitted d → 1 ≤ n → (checked_against d n bytes).status ≡ Done → Shows n d (checked_against d n bytes)
 judged_shows n d bytes good some done =
@@ -64,7 +64,7 @@ judged_shows n d bytes good some done =
     let s = yes_infeasible d good n t.steps bytes some t.is in
     record { steps = t.steps; within = s.0; answer = ap told t.is; none = s.1 }
 
-checked_shows : (n : ℕ) (design_bytes proof_bytes : List ℕ) (d : Station) → 1 ≤ n → design_of design_bytes ≡ Ok d → (checked n design_bytes proof_bytes).status ≡ Done → Shows n d (checked n design_bytes proof_bytes)
+pub checked_shows : (n : ℕ) (design_bytes proof_bytes : List ℕ) (d : Station) → 1 ≤ n → design_of design_bytes ≡ Ok d → (checked n design_bytes proof_bytes).status ≡ Done → Shows n d (checked n design_bytes proof_bytes)
 checked_shows n design_bytes proof_bytes d some spells done =
     let one = passed (within_limit file.Design design_bytes) (λ text. unless_refused (design_in text) (λ e. with_proof n e proof_bytes)) (long_refuses file.Design design_bytes) (ap is_verdict done) in
     let two = passed (design_in one.read) (λ e. with_proof n e proof_bytes) (design_refuses (and_then (design_of one.read) with_routes)) one.verdict in

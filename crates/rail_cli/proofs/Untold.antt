@@ -73,7 +73,7 @@ module _ (r : Result Reply Ending) where
       never (check n design proof) = tt
       never (trial seed size) = (tt, tt)
 
-  ends_so : {X Y : Type 0} (view : X → Y) (e : Ending) (reading : Result Y Answer) (next : Y → Answer) (answer : Answer) → r ≡ Err e → Reads view (Err e) reading → answer ≡ unless_refused reading next → Replies r answer
+  pub ends_so : {X Y : Type 0} (view : X → Y) (e : Ending) (reading : Result Y Answer) (next : Y → Answer) (answer : Answer) → r ≡ Err e → Reads view (Err e) reading → answer ≡ unless_refused reading next → Replies r answer
   ends_so view e reading next answer is h same = subst (Replies r) (sym same) (subst (λ (x : Result Reply Ending). Replies x (unless_refused reading next)) (sym is) (ends_here view e reading next h))
 
 -- ---- the answers, where the design is fetched and read
@@ -90,10 +90,10 @@ searched_text m n conflicts ticks found text = unless_refused (design_in text) (
 
 -- for any answer that reads the design first
 module _ (bytes text : List ℕ) (fits : within_limit file.Design bytes ≡ Ok text) (next : Station → Answer) where
-  with_text : unless_refused (within_limit file.Design bytes) (λ t. unless_refused (design_in t) next) ≡ unless_refused (design_in text) next
+  pub with_text : unless_refused (within_limit file.Design bytes) (λ t. unless_refused (design_in t) next) ≡ unless_refused (design_in text) next
   with_text = answered_next (within_limit file.Design bytes) text (λ t. unless_refused (design_in t) next) fits
 
-  with_design : (d : Station) → design_in text ≡ Ok d → unless_refused (within_limit file.Design bytes) (λ t. unless_refused (design_in t) next) ≡ next d
+  pub with_design : (d : Station) → design_in text ≡ Ok d → unless_refused (within_limit file.Design bytes) (λ t. unless_refused (design_in t) next) ≡ next d
   with_design d reads = with_text ∙ answered_next (design_in text) d next reads
 
 -- ---- simulations

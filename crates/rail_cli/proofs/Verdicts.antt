@@ -72,7 +72,7 @@ module _ (bytes : List ℕ) (d : Station) (s : SpellsDesign bytes d) where
   searched_so m n conflicts ticks found few =
       read_so m n conflicts ticks bytes found bytes fits d reads ∙ answered_next (with_clauses m n d) d (λ same. told_outcome d n conflicts ticks found) (few_pass m d n few)
 
-  checked_so : (n : ℕ) (proof_bytes : List ℕ) → HasFewClauses Cones d n → length proof_bytes ≤ limit_of file.Proof → checked n bytes proof_bytes ≡ told (judged d n proof_bytes)
+  pub checked_so : (n : ℕ) (proof_bytes : List ℕ) → HasFewClauses Cones d n → length proof_bytes ≤ limit_of file.Proof → checked n bytes proof_bytes ≡ told (judged d n proof_bytes)
   checked_so n proof_bytes few short =
       answered_next (within_limit file.Design bytes) bytes (λ text. unless_refused (design_in text) (λ e. with_proof n e proof_bytes)) fits
       ∙ (answered_next (design_in bytes) d (λ e. with_proof n e proof_bytes) reads
@@ -91,7 +91,7 @@ shown_verdict (verdict.Met history tick) = inl refl
 shown_verdict (verdict.Failed history tick violation) = inr refl
 shown_verdict verdict.Undecided = inr refl
 
-told_verdict : (v : Shown) → IsVerdict (told v).status
+pub told_verdict : (v : Shown) → IsVerdict (told v).status
 told_verdict (Yes k) = inl refl
 told_verdict (No line reason) = inr refl
 

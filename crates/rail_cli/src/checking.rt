@@ -27,8 +27,8 @@ use rail_base::design::Design;
 use rail_outside::Shelf;
 use std::alloc::{AllocError, Global};
 
-/// The clauses of a design, for plans of up to so many steps.
-fn encode(alloc: Global, interlocking: &Interlocking, steps: Steps) -> Result<Base, Ending>
+/// The clauses of a design, for plans of up to so many steps. The ending tells that they are too many, or is want of memory.
+pub fn encode(alloc: Global, interlocking: &Interlocking, steps: Steps) -> Result<Base, Ending>
     ensures reads { let d = interlocking.now.design.station in
         Reads (λ _. d) result (with_clauses Cones steps.count d) }
     ensures refuses { OnlyRefuses result }
@@ -41,8 +41,8 @@ fn encode(alloc: Global, interlocking: &Interlocking, steps: Steps) -> Result<Ba
     }
 }
 
-/// What a proof file shows, in a line.
-fn tell(alloc: Global, shown: Shown) -> Result<Reply, AllocError>
+/// What a proof file shows, in a line. The error is want of memory.
+pub fn tell(alloc: Global, shown: Shown) -> Result<Reply, AllocError>
     ensures told { Tells result (told shown) }
     ensures verdict { IfOk result (λ reply. is_verdict reply.status ≡ true) }
 {

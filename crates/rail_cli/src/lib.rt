@@ -1,5 +1,6 @@
 //! The commands of `rcv`: from the words of a command line, over a shelf of files, to the lines that are printed and
-//! the status to end with.
+//! the status to end with. Beside them stand the steps that a program like it takes as they are: the reading of files,
+//! what a proof shows, and the printing of a reply.
 #![tactic(auto)]
 
 mod checking;
@@ -19,7 +20,13 @@ mod sure;
 mod texts;
 mod trial;
 
+pub use checking::{encode, tell};
+pub use ending::Ending;
+pub use input::InputFile;
 pub use laws::stored_proofs_pass;
-pub use run::run_words;
+pub use reading::{admit, fetch};
+pub use refusals::one_line;
+pub use reply::Reply;
+pub use run::{print, run_words};
 pub use status::Status;
 pub use sure::run_words_surely;

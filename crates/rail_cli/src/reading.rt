@@ -19,8 +19,8 @@ use rail_outside::{FetchFault, Shelf};
 use rail_routes::{RouteFault, interlocking};
 use std::alloc::Global;
 
-/// The bytes of a file within its limit.
-pub(crate) fn fetch<S: Shelf>(
+/// The bytes of a file within its limit. The ending tells that there are more, or is want of memory or a fault of the shelf.
+pub fn fetch<S: Shelf>(
     alloc: Global,
     shelf: &mut S,
     file: InputFile,
@@ -75,8 +75,8 @@ pub(crate) fn interlock(alloc: Global, design: Design) -> Result<Interlocking, E
     }
 }
 
-/// The design that the bytes spell, with its routes.
-pub(crate) fn admit(alloc: Global, bytes: &[u8]) -> Result<Interlocking, Ending>
+/// The design that the bytes spell, with its routes. The ending tells why it is refused, or is want of memory.
+pub fn admit(alloc: Global, bytes: &[u8]) -> Result<Interlocking, Ending>
     ensures reads { Reads (λ i. i.design.station) result (design_in bytes.now) }
     ensures refuses { OnlyRefuses result }
 {

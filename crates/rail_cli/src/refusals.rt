@@ -20,8 +20,8 @@ use rail_plan::fault::PlanCode;
 use rail_plan::place::PlanPlace;
 use std::alloc::{AllocError, Global};
 
-/// A reply of one line.
-pub(crate) fn one_line(alloc: Global, status: Status, line: Vec<u8>) -> Result<Reply, AllocError>
+/// A reply of one line. The error is want of memory.
+pub fn one_line(alloc: Global, status: Status, line: Vec<u8>) -> Result<Reply, AllocError>
     requires { is_answered status ≡ true }
     ensures { Tells result (one_line status line.items) }
 {

@@ -99,8 +99,8 @@ fn reply<S: Shelf>(alloc: Global, words: &[String], shelf: &mut S) -> Result<Rep
     }
 }
 
-/// Prints a reply, and tells how the run ends.
-fn print<O: Sink>(reply: &Reply, out: &mut O) -> Status
+/// Prints a reply line by line, and tells how the run ends: by the status of the reply, want of memory or a fault of the sink.
+pub fn print<O: Sink>(reply: &Reply, out: &mut O) -> Status
     ensures prints { Prints (reply_seen reply.now) result
         (O.written out.old) (O.written out.new) (O.puts out.old) (O.puts out.new) }
     ensures cause { result ≡ Status.SinkFault → Rose (O.fault_count out.old) (O.fault_count out.new) }

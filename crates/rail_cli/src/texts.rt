@@ -26,10 +26,13 @@ use std::alloc::{AllocError, Global};
 pub(crate) fn usage_line(alloc: Global) -> Result<Vec<u8>, AllocError>
     ensures { IfOk result (λ line. line.items ≡ usage_line) }
 {
-    Vec::from_slice(
+    let mut line = Vec::from_slice(
         alloc,
-        b"usage: rcv simulate DESIGN PLAN; rcv routes DESIGN; rcv verify --steps N --conflicts C --ticks T DESIGN PROOF; rcv check --steps N DESIGN PROOF; rcv trial SEED SIZE\n",
-    )
+        b"usage: rcv simulate DESIGN PLAN; rcv routes DESIGN; ",
+    )?;
+    line.extend_from_slice(b"rcv verify --steps N --conflicts C --ticks T DESIGN PROOF; ")?;
+    line.extend_from_slice(b"rcv check --steps N DESIGN PROOF; rcv trial SEED SIZE\n")?;
+    Ok(line)
 }
 
 /// `too long <file> <limit>`

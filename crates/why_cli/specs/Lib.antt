@@ -1,0 +1,5 @@
+-- What `rcv_why` answers.
+pub mod Answers
+pub mod Replies
+pub mod Shows
+pub mod Laws

@@ -1,0 +1,12 @@
+//! What `rcv_why` does: from the words of a command line, over a shelf of files, to the sentences about a proof's cones
+//! and bounds that are printed, or to what a check of the files answers where it is not yes.
+#![tactic(auto)]
+
+mod explaining;
+mod laws;
+mod run;
+
+pub use laws::{
+    heads_name_steps, no_steps_is_usage, refuses_as_check, silence_is_usage, tells_where_yes,
+};
+pub use run::run_why;
