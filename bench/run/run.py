@@ -15,6 +15,7 @@ import time
 
 TOP = pathlib.Path(__file__).resolve().parent.parent.parent
 DAY = 86_400
+RUNS = TOP / "crates" / "day_runs"
 
 
 class Design:
@@ -132,8 +133,16 @@ def checked(program, folder, lines, line):
     return ["check", "--steps", "1", folder / "design.toml", folder / "proof"]
 
 
-def cases(program, folder):
-    """The name, the bar in seconds, how the answer begins, and the words of each."""
+def cases(program, runs, folder):
+    """The name, the bar in seconds, how the answer begins, and the program with its words of each."""
+    for name, bar, begins, words in commands(program, folder):
+        yield name, bar, begins, [program, *words]
+    failed = "200000 runs: 200000 fail"
+    yield "200,000 runs of two trains that wait for a day", 20, failed, [runs, "200000", RUNS / "data" / "day.toml"]
+
+
+def commands(program, folder):
+    """The name, the bar in seconds, how the answer begins, and the words of each command."""
     yield "32 trains over 62 routes each, a day", 0.5, "met", simulated(program, folder, following(16, 62, 1_300_000, 1_000))
     yield "32 trains over 62 short routes each, a day", 0.5, "met", simulated(program, folder, following(16, 62, 10_000, 1_000))
     yield "32 trains in turn over 1,998 nodes each, all demands", 2, "met", simulated(program, folder, in_turn(32, 1_998, 1_000, 1_000))
@@ -144,17 +153,18 @@ def cases(program, folder):
 def main():
     words = argparse.ArgumentParser(description=__doc__)
     words.add_argument("--program", default=str(TOP / "rcv"), help="the program to run")
+    words.add_argument("--runs-program", default=str(RUNS / "out" / "day_runs"), help="the program that runs one plan many times")
     words.add_argument("--limit", type=float, default=120, help="how many seconds a case may take, after which it is killed")
     words.add_argument("--only", default="", help="cases whose names have these words")
     given = words.parse_args()
     missed = 0
     with tempfile.TemporaryDirectory() as made:
-        for name, bar, begins, told in cases(given.program, pathlib.Path(made)):
+        for name, bar, begins, told in cases(given.program, given.runs_program, pathlib.Path(made)):
             if given.only not in name:
                 continue
             begin = time.monotonic()
             try:
-                done = subprocess.run([given.program, *told], stdin=subprocess.DEVNULL, stdout=subprocess.PIPE, text=True, timeout=given.limit)
+                done = subprocess.run(told, stdin=subprocess.DEVNULL, stdout=subprocess.PIPE, text=True, timeout=given.limit)
                 answer = done.stdout.splitlines()[0] if done.stdout else f"status {done.returncode}"
             except subprocess.TimeoutExpired:
                 answer = "killed"
