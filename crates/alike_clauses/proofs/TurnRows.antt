@@ -4,7 +4,7 @@ use Rattle.std.specs.List.{list_all}
 use Rattle.rail_base.specs.declared.plan.Command.{Command}
 use Rattle.rail_spec.specs.Track.{routes_of}
 use Rattle.rail_spec.specs.Requirements.{meets}
-use Rattle.rail_spec.proofs.Stations.{follow, plan_two}
+use Rattle.rail_laws.proofs.Stations.{follow, plan_two}
 use Rattle.rail_alike.specs.Alike.{exchanged}
 use Rattle.rail_alike.specs.Tests.{neighbors}
 use Rattle.sat_clause.specs.Clauses.{clause_holds}

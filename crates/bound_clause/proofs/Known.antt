@@ -8,7 +8,7 @@ use Rattle.rail_spec.specs.Plans.{route_at, is_train, share, contend, all_comman
 use Rattle.rail_base.specs.Members.{all_neighbors}
 use Rattle.rail_base.proofs.Members.{In, and_left, and_right, and_both, either, list_all_at}
 use Rattle.rail_base.proofs.Lists.{in_append, in_flat_map_back}
-use Rattle.rail_spec.proofs.Given.{same_train}
+use Rattle.rail_laws.proofs.Given.{same_train}
 use Rattle.plan_clauses.proofs.Facts.{contend_sym}
 use Rattle.rail_cone.specs.Cones.{is_listed, is_free}
 use Rattle.rail_cone.specs.Validity as cone

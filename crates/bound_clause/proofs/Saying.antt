@@ -10,7 +10,7 @@ use Rattle.rail_base.specs.Stations.{train_of, first_visit}
 use Rattle.rail_base.proofs.Members.{In, and_left, and_right, and_both, either, or_left, or_right, in_filter, list_any_from, list_any_gives, is_false}
 use Rattle.rail_base.proofs.Lists.{in_append, in_append_left, in_append_right, in_filter_back, in_map, in_map_back, in_flat_map, in_flat_map_back}
 use Rattle.rail_spec.specs.Plans.{route_at, is_train, is_command, contend, starts_in, commands_of, route_numbers, all_commands}
-use Rattle.rail_spec.proofs.Given.{same_train}
+use Rattle.rail_laws.proofs.Given.{same_train}
 use Rattle.plan_clauses.specs.Variables.{pairs}
 use Rattle.plan_clauses.proofs.Places.{command_of, pair_of, pair_from}
 use Rattle.cone_design.proofs.Contending.{mirrored}

@@ -11,8 +11,8 @@ use Rattle.rail_base.proofs.Admitting.{admitted}
 use Rattle.interlocking.specs.declared.railway.Interlocking.{Interlocking}
 use Rattle.rail_spec.specs.Track.{routes_of}
 use Rattle.rail_spec.specs.Plans.{has_node}
-use Rattle.rail_spec.proofs.Admits.{entry_is}
-use Rattle.rail_spec.proofs.Small.{short_route}
+use Rattle.rail_laws.proofs.Admits.{entry_is}
+use Rattle.rail_laws.proofs.Small.{short_route}
 use Rattle.rail_course.specs.Tracks.{routes_at}
 use Rattle.rail_course.proofs.Granting.{laid_out}
 use Rattle.rail_bound.specs.Certificates.{VisitOf, first_in, target, visit_offset}

@@ -13,10 +13,10 @@ use Rattle.rail_base.specs.Routes.{route_at}
 use Rattle.rail_base.specs.Stations.{IsTrain, horizon, vehicle_of}
 use Rattle.rail_spec.specs.Motion.{permitted, next_speed, reach}
 use Rattle.rail_spec.specs.Plans.{path, path_routes}
-use Rattle.rail_spec.specs.Dispatches.{state_of, state_at, rates, stretches, authority, is_ready, granted_with, granted_after, speed_with, moved}
-use Rattle.rail_spec.specs.Run as run
-use Rattle.rail_spec.proofs.MotionLaws.{permitted_after, next_speed_permitted}
-use Rattle.rail_spec.proofs.UnderWay.{IsSound, Travels, still}
+use Rattle.rail_spec.specs.Dispatches.{state_of, state_at, rates, stretches, authority, is_ready, granted_with}
+use Rattle.rail_spec.specs.Dispatches.{granted_after, speed_with, moved, of_plan}
+use Rattle.rail_laws.proofs.MotionLaws.{permitted_after, next_speed_permitted}
+use Rattle.rail_laws.proofs.UnderWay.{IsSound, Travels, still}
 use Rattle.rail_course.specs.Tracks.{routes_at}
 use Rattle.rail_cone.specs.declared.Cone.{Cone}
 use Rattle.rail_cone.specs.declared.ConeTrain.{ConeTrain}
@@ -54,7 +54,7 @@ module _ (d : Station) (routes : List Route) (k : Cone) where
 
   -- ---- what moves and grants look at
 
-  moved_same : (t : TrainNo) (old : TrainState) (n : ℕ) → run.moved d routes (plan t) t old n ≡ moved d routes (of_cone k) t old n
+  moved_same : (t : TrainNo) (old : TrainState) (n : ℕ) → moved d routes (of_plan routes (plan t)) t old n ≡ moved d routes (of_cone k) t old n
   moved_same t old zero = refl
   moved_same t old (suc n) = ap (λ ps. with ps) (same t)
     where
@@ -81,7 +81,7 @@ module _ (d : Station) (routes : List Route) (k : Cone) where
   given t g = take g (path_routes routes (plan t) t)
 
   module _ (sound : (t : TrainNo) → IsSound d routes (plan t)) where
-    travels_on : (t : TrainNo) (named : IsTrain d t) (old : TrainState) (n : ℕ) → 1 ≤ (rates d t).brake → Travels d routes (plan t) t old → (n ≡ old.granted) ⊎ (n ≡ old.granted + 1) → Travels d routes (plan t) t (run.moved d routes (plan t) t old n)
+    travels_on : (t : TrainNo) (named : IsTrain d t) (old : TrainState) (n : ℕ) → 1 ≤ (rates d t).brake → Travels d routes (plan t) t old → (n ≡ old.granted) ⊎ (n ≡ old.granted + 1) → Travels d routes (plan t) t (moved d routes (of_plan routes (plan t)) t old n)
     travels_on t named old zero slows h (inl e) = h
     travels_on t named old zero slows h (inr e) = absurd (omega arith)
     travels_on t named old (suc n) slows h e =

@@ -12,8 +12,8 @@ use Rattle.rail_base.specs.Routes.{no_route, route_at, length_mm, exits}
 use Rattle.rail_base.proofs.Admitting.{admitted}
 use Rattle.interlocking.specs.declared.railway.Interlocking.{Interlocking}
 use Rattle.rail_spec.specs.Track.{routes_of}
-use Rattle.rail_spec.proofs.Admits.{entry_is}
-use Rattle.rail_spec.proofs.Small.{short_route}
+use Rattle.rail_laws.proofs.Admits.{entry_is}
+use Rattle.rail_laws.proofs.Small.{short_route}
 use Rattle.rail_cone.specs.Clauses.{goes_further}
 use Rattle.rail_course.specs.Tracks.{routes_at, way}
 use Rattle.rail_spec.specs.Motion.{Rates, Stretch}

@@ -7,7 +7,8 @@ use Rattle.rail_base.specs.declared.plan.Command.{Command}
 use Rattle.rail_base.specs.Stations.{trains}
 use Rattle.rail_spec.specs.Plans.{commands, is_well_formed, is_executable, all_commands}
 use Rattle.rail_spec.specs.Feasible.{is_of, names_only}
-use Rattle.rail_spec.specs.Run as visits
+use Rattle.rail_spec.specs.Dispatches.{of_plan}
+use Rattle.rail_spec.specs.Visits.{makes_visits}
 use Rattle.rail_base.proofs.Members.{In, and_left, and_right, list_all_at}
 use Rattle.sat_clause.specs.declared.lit.Lit.{Lit}
 use Rattle.sat_clause.specs.Clauses.{clause_holds}
@@ -34,7 +35,7 @@ module _ (d : Station) (routes : List Route) (n : ℕ) (plan : List (List Comman
   named : names_only d routes plan ≡ true → (c : Command) → In c (commands plan) → In c (all_commands d routes)
   named h c m = is_of_in d routes c (list_all_at (is_of d routes) (commands plan) c h m)
 
-  pub clauses_hold : names_only d routes plan ≡ true → is_well_formed d routes n plan ≡ true → is_executable d routes plan ≡ true → list_all (visits.makes_visits d routes plan) (trains d) ≡ true
+  pub clauses_hold : names_only d routes plan ≡ true → is_well_formed d routes n plan ≡ true → is_executable d routes plan ≡ true → list_all (makes_visits d routes (of_plan routes plan)) (trains d) ≡ true
       → (cl : Clause) → In cl (clauses d routes n) → holds (is_so plan) cl ≡ true
   clauses_hold names formed can made =
       let fit : Fit d routes n plan = record { named = named names; formed = formed; can_run = can } in
@@ -44,13 +45,13 @@ module _ (d : Station) (routes : List Route) (n : ℕ) (plan : List (List Comman
         excludes = λ t k. excluded_holds d routes n plan fit t;
         apart = λ p k cl m. (let j = in_filter_back (λ (p : Command × Command). nat_lt p.0.train.0 p.1.train.0) (pairs d routes) p k in not_at_once_holds d routes n plan fit p.0 p.1 cl (pair_of d routes p j.0).contend m);
         waits = λ p k cl m. waits_holds d routes n plan fit p.0 p.1 cl (pair_of d routes p k).contend m;
-        visits = λ t k. makes_visits_holds d routes n plan fit t k (list_all_at (visits.makes_visits d routes plan) (trains d) t made k);
+        visits = λ t k. makes_visits_holds d routes n plan fit t k (list_all_at (makes_visits d routes (of_plan routes plan)) (trains d) t made k);
         orders = λ p k cl m. in_order_holds d routes n plan fit p.0 p.1 cl m;
         ends = λ j h. all_given_holds d routes n plan fit j;
       })
 
   -- the model of a plan that is well formed, can be carried out and makes all visits makes the base true
-  pub base_holds : 1 ≤ n → names_only d routes plan ≡ true → is_well_formed d routes n plan ≡ true → is_executable d routes plan ≡ true → list_all (visits.makes_visits d routes plan) (trains d) ≡ true
+  pub base_holds : 1 ≤ n → names_only d routes plan ≡ true → is_well_formed d routes n plan ≡ true → is_executable d routes plan ≡ true → list_all (makes_visits d routes (of_plan routes plan)) (trains d) ≡ true
       → list_all (clause_holds (model_of d routes n plan)) (base_clauses d routes n) ≡ true
   base_holds some names formed can made = list_all_from (clause_holds (model_of d routes n plan)) (base_clauses d routes n) one
     where

@@ -21,7 +21,7 @@ use Rattle.plan_clauses.proofs.Facts.{AllTrue, given_up_to, Led, led, one_of, st
 use Rattle.plan_clauses.proofs.Numbers.{length-count}
 use Rattle.plan_clauses.proofs.Decoded.{New}
 use Rattle.rail_base.proofs.Lists.{list_all_from, in_map, in_flat_map, in_filter_back, length-map, in_append_right, in_append}
-use Rattle.rail_spec.proofs.Told.{fold_above}
+use Rattle.rail_laws.proofs.Told.{fold_above}
 
 module _ (d : Station) (routes : List Route) (n : ℕ) (says : Variable → Bool) (all : AllTrue d routes n says) (plan : List (List Command)) where
   -- each command of the plan is new in its step, and whatever is given is in the plan

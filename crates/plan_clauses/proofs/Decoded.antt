@@ -20,7 +20,7 @@ use Rattle.plan_clauses.proofs.Places.{command_of, command_from, distinct_routes
 use Rattle.plan_clauses.proofs.Numbers.{length-count}
 use Rattle.plan_clauses.proofs.Facts.{AllTrue, given_up_to, Led, led, one_of, starts_at_boundary, exclude_boundaries, exclude_starts}
 use Rattle.rail_base.proofs.Lists.{list_all_from, in_map_back, in_filter_back, in_count_back, length-map, in_append_left, in_append_right, in_append}
-use Rattle.rail_spec.proofs.Given.{same_train}
+use Rattle.rail_laws.proofs.Given.{same_train}
 
 true_or_false : (b : Bool) → (b ≡ true) ⊎ (b ≡ false)
 true_or_false true = inl refl

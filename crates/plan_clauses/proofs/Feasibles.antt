@@ -11,8 +11,8 @@ use Rattle.rail_base.specs.Numbering.{from_first, after_first}
 use Rattle.rail_base.specs.Stations.{trains, train_of, horizon}
 use Rattle.rail_spec.specs.Plans.{has_node, path_routes}
 use Rattle.rail_base.specs.declared.state.Stop.{Stop}
-use Rattle.rail_spec.specs.Visits.{stops, visits_at, visits_on}
-use Rattle.rail_spec.specs.Run.{visits_of_train, pass_tick, makes_visits}
+use Rattle.rail_spec.specs.Visits.{stops, visits_at, visits_on, pass_tick, visits_of_train, makes_visits}
+use Rattle.rail_spec.specs.Dispatches.{of_plan}
 use Rattle.rail_spec.specs.Requirements.{is_done, command_numbers, granted_by, visit_numbers, visited_by, keeps_order, meets}
 use Rattle.rail_base.proofs.Members.{In, and_left, and_right, and_both, list_all_at}
 use Rattle.rail_base.proofs.Lists.{in_count}
@@ -33,13 +33,13 @@ some_before : {X Y : Type 0} (f : X → Option Y) (o : Option X) → is_some (op
 some_before f None h = h
 some_before f (Some x) h = refl
 
-pub meets_visits : (d : Station) (routes : List Route) (plan : List (List Command)) → meets d routes plan ≡ true → (t : TrainNo) → In t (trains d) → makes_visits d routes plan t ≡ true
+pub meets_visits : (d : Station) (routes : List Route) (plan : List (List Command)) → meets d routes plan ≡ true → (t : TrainNo) → In t (trains d) → makes_visits d routes (of_plan routes plan) t ≡ true
 meets_visits d routes plan h t m =
     let k = horizon d in
     let done = and_left (is_done d routes plan k) _ (and_left (is_done d routes plan k && list_all (keeps_order d routes plan k) d.orders) _ h) in
     let visited = and_right (list_all (λ u. list_all (granted_by d routes plan k u) (command_numbers d routes plan u)) (trains d)) _ done in
     let all = list_all_at (λ u. list_all (visited_by d routes plan k u) (visit_numbers d u)) (trains d) t visited m in
     let l = length-on (train_of d t).visits (stops (path_routes routes plan t)) in
-    some_all (visits_of_train d routes plan t) (λ j i.
-    some_before (pass_tick d routes plan k t) (slice_index_or (visits_of_train d routes plan t) j None)
+    some_all (visits_of_train d routes (of_plan routes plan) t) (λ j i.
+    some_before (pass_tick d routes (of_plan routes plan) k t) (slice_index_or (visits_of_train d routes (of_plan routes plan) t) j None)
     (list_all_at (visited_by d routes plan k t) (visit_numbers d t) (suc j) all (in_count 1 (length (train_of d t).visits) (suc j) (omega arith) (omega arith))))

@@ -2,7 +2,7 @@
 use Rattle.std.specs.Prelude.{◌≡◌, ℕ, zero, suc, Bool, true, false, [], ◌∷◌, map, ℤ, pos, negsuc, refl}
 use Rattle.sat_clause.specs.declared.lit.Lit.{Lit}
 use Rattle.rail_spec.specs.Track.{routes_of}
-use Rattle.rail_spec.proofs.Stations.{halt, follow}
+use Rattle.rail_laws.proofs.Stations.{halt, follow}
 use Rattle.plan_clauses.specs.Clauses.{base_clauses}
 
 -- a literal as a whole number

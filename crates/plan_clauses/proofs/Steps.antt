@@ -10,7 +10,7 @@ use Rattle.rail_base.specs.Members.{all_neighbors}
 use Rattle.rail_base.proofs.Members.{In, and_left, and_right, and_both, list_all_at, list_any_gives, list_any_from, in_filter}
 use Rattle.plan_clauses.proofs.Lists.{Distinct}
 use Rattle.rail_base.proofs.Lists.{in_map_back, in_map, in_flat_map_back, in_flat_map, in_filter_back, in_append_left, in_append_right, in_append}
-use Rattle.rail_spec.proofs.Given.{same_train}
+use Rattle.rail_laws.proofs.Given.{same_train}
 
 abbrev pub cmd : TrainNo → RouteNo → Command
 cmd t r = record { train = t; route = r }

@@ -11,10 +11,10 @@ use Rattle.rail_base.specs.declared.plan.Command.{Command}
 use Rattle.rail_base.specs.Numbering.{one_to, entry, first_of_list, from_first, after_first}
 use Rattle.rail_base.specs.Stations.{train_of, trains}
 use Rattle.rail_spec.specs.Plans.{route_at, path, path_routes, has_node, length_mm, route_numbers}
-use Rattle.rail_spec.specs.Run as visits
+use Rattle.rail_spec.specs.Dispatches.{of_plan}
 use Rattle.rail_base.specs.declared.state.Stop.{Stop}
 use Rattle.rail_spec.specs.Visits.{stops, stops_of, stops_after, visits_at, visits_on}
-use Rattle.rail_spec.specs.Run.{visits_of_train}
+use Rattle.rail_spec.specs.Visits as visits
 use Rattle.rail_base.proofs.Members.{In, and_left, and_right, list_any_from, in_filter}
 use Rattle.plan_clauses.specs.Variables.{Given, yes}
 use Rattle.plan_clauses.specs.Clauses.{Clause, may_visit, visited, makes_visits}
@@ -102,7 +102,7 @@ on (r ∷ rs) p m = go (in_after_append (stops_of 0 1 r) (stops_after (length_mm
     go (inl k) = on_one 0 1 r (r ∷ rs) p (inl refl) k
     go (inr k) = let o = on_later (length_mm r) 2 rs p k in record { route = o.route; member = inr o.member; entry = o.entry; at = o.at; node = o.node }
 
-module _ (d : Station) (routes : List Route) (n : ℕ) (plan : List (List Command)) (fit : Fit d routes n plan) (t : TrainNo) (known : In t (trains d)) (all : visits.makes_visits d routes plan t ≡ true) where
+module _ (d : Station) (routes : List Route) (n : ℕ) (plan : List (List Command)) (fit : Fit d routes n plan) (t : TrainNo) (known : In t (trains d)) (all : visits.makes_visits d routes (of_plan routes plan) t ≡ true) where
   -- a route of the train on which the visit is
   record Made (k : ℕ) : Type 0 where
     route : RouteNo

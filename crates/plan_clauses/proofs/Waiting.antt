@@ -23,7 +23,7 @@ use Rattle.plan_clauses.proofs.Truth.{Fails, at_clause, no_false, yes_false}
 use Rattle.plan_clauses.proofs.Places.{one_start, some_shared}
 use Rattle.plan_clauses.proofs.Forward.{IsChain, Found, chains_are, links, Fit, way, one, of, place, same_start, so_in, so_step, so_from, so_not, in_turn}
 use Rattle.rail_base.proofs.Lists.{in_map_back, in_map, in_flat_map_back, in_filter_back, in_append_left, in_append_right}
-use Rattle.rail_spec.proofs.Given.{same_train}
+use Rattle.rail_laws.proofs.Given.{same_train}
 
 path_is : (plan : List (List Command)) (t : TrainNo) → path plan t ≡ map (λ (c : Command). c.route) (filter (λ (c : Command). is_train c.train t) (commands plan))
 path_is [] t = refl

@@ -9,7 +9,8 @@ use Rattle.rail_base.specs.declared.plan.Command.{Command}
 use Rattle.rail_spec.specs.Plans.{goes_on, is_start, exits, route_at, contend}
 use Rattle.rail_base.specs.Members.{In, all_neighbors, all_pairs}
 use Rattle.rail_spec.specs.Feasible.{is_of}
-use Rattle.rail_spec.specs.Run.{makes_visits}
+use Rattle.rail_spec.specs.Dispatches.{of_plan}
+use Rattle.rail_spec.specs.Visits.{makes_visits}
 use Rattle.plan_clauses.specs.Clauses.{chain_length, base_clauses}
 use Rattle.sat_clause.specs.Clauses.{clause_holds}
 use Rattle.sat_clause.specs.declared.lit.Lit.{Lit}
@@ -17,7 +18,7 @@ use Rattle.plan_clauses.specs.Variables.{Given, Before, By, number_of, variable_
 
 -- the whole path of each train makes all its visits
 pub record VisitsAll (d : Station) (routes : List Route) (plan : List (List Command)) : Type 0 where
-  pub made : (t : TrainNo) → 1 ≤ t.0 → t.0 ≤ length d.trains → makes_visits d routes plan t ≡ true
+  pub made : (t : TrainNo) → 1 ≤ t.0 → t.0 ≤ length d.trains → makes_visits d routes (of_plan routes plan) t ≡ true
 
 -- two models agree on what is given, and on which of two commands is before the other
 pub record Agrees (d : Station) (routes : List Route) (n : ℕ) (one other : ℕ → Bool) : Type 0 where

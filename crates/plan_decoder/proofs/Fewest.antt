@@ -12,8 +12,8 @@ use Rattle.rail_base.specs.Stations.{train_of}
 use Rattle.rail_base.proofs.Members.{and_left}
 use Rattle.rail_spec.specs.Track.{routes_of}
 use Rattle.rail_spec.specs.Plans.{one_each}
-use Rattle.rail_spec.specs.Run.{makes_visits}
-use Rattle.rail_spec.specs.Visits.{visits_on}
+use Rattle.rail_spec.specs.Dispatches.{of_plan}
+use Rattle.rail_spec.specs.Visits.{visits_on, makes_visits}
 use Rattle.rail_spec.specs.Feasible.{IsInfeasible}
 use Rattle.plan_clauses.proofs.Feasibles.{meets_visits}
 use Rattle.plan_clauses.proofs.Places.{train_in}
@@ -23,7 +23,7 @@ not_on [] some h = omega arith
 not_on (set ∷ sets) some h = true≢false (sym h)
 
 -- a train that visits makes none without steps
-not_made : (d : Station) (routes : List Route) (plan : List (List Command)) (t : TrainNo) → length plan ≤ 0 → 1 ≤ length (train_of d t).visits → makes_visits d routes plan t ≡ true → ⊥
+not_made : (d : Station) (routes : List Route) (plan : List (List Command)) (t : TrainNo) → length plan ≤ 0 → 1 ≤ length (train_of d t).visits → makes_visits d routes (of_plan routes plan) t ≡ true → ⊥
 not_made d routes [] t none some h = not_on (train_of d t).visits some h
 not_made d routes (step ∷ steps) t none some h = omega arith
 

@@ -3,7 +3,7 @@ use Rattle.std.specs.Prelude.{◌≡◌, List}
 use Rattle.rail_base.specs.declared.plan.Command.{Command}
 use Rattle.rail_spec.specs.Feasible.{IsWellFormed}
 use Rattle.rail_spec.specs.Dispatches.{Dispatch}
-use Rattle.rail_spec.specs.Run.{of_plan}
+use Rattle.rail_spec.specs.Dispatches.{of_plan}
 use Rattle.dispatch_run.specs.declared.traffic.Traffic.{Traffic}
 use Rattle.dispatch_run.specs.Followers.{IsTraffic}
 

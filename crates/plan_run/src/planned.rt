@@ -1,7 +1,7 @@
 //! The traffic of a plan.
 
 ghost use Rattle.std.specs.Prelude.{◌≡◌, IfOk};
-ghost use Rattle.rail_spec.specs.Run.{of_plan};
+ghost use Rattle.rail_spec.specs.Dispatches.{of_plan};
 ghost use Rattle.dispatch_run.specs.Followers.{AreFollowers};
 
 use dispatch_run::Follower;

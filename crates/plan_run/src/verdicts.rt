@@ -6,7 +6,7 @@ ghost use Rattle.rail_spec.specs.Feasible.{IsWellFormed};
 ghost use Rattle.rail_spec.specs.Requirements.{path_violation};
 ghost use Rattle.rail_spec.specs.Histories.{verdict_of};
 ghost use Rattle.rail_spec.specs.Safety.{Clash, KeepsToTrack};
-ghost use Rattle.rail_spec.specs.Progress.{IsGrantedInTime};
+ghost use Rattle.rail_laws.specs.Progress.{IsGrantedInTime};
 ghost use Rattle.rail_spec.specs.Dispatches.{Dispatch};
 ghost use Rattle.plan_run.specs.Planned.{IsPlanned};
 

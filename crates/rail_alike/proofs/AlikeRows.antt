@@ -3,7 +3,7 @@ use Rattle.std.specs.Prelude.{◌≡◌, ℕ, true, false, [], ◌∷◌, refl}
 use Rattle.rail_base.specs.declared.station.Station.{Station}
 use Rattle.rail_base.specs.declared.station.TrainNo.{TrainNo}
 use Rattle.rail_base.specs.declared.plan.Command.{Command}
-use Rattle.rail_spec.proofs.Stations.{follow, parallel, plan_two}
+use Rattle.rail_laws.proofs.Stations.{follow, parallel, plan_two}
 use Rattle.rail_alike.specs.Renaming.{first_step}
 use Rattle.rail_alike.specs.Alike.{exchanged}
 use Rattle.rail_alike.specs.Tests.{are_alike, neighbors}

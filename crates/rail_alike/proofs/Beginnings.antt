@@ -13,7 +13,7 @@ use Rattle.rail_spec.specs.Feasible.{IsWellFormed}
 use Rattle.rail_spec.specs.Feasible as feasible
 use Rattle.rail_base.proofs.Members.{and_left, and_right, and_both, list_all_at, list_any_gives, list_any_from}
 use Rattle.rail_base.proofs.Lists.{in_append}
-use Rattle.rail_spec.proofs.Standing.{in_path, in_routes_given}
+use Rattle.rail_laws.proofs.Standing.{in_path, in_routes_given}
 use Rattle.rail_alike.specs.Renaming.{first_step}
 use Rattle.rail_alike.specs.Turns.{HasBegunBy}
 use Rattle.rail_alike.proofs.Equivariant.{same_train}

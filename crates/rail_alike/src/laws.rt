@@ -7,8 +7,7 @@ ghost use Rattle.rail_base.specs.declared.route.Route.{Route};
 ghost use Rattle.rail_base.specs.declared.plan.Command.{Command};
 ghost use Rattle.rail_base.specs.Members.{In};
 ghost use Rattle.rail_base.specs.Stations.{IsTrain};
-ghost use Rattle.rail_spec.specs.Dispatches.{state_of};
-ghost use Rattle.rail_spec.specs.Run.{state_at};
+ghost use Rattle.rail_spec.specs.Dispatches.{state_of, of_plan, state_at};
 ghost use Rattle.rail_spec.specs.Feasible.{IsWellFormed, IsFeasible, IsInfeasible};
 ghost use Rattle.rail_spec.specs.Plans.{has_command};
 ghost use Rattle.rail_alike.specs.Renaming.{Renames, renamed, first_step};
@@ -21,10 +20,10 @@ ghost use Rattle.rail_alike.specs.Turns.{AllInTurn, AreNamed, ArePairs, ComeInTu
 pub fn runs_are_exchanged()
     ensures two { (d : Station) (t u : TrainNo) → AreAlike d t u
         → (routes : List Route) (plan : List (List Command)) (k : ℕ) (x : TrainNo)
-        → state_of (state_at d routes (exchanged t u plan) k) (exchange t u x) ≡ state_of (state_at d routes plan k) x }
+        → state_of (state_at d routes (of_plan routes (exchanged t u plan)) k) (exchange t u x) ≡ state_of (state_at d routes (of_plan routes plan) k) x }
     ensures any { (d : Station) (other : TrainNo → TrainNo) → Renames d other
         → (routes : List Route) (plan : List (List Command)) (k : ℕ) (x : TrainNo)
-        → state_of (state_at d routes (renamed other plan) k) (other x) ≡ state_of (state_at d routes plan k) x }
+        → state_of (state_at d routes (of_plan routes (renamed other plan)) k) (other x) ≡ state_of (state_at d routes (of_plan routes plan) k) x }
 {}
 
 /// A plan is feasible exactly where it is so with the two exchanged, or with trains so renamed.

@@ -21,8 +21,8 @@ use Rattle.rail_spec.specs.Plans.{route_at, path, path_routes, commands, is_star
 use Rattle.rail_spec.specs.Feasible.{IsWellFormed, is_of}
 use Rattle.rail_base.proofs.Members.{and_left, and_right, either, is_false, list_all_at, list_any_from}
 use Rattle.rail_base.proofs.Lists.{in_map, in_count}
-use Rattle.rail_spec.proofs.Standing.{in_path}
-use Rattle.rail_spec.proofs.Admits.{formed_path}
+use Rattle.rail_laws.proofs.Standing.{in_path}
+use Rattle.rail_laws.proofs.Admits.{formed_path}
 use Rattle.rail_cone.specs.Cones.{has_route}
 use Rattle.rail_cone.specs.Validity.{from_boundary}
 use Rattle.rail_cone.proofs.Fronts.{not_to_boundary, both_end_there, not_both}

@@ -19,16 +19,17 @@ use Rattle.rail_base.specs.Stations.{IsTrain, horizon, within_of, order_of}
 use Rattle.rail_spec.specs.Track.{routes_of}
 use Rattle.rail_spec.specs.Plans.{route_at, is_train, path, path_routes, commands, length_mm, exits, preceding, precedes, contend, goes_on, route_numbers, all_commands}
 use Rattle.rail_spec.specs.Feasible.{IsWellFormed, IsFeasible, is_of}
-use Rattle.rail_spec.specs.Dispatches.{state_of}
-use Rattle.rail_spec.specs.Run.{of_plan, state_at, visits_of_train, visit_tick, granted_after, granted_with, is_ready, has_cleared}
+use Rattle.rail_spec.specs.Dispatches.{state_of, of_plan, has_cleared, is_ready, granted_with, granted_after}
+use Rattle.rail_spec.specs.Dispatches.{state_at}
+use Rattle.rail_spec.specs.Visits.{visits_of_train, visit_tick}
 use Rattle.rail_base.proofs.Members.{and_left, and_right, and_both, or_left, or_right, list_all_at, is_false, false_unless}
 use Rattle.rail_base.proofs.Lists.{in_filter_back, list_all_from, length-map}
-use Rattle.rail_spec.proofs.Admits.{sound}
-use Rattle.rail_spec.proofs.Given.{same_train}
-use Rattle.rail_spec.proofs.Standing.{in_path}
-use Rattle.rail_spec.proofs.Progress.{state_after, moved_granted}
+use Rattle.rail_laws.proofs.Admits.{sound}
+use Rattle.rail_laws.proofs.Given.{same_train}
+use Rattle.rail_laws.proofs.Standing.{in_path}
+use Rattle.rail_laws.proofs.Progress.{state_after, moved_granted}
 use Rattle.rail_cone.proofs.Saying.{in_has, is_of_in_all}
-use Rattle.rail_spec.proofs.Deciding.{visit_stays}
+use Rattle.rail_laws.proofs.Deciding.{visit_stays}
 use Rattle.rail_cone.specs.Cones.{named}
 use Rattle.rail_cone.specs.Validity as cone
 use Rattle.rail_cone.specs.Validity.{free_granted, held, cone_visit}
@@ -68,7 +69,7 @@ module _ (d : Station) (adm : IsAdmitted d) (n : ℕ) (b : Bound) (plan : List (
   well = feasible.runnable.well_formed
 
   abbrev at : ℕ → TrainNo → TrainState
-  at k t = state_of (state_at d (routes_of d) plan k) t
+  at k t = state_of (state_at d (routes_of d) (of_plan (routes_of d) plan) k) t
 
   abbrev Ridden_on : Leg → Type 0
   Ridden_on l = Rides d (routes_of d) plan (ride_of (routes_of d) l)
@@ -291,7 +292,7 @@ module _ (d : Station) (adm : IsAdmitted d) (n : ℕ) (b : Bound) (plan : List (
               passed s.1 (omega arith)
             where
               entry_of : ℕ → Option Stop
-              entry_of m = entry None (visits_of_train d (routes_of d) plan v.train) m
+              entry_of m = entry None (visits_of_train d (routes_of d) (of_plan (routes_of d) plan) v.train) m
       go false second h =
           let m = made_on d adm n plan well v.train v.number w.stop w.there in
           let all = λ (q : RouteNo) (here : In q (path plan v.train)) (can : can_visit d (routes_of d) v.train v.number q ≡ true). at_end q here can h in
@@ -333,7 +334,7 @@ module _ (d : Station) (adm : IsAdmitted d) (n : ℕ) (b : Bound) (plan : List (
       granted = leb-true _ _ (and_left (nat_le (length i.before + 1) (at k l.train).granted) (nat_le 0 (at k l.train).x) so)
 
       entry_of : ℕ → Option Stop
-      entry_of m = entry None (visits_of_train d (routes_of d) plan v.train) m
+      entry_of m = entry None (visits_of_train d (routes_of d) (of_plan (routes_of d) plan) v.train) m
 
       go : (m : ℕ) → v.number ≡ m → m ≤ 1 → x ≤ k
       go zero e h = let none : None ≡ Some w.stop = sym (ap entry_of e) ∙ w.there in cc
@@ -398,7 +399,7 @@ module _ (d : Station) (adm : IsAdmitted d) (n : ℕ) (b : Bound) (plan : List (
       w = passed_at d adm n plan feasible v x makes
 
       entry_of : ℕ → Option Stop
-      entry_of m = entry None (visits_of_train d (routes_of d) plan v.train) m
+      entry_of m = entry None (visits_of_train d (routes_of d) (of_plan (routes_of d) plan) v.train) m
 
       m : MadeOn d adm n plan well v.train 1 w.stop
       m = made_on d adm n plan well v.train 1 w.stop (sym (ap entry_of one) ∙ w.there)
@@ -434,8 +435,8 @@ module _ (d : Station) (adm : IsAdmitted d) (n : ℕ) (b : Bound) (plan : List (
           let behind = p.not_earlier e c (known e kept.0) (known c c_in) (or_left _ _ (or_right (any_next (may_join c e) b.legs) _ (and_both _ _ at_once meet))) in
           true≢false (sym (and_both _ _ (and_both _ _ (in_has plan e kept.0) (in_has plan c c_in)) earlier) ∙ behind)
 
-      ready : is_ready d (routes_of d) plan (state_at d (routes_of d) plan 0) c ≡ true
-      ready = list_all_from (has_cleared d (routes_of d) plan (state_at d (routes_of d) plan 0) c) (preceding (routes_of d) plan c) (λ e i. absurd (nothing e i))
+      ready : is_ready d (routes_of d) (of_plan (routes_of d) plan) (state_at d (routes_of d) (of_plan (routes_of d) plan) 0) c ≡ true
+      ready = list_all_from (has_cleared d (routes_of d) (of_plan (routes_of d) plan) (state_at d (routes_of d) (of_plan (routes_of d) plan) 0) c) (preceding (routes_of d) plan c) (λ e i. absurd (nothing e i))
 
       named_train : IsTrain d v.train
       named_train = has_train d adm n plan well v.train (let l = ap length here in omega arith)
@@ -444,9 +445,9 @@ module _ (d : Station) (adm : IsAdmitted d) (n : ℕ) (b : Bound) (plan : List (
       granted =
           let none : (at 0 v.train).granted ≡ 0 = ap (λ (s : TrainState). s.granted) (idle_at_first d (routes_of d) (of_plan (routes_of d) plan) v.train) in
           let next : slice_get (path plan v.train) (at 0 v.train).granted ≡ Some m.route = ap (slice_get (path plan v.train)) none ∙ ap (λ ps. slice_get ps 0) here in
-          let after : granted_after d (routes_of d) plan (state_at d (routes_of d) plan 0) v.train ≡ (at 0 v.train).granted + 1 =
-          ap (granted_with d (routes_of d) plan (state_at d (routes_of d) plan 0) v.train) next ∙ ap (λ r. if r then (at 0 v.train).granted + 1 else (at 0 v.train).granted) ready in
-          let g = ap (λ (s : TrainState). s.granted) (state_after d (routes_of d) plan 0 v.train named_train) ∙ moved_granted d (routes_of d) plan v.train (at 0 v.train) (granted_after d (routes_of d) plan (state_at d (routes_of d) plan 0) v.train) (omega arith) in
+          let after : granted_after d (routes_of d) (of_plan (routes_of d) plan) (state_at d (routes_of d) (of_plan (routes_of d) plan) 0) v.train ≡ (at 0 v.train).granted + 1 =
+          ap (granted_with d (routes_of d) (of_plan (routes_of d) plan) (state_at d (routes_of d) (of_plan (routes_of d) plan) 0) v.train) next ∙ ap (λ r. if r then (at 0 v.train).granted + 1 else (at 0 v.train).granted) ready in
+          let g = ap (λ (s : TrainState). s.granted) (state_after d (routes_of d) plan 0 v.train named_train) ∙ moved_granted d (routes_of d) plan v.train (at 0 v.train) (granted_after d (routes_of d) (of_plan (routes_of d) plan) (state_at d (routes_of d) (of_plan (routes_of d) plan) 0) v.train) (omega arith) in
           omega arith
 
       first_pass : x ≤ 1
@@ -591,7 +592,7 @@ module _ (d : Station) (adm : IsAdmitted d) (n : ℕ) (b : Bound) (plan : List (
       let at_k : cone_visit d (routes_of d) c h from.train from.number ≡ Some k = made (cone_visit d (routes_of d) c h from.train from.number) tick in
       let later = visit_stays d (routes_of d) plan h (horizon d - h) from.train from.number k (same ∙ at_k) in
       let e : h + (horizon d - h) ≡ horizon d = omega arith in
-      let one : Some k ≡ Some x = sym (subst (λ i. visit_tick d (routes_of d) plan i from.train from.number ≡ Some k) e later) ∙ makes in
+      let one : Some k ≡ Some x = sym (subst (λ i. visit_tick d (routes_of d) (of_plan (routes_of d) plan) i from.train from.number ≡ Some k) e later) ∙ makes in
       cc
     where
       made : (o : Option ℕ) → is_made_at d (routes_of d) b k o ≡ true → o ≡ Some k
@@ -655,7 +656,7 @@ module _ (d : Station) (adm : IsAdmitted d) (n : ℕ) (b : Bound) (plan : List (
             where
               at_end : (vt : Option VisitOf) → visit_to d b.requirement ≡ vt → nat_lt (horizon d) (1 + ticks vt) ≡ true → ⊥
               at_end (Some to) et late =
-                  let g = some_tick (visit_tick d (routes_of d) plan (horizon d) to.train to.number) ((met d adm n plan feasible).visited to.train to.number (visit_there b.requirement to ef et s.required)) in
+                  let g = some_tick (visit_tick d (routes_of d) (of_plan (routes_of d) plan) (horizon d) to.train to.number) ((met d adm n plan feasible).visited to.train to.number (visit_there b.requirement to ef et s.required)) in
                   let y = after to g.0 et g.1 in
                   let soon = (passed_at d adm n plan feasible to g.0 g.1).soon in
                   let l = leb-true _ _ late in

@@ -18,13 +18,12 @@ use Rattle.rail_base.specs.Stations.{train_of}
 use Rattle.rail_spec.specs.Track.{routes_of}
 use Rattle.rail_spec.specs.Plans.{route_at, is_train, is_route, path, commands, has_command, has_section, length_mm, shared, share, contend, precedes, preceding, step_of, may_stand, can_clear, route_numbers, all_commands}
 use Rattle.rail_spec.specs.Feasible.{IsWellFormed, IsFeasible, is_of}
-use Rattle.rail_spec.specs.Dispatches.{state_of}
-use Rattle.rail_spec.specs.Run.{state_at}
+use Rattle.rail_spec.specs.Dispatches.{state_of, of_plan, state_at}
 use Rattle.rail_spec.specs.Requirements.{visit_numbers}
 use Rattle.rail_base.proofs.Members.{and_left, and_right, and_both, or_left, is_false, list_all_at, list_any_gives, list_any_from, in_filter}
 use Rattle.rail_base.proofs.Lists.{in_append, in_map, in_count_back}
-use Rattle.rail_spec.proofs.Given.{same_route, command_in_path}
-use Rattle.rail_spec.proofs.Standing.{in_path}
+use Rattle.rail_laws.proofs.Given.{same_route, command_in_path}
+use Rattle.rail_laws.proofs.Standing.{in_path}
 use Rattle.rail_cone.specs.Cones.{has_route}
 use Rattle.rail_cone.specs.Cones as cone
 use Rattle.rail_cone.specs.Clauses.{Before, holds_of}
@@ -176,8 +175,8 @@ module _ (d : Station) (adm : IsAdmitted d) (n : ℕ) (b : Bound) (plan : List (
   -- by the tick of a visit the train is so far on the last place of a leg on which it is made
   pub record Arrived (l : Leg) (number k : ℕ) : Type 0 where
     pub stands : Stands l
-    pub granted : length stands.before + 1 ≤ (state_of (state_at d (routes_of d) plan k) l.train).granted
-    pub head : way d adm stands.before + visit_offset d l.train number (f stands.route) ≤ (state_of (state_at d (routes_of d) plan k) l.train).x
+    pub granted : length stands.before + 1 ≤ (state_of (state_at d (routes_of d) (of_plan (routes_of d) plan) k) l.train).granted
+    pub head : way d adm stands.before + visit_offset d l.train number (f stands.route) ≤ (state_of (state_at d (routes_of d) (of_plan (routes_of d) plan) k) l.train).x
 
   pub arrived : (l : Leg) → Proper l → (number k : ℕ) → is_visited d (routes_of d) l.train number (last_of_leg l) ≡ true → Makes d adm n plan feasible (record { train = l.train; number = number }) k → Arrived l number k
   arrived l proper number k visited makes = go (last_of_leg l) refl visited
@@ -188,11 +187,11 @@ module _ (d : Station) (adm : IsAdmitted d) (n : ℕ) (b : Bound) (plan : List (
       w : MadeOn d adm n plan well l.train number at.stop
       w = made_on d adm n plan well l.train number at.stop at.there
 
-      granted : at.stop.command ≤ (state_of (state_at d (routes_of d) plan k) l.train).granted
-      granted = leb-true _ _ (and_left (nat_le at.stop.command (state_of (state_at d (routes_of d) plan k) l.train).granted) _ at.passed)
+      granted : at.stop.command ≤ (state_of (state_at d (routes_of d) (of_plan (routes_of d) plan) k) l.train).granted
+      granted = leb-true _ _ (and_left (nat_le at.stop.command (state_of (state_at d (routes_of d) (of_plan (routes_of d) plan) k) l.train).granted) _ at.passed)
 
-      head : at.stop.offset ≤ (state_of (state_at d (routes_of d) plan k) l.train).x
-      head = leb-true _ _ (and_right (nat_le at.stop.command (state_of (state_at d (routes_of d) plan k) l.train).granted) (nat_le at.stop.offset (state_of (state_at d (routes_of d) plan k) l.train).x) at.passed)
+      head : at.stop.offset ≤ (state_of (state_at d (routes_of d) (of_plan (routes_of d) plan) k) l.train).x
+      head = leb-true _ _ (and_right (nat_le at.stop.command (state_of (state_at d (routes_of d) (of_plan (routes_of d) plan) k) l.train).granted) (nat_le at.stop.offset (state_of (state_at d (routes_of d) (of_plan (routes_of d) plan) k) l.train).x) at.passed)
 
       on_it : In w.route (routes_of_place (last_of_leg l)) → Arrived l number k
       on_it m =

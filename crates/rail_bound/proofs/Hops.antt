@@ -9,8 +9,7 @@ use Rattle.rail_base.specs.Admitted.{IsAdmitted}
 use Rattle.rail_base.specs.Stations.{IsTrain}
 use Rattle.rail_spec.specs.Track.{routes_of}
 use Rattle.rail_spec.specs.Plans.{route_at, length_mm, path, path_routes, is_well_formed}
-use Rattle.rail_spec.specs.Dispatches.{state_of}
-use Rattle.rail_spec.specs.Run.{of_plan, state_at}
+use Rattle.rail_spec.specs.Dispatches.{state_of, of_plan, state_at}
 use Rattle.rail_base.proofs.Members.{and_left, and_right, and_both}
 use Rattle.rail_base.proofs.Lists.{length-map}
 use Rattle.rail_cone.proofs.Running.{idle_at_first}
@@ -23,7 +22,7 @@ use Rattle.rail_free.proofs.Waiting.{waited}
 
 module _ (d : Station) (adm : IsAdmitted d) (n : ℕ) (plan : List (List Command)) (formed : is_well_formed d (routes_of d) n plan ≡ true) where
   abbrev at : ℕ → TrainNo → TrainState
-  at k t = state_of (state_at d (routes_of d) plan k) t
+  at k t = state_of (state_at d (routes_of d) (of_plan (routes_of d) plan) k) t
 
   -- the end of the routes before the command of this number
   abbrev pub end_of : TrainNo → ℕ → ℕ

@@ -14,11 +14,12 @@ use Rattle.rail_base.specs.Stations.{train_of, trains, horizon, within_of, order
 use Rattle.rail_spec.specs.Track.{routes_of}
 use Rattle.rail_spec.specs.Plans.{path}
 use Rattle.rail_spec.specs.Feasible.{IsFeasible}
-use Rattle.rail_spec.specs.Run.{has_passed, pass_tick, visits_of_train, visit_tick}
+use Rattle.rail_spec.specs.Dispatches.{of_plan}
+use Rattle.rail_spec.specs.Visits.{has_passed, pass_tick, visits_of_train, visit_tick}
 use Rattle.rail_spec.specs.Requirements.{both, command_numbers, visit_numbers, granted_by, visited_by, is_done, keeps_order, keeps_within, most_ticks}
 use Rattle.rail_base.proofs.Members.{and_left, and_right, list_all_at, below_or_not}
 use Rattle.rail_base.proofs.Lists.{in_count, in_entry}
-use Rattle.rail_spec.proofs.Deciding.{least_gives}
+use Rattle.rail_laws.proofs.Deciding.{least_gives}
 use Rattle.rail_cone.proofs.Saying.{in_trains}
 use Rattle.rail_bound.specs.declared.Requirement.{Requirement}
 use Rattle.rail_bound.specs.declared.Requirement.TheVariants as requirement
@@ -97,26 +98,26 @@ module _ (d : Station) (adm : IsAdmitted d) (n : ℕ) (plan : List (List Command
 
   -- the tick at which the plan makes a visit
   abbrev pub Makes : VisitOf → ℕ → Type 0
-  Makes v k = visit_tick d (routes_of d) plan (horizon d) v.train v.number ≡ Some k
+  Makes v k = visit_tick d (routes_of d) (of_plan (routes_of d) plan) (horizon d) v.train v.number ≡ Some k
 
   -- the stop of that visit, and its first pass
   pub record PassedAt (v : VisitOf) (k : ℕ) : Type 0 where
     pub stop : Stop
-    pub there : entry None (visits_of_train d (routes_of d) plan v.train) v.number ≡ Some stop
-    pub passed : has_passed d (routes_of d) plan v.train stop k ≡ true
+    pub there : entry None (visits_of_train d (routes_of d) (of_plan (routes_of d) plan) v.train) v.number ≡ Some stop
+    pub passed : has_passed d (routes_of d) (of_plan (routes_of d) plan) v.train stop k ≡ true
     pub some : 1 ≤ k
     pub soon : k ≤ horizon d
-    pub first : (i : ℕ) → 1 ≤ i → has_passed d (routes_of d) plan v.train stop i ≡ true → k ≤ i
+    pub first : (i : ℕ) → 1 ≤ i → has_passed d (routes_of d) (of_plan (routes_of d) plan) v.train stop i ≡ true → k ≤ i
 
   pub passed_at : (v : VisitOf) (k : ℕ) → Makes v k → PassedAt v k
-  passed_at v k h = go (entry None (visits_of_train d (routes_of d) plan v.train) v.number) refl
+  passed_at v k h = go (entry None (visits_of_train d (routes_of d) (of_plan (routes_of d) plan) v.train) v.number) refl
     where
-      go : (o : Option Stop) → entry None (visits_of_train d (routes_of d) plan v.train) v.number ≡ o → PassedAt v k
-      go None e = let none : None ≡ Some k = sym (ap (λ o. option_and_then (pass_tick d (routes_of d) plan (horizon d) v.train) o) e) ∙ h in cc
+      go : (o : Option Stop) → entry None (visits_of_train d (routes_of d) (of_plan (routes_of d) plan) v.train) v.number ≡ o → PassedAt v k
+      go None e = let none : None ≡ Some k = sym (ap (λ o. option_and_then (pass_tick d (routes_of d) (of_plan (routes_of d) plan) (horizon d) v.train) o) e) ∙ h in cc
       go (Some s) e =
-          let at : least (has_passed d (routes_of d) plan v.train s) (horizon d) ≡ Some k = sym (ap (λ o. option_and_then (pass_tick d (routes_of d) plan (horizon d) v.train) o) e) ∙ h in
-          let l = least_gives (has_passed d (routes_of d) plan v.train s) (horizon d) k at in
-          record { stop = s; there = e; passed = l.passes; some = l.first; soon = l.last; first = λ i some so. least_low (has_passed d (routes_of d) plan v.train s) (horizon d) k i at some so }
+          let at : least (has_passed d (routes_of d) (of_plan (routes_of d) plan) v.train s) (horizon d) ≡ Some k = sym (ap (λ o. option_and_then (pass_tick d (routes_of d) (of_plan (routes_of d) plan) (horizon d) v.train) o) e) ∙ h in
+          let l = least_gives (has_passed d (routes_of d) (of_plan (routes_of d) plan) v.train s) (horizon d) k at in
+          record { stop = s; there = e; passed = l.passes; some = l.first; soon = l.last; first = λ i some so. least_low (has_passed d (routes_of d) (of_plan (routes_of d) plan) v.train s) (horizon d) k i at some so }
 
   -- a within or an order has two visits, each made, and not too far apart
   pub record TwoVisits (q : Requirement) (from to : VisitOf) : Type 0 where

@@ -17,11 +17,10 @@ use Rattle.rail_base.specs.Stations.{IsTrain, train_length}
 use Rattle.rail_spec.specs.Track.{routes_of}
 use Rattle.rail_spec.specs.Plans.{route_at, length_mm, shared, release_offset, path, path_routes, preceding, goes_on}
 use Rattle.rail_spec.specs.Feasible.{IsWellFormed}
-use Rattle.rail_spec.specs.Dispatches.{state_of}
-use Rattle.rail_spec.specs.Run.{state_at, routes_before}
+use Rattle.rail_spec.specs.Dispatches.{state_of, of_plan, routes_before, state_at}
 use Rattle.rail_base.proofs.Members.{and_left, and_right}
 use Rattle.rail_base.proofs.Lists.{length-map}
-use Rattle.rail_spec.proofs.Admits.{sections_there}
+use Rattle.rail_laws.proofs.Admits.{sections_there}
 use Rattle.rail_cone.specs.Validity.{from_boundary}
 use Rattle.rail_cone.proofs.Fronts.{not_to_boundary}
 use Rattle.rail_bound.specs.Events.{has_happened, Takes}
@@ -74,10 +73,10 @@ starts_there bs (w ∷ ws) more g h = starts_first bs w (ws ++ more) ws g h
 
 module _ (d : Station) (adm : IsAdmitted d) (n : ℕ) (plan : List (List Command)) (well : IsWellFormed d (routes_of d) n plan) (h : ℕ) where
   abbrev at : ℕ → TrainNo → TrainState
-  at k t = state_of (state_at d (routes_of d) plan k) t
+  at k t = state_of (state_at d (routes_of d) (of_plan (routes_of d) plan) k) t
 
   -- the routes before a command in a path
-  before_is : (t : TrainNo) (xs : List RouteNo) (r : RouteNo) (ys : List RouteNo) → path plan t ≡ xs ++ (r ∷ ys) → routes_before d (routes_of d) plan (record { train = t; route = r }) ≡ map (route_at (routes_of d)) xs
+  before_is : (t : TrainNo) (xs : List RouteNo) (r : RouteNo) (ys : List RouteNo) → path plan t ≡ xs ++ (r ∷ ys) → routes_before d (routes_of d) (of_plan (routes_of d) plan) (record { train = t; route = r }) ≡ map (route_at (routes_of d)) xs
   before_is t xs r ys e =
       let long : length (path plan t) ≡ length xs + length (r ∷ ys) = ap length e ∙ length-append xs (r ∷ ys) in
       let named = has_train d adm n plan well t (omega arith) in
@@ -182,19 +181,19 @@ module _ (d : Station) (adm : IsAdmitted d) (n : ℕ) (plan : List (List Command
           → Takes d (routes_of d) plan (reaches d (routes_of d) plan r i place) (granted_first d (routes_of d) plan s j) 1 k
       link pre z m k so = go (greatest_is (release_offset (f i.last)) (shared (f i.last) next) z m)
         where
-          e_before : routes_before d (routes_of d) plan (last_command d (routes_of d) plan r i) ≡ map f (i.before ++ i.front)
+          e_before : routes_before d (routes_of d) (of_plan (routes_of d) plan) (last_command d (routes_of d) plan r i) ≡ map f (i.before ++ i.front)
           e_before = before_is r.train (i.before ++ i.front) i.last i.more (i.whole ∙ sym (append_assoc i.before i.front (i.last ∷ i.more)))
 
-          c_before : routes_before d (routes_of d) plan (first_command d (routes_of d) plan s j) ≡ map f j.before
+          c_before : routes_before d (routes_of d) (of_plan (routes_of d) plan) (first_command d (routes_of d) plan s j) ≡ map f j.before
           c_before = let w = first_is j.front j.last j.more in before_is s.train j.before (first_of d (routes_of d) plan j.front j.last) w.0 (j.whole ∙ ap (λ zs. j.before ++ zs) w.1)
 
-          c_number : length (routes_before d (routes_of d) plan (first_command d (routes_of d) plan s j)) + 1 ≡ length j.before + 1
+          c_number : length (routes_before d (routes_of d) (of_plan (routes_of d) plan) (first_command d (routes_of d) plan s j)) + 1 ≡ length j.before + 1
           c_number = ap (λ zs. length zs + 1) c_before ∙ ap (λ m. m + 1) (length-map f j.before)
 
-          e_number : length (routes_before d (routes_of d) plan (last_command d (routes_of d) plan r i)) + 1 ≡ length i.before + length i.front + 1
+          e_number : length (routes_before d (routes_of d) (of_plan (routes_of d) plan) (last_command d (routes_of d) plan r i)) + 1 ≡ length i.before + length i.front + 1
           e_number = ap (λ zs. length zs + 1) e_before ∙ ap (λ m. m + 1) (length-map f (i.before ++ i.front) ∙ length-append i.before i.front)
 
-          e_sum : sum_by length_mm (routes_before d (routes_of d) plan (last_command d (routes_of d) plan r i)) ≡ sum_by length_mm before_routes + sum_by length_mm (map f i.front)
+          e_sum : sum_by length_mm (routes_before d (routes_of d) (of_plan (routes_of d) plan) (last_command d (routes_of d) plan r i)) ≡ sum_by length_mm before_routes + sum_by length_mm (map f i.front)
           e_sum = ap (sum_by length_mm) (e_before ∙ map-append f i.before i.front) ∙ sum_by-append length_mm before_routes (map f i.front)
 
           go : ((y : SectionNo) × In y (shared (f i.last) next) × (greatest_of (release_offset (f i.last)) (shared (f i.last) next) ≤ release_offset (f i.last) y)) → Takes d (routes_of d) plan (reaches d (routes_of d) plan r i place) (granted_first d (routes_of d) plan s j) 1 k
@@ -204,7 +203,7 @@ module _ (d : Station) (adm : IsAdmitted d) (n : ℕ) (plan : List (List Command
               let so' = subst (λ (m : ℕ). has_happened d (routes_of d) plan (record { train = s.train; command = m; place = 0 }) k ≡ true) (sym c_number) so in
               let h = clear d (routes_of d) plan (last_command d (routes_of d) plan r i) (first_command d (routes_of d) plan s j) y pre my (sum_by length_mm before_routes + place) k (omega arith) so' in
               subst (λ (m : ℕ). Takes d (routes_of d) plan (record { train = r.train; command = m; place = sum_by length_mm before_routes + place }) (granted_first d (routes_of d) plan s j) 1 k) e_number
-              (subst (λ (m : ℕ). Takes d (routes_of d) plan (record { train = r.train; command = length (routes_before d (routes_of d) plan (last_command d (routes_of d) plan r i)) + 1; place = sum_by length_mm before_routes + place }) (record { train = s.train; command = m; place = 0 }) 1 k) c_number h)
+              (subst (λ (m : ℕ). Takes d (routes_of d) plan (record { train = r.train; command = length (routes_before d (routes_of d) (of_plan (routes_of d) plan) (last_command d (routes_of d) plan r i)) + 1; place = sum_by length_mm before_routes + place }) (record { train = s.train; command = m; place = 0 }) 1 k) c_number h)
 
   pub chain_takes : (r : Ride) (i : Rides d (routes_of d) plan r) (ss : List Ride) (c : Chained d (routes_of d) plan r i ss) (target : List Route → ℕ) (k : ℕ) → has_happened d (routes_of d) plan (arrives d (routes_of d) plan r i ss c target) k ≡ true
       → Takes d (routes_of d) plan (granted_first d (routes_of d) plan r i) (arrives d (routes_of d) plan r i ss c target) (chain_ticks d (routes_of d) h r ss target) k

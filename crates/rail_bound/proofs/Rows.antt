@@ -4,9 +4,10 @@ use Rattle.rail_base.specs.declared.station.Station.{Station}
 use Rattle.rail_base.specs.declared.station.Side.TheVariants.{A, B}
 use Rattle.rail_base.specs.declared.route.RouteNo.{RouteNo}
 use Rattle.rail_spec.specs.Track.{routes_of}
-use Rattle.rail_spec.specs.Run.{visit_tick}
+use Rattle.rail_spec.specs.Dispatches.{of_plan}
+use Rattle.rail_spec.specs.Visits.{visit_tick}
 use Rattle.rail_cone.specs.Clauses.{Used, Before}
-use Rattle.rail_spec.proofs.Stations.{line, at, edge, plain_edges, signal, goes_east, within, plan_one, plan_two, command}
+use Rattle.rail_laws.proofs.Stations.{line, at, edge, plain_edges, signal, goes_east, within, plan_one, plan_two, command}
 use Rattle.rail_bound.specs.declared.Requirement.TheVariants as requirement
 use Rattle.rail_bound.specs.declared.Origin.TheVariants as origin
 use Rattle.rail_bound.specs.declared.Place.{Place}
@@ -43,7 +44,7 @@ through = record { requirement = requirement.Within 1; origin = origin.Visit; le
 through_ticks : ticks_to (alone 8000 12000) (routes_of (alone 8000 12000)) (horizon (alone 8000 12000)) (visit_to (alone 8000 12000) (requirement.Within 1)) (leg 1 (named 1 ∷ named 2 ∷ []) ∷ []) ≡ 9
 through_ticks = refl
 
-through_run : visit_tick (alone 8000 12000) (routes_of (alone 8000 12000)) plan_one 12 (record { 0 = 1 }) 2 ≡ Some 10
+through_run : visit_tick (alone 8000 12000) (routes_of (alone 8000 12000)) (of_plan (routes_of (alone 8000 12000)) plan_one) 12 (record { 0 = 1 }) 2 ≡ Some 10
 through_run = refl
 
 through_too_long : fault_of (alone 8999 12000) (routes_of (alone 8999 12000)) through ≡ None
@@ -62,7 +63,7 @@ behind first = record { requirement = requirement.Within 1; origin = origin.Visi
 behind_ticks : ticks_to (in_turn 0 20000) (routes_of (in_turn 0 20000)) (horizon (in_turn 0 20000)) (visit_to (in_turn 0 20000) (requirement.Within 1)) (behind (named 1 ∷ [])).legs ≡ 17
 behind_ticks = refl
 
-behind_run : visit_tick (in_turn 0 20000) (routes_of (in_turn 0 20000)) plan_two 20 (record { 0 = 2 }) 2 ≡ Some 18
+behind_run : visit_tick (in_turn 0 20000) (routes_of (in_turn 0 20000)) (of_plan (routes_of (in_turn 0 20000)) plan_two) 20 (record { 0 = 2 }) 2 ≡ Some 18
 behind_run = refl
 
 -- a second train that stands at the signal until the first has left the long second section
@@ -75,7 +76,7 @@ stands = record { requirement = requirement.Within 1; origin = origin.Visit; leg
 stands_ticks : ticks_to (long_second 0) (routes_of (long_second 0)) (horizon (long_second 0)) (visit_to (long_second 0) (requirement.Within 1)) stands.legs ≡ 25
 stands_ticks = refl
 
-stands_run : visit_tick (long_second 0) (routes_of (long_second 0)) plan_two 30 (record { 0 = 2 }) 2 ≡ Some 27
+stands_run : visit_tick (long_second 0) (routes_of (long_second 0)) (of_plan (routes_of (long_second 0)) plan_two) 30 (record { 0 = 2 }) 2 ≡ Some 27
 stands_run = refl
 
 stands_too_long : fault_of (long_second 24999) (routes_of (long_second 24999)) stands ≡ None

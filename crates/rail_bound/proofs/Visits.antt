@@ -18,12 +18,12 @@ use Rattle.rail_base.specs.Stations.{train_of, length_of, first_visit}
 use Rattle.rail_spec.specs.Track.{routes_of, edge_ends}
 use Rattle.rail_spec.specs.Plans.{route_at, path, path_routes, has_node, length_mm, starts_in, begins_in, is_start, end_at_one_signal}
 use Rattle.rail_spec.specs.Feasible.{IsWellFormed}
-use Rattle.rail_spec.specs.Visits.{stops, stops_of, stops_after, visits_at, visits_on}
-use Rattle.rail_spec.specs.Run.{visits_of_train}
+use Rattle.rail_spec.specs.Visits.{stops, stops_of, stops_after, visits_at, visits_on, visits_of_train}
+use Rattle.rail_spec.specs.Dispatches.{of_plan}
 use Rattle.rail_base.proofs.Members.{and_left, list_any_from}
 use Rattle.rail_base.proofs.Lists.{in_map, in_map_back, in_append}
-use Rattle.rail_spec.proofs.Told.{told}
-use Rattle.rail_spec.proofs.Admits.{good_route, formed_path}
+use Rattle.rail_laws.proofs.Told.{told}
+use Rattle.rail_laws.proofs.Admits.{good_route, formed_path}
 use Rattle.rail_free.proofs.Following.{of_design, has_train}
 use Rattle.rail_bound.specs.Certificates.{first_in, nodes_of_visit, visit_offset}
 use Rattle.rail_bound.specs.Validity.{can_visit}
@@ -310,7 +310,7 @@ module _ (d : Station) (adm : IsAdmitted d) where
         (omega arith, omega arith)
 
     -- the first visit is made at the start of the path
-    pub first_made : (t : TrainNo) (s : Stop) → entry None (visits_of_train d (routes_of d) plan t) 1 ≡ Some s → (s.offset ≡ 0) × (s.command ≡ 1)
+    pub first_made : (t : TrainNo) (s : Stop) → entry None (visits_of_train d (routes_of d) (of_plan (routes_of d) plan) t) 1 ≡ Some s → (s.offset ≡ 0) × (s.command ≡ 1)
     first_made t s h = first_stop_at t (train_of d t).visits s (path plan t) refl h
 
     made_later : (t : TrainNo) (k : ℕ) (sets : List (List NodeNo)) (s : Stop) (ps : List RouteNo) → (train_of d t).visits ≡ sets → path plan t ≡ ps → entry None (visits_on sets (stops (map f ps))) (suc (suc k)) ≡ Some s → MadeOn t (suc (suc k)) s
@@ -335,14 +335,14 @@ module _ (d : Station) (adm : IsAdmitted d) where
         in_middle [] y zs = inl refl
         in_middle (x ∷ xs) y zs = inr (in_middle xs y zs)
 
-    pub made_on : (t : TrainNo) (k : ℕ) (s : Stop) → entry None (visits_of_train d (routes_of d) plan t) k ≡ Some s → MadeOn t k s
+    pub made_on : (t : TrainNo) (k : ℕ) (s : Stop) → entry None (visits_of_train d (routes_of d) (of_plan (routes_of d) plan) t) k ≡ Some s → MadeOn t k s
     made_on t zero s h = cc
     made_on t (suc zero) s h = made_first t (train_of d t).visits s (path plan t) refl h
     made_on t (suc (suc k)) s h = made_later t k (train_of d t).visits s (path plan t) refl refl h
 
     -- the second visit is made no later than on a route that leads to it
     pub second_by : (t : TrainNo) (s : Stop) (before : List RouteNo) (r : RouteNo) (more : List RouteNo) → path plan t ≡ before ++ r ∷ more → can_visit d (routes_of d) t 2 r ≡ true
-        → entry None (visits_of_train d (routes_of d) plan t) 2 ≡ Some s → (s.offset ≤ way before + visit_offset d t 2 (f r)) × (s.command ≤ length before + 1)
+        → entry None (visits_of_train d (routes_of d) (of_plan (routes_of d) plan) t) 2 ≡ Some s → (s.offset ≤ way before + visit_offset d t 2 (f r)) × (s.command ≤ length before + 1)
     second_by t s before r more e may h = go (train_of d t).visits refl (before ++ r ∷ more) refl
       where
         go : (sets : List (List NodeNo)) → (train_of d t).visits ≡ sets → (ps : List RouteNo) → before ++ r ∷ more ≡ ps → (s.offset ≤ way before + visit_offset d t 2 (f r)) × (s.command ≤ length before + 1)

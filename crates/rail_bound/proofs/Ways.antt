@@ -12,7 +12,7 @@ use Rattle.rail_spec.specs.Plans.{path_routes, is_start, goes_on, end_at_one_sig
 use Rattle.rail_spec.specs.Feasible.{IsWellFormed}
 use Rattle.rail_base.proofs.Members.{and_left, and_right, in_filter}
 use Rattle.rail_base.proofs.Lists.{in_map, in_append_left, in_append_right}
-use Rattle.rail_spec.proofs.Admits.{formed_path}
+use Rattle.rail_laws.proofs.Admits.{formed_path}
 use Rattle.rail_bound.specs.Ways.{goes_before, ways, least_way, LieIn}
 use Rattle.rail_free.proofs.Following.{neighbors_after, of_design}
 

@@ -4,8 +4,7 @@ use Rattle.rail_base.specs.declared.station.Station.{Station}
 use Rattle.rail_base.specs.declared.station.TrainNo.{TrainNo}
 use Rattle.rail_base.specs.declared.route.Route.{Route}
 use Rattle.rail_base.specs.declared.plan.Command.{Command}
-use Rattle.rail_spec.specs.Dispatches.{state_of}
-use Rattle.rail_spec.specs.Run.{state_at}
+use Rattle.rail_spec.specs.Dispatches.{state_of, of_plan, state_at}
 
 -- a train has so many commands granted, and its head is at a place of its path or past it. With place 0 it is the grant of
 -- the command of this number
@@ -17,7 +16,7 @@ pub record Event : Type 0 where
 -- by the end of tick k the event has happened
 abbrev pub has_happened : Station → List Route → List (List Command) → Event → ℕ → Bool
 has_happened d routes plan e k =
-    let s = state_of (state_at d routes plan k) e.train in
+    let s = state_of (state_at d routes (of_plan routes plan) k) e.train in
     nat_le e.command s.granted && nat_le e.place s.x
 
 -- where the second has happened by tick k, the first had so many ticks before

@@ -11,7 +11,7 @@ ghost use Rattle.rail_base.specs.Members.{In};
 ghost use Rattle.rail_base.specs.Stations.{train_length};
 ghost use Rattle.rail_spec.specs.Track.{routes_of};
 ghost use Rattle.rail_spec.specs.Plans.{route_at, shared, release_offset, preceding, length_mm, path, path_routes};
-ghost use Rattle.rail_spec.specs.Run.{routes_before};
+ghost use Rattle.rail_spec.specs.Dispatches.{of_plan, routes_before};
 ghost use Rattle.rail_spec.specs.Feasible.{IsFeasible};
 ghost use Rattle.rail_cone.specs.Clauses.{is_false_of};
 ghost use Rattle.rail_free.specs.Legs.{Leg, HasLeg, least_ticks, least_ticks_waited};
@@ -41,7 +41,7 @@ pub fn hops_take_their_least_ticks()
 pub fn hops_add_up()
     ensures clear { (d : Station) (routes : List Route) (plan : List (List Command)) (e c : Command) (z : SectionNo)
         → In e (preceding routes plan c) → In z (shared (route_at routes e.route) (route_at routes c.route))
-        → let before = routes_before d routes plan in let r = route_at routes e.route in
+        → let before = routes_before d routes (of_plan routes plan) in let r = route_at routes e.route in
         (x : ℕ) → x ≤ sum_by length_mm (before e) + release_offset r z + train_length d e.train
         → let release = reaching e.train (length (before e) + 1) x in
         HopTakes d routes plan release (granting c.train (length (before c) + 1)) 1 }

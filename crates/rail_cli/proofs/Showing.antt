@@ -16,10 +16,10 @@ use Rattle.rail_spec.specs.Feasible.{IsRunnable, IsFeasible}
 use Rattle.rail_spec.specs.Histories.{decided}
 use Rattle.rail_spec.specs.Requirements.{meets, cost, path_violation, violation_at}
 use Rattle.rail_spec.specs.Verdict.{failure, or_else}
-use Rattle.rail_spec.proofs.Admits.{never_clash}
-use Rattle.rail_spec.proofs.Keeping.{keeps_authority, keeps_all_limits}
-use Rattle.rail_spec.proofs.Lively.{no_deadlock}
-use Rattle.rail_spec.proofs.Verdicts.{met_exactly, verdict}
+use Rattle.rail_laws.proofs.Admits.{never_clash}
+use Rattle.rail_laws.proofs.Keeping.{keeps_authority, keeps_all_limits}
+use Rattle.rail_laws.proofs.Lively.{no_deadlock}
+use Rattle.rail_laws.proofs.Verdicts.{met_exactly, verdict}
 use Rattle.timetable.specs.Lines.{met_line}
 use Rattle.timetable.specs.Timetable.{timetable_of, timetable_text}
 use Rattle.rail_cli.specs.declared.status.Status.{Status}

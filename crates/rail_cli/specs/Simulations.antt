@@ -8,7 +8,7 @@ use Rattle.rail_plan.specs.Reading.{plan_of}
 use Rattle.rail_spec.specs.Track.{routes_of, all_closings, edges_met_again}
 use Rattle.rail_spec.specs.Feasible.{IsFeasible}
 use Rattle.rail_spec.specs.Requirements.{cost}
-use Rattle.rail_spec.specs.Progress.{IsGrantedInTime}
+use Rattle.rail_laws.specs.Progress.{IsGrantedInTime}
 use Rattle.rail_spec.specs.Safety.{Clash, KeepsToTrack}
 use Rattle.rail_outside.specs.Growth.{grown}
 use Rattle.timetable.specs.Lines.{met_line}

@@ -12,12 +12,11 @@ use Rattle.rail_cone.specs.declared.Cone.{Cone}
 use Rattle.rail_base.specs.Numbering.{entry}
 use Rattle.rail_spec.specs.Plans.{route_at, is_train, path}
 use Rattle.rail_base.specs.Stations.{train_of, horizon, within_of, order_of}
-use Rattle.rail_spec.specs.Dispatches.{state_of, state_at}
-use Rattle.rail_spec.specs.Run as spec
-use Rattle.rail_spec.specs.Visits.{stops, visits_on}
+use Rattle.rail_spec.specs.Dispatches.{state_of, state_at, of_plan}
+use Rattle.rail_spec.specs.Visits.{stops, visits_on, visit_tick}
 use Rattle.rail_spec.specs.Requirements.{most_ticks, visited_by, is_certain, is_after}
 use Rattle.rail_base.proofs.Members.{and_left, and_right, and_both}
-use Rattle.rail_spec.proofs.Deciding.{visit_stays, visit_within, visit_at}
+use Rattle.rail_laws.proofs.Deciding.{visit_stays, visit_within, visit_at}
 use Rattle.rail_base.specs.Admission.{is_visit}
 use Rattle.rail_cone.specs.Cones.{unnamed, named, of_cone, all_free, first_named}
 use Rattle.rail_cone.specs.Validity.{cone_visit, at_its_tick, shown, violation_in_design, only_path}
@@ -35,13 +34,13 @@ module _ (d : Station) (routes : List Route) (n : ℕ) (k : Cone) (plan : List (
   -- ---- up to its horizon a train moves in the plan's run as in the cone's
 
   pub record Follows (tick : ℕ) (t : TrainNo) : Type 0 where
-    pub state : state_of (spec.state_at d routes plan tick) t ≡ state_of (state_at d routes (of_cone k) tick) t
-    pub no_waiting : (state_of (spec.state_at d routes plan tick) t).granted ≤ (named k t).free
+    pub state : state_of (state_at d routes (of_plan routes plan) tick) t ≡ state_of (state_at d routes (of_cone k) tick) t
+    pub no_waiting : (state_of (state_at d routes (of_plan routes plan) tick) t).granted ≤ (named k t).free
 
   pub follows : (tick : ℕ) (t : TrainNo) → tick ≤ (named k t).horizon → Follows tick t
   follows tick t l =
       let a = agrees d routes n k plan rests tick t in
-      let same : state_of (spec.state_at d routes plan tick) t ≡ state_of (state_at d routes (of_cone k) tick) t = a.same l in
+      let same : state_of (state_at d routes (of_plan routes plan) tick) t ≡ state_of (state_at d routes (of_cone k) tick) t = a.same l in
       record {
         state = same;
         no_waiting = subst (λ (s : TrainState). s.granted ≤ (named k t).free) (sym same) (let f = a.few in let m = few_free d routes n k plan rests t in omega arith);
@@ -49,7 +48,7 @@ module _ (d : Station) (routes : List Route) (n : ℕ) (k : Cone) (plan : List (
 
   -- ---- it makes its visits at the same ticks
 
-  pub visit_same : (tick : ℕ) (t : TrainNo) (j : ℕ) → tick ≤ (named k t).horizon → spec.visit_tick d routes plan tick t j ≡ cone_visit d routes k tick t j
+  pub visit_same : (tick : ℕ) (t : TrainNo) (j : ℕ) → tick ≤ (named k t).horizon → visit_tick d routes (of_plan routes plan) tick t j ≡ cone_visit d routes k tick t j
   visit_same tick t j l = visit_alike d routes k plan tick t ((fits d routes n k plan rests).rest t) ((fits d routes n k plan rests).front t)
       (λ i m. (follows i t (omega arith)).state) (λ i m. let f = (follows i t (omega arith)).no_waiting in let a = few_free d routes n k plan rests t in omega arith) j
 
@@ -145,7 +144,7 @@ module _ (d : Station) (routes : List Route) (n : ℕ) (k : Cone) (plan : List (
       record {
         at = horizon d;
         by_horizon = omega arith;
-        certain = and_both _ _ (eq-eqb (horizon d) (horizon d) refl) (ap not (not_up_to j (state_of (spec.state_at d routes plan (horizon d)) t).granted (omega arith)));
+        certain = and_both _ _ (eq-eqb (horizon d) (horizon d) refl) (ap not (not_up_to j (state_of (state_at d routes (of_plan routes plan) (horizon d)) t).granted (omega arith)));
       }
     where
       not_up_to : (a b : ℕ) → b < a → nat_le a b ≡ false

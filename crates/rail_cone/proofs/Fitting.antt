@@ -16,7 +16,7 @@ use Rattle.rail_base.specs.Stations.{first_visit, trains, train_of}
 use Rattle.rail_spec.specs.Feasible.{is_of, names_only}
 use Rattle.rail_spec.specs.Dispatches.{state_of, state_at, has_released}
 use Rattle.rail_base.proofs.Members.{In, and_left, and_right, and_both, list_all_at, list_any_gives, in_filter, is_false, not_less}
-use Rattle.rail_spec.specs.Run.{of_plan}
+use Rattle.rail_spec.specs.Dispatches.{of_plan}
 use Rattle.rail_cone.specs.Cones.{unnamed, named, free_path, all_free, has_route, is_named, is_free, is_listed, of_cone}
 use Rattle.rail_cone.specs.Validity.{from_boundary, in_design, granted_at, free_granted, just_granted, holds_up, holder_needed, held}
 use Rattle.rail_cone.specs.Clauses.{holds_of, Before, is_closed, is_path_violation, goes_further, clause_of_cone, is_false_of}
@@ -26,8 +26,8 @@ use Rattle.rail_cone.proofs.Fronts.{front_of, further, not_among, is_start_same,
 use Rattle.rail_cone.proofs.Saying.{has_in, in_has, in_trains, is_of_in_all, Denied, denied}
 use Rattle.rail_cone.proofs.Naming.{has_route_in, in_has_route, IsNamed, named_or_not, OfDesign, of_design, Proper, proper, named_in_all, listed_is, listed_waits, waits_listed}
 use Rattle.rail_base.proofs.Lists.{in_append_right, in_map, in_filter_back}
-use Rattle.rail_spec.proofs.Standing.{in_path}
-use Rattle.rail_spec.proofs.Given.{command_in_path}
+use Rattle.rail_laws.proofs.Standing.{in_path}
+use Rattle.rail_laws.proofs.Given.{command_in_path}
 
 pub in_take : {X : Type 0} (n : ℕ) (xs : List X) (x : X) → In x (take n xs) → In x xs
 in_take zero xs x m = absurd m

@@ -13,7 +13,7 @@ use Rattle.rail_spec.specs.Plans.{is_start, goes_on, end_at_one_signal, starts_i
 use Rattle.rail_base.proofs.Members.{In, and_left, and_right, and_both, list_all_at, below_or_not}
 use Rattle.rail_cone.specs.Validity.{from_boundary}
 use Rattle.rail_cone.specs.Clauses.{goes_further}
-use Rattle.rail_spec.proofs.Sums.{get_in, in_get, get_map}
+use Rattle.rail_laws.proofs.Sums.{get_in, in_get, get_map}
 
 -- ---- starts and ends
 

@@ -17,7 +17,7 @@ use Rattle.rail_cone.specs.Validity.{is_way, train_in_design, pair_in_design, ho
 use Rattle.rail_base.specs.Admission.{is_from}
 use Rattle.rail_cone.proofs.Saying.{in_all, is_command_same, is_command_self}
 use Rattle.rail_base.proofs.Lists.{in_map}
-use Rattle.rail_spec.proofs.Given.{same_route}
+use Rattle.rail_laws.proofs.Given.{same_route}
 
 pub has_route_in : (rs : List RouteNo) (r : RouteNo) → has_route rs r ≡ true → In r rs
 has_route_in rs r h = go (list_any_gives (λ q. is_route q r) rs h)

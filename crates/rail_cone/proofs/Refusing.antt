@@ -17,10 +17,11 @@ use Rattle.rail_base.specs.Admitted.{IsAdmitted}
 use Rattle.rail_base.specs.Stations.{trains, train_of, horizon, within_of, order_of}
 use Rattle.rail_spec.specs.Feasible.{IsFeasible}
 use Rattle.rail_base.specs.declared.state.Stop.{Stop}
-use Rattle.rail_spec.specs.Run.{visit_tick, pass_tick, visits_of_train}
+use Rattle.rail_spec.specs.Dispatches.{of_plan}
+use Rattle.rail_spec.specs.Visits.{pass_tick, visits_of_train, visit_tick}
 use Rattle.rail_spec.specs.Requirements.{both, most_ticks, granted_by, visited_by, is_done, keeps_order, keeps_within, is_after, meets, command_numbers, visit_numbers}
 use Rattle.rail_base.proofs.Members.{In, and_left, and_right, list_all_at, below_or_not, is_false}
-use Rattle.rail_spec.proofs.Deciding.{visit_stays, visit_at, visit_once}
+use Rattle.rail_laws.proofs.Deciding.{visit_stays, visit_at, visit_once}
 use Rattle.rail_base.specs.Admission.{is_visit}
 use Rattle.rail_cone.specs.Cones.{named}
 use Rattle.rail_cone.specs.Validity.{first_fault, is_valid_cone, in_design, free_granted, held, shown, violation_in_design, only_path}
@@ -94,14 +95,14 @@ module _ (d : Station) (routes : List Route) (n : ℕ) (k : Cone) (plan : List (
   after_gives m (Some a) i h = (a, refl, eqb-true (a + m) i h)
 
   -- a visit that is not made by a tick is made after it, if at all
-  made_later : (i l b : ℕ) (t : TrainNo) (j : ℕ) → visited_by d routes plan i t j ≡ false → visit_tick d routes plan l t j ≡ Some b → i < b
+  made_later : (i l b : ℕ) (t : TrainNo) (j : ℕ) → visited_by d routes plan i t j ≡ false → visit_tick d routes (of_plan routes plan) l t j ≡ Some b → i < b
   made_later i l b t j none made = go (below_or_not i b)
     where
       go : (i < b) ⊎ (b ≤ i) → i < b
       go (inl h) = h
       go (inr h) =
           let same : b + (i - b) ≡ i = omega arith in
-          let there : visit_tick d routes plan i t j ≡ Some b = subst (λ m. visit_tick d routes plan m t j ≡ Some b) same (visit_stays d routes plan b (i - b) t j b (visit_at d routes plan l t j b made)) in
+          let there : visit_tick d routes (of_plan routes plan) i t j ≡ Some b = subst (λ m. visit_tick d routes (of_plan routes plan) m t j ≡ Some b) same (visit_stays d routes plan b (i - b) t j b (visit_at d routes plan l t j b made)) in
           absurd (true≢false (sym (ap is_some there) ∙ none))
 
   -- ---- none of the violations goes with it
@@ -110,9 +111,9 @@ module _ (d : Station) (routes : List Route) (n : ℕ) (k : Cone) (plan : List (
   clash (violation.Path t j) of c met =
       let none = and_right (c.at == 1) _ c.certain in
       let v = met.visited t j (and_left (is_visit d t j) _ (and_left (is_visit d t j && only_path d routes k t k.trains) _ of)) in
-      true≢false (sym v ∙ go (entry None (visits_of_train d routes plan t) j) none)
+      true≢false (sym v ∙ go (entry None (visits_of_train d routes (of_plan routes plan) t) j) none)
     where
-      go : (o : Option Stop) → is_none o ≡ true → is_some (option_and_then (pass_tick d routes plan (horizon d) t) o) ≡ false
+      go : (o : Option Stop) → is_none o ≡ true → is_some (option_and_then (pass_tick d routes (of_plan routes plan) (horizon d) t) o) ≡ false
       go None h = refl
       go (Some s) h = absurd (true≢false (sym h))
   clash (violation.Visit t j) of c met =
@@ -134,23 +135,23 @@ module _ (d : Station) (routes : List Route) (n : ℕ) (k : Cone) (plan : List (
       further [] ys = omega arith
       further (x ∷ xs) ys = let h = further xs ys in omega arith
   clash (violation.Order o) of c met =
-      go (both_gives nat_lt _ _ (met.orders o of)) (after_gives 0 _ c.at (and_left (is_after 0 (visit_tick d routes plan c.at (order_of d o).then_train (order_of d o).then_visit) c.at) _ c.certain))
+      go (both_gives nat_lt _ _ (met.orders o of)) (after_gives 0 _ c.at (and_left (is_after 0 (visit_tick d routes (of_plan routes plan) c.at (order_of d o).then_train (order_of d o).then_visit) c.at) _ c.certain))
     where
-      go : (a : ℕ) × (b : ℕ) × (visit_tick d routes plan (horizon d) (order_of d o).first_train (order_of d o).first_visit ≡ Some a) × (visit_tick d routes plan (horizon d) (order_of d o).then_train (order_of d o).then_visit ≡ Some b) × (nat_lt a b ≡ true)
-          → (e : ℕ) × (visit_tick d routes plan c.at (order_of d o).then_train (order_of d o).then_visit ≡ Some e) × (e + 0 ≡ c.at) → ⊥
+      go : (a : ℕ) × (b : ℕ) × (visit_tick d routes (of_plan routes plan) (horizon d) (order_of d o).first_train (order_of d o).first_visit ≡ Some a) × (visit_tick d routes (of_plan routes plan) (horizon d) (order_of d o).then_train (order_of d o).then_visit ≡ Some b) × (nat_lt a b ≡ true)
+          → (e : ℕ) × (visit_tick d routes (of_plan routes plan) c.at (order_of d o).then_train (order_of d o).then_visit ≡ Some e) × (e + 0 ≡ c.at) → ⊥
       go (a, b, first, then, less) (e, made, at_it) =
           let same : b ≡ e = visit_once d routes plan (horizon d) c.at (order_of d o).then_train (order_of d o).then_visit b e then made in
           let l : a < b = leb-true _ _ less in
-          let late = made_later (c.at - 1) (horizon d) a (order_of d o).first_train (order_of d o).first_visit (is_false _ (and_right (is_after 0 (visit_tick d routes plan c.at (order_of d o).then_train (order_of d o).then_visit) c.at) _ c.certain)) first in
+          let late = made_later (c.at - 1) (horizon d) a (order_of d o).first_train (order_of d o).first_visit (is_false _ (and_right (is_after 0 (visit_tick d routes (of_plan routes plan) c.at (order_of d o).then_train (order_of d o).then_visit) c.at) _ c.certain)) first in
           omega arith
   clash (violation.Within w) of c met =
-      go (both_gives (λ from to. nat_le (to * d.tick_ms) (from * d.tick_ms + (within_of d w).max_ms)) _ _ (met.withins w of)) (after_gives (most_ticks d (within_of d w)) _ c.at (and_right (nat_le c.at (horizon d)) _ (and_left (nat_le c.at (horizon d) && is_after (most_ticks d (within_of d w)) (visit_tick d routes plan c.at (within_of d w).from_train (within_of d w).from_visit) c.at) _ c.certain)))
+      go (both_gives (λ from to. nat_le (to * d.tick_ms) (from * d.tick_ms + (within_of d w).max_ms)) _ _ (met.withins w of)) (after_gives (most_ticks d (within_of d w)) _ c.at (and_right (nat_le c.at (horizon d)) _ (and_left (nat_le c.at (horizon d) && is_after (most_ticks d (within_of d w)) (visit_tick d routes (of_plan routes plan) c.at (within_of d w).from_train (within_of d w).from_visit) c.at) _ c.certain)))
     where
-      go : (a : ℕ) × (b : ℕ) × (visit_tick d routes plan (horizon d) (within_of d w).from_train (within_of d w).from_visit ≡ Some a) × (visit_tick d routes plan (horizon d) (within_of d w).to_train (within_of d w).to_visit ≡ Some b) × (nat_le (b * d.tick_ms) (a * d.tick_ms + (within_of d w).max_ms) ≡ true)
-          → (e : ℕ) × (visit_tick d routes plan c.at (within_of d w).from_train (within_of d w).from_visit ≡ Some e) × (e + most_ticks d (within_of d w) ≡ c.at) → ⊥
+      go : (a : ℕ) × (b : ℕ) × (visit_tick d routes (of_plan routes plan) (horizon d) (within_of d w).from_train (within_of d w).from_visit ≡ Some a) × (visit_tick d routes (of_plan routes plan) (horizon d) (within_of d w).to_train (within_of d w).to_visit ≡ Some b) × (nat_le (b * d.tick_ms) (a * d.tick_ms + (within_of d w).max_ms) ≡ true)
+          → (e : ℕ) × (visit_tick d routes (of_plan routes plan) c.at (within_of d w).from_train (within_of d w).from_visit ≡ Some e) × (e + most_ticks d (within_of d w) ≡ c.at) → ⊥
       go (a, b, from, to, soon) (e, made, at_it) =
           let same : a ≡ e = visit_once d routes plan (horizon d) c.at (within_of d w).from_train (within_of d w).from_visit a e from made in
-          let late = made_later c.at (horizon d) b (within_of d w).to_train (within_of d w).to_visit (is_false _ (and_right (nat_le c.at (horizon d) && is_after (most_ticks d (within_of d w)) (visit_tick d routes plan c.at (within_of d w).from_train (within_of d w).from_visit) c.at) _ c.certain)) to in
+          let late = made_later c.at (horizon d) b (within_of d w).to_train (within_of d w).to_visit (is_false _ (and_right (nat_le c.at (horizon d) && is_after (most_ticks d (within_of d w)) (visit_tick d routes (of_plan routes plan) c.at (within_of d w).from_train (within_of d w).from_visit) c.at) _ c.certain)) to in
           let l : b * d.tick_ms ≤ a * d.tick_ms + (within_of d w).max_ms = leb-true _ _ soon in
           let m : a * d.tick_ms + (within_of d w).max_ms < b * d.tick_ms = past d.tick_ms (within_of d w).max_ms a b timed.ticks (omega arith) in
           omega (arith, l, m)

@@ -6,7 +6,7 @@ use Rattle.rail_base.specs.declared.plan.Command.{Command}
 use Rattle.rail_base.specs.declared.plan.Violation.{Violation}
 use Rattle.rail_base.specs.declared.plan.Violation.TheVariants as violation
 use Rattle.rail_spec.specs.Track.{routes_of}
-use Rattle.rail_spec.proofs.Stations.{follow_short, parallel, halt_within, follow_within, plan_two, plan_one, plan_together, command}
+use Rattle.rail_laws.proofs.Stations.{follow_short, parallel, halt_within, follow_within, plan_two, plan_one, plan_together, command}
 use Rattle.rail_cone.specs.declared.ConeTrain.{ConeTrain}
 use Rattle.rail_cone.specs.declared.Cone.{Cone}
 use Rattle.rail_cone.specs.declared.ConeFault.{ConeFault}

@@ -10,8 +10,7 @@ ghost use Rattle.rail_base.specs.Admitted.{IsAdmitted};
 ghost use Rattle.rail_base.specs.Stations.{horizon};
 ghost use Rattle.rail_spec.specs.Track.{routes_of};
 ghost use Rattle.rail_spec.specs.Plans.{path};
-ghost use Rattle.rail_spec.specs.Dispatches.{state_of};
-ghost use Rattle.rail_spec.specs.Run.{state_at};
+ghost use Rattle.rail_spec.specs.Dispatches.{state_of, of_plan, state_at};
 ghost use Rattle.rail_spec.specs.Requirements.{meets, is_certain};
 ghost use Rattle.rail_spec.specs.Feasible.{IsFeasible};
 ghost use Rattle.rail_cone.specs.declared.Cone.{Cone};
@@ -26,8 +25,8 @@ pub fn trains_follow_the_cone()
     ensures { (d : Station) (routes : List Route) (n : ℕ) (k : Cone) (plan : List (List Command))
         → Refutes d routes n k plan
         → (tick : ℕ) (t : TrainNo) → tick ≤ (named k t).horizon
-        → (state_of (state_at d routes plan tick) t ≡ cone_state_at d routes k tick t)
-        × ((state_of (state_at d routes plan tick) t).granted ≤ (named k t).free) }
+        → (state_of (state_at d routes (of_plan routes plan) tick) t ≡ cone_state_at d routes k tick t)
+        × ((state_of (state_at d routes (of_plan routes plan) tick) t).granted ≤ (named k t).free) }
 {}
 
 /// Such a train's path begins as the cone says.

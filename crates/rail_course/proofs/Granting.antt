@@ -20,10 +20,10 @@ use Rattle.rail_base.proofs.Contained.{in_at, contains_of_in}
 use Rattle.rail_spec.specs.Track.{routes_of}
 use Rattle.rail_spec.specs.Plans.{commands, path}
 use Rattle.rail_spec.specs.Feasible.{is_of, IsWellFormed}
-use Rattle.rail_spec.proofs.RouteLaws.{way_edges, route_is}
-use Rattle.rail_spec.proofs.Admits.{entry_is, good_route}
-use Rattle.rail_spec.proofs.Standing.{in_path}
-use Rattle.rail_spec.proofs.Small.{short_path, short_route}
+use Rattle.rail_laws.proofs.RouteLaws.{way_edges, route_is}
+use Rattle.rail_laws.proofs.Admits.{entry_is, good_route}
+use Rattle.rail_laws.proofs.Standing.{in_path}
+use Rattle.rail_laws.proofs.Small.{short_path, short_route}
 use Rattle.rail_course.specs.Tracks.{HasLimit, AreLaid, ArePaths, IsCommand, IsInRange, routes_at, edges_of, way}
 use Rattle.rail_course.proofs.Coursing.{many_trains}
 use Rattle.rail_course.proofs.Rating.{speed_small}

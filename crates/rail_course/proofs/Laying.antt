@@ -9,7 +9,7 @@ use Rattle.rail_spec.specs.Track.{edge_ends}
 use Rattle.rail_base.specs.Stations.{length_of}
 use Rattle.rail_spec.specs.Plans.{route_at, length_mm}
 use Rattle.rail_spec.specs.Dispatches.{stretch}
-use Rattle.rail_spec.proofs.UnderWay.{edge_ends-append}
+use Rattle.rail_laws.proofs.UnderWay.{edge_ends-append}
 use Rattle.rail_course.specs.Tracks.{edges_of}
 
 -- the spans of one more route

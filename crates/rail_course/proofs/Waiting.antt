@@ -10,11 +10,11 @@ use Rattle.rail_base.specs.declared.state.TrainState.{TrainState}
 use Rattle.rail_base.specs.Members.{In}
 use Rattle.rail_base.specs.Stations.{train_length}
 use Rattle.rail_base.specs.Routes.{route_at, shared, share, has_section, sections, release_offset, length_mm}
-use Rattle.rail_base.proofs.Members.{and_left, and_right, and_both, list_any_gives, in_filter, same_bool, in_filter}
+use Rattle.rail_base.proofs.Members.{and_left, and_right, and_both, list_any_gives, same_bool, in_filter}
 use Rattle.rail_base.proofs.Lists.{in_map, in_filter_back}
 use Rattle.rail_spec.specs.Plans.{contend, step_of, precedes, commands}
 use Rattle.rail_spec.specs.Dispatches.{Dispatch, state_of, routes_before, is_granted, has_released, has_cleared, is_ready}
-use Rattle.rail_spec.specs.Run.{of_plan}
+use Rattle.rail_spec.specs.Dispatches.{of_plan}
 use Rattle.rail_course.specs.Waits.{IsContending, is_over, wait_for, waits_of}
 
 pub list_all-same : {X : Type 0} (p q : X → Bool) (xs : List X) → ((x : X) → In x xs → p x ≡ q x) → list_all p xs ≡ list_all q xs

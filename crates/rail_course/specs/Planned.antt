@@ -3,7 +3,7 @@ use Rattle.std.specs.Prelude.{List, filter, map}
 use Rattle.rail_base.specs.declared.station.TrainNo.{TrainNo}
 use Rattle.rail_base.specs.declared.plan.Command.{Command}
 use Rattle.rail_spec.specs.Plans.{precedes, preceding}
-use Rattle.rail_spec.specs.Run.{of_plan}
+use Rattle.rail_spec.specs.Dispatches.{of_plan}
 use Rattle.rail_course.specs.declared.journey.Journey.{Journey}
 use Rattle.rail_course.specs.declared.planned.PlannedCourses.{PlannedCourses}
 use Rattle.rail_course.specs.declared.waits.Wait.{Wait}

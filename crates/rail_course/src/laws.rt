@@ -12,7 +12,7 @@ ghost use Rattle.rail_spec.specs.Track.{routes_of};
 ghost use Rattle.rail_spec.specs.Plans.{path};
 ghost use Rattle.rail_spec.specs.Dispatches.{Dispatch, is_ready};
 ghost use Rattle.rail_spec.specs.Feasible.{IsWellFormed};
-ghost use Rattle.rail_spec.specs.Run.{of_plan};
+ghost use Rattle.rail_spec.specs.Dispatches.{of_plan};
 ghost use Rattle.rail_course.specs.Tracks.{IsInRange};
 ghost use Rattle.rail_course.specs.Waits.{IsContending, is_over, waits_of};
 

@@ -9,9 +9,9 @@ use Rattle.rail_base.specs.Numbering.{greatest}
 use Rattle.rail_spec.specs.Track.{routes_of}
 use Rattle.rail_spec.specs.Plans.{path_routes, is_well_formed}
 use Rattle.rail_spec.specs.Motion.{permitted, next_speed, reach}
-use Rattle.rail_spec.specs.Dispatches.{state_of, rates, stretches, authority}
-use Rattle.rail_spec.specs.Run.{state_at, moved, granted_after}
-use Rattle.rail_spec.proofs.Exclusion.{by_tick}
+use Rattle.rail_spec.specs.Dispatches.{state_of, rates, stretches, authority, of_plan, granted_after, moved}
+use Rattle.rail_spec.specs.Dispatches.{state_at}
+use Rattle.rail_laws.proofs.Exclusion.{by_tick}
 
 greatest_within : (test : ℕ → Bool) (n : ℕ) → greatest test n ≤ n
 greatest_within test zero = omega arith
@@ -34,16 +34,16 @@ faster a c v0 v w hv hw = let e : a * (c + 1) ≡ a * c + a = omega arith in ome
 
 module _ (d : Station) (adm : IsAdmitted d) (n : ℕ) (plan : List (List Command)) (formed : is_well_formed d (routes_of d) n plan ≡ true) where
   abbrev at : ℕ → TrainNo → TrainState
-  at k t = state_of (state_at d (routes_of d) plan k) t
+  at k t = state_of (state_at d (routes_of d) (of_plan (routes_of d) plan) k) t
 
   -- a tick moves a head by the new speed, which is greater by the acceleration at most, or leaves it as it is
   abbrev Gains : ℕ → TrainState → TrainState → Type 0
   Gains a old new = ((new.x ≡ old.x + new.v) × (new.v ≤ old.v + a)) ⊎ ((new.x ≡ old.x) × (new.v ≡ old.v))
 
   gains : (k : ℕ) (t : TrainNo) → Gains (rates d t).accel (at k t) (at (suc k) t)
-  gains k t = by_tick d (routes_of d) plan (Gains (rates d t).accel) k t (inr (refl, refl)) (λ low high. one (at k t) (granted_after d (routes_of d) plan (state_at d (routes_of d) plan k) t))
+  gains k t = by_tick d (routes_of d) plan (Gains (rates d t).accel) k t (inr (refl, refl)) (λ low high. one (at k t) (granted_after d (routes_of d) (of_plan (routes_of d) plan) (state_at d (routes_of d) (of_plan (routes_of d) plan) k) t))
     where
-      one : (old : TrainState) (g : ℕ) → Gains (rates d t).accel old (moved d (routes_of d) plan t old g)
+      one : (old : TrainState) (g : ℕ) → Gains (rates d t).accel old (moved d (routes_of d) (of_plan (routes_of d) plan) t old g)
       one old zero = inr (refl, refl)
       one old (suc g) =
           let given = take (suc g) (path_routes (routes_of d) plan t) in

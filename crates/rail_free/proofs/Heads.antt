@@ -14,10 +14,9 @@ use Rattle.rail_base.specs.Stations.{length_of, IsTrain}
 use Rattle.rail_spec.specs.Track.{edge_ends, routes_of}
 use Rattle.rail_spec.specs.Plans.{path_routes, length_mm, exits, is_well_formed}
 use Rattle.rail_spec.specs.Motion.{Stretch, may_stop}
-use Rattle.rail_spec.specs.Dispatches.{state_of, stretch, stretches}
-use Rattle.rail_spec.specs.Run.{of_plan, state_at, granted_after}
-use Rattle.rail_spec.proofs.UnderWay.{IsSound, edge_ends-append, authority_some, next_grants, travels, within_authority}
-use Rattle.rail_spec.proofs.Admits.{sound}
+use Rattle.rail_spec.specs.Dispatches.{state_of, stretch, stretches, of_plan, granted_after, state_at}
+use Rattle.rail_laws.proofs.UnderWay.{IsSound, edge_ends-append, authority_some, next_grants, travels, within_authority}
+use Rattle.rail_laws.proofs.Admits.{sound}
 use Rattle.rail_cone.proofs.Running.{run_up_to, granted_at_most}
 
 -- ---- stretches
@@ -50,7 +49,7 @@ module _ (d : Station) (adm : IsAdmitted d) (n : ℕ) (plan : List (List Command
   given t g = take g (path_routes (routes_of d) plan t)
 
   abbrev at : ℕ → TrainNo → TrainState
-  at k t = state_of (state_at d (routes_of d) plan k) t
+  at k t = state_of (state_at d (routes_of d) (of_plan (routes_of d) plan) k) t
 
   is_sound : IsSound d (routes_of d) plan
   is_sound = sound d adm n plan formed
@@ -90,9 +89,9 @@ module _ (d : Station) (adm : IsAdmitted d) (n : ℕ) (plan : List (List Command
       let e = at_most_next (k + c) in
       omega arith
     where
-      at_most_next : (i : ℕ) → granted_after d (routes_of d) plan (state_at d (routes_of d) plan i) t ≤ (at i t).granted + 1
-      at_most_next i = one (next_grants d (routes_of d) plan (state_at d (routes_of d) plan i) t)
+      at_most_next : (i : ℕ) → granted_after d (routes_of d) (of_plan (routes_of d) plan) (state_at d (routes_of d) (of_plan (routes_of d) plan) i) t ≤ (at i t).granted + 1
+      at_most_next i = one (next_grants d (routes_of d) plan (state_at d (routes_of d) (of_plan (routes_of d) plan) i) t)
         where
-          one : (granted_after d (routes_of d) plan (state_at d (routes_of d) plan i) t ≡ (at i t).granted) ⊎ (granted_after d (routes_of d) plan (state_at d (routes_of d) plan i) t ≡ (at i t).granted + 1) → granted_after d (routes_of d) plan (state_at d (routes_of d) plan i) t ≤ (at i t).granted + 1
+          one : (granted_after d (routes_of d) (of_plan (routes_of d) plan) (state_at d (routes_of d) (of_plan (routes_of d) plan) i) t ≡ (at i t).granted) ⊎ (granted_after d (routes_of d) (of_plan (routes_of d) plan) (state_at d (routes_of d) (of_plan (routes_of d) plan) i) t ≡ (at i t).granted + 1) → granted_after d (routes_of d) (of_plan (routes_of d) plan) (state_at d (routes_of d) (of_plan (routes_of d) plan) i) t ≤ (at i t).granted + 1
           one (inl e) = omega arith
           one (inr e) = omega arith

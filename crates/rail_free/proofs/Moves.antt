@@ -14,19 +14,19 @@ use Rattle.rail_base.specs.Stations.{length_of, IsTrain}
 use Rattle.rail_spec.specs.Track.{edge_ends, routes_of}
 use Rattle.rail_spec.specs.Plans.{path_routes, length_mm, exits, is_well_formed}
 use Rattle.rail_spec.specs.Motion.{Rates, Stretch, limit_at, KeepsLimits, keeps_limits, may_stop, can_brake, permitted, next_speed}
-use Rattle.rail_spec.specs.Dispatches.{state_of, rates, stretch, stretches, authority}
-use Rattle.rail_spec.specs.Run.{of_plan, state_at, moved, granted_after}
+use Rattle.rail_spec.specs.Dispatches.{state_of, rates, stretch, stretches, authority, of_plan, granted_after, moved}
+use Rattle.rail_spec.specs.Dispatches.{state_at}
 use Rattle.rail_base.proofs.Members.{and_left, and_right, and_both}
-use Rattle.rail_spec.proofs.MotionLaws.{farthest, IsFarther, keeps_limits_tells, keeps_limits_from, can_brake-stop, can_brake_slower, permitted_reach, permitted_brakes, permitted_further, next_speed_permitted}
-use Rattle.rail_spec.proofs.Exclusion.{by_tick}
-use Rattle.rail_spec.proofs.UnderWay.{IsSound, Travels, authority_some, still, next_grants, travels}
-use Rattle.rail_spec.proofs.Admits.{sound}
+use Rattle.rail_laws.proofs.MotionLaws.{farthest, IsFarther, keeps_limits_tells, keeps_limits_from, can_brake-stop, can_brake_slower, permitted_reach, permitted_brakes, permitted_further, next_speed_permitted}
+use Rattle.rail_laws.proofs.Exclusion.{by_tick}
+use Rattle.rail_laws.proofs.UnderWay.{IsSound, Travels, authority_some, still, next_grants, travels}
+use Rattle.rail_laws.proofs.Admits.{sound}
 use Rattle.rail_cone.proofs.Running.{idle_at_first}
 use Rattle.std.proofs.lemmas.List.{take-append-le}
 use Rattle.std.proofs.lemmas.Grind.{flat_map-append}
-use Rattle.rail_spec.proofs.UnderWay.{edge_ends-append}
+use Rattle.rail_laws.proofs.UnderWay.{edge_ends-append}
 use Rattle.std.proofs.lemmas.List.{map-append}
-use Rattle.rail_spec.proofs.Moving.{greatest_above}
+use Rattle.rail_laws.proofs.Moving.{greatest_above}
 use Rattle.rail_free.proofs.Heads.{stretches_append}
 use Rattle.rail_free.specs.Free.{climb, rise, behind, is_free}
 use Rattle.rail_free.specs.Legs.{Leg, HasLeg, free_on, least_ticks}
@@ -162,7 +162,7 @@ module _ (d : Station) (adm : IsAdmitted d) (n : ℕ) (plan : List (List Command
   given t g = take g (path_routes (routes_of d) plan t)
 
   abbrev at : ℕ → TrainNo → TrainState
-  at k t = state_of (state_at d (routes_of d) plan k) t
+  at k t = state_of (state_at d (routes_of d) (of_plan (routes_of d) plan) k) t
 
   is_sound : IsSound d (routes_of d) plan
   is_sound = sound d adm n plan formed
@@ -193,9 +193,9 @@ module _ (d : Station) (adm : IsAdmitted d) (n : ℕ) (plan : List (List Command
   Step t old new = ((new.x ≡ old.x) × (new.v ≡ old.v)) ⊎ Moves t old new
 
   pub stepped : (k : ℕ) (t : TrainNo) → Step t (at k t) (at (suc k) t)
-  stepped k t = by_tick d (routes_of d) plan (Step t) k t (inl (refl, refl)) (λ low high. one (low, high) (at k t) (granted_after d (routes_of d) plan (state_at d (routes_of d) plan k) t) (travels d (routes_of d) plan is_sound k t) (next_grants d (routes_of d) plan (state_at d (routes_of d) plan k) t))
+  stepped k t = by_tick d (routes_of d) plan (Step t) k t (inl (refl, refl)) (λ low high. one (low, high) (at k t) (granted_after d (routes_of d) (of_plan (routes_of d) plan) (state_at d (routes_of d) (of_plan (routes_of d) plan) k) t) (travels d (routes_of d) plan is_sound k t) (next_grants d (routes_of d) plan (state_at d (routes_of d) (of_plan (routes_of d) plan) k) t))
     where
-      one : IsTrain d t → (old : TrainState) (g : ℕ) → Travels d (routes_of d) plan t old → (g ≡ old.granted) ⊎ (g ≡ old.granted + 1) → Step t old (moved d (routes_of d) plan t old g)
+      one : IsTrain d t → (old : TrainState) (g : ℕ) → Travels d (routes_of d) plan t old → (g ≡ old.granted) ⊎ (g ≡ old.granted + 1) → Step t old (moved d (routes_of d) (of_plan (routes_of d) plan) t old g)
       one named old zero h e = inl (refl, refl)
       one named old (suc g) h e =
           let now = still d (routes_of d) plan is_sound t named old g h e in

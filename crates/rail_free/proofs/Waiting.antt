@@ -12,14 +12,13 @@ use Rattle.rail_base.specs.Stations.{IsTrain}
 use Rattle.rail_spec.specs.Track.{routes_of}
 use Rattle.rail_spec.specs.Plans.{path, path_routes, length_mm, exits, is_well_formed}
 use Rattle.rail_spec.specs.Motion.{Stretch, keeps_limits, may_stop, can_brake, braking_way}
-use Rattle.rail_spec.specs.Dispatches.{state_of, rates, stretches, authority}
-use Rattle.rail_spec.specs.Run.{state_at}
+use Rattle.rail_spec.specs.Dispatches.{state_of, rates, stretches, authority, of_plan, state_at}
 use Rattle.rail_base.proofs.Members.{and_right}
 use Rattle.rail_base.proofs.Lists.{length-map}
 use Rattle.rail_spec.specs.Plans.{route_at}
-use Rattle.rail_spec.proofs.MotionLaws.{permitted_brakes}
-use Rattle.rail_spec.proofs.UnderWay.{IsSound, authority_some, travels}
-use Rattle.rail_spec.proofs.Admits.{sound}
+use Rattle.rail_laws.proofs.MotionLaws.{permitted_brakes}
+use Rattle.rail_laws.proofs.UnderWay.{IsSound, authority_some, travels}
+use Rattle.rail_laws.proofs.Admits.{sound}
 use Rattle.rail_free.proofs.Heads.{sum_front, not_past}
 use Rattle.rail_free.proofs.Gains.{gained_by}
 use Rattle.rail_free.specs.Free.{steps_from_stop}
@@ -70,7 +69,7 @@ stops_there (suc m) b ss end x (suc u) h =
 
 module _ (d : Station) (adm : IsAdmitted d) (n : ℕ) (plan : List (List Command)) (formed : is_well_formed d (routes_of d) n plan ≡ true) where
   abbrev at : ℕ → TrainNo → TrainState
-  at k t = state_of (state_at d (routes_of d) plan k) t
+  at k t = state_of (state_at d (routes_of d) (of_plan (routes_of d) plan) k) t
 
   abbrev given : TrainNo → ℕ → List Route
   given t g = take g (path_routes (routes_of d) plan t)

@@ -4,7 +4,7 @@ use Rattle.std.specs.Option.{ForSome}
 use Rattle.std.proofs.lemmas.Int.{ints}
 use Rattle.std.proofs.lemmas.Bool.{and_parts, and_from, both_ways}
 use Rattle.rail_spec.specs.Motion.{Rates, Stretch, limit_at, KeepsLimits, keeps_limits, may_stop, reach, permitted}
-use Rattle.rail_spec.proofs.MotionLaws.{keeps_limits_tells, keeps_limits_from, permitted_reach, permitted_brakes}
+use Rattle.rail_laws.proofs.MotionLaws.{keeps_limits_tells, keeps_limits_from, permitted_reach, permitted_brakes}
 use Rattle.rail_motion.specs.declared.Span.{Span}
 use Rattle.rail_motion.specs.Track.{stretches_of, end_of}
 

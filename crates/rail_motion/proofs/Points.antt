@@ -2,7 +2,7 @@
 use Rattle.std.proofs.Common.{◌≡◌, ℕ, zero, suc, ◌+◌, ◌-◌, ◌≤◌, ◌<◌, ◌⊎◌, inl, inr, min, max, Bool, true, false, ◌&&◌, if◌then◌else◌, List, [], ◌∷◌, nat_le, Option, None, refl, sym, ◌∙◌, ap, arith, leb-true, leb-false, le-leb}
 use Rattle.std.proofs.lemmas.Bool.{cases_lt, and_parts, and_from}
 use Rattle.rail_spec.specs.Motion.{Stretch, limit_at, keeps_limits, may_stop, can_brake, braking_way}
-use Rattle.rail_spec.proofs.MotionLaws.{keeps_limits_tells, keeps_limits_from}
+use Rattle.rail_laws.proofs.MotionLaws.{keeps_limits_tells, keeps_limits_from}
 use Rattle.rail_motion.specs.Braking.{faster_way}
 use Rattle.rail_motion.proofs.Ways.{faster_none, faster_more, faster_within}
 

@@ -5,7 +5,7 @@ use Rattle.std.specs.Int.{div_ceil}
 use Rattle.std.proofs.lemmas.Grind.{div_ceil_times}
 use Rattle.rail_spec.specs.Motion.{braking_way}
 use Rattle.rail_motion.specs.Braking.{faster_way}
-use Rattle.rail_spec.proofs.MotionLaws.{braking_way_is}
+use Rattle.rail_laws.proofs.MotionLaws.{braking_way_is}
 
 -- twice the way, and what is taken off, make the product of moves and speed
 pub twice_way : (u b : ℕ) → 1 ≤ b → 2 * braking_way u b u + b * (u / b * (u / b + 1)) ≡ 2 * (u / b * u)

@@ -18,7 +18,7 @@ use Rattle.rail_plan.specs.Ahead.{clears, stops, is_stopped, stopped_sections, s
 use Rattle.rail_plan.specs.Executable.{keeps_from, blocked_sections, blocked_in}
 use Rattle.rail_base.proofs.Members.{and_both, list_all_at, list_any_gives, filter-append, map-map, false_unless, not_less}
 use Rattle.rail_base.proofs.Lists.{in_append_right, in_filter_back, in_flat_map}
-use Rattle.rail_spec.proofs.Given.{path_is}
+use Rattle.rail_laws.proofs.Given.{path_is}
 use Rattle.rail_plan.proofs.Named.{its_train}
 use Rattle.rail_plan.proofs.Firsts.{entry_read}
 use Rattle.rail_plan.proofs.Steps.{step_is, step_within}

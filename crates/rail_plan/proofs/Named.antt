@@ -20,7 +20,7 @@ use Rattle.rail_base.proofs.Members.{and_left, and_right, list_all_at}
 use Rattle.rail_base.proofs.Lists.{in_flat_map, in_flat_map_back}
 use Rattle.rail_base.proofs.Admitting.{admitted}
 use Rattle.rail_base.proofs.Contained.{in_at, contains_of_in}
-use Rattle.rail_spec.proofs.Standing.{in_routes_given}
+use Rattle.rail_laws.proofs.Standing.{in_routes_given}
 
 -- what holds of all members holds of one
 pub all_in : {X : Type 0} (P : X → Type 0) (xs : List X) (x : X) → All P xs → In x xs → P x

@@ -9,7 +9,7 @@ use Rattle.rail_base.specs.Members.{In}
 use Rattle.rail_base.specs.Stations.{train_length}
 use Rattle.rail_base.proofs.Lists.{in_map, in_map_back}
 use Rattle.rail_base.proofs.Members.{in_filter, list_any_from, list_any_gives, or_left, or_right}
-use Rattle.rail_spec.proofs.Told.{fold_above}
+use Rattle.rail_laws.proofs.Told.{fold_above}
 use Rattle.rail_spec.specs.Plans.{is_train, route_at, length_mm, sections, has_section, shared, share, release_offset, exits, path_routes}
 use Rattle.interlocking.specs.Sections.{last_release}
 use Rattle.rail_plan.specs.Ahead.{clears, clears_all, stops, stops_over, is_stopped, is_stopped_over, stopped_sections}

@@ -15,7 +15,7 @@ use Rattle.rail_spec.specs.Plans.{is_train, is_route, is_command, is_start, is_p
 use Rattle.rail_spec.specs.Feasible.{is_of, names_only}
 use Rattle.rail_base.proofs.Members.{and_left, and_right, and_both, list_all_at, list_any_from, list_any_gives, false_unless}
 use Rattle.rail_base.proofs.Lists.{in_append_right, in_map, in_flat_map, in_flat_map_back}
-use Rattle.rail_spec.proofs.Given.{same_train, same_route, command_in_path}
+use Rattle.rail_laws.proofs.Given.{same_train, same_route, command_in_path}
 use Rattle.rail_plan.proofs.Named.{its_train}
 use Rattle.rail_plan.proofs.Empties.{in_trains}
 

@@ -16,7 +16,7 @@ use Rattle.rail_spec.specs.Plans.{path}
 use Rattle.rail_spec.specs.Requirements.{is_after, most_ticks}
 use Rattle.rail_spec.specs.Requirements as requirements
 use Rattle.rail_spec.specs.Histories.{history_at}
-use Rattle.rail_spec.proofs.Verdicts.{one_to_in}
+use Rattle.rail_laws.proofs.Verdicts.{one_to_in}
 use Rattle.rail_require.specs.Ticks.{trains, command_numbers, visit_numbers, is_by, is_before}
 use Rattle.rail_require.specs.Violations.{is_certain, within_ways, order_ways, grant_ways, visit_ways, ways_to_fail, violation_in}
 use Rattle.rail_require.proofs.Finding.{find-same}

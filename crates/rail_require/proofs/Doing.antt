@@ -9,7 +9,8 @@ use Rattle.rail_base.specs.declared.history.TrainHistory.{TrainHistory}
 use Rattle.rail_base.specs.Numbering.{count_from, entry}
 use Rattle.rail_base.specs.Stations.{trains}
 use Rattle.rail_spec.specs.Plans.{path}
-use Rattle.rail_spec.specs.Run.{visits_of_train}
+use Rattle.rail_spec.specs.Dispatches.{of_plan}
+use Rattle.rail_spec.specs.Visits.{visits_of_train}
 use Rattle.rail_spec.specs.Requirements.{granted_by, visited_by, command_numbers, visit_numbers, is_done}
 use Rattle.rail_spec.specs.Histories.{history_at, train_history, visit_made, grant_tick}
 use Rattle.rail_require.specs.Violations.{is_done_in}
@@ -58,9 +59,9 @@ module _ (d : Station) (routes : List Route) (plan : List (List Command)) (k : �
 
   visits_done : (t : TrainNo) → list_all is_some (train_history d routes plan k t).visits ≡ list_all (visited_by d routes plan k t) (visit_numbers d t)
   visits_done t =
-      list_all-map is_some (visit_made d routes plan k t) (visits_of_train d routes plan t)
-      ∙ list_all-entries (λ place. is_some (visit_made d routes plan k t place)) (visited_by d routes plan k t) 0 (visits_of_train d routes plan t) None
-      (λ j l. ap (visited_by d routes plan k t) (let e : 0 + j ≡ j = omega arith in e) ∙ sym (some_made d routes plan k t (entry None (visits_of_train d routes plan t) j)))
+      list_all-map is_some (visit_made d routes plan k t) (visits_of_train d routes (of_plan routes plan) t)
+      ∙ list_all-entries (λ place. is_some (visit_made d routes plan k t place)) (visited_by d routes plan k t) 0 (visits_of_train d routes (of_plan routes plan) t) None
+      (λ j l. ap (visited_by d routes plan k t) (let e : 0 + j ≡ j = omega arith in e) ∙ sym (some_made d routes plan k t (entry None (visits_of_train d routes (of_plan routes plan) t) j)))
       ∙ ap₂ (λ a n. list_all (visited_by d routes plan k t) (count_from a n)) (let e : 0 + 1 ≡ 1 = omega arith in e) (visits_there d routes plan k t)
 
   pub done_told : is_done_in (history_at d routes plan k) ≡ is_done d routes plan k

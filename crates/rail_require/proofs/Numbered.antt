@@ -15,7 +15,7 @@ use Rattle.rail_base.proofs.Contained.{in_at}
 use Rattle.rail_spec.specs.Plans.{is_train, routes_given, path, one_each, is_well_formed, is_path, path_routes}
 use Rattle.rail_spec.specs.Histories.{history_at, train_history}
 use Rattle.rail_require.specs.Ticks.{HasNumbers}
-use Rattle.rail_spec.proofs.Given.{same_train}
+use Rattle.rail_laws.proofs.Given.{same_train}
 use Rattle.rail_require.proofs.Agreeing.{is_a_train}
 use Rattle.rail_require.proofs.Telling.{length-trains, length-granted, length-visits}
 

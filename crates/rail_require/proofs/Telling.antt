@@ -14,16 +14,15 @@ use Rattle.rail_base.specs.Stations as station
 use Rattle.rail_base.proofs.Members.{get_or-counted, map-map, false_unless}
 use Rattle.rail_base.proofs.Lists.{length-map}
 use Rattle.rail_spec.specs.Plans.{path, has_node}
-use Rattle.rail_spec.specs.Dispatches.{state_of}
-use Rattle.rail_spec.specs.Visits.{visits_at, visits_on}
-use Rattle.rail_spec.specs.Run.{state_at, pass_tick, visits_of_train}
-use Rattle.rail_spec.specs.Run as run
+use Rattle.rail_spec.specs.Dispatches.{state_of, of_plan, state_at}
+use Rattle.rail_spec.specs.Visits.{visits_at, visits_on, pass_tick, stops_of_train, visits_of_train}
+use Rattle.rail_spec.specs.Visits as visits
 use Rattle.rail_spec.specs.Requirements.{granted_by, visited_by}
 use Rattle.rail_spec.specs.Requirements as requirements
 use Rattle.rail_spec.specs.Histories.{history_at, train_history, visit_made, granted}
 use Rattle.rail_spec.specs.Histories as histories
-use Rattle.rail_spec.proofs.Exclusion.{run_later}
-use Rattle.rail_spec.proofs.Deciding.{least_gives, visit_stays, visit_within, visit_at, visit_once}
+use Rattle.rail_laws.proofs.Exclusion.{run_later}
+use Rattle.rail_laws.proofs.Deciding.{least_gives, visit_stays, visit_within, visit_at, visit_once}
 use Rattle.rail_require.specs.Ticks.{history_of, trains, command_numbers, visit_numbers, grant_tick, visit_tick, is_by, is_before}
 
 -- ---- lists
@@ -78,21 +77,21 @@ by-least test n = go (least test n) refl
 module _ (d : Station) (routes : List Route) (plan : List (List Command)) where
   -- ---- grants
 
-  granted_more : (k m : ℕ) (t : TrainNo) → (state_of (state_at d routes plan k) t).granted ≤ (state_of (state_at d routes plan (k + m)) t).granted
-  granted_more k zero t = let e : k ≡ k + 0 = omega arith in subst (λ n. (state_of (state_at d routes plan k) t).granted ≤ (state_of (state_at d routes plan n) t).granted) e (omega arith)
+  granted_more : (k m : ℕ) (t : TrainNo) → (state_of (state_at d routes (of_plan routes plan) k) t).granted ≤ (state_of (state_at d routes (of_plan routes plan) (k + m)) t).granted
+  granted_more k zero t = let e : k ≡ k + 0 = omega arith in subst (λ n. (state_of (state_at d routes (of_plan routes plan) k) t).granted ≤ (state_of (state_at d routes (of_plan routes plan) n) t).granted) e (omega arith)
   granted_more k (suc m) t =
       let e : suc (k + m) ≡ k + suc m = omega arith in
       let a = granted_more k m t in
       let b = (run_later d routes plan (k + m) t).granted in
-      let c : (state_of (state_at d routes plan k) t).granted ≤ (state_of (state_at d routes plan (suc (k + m))) t).granted = omega arith in
-      subst (λ n. (state_of (state_at d routes plan k) t).granted ≤ (state_of (state_at d routes plan n) t).granted) e c
+      let c : (state_of (state_at d routes (of_plan routes plan) k) t).granted ≤ (state_of (state_at d routes (of_plan routes plan) (suc (k + m))) t).granted = omega arith in
+      subst (λ n. (state_of (state_at d routes (of_plan routes plan) k) t).granted ≤ (state_of (state_at d routes (of_plan routes plan) n) t).granted) e c
 
   granted_later : (i k : ℕ) (t : TrainNo) (j : ℕ) → i ≤ k → granted_by d routes plan i t j ≡ true → granted_by d routes plan k t j ≡ true
   granted_later i k t j less h =
-      let a = leb-true j (state_of (state_at d routes plan i) t).granted h in
+      let a = leb-true j (state_of (state_at d routes (of_plan routes plan) i) t).granted h in
       let b = granted_more i (k - i) t in
       let e : i + (k - i) ≡ k = omega arith in
-      subst (λ n. granted_by d routes plan n t j ≡ true) e (le-leb j (state_of (state_at d routes plan (i + (k - i))) t).granted (omega arith))
+      subst (λ n. granted_by d routes plan n t j ≡ true) e (le-leb j (state_of (state_at d routes (of_plan routes plan) (i + (k - i))) t).granted (omega arith))
 
   -- a grant has its tick exactly where the command is granted
   pub some_grant : (k : ℕ) (t : TrainNo) (j : ℕ) → 1 ≤ k → is_some (histories.grant_tick d routes plan k t j) ≡ granted_by d routes plan k t j
@@ -103,24 +102,24 @@ module _ (d : Station) (routes : List Route) (plan : List (List Command)) where
 
   -- ---- visits
 
-  pub by_visit : (k : ℕ) (t : TrainNo) (j : ℕ) → is_by k (run.visit_tick d routes plan k t j) ≡ visited_by d routes plan k t j
-  by_visit k t j = go (run.visit_tick d routes plan k t j) refl
+  pub by_visit : (k : ℕ) (t : TrainNo) (j : ℕ) → is_by k (visits.visit_tick d routes (of_plan routes plan) k t j) ≡ visited_by d routes plan k t j
+  by_visit k t j = go (visits.visit_tick d routes (of_plan routes plan) k t j) refl
     where
-      go : (o : Option ℕ) → run.visit_tick d routes plan k t j ≡ o → is_by k o ≡ is_some o
+      go : (o : Option ℕ) → visits.visit_tick d routes (of_plan routes plan) k t j ≡ o → is_by k o ≡ is_some o
       go None e = refl
       go (Some a) e = le-leb a k (visit_within d routes plan k t j a e).1
 
   -- a visit has a tick before k exactly where it is made by the tick before k
-  pub before_visit : (k : ℕ) (t : TrainNo) (j : ℕ) → 1 ≤ k → is_before k (run.visit_tick d routes plan k t j) ≡ visited_by d routes plan (k - 1) t j
-  before_visit k t j low = go (run.visit_tick d routes plan k t j) refl (run.visit_tick d routes plan (k - 1) t j) refl
+  pub before_visit : (k : ℕ) (t : TrainNo) (j : ℕ) → 1 ≤ k → is_before k (visits.visit_tick d routes (of_plan routes plan) k t j) ≡ visited_by d routes plan (k - 1) t j
+  before_visit k t j low = go (visits.visit_tick d routes (of_plan routes plan) k t j) refl (visits.visit_tick d routes (of_plan routes plan) (k - 1) t j) refl
     where
-      up : (a l : ℕ) → l ≤ k → run.visit_tick d routes plan l t j ≡ Some a → run.visit_tick d routes plan k t j ≡ Some a
-      up a l less e = let same : l + (k - l) ≡ k = omega arith in subst (λ n. run.visit_tick d routes plan n t j ≡ Some a) same (visit_stays d routes plan l (k - l) t j a e)
+      up : (a l : ℕ) → l ≤ k → visits.visit_tick d routes (of_plan routes plan) l t j ≡ Some a → visits.visit_tick d routes (of_plan routes plan) k t j ≡ Some a
+      up a l less e = let same : l + (k - l) ≡ k = omega arith in subst (λ n. visits.visit_tick d routes (of_plan routes plan) n t j ≡ Some a) same (visit_stays d routes plan l (k - l) t j a e)
 
-      down : (a : ℕ) → a < k → run.visit_tick d routes plan k t j ≡ Some a → run.visit_tick d routes plan (k - 1) t j ≡ Some a
-      down a less e = let same : a + (k - 1 - a) ≡ k - 1 = omega arith in subst (λ n. run.visit_tick d routes plan n t j ≡ Some a) same (visit_stays d routes plan a (k - 1 - a) t j a (visit_at d routes plan k t j a e))
+      down : (a : ℕ) → a < k → visits.visit_tick d routes (of_plan routes plan) k t j ≡ Some a → visits.visit_tick d routes (of_plan routes plan) (k - 1) t j ≡ Some a
+      down a less e = let same : a + (k - 1 - a) ≡ k - 1 = omega arith in subst (λ n. visits.visit_tick d routes (of_plan routes plan) n t j ≡ Some a) same (visit_stays d routes plan a (k - 1 - a) t j a (visit_at d routes plan k t j a e))
 
-      go : (o : Option ℕ) → run.visit_tick d routes plan k t j ≡ o → (p : Option ℕ) → run.visit_tick d routes plan (k - 1) t j ≡ p → is_before k o ≡ is_some p
+      go : (o : Option ℕ) → visits.visit_tick d routes (of_plan routes plan) k t j ≡ o → (p : Option ℕ) → visits.visit_tick d routes (of_plan routes plan) (k - 1) t j ≡ p → is_before k o ≡ is_some p
       go None e None f = refl
       go None e (Some b) f = let u = up b (k - 1) (omega arith) f in cc
       go (Some a) e None f = false_unless (nat_lt a k) (λ h. let l = leb-true (suc a) k h in let u = down a (omega arith) e in absurd (some≢none (sym u ∙ f)))
@@ -158,11 +157,11 @@ module _ (d : Station) (routes : List Route) (plan : List (List Command)) where
     pub commands_told : (t : TrainNo) → IsTrain d t → command_numbers (history_at d routes plan k) t ≡ requirements.command_numbers d routes plan t
     commands_told t is = ap (λ (h : TrainHistory). one_to (length h.grants)) (train_told t is) ∙ ap one_to (length-granted t)
 
-    pub visits_there : (t : TrainNo) → length (visits_of_train d routes plan t) ≡ length (train_of d t).visits
-    visits_there t = length-visits_on (train_of d t).visits (run.stops_of_train d routes plan t)
+    pub visits_there : (t : TrainNo) → length (visits_of_train d routes (of_plan routes plan) t) ≡ length (train_of d t).visits
+    visits_there t = length-visits_on (train_of d t).visits (stops_of_train d routes (of_plan routes plan) t)
 
     pub length-visits : (t : TrainNo) → length (train_history d routes plan k t).visits ≡ length (train_of d t).visits
-    length-visits t = length-map (visit_made d routes plan k t) (visits_of_train d routes plan t) ∙ visits_there t
+    length-visits t = length-map (visit_made d routes plan k t) (visits_of_train d routes (of_plan routes plan) t) ∙ visits_there t
 
     pub visits_told : (t : TrainNo) → IsTrain d t → visit_numbers (history_at d routes plan k) t ≡ requirements.visit_numbers d t
     visits_told t is = ap (λ (h : TrainHistory). one_to (length h.visits)) (train_told t is) ∙ ap one_to (length-visits t)
@@ -174,24 +173,24 @@ module _ (d : Station) (routes : List Route) (plan : List (List Command)) where
         ∙ entry-enumerated (histories.grant_tick d routes plan k t) (record { 0 = 0 }, None) 1 (path plan t) j (omega arith)
         ∙ ap (histories.grant_tick d routes plan k t) (let e : 1 + j ≡ suc j = omega arith in e)
 
-    tick_made : (t : TrainNo) (place : Option Stop) → option_map (λ v. v.1) (visit_made d routes plan k t place) ≡ option_and_then (pass_tick d routes plan k t) place
+    tick_made : (t : TrainNo) (place : Option Stop) → option_map (λ v. v.1) (visit_made d routes plan k t place) ≡ option_and_then (pass_tick d routes (of_plan routes plan) k t) place
     tick_made t None = refl
-    tick_made t (Some stop) = go (pass_tick d routes plan k t stop)
+    tick_made t (Some stop) = go (pass_tick d routes (of_plan routes plan) k t stop)
       where
         go : (o : Option ℕ) → option_map (λ (v : NodeNo × ℕ). v.1) (option_map (λ i. (stop.node, i)) o) ≡ o
         go None = refl
         go (Some i) = refl
 
-    pub some_made : (t : TrainNo) (place : Option Stop) → is_some (visit_made d routes plan k t place) ≡ is_some (option_and_then (pass_tick d routes plan k t) place)
+    pub some_made : (t : TrainNo) (place : Option Stop) → is_some (visit_made d routes plan k t place) ≡ is_some (option_and_then (pass_tick d routes (of_plan routes plan) k t) place)
     some_made t None = refl
-    some_made t (Some stop) = go (pass_tick d routes plan k t stop)
+    some_made t (Some stop) = go (pass_tick d routes (of_plan routes plan) k t stop)
       where
         go : (o : Option ℕ) → is_some {T = NodeNo × ℕ} (option_map (λ i. (stop.node, i)) o) ≡ is_some o
         go None = refl
         go (Some i) = refl
 
-    pub visit_told : (t : TrainNo) → IsTrain d t → (j : ℕ) → visit_tick (history_at d routes plan k) t j ≡ run.visit_tick d routes plan k t j
+    pub visit_told : (t : TrainNo) → IsTrain d t → (j : ℕ) → visit_tick (history_at d routes plan k) t j ≡ visits.visit_tick d routes (of_plan routes plan) k t j
     visit_told t is j =
         ap (λ (h : TrainHistory). option_map (λ v. v.1) (entry None h.visits j)) (train_told t is)
-        ∙ ap (option_map (λ v. v.1)) (entry-map (visit_made d routes plan k t) None (visits_of_train d routes plan t) j)
-        ∙ tick_made t (entry None (visits_of_train d routes plan t) j)
+        ∙ ap (option_map (λ v. v.1)) (entry-map (visit_made d routes plan k t) None (visits_of_train d routes (of_plan routes plan) t) j)
+        ∙ tick_made t (entry None (visits_of_train d routes (of_plan routes plan) t) j)

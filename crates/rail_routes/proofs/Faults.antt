@@ -12,7 +12,7 @@ use Rattle.rail_base.specs.Numbering.{first_of_list}
 use Rattle.rail_base.specs.Stations.{leave, IsNode}
 use Rattle.rail_base.specs.Admitted.{IsAdmitted}
 use Rattle.rail_spec.specs.Track.{is_empty, Closing, Whole, Again, bad_edge, all_closings, closings_from, route_of, route_from, start_end}
-use Rattle.rail_spec.specs.Elementary.{IsStart}
+use Rattle.rail_laws.specs.Elementary.{IsStart}
 use Rattle.rail_routes.specs.declared.fault.RouteFault.{RouteFault}
 use Rattle.rail_routes.specs.declared.fault.RouteFault.TheVariants as fault
 use Rattle.rail_routes.specs.Refusals.{IsListed, HasFault, fault_of, IsFaultOf}

@@ -16,8 +16,8 @@ use Rattle.rail_base.specs.Admitted.{IsAdmitted}
 use Rattle.rail_base.proofs.Contained.{in_at}
 use Rattle.rail_base.proofs.Lists.{in_append, in_append_left, in_append_right, pairs_append, pairs_across, pairs_left}
 use Rattle.rail_spec.specs.Track.{signals_at, is_empty, ends_by_signal, finish_at, has_edge, Closing, Whole, Again, closed_or, closings}
-use Rattle.rail_spec.proofs.Closing.{at_from_leave}
-use Rattle.rail_spec.proofs.RouteLaws.{few_edges}
+use Rattle.rail_laws.proofs.Closing.{at_from_leave}
+use Rattle.rail_laws.proofs.RouteLaws.{few_edges}
 use Rattle.rail_routes.specs.declared.search.Level.{Level}
 use Rattle.rail_routes.specs.declared.search.Search.{Search}
 use Rattle.rail_routes.specs.declared.path.Path.{Path}

@@ -10,8 +10,8 @@ use Rattle.rail_base.specs.Stations.{IsEdge}
 use Rattle.rail_base.proofs.Lists.{in_flat_map}
 use Rattle.rail_base.proofs.Members.{below_or_not}
 use Rattle.rail_spec.specs.Track.{Again, bad_edge, all_closings, edges_met_again, routes_of}
-use Rattle.rail_spec.proofs.RouteLaws.{way_edges, route_is}
-use Rattle.rail_spec.proofs.BadClosing.{closed_are_routes}
+use Rattle.rail_laws.proofs.RouteLaws.{way_edges, route_is}
+use Rattle.rail_laws.proofs.BadClosing.{closed_are_routes}
 use Rattle.rail_routes.specs.declared.fault.RouteFault.{RouteFault}
 use Rattle.rail_routes.specs.declared.fault.RouteFault.TheVariants as fault
 use Rattle.rail_routes.specs.Refusals.{HasFault, IsListed}

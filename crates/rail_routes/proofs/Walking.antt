@@ -16,7 +16,7 @@ use Rattle.std.specs.List.{list_all}
 use Rattle.rail_base.proofs.Contained.{in_at}
 use Rattle.rail_base.proofs.Lists.{in_map_back}
 use Rattle.rail_spec.specs.Track.{edge_ends, first_occurrences, last_end}
-use Rattle.rail_spec.proofs.Told.{first_in}
+use Rattle.rail_laws.proofs.Told.{first_in}
 use Rattle.rail_routes.specs.Walks.{AreEdges}
 
 -- the edge at a place of the path, and those from it on

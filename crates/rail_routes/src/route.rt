@@ -5,7 +5,7 @@ ghost use Rattle.rail_base.specs.declared.station.SectionNo.{SectionNo};
 ghost use Rattle.rail_base.specs.Members.{In};
 ghost use Rattle.rail_base.specs.Stations.{length_of, section_of, IsEdge};
 ghost use Rattle.rail_spec.specs.Track.{route_of};
-ghost use Rattle.rail_spec.specs.Elementary.{IsStart};
+ghost use Rattle.rail_laws.specs.Elementary.{IsStart};
 ghost use Rattle.rail_routes.specs.Walks.{nodes_of, sections_along, sections_of, AreEdges, AreLastEnds};
 
 use crate::starts::start_end;

@@ -2,7 +2,7 @@
 
 ghost use Rattle.std.specs.Prelude.{◌≡◌, ◌++◌, IfOk, OnOk, map};
 ghost use Rattle.rail_base.specs.Stations.{IsNode, IsSignal};
-ghost use Rattle.rail_spec.specs.Elementary.{IsStart};
+ghost use Rattle.rail_laws.specs.Elementary.{IsStart};
 ghost use Rattle.rail_spec.specs.Track.{finish_at, start_end, starts, starts_at};
 ghost use Rattle.rail_base.specs.declared.route.Start.TheVariants as start;
 

@@ -1,7 +1,7 @@
 //! The table of all routes of a design.
 
 ghost use Rattle.std.specs.Prelude.{◌≡◌, ◌++◌, ◌-◌, ◌≤◌, IfErr, IfOk, OnOk, None, length};
-ghost use Rattle.rail_spec.specs.Elementary.{IsStart};
+ghost use Rattle.rail_laws.specs.Elementary.{IsStart};
 ghost use Rattle.rail_spec.specs.Track.{closings_from, routes_of};
 ghost use Rattle.rail_routes.specs.Refusals.{fault_of, routes_from, HasFault, IsFaultOf, IsListed};
 

@@ -1,5 +1,5 @@
 -- Runs: the state after each tick, under whatever says which command waits for which.
-use Rattle.std.specs.Prelude.{ℕ, zero, suc, ◌+◌, Bool, ◌&&◌, if◌then◌else◌, List, map, flat_map, length, take}
+use Rattle.std.specs.Prelude.{ℕ, zero, suc, ◌+◌, Bool, true, ◌&&◌, if◌then◌else◌, List, map, flat_map, length, take}
 use Rattle.std.specs.Prelude.{slice_get, nat_le, nat_lt, Option, None, Some, sum_by}
 use Rattle.std.specs.List.{list_any, list_all}
 use Rattle.rail_base.specs.declared.station.Station.{Station}
@@ -13,7 +13,7 @@ use Rattle.rail_base.specs.declared.state.TrainState.{TrainState}
 use Rattle.rail_base.specs.Numbering.{entry, before_first}
 use Rattle.rail_base.specs.Stations.{edge_of, train_length, vehicle_of, trains, per_tick_speed, per_tick_accel}
 use Rattle.rail_spec.specs.Track.{edge_ends}
-use Rattle.rail_spec.specs.Plans.{route_at, shared, release_offset, length_mm, exits, is_route}
+use Rattle.rail_spec.specs.Plans.{path, preceding, route_at, shared, release_offset, length_mm, exits, is_route}
 use Rattle.rail_spec.specs.Motion.{Rates, Stretch, next_speed}
 
 -- how a train begins: nothing is granted, and it stands at the start of its path
@@ -49,6 +49,10 @@ pub record Dispatch : Type 0 where
   pub path : TrainNo → List RouteNo
   pub before : Command → List Command
   pub concerns : ℕ → TrainNo → Bool
+
+-- that of a plan: each train goes its path, a command waits for those that precede it, and every tick concerns every train
+abbrev pub of_plan : List Route → List (List Command) → Dispatch
+of_plan routes plan = record { path = path plan; before = preceding routes plan; concerns = λ k t. true }
 
 -- ---- one tick
 

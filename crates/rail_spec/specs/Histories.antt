@@ -18,7 +18,8 @@ use Rattle.rail_base.specs.Stations.{trains}
 use Rattle.rail_base.specs.Routes.{route_at, sections}
 use Rattle.rail_spec.specs.Plans.{path}
 use Rattle.rail_base.specs.declared.state.Stop.{Stop}
-use Rattle.rail_spec.specs.Run.{state_at, has_released, pass_tick, passed, visits_of_train}
+use Rattle.rail_spec.specs.Dispatches.{of_plan, has_released, state_at}
+use Rattle.rail_spec.specs.Visits.{pass_tick, visits_of_train, passed}
 use Rattle.rail_spec.specs.Requirements.{granted_by, violation_at, path_violation, cost}
 
 module _ (d : Station) (routes : List Route) (plan : List (List Command)) where
@@ -28,7 +29,9 @@ module _ (d : Station) (routes : List Route) (plan : List (List Command)) where
 
   -- the tick, up to k, at which a command has released a section
   abbrev pub release_tick : ℕ → Command → SectionNo → Option ℕ
-  release_tick k c z = least (λ i. has_released d routes plan (state_at d routes plan i) c z) k
+  release_tick k c z =
+      let run = of_plan routes plan in
+      least (λ i. has_released d routes run (state_at d routes run i) c z) k
 
   -- the commands of the train's path with the ticks, up to k, at which they are granted
   abbrev pub granted : ℕ → TrainNo → List (RouteNo × Option ℕ)
@@ -46,15 +49,16 @@ module _ (d : Station) (routes : List Route) (plan : List (List Command)) where
   -- where a visit is made, with the tick, up to k
   abbrev pub visit_made : ℕ → TrainNo → Option Stop → Option (NodeNo × ℕ)
   visit_made k t place =
-      option_and_then (λ stop. option_map (λ i. (stop.node, i)) (pass_tick d routes plan k t stop)) place
+      let tick = pass_tick d routes (of_plan routes plan) k t in
+      option_and_then (λ stop. option_map (λ i. (stop.node, i)) (tick stop)) place
 
   -- what has happened to the train by tick k
   abbrev pub train_history : ℕ → TrainNo → TrainHistory
   train_history k t = record {
     grants = granted k t;
-    passes = passed d routes plan k t;
+    passes = passed d routes (of_plan routes plan) k t;
     releases = released k t;
-    visits = map (visit_made k t) (visits_of_train d routes plan t);
+    visits = map (visit_made k t) (visits_of_train d routes (of_plan routes plan) t);
   }
 
   -- what has happened to each train by tick k

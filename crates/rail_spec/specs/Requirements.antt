@@ -13,8 +13,8 @@ use Rattle.rail_base.specs.declared.plan.Violation.TheVariants as violation
 use Rattle.rail_base.specs.Numbering.{entry, one_to, least}
 use Rattle.rail_spec.specs.Plans.{path}
 use Rattle.rail_base.specs.Stations.{train_of, trains, horizon, order_of, within_of}
-use Rattle.rail_spec.specs.Dispatches.{state_of}
-use Rattle.rail_spec.specs.Run.{state_at, visits_of_train, visit_tick}
+use Rattle.rail_spec.specs.Dispatches.{state_of, of_plan, state_at}
+use Rattle.rail_spec.specs.Visits.{visits_of_train, visit_tick}
 
 -- both ticks are there, and pass the test
 abbrev pub both : (ℕ → ℕ → Bool) → Option ℕ → Option ℕ → Bool
@@ -42,11 +42,11 @@ module _ (d : Station) (routes : List Route) (plan : List (List Command)) where
 
   -- by tick k the train's command of this number is granted
   abbrev pub granted_by : ℕ → TrainNo → ℕ → Bool
-  granted_by k t j = nat_le j (state_of (state_at d routes plan k) t).granted
+  granted_by k t j = nat_le j (state_of (state_at d routes (of_plan routes plan) k) t).granted
 
   -- by tick k the visit is made
   abbrev pub visited_by : ℕ → TrainNo → ℕ → Bool
-  visited_by k t j = is_some (visit_tick d routes plan k t j)
+  visited_by k t j = is_some (visit_tick d routes (of_plan routes plan) k t j)
 
   -- by tick k all commands are granted and all visits are made
   abbrev pub is_done : ℕ → Bool
@@ -56,15 +56,15 @@ module _ (d : Station) (routes : List Route) (plan : List (List Command)) where
   -- the first visit's tick is before the other's
   abbrev pub keeps_order : ℕ → Order → Bool
   keeps_order k o =
-      let first = visit_tick d routes plan k o.first_train o.first_visit in
-      let second = visit_tick d routes plan k o.then_train o.then_visit in
+      let first = visit_tick d routes (of_plan routes plan) k o.first_train o.first_visit in
+      let second = visit_tick d routes (of_plan routes plan) k o.then_train o.then_visit in
       both nat_lt first second
 
   -- the time from the one visit to the other is at most the given one
   abbrev pub keeps_within : ℕ → Within → Bool
   keeps_within k w =
-      let first = visit_tick d routes plan k w.from_train w.from_visit in
-      let second = visit_tick d routes plan k w.to_train w.to_visit in
+      let first = visit_tick d routes (of_plan routes plan) k w.from_train w.from_visit in
+      let second = visit_tick d routes (of_plan routes plan) k w.to_train w.to_visit in
       both (λ from to. nat_le (to * d.tick_ms) (from * d.tick_ms + w.max_ms)) first second
 
   -- the plan meets the design
@@ -76,13 +76,15 @@ module _ (d : Station) (routes : List Route) (plan : List (List Command)) where
 
   -- the plan's failure in this way becomes certain at tick k
   abbrev pub is_certain : ℕ → Violation → Bool
-  is_certain k (violation.Path t j) = (k == 1) && is_none (entry None (visits_of_train d routes plan t) j)
-  is_certain k (violation.Within w) = let within = within_of d w in
-      nat_le k (horizon d)
-      && is_after (most_ticks d within) (visit_tick d routes plan k within.from_train within.from_visit) k
+  is_certain k (violation.Path t j) =
+      (k == 1) && is_none (entry None (visits_of_train d routes (of_plan routes plan) t) j)
+  is_certain k (violation.Within w) =
+      let within = within_of d w in
+      let from = visit_tick d routes (of_plan routes plan) k within.from_train within.from_visit in
+      nat_le k (horizon d) && is_after (most_ticks d within) from k
       && not (visited_by k within.to_train within.to_visit)
   is_certain k (violation.Order o) = let order = order_of d o in
-      is_after 0 (visit_tick d routes plan k order.then_train order.then_visit) k
+      is_after 0 (visit_tick d routes (of_plan routes plan) k order.then_train order.then_visit) k
       && not (visited_by (k - 1) order.first_train order.first_visit)
   is_certain k (violation.Grant t j) = (k == horizon d) && not (granted_by k t j)
   is_certain k (violation.Visit t j) = (k == horizon d) && not (visited_by k t j)

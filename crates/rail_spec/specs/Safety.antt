@@ -12,19 +12,19 @@ use Rattle.rail_spec.specs.Track.{edge_ends}
 use Rattle.rail_base.specs.Stations.{section_of, length_of, train_length}
 use Rattle.rail_spec.specs.Plans.{route_at, has_section, commands, is_train, path_routes}
 use Rattle.rail_base.specs.declared.state.TrainState.{TrainState}
-use Rattle.rail_spec.specs.Dispatches.{state_of, rates, stretches, authority}
+use Rattle.rail_spec.specs.Dispatches.{state_of, rates, stretches, authority, of_plan, is_granted, has_released}
+use Rattle.rail_spec.specs.Dispatches.{state_at}
 use Rattle.rail_spec.specs.Motion.{KeepsLimits, may_stop}
-use Rattle.rail_spec.specs.Run.{state_at, is_granted, has_released}
 
 module _ (d : Station) (routes : List Route) (plan : List (List Command)) where
   -- the command is the train's, on the section, and granted, and hasn't released it
   abbrev pub is_held_by : List TrainState → TrainNo → SectionNo → Command → Bool
   is_held_by s t z c = is_train c.train t && has_section (route_at routes c.route) z
-      && is_granted d routes plan s c && not (has_released d routes plan s c z)
+      && is_granted d routes (of_plan routes plan) s c && not (has_released d routes (of_plan routes plan) s c z)
 
   -- some command of the train on the section is granted and hasn't released it
   abbrev pub holds : ℕ → TrainNo → SectionNo → Bool
-  holds k t z = list_any (is_held_by (state_at d routes plan k) t z) (commands plan)
+  holds k t z = list_any (is_held_by (state_at d routes (of_plan routes plan) k) t z) (commands plan)
 
   -- an edge of the section on the train's path begins before the head and ends past the tail
   abbrev pub covers : TrainState → TrainNo → SectionNo → EdgeNo × ℕ → Bool
@@ -35,7 +35,7 @@ module _ (d : Station) (routes : List Route) (plan : List (List Command)) where
   abbrev pub stands_on : ℕ → TrainNo → SectionNo → Bool
   stands_on k t z =
       let edges = edge_ends d 0 (flat_map (λ r. r.edges) (path_routes routes plan t)) in
-      list_any (covers (state_of (state_at d routes plan k) t) t z) edges
+      list_any (covers (state_of (state_at d routes (of_plan routes plan) k) t) t z) edges
 
   -- two trains hold one section, or two stand on one
   pub record Clash (k : ℕ) : Type 0 where
@@ -53,9 +53,9 @@ module _ (d : Station) (routes : List Route) (plan : List (List Command)) where
   -- at each tick each train with a granted command has its head where it may stop, by the end of authority of what it is
   -- granted; and from each tick to the next each point that the head covers has a limit of at least the new speed
   pub record KeepsToTrack : Type 0 where
-    pub in_authority : (k : ℕ) (t : TrainNo) → let s = state_of (state_at d routes plan k) t in
+    pub in_authority : (k : ℕ) (t : TrainNo) → let s = state_of (state_at d routes (of_plan routes plan) k) t in
         1 ≤ s.granted → may_stop (authority (given t s.granted)) s.x ≡ true
     pub in_limits : (k : ℕ) (t : TrainNo) →
-        let old = state_of (state_at d routes plan k) t in
-        let new = state_of (state_at d routes plan (suc k)) t in
+        let old = state_of (state_at d routes (of_plan routes plan) k) t in
+        let new = state_of (state_at d routes (of_plan routes plan) (suc k)) t in
         1 ≤ new.granted → KeepsLimits (rates d t).top (stretches d (given t new.granted)) old.x new.x new.v

@@ -8,11 +8,11 @@ use Rattle.rail_spec.specs.Track.{routes_of}
 use Rattle.rail_spec.specs.Plans.{is_executable}
 use Rattle.rail_spec.specs.Feasible.{IsWellFormed}
 use Rattle.rail_spec.specs.Safety.{Clash, KeepsToTrack}
-use Rattle.rail_spec.specs.Progress.{IsGrantedInTime}
+use Rattle.rail_laws.specs.Progress.{IsGrantedInTime}
 use Rattle.rail_base.proofs.Admitting.{admitted}
-use Rattle.rail_spec.proofs.Admits.{never_clash}
-use Rattle.rail_spec.proofs.Keeping.{keeps_authority, keeps_all_limits}
-use Rattle.rail_spec.proofs.Lively.{no_deadlock}
+use Rattle.rail_laws.proofs.Admits.{never_clash}
+use Rattle.rail_laws.proofs.Keeping.{keeps_authority, keeps_all_limits}
+use Rattle.rail_laws.proofs.Lively.{no_deadlock}
 
 module _ (d : Station) (good : is_admitted d ≡ true) (routes : List Route) (same : routes ≡ routes_of d) (plan : List (List Command)) (formed : IsWellFormed d routes 64 plan) where
   over_these : IsWellFormed d (routes_of d) 64 plan

@@ -14,10 +14,9 @@ use Rattle.rail_base.specs.Numbering.{or_this, least}
 use Rattle.rail_base.specs.Routes.{route_at, sections}
 use Rattle.rail_base.proofs.Members.{map-map}
 use Rattle.std.proofs.lemmas.List.{map-append}
-use Rattle.rail_spec.specs.Visits.{is_passed}
+use Rattle.rail_spec.specs.Visits.{is_passed, pass_tick, stops_of_train, visits_of_train, passed}
 use Rattle.rail_spec.specs.Plans.{path}
-use Rattle.rail_spec.specs.Dispatches.{state_of}
-use Rattle.rail_spec.specs.Run.{of_plan, state_at, pass_tick, passed, stops_of_train, visits_of_train}
+use Rattle.rail_spec.specs.Dispatches.{state_of, of_plan, state_at}
 use Rattle.rail_base.specs.declared.history.TrainHistory.{TrainHistory}
 use Rattle.rail_spec.specs.Histories.{grant_tick, granted, released, visit_made, train_history}
 use Rattle.rail_course.specs.declared.journey.Release.{Release}
@@ -34,7 +33,7 @@ flat_map-each f g (x ∷ xs) h = ap₂ (λ a b. a ++ b) (h x) (flat_map-each f g
 
 module _ (d : Station) (routes : List Route) (plan : List (List Command)) (t : TrainNo) where
   abbrev now : ℕ → TrainState
-  now k = state_of (state_at d routes plan k) t
+  now k = state_of (state_at d routes (of_plan routes plan) k) t
 
   -- ---- grants
 
@@ -59,12 +58,12 @@ module _ (d : Station) (routes : List Route) (plan : List (List Command)) (t : T
 
   -- ---- passes
 
-  passes_of : (k : ℕ) (stops : List Stop) → mark_passes (now (suc k)) (suc k) stops (map (λ stop. (stop.node, pass_tick d routes plan k t stop)) stops) ≡ map (λ stop. (stop.node, pass_tick d routes plan (suc k) t stop)) stops
+  passes_of : (k : ℕ) (stops : List Stop) → mark_passes (now (suc k)) (suc k) stops (map (λ stop. (stop.node, pass_tick d routes (of_plan routes plan) k t stop)) stops) ≡ map (λ stop. (stop.node, pass_tick d routes (of_plan routes plan) (suc k) t stop)) stops
   passes_of k [] = refl
-  passes_of k (stop ∷ stops) = ap (λ xs. (stop.node, pass_tick d routes plan (suc k) t stop) ∷ xs) (passes_of k stops)
+  passes_of k (stop ∷ stops) = ap (λ xs. (stop.node, pass_tick d routes (of_plan routes plan) (suc k) t stop) ∷ xs) (passes_of k stops)
 
-  pub passes_marked : (k : ℕ) → mark_passes (now (suc k)) (suc k) (stops_of_train d routes plan t) (passed d routes plan k t) ≡ passed d routes plan (suc k) t
-  passes_marked k = passes_of k (stops_of_train d routes plan t)
+  pub passes_marked : (k : ℕ) → mark_passes (now (suc k)) (suc k) (stops_of_train d routes (of_plan routes plan) t) (passed d routes (of_plan routes plan) k t) ≡ passed d routes (of_plan routes plan) (suc k) t
+  passes_marked k = passes_of k (stops_of_train d routes (of_plan routes plan) t)
 
   -- ---- releases
 
@@ -91,7 +90,7 @@ module _ (d : Station) (routes : List Route) (plan : List (List Command)) (t : T
 
   visit_marked : (k : ℕ) (place : Option Stop) → made_or (visit_made d routes plan k t place) place (now (suc k)) (suc k) ≡ visit_made d routes plan (suc k) t place
   visit_marked k None = refl
-  visit_marked k (Some stop) = start (pass_tick d routes plan k t stop) ∙ go (pass_tick d routes plan k t stop) (is_passed (now (suc k)) stop)
+  visit_marked k (Some stop) = start (pass_tick d routes (of_plan routes plan) k t stop) ∙ go (pass_tick d routes (of_plan routes plan) k t stop) (is_passed (now (suc k)) stop)
     where
       start : (o : Option ℕ) → made_or (option_map (λ i. (stop.node, i)) o) (Some stop) (now (suc k)) (suc k) ≡ made_with stop (suc k) o (is_passed (now (suc k)) stop)
       start None = refl
@@ -106,8 +105,8 @@ module _ (d : Station) (routes : List Route) (plan : List (List Command)) (t : T
   visits_of k [] = refl
   visits_of k (place ∷ places) = ap₂ (λ x xs. x ∷ xs) (visit_marked k place) (visits_of k places)
 
-  pub visits_marked : (k : ℕ) → mark_visits (now (suc k)) (suc k) (visits_of_train d routes plan t) (map (visit_made d routes plan k t) (visits_of_train d routes plan t)) ≡ map (visit_made d routes plan (suc k) t) (visits_of_train d routes plan t)
-  visits_marked k = visits_of k (visits_of_train d routes plan t)
+  pub visits_marked : (k : ℕ) → mark_visits (now (suc k)) (suc k) (visits_of_train d routes (of_plan routes plan) t) (map (visit_made d routes plan k t) (visits_of_train d routes (of_plan routes plan) t)) ≡ map (visit_made d routes plan (suc k) t) (visits_of_train d routes (of_plan routes plan) t)
+  visits_marked k = visits_of k (visits_of_train d routes (of_plan routes plan) t)
 
   visit_none : (place : Option Stop) → None ≡ visit_made d routes plan 0 t place
   visit_none None = refl
@@ -117,8 +116,8 @@ module _ (d : Station) (routes : List Route) (plan : List (List Command)) (t : T
   visits_none [] = refl
   visits_none (place ∷ places) = ap₂ (λ x xs. x ∷ xs) (visit_none place) (visits_none places)
 
-  pub no_visits : map (λ place. None) (visits_of_train d routes plan t) ≡ map (visit_made d routes plan 0 t) (visits_of_train d routes plan t)
-  no_visits = visits_none (visits_of_train d routes plan t)
+  pub no_visits : map (λ place. None) (visits_of_train d routes (of_plan routes plan) t) ≡ map (visit_made d routes plan 0 t) (visits_of_train d routes (of_plan routes plan) t)
+  no_visits = visits_none (visits_of_train d routes (of_plan routes plan) t)
 
 -- ---- the whole history of a train
 
@@ -131,16 +130,16 @@ told_same g h p q r s v w a b c e = cc
 module _ (d : Station) (routes : List Route) (plan : List (List Command)) (t : TrainNo) where
   -- what a run begins with
   pub history_begins : (g : List (RouteNo × Option ℕ)) (p : List (NodeNo × Option ℕ)) (r : List (RouteNo × SectionNo × Option ℕ)) (v : List (Option (NodeNo × ℕ)))
-      → g ≡ map (λ x. (x, None)) (path plan t) → p ≡ map (λ (stop : Stop). (stop.node, None)) (stops_of_train d routes plan t)
-      → r ≡ map (λ (x : Release). (x.route, x.section, None)) (releases_of_train d routes (of_plan routes plan) t) → v ≡ map (λ x. None) (visits_of_train d routes plan t)
+      → g ≡ map (λ x. (x, None)) (path plan t) → p ≡ map (λ (stop : Stop). (stop.node, None)) (stops_of_train d routes (of_plan routes plan) t)
+      → r ≡ map (λ (x : Release). (x.route, x.section, None)) (releases_of_train d routes (of_plan routes plan) t) → v ≡ map (λ x. None) (visits_of_train d routes (of_plan routes plan) t)
       → told g p r v ≡ train_history d routes plan 0 t
   history_begins g p r v a b c e = told_same g _ p _ r _ v _ (a ∙ no_grants d routes plan t) b (c ∙ released_is d routes plan t 0) (e ∙ no_visits d routes plan t)
 
   -- what it has one tick further
-  pub history_goes_on : (tick : ℕ) → 1 ≤ tick → (s : TrainState) → s ≡ state_of (state_at d routes plan tick) t → (old : TrainHistory) → old ≡ train_history d routes plan (tick - 1) t
+  pub history_goes_on : (tick : ℕ) → 1 ≤ tick → (s : TrainState) → s ≡ state_of (state_at d routes (of_plan routes plan) tick) t → (old : TrainHistory) → old ≡ train_history d routes plan (tick - 1) t
       → (g : List (RouteNo × Option ℕ)) (p : List (NodeNo × Option ℕ)) (r : List (RouteNo × SectionNo × Option ℕ)) (v : List (Option (NodeNo × ℕ)))
-      → g ≡ mark_grants s.granted tick old.grants → p ≡ mark_passes s tick (stops_of_train d routes plan t) old.passes
-      → r ≡ mark_releases s tick (releases_of_train d routes (of_plan routes plan) t) old.releases → v ≡ mark_visits s tick (visits_of_train d routes plan t) old.visits
+      → g ≡ mark_grants s.granted tick old.grants → p ≡ mark_passes s tick (stops_of_train d routes (of_plan routes plan) t) old.passes
+      → r ≡ mark_releases s tick (releases_of_train d routes (of_plan routes plan) t) old.releases → v ≡ mark_visits s tick (visits_of_train d routes (of_plan routes plan) t) old.visits
       → told g p r v ≡ train_history d routes plan tick t
   history_goes_on zero first s here old before g p r v a b c e = absurd (omega arith)
   history_goes_on (suc k) first s here old before g p r v a b c e =
@@ -148,6 +147,6 @@ module _ (d : Station) (routes : List Route) (plan : List (List Command)) (t : T
       let was : old ≡ train_history d routes plan k t = before ∙ ap (λ n. train_history d routes plan n t) less in
       told_same g _ p _ r _ v _
       (a ∙ ap₂ (λ (x : TrainState) (o : TrainHistory). mark_grants x.granted (suc k) o.grants) here was ∙ grants_marked d routes plan t k)
-      (b ∙ ap₂ (λ (x : TrainState) (o : TrainHistory). mark_passes x (suc k) (stops_of_train d routes plan t) o.passes) here was ∙ passes_marked d routes plan t k)
+      (b ∙ ap₂ (λ (x : TrainState) (o : TrainHistory). mark_passes x (suc k) (stops_of_train d routes (of_plan routes plan) t) o.passes) here was ∙ passes_marked d routes plan t k)
       (c ∙ ap₂ (λ (x : TrainState) (o : TrainHistory). mark_releases x (suc k) (releases_of_train d routes (of_plan routes plan) t) o.releases) here was ∙ releases_marked d routes plan t k)
-      (e ∙ ap₂ (λ (x : TrainState) (o : TrainHistory). mark_visits x (suc k) (visits_of_train d routes plan t) o.visits) here was ∙ visits_marked d routes plan t k)
+      (e ∙ ap₂ (λ (x : TrainState) (o : TrainHistory). mark_visits x (suc k) (visits_of_train d routes (of_plan routes plan) t) o.visits) here was ∙ visits_marked d routes plan t k)

@@ -13,13 +13,13 @@ use Rattle.rail_spec.specs.Track.{routes_of}
 use Rattle.rail_spec.specs.Motion.{permitted}
 use Rattle.rail_spec.specs.Plans.{path, path_routes}
 use Rattle.rail_spec.specs.Feasible.{IsWellFormed}
-use Rattle.rail_spec.specs.Dispatches.{state_of, rates, stretches, authority}
-use Rattle.rail_spec.specs.Run.{of_plan, state_at, granted_with, granted_after, moved, is_ready}
-use Rattle.rail_spec.proofs.Exclusion.{by_tick, idle_at_first}
-use Rattle.rail_spec.proofs.UnderWay.{still, next_grants, travels}
-use Rattle.rail_spec.proofs.Admits.{sound}
-use Rattle.rail_spec.proofs.Small.{stays_small, IsSmall}
-use Rattle.rail_spec.proofs.Standing.{at_in}
+use Rattle.rail_spec.specs.Dispatches.{state_of, rates, stretches, authority, of_plan, is_ready, granted_with}
+use Rattle.rail_spec.specs.Dispatches.{granted_after, moved, state_at}
+use Rattle.rail_laws.proofs.Exclusion.{by_tick, idle_at_first}
+use Rattle.rail_laws.proofs.UnderWay.{still, next_grants, travels}
+use Rattle.rail_laws.proofs.Admits.{sound}
+use Rattle.rail_laws.proofs.Small.{stays_small, IsSmall}
+use Rattle.rail_laws.proofs.Standing.{at_in}
 use Rattle.rail_course.specs.declared.waits.Wait.{Wait}
 use Rattle.rail_course.specs.Waits.{waits_of, waits_of_train}
 use Rattle.rail_course.proofs.Waiting.{plan_contending, ready_when_over}
@@ -28,49 +28,49 @@ use Rattle.tick_sim.specs.Runs.{CanMove, IsReached}
 
 module _ (d : Station) (routes : List Route) (plan : List (List Command)) where
   -- what the waits say is granted
-  pub granted_is : (s : List TrainState) (t : TrainNo) (ws : List (List Wait)) → ws ≡ waits_of_train d routes (of_plan routes plan) t → granted_on s (state_of s t).granted (slice_get ws (state_of s t).granted) ≡ granted_after d routes plan s t
+  pub granted_is : (s : List TrainState) (t : TrainNo) (ws : List (List Wait)) → ws ≡ waits_of_train d routes (of_plan routes plan) t → granted_on s (state_of s t).granted (slice_get ws (state_of s t).granted) ≡ granted_after d routes (of_plan routes plan) s t
   granted_is s t ws same =
       ap (λ w. granted_on s (state_of s t).granted (slice_get w (state_of s t).granted)) same
       ∙ ap (granted_on s (state_of s t).granted) (slice_get-map (λ r. waits_of d routes (of_plan routes plan) (record { train = t; route = r })) (path plan t) (state_of s t).granted)
       ∙ go (slice_get (path plan t) (state_of s t).granted)
     where
-      go : (o : Option RouteNo) → granted_on s (state_of s t).granted (option_map (λ r. waits_of d routes (of_plan routes plan) (record { train = t; route = r })) o) ≡ granted_with d routes plan s t o
+      go : (o : Option RouteNo) → granted_on s (state_of s t).granted (option_map (λ r. waits_of d routes (of_plan routes plan) (record { train = t; route = r })) o) ≡ granted_with d routes (of_plan routes plan) s t o
       go None = refl
       go (Some r) = ap (λ b. if b then (state_of s t).granted + 1 else (state_of s t).granted) (sym (ready_when_over d routes (of_plan routes plan) s (plan_contending d routes plan) (record { train = t; route = r })))
 
   -- no train is granted more than its path
-  grants_within : (s : List TrainState) (t : TrainNo) → (state_of s t).granted ≤ length (path plan t) → granted_after d routes plan s t ≤ length (path plan t)
+  grants_within : (s : List TrainState) (t : TrainNo) → (state_of s t).granted ≤ length (path plan t) → granted_after d routes (of_plan routes plan) s t ≤ length (path plan t)
   grants_within s t h = go (slice_get (path plan t) (state_of s t).granted) refl
     where
       step : (b : Bool) → (state_of s t).granted < length (path plan t) → (if b then (state_of s t).granted + 1 else (state_of s t).granted) ≤ length (path plan t)
       step true l = omega arith
       step false l = h
 
-      go : (o : Option RouteNo) → slice_get (path plan t) (state_of s t).granted ≡ o → granted_with d routes plan s t o ≤ length (path plan t)
+      go : (o : Option RouteNo) → slice_get (path plan t) (state_of s t).granted ≡ o → granted_with d routes (of_plan routes plan) s t o ≤ length (path plan t)
       go None e = h
-      go (Some r) e = step (is_ready d routes plan s (record { train = t; route = r })) (at_in (path plan t) (state_of s t).granted r e).1
+      go (Some r) e = step (is_ready d routes (of_plan routes plan) s (record { train = t; route = r })) (at_in (path plan t) (state_of s t).granted r e).1
 
-  moved_within : (t : TrainNo) (old : TrainState) (n : ℕ) → old.granted ≤ length (path plan t) → n ≤ length (path plan t) → (moved d routes plan t old n).granted ≤ length (path plan t)
+  moved_within : (t : TrainNo) (old : TrainState) (n : ℕ) → old.granted ≤ length (path plan t) → n ≤ length (path plan t) → (moved d routes (of_plan routes plan) t old n).granted ≤ length (path plan t)
   moved_within t old zero h l = h
   moved_within t old (suc n) h l = l
 
-  pub stays_within : (k : ℕ) (t : TrainNo) → (state_of (state_at d routes plan k) t).granted ≤ length (path plan t)
+  pub stays_within : (k : ℕ) (t : TrainNo) → (state_of (state_at d routes (of_plan routes plan) k) t).granted ≤ length (path plan t)
   stays_within zero t = subst (λ (s : TrainState). s.granted ≤ length (path plan t)) (sym (idle_at_first d routes plan t)) (omega arith)
   stays_within (suc k) t =
       by_tick d routes plan (λ old new. old.granted ≤ length (path plan t) → new.granted ≤ length (path plan t)) k t (λ h. h)
-      (λ low high h. moved_within t (state_of (state_at d routes plan k) t) (granted_after d routes plan (state_at d routes plan k) t) h (grants_within (state_at d routes plan k) t h)) (stays_within k t)
+      (λ low high h. moved_within t (state_of (state_at d routes (of_plan routes plan) k) t) (granted_after d routes (of_plan routes plan) (state_at d routes (of_plan routes plan) k) t) h (grants_within (state_at d routes (of_plan routes plan) k) t h)) (stays_within k t)
 
 module _ (d : Station) (adm : IsAdmitted d) (plan : List (List Command)) (formed : IsWellFormed d (routes_of d) 64 plan) where
-  can_move_at : (k : ℕ) → k ≤ 86400 → (t : TrainNo) → IsTrain d t → CanMove d (routes_of d) plan t (granted_after d (routes_of d) plan (state_at d (routes_of d) plan k) t) (state_of (state_at d (routes_of d) plan k) t)
+  can_move_at : (k : ℕ) → k ≤ 86400 → (t : TrainNo) → IsTrain d t → CanMove d (routes_of d) plan t (granted_after d (routes_of d) (of_plan (routes_of d) plan) (state_at d (routes_of d) (of_plan (routes_of d) plan) k) t) (state_of (state_at d (routes_of d) (of_plan (routes_of d) plan) k) t)
   can_move_at k early t named = record {
-    within = grants_within d (routes_of d) plan (state_at d (routes_of d) plan k) t (stays_within d (routes_of d) plan k t);
-    braking = go (granted_after d (routes_of d) plan (state_at d (routes_of d) plan k) t) (next_grants d (routes_of d) plan (state_at d (routes_of d) plan k) t);
+    within = grants_within d (routes_of d) plan (state_at d (routes_of d) (of_plan (routes_of d) plan) k) t (stays_within d (routes_of d) plan k t);
+    braking = go (granted_after d (routes_of d) (of_plan (routes_of d) plan) (state_at d (routes_of d) (of_plan (routes_of d) plan) k) t) (next_grants d (routes_of d) plan (state_at d (routes_of d) (of_plan (routes_of d) plan) k) t);
     near = let x = small.x in let m : k * 100000 ≤ 86400 * 100000 = mul-le-mul early (le_refl 100000) in omega arith;
     slow = small.v;
   }
     where
       old : TrainState
-      old = state_of (state_at d (routes_of d) plan k) t
+      old = state_of (state_at d (routes_of d) (of_plan (routes_of d) plan) k) t
 
       small : IsSmall d adm (routes_of d) plan k old
       small = stays_small d adm (routes_of d) plan k t
@@ -79,12 +79,12 @@ module _ (d : Station) (adm : IsAdmitted d) (plan : List (List Command)) (formed
       go zero e l = absurd (omega arith)
       go (suc g) e l = still d (routes_of d) plan (sound d adm 64 plan formed.formed) t named old g (travels d (routes_of d) plan (sound d adm 64 plan formed.formed) k t) e
 
-  pub can_move : (s : List TrainState) → IsReached d (routes_of d) plan s → (t : TrainNo) → IsTrain d t → CanMove d (routes_of d) plan t (granted_after d (routes_of d) plan s t) (state_of s t)
-  can_move s r t named = subst (λ s. CanMove d (routes_of d) plan t (granted_after d (routes_of d) plan s t) (state_of s t)) (sym r.is) (can_move_at r.tick r.early t named)
+  pub can_move : (s : List TrainState) → IsReached d (routes_of d) plan s → (t : TrainNo) → IsTrain d t → CanMove d (routes_of d) plan t (granted_after d (routes_of d) (of_plan (routes_of d) plan) s t) (state_of s t)
+  can_move s r t named = subst (λ s. CanMove d (routes_of d) plan t (granted_after d (routes_of d) (of_plan (routes_of d) plan) s t) (state_of s t)) (sym r.is) (can_move_at r.tick r.early t named)
 
 -- the same of routes that are those of the design
 pub can_move_on : (d : Station) → IsAdmitted d → (routes : List Route) → routes ≡ routes_of d → (plan : List (List Command)) → IsWellFormed d routes 64 plan → (s : List TrainState) → IsReached d routes plan s → (t : TrainNo) → IsTrain d t
-    → CanMove d routes plan t (granted_after d routes plan s t) (state_of s t)
+    → CanMove d routes plan t (granted_after d routes (of_plan routes plan) s t) (state_of s t)
 can_move_on d adm routes same plan =
-    let P : List Route → Type 0 = λ rs. IsWellFormed d rs 64 plan → (s : List TrainState) → IsReached d rs plan s → (t : TrainNo) → IsTrain d t → CanMove d rs plan t (granted_after d rs plan s t) (state_of s t) in
+    let P : List Route → Type 0 = λ rs. IsWellFormed d rs 64 plan → (s : List TrainState) → IsReached d rs plan s → (t : TrainNo) → IsTrain d t → CanMove d rs plan t (granted_after d rs (of_plan rs plan) s t) (state_of s t) in
     subst P (sym same) (λ f s r t n. can_move d adm plan f s r t n)

@@ -14,13 +14,13 @@ use Rattle.rail_base.specs.Admitted.{IsAdmitted}
 use Rattle.rail_base.specs.Numbering.{least, one_to, after_first, from_first}
 use Rattle.rail_base.specs.Stations.{train_of, horizon}
 use Rattle.rail_base.proofs.Members.{below_or_not, not_less}
-use Rattle.rail_spec.specs.Visits.{visits_at, visits_on}
+use Rattle.rail_spec.specs.Visits.{visits_at, visits_on, stops_of_train, visits_of_train}
 use Rattle.rail_spec.specs.Plans.{has_node}
-use Rattle.rail_spec.specs.Run.{visits_of_train, stops_of_train, state_at, tick}
+use Rattle.rail_spec.specs.Dispatches.{of_plan, tick, state_at}
 use Rattle.rail_spec.specs.Requirements.{is_certain, is_decided, violation_at, path_violation, visit_numbers, cost}
 use Rattle.rail_spec.specs.Histories.{history_at, decided, verdict_of}
-use Rattle.rail_spec.proofs.Deciding.{least_gives}
-use Rattle.rail_spec.proofs.Verdicts as verdicts
+use Rattle.rail_laws.proofs.Deciding.{least_gives}
+use Rattle.rail_laws.proofs.Verdicts as verdicts
 use Rattle.rail_require.proofs.Finding.{find-numbered, entry-get, find-append_none, find-append_some}
 
 -- ---- the least number that passes a test
@@ -88,32 +88,32 @@ module _ (d : Station) (routes : List Route) (plan : List (List Command)) where
   length-visits_on (set ∷ sets) ps = ap suc (length-visits_at sets (after_first ps))
 
   -- the first visit that a path doesn't make
-  pub find-path : (t : TrainNo) → find (is_certain d routes plan 1) (map (violation.Path t) (visit_numbers d t)) ≡ option_map (violation.Path t) (position_from is_none 1 (visits_of_train d routes plan t))
+  pub find-path : (t : TrainNo) → find (is_certain d routes plan 1) (map (violation.Path t) (visit_numbers d t)) ≡ option_map (violation.Path t) (position_from is_none 1 (visits_of_train d routes (of_plan routes plan) t))
   find-path t =
-      ap (λ n. find (is_certain d routes plan 1) (map (violation.Path t) (one_to n))) (sym (length-visits_on (train_of d t).visits (stops_of_train d routes plan t)))
-      ∙ find-numbered (is_certain d routes plan 1) (violation.Path t) is_none 1 (visits_of_train d routes plan t)
-      (λ i place there. let one : 1 + i ≡ suc i = omega arith in ap (λ n. is_certain d routes plan 1 (violation.Path t n)) one ∙ ap is_none (entry-get None (visits_of_train d routes plan t) i place there))
+      ap (λ n. find (is_certain d routes plan 1) (map (violation.Path t) (one_to n))) (sym (length-visits_on (train_of d t).visits (stops_of_train d routes (of_plan routes plan) t)))
+      ∙ find-numbered (is_certain d routes plan 1) (violation.Path t) is_none 1 (visits_of_train d routes (of_plan routes plan) t)
+      (λ i place there. let one : 1 + i ≡ suc i = omega arith in ap (λ n. is_certain d routes plan 1 (violation.Path t n)) one ∙ ap is_none (entry-get None (visits_of_train d routes (of_plan routes plan) t) i place there))
 
 -- ---- the first path that fails
 
 abbrev ways_of : Station → TrainNo → List Violation
 ways_of d t = map (violation.Path t) (visit_numbers d t)
 
-pub path_here : (d : Station) (routes : List Route) (plan : List (List Command)) (t : TrainNo) (ts : List TrainNo) (o : Option ℕ) (j : ℕ) → o ≡ position_from is_none 1 (visits_of_train d routes plan t) → o ≡ Some j
+pub path_here : (d : Station) (routes : List Route) (plan : List (List Command)) (t : TrainNo) (ts : List TrainNo) (o : Option ℕ) (j : ℕ) → o ≡ position_from is_none 1 (visits_of_train d routes (of_plan routes plan) t) → o ≡ Some j
     → find (is_certain d routes plan 1) (flat_map (ways_of d) (t ∷ ts)) ≡ Some (violation.Path t j)
 path_here d routes plan t ts o j found some =
     find-append_some (is_certain d routes plan 1) (ways_of d t) (flat_map (ways_of d) ts) (violation.Path t j) (find-path d routes plan t ∙ ap (option_map (violation.Path t)) (sym found ∙ some))
 
-pub path_later : (d : Station) (routes : List Route) (plan : List (List Command)) (t : TrainNo) (ts : List TrainNo) (o : Option ℕ) → o ≡ position_from is_none 1 (visits_of_train d routes plan t) → o ≡ None
+pub path_later : (d : Station) (routes : List Route) (plan : List (List Command)) (t : TrainNo) (ts : List TrainNo) (o : Option ℕ) → o ≡ position_from is_none 1 (visits_of_train d routes (of_plan routes plan) t) → o ≡ None
     → find (is_certain d routes plan 1) (flat_map (ways_of d) (t ∷ ts)) ≡ find (is_certain d routes plan 1) (flat_map (ways_of d) ts)
 path_later d routes plan t ts o found none =
     find-append_none (is_certain d routes plan 1) (ways_of d t) (flat_map (ways_of d) ts) (find-path d routes plan t ∙ ap (option_map (violation.Path t)) (sym found ∙ none))
 
 -- ---- states
 
-pub state_next : (d : Station) (routes : List Route) (plan : List (List Command)) (k : ℕ) → 1 ≤ k → tick d routes plan (state_at d routes plan (k - 1)) ≡ state_at d routes plan k
+pub state_next : (d : Station) (routes : List Route) (plan : List (List Command)) (k : ℕ) → 1 ≤ k → tick d routes (of_plan routes plan) 0 (state_at d routes (of_plan routes plan) (k - 1)) ≡ state_at d routes (of_plan routes plan) k
 state_next d routes plan zero first = absurd (omega arith)
-state_next d routes plan (suc k) first = let less : suc k - 1 ≡ k = omega arith in ap (λ n. tick d routes plan (state_at d routes plan n)) less
+state_next d routes plan (suc k) first = let less : suc k - 1 ≡ k = omega arith in ap (λ n. tick d routes (of_plan routes plan) 0 (state_at d routes (of_plan routes plan) n)) less
 
 -- what is not decided before a tick nor at it
 pub undecided_to : (d : Station) (routes : List Route) (plan : List (List Command)) (k i : ℕ) → is_decided d routes plan k ≡ false → ((i : ℕ) → 1 ≤ i → i < k → is_decided d routes plan i ≡ false) → 1 ≤ i → i < k + 1 → is_decided d routes plan i ≡ false

@@ -9,13 +9,17 @@ use Rattle.rail_base.specs.declared.station.TrainNo.{TrainNo}
 use Rattle.rail_spec.specs.Histories.{history_at, train_history, verdict_of}
 use Rattle.rail_spec.specs.Plans.{path_routes}
 use Rattle.rail_spec.specs.Requirements.{path_violation}
-use Rattle.rail_spec.specs.Run.{granted_after, moved, of_plan, state_at, tick}
+use Rattle.rail_spec.specs.Dispatches.{Dispatch, of_plan, granted_after, moved, tick, state_at}
 use Rattle.rail_course.specs.declared.journey.Journey.{Journey}
 use Rattle.rail_course.specs.Journeys.{IsJourney}
 use Rattle.tick_sim.specs.declared.run.Run.{Run}
 use Rattle.tick_sim.specs.Runs.{CanMove, IsNow, IsReached}
 
 module _ (r : Run) where
+  -- the dispatch of its plan
+  abbrev pub dispatch_in : Dispatch
+  dispatch_in = of_plan r.interlocking.now.routes r.plan.now.steps
+
   -- the journey is that of its train
   abbrev pub IsJourneyIn : Journey → Type 0
   IsJourneyIn = let routes = r.interlocking.now.routes in
@@ -39,19 +43,19 @@ module _ (r : Run) where
 
   -- a train after a tick, of which so many commands are granted then
   abbrev pub moved_in : TrainNo → TrainState → ℕ → TrainState
-  moved_in = moved r.interlocking.now.design.station r.interlocking.now.routes r.plan.now.steps
+  moved_in = moved r.interlocking.now.design.station r.interlocking.now.routes dispatch_in
 
   -- how many commands of a train are granted after the tick
   abbrev pub granted_in : List TrainState → TrainNo → ℕ
-  granted_in = granted_after r.interlocking.now.design.station r.interlocking.now.routes r.plan.now.steps
+  granted_in = granted_after r.interlocking.now.design.station r.interlocking.now.routes dispatch_in
 
   -- all trains after the tick
   abbrev pub tick_in : List TrainState → List TrainState
-  tick_in = tick r.interlocking.now.design.station r.interlocking.now.routes r.plan.now.steps
+  tick_in = tick r.interlocking.now.design.station r.interlocking.now.routes dispatch_in 0
 
   -- all trains at a tick
   abbrev pub states_in : ℕ → List TrainState
-  states_in = state_at r.interlocking.now.design.station r.interlocking.now.routes r.plan.now.steps
+  states_in = state_at r.interlocking.now.design.station r.interlocking.now.routes dispatch_in
 
   -- what has happened to a train by a tick
   abbrev pub train_history_in : ℕ → TrainNo → TrainHistory

@@ -7,15 +7,14 @@ use Rattle.rail_base.specs.declared.plan.Command.{Command}
 use Rattle.rail_base.specs.declared.state.TrainState.{TrainState}
 use Rattle.rail_spec.specs.Motion.{permitted}
 use Rattle.rail_spec.specs.Plans.{path, path_routes}
-use Rattle.rail_spec.specs.Dispatches.{rates, stretches, authority}
-use Rattle.rail_spec.specs.Run.{state_at}
+use Rattle.rail_spec.specs.Dispatches.{rates, stretches, authority, of_plan, state_at}
 
 -- these are the states at a tick up to 86,400
 pub record IsReached (d : Station) (routes : List Route) (plan : List (List Command))
     (s : List TrainState) : Type 0 where
   pub tick : ℕ
   pub early : tick ≤ 86400
-  pub is : s ≡ state_at d routes plan tick
+  pub is : s ≡ state_at d routes (of_plan routes plan) tick
 
 -- full braking is permitted by what is granted after the tick, and the numbers are in range
 pub record CanMove (d : Station) (routes : List Route) (plan : List (List Command)) (t : TrainNo)
@@ -30,4 +29,4 @@ pub record CanMove (d : Station) (routes : List Route) (plan : List (List Comman
 pub record IsNow (d : Station) (routes : List Route) (plan : List (List Command)) (tick : ℕ)
     (s : List TrainState) : Type 0 where
   pub first : 1 ≤ tick
-  pub is : s ≡ state_at d routes plan tick
+  pub is : s ≡ state_at d routes (of_plan routes plan) tick

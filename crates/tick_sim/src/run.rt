@@ -1,7 +1,7 @@
 //! A plan that is run, tick by tick.
 
 ghost use Rattle.rail_spec.specs.Feasible.{IsWellFormed};
-ghost use Rattle.rail_spec.specs.Run.{of_plan};
+ghost use Rattle.rail_spec.specs.Dispatches.{of_plan};
 ghost use Rattle.rail_course.specs.Journeys.{AreJourneys};
 
 use interlocking::Interlocking;

@@ -5,7 +5,7 @@ ghost use Rattle.rail_spec.specs.Plans.{is_executable};
 ghost use Rattle.rail_spec.specs.Feasible.{IsWellFormed};
 ghost use Rattle.rail_spec.specs.Histories.{verdict_of};
 ghost use Rattle.rail_spec.specs.Safety.{Clash, KeepsToTrack};
-ghost use Rattle.rail_spec.specs.Progress.{IsGrantedInTime};
+ghost use Rattle.rail_laws.specs.Progress.{IsGrantedInTime};
 ghost use Rattle.tick_sim.specs.Running.{path_violation_in, states_in, verdict_in};
 
 use crate::grants::IDLE;

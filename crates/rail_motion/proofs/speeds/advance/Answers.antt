@@ -2,7 +2,7 @@ use Rattle.std.proofs.Common.{arith, le_refl}
 use Rattle.std.proofs.lemmas.Int.{ints}
 use Rattle.rail_motion.specs.Motor.{rates_of}
 use Rattle.rail_motion.specs.Track.{stretches_of, end_of}
-use Rattle.rail_spec.proofs.MotionLaws.{permitted_after, permitted_stop}
+use Rattle.rail_laws.proofs.MotionLaws.{permitted_after, permitted_stop}
 use Rattle.rail_motion.proofs.Moves.{permitted_keeps}
 use Rattle.rail_motion.proofs.speeds.advance.Goals as goal
 

@@ -1,6 +1,6 @@
 use Rattle.std.proofs.Common.{◌≡◌, ◌+◌, ◌≤◌, nat_abs, sym, arith}
 use Rattle.std.proofs.lemmas.Int.{ints}
-use Rattle.rail_spec.proofs.MotionLaws.{next_speed_is}
+use Rattle.rail_laws.proofs.MotionLaws.{next_speed_is}
 use Rattle.rail_motion.specs.Motor.{rates_of}
 use Rattle.rail_motion.proofs.Moves.{moves_on}
 use Rattle.rail_motion.proofs.speeds.greatest_permitted.Goals as goal

@@ -1,7 +1,7 @@
 use Rattle.std.proofs.Common.{◌≡◌, ◌-◌, ◌≤◌, nat_abs, pos, to_z, w64, sym, ◌∙◌, ap, subst, arith}
 use Rattle.std.proofs.lemmas.Int.{ints, to_z-of_z}
 use Rattle.rail_spec.specs.Motion.{IsGreatestPermitted}
-use Rattle.rail_spec.proofs.Points.{permitted_tells, next_is_greatest}
+use Rattle.rail_laws.proofs.Points.{permitted_tells, next_is_greatest}
 use Rattle.rail_motion.specs.Motor.{rates_of}
 use Rattle.rail_motion.specs.Track.{stretches_of, end_of}
 use Rattle.rail_motion.proofs.speeds.next_speed.Goals as goal

@@ -1,4 +1,4 @@
-use Rattle.rail_spec.proofs.Small.{short_route}
+use Rattle.rail_laws.proofs.Small.{short_route}
 use Rattle.rail_routes.proofs.Tables.{route_edge}
 use Rattle.rail_routes.proofs.laws.routes_go_over_edges.Goals as goal
 

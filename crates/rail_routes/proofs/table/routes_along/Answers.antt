@@ -5,7 +5,7 @@ use Rattle.rail_base.specs.declared.route.Start.TheVariants as start
 use Rattle.rail_base.specs.Members.{In}
 use Rattle.rail_base.proofs.Contained.{in_at}
 use Rattle.rail_spec.specs.Track.{closings_from}
-use Rattle.rail_spec.proofs.RouteLaws.{starts_tell}
+use Rattle.rail_laws.proofs.RouteLaws.{starts_tell}
 use Rattle.rail_routes.specs.Refusals.{fault_of}
 use Rattle.rail_routes.proofs.Faults.{has_fault, is_listed, start_more, start_added, from_start}
 use Rattle.rail_routes.proofs.table.routes_along.Goals as goal

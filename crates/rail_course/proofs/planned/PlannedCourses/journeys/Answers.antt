@@ -1,7 +1,7 @@
 use Rattle.std.proofs.Common.{All, ap, sym, subst}
 use Rattle.std.proofs.lemmas.List.Elements.{All-push}
 use Rattle.rail_spec.specs.Plans.{path}
-use Rattle.rail_spec.specs.Run.{of_plan}
+use Rattle.rail_spec.specs.Dispatches.{of_plan}
 use Rattle.rail_course.specs.declared.course.Course.{Course}
 use Rattle.rail_course.specs.declared.journey.Journey.{Journey}
 use Rattle.rail_course.specs.Itineraries.{IsCourseIn}

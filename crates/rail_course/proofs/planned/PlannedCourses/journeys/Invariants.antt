@@ -1,6 +1,6 @@
 use Rattle.std.proofs.Common.{◌≡◌, ◌++◌, All, drop, map}
 use Rattle.rail_base.specs.Stations.{trains}
-use Rattle.rail_spec.specs.Run.{of_plan}
+use Rattle.rail_spec.specs.Dispatches.{of_plan}
 use Rattle.rail_course.specs.declared.course.Course.{Course}
 use Rattle.rail_course.specs.declared.journey.Journey.{Journey}
 use Rattle.rail_course.specs.Journeys.{IsJourney}

@@ -2,7 +2,7 @@ use Rattle.std.proofs.Common.{◌≤◌, ap, ap₂, ◌∙◌, arith}
 use Rattle.rail_motion.specs.Track.{end_of, stretches_of}
 use Rattle.rail_spec.specs.Dispatches.{rates}
 use Rattle.rail_spec.specs.Motion.{next_speed}
-use Rattle.rail_spec.specs.Run.{of_plan}
+use Rattle.rail_spec.specs.Dispatches.{of_plan}
 use Rattle.rail_course.proofs.Fronting.{moved_is}
 use Rattle.tick_sim.proofs.ride.Ride.moved.Goals as goal
 

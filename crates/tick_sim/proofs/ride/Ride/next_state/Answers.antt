@@ -1,7 +1,7 @@
 use Rattle.std.proofs.Common.{◌≡◌, map, slice_get, ap, ap₂, sym, ◌∙◌, subst}
 use Rattle.rail_base.proofs.Admitting.{admitted}
 use Rattle.rail_base.specs.declared.state.TrainState.{TrainState}
-use Rattle.rail_spec.specs.Run.{granted_after, moved}
+use Rattle.rail_spec.specs.Dispatches.{of_plan, granted_after, moved}
 use Rattle.tick_sim.specs.Granting.{granted_on}
 use Rattle.tick_sim.specs.Runs.{CanMove}
 use Rattle.tick_sim.proofs.Reaching.{granted_is, can_move_on}
@@ -16,11 +16,11 @@ moved-requires c =
     let s = c.args.states.now in
     let here = c.state_of-state.ensures in
     let waits = ap (map (λ v. v.items)) c.as_slice.ensures.value ∙ c.args.self.now.led.waiting in
-    let grant : c.granted_on-granted.result ≡ granted_after d routes plan s t =
+    let grant : c.granted_on-granted.result ≡ granted_after d routes (of_plan routes plan) s t =
     c.granted_on-granted.ensures ∙ ap (λ (x : TrainState). granted_on s x.granted (slice_get (map (λ v. v.items) c.as_slice.result.now) x.granted)) here
     ∙ granted_is d routes plan s t (map (λ v. v.items) c.as_slice.result.now) waits in
     let able = can_move_on d (admitted d c.args.self.now.run.interlocking.now.design.admitted) routes c.args.self.now.run.interlocking.now.table plan c.args.self.now.run.formed s c.requires t c.args.self.now.led.course.train in
-    subst (λ g. CanMove d routes plan t g c.state_of-state.result) (sym grant) (subst (λ x. CanMove d routes plan t (granted_after d routes plan s t) x) (sym here) able)
+    subst (λ g. CanMove d routes plan t g c.state_of-state.result) (sym grant) (subst (λ x. CanMove d routes plan t (granted_after d routes (of_plan routes plan) s t) x) (sym here) able)
 
 pub returns : goal.returns
 returns c =
@@ -31,7 +31,7 @@ returns c =
     let s = c.args.states.now in
     let here = c.state_of-state.ensures in
     let waits = ap (map (λ v. v.items)) c.as_slice.ensures.value ∙ c.args.self.now.led.waiting in
-    let grant : c.granted_on-granted.result ≡ granted_after d routes plan s t =
+    let grant : c.granted_on-granted.result ≡ granted_after d routes (of_plan routes plan) s t =
     c.granted_on-granted.ensures ∙ ap (λ (x : TrainState). granted_on s x.granted (slice_get (map (λ v. v.items) c.as_slice.result.now) x.granted)) here
     ∙ granted_is d routes plan s t (map (λ v. v.items) c.as_slice.result.now) waits in
-    c.moved.ensures ∙ ap₂ (moved d routes plan t) here grant
+    c.moved.ensures ∙ ap₂ (moved d routes (of_plan routes plan) t) here grant

@@ -5,7 +5,8 @@ use Rattle.rail_base.proofs.Admitting.{admitted}
 use Rattle.rail_base.specs.Stations.{train_of}
 use Rattle.rail_base.specs.declared.plan.Violation.TheVariants as violation
 use Rattle.rail_spec.specs.Requirements.{is_certain, visit_numbers}
-use Rattle.rail_spec.specs.Run.{of_plan, visits_of_train, stops_of_train}
+use Rattle.rail_spec.specs.Dispatches.{of_plan}
+use Rattle.rail_spec.specs.Visits.{stops_of_train, visits_of_train}
 use Rattle.rail_course.specs.declared.journey.Journey.{Journey}
 use Rattle.rail_course.specs.Journeys.{IsJourney}
 use Rattle.tick_sim.proofs.Verdicting.{length-visits_on, path_here, path_later}
@@ -21,7 +22,7 @@ missed-requires c =
     let plan = c.args.self.now.plan.now.steps in
     let j = c.journey-item.result in
     let is : IsJourney d routes (of_plan routes plan) j = subst (IsJourney d routes (of_plan routes plan)) (sym c.journey-item.is) (c.args.self.now.led.each c.loop-journey.journey-index j c.loop-journey-test.true) in
-    let many = ap length (c.as_slice.ensures.value ∙ is.course.visits) ∙ length-visits_on d routes plan (train_of d j.course.now.train).visits (stops_of_train d routes plan j.course.now.train) in
+    let many = ap length (c.as_slice.ensures.value ∙ is.course.visits) ∙ length-visits_on d routes plan (train_of d j.course.now.train).visits (stops_of_train d routes (of_plan routes plan) j.course.now.train) in
     let few = ((admitted d c.args.self.now.interlocking.now.design.admitted).train j.course.now.train is.course.train).visits.1 in
     omega arith
 
@@ -37,7 +38,7 @@ returns-in-Some c =
     let is : IsJourney d routes (of_plan routes plan) j = subst (IsJourney d routes (of_plan routes plan)) (sym c.journey-item.is) (c.args.self.now.led.each c.loop-journey.journey-index j c.loop-journey-test.true) in
     let rest = drop (c.loop-journey.journey-index + 1) js in
     let cut : drop c.loop-journey.journey-index js ≡ j ∷ rest = drop_more js c.loop-journey.journey-index j c.loop-journey-test.true ∙ ap (λ x. x ∷ rest) (sym c.journey-item.is) in
-    let found : c.missed.result ≡ position_from is_none 1 (visits_of_train d routes plan t) = c.missed.ensures ∙ ap (position_from is_none 1) (c.as_slice.ensures.value ∙ is.course.visits) in
+    let found : c.missed.result ≡ position_from is_none 1 (visits_of_train d routes (of_plan routes plan) t) = c.missed.ensures ∙ ap (position_from is_none 1) (c.as_slice.ensures.value ∙ is.course.visits) in
     let so_far = ap (λ xs. find (is_certain d routes plan 1) (flat_map (λ t. map (violation.Path t) (visit_numbers d t)) (map train xs))) (sym cut) ∙ c.loop-journey.invariant in
     sym (path_here d routes plan t (map train rest) c.missed.result c.in-Some.visit found c.in-Some.is) ∙ so_far
 
@@ -53,6 +54,6 @@ loop-journey-preserved c =
     let is : IsJourney d routes (of_plan routes plan) j = subst (IsJourney d routes (of_plan routes plan)) (sym c.journey-item.is) (c.args.self.now.led.each c.loop-journey.journey-index j c.loop-journey-test.true) in
     let rest = drop (c.loop-journey.journey-index + 1) js in
     let cut : drop c.loop-journey.journey-index js ≡ j ∷ rest = drop_more js c.loop-journey.journey-index j c.loop-journey-test.true ∙ ap (λ x. x ∷ rest) (sym c.journey-item.is) in
-    let found : c.missed.result ≡ position_from is_none 1 (visits_of_train d routes plan t) = c.missed.ensures ∙ ap (position_from is_none 1) (c.as_slice.ensures.value ∙ is.course.visits) in
+    let found : c.missed.result ≡ position_from is_none 1 (visits_of_train d routes (of_plan routes plan) t) = c.missed.ensures ∙ ap (position_from is_none 1) (c.as_slice.ensures.value ∙ is.course.visits) in
     let so_far = ap (λ xs. find (is_certain d routes plan 1) (flat_map (λ t. map (violation.Path t) (visit_numbers d t)) (map train xs))) (sym cut) ∙ c.loop-journey.invariant in
     sym (path_later d routes plan t (map train rest) c.missed.result found c.in_default.is) ∙ so_far

@@ -2,7 +2,7 @@ use Rattle.std.proofs.Common.{◌≡◌, ◌+◌, ◌-◌, ◌≤◌, true, fals
 use Rattle.rail_base.proofs.Admitting.{admitted}
 use Rattle.rail_base.specs.Stations.{horizon}
 use Rattle.rail_base.specs.declared.history.Verdict.TheVariants.{Met, Failed}
-use Rattle.rail_spec.specs.Run.{state_at, tick}
+use Rattle.rail_spec.specs.Dispatches.{of_plan, tick, state_at}
 use Rattle.rail_spec.specs.Histories.{history_at}
 use Rattle.rail_spec.specs.Requirements.{is_decided, is_done, violation_at}
 use Rattle.rail_require.specs.Ticks.{HasNumbers}
@@ -17,7 +17,7 @@ next_histories-requires-clause-now c =
     let plan = c.args.self.now.plan.now.steps in
     record {
       first = c.loop-tick.invariant.first;
-      is = c.as_slice-in-loop-tick.ensures.value ∙ c.in_ok-states-2.ensures ∙ ap (tick d routes plan) (c.as_slice.ensures.value ∙ c.loop-tick.invariant.states) ∙ state_next d routes plan c.loop-tick.tick c.loop-tick.invariant.first;
+      is = c.as_slice-in-loop-tick.ensures.value ∙ c.in_ok-states-2.ensures ∙ ap (tick d routes (of_plan routes plan) 0) (c.as_slice.ensures.value ∙ c.loop-tick.invariant.states) ∙ state_next d routes plan c.loop-tick.tick c.loop-tick.invariant.first;
     }
 
 pub first_violation-requires : goal.first_violation-requires
@@ -81,7 +81,7 @@ loop-tick-preserved c =
     let back : k ≡ k + 1 - 1 = omega arith in
     record {
       first = omega arith;
-      states = c.in_ok-states-2.ensures ∙ ap (tick d routes plan) (c.as_slice.ensures.value ∙ c.loop-tick.invariant.states) ∙ state_next d routes plan k first ∙ ap (state_at d routes plan) back;
+      states = c.in_ok-states-2.ensures ∙ ap (tick d routes (of_plan routes plan) 0) (c.as_slice.ensures.value ∙ c.loop-tick.invariant.states) ∙ state_next d routes plan k first ∙ ap (state_at d routes (of_plan routes plan)) back;
       history = told ∙ ap (history_at d routes plan) back;
       before = λ i low high. undecided_to d routes plan k i here c.loop-tick.invariant.before low high;
     }

@@ -1,0 +1,42 @@
+-- The small designs are admitted, so that the laws speak of something.
+use Rattle.std.specs.Prelude.{◌≡◌, true, refl}
+use Rattle.rail_base.specs.Admitted.{IsAdmitted}
+use Rattle.rail_base.specs.Admission.{is_admitted}
+use Rattle.rail_base.proofs.Admitting.{admitted}
+use Rattle.rail_spec.specs.Track.{routes_of}
+use Rattle.rail_spec.specs.Feasible.{IsRunnable, IsFeasible}
+use Rattle.rail_laws.specs.Progress.{last_grant}
+use Rattle.rail_laws.proofs.Stations.{halt, halt_within, follow, follow_short, follow_within, slow_zone, parallel, ring, plan_two}
+
+halts : is_admitted halt ≡ true
+halts = refl
+
+halts_within : is_admitted (halt_within 9000) ≡ true
+halts_within = refl
+
+follows : is_admitted follow ≡ true
+follows = refl
+
+follows_short : is_admitted follow_short ≡ true
+follows_short = refl
+
+follows_within : IsAdmitted (follow_within 8000)
+follows_within = admitted (follow_within 8000) refl
+
+slows_down : is_admitted slow_zone ≡ true
+slows_down = refl
+
+runs_beside : is_admitted parallel ≡ true
+runs_beside = refl
+
+goes_round : is_admitted ring ≡ true
+goes_round = refl
+
+runnable : IsRunnable (follow_within 8000) (routes_of (follow_within 8000)) 64 plan_two
+runnable = record { well_formed = record { named = refl; formed = refl }; executable = refl }
+
+feasible : IsFeasible (follow_within 8000) 4 plan_two
+feasible = record { runnable = record { well_formed = record { named = refl; formed = refl }; executable = refl }; met = refl }
+
+bound : last_grant (follow_within 8000) (routes_of (follow_within 8000)) plan_two ≡ 36004
+bound = refl

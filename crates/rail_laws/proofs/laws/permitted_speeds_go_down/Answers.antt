@@ -1,0 +1,5 @@
+use Rattle.rail_laws.proofs.MotionLaws.{permitted_below}
+use Rattle.rail_laws.proofs.laws.permitted_speeds_go_down.Goals as goal
+
+pub returns : goal.returns
+returns c = permitted_below

@@ -1,0 +1,5 @@
+use Rattle.rail_laws.proofs.Moving.{permitted_one}
+use Rattle.rail_laws.proofs.laws.trains_move_where_they_may.Goals as goal
+
+pub returns : goal.returns
+returns c = permitted_one

@@ -1,0 +1,3 @@
+-- What the laws say of routes and of progress.
+pub mod Elementary
+pub mod Progress

@@ -1,0 +1,4 @@
+//! The laws of the definitions of a railway.
+#![tactic(auto)]
+
+pub mod laws;

@@ -1,5 +1,0 @@
-use Rattle.rail_spec.proofs.Points.{permitted_tells, permitted_from}
-use Rattle.rail_spec.proofs.laws.permitted_speeds_are_those_of_points.Goals as goal
-
-pub returns : goal.returns
-returns c = λ m ss end x v u slows. (permitted_tells m ss end x v u, permitted_from m ss end x v u slows)
