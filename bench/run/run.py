@@ -21,6 +21,8 @@ RUNS = TOP / "crates" / "day_runs"
 class Design:
     """A design that grows entry by entry."""
 
+    version = 1
+
     def __init__(self, vehicle, ticks=DAY):
         self.entries = {"node": [], "edge": [], "signal": [], "train": [], "order": [], "within": []}
         self.vehicle = vehicle
@@ -34,13 +36,14 @@ class Design:
         entries.append(keys)
         return keys.get("name")
 
-    def line(self, edges, length, speed, signal_each):
-        """A line of so many edges from a boundary to a boundary, with a signal after each so many of them; its nodes."""
+    def line(self, edges, length, speed, signal_each, uneven=False):
+        """A line of so many edges from a boundary to a boundary, with a signal after each so many of them; its nodes. Every other
+        edge has half the speed where `uneven` is set."""
         nodes = [self.add("node", boundary=True)]
         for number in range(1, edges + 1):
             nodes.append(self.add("node", boundary=number == edges))
             section = self.add("edge", **{"from": nodes[-2]}, from_side="b", to=nodes[-1], to_side="a",
-                               length_mm=length, speed_mm_s=speed, section=f"section{len(self.entries['edge'])}")
+                               length_mm=length, speed_mm_s=speed // 2 if uneven and number % 2 else speed, section=f"section{len(self.entries['edge'])}")
             if number < edges and number % signal_each == 0:
                 self.add("signal", node=nodes[-1], toward="b")
             assert section
@@ -53,7 +56,7 @@ class Design:
                 return "true" if told else "false"
             return json.dumps(told)
 
-        parts = ["version = 1", "tick_ms = 1000", f"horizon_ms = {1000 * self.ticks}"]
+        parts = [f"version = {self.version}", "tick_ms = 1000", f"horizon_ms = {1000 * self.ticks}"]
         parts += [f"vehicle = [{{{', '.join(f'{key}={value(told)}' for key, told in self.vehicle.items())}}}]"]
         for kind, entries in self.entries.items():
             rows = ", ".join("{" + ", ".join(f"{key}={value(told)}" for key, told in entry.items()) + "}" for entry in entries)
@@ -72,13 +75,13 @@ def vehicle(speed, length=100_000):
     return {"name": "v", "length_mm": length, "accel_mm_s2": 500, "brake_mm_s2": 700, "speed_mm_s": speed}
 
 
-def following(lines, routes, length, speed):
+def following(lines, routes, length, speed, uneven=False):
     """On each line two trains, the second two steps behind the first: the design, and of each train its line and its first step."""
     design = Design(vehicle(speed, min(length, 100_000)))
     starts = []
     for _ in range(lines):
         first_signal = len(design.entries["signal"])
-        nodes = design.line(routes, length, speed, 1)
+        nodes = design.line(routes, length, speed, 1, uneven)
         for behind in (0, 2):
             design.add("train", vehicle="v", visits=[[nodes[0]], [nodes[-1]]])
             starts.append((nodes[0], first_signal, routes, behind))
@@ -145,6 +148,7 @@ def commands(program, folder):
     """The name, the bar in seconds, how the answer begins, and the words of each command."""
     yield "32 trains over 62 routes each, a day", 0.5, "met", simulated(program, folder, following(16, 62, 1_300_000, 1_000))
     yield "32 trains over 62 short routes each, a day", 0.5, "met", simulated(program, folder, following(16, 62, 10_000, 1_000))
+    yield "32 trains over 62 routes, every other one slow", 0.5, "met", simulated(program, folder, following(16, 62, 500_000, 20_000, True))
     yield "32 trains in turn over 1,998 nodes each, all demands", 2, "met", simulated(program, folder, in_turn(32, 1_998, 1_000, 1_000))
     yield "32 trains in turn over long edges, all demands", 2, "", simulated(program, folder, in_turn(32, 1_998, 100_000, 100_000))
     yield "100,000 cones of a train that is followed for a day", 10, "no line 100002", checked(program, folder, 100_000, "r visit 1 2 t 1 86400 1 1 0 0 0")
@@ -156,7 +160,9 @@ def main():
     words.add_argument("--runs-program", default=str(RUNS / "out" / "day_runs"), help="the program that runs one plan many times")
     words.add_argument("--limit", type=float, default=120, help="how many seconds a case may take, after which it is killed")
     words.add_argument("--only", default="", help="cases whose names have these words")
+    words.add_argument("--version", type=int, default=1, help="the version of the designs, 1 or 2")
     given = words.parse_args()
+    Design.version = given.version
     missed = 0
     with tempfile.TemporaryDirectory() as made:
         for name, bar, begins, told in cases(given.program, given.runs_program, pathlib.Path(made)):

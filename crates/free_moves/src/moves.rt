@@ -62,8 +62,10 @@ impl LegTrack<'_> {
     fn can_brake(&self, place: u64, speed: u64) -> bool
         requires place { place < 2 ^ 47 }
         requires speed { speed ≤ nat_abs self.now.motor.top }
-        ensures { let track = stretches_of self.now.ahead.spans.now in
-            result ≡ can_brake speed (nat_abs self.now.motor.brake) track (end_of self.now.ahead.end) place speed }
+        ensures { let motor = self.now.motor in
+            let track = stretches_of self.now.ahead.spans.now in
+            let end = end_of self.now.ahead.end in
+            result ≡ can_brake speed (nat_abs motor.brake) (nat_abs motor.tail) track end place speed }
     {
         let next = speed as i64;
         permitted(&self.motor, &self.ahead, place as i64, next, next)

@@ -252,19 +252,16 @@ module _ (s : SpelledSheet) (named : HasNames s) (d03 : repeated_names s ≡ [])
     all_timed : is_timed d ≡ true
     unfolding times_outside
     all_timed =
-        let version = unless_from 1 1 s.version (Top keys.Version) in
+        let version = unless_from 1 2 s.version (Top keys.Version) in
         let tick = unless_from 100 1000 s.tick_ms (Top keys.TickMs) in
         let late = at (not (is_horizon s.horizon_ms s.tick_ms)) (Top keys.HorizonMs) in
         let v = no_left version (tick ++ late) outside_times in
         let t = no_left tick late (no_right version (tick ++ late) outside_times) in
         let l = no_right tick late (no_right version (tick ++ late) outside_times) in
-        and_three (d.version == 1) (is_from 100 1000 d.tick_ms) (is_from 1 86400 (horizon d))
-        (only_one d.version (ranged 1 1 s.version (Top keys.Version) (omega arith) v))
+        and_three (is_from 1 2 d.version) (is_from 100 1000 d.tick_ms) (is_from 1 86400 (horizon d))
+        (ranged 1 2 s.version (Top keys.Version) (omega arith) v)
         (ranged 100 1000 s.tick_ms (Top keys.TickMs) (omega arith) t)
         (horizon_in s.horizon_ms s.tick_ms (Top keys.HorizonMs) (Top keys.TickMs) (Top keys.HorizonMs) t l one_tick)
-      where
-        only_one : (n : ℕ) → is_from 1 1 n ≡ true → (n == 1) ≡ true
-        only_one n h = grind arith
 
     -- ---- edges
 

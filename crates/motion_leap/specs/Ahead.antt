@@ -6,7 +6,7 @@ use Rattle.rail_motion.specs.Motor.{rates_of}
 use Rattle.rail_motion.specs.Track.{stretches_of, end_of}
 use Rattle.rail_spec.specs.Motion.{can_brake}
 use Rattle.motion_leap.specs.declared.leaps.Moved.{Moved}
-use Rattle.motion_leap.specs.Steps.{Going, after, HasLimit, Keeps, Gains, Slows}
+use Rattle.motion_leap.specs.Steps.{Going, after, IsBound, Keeps, Gains, Slows}
 use Rattle.motion_leap.specs.Leaps.{IsLeap}
 
 module _ (m : Motor) (a : Ahead) where
@@ -16,13 +16,13 @@ module _ (m : Motor) (a : Ahead) where
 
   -- full braking from a place and a speed keeps the limits and stops where it may
   abbrev pub brakes_on : ℕ → ℕ → Bool
-  brakes_on place speed = can_brake speed (nat_abs m.brake) (stretches_of a.spans.now) (end_of a.end) place speed
+  brakes_on place speed = can_brake speed (nat_abs m.brake) (nat_abs m.tail) (stretches_of a.spans.now) (end_of a.end) place speed
 
   -- a train at x keeps its speed v up to the border, which lies past x and not past the target: v is its top speed, or
-  -- the limit up to there
+  -- a limit that binds it up to there
   abbrev pub IsBorder : ℕ → ℕ → ℕ → ℕ → Type 0
   IsBorder x v target border = (x < border) × (border ≤ target) × (v ≤ nat_abs m.top)
-      × ((v ≡ nat_abs m.top) ⊎ HasLimit (stretches_of a.spans.now) x border v)
+      × ((v ≡ nat_abs m.top) ⊎ IsBound (nat_abs m.tail) (stretches_of a.spans.now) x border v)
 
   -- for so many ticks the train keeps its speed
   abbrev pub KeepsOn : ℕ → ℕ → ℕ → ℕ → ℕ → Type 0

@@ -196,7 +196,7 @@ module _ (d : Station) where
   admitted h =
       let all = five (are_few d) (is_timed d) (are_named d) (is_sound_track d) (is_sound_traffic d) h in
       let few = seven (nat_le (length d.nodes) 2000) (nat_le (length d.edges) 4000) (nat_le (length d.signals) 1000) (nat_le (length d.vehicles) 64) (is_from 1 32 (length d.trains)) (nat_le (length d.orders) 256) (nat_le (length d.withins) 256) all.0 in
-      let time = three (d.version == 1) (is_from 100 1000 d.tick_ms) (is_from 1 86400 (horizon d)) all.1 in
+      let time = three (is_from 1 2 d.version) (is_from 100 1000 d.tick_ms) (is_from 1 86400 (horizon d)) all.1 in
       let n1 = are_names (map (λ (n : Node). n.name) d.nodes) in
       let n2 = are_names (map (λ (e : Edge). e.name) d.edges) in
       let n3 = are_names d.sections in
@@ -209,7 +209,7 @@ module _ (d : Station) where
       let traffic = four (list_all (is_good_vehicle d) d.vehicles) (list_all (is_good_train d) d.trains) (list_all (is_good_order d) d.orders) (list_all (is_good_within d) d.withins) all.4 in
       let number : ℕ → NodeNo = λ n. record { 0 = n } in
       record {
-        version = eqb-true d.version 1 time.0;
+        version = ranged 1 2 d.version time.0;
         tick = ranged 100 1000 d.tick_ms time.1;
         ticks = ranged 1 86400 (horizon d) time.2;
         many_nodes = up_to _ _ few.0;

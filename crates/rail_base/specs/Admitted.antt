@@ -84,7 +84,7 @@ pub record IsGoodWithin (d : Station) (w : Within) : Type 0 where
 
 -- the design is one that the reader answers
 pub record IsAdmitted (d : Station) : Type 0 where
-  pub version : d.version ≡ 1
+  pub version : Ranges 1 2 d.version
   pub tick : Ranges 100 1000 d.tick_ms
   pub ticks : Ranges 1 86400 (horizon d)
   pub many_nodes : length d.nodes ≤ 2000

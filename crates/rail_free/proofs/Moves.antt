@@ -17,7 +17,7 @@ use Rattle.rail_spec.specs.Motion.{Rates, Stretch, limit_at, KeepsLimits, keeps_
 use Rattle.rail_spec.specs.Dispatches.{state_of, rates, stretch, stretches, authority, of_plan, granted_after, moved}
 use Rattle.rail_spec.specs.Dispatches.{state_at}
 use Rattle.rail_base.proofs.Members.{and_left, and_right, and_both}
-use Rattle.rail_laws.proofs.MotionLaws.{farthest, IsFarther, keeps_limits_tells, keeps_limits_from, can_brake-stop, can_brake_slower, permitted_reach, permitted_brakes, permitted_further, next_speed_permitted}
+use Rattle.rail_laws.proofs.MotionLaws.{farthest, IsFarther, keeps_limits_from, can_brake-stop, can_brake_keeps, can_brake_slower, permitted_reach, permitted_brakes, permitted_further, next_speed_permitted}
 use Rattle.rail_laws.proofs.Exclusion.{by_tick}
 use Rattle.rail_laws.proofs.UnderWay.{IsSound, Travels, authority_some, still, next_grants, travels}
 use Rattle.rail_laws.proofs.Admits.{sound}
@@ -71,35 +71,33 @@ authority_farther rs more = go (list_any exits (rs ++ more))
 -- ---- F1
 
 -- who comes as far in a move from farther ahead can brake too
-pub lands : (m b top : ℕ) (ss : List Stretch) (end : Option ℕ) (x u y w : ℕ) → 1 ≤ b → u ≤ top → x ≤ y → y + w ≡ x + u → can_brake m b ss end x u ≡ true → can_brake w b ss end y w ≡ true
-lands m b top ss end x u y zero slows fast ahead same h = can_brake-stop m b ss end x u y (omega arith) h
-lands m b top ss end x zero y (suc w) slows fast ahead same h = absurd (omega arith)
-lands zero b top ss end x (suc u) y (suc w) slows fast ahead same h = cc
-lands (suc m) b top ss end x (suc u) y (suc w) slows fast ahead same h =
-    and_both _ _ (keeps_limits_from top ss y (y + suc w) (suc w) on)
-    (can_brake_slower m w b top ss end (x + suc u) (y + suc w) (suc u - b) (suc w - b) slows (omega arith) (omega arith) (omega arith) (omega arith) (λ p l k. absurd (omega arith))
-    (and_right (keeps_limits ss x (x + suc u) (suc u)) _ h))
+pub lands : (m b tail top : ℕ) (ss : List Stretch) (end : Option ℕ) (x u y w : ℕ) → 1 ≤ b → u ≤ top → x ≤ y → y + w ≡ x + u → can_brake m b tail ss end x u ≡ true → can_brake w b tail ss end y w ≡ true
+lands m b tail top ss end x u y zero slows fast ahead same h = can_brake-stop m b tail ss end x u y (omega arith) h
+lands m b tail top ss end x zero y (suc w) slows fast ahead same h = absurd (omega arith)
+lands zero b tail top ss end x (suc u) y (suc w) slows fast ahead same h = cc
+lands (suc m) b tail top ss end x (suc u) y (suc w) slows fast ahead same h =
+    and_both _ _ (keeps_limits_from top ss (y - tail) (y + suc w) (suc w) (λ p l k. on (suc w) (omega arith) p (omega arith) (omega arith)))
+    (can_brake_slower m w b tail top ss end (x + suc u) (y + suc w) (suc u - b) (suc w - b) slows (omega arith) (omega arith) (omega arith) (omega arith)
+    (λ p l k. on (suc w - b) (omega arith) p (omega arith) k)
+    (and_right (keeps_limits ss (x - tail) (x + suc u) (suc u)) _ h))
   where
-    on : KeepsLimits top ss y (y + suc w) (suc w)
-    on p l k = let t = keeps_limits_tells top ss x (x + suc u) (suc u) fast (and_left _ (can_brake m b ss end (x + suc u) (suc u - b)) h) p (omega arith) (omega arith) in omega arith
+    on : (v : ℕ) → v ≤ suc u → KeepsLimits top ss (x - tail) (x + suc u) v
+    on v slow p l k = let t = can_brake_keeps (suc m) b tail top ss end x (suc u) fast h p l k in omega arith
 
 -- who can brake on one way can on another whose places allow as much, so far from there
-brakes_on : (m b top o : ℕ) (ss ts : List Stretch) (end other : Option ℕ) → ((p u : ℕ) → 0 < p → u ≤ top → u ≤ limit_at top ss (o + p) → u ≤ limit_at top ts p) → ((y : ℕ) → may_stop end (o + y) ≡ true → may_stop other y ≡ true)
-    → (x z u : ℕ) → z ≡ o + x → u ≤ top → can_brake m b ss end z u ≡ true → can_brake m b ts other x u ≡ true
-brakes_on m b top o ss ts end other limits ends x z zero at fast h = ends x (subst (λ y. may_stop end y ≡ true) at h)
-brakes_on zero b top o ss ts end other limits ends x z (suc u) at fast h = cc
-brakes_on (suc m) b top o ss ts end other limits ends x z (suc u) at fast h =
-    and_both _ _ (keeps_limits_from top ts x (x + suc u) (suc u) (λ p l k. limits p (suc u) (omega arith) fast (tells (o + p) (omega arith) (omega arith))))
-    (brakes_on m b top o ss ts end other limits ends (x + suc u) (z + suc u) (suc u - b) (omega arith) (omega arith) (and_right (keeps_limits ss z (z + suc u) (suc u)) _ h))
-  where
-    tells : KeepsLimits top ss z (z + suc u) (suc u)
-    tells = keeps_limits_tells top ss z (z + suc u) (suc u) fast (and_left _ (can_brake m b ss end (z + suc u) (suc u - b)) h)
+brakes_on : (m b tail top o : ℕ) (ss ts : List Stretch) (end other : Option ℕ) → ((p u : ℕ) → 0 < p → u ≤ top → u ≤ limit_at top ss (o + p) → u ≤ limit_at top ts p) → ((y : ℕ) → may_stop end (o + y) ≡ true → may_stop other y ≡ true)
+    → (x z u : ℕ) → z ≡ o + x → u ≤ top → can_brake m b tail ss end z u ≡ true → can_brake m b tail ts other x u ≡ true
+brakes_on m b tail top o ss ts end other limits ends x z zero at fast h = ends x (subst (λ y. may_stop end y ≡ true) at h)
+brakes_on zero b tail top o ss ts end other limits ends x z (suc u) at fast h = cc
+brakes_on (suc m) b tail top o ss ts end other limits ends x z (suc u) at fast h =
+    and_both _ _ (keeps_limits_from top ts (x - tail) (x + suc u) (suc u)
+    (λ p l k. limits p (suc u) (omega arith) fast (can_brake_keeps (suc m) b tail top ss end z (suc u) fast h (o + p) (omega arith) (omega arith))))
+    (brakes_on m b tail top o ss ts end other limits ends (x + suc u) (z + suc u) (suc u - b) (omega arith) (omega arith) (and_right (keeps_limits ss (z - tail) (z + suc u) (suc u)) _ h))
 
 move_keeps : (m : Rates) (ss : List Stretch) (end : Option ℕ) (x v u : ℕ) → permitted m ss end x v u ≡ true → KeepsLimits m.top ss x (x + u) u
-move_keeps m ss end x v zero h = λ p l k. omega arith
-move_keeps m ss end x v (suc u) h =
-    let r = permitted_reach m ss end x v (suc u) h in
-    keeps_limits_tells m.top ss x (x + suc u) (suc u) (omega arith) (and_left (keeps_limits ss x (x + suc u) (suc u)) (can_brake u m.brake ss end (x + suc u) (suc u - m.brake)) (permitted_brakes m ss end x v (suc u) h))
+move_keeps m ss end x v u h p l k =
+    let r = permitted_reach m ss end x v u h in
+    can_brake_keeps u m.brake m.tail m.top ss end x u (omega arith) (permitted_brakes m ss end x v u h) p (omega arith) k
 
 -- ---- F2
 
@@ -304,12 +302,12 @@ module _ (d : Station) (adm : IsAdmitted d) (n : ℕ) (plan : List (List Command
         slower : w ≤ u
         slower = let f = m.move in omega arith
 
-        brakes : can_brake w (rates d t).brake leg leg_end x w ≡ true
+        brakes : can_brake w (rates d t).brake (rates d t).tail leg leg_end x w ≡ true
         brakes =
             let f = m.move in
             let fast = (gain t (at k t) (at (suc k) t) m).1 in
-            brakes_on w (rates d t).brake top o (stretches d (routes_of_train t)) leg path_end leg_end limits ends x (o + x) w refl (let s = slower in omega arith)
-            (lands u (rates d t).brake top (stretches d (routes_of_train t)) path_end (at k t).x u (o + x) w m.slows fast near (omega arith)
+            brakes_on w (rates d t).brake (rates d t).tail top o (stretches d (routes_of_train t)) leg path_end leg_end limits ends x (o + x) w refl (let s = slower in omega arith)
+            (lands u (rates d t).brake (rates d t).tail top (stretches d (routes_of_train t)) path_end (at k t).x u (o + x) w m.slows fast near (omega arith)
             (permitted_brakes (rates d t) (stretches d (routes_of_train t)) path_end (at k t).x (at k t).v u m.may))
 
         limits_behind : behind a 0 leg x w ≡ true

@@ -55,15 +55,15 @@ half : (end k y : ℕ) → 2 * y ≤ 2 * end + k → y ≤ end + k / 2
 half end k y h = let l = le-div (y - end) k 2 (omega arith) (omega arith) in omega arith
 
 -- who can brake stops where it may
-stops_there : (m b : ℕ) (ss : List Stretch) (end : Option ℕ) (x u : ℕ) → can_brake m b ss end x u ≡ true → may_stop end (x + u + braking_way m b u) ≡ true
-stops_there m b ss end x zero h = subst (λ y. may_stop end y ≡ true) (none m) h
+stops_there : (m b tail : ℕ) (ss : List Stretch) (end : Option ℕ) (x u : ℕ) → can_brake m b tail ss end x u ≡ true → may_stop end (x + u + braking_way m b u) ≡ true
+stops_there m b tail ss end x zero h = subst (λ y. may_stop end y ≡ true) (none m) h
   where
     none : (m : ℕ) → x ≡ x + 0 + braking_way m b 0
     none zero = omega arith
     none (suc m) = omega arith
-stops_there zero b ss end x (suc u) h = cc
-stops_there (suc m) b ss end x (suc u) h =
-    let later = stops_there m b ss end (x + suc u) (suc u - b) (and_right (keeps_limits ss x (x + suc u) (suc u)) _ h) in
+stops_there zero b tail ss end x (suc u) h = cc
+stops_there (suc m) b tail ss end x (suc u) h =
+    let later = stops_there m b tail ss end (x + suc u) (suc u - b) (and_right (keeps_limits ss (x - tail) (x + suc u) (suc u)) _ h) in
     let same : x + suc u + (suc u - b) + braking_way m b (suc u - b) ≡ x + suc u + ((suc u - b) + braking_way m b (suc u - b)) = omega arith in
     subst (λ y. may_stop end y ≡ true) same later
 
@@ -99,7 +99,7 @@ module _ (d : Station) (adm : IsAdmitted d) (n : ℕ) (plan : List (List Command
           let w = v - b in
           let way = braking_way w b w in
           let brakes = permitted_brakes (rates d t) (stretches d (given t (at k t).granted)) (authority (given t (at k t).granted)) x v w ((travels d (routes_of d) plan is_sound k t).braking some) in
-          let stop = stops_there w b (stretches d (given t (at k t).granted)) (authority (given t (at k t).granted)) x w brakes in
+          let stop = stops_there w b (rates d t).tail (stretches d (given t (at k t).granted)) (authority (given t (at k t).granted)) x w brakes in
           let near : x + w + way ≤ sum_by length_mm (given t (at k t).granted) = leb-true _ _ (subst (λ end. may_stop end (x + w + way) ≡ true) (authority_some (given t (at k t).granted) e) stop) in
           let more = sum_front length_mm (at k t).granted (j - 1) (path_routes (routes_of d) plan t) (omega arith) in
           omega arith

@@ -22,7 +22,7 @@ behind a from (s ∷ rest) x u =
 module _ (m : Rates) (ss : List Stretch) (end : Option ℕ) (rest : Bool) where
   -- a move by u and then full braking keeps the limits ahead and stops where it may; the limits behind allow u; and so does the start, where the train starts there from rest
   abbrev pub is_free : ℕ → ℕ → Bool
-  is_free x u = can_brake u m.brake ss end x u && behind m.accel 0 ss x u && (not rest || nat_le (rise m.accel u 0) x)
+  is_free x u = can_brake u m.brake m.tail ss end x u && behind m.accel 0 ss x u && (not rest || nat_le (rise m.accel u 0) x)
 
   -- the greatest such move
   abbrev pub free : ℕ → ℕ

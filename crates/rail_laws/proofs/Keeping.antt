@@ -8,22 +8,21 @@ use Rattle.rail_base.specs.declared.state.TrainState.{TrainState}
 use Rattle.rail_spec.specs.Track.{routes_of}
 use Rattle.rail_spec.specs.Plans.{path_routes, is_well_formed}
 use Rattle.rail_spec.specs.Motion.{Rates, Stretch, KeepsLimits, keeps_limits, may_stop, can_brake, permitted, next_speed}
-use Rattle.rail_spec.specs.Dispatches.{state_of, rates, stretches, authority, of_plan, granted_after, moved}
+use Rattle.rail_spec.specs.Dispatches.{state_of, rates, binding_length, stretches, authority, of_plan, granted_after, moved}
 use Rattle.rail_spec.specs.Dispatches.{state_at}
 use Rattle.rail_base.specs.Admitted.{IsAdmitted}
 use Rattle.rail_base.specs.Stations.{IsTrain}
 use Rattle.rail_base.proofs.Members.{and_left}
-use Rattle.rail_laws.proofs.MotionLaws.{keeps_limits_tells, permitted_reach, permitted_brakes, next_speed_permitted}
+use Rattle.rail_laws.proofs.MotionLaws.{can_brake_keeps, permitted_reach, permitted_brakes, next_speed_permitted}
 use Rattle.rail_laws.proofs.Exclusion.{by_tick}
 use Rattle.rail_laws.proofs.UnderWay.{Travels, still, next_grants, travels, within_authority}
 use Rattle.rail_laws.proofs.Admits.{sound}
 
 -- a permitted move keeps the limits
-move_keeps : (m : Rates) (ss : List Stretch) (end : Option ℕ) (x v u : ℕ) → permitted m ss end x v u ≡ true → KeepsLimits m.top ss x (x + u) u
-move_keeps m ss end x v zero h = λ p l k. omega arith
-move_keeps m ss end x v (suc u) h =
-    let r = permitted_reach m ss end x v (suc u) h in
-    keeps_limits_tells m.top ss x (x + suc u) (suc u) (omega arith) (and_left (keeps_limits ss x (x + suc u) (suc u)) (can_brake u m.brake ss end (x + suc u) (suc u - m.brake)) (permitted_brakes m ss end x v (suc u) h))
+move_keeps : (m : Rates) (ss : List Stretch) (end : Option ℕ) (x v u : ℕ) → permitted m ss end x v u ≡ true → KeepsLimits m.top ss (x - m.tail) (x + u) u
+move_keeps m ss end x v u h =
+    let r = permitted_reach m ss end x v u h in
+    can_brake_keeps u m.brake m.tail m.top ss end x u (omega arith) (permitted_brakes m ss end x v u h)
 
 module _ (d : Station) (adm : IsAdmitted d) (n : ℕ) (plan : List (List Command)) (formed : is_well_formed d (routes_of d) n plan ≡ true) where
   abbrev given : TrainNo → ℕ → List Route
@@ -33,7 +32,7 @@ module _ (d : Station) (adm : IsAdmitted d) (n : ℕ) (plan : List (List Command
   keeps_authority = within_authority d (routes_of d) plan (sound d adm n plan formed)
 
   abbrev Keeps : TrainNo → TrainState → TrainState → Type 0
-  Keeps t old new = 1 ≤ new.granted → KeepsLimits (rates d t).top (stretches d (given t new.granted)) old.x new.x new.v
+  Keeps t old new = 1 ≤ new.granted → KeepsLimits (rates d t).top (stretches d (given t new.granted)) (old.x - binding_length d t) new.x new.v
 
   pub keeps_all_limits : (k : ℕ) (t : TrainNo) → Keeps t (state_of (state_at d (routes_of d) (of_plan (routes_of d) plan) k) t) (state_of (state_at d (routes_of d) (of_plan (routes_of d) plan) (suc k)) t)
   keeps_all_limits k t = by_tick d (routes_of d) plan (Keeps t) k t (λ none. absurd (omega arith)) (λ low high. one (low, high) (state_of (state_at d (routes_of d) (of_plan (routes_of d) plan) k) t) (granted_after d (routes_of d) (of_plan (routes_of d) plan) (state_at d (routes_of d) (of_plan (routes_of d) plan) k) t) (travels d (routes_of d) plan (sound d adm n plan formed) k t) (next_grants d (routes_of d) plan (state_at d (routes_of d) (of_plan (routes_of d) plan) k) t))

@@ -18,7 +18,7 @@ may_stop_next (Some e) x h = le-leb (x + 1) e (omega arith)
 pub permitted_one : (m : Rates) (ss : List Stretch) (end : Option ℕ) (x v : ℕ) → 1 ≤ m.accel → 1 ≤ m.brake → 1 ≤ m.top → ((s : Stretch) → In s ss → 1 ≤ s.limit) → MayMove end x → permitted m ss end x v 1 ≡ true
 permitted_one m ss end x v gains slows fast limits may =
     and_both _ _ (le-leb 1 (reach m v) (omega arith))
-    (and_both _ _ (keeps_slow ss x (x + 1) 1 limits) (let none : 1 - m.brake ≡ 0 = omega arith in subst (λ u. can_brake 0 m.brake ss end (x + 1) u ≡ true) (sym none) (may_stop_next end x may)))
+    (and_both _ _ (keeps_slow ss (x - m.tail) (x + 1) 1 limits) (let none : 1 - m.brake ≡ 0 = omega arith in subst (λ u. can_brake 0 m.brake m.tail ss end (x + 1) u ≡ true) (sym none) (may_stop_next end x may)))
 
 pub greatest_above : (test : ℕ → Bool) (n r : ℕ) → r ≤ n → test r ≡ true → r ≤ greatest test n
 greatest_above test zero r within passes = within

@@ -23,12 +23,13 @@ head_after b x u zero = omega arith
 head_after b x u (suc n) = let before = head_after b x u n in let less = slower u b n in omega arith
 
 -- each of the moves keeps the limits, and ends where it may
-record Brakes (top b : ℕ) (ss : List Stretch) (end : Option ℕ) (x u : ℕ) : Type 0 where
-  pub limits : (n : ℕ) → KeepsLimits top ss (braking_head b x u n) (braking_head b x u (suc n)) (u - n * b)
+record Brakes (top b tail : ℕ) (ss : List Stretch) (end : Option ℕ) (x u : ℕ) : Type 0 where
+  pub limits : (n : ℕ) → KeepsLimits top ss (braking_head b x u n - tail) (braking_head b x u (suc n)) (u - n * b)
   pub stops : (n : ℕ) → may_stop end (braking_head b x u n) ≡ true
 
-keeps_along : (top : ℕ) (ss : List Stretch) (x y u x' y' u' : ℕ) → x ≡ x' → y ≡ y' → u ≡ u' → KeepsLimits top ss x y u → KeepsLimits top ss x' y' u'
-keeps_along top ss x y u x' y' u' a b c h = subst (λ z. KeepsLimits top ss z y' u') a (subst (λ z. KeepsLimits top ss x z u') b (subst (λ z. KeepsLimits top ss x y z) c h))
+keeps_along : (top tail : ℕ) (ss : List Stretch) (x y u x' y' u' : ℕ) → x ≡ x' → y ≡ y' → u ≡ u' → KeepsLimits top ss (x - tail) y u → KeepsLimits top ss (x' - tail) y' u'
+keeps_along top tail ss x y u x' y' u' a b c h =
+    subst (λ z. KeepsLimits top ss (z - tail) y' u') a (subst (λ z. KeepsLimits top ss (x - tail) z u') b (subst (λ z. KeepsLimits top ss (x - tail) y z) c h))
 
 first_head : (b x u : ℕ) → braking_head b x u 1 ≡ x + u
 first_head b x u = omega arith
@@ -37,39 +38,39 @@ first_speed : (b u : ℕ) → u - 0 * b ≡ u
 first_speed b u = omega arith
 
 -- a first move, and those after it
-brakes_first : (top b : ℕ) (ss : List Stretch) (end : Option ℕ) (x u : ℕ) → KeepsLimits top ss x (x + u) u → Brakes top b ss end (x + u) (u - b) → Brakes top b ss end x u
-brakes_first top b ss end x u here later = record { limits = limits; stops = stops }
+brakes_first : (top b tail : ℕ) (ss : List Stretch) (end : Option ℕ) (x u : ℕ) → KeepsLimits top ss (x - tail) (x + u) u → Brakes top b tail ss end (x + u) (u - b) → Brakes top b tail ss end x u
+brakes_first top b tail ss end x u here later = record { limits = limits; stops = stops }
   where
-    limits : (n : ℕ) → KeepsLimits top ss (braking_head b x u n) (braking_head b x u (suc n)) (u - n * b)
-    limits zero = keeps_along top ss x (x + u) u _ _ _ refl (sym (first_head b x u)) (sym (first_speed b u)) here
-    limits (suc n) = keeps_along top ss _ _ _ _ _ _ (head_after b x u n) (head_after b x u (suc n)) (slower u b n) (later.limits n)
+    limits : (n : ℕ) → KeepsLimits top ss (braking_head b x u n - tail) (braking_head b x u (suc n)) (u - n * b)
+    limits zero = keeps_along top tail ss x (x + u) u _ _ _ refl (sym (first_head b x u)) (sym (first_speed b u)) here
+    limits (suc n) = keeps_along top tail ss (braking_head b (x + u) (u - b) n) _ _ (braking_head b x u (suc n)) _ _ (head_after b x u n) (head_after b x u (suc n)) (slower u b n) (later.limits n)
 
     stops : (n : ℕ) → may_stop end (braking_head b x u n) ≡ true
     stops zero = may_stop_before end x (x + u) (omega arith) (later.stops 0)
     stops (suc n) = subst (λ y. may_stop end y ≡ true) (head_after b x u n) (later.stops n)
 
-brakes_tells : (m b top : ℕ) (ss : List Stretch) (end : Option ℕ) (x u : ℕ) → u ≤ top → can_brake m b ss end x u ≡ true → Brakes top b ss end x u
-brakes_tells m b top ss end x zero fast h = record {
+brakes_tells : (m b tail top : ℕ) (ss : List Stretch) (end : Option ℕ) (x u : ℕ) → u ≤ top → can_brake m b tail ss end x u ≡ true → Brakes top b tail ss end x u
+brakes_tells m b tail top ss end x zero fast h = record {
   limits = λ n p l k. omega arith;
   stops = λ n. subst (λ y. may_stop end y ≡ true) (sym (head_stays b x n)) h;
 }
-brakes_tells zero b top ss end x (suc u) fast h = cc
-brakes_tells (suc m) b top ss end x (suc u) fast h =
-    brakes_first top b ss end x (suc u)
-    (keeps_limits_tells top ss x (x + suc u) (suc u) fast (and_left _ (can_brake m b ss end (x + suc u) (suc u - b)) h))
-    (brakes_tells m b top ss end (x + suc u) (suc u - b) (omega arith) (and_right (keeps_limits ss x (x + suc u) (suc u)) _ h))
+brakes_tells zero b tail top ss end x (suc u) fast h = cc
+brakes_tells (suc m) b tail top ss end x (suc u) fast h =
+    brakes_first top b tail ss end x (suc u)
+    (keeps_limits_tells top ss (x - tail) (x + suc u) (suc u) fast (and_left _ (can_brake m b tail ss end (x + suc u) (suc u - b)) h))
+    (brakes_tells m b tail top ss end (x + suc u) (suc u - b) (omega arith) (and_right (keeps_limits ss (x - tail) (x + suc u) (suc u)) _ h))
 
-brakes_from : (m b top : ℕ) (ss : List Stretch) (end : Option ℕ) (x u : ℕ) → 1 ≤ b → u ≤ m → Brakes top b ss end x u → can_brake m b ss end x u ≡ true
-brakes_from m b top ss end x zero slows moves h = h.stops 0
-brakes_from zero b top ss end x (suc u) slows moves h = absurd (omega arith)
-brakes_from (suc m) b top ss end x (suc u) slows moves h = and_both _ _ here (brakes_from m b top ss end (x + suc u) (suc u - b) slows (omega arith) later)
+brakes_from : (m b tail top : ℕ) (ss : List Stretch) (end : Option ℕ) (x u : ℕ) → 1 ≤ b → u ≤ m → Brakes top b tail ss end x u → can_brake m b tail ss end x u ≡ true
+brakes_from m b tail top ss end x zero slows moves h = h.stops 0
+brakes_from zero b tail top ss end x (suc u) slows moves h = absurd (omega arith)
+brakes_from (suc m) b tail top ss end x (suc u) slows moves h = and_both _ _ here (brakes_from m b tail top ss end (x + suc u) (suc u - b) slows (omega arith) later)
   where
-    here : keeps_limits ss x (x + suc u) (suc u) ≡ true
-    here = keeps_limits_from top ss x (x + suc u) (suc u) (keeps_along top ss _ _ _ _ _ _ refl (first_head b x (suc u)) (first_speed b (suc u)) (h.limits 0))
+    here : keeps_limits ss (x - tail) (x + suc u) (suc u) ≡ true
+    here = keeps_limits_from top ss (x - tail) (x + suc u) (suc u) (keeps_along top tail ss x _ _ x _ _ refl (first_head b x (suc u)) (first_speed b (suc u)) (h.limits 0))
 
-    later : Brakes top b ss end (x + suc u) (suc u - b)
+    later : Brakes top b tail ss end (x + suc u) (suc u - b)
     later = record {
-      limits = λ n. keeps_along top ss _ _ _ _ _ _ (sym (head_after b x (suc u) n)) (sym (head_after b x (suc u) (suc n))) (sym (slower (suc u) b n)) (h.limits (suc n));
+      limits = λ n. keeps_along top tail ss (braking_head b x (suc u) (suc n)) _ _ (braking_head b (x + suc u) (suc u - b) n) _ _ (sym (head_after b x (suc u) n)) (sym (head_after b x (suc u) (suc n))) (sym (slower (suc u) b n)) (h.limits (suc n));
       stops = λ n. subst (λ y. may_stop end y ≡ true) (sym (head_after b x (suc u) n)) (h.stops (suc n));
     }
 
@@ -78,13 +79,13 @@ brakes_from (suc m) b top ss end x (suc u) slows moves h = and_both _ _ here (br
 pub permitted_tells : (m : Rates) (ss : List Stretch) (end : Option ℕ) (x v u : ℕ) → permitted m ss end x v u ≡ true → IsPermitted m ss end x v u
 permitted_tells m ss end x v u h =
     let within = permitted_reach m ss end x v u h in
-    let brakes = brakes_tells u m.brake m.top ss end x u (omega arith) (permitted_brakes m ss end x v u h) in
+    let brakes = brakes_tells u m.brake m.tail m.top ss end x u (omega arith) (permitted_brakes m ss end x v u h) in
     record { gains = omega arith; fast = omega arith; limits = brakes.limits; stops = brakes.stops }
 
 pub permitted_from : (m : Rates) (ss : List Stretch) (end : Option ℕ) (x v u : ℕ) → 1 ≤ m.brake → IsPermitted m ss end x v u → permitted m ss end x v u ≡ true
 permitted_from m ss end x v u slows h =
     and_both _ _ (le-leb u (reach m v) (let gains = h.gains in let fast = h.fast in omega arith))
-    (brakes_from u m.brake m.top ss end x u slows (omega arith) (record { limits = h.limits; stops = h.stops }))
+    (brakes_from u m.brake m.tail m.top ss end x u slows (omega arith) (record { limits = h.limits; stops = h.stops }))
 
 -- ---- the greatest of it
 

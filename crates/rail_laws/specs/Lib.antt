@@ -1,3 +1,4 @@
 -- What the laws say of routes and of progress.
 pub mod Elementary
 pub mod Progress
+pub mod Tails

@@ -16,6 +16,7 @@ ghost use Rattle.rail_base.specs.Stations.{IsTrain, horizon};
 ghost use Rattle.rail_spec.specs.Safety.{holds, Clash, KeepsToTrack};
 ghost use Rattle.rail_base.specs.Members.{In, Pairs, Differ};
 ghost use Rattle.rail_spec.specs.Track.{routes_of, all_closings, Again};
+ghost use Rattle.rail_laws.specs.Tails.{KeepsUnderTrain};
 ghost use Rattle.rail_laws.specs.Elementary.{IsRouteOf, IsStart, ClosesBadly, RouteBefore, IsTold};
 ghost use Rattle.rail_base.specs.Admitted.{IsAdmitted};
 ghost use Rattle.rail_spec.specs.Feasible.{IsRunnable, IsWellFormed};
@@ -30,6 +31,13 @@ ghost use Rattle.rail_base.specs.declared.plan.Violation.TheVariants as violatio
 pub fn limits_are_those_of_points()
     ensures { (top : ℕ) (ss : List Stretch) (x y u : ℕ) → u ≤ top
         → (keeps_limits ss x y u ≡ true) ↔ KeepsLimits top ss x y u }
+{}
+
+/// A move keeps the limits from so far behind its head exactly where each point of the move has, from itself back over that
+/// length, no limit below its speed.
+pub fn limits_bind_until_the_tail_has_left()
+    ensures { (top : ℕ) (ss : List Stretch) (tail x y u : ℕ) → x < y
+        → KeepsLimits top ss (x - tail) y u ↔ KeepsUnderTrain top ss tail x y u }
 {}
 
 /// A speed is permitted exactly where the train may reach it and can brake from there, point by point.

@@ -4,17 +4,15 @@ use Rattle.std.specs.Option.{ForSome}
 use Rattle.std.proofs.lemmas.Int.{ints}
 use Rattle.std.proofs.lemmas.Bool.{and_parts, and_from, both_ways}
 use Rattle.rail_spec.specs.Motion.{Rates, Stretch, limit_at, KeepsLimits, keeps_limits, may_stop, reach, permitted}
-use Rattle.rail_laws.proofs.MotionLaws.{keeps_limits_tells, keeps_limits_from, permitted_reach, permitted_brakes}
+use Rattle.rail_laws.proofs.MotionLaws.{keeps_limits_from, can_brake_keeps, permitted_reach, permitted_brakes}
 use Rattle.rail_motion.specs.declared.Span.{Span}
 use Rattle.rail_motion.specs.Track.{stretches_of, end_of}
 
 -- a permitted move keeps the limits
-pub permitted_keeps : (m : Rates) (ss : List Stretch) (end : Option ℕ) (x v u : ℕ) → permitted m ss end x v u ≡ true → KeepsLimits m.top ss x (x + u) u
-permitted_keeps m ss end x v zero h = λ p past near. omega arith
-permitted_keeps m ss end x v (suc u) h =
-    let reached = permitted_reach m ss end x v (suc u) h in
-    let parts = and_parts (keeps_limits ss x (x + suc u) (suc u)) _ (permitted_brakes m ss end x v (suc u) h) in
-    keeps_limits_tells m.top ss x (x + suc u) (suc u) (omega arith) parts.0
+pub permitted_keeps : (m : Rates) (ss : List Stretch) (end : Option ℕ) (x v u : ℕ) → permitted m ss end x v u ≡ true → KeepsLimits m.top ss (x - m.tail) (x + u) u
+permitted_keeps m ss end x v u h =
+    let reached = permitted_reach m ss end x v u h in
+    can_brake_keeps u m.brake m.tail m.top ss end x u (omega arith) (permitted_brakes m ss end x v u h)
 
 -- each limit is at least 1
 limit_at_least : (top : ℕ) (spans : List Span) (p : ℕ) → 1 ≤ top → 1 ≤ limit_at top (stretches_of spans) p
@@ -29,7 +27,7 @@ limit_at_least top (s ∷ rest) p fast = go (nat_le p (nat_abs s.end)) (limit_at
 pub permitted_one : (m : Rates) (spans : List Span) (end : Option ℕ) (x v : ℕ) → 1 ≤ m.accel → 1 ≤ m.brake → 1 ≤ m.top → ForSome end (λ e. x < e) → permitted m (stretches_of spans) end x v 1 ≡ true
 permitted_one m spans end x v gains slows fast left =
     and_from _ _ (le-leb 1 (reach m v) (omega arith))
-    (and_from _ _ (keeps_limits_from m.top (stretches_of spans) x (x + 1) 1 (λ p past near. limit_at_least m.top spans p fast))
+    (and_from _ _ (keeps_limits_from m.top (stretches_of spans) (x - m.tail) (x + 1) 1 (λ p past near. limit_at_least m.top spans p fast))
     (let none : 1 - m.brake ≡ 0 = omega arith in rw none (stops end left)))
   where
     stops : (end : Option ℕ) → ForSome end (λ e. x < e) → may_stop end (x + 1) ≡ true

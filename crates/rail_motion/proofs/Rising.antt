@@ -1,5 +1,5 @@
 -- Of spans that rise, those that end past a place are the rest from some index on.
-use Rattle.std.proofs.Common.{◌≡◌, ℕ, zero, suc, ◌+◌, ◌≤◌, ◌<◌, ◌⊎◌, inl, inr, nat_abs, ◌<ℤ◌, Bool, true, false, ◌&&◌, if◌then◌else◌, min, max, List, [], ◌∷◌, filter, drop, length, slice_index_or, nat_le, nat_lt, Option, None, refl, sym, ◌∙◌, ap, arith, ltb-false, eq-or-lt_of_le}
+use Rattle.std.proofs.Common.{◌≡◌, ℕ, zero, suc, ◌+◌, ◌-◌, ◌≤◌, ◌<◌, ◌⊎◌, inl, inr, nat_abs, ◌<ℤ◌, Bool, true, false, ◌&&◌, ◌||◌, if◌then◌else◌, min, max, List, [], ◌∷◌, filter, drop, length, slice_index_or, nat_le, nat_lt, Option, None, refl, sym, ◌∙◌, ap, arith, ltb-false, eq-or-lt_of_le}
 use Rattle.std.specs.List.{AllWithin}
 use Rattle.std.specs.List.Sorted.{IsNonDecreasingBy}
 use Rattle.std.proofs.lemmas.Int.{ints}
@@ -7,9 +7,9 @@ use Rattle.std.proofs.lemmas.Bool.{le-leb}
 use Rattle.std.proofs.lemmas.Grind.{common_steps}
 use Rattle.rail_spec.specs.Motion.{can_brake, may_stop, braking_way}
 use Rattle.rail_motion.specs.declared.Span.{Span}
-use Rattle.rail_motion.specs.Track.{stretches_of, IsRising}
+use Rattle.rail_motion.specs.Track.{stretch_of, stretches_of, IsRising}
 use Rattle.rail_motion.specs.Braking.{faster_way}
-use Rattle.rail_motion.proofs.Points.{keeps_spans, can_brake_by_spans, can_brake_and_stop}
+use Rattle.rail_motion.proofs.Points.{keeps_span, keeps_spans, can_brake_by_spans, can_brake_and_stop}
 
 -- the ends of rising spans do not fall
 pub ends_rise : (spans : List Span) → IsRising spans → IsNonDecreasingBy (λ s. nat_abs s.end) spans
@@ -32,32 +32,38 @@ filter_from p (x ∷ xs) (suc i) before after =
     rw (before zero x (omega arith) (omega arith))
     (filter_from p xs i (λ k d l m. before (suc k) d (omega arith) (omega arith)) (λ k d l m. after (suc k) d (omega arith) (omega arith)))
 
--- the spans that end before a place do not matter there
-pub can_brake_past : (n b : ℕ) (spans : List Span) (x u : ℕ) → 1 ≤ b → u ≤ n → can_brake n b (stretches_of (filter (λ s. nat_lt x (nat_abs s.end)) spans)) None x u ≡ can_brake n b (stretches_of spans) None x u
-can_brake_past n b spans x u slows bound =
-    can_brake_by_spans n b _ x u slows bound ∙ keeps_past spans x (omega arith) ∙ sym (can_brake_by_spans n b (stretches_of spans) x u slows bound)
+-- the spans that end before the tail do not matter
+pub can_brake_past : (n b tail : ℕ) (spans : List Span) (x u : ℕ) → 1 ≤ b → u ≤ n
+    → can_brake n b tail (stretches_of (filter (λ s. nat_lt (x - tail) (nat_abs s.end)) spans)) None x u ≡ can_brake n b tail (stretches_of spans) None x u
+can_brake_past n b tail spans x u slows bound =
+    can_brake_by_spans n b tail _ x u slows bound ∙ keeps_past spans (x - tail) (omega arith) ∙ sym (can_brake_by_spans n b tail (stretches_of spans) x u slows bound)
   where
-    keeps_past : (spans : List Span) (start : ℕ) → x ≤ start → keeps_spans n b (stretches_of (filter (λ s. nat_lt x (nat_abs s.end)) spans)) start x u ≡ keeps_spans n b (stretches_of spans) start x u
+    or_last : (s t : Bool) → t ≡ true → (s || t) ≡ true
+    or_last true t e = refl
+    or_last false t e = e
+
+    keeps_past : (spans : List Span) (start : ℕ) → x - tail ≤ start → keeps_spans n b (stretches_of (filter (λ s. nat_lt (x - tail) (nat_abs s.end)) spans)) start x u ≡ keeps_spans n b (stretches_of spans) start x u
     keeps_past [] start begun = refl
-    keeps_past (s ∷ rest) start begun = go (nat_lt x (nat_abs s.end)) refl (keeps_past rest start begun) (keeps_past rest (max start (nat_abs s.end)) (omega arith))
+    keeps_past (s ∷ rest) start begun = go (nat_lt (x - tail) (nat_abs s.end)) refl (keeps_past rest start begun) (keeps_past rest (max start (nat_abs s.end)) (omega arith))
       where
-        go : (t : Bool) → nat_lt x (nat_abs s.end) ≡ t
-            → keeps_spans n b (stretches_of (filter (λ s. nat_lt x (nat_abs s.end)) rest)) start x u ≡ keeps_spans n b (stretches_of rest) start x u
-            → keeps_spans n b (stretches_of (filter (λ s. nat_lt x (nat_abs s.end)) rest)) (max start (nat_abs s.end)) x u ≡ keeps_spans n b (stretches_of rest) (max start (nat_abs s.end)) x u
-            → keeps_spans n b (stretches_of (if t then s ∷ filter (λ s. nat_lt x (nat_abs s.end)) rest else filter (λ s. nat_lt x (nat_abs s.end)) rest)) start x u
-            ≡ (nat_le (min (x + faster_way n b (nat_abs s.limit) u) (nat_abs s.end)) start && keeps_spans n b (stretches_of rest) (max start (nat_abs s.end)) x u)
-        go true e here next = ap (λ t. nat_le (min (x + faster_way n b (nat_abs s.limit) u) (nat_abs s.end)) start && t) next
+        go : (t : Bool) → nat_lt (x - tail) (nat_abs s.end) ≡ t
+            → keeps_spans n b (stretches_of (filter (λ s. nat_lt (x - tail) (nat_abs s.end)) rest)) start x u ≡ keeps_spans n b (stretches_of rest) start x u
+            → keeps_spans n b (stretches_of (filter (λ s. nat_lt (x - tail) (nat_abs s.end)) rest)) (max start (nat_abs s.end)) x u ≡ keeps_spans n b (stretches_of rest) (max start (nat_abs s.end)) x u
+            → keeps_spans n b (stretches_of (if t then s ∷ filter (λ s. nat_lt (x - tail) (nat_abs s.end)) rest else filter (λ s. nat_lt (x - tail) (nat_abs s.end)) rest)) start x u
+            ≡ (keeps_span n b (stretch_of s) start x u && keeps_spans n b (stretches_of rest) (max start (nat_abs s.end)) x u)
+        go true e here next = ap (λ t. keeps_span n b (stretch_of s) start x u && t) next
         go false e here next =
-            let before = ltb-false x (nat_abs s.end) e in
+            let before = ltb-false (x - tail) (nat_abs s.end) e in
             let same : max start (nat_abs s.end) ≡ start = omega arith in
-            rw (le-leb (min (x + faster_way n b (nat_abs s.limit) u) (nat_abs s.end)) start (omega arith), same) here
+            let kept : keeps_span n b (stretch_of s) start x u ≡ true = or_last _ _ (le-leb (min (x + faster_way n b (nat_abs s.limit) u) (nat_abs s.end)) start (omega arith)) in
+            rw (kept, same) here
 
 -- so full braking is decided by those past it, and by where it stops
-pub can_brake_is : (n b : ℕ) (spans past : List Span) (end : Option ℕ) (x u way : ℕ) (stops keeps : Bool) → 1 ≤ b → u ≤ n → past ≡ filter (λ s. nat_lt x (nat_abs s.end)) spans → way ≡ braking_way n b u
-    → stops ≡ may_stop end (x + u + way) → keeps ≡ can_brake n b (stretches_of past) None x u → can_brake n b (stretches_of spans) end x u ≡ (stops && keeps)
-can_brake_is n b spans past end x u way stops keeps slows bound ahead braked stopped kept =
-    can_brake_and_stop n b (stretches_of spans) end x u ∙ turned stops keeps (can_brake n b (stretches_of spans) None x u) (may_stop end (x + u + braking_way n b u))
-    (kept ∙ ap (λ ss. can_brake n b (stretches_of ss) None x u) ahead ∙ can_brake_past n b spans x u slows bound)
+pub can_brake_is : (n b tail : ℕ) (spans past : List Span) (end : Option ℕ) (x u way : ℕ) (stops keeps : Bool) → 1 ≤ b → u ≤ n → past ≡ filter (λ s. nat_lt (x - tail) (nat_abs s.end)) spans → way ≡ braking_way n b u
+    → stops ≡ may_stop end (x + u + way) → keeps ≡ can_brake n b tail (stretches_of past) None x u → can_brake n b tail (stretches_of spans) end x u ≡ (stops && keeps)
+can_brake_is n b tail spans past end x u way stops keeps slows bound ahead braked stopped kept =
+    can_brake_and_stop n b tail (stretches_of spans) end x u ∙ turned stops keeps (can_brake n b tail (stretches_of spans) None x u) (may_stop end (x + u + braking_way n b u))
+    (kept ∙ ap (λ ss. can_brake n b tail (stretches_of ss) None x u) ahead ∙ can_brake_past n b tail spans x u slows bound)
     (stopped ∙ ap (λ w. may_stop end (x + u + w)) braked)
   where
     and_turned : (s k : Bool) → (k && s) ≡ (s && k)

@@ -5,4 +5,4 @@ use Rattle.rail_spec.specs.Motion.{Rates}
 
 -- its numbers per tick
 abbrev pub rates_of : Motor → Rates
-rates_of m = record { accel = nat_abs m.accel; brake = nat_abs m.brake; top = nat_abs m.top }
+rates_of m = record { accel = nat_abs m.accel; brake = nat_abs m.brake; top = nat_abs m.top; tail = nat_abs m.tail }

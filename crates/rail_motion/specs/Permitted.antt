@@ -27,6 +27,6 @@ module _ (m : Motor) (a : Ahead) where
   abbrev pub IsGreatestOn : ℕ → ℕ → ℕ → Type 0
   IsGreatestOn = motion.IsGreatestPermitted (rates_of m) (stretches_of a.spans.now) (end_of a.end)
 
-  -- each point after the first place up to the second has a limit of at least this speed
+  -- each point after the first place up to the second, and under the tail at the first, has a limit of at least this speed
   abbrev pub KeepsLimitsOn : ℕ → ℕ → ℕ → Type 0
-  KeepsLimitsOn = motion.KeepsLimits (nat_abs m.top) (stretches_of a.spans.now)
+  KeepsLimitsOn x = motion.KeepsLimits (nat_abs m.top) (stretches_of a.spans.now) (x - nat_abs m.tail)

@@ -9,8 +9,8 @@ use crate::Span;
 
 /// The track ahead of a train, and the place (mm) where its authority ends, if it does.
 ///
-/// Each span ends before those after it. Spans that end at or before the train's head do not matter, and past the last
-/// one only the vehicle's top speed limits.
+/// Each span ends before those after it. Spans that end at or before the place up to which limits bind the train behind its
+/// head do not matter, and past the last one only the vehicle's top speed limits.
 #[derive(Clone, Copy, Debug)]
 pub struct Ahead<'a> {
     pub spans: &'a [Span],

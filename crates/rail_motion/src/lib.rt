@@ -11,15 +11,17 @@ mod limits;
 mod speeds;
 
 /// What a vehicle can do in a tick: how much speed it gains, how much it loses by full braking, and its top speed,
-/// each in mm per tick.
+/// each in mm per tick; and how far behind its head, in mm, limits bind it.
 #[derive(Clone, Copy, Debug)]
 pub struct Motor {
     pub accel: i64,
     pub brake: i64,
     pub top: i64,
+    pub tail: i64,
     ghost accel_range: { IsPerTick accel },
     ghost brake_range: { IsPerTick brake },
     ghost top_range: { IsPerTick top },
+    ghost tail_range: { IsPlace tail },
 }
 
 /// A span of track up to a place (mm), with its speed limit (mm per tick). It begins where the one before ends.

@@ -1,4 +1,4 @@
-//! Whether full braking keeps the limits of the track ahead.
+//! Whether full braking keeps the limits of the track.
 
 ghost use Rattle.std.specs.Prelude.{◌≡◌, ◌<◌, ◌≤◌, ◌^◌, None};
 ghost use Rattle.rail_motion.specs.Track.{stretches_of, IsRising};
@@ -8,24 +8,25 @@ use crate::Span;
 use crate::ahead::spans_past;
 use crate::braking::{braking_way, faster_way};
 
-/// Whether a move by `speed` from `place`, and then full braking, keeps the limits of the spans.
+/// Whether a move by `speed` from `place`, and then full braking, keeps the limits of the spans, by a train that they bind so
+/// far behind its head.
 ///
-/// A span is offended where the moves that are faster than its limit cover one of its points. So each span takes a
-/// few sums, however many moves there are, and those from the stop on take none.
-fn keeps_limits(spans: &[Span], brake: u64, place: u64, speed: u64) -> bool
+/// A span is offended where the moves that are faster than its limit cover one of its points, or find the tail on one. So each
+/// span takes a few sums, however many moves there are, and those from the stop on take none.
+fn keeps_limits(spans: &[Span], brake: u64, tail: u64, place: u64, speed: u64) -> bool
     requires brake { 1 ≤ brake }
     requires place { place < 2 ^ 47 }
     requires speed { speed ≤ 100000 }
-    ensures { result ≡ can_brake speed brake (stretches_of spans.now) None place speed }
+    ensures { result ≡ can_brake speed brake tail (stretches_of spans.now) None place speed }
 {
     let stop = place + speed + braking_way(speed, brake);
-    let mut start = place;
+    let mut start = place.saturating_sub(tail);
     for span in spans {
         if start >= stop {
             return true;
         }
         let covered = place + faster_way(speed, brake, span.limit());
-        if start < covered.min(span.end()) {
+        if span.limit() < speed && start < covered.min(span.end()) {
             return false;
         }
         start = start.max(span.end());
@@ -48,6 +49,7 @@ pub(crate) fn can_brake(
     spans: &[Span],
     end: Option<u64>,
     brake: u64,
+    tail: u64,
     place: u64,
     speed: u64,
 ) -> bool
@@ -55,8 +57,14 @@ pub(crate) fn can_brake(
     requires brake { 1 ≤ brake }
     requires place { place < 2 ^ 47 }
     requires speed { speed ≤ 100000 }
-    ensures { result ≡ can_brake speed brake (stretches_of spans.now) end place speed }
+    ensures { result ≡ can_brake speed brake tail (stretches_of spans.now) end place speed }
 {
     may_stop(end, place + speed + braking_way(speed, brake))
-        && keeps_limits(spans_past(spans, place), brake, place, speed)
+        && keeps_limits(
+            spans_past(spans, place.saturating_sub(tail)),
+            brake,
+            tail,
+            place,
+            speed,
+        )
 }

@@ -33,6 +33,7 @@ fn is_permitted(motor: &Motor, ahead: &Ahead, place: u64, speed: u64, next: u64)
             ahead.spans,
             ahead.limit_of_authority(),
             motor.brake as u64,
+            motor.tail as u64,
             place,
             next,
         )
@@ -97,7 +98,8 @@ pub fn advance(motor: &Motor, ahead: &Ahead, place: u64, speed: u64) -> (u64, u6
     ensures range { result.1 ≤ 100000 }
     ensures braking { MayBrake motor.now ahead.now result.0 result.1 }
 
-    // The move ends within the authority, covers no point above its limit, and is at least 1 where authority is left.
+    // The move ends within the authority, no point under it or the tail has a lower limit, and it is at least 1 where
+    // authority is left.
     ensures in_authority { may_stop (end_of ahead.now.end) result.0 ≡ true }
     ensures limits { KeepsLimitsOn motor.now ahead.now place result.0 result.1 }
     ensures moves { ForSome (end_of ahead.now.end) (λ end. place < end) → 1 ≤ result.1 }

@@ -16,6 +16,7 @@ const MOTOR: Motor = Motor {
     accel: 500,
     brake: 700,
     top: 2000,
+    tail: 0,
 };
 
 /// Up to the end of authority at 3,000 mm: heads 500, 1500, 2600, 3000, 3000.
@@ -94,6 +95,55 @@ fn slows_down(rt: HostRuntime) {
     }
 }
 
+/// Out of a limit of 500 mm per tick at 5,000 mm: a vehicle whose tail limits bind too, 2,000 mm behind its head, goes on at
+/// that speed up to 7,000 mm.
+#[test]
+fn gains_speed_when_the_tail_has_left(rt: HostRuntime) {
+    let spans = [
+        Span {
+            end: 5000,
+            limit: 500,
+        },
+        Span {
+            end: 10000,
+            limit: 2000,
+        },
+    ];
+    let ahead = Ahead {
+        spans: &spans,
+        end: None,
+    };
+    let motor = Motor {
+        accel: 500,
+        brake: 700,
+        top: 2000,
+        tail: 2000,
+    };
+    for (x, v, u) in [
+        (0u16, 0u16, 500u16),
+        (4500, 500, 500),
+        (5000, 500, 500),
+        (6500, 500, 500),
+        (7000, 500, 1000),
+        (8000, 1000, 1500),
+        (9500, 1500, 2000),
+    ] {
+        let braked = v.saturating_sub(700);
+        assert!(rt;
+            permitted(
+                &motor,
+                &ahead,
+                i64::from(x),
+                i64::from(v),
+                i64::from(braked)
+            ),
+            "at {x}"
+        );
+        let moved = advance(&motor, &ahead, u64::from(x), u64::from(v));
+        assert_eq!(rt; moved, (u64::from(x) + u64::from(u), u64::from(u)));
+    }
+}
+
 /// Spans of 500,000 mm with the limit 100,000 mm per tick.
 fn long_spans(alloc: Global, count: u16) -> Result<Vec<Span>, AllocError>
     ensures { IfOk result (λ spans. IsRising spans.items) }
@@ -117,6 +167,7 @@ fn long_ways_are_quick(rt: HostRuntime) -> Result<(), Fail> {
         accel: 1,
         brake: 1,
         top: 100_000,
+        tail: 0,
     };
     for (end, v, u) in [
         (5_000_050_000, 100_000u32, 100_000u32),

@@ -24,12 +24,18 @@ idle = record { granted = 0; x = 0; v = 0 }
 abbrev pub state_of : List TrainState → TrainNo → TrainState
 state_of s t = entry idle s t.0
 
+-- how far behind its head limits bind a train: in designs of version 1 they bind the head alone, from version 2 on until the
+-- tail has left
+abbrev pub binding_length : Station → TrainNo → ℕ
+binding_length d t = if nat_le 2 d.version then train_length d t else 0
+
 -- what a train's vehicle can do in a tick
 abbrev pub rates : Station → TrainNo → Rates
 rates d t = record {
   accel = per_tick_accel d (vehicle_of d t).accel_mm_s2;
   brake = per_tick_accel d (vehicle_of d t).brake_mm_s2;
   top = per_tick_speed d (vehicle_of d t).speed_mm_s;
+  tail = binding_length d t;
 }
 
 -- an edge that ends there, with its limit

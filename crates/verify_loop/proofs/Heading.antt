@@ -17,7 +17,7 @@ use Rattle.verify_loop.specs.Outcomes.{head, first_clauses}
 pub kept_so : (m : Method) (d : Station) (n : ℕ) → IsAdmitted d → n ≤ 64 → keeps_head (head m d n) ≡ true
 kept_so Cones d n good few = refl
 kept_so Bounds d n good few =
-    let one = good.version in
+    let least = good.version.1 in
     and_both (is_small d.version) (is_small n) (le-leb d.version 4294967295 (omega arith)) (le-leb n 4294967295 (omega arith))
 
 -- it names the design and the number of steps

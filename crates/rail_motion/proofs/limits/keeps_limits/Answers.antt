@@ -4,7 +4,9 @@ use Rattle.rail_motion.proofs.Points.{can_brake_by_spans, keeps_spans_past}
 use Rattle.rail_motion.proofs.limits.keeps_limits.Goals as goal
 
 pub loop-span-init : goal.loop-span-init
-loop-span-init c = record { begun = omega arith; left = can_brake_by_spans c.args.speed c.args.brake (stretches_of c.args.spans.now) c.args.place c.args.speed c.requires.brake (omega arith) }
+loop-span-init c = record {
+  left = rw c.saturating_sub-start.ensures (can_brake_by_spans c.args.speed c.args.brake c.args.tail (stretches_of c.args.spans.now) c.args.place c.args.speed c.requires.brake (omega arith));
+}
 
 pub returns-then-start-stop : goal.returns-then-start-stop
 returns-then-start-stop c =

@@ -1,0 +1,10 @@
+use Rattle.std.proofs.Common.{ℕ, ◌+◌, ◌-◌, ◌≤◌, ◌<◌, max, List, arith}
+use Rattle.rail_spec.specs.Motion.{Stretch, KeepsLimits}
+use Rattle.rail_laws.specs.Tails.{KeepsUnderTrain}
+use Rattle.rail_laws.proofs.laws.limits_bind_until_the_tail_has_left.Goals as goal
+
+pub returns : goal.returns
+returns c = λ top ss tail x y u some. (
+  (λ keeps p q past near first back bound. keeps q (omega arith) (omega arith)),
+  (λ keeps q past near. keeps (max q (x + 1)) q (omega arith) (omega arith) (omega arith) (omega arith) (omega arith)),
+)
