@@ -16,7 +16,7 @@ use Rattle.sat_clause.specs.Hints.{follow_of}
 use Rattle.proof_log.specs.declared.line.Line.{Line}
 use Rattle.proof_log.specs.declared.line.Line.TheVariants.{Derive, Refute, Forget}
 use Rattle.proof_log.specs.declared.head.Head.{Head}
-use Rattle.proof_log.specs.declared.head.Head.TheVariants.{Plain, Sorted}
+use Rattle.proof_log.specs.declared.head.Head.TheVariants.{Plain, Named, Sorted}
 use Rattle.proof_log.specs.Heads.{head_of, head_text}
 use Rattle.proof_log.specs.Lines.{line_of}
 use Rattle.log_checker.specs.declared.shown.Shown.{Shown}
@@ -31,6 +31,7 @@ use Rattle.log_checker.specs.declared.shown.Reason.TheVariants.{DropRefused, Not
 abbrev pub may_stand : Head → Evidence → Bool
 may_stand head (evidence.Cone cone) = true
 may_stand Plain (evidence.Bound bound) = false
+may_stand (Named version steps) (evidence.Bound bound) = false
 may_stand (Sorted version steps) (evidence.Bound bound) = true
 
 -- the line, where no variable of a clause that it derives is past the last one, and it may stand in a file with this head

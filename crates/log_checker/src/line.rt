@@ -32,6 +32,7 @@ fn may_stand(head: Head, evidence: &Evidence) -> bool
     match (head, evidence) {
         (_, Evidence::Cone(_)) => true,
         (Head::Plain, Evidence::Bound(_)) => false,
+        (Head::Named { .. }, Evidence::Bound(_)) => false,
         (Head::Sorted { .. }, Evidence::Bound(_)) => true,
     }
 }

@@ -4,7 +4,7 @@ use Rattle.log_checker.specs.Verdict.{may_stand}
 use Rattle.plan_clauses.specs.Variables.{variable_count}
 use Rattle.proof_judge.specs.Judged.{refuted}
 use Rattle.proof_log.specs.declared.head.Head.{Head}
-use Rattle.proof_log.specs.declared.head.Head.TheVariants.{Plain, Sorted}
+use Rattle.proof_log.specs.declared.head.Head.TheVariants.{Named, Sorted}
 use Rattle.proof_log.specs.declared.line.Line.TheVariants.{Refute}
 use Rattle.proof_log.specs.Text.{text_of_line, keeps_grammar}
 use Rattle.rail_base.specs.declared.plan.Command.{Command}
@@ -17,9 +17,9 @@ use Rattle.plan_exclusion.specs.declared.method.Method.{Method}
 use Rattle.plan_exclusion.specs.declared.method.Method.TheVariants.{Cones, Bounds}
 use Rattle.plan_exclusion.specs.Failures.{IsShownBy, clause_shown}
 
--- the head of the log: bounds may stand only where trains that are alike come in turn
+-- the head of the log, which names the design's version and n: bounds may stand only where trains that are alike come in turn
 abbrev pub head_for : Method → Station → ℕ → Head
-head_for Cones d n = Plain
+head_for Cones d n = Named d.version n
 head_for Bounds d n = Sorted d.version n
 
 -- the line of a cone or a bound that shows that the plan fails, which may stand in the log, and its clause

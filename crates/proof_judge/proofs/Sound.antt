@@ -19,7 +19,7 @@ use Rattle.plan_clauses.specs.Clauses.{base_clauses, past_limit}
 use Rattle.plan_clauses.specs.Models.{model_of}
 use Rattle.plan_clauses.specs.Variables.{By, number_of, variable_count}
 use Rattle.proof_log.specs.declared.head.Head.{Head}
-use Rattle.proof_log.specs.declared.head.Head.TheVariants.{Plain, Sorted}
+use Rattle.proof_log.specs.declared.head.Head.TheVariants.{Plain, Named, Sorted}
 use Rattle.rail_alike.specs.Tests.{neighbors}
 use Rattle.rail_base.specs.declared.plan.Command.{Command}
 use Rattle.rail_base.specs.declared.route.Route.{Route}
@@ -79,6 +79,7 @@ front values (x ∷ xs) ys h =
 
 named_hold : (head : Head) (d : Station) (n : ℕ) (values : ℕ → Bool) → list_all (clause_holds values) (sorted_base d (routes_of d) n) ≡ true → list_all (clause_holds values) (clauses_under head d n) ≡ true
 named_hold Plain d n values h = front values (base_clauses d (routes_of d) n) (turn_clauses d (routes_of d) n (neighbors d)) h
+named_hold (Named version steps) d n values h = front values (base_clauses d (routes_of d) n) (turn_clauses d (routes_of d) n (neighbors d)) h
 named_hold (Sorted version steps) d n values h = h
 
 pub denied_infeasible : (d : Station) → IsAdmitted d → (head : Head) (n k : ℕ) → 1 ≤ n → Denies (refuted d n) (variable_count d (routes_of d) n) n (all_live (clauses_under head d n)) k → IsInfeasible d k
@@ -99,6 +100,11 @@ under_so d admitted head n k bytes some e =
 by_so : (d : Station) → IsAdmitted d → (n k : ℕ) (bytes : List ℕ) → 1 ≤ n → (head : Option Head) → judged_by d n bytes head ≡ Yes k → (k ≤ n) × IsInfeasible d k
 by_so d admitted n k bytes some None e = under_so d admitted Plain n k bytes some e
 by_so d admitted n k bytes some (Some Plain) e = under_so d admitted Plain n k bytes some e
+by_so d admitted n k bytes some (Some (Named version steps)) e = go (not (version == d.version && steps == n)) e
+  where
+    go : (differs : Bool) → (if differs then No 1 HeadDiffers else judged_under (Named version steps) d n bytes) ≡ Yes k → (k ≤ n) × IsInfeasible d k
+    go true e = absurd (cc)
+    go false e = under_so d admitted (Named version steps) n k bytes some e
 by_so d admitted n k bytes some (Some (Sorted version steps)) e = go (not (version == d.version && steps == n)) (is_some (past_limit 4000000 0 (clauses_under (Sorted version steps) d n))) e
   where
     go : (differs large : Bool) → (if differs then No 1 HeadDiffers else if large then No 1 BaseTooLarge else judged_under (Sorted version steps) d n bytes) ≡ Yes k → (k ≤ n) × IsInfeasible d k

@@ -1,5 +1,5 @@
 -- What a file shows under a head, by parts that were made of the design.
-use Rattle.std.proofs.Common.{◌≡◌, ℕ, true, not, ◌&&◌, ◌==◌, if◌then◌else◌, is_some, List, ◌++◌, Option, None, Some, Result, IfOk, sym, ap, ◌∙◌, subst}
+use Rattle.std.proofs.Common.{◌≡◌, ℕ, true, false, not, ◌&&◌, ◌==◌, if◌then◌else◌, is_some, List, ◌++◌, Option, None, Some, Result, IfOk, sym, ap, ◌∙◌, subst}
 use Rattle.std.proofs.lemmas.List.{map-append}
 use Rattle.alike_clauses.specs.Sorted.{sorted_base}
 use Rattle.log_checker.specs.declared.shown.Shown.{Shown}
@@ -13,7 +13,7 @@ use Rattle.plan_encoding.specs.declared.sorted.SortedBase.{SortedBase}
 use Rattle.alike_clauses.specs.Turns.{turn_clauses}
 use Rattle.rail_alike.specs.Tests.{neighbors}
 use Rattle.proof_log.specs.declared.head.Head.{Head}
-use Rattle.proof_log.specs.declared.head.Head.TheVariants.{Sorted}
+use Rattle.proof_log.specs.declared.head.Head.TheVariants.{Named, Sorted}
 use Rattle.rail_base.specs.declared.route.Route.{Route}
 use Rattle.rail_base.specs.declared.station.Station.{Station}
 use Rattle.rail_spec.specs.Track.{routes_of}
@@ -30,24 +30,38 @@ module _ {E : Type 0} (d : Station) (n : ℕ) (bytes : List ℕ) (r : Result Sho
       (subst (λ (z : Store). IfOk r (λ shown. shown ≡ log_verdict head (refuted d steps) vars steps z bytes)) c h))
 
   -- under a head that names the design and the steps
-  pub under_named : (version named steps : ℕ) → steps ≡ n → (version == d.version) ≡ true → (named == n) ≡ true → past_limit 4000000 0 (sorted_base d (routes_of d) n) ≡ None
+  pub under_named : (version named : ℕ) → (version == d.version && named == n) ≡ true
+      → IfOk r (λ shown. shown ≡ judged_under (Named version named) d n bytes) → IfOk r (λ shown. shown ≡ judged_by d n bytes (Some (Named version named)))
+  under_named version named names h =
+      let same : judged_by d n bytes (Some (Named version named)) ≡ judged_under (Named version named) d n bytes =
+      ap (λ b. if not b then No 1 HeadDiffers else judged_under (Named version named) d n bytes) names in
+      subst (λ z. IfOk r (λ shown. shown ≡ z)) (sym same) h
+
+  pub under_sorted : (version named steps : ℕ) → steps ≡ n → (version == d.version && named == n) ≡ true → past_limit 4000000 0 (sorted_base d (routes_of d) n) ≡ None
       → IfOk r (λ shown. shown ≡ judged_under (Sorted version named) d steps bytes) → IfOk r (λ shown. shown ≡ judged_by d n bytes (Some (Sorted version named)))
-  under_named version named steps s v m fits h =
+  under_sorted version named steps s names fits h =
       let same : judged_by d n bytes (Some (Sorted version named)) ≡ judged_under (Sorted version named) d n bytes =
-      ap (λ b. if not (b && named == n) then No 1 HeadDiffers else if is_some (past_limit 4000000 0 (sorted_base d (routes_of d) n)) then No 1 BaseTooLarge else judged_under (Sorted version named) d n bytes) v
-      ∙ (ap (λ b. if not b then No 1 HeadDiffers else if is_some (past_limit 4000000 0 (sorted_base d (routes_of d) n)) then No 1 BaseTooLarge else judged_under (Sorted version named) d n bytes) m
-      ∙ ap (λ o. if is_some o then No 1 BaseTooLarge else judged_under (Sorted version named) d n bytes) fits) in
+      ap (λ b. if not b then No 1 HeadDiffers else if is_some (past_limit 4000000 0 (sorted_base d (routes_of d) n)) then No 1 BaseTooLarge else judged_under (Sorted version named) d n bytes) names
+      ∙ ap (λ o. if is_some o then No 1 BaseTooLarge else judged_under (Sorted version named) d n bytes) fits in
       subst (λ z. IfOk r (λ shown. shown ≡ z)) (sym same) (subst (λ k. IfOk r (λ shown. shown ≡ judged_under (Sorted version named) d k bytes)) s h)
 
   pub by_head : (head found : Option Head) → head ≡ found → IfOk r (λ shown. shown ≡ judged_by d n bytes found) → IfOk r (λ shown. shown ≡ judged_by d n bytes head)
   by_head head found e h = subst (λ o. IfOk r (λ shown. shown ≡ judged_by d n bytes o)) (sym e) h
 
+-- a head that names another question
+pub named_differs : (d : Station) (n : ℕ) (bytes : List ℕ) (version named : ℕ) → (version == d.version && named == n) ≡ false → No 1 HeadDiffers ≡ judged_by d n bytes (Some (Named version named))
+named_differs d n bytes version named other =
+    sym (ap (λ b. if not b then No 1 HeadDiffers else judged_under (Named version named) d n bytes) other)
+
+pub sorted_differs : (d : Station) (n : ℕ) (bytes : List ℕ) (version named : ℕ) → (version == d.version && named == n) ≡ false → No 1 HeadDiffers ≡ judged_by d n bytes (Some (Sorted version named))
+sorted_differs d n bytes version named other =
+    sym (ap (λ b. if not b then No 1 HeadDiffers else if is_some (past_limit 4000000 0 (sorted_base d (routes_of d) n)) then No 1 BaseTooLarge else judged_under (Sorted version named) d n bytes) other)
+
 -- too many clauses
-pub too_large : (d : Station) (n : ℕ) (bytes : List ℕ) (version named k : ℕ) → (version == d.version) ≡ true → (named == n) ≡ true → past_limit 4000000 0 (sorted_base d (routes_of d) n) ≡ Some k → No 1 BaseTooLarge ≡ judged_by d n bytes (Some (Sorted version named))
-too_large d n bytes version named k v m large =
-    sym (ap (λ b. if not (b && named == n) then No 1 HeadDiffers else if is_some (past_limit 4000000 0 (sorted_base d (routes_of d) n)) then No 1 BaseTooLarge else judged_under (Sorted version named) d n bytes) v
-    ∙ (ap (λ b. if not b then No 1 HeadDiffers else if is_some (past_limit 4000000 0 (sorted_base d (routes_of d) n)) then No 1 BaseTooLarge else judged_under (Sorted version named) d n bytes) m
-    ∙ ap (λ o. if is_some o then No 1 BaseTooLarge else judged_under (Sorted version named) d n bytes) large))
+pub too_large : (d : Station) (n : ℕ) (bytes : List ℕ) (version named k : ℕ) → (version == d.version && named == n) ≡ true → past_limit 4000000 0 (sorted_base d (routes_of d) n) ≡ Some k → No 1 BaseTooLarge ≡ judged_by d n bytes (Some (Sorted version named))
+too_large d n bytes version named k names large =
+    sym (ap (λ b. if not b then No 1 HeadDiffers else if is_some (past_limit 4000000 0 (sorted_base d (routes_of d) n)) then No 1 BaseTooLarge else judged_under (Sorted version named) d n bytes) names
+    ∙ ap (λ o. if is_some o then No 1 BaseTooLarge else judged_under (Sorted version named) d n bytes) large)
 
 -- the clauses of a base, and then those that trains come in turn
 pub sorted_store : (d : Station) (s : SortedBase) → IsSortedBaseOf d (routes_of d) s.base.steps s → s.base.clauses ++ s.turns ≡ all_live (sorted_base d (routes_of d) s.base.steps)

@@ -12,7 +12,7 @@ use Rattle.log_checker.specs.Verdict.{head_in, log_verdict}
 use Rattle.plan_clauses.specs.Clauses.{base_clauses, past_limit}
 use Rattle.plan_clauses.specs.Variables.{variable_count}
 use Rattle.proof_log.specs.declared.head.Head.{Head}
-use Rattle.proof_log.specs.declared.head.Head.TheVariants.{Plain, Sorted}
+use Rattle.proof_log.specs.declared.head.Head.TheVariants.{Plain, Named, Sorted}
 use Rattle.rail_base.specs.declared.station.Station.{Station}
 use Rattle.rail_base.specs.Admitted.{IsAdmitted}
 use Rattle.rail_bound.specs.declared.Evidence.{Evidence}
@@ -43,6 +43,7 @@ refuted d n (evidence.Bound b) = unless of.Bound (bound.fault_of d (routes_of d)
 -- the clauses that a head names: those that each plan of at most n steps makes true, or each in which trains come in turn
 abbrev pub clauses_under : Head → Station → ℕ → List (List Lit)
 clauses_under Plain d n = base_clauses d (routes_of d) n
+clauses_under (Named version steps) d n = base_clauses d (routes_of d) n
 clauses_under (Sorted version steps) d n = sorted_base d (routes_of d) n
 
 -- what the bytes show of the clauses that a head names, and of those of valid cones and bounds
@@ -51,8 +52,11 @@ judged_under head d n bytes =
     let base = all_live (clauses_under head d n) in
     log_verdict head (refuted d n) (variable_count d (routes_of d) n) n base bytes
 
--- the same, where a head that names a design and a number of steps names these, and its clauses are not too many
+-- the same, where a head that names a version of designs and a number of steps names these, and where its clauses are more than
+-- those of the base, they are not too many
 abbrev pub judged_by : Station → ℕ → List ℕ → Option Head → Shown
+judged_by d n bytes (Some (Named version steps)) =
+    if not (version == d.version && steps == n) then No 1 HeadDiffers else judged_under (Named version steps) d n bytes
 judged_by d n bytes (Some (Sorted version steps)) =
     if not (version == d.version && steps == n) then No 1 HeadDiffers
     else if is_some (past_limit 4000000 0 (clauses_under (Sorted version steps) d n)) then No 1 BaseTooLarge

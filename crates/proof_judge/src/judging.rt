@@ -1,16 +1,17 @@
 //! A proof file judged over the clauses of a design.
 
-ghost use Rattle.std.specs.Prelude.{◌≡◌, ℕ, ◌++◌, List, IfOk, OnOk, Ok, Some};
+ghost use Rattle.std.specs.Prelude.{◌≡◌, ℕ, ◌==◌, ◌&&◌, ◌++◌, List, IfOk, OnOk, Ok, Some};
 ghost use Rattle.rail_spec.specs.Feasible.{IsInfeasible};
 ghost use Rattle.rail_spec.specs.Track.{routes_of};
 ghost use Rattle.sat_clause.specs.declared.lit.Lit.{Lit};
 ghost use Rattle.log_checker.specs.declared.shown.Shown.TheVariants.{No, Yes};
 ghost use Rattle.log_checker.specs.Verdict.{log_verdict};
+ghost use Rattle.plan_clauses.specs.Clauses.{base_clauses};
 ghost use Rattle.plan_clauses.specs.Variables.{pairs};
 ghost use Rattle.plan_encoding.specs.Bases.{IsBaseOf};
 ghost use Rattle.plan_encoding.specs.Sorted.{IsSortedBaseOf};
-ghost use Rattle.proof_log.specs.declared.head.Head.TheVariants.{Plain, Sorted};
-ghost use Rattle.proof_judge.specs.Judged.{all_live, judged, judged_by, judged_under, refuted};
+ghost use Rattle.proof_log.specs.declared.head.Head.TheVariants.{Plain, Named, Sorted};
+ghost use Rattle.proof_judge.specs.Judged.{all_live, clauses_under, judged, judged_by, judged_under, refuted};
 
 use crate::evidence::ByDesign;
 use cone_design::Contention;
@@ -64,16 +65,26 @@ fn judge_clauses(
     )
 }
 
-/// What the bytes of a file show over the clauses of a base.
-fn judge_plain(
+/// Whether a head that names this version of designs and so many steps names these.
+fn names_question(interlocking: &Interlocking, steps: Steps, version: u32, named: u32) -> bool
+    ensures { result ≡ (version == interlocking.now.design.station.version && named == steps.count) }
+{
+    version == interlocking.design.station.version && named == steps.count
+}
+
+/// What the bytes of a file that is to have this head show over the clauses of a base, which are those that the head names.
+fn judge_base(
     alloc: Global,
     interlocking: &Interlocking,
+    head: Head,
     base: Base,
     bytes: &[u8],
 ) -> Result<Shown, AllocError>
     requires base { let d = interlocking.now.design.station in IsBaseOf d (routes_of d) base.steps base }
+    requires plain { let d = interlocking.now.design.station in
+        clauses_under head d base.steps ≡ base_clauses d (routes_of d) base.steps }
     ensures { IfOk result (λ shown. shown
-        ≡ judged_under Plain interlocking.now.design.station base.steps bytes.now) }
+        ≡ judged_under head interlocking.now.design.station base.steps bytes.now) }
 {
     let vars = base.counts().vars;
     let steps = base.steps();
@@ -85,7 +96,7 @@ fn judge_plain(
     judge_clauses(
         alloc,
         &ByDesign { contention, steps },
-        Head::Plain,
+        head,
         vars,
         clauses,
         bytes,
@@ -94,7 +105,7 @@ fn judge_plain(
 
 /// What the bytes of a file show that names this version of designs and so many steps, over the clauses of a base and those of
 /// trains that come in turn.
-fn judge_sorted(
+fn judge_turns(
     alloc: Global,
     interlocking: &Interlocking,
     version: u32,
@@ -129,8 +140,31 @@ fn judge_sorted(
     )
 }
 
-/// What the bytes of a file show whose head names this version of designs and so many steps.
+/// What the bytes of a file show over a base, whose head names the base, this version of designs and so many steps.
 fn judge_named(
+    alloc: Global,
+    interlocking: &Interlocking,
+    base: Base,
+    version: u32,
+    named: u32,
+    bytes: &[u8],
+) -> Result<Shown, AllocError>
+    requires base { let d = interlocking.now.design.station in IsBaseOf d (routes_of d) base.steps base }
+    ensures { IfOk result (λ shown. shown
+        ≡ judged_by interlocking.now.design.station base.steps bytes.now (Some (Named version named))) }
+{
+    if !names_question(interlocking, base.steps(), version, named) {
+        return Ok(bad_head(Reason::HeadDiffers));
+    }
+    let head = Head::Named {
+        version,
+        steps: named,
+    };
+    judge_base(alloc, interlocking, head, base, bytes)
+}
+
+/// What the bytes of a file show whose head names the base of trains that come in turn, this version of designs and so many steps.
+fn judge_sorted(
     alloc: Global,
     interlocking: &Interlocking,
     steps: Steps,
@@ -141,11 +175,11 @@ fn judge_named(
     ensures { IfOk result (λ shown. shown
         ≡ judged_by interlocking.now.design.station steps.count bytes.now (Some (Sorted version named))) }
 {
-    if version != interlocking.design.station.version || named != steps.count {
+    if !names_question(interlocking, steps, version, named) {
         return Ok(bad_head(Reason::HeadDiffers));
     }
     match sorted_base(alloc, interlocking, steps) {
-        Ok(sorted) => judge_sorted(alloc, interlocking, version, named, sorted, bytes),
+        Ok(sorted) => judge_turns(alloc, interlocking, version, named, sorted, bytes),
         Err(BaseFault::TooLarge { .. }) => Ok(bad_head(Reason::BaseTooLarge)),
         Err(BaseFault::Memory) => Err(AllocError),
     }
@@ -171,8 +205,14 @@ pub fn judge(
                 version,
                 steps: named,
             },
-        ) => judge_named(alloc, interlocking, steps, version, named, bytes),
-        Some(Head::Plain) => judge_plain(alloc, interlocking, base, bytes),
-        None => judge_plain(alloc, interlocking, base, bytes),
+        ) => judge_sorted(alloc, interlocking, steps, version, named, bytes),
+        Some(
+            Head::Named {
+                version,
+                steps: named,
+            },
+        ) => judge_named(alloc, interlocking, base, version, named, bytes),
+        Some(Head::Plain) => judge_base(alloc, interlocking, Head::Plain, base, bytes),
+        None => judge_base(alloc, interlocking, Head::Plain, base, bytes),
     }
 }

@@ -3,14 +3,15 @@ use Rattle.std.specs.Prelude.{ℕ, Bool, true, ◌&&◌, List, [], ◌∷◌, Op
 use Rattle.std.specs.List.{join_with_byte}
 use Rattle.std.specs.Str.{bytes_eq}
 use Rattle.proof_log.specs.declared.head.Head.{Head}
-use Rattle.proof_log.specs.declared.head.Head.TheVariants.{Plain, Sorted}
+use Rattle.proof_log.specs.declared.head.Head.TheVariants.{Plain, Named, Sorted}
 use Rattle.proof_log.specs.Words.{words_of, is_small}
 use Rattle.proof_log.specs.Parts.{made, two_numbers}
 use Rattle.proof_log.specs.Lines.{if_all}
 
--- `rcvlog` and the version of the file; where trains are sorted, also that of the design, and the number of steps
+-- `rcvlog` and the version of the file; but for the plain head also the version of the design, and the number of steps
 abbrev pub head_words : Head → List (List ℕ)
 head_words Plain = codes "rcvlog" ∷ codes "1" ∷ []
+head_words (Named version steps) = codes "rcvlog" ∷ codes "2" ∷ decimal version ∷ decimal steps ∷ []
 head_words (Sorted version steps) = codes "rcvlog" ∷ codes "4" ∷ decimal version ∷ decimal steps ∷ []
 
 -- the words, with a space between each and the next
@@ -20,9 +21,13 @@ head_text h = join_with_byte 32 (head_words h)
 -- no number is too great
 abbrev pub keeps_head : Head → Bool
 keeps_head Plain = true
+keeps_head (Named version steps) = is_small version && is_small steps
 keeps_head (Sorted version steps) = is_small version && is_small steps
 
--- the head by the two numbers
+-- the heads by the two numbers
+abbrev pub named_by : ℕ × ℕ → Head
+named_by numbers = Named numbers.0 numbers.1
+
 abbrev pub sorted_by : ℕ × ℕ → Head
 sorted_by numbers = Sorted numbers.0 numbers.1
 
@@ -30,6 +35,7 @@ sorted_by numbers = Sorted numbers.0 numbers.1
 abbrev pub head_of_version : List ℕ → List (List ℕ) → Option Head
 head_of_version version words =
     if bytes_eq version (codes "1") then if_all (Some (Plain, words))
+    else if bytes_eq version (codes "2") then if_all (made named_by (two_numbers words))
     else if bytes_eq version (codes "4") then if_all (made sorted_by (two_numbers words))
     else None
 

@@ -1,10 +1,11 @@
 //! The first line of a proof file.
 
-ghost use Rattle.std.specs.Prelude.{◌≡◌, IfOk};
+ghost use Rattle.std.specs.Prelude.{◌≡◌, ◌++◌, ◌∷◌, [], IfOk, decimal};
 ghost use Rattle.proof_log.specs.Parts.{made, two_numbers};
 ghost use Rattle.proof_log.specs.Lines.{if_all};
-ghost use Rattle.proof_log.specs.Heads.{head_of, head_after, head_of_version, sorted_by, head_text};
+ghost use Rattle.proof_log.specs.Heads.{head_of, head_after, head_of_version, named_by, sorted_by, head_text};
 ghost use Rattle.proof_log.specs.Reading.{words_left};
+ghost use Rattle.proof_log.specs.Writing.{spaced};
 
 use crate::cone_text::put_two;
 use crate::parts::two_numbers;
@@ -16,6 +17,8 @@ use std::alloc::{AllocError, Global};
 pub enum Head {
     /// They are those of the base.
     Plain,
+    /// They are those of the base, for designs of this version and plans of so many steps.
+    Named { version: u32, steps: u32 },
     /// They are those of the base and of trains that come in turn, for designs of this version and plans of so many
     /// steps. Bounds may stand in the file.
     Sorted { version: u32, steps: u32 },
@@ -32,6 +35,14 @@ fn whole(head: Head, after: Option<&[u8]>) -> Option<Head>
     Some(head)
 }
 
+/// The head of a base, by the version of the design and the number of steps.
+fn named(text: Option<&[u8]>) -> Option<Head>
+    ensures { result ≡ if_all (made named_by (two_numbers (words_left text.entry))) }
+{
+    let ((version, steps), after) = two_numbers(text)?;
+    whole(Head::Named { version, steps }, after)
+}
+
 /// The head of sorted trains, by the version of the design and the number of steps.
 fn sorted(text: Option<&[u8]>) -> Option<Head>
     ensures { result ≡ if_all (made sorted_by (two_numbers (words_left text.entry))) }
@@ -46,6 +57,8 @@ fn head_of_version(version: &[u8], text: Option<&[u8]>) -> Option<Head>
 {
     if version == b"1".as_slice() {
         whole(Head::Plain, text)
+    } else if version == b"2".as_slice() {
+        named(text)
     } else if version == b"4".as_slice() {
         sorted(text)
     } else {
@@ -73,16 +86,22 @@ pub fn read_head(bytes: &[u8]) -> Option<Head>
     }
 }
 
+/// The text of a head by its first two words, the version of the design and the number of steps.
+fn write_named(alloc: Global, words: &[u8], version: u32, steps: u32) -> Result<Vec<u8>, AllocError>
+    ensures { IfOk result (λ text. text.items ≡ words.now ++ spaced (decimal version ∷ decimal steps ∷ [])) }
+{
+    let mut text = Vec::from_slice(alloc, words)?;
+    put_two(&mut text, version, steps)?;
+    Ok(text)
+}
+
 /// The text of a head, without an LF.
 pub fn write_head(alloc: Global, head: Head) -> Result<Vec<u8>, AllocError>
     ensures { IfOk result (λ text. text.items ≡ head_text head) }
 {
     match head {
         Head::Plain => Vec::from_slice(alloc, b"rcvlog 1"),
-        Head::Sorted { version, steps } => {
-            let mut text = Vec::from_slice(alloc, b"rcvlog 4")?;
-            put_two(&mut text, version, steps)?;
-            Ok(text)
-        }
+        Head::Named { version, steps } => write_named(alloc, b"rcvlog 2", version, steps),
+        Head::Sorted { version, steps } => write_named(alloc, b"rcvlog 4", version, steps),
     }
 }

@@ -113,8 +113,22 @@ fn other_lines_are_refused(rt: HostRuntime) {
 
 #[test]
 fn heads_are_read_and_written(rt: HostRuntime) -> Result<(), AllocError> {
-    let rows: [(&[u8], Head); 3] = [
+    let rows: [(&[u8], Head); 5] = [
         (b"rcvlog 1", Head::Plain),
+        (
+            b"rcvlog 2 1 12",
+            Head::Named {
+                version: 1,
+                steps: 12,
+            },
+        ),
+        (
+            b"rcvlog 2 4294967295 0",
+            Head::Named {
+                version: 4_294_967_295,
+                steps: 0,
+            },
+        ),
         (
             b"rcvlog 4 1 12",
             Head::Sorted {
@@ -139,12 +153,17 @@ fn heads_are_read_and_written(rt: HostRuntime) -> Result<(), AllocError> {
 
 #[test]
 fn other_heads_are_refused(rt: HostRuntime) {
-    let rows: [&[u8]; 9] = [
+    let rows: [&[u8]; 14] = [
         b"",
         b"rcvlog",
         b"rcvlog 1 ",
         b"rcvlog 1 2",
         b"rcvlog 2",
+        b"rcvlog 2 1",
+        b"rcvlog 2 01 2",
+        b"rcvlog 2 1 2 3",
+        b"rcvlog 2 4294967296 1",
+        b"rcvlog 3 1 2",
         b"rcvlog 4",
         b"rcvlog 4 1",
         b"rcvlog 4 1 4294967296",

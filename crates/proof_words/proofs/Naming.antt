@@ -22,7 +22,7 @@ use Rattle.log_checker.specs.Verdict.{SoFar, after_line, at_first, by_evidence, 
 use Rattle.plan_clauses.specs.Clauses.{past_limit}
 use Rattle.plan_clauses.specs.Variables.{variable_count}
 use Rattle.proof_log.specs.declared.head.Head.{Head}
-use Rattle.proof_log.specs.declared.head.Head.TheVariants.{Plain, Sorted}
+use Rattle.proof_log.specs.declared.head.Head.TheVariants.{Plain, Named, Sorted}
 use Rattle.proof_log.specs.declared.line.Line.{Line}
 use Rattle.proof_log.specs.declared.line.Line.TheVariants.{Derive, Refute, Forget}
 use Rattle.proof_log.specs.Lines.{line_of}
@@ -111,6 +111,11 @@ module _ (d : Station) (n : ℕ) where
   by_named : (bytes : List ℕ) (head : Option Head) (k : ℕ) → judged_by d n bytes head ≡ Yes k → All (IsNamedPiece d) (after_first (pieces bytes))
   by_named bytes None k found = under_named Plain bytes k found
   by_named bytes (Some Plain) k found = under_named Plain bytes k found
+  by_named bytes (Some (Named version steps)) k found = differs (not (version == d.version && steps == n)) found
+    where
+      differs : (b : Bool) → (if b then No 1 HeadDiffers else judged_under (Named version steps) d n bytes) ≡ Yes k → All (IsNamedPiece d) (after_first (pieces bytes))
+      differs true found = absurd (cc)
+      differs false found = under_named (Named version steps) bytes k found
   by_named bytes (Some (Sorted version steps)) k found = differs (not (version == d.version && steps == n)) found
     where
       large : (b : Bool) → (if b then No 1 BaseTooLarge else judged_under (Sorted version steps) d n bytes) ≡ Yes k → All (IsNamedPiece d) (after_first (pieces bytes))

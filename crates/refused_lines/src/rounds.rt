@@ -140,8 +140,12 @@ impl Question<'_> {
 
     /// The clauses of the base, given to a solver whose recorder stops at these calls.
     fn start(&self, stops: &[u64]) -> Result<Search> {
-        let head = write_head(self.alloc, Head::Plain)?;
-        let Ok(text) = Text::new(self.alloc, MOST, head.as_slice()) else {
+        let head = Head::Named {
+            version: self.interlocking.design.station.version,
+            steps: self.base.steps().count,
+        };
+        let line = write_head(self.alloc, head)?;
+        let Ok(text) = Text::new(self.alloc, MOST, line.as_slice()) else {
             bail!("a log has no room for its head");
         };
         let vars = self.base.counts().vars;

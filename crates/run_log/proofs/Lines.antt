@@ -234,6 +234,9 @@ evidence-apart (evidence.Bound b) h = bound-apart b h
 
 pub head-apart : (head : Head) → keeps_head head ≡ true → is_one_line (head_text head) ≡ true
 head-apart heads.Plain h = refl
+head-apart (heads.Named version steps) h =
+    let p = both (is_small version) (is_small steps) h in
+    joined (codes "rcvlog") (codes "2" ∷ decimal version ∷ decimal steps ∷ []) refl (rw (small-apart version p.0, small-apart steps p.1) refl)
 head-apart (heads.Sorted version steps) h =
     let p = both (is_small version) (is_small steps) h in
     joined (codes "rcvlog") (codes "4" ∷ decimal version ∷ decimal steps ∷ []) refl (rw (small-apart version p.0, small-apart steps p.1) refl)

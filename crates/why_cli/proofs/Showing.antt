@@ -5,7 +5,7 @@ use Rattle.infra_reader.specs.Design.{design_of}
 use Rattle.log_checker.specs.Verdict.{head_in}
 use Rattle.proof_judge.specs.Judged.{judged}
 use Rattle.proof_log.specs.declared.head.Head.{Head}
-use Rattle.proof_log.specs.declared.head.Head.TheVariants.{Plain, Sorted}
+use Rattle.proof_log.specs.declared.head.Head.TheVariants.{Plain, Named, Sorted}
 use Rattle.proof_words.specs.Meanings.{file_told}
 use Rattle.rail_base.specs.declared.station.Station.{Station}
 use Rattle.rail_base.proofs.Members.{and_left}
@@ -28,7 +28,7 @@ use Rattle.rail_words.specs.Requests.{Asked, simulate, routes, verify, check, tr
 use Rattle.rail_words.specs.Requests as requests
 use Rattle.rail_words.proofs.Ranges.{requests_in_range}
 use Rattle.why_words.specs.Wanted.{Wanted, IsInRange, two_names, check_words, by_check, or_else, wanted_of}
-use Rattle.why_cli.specs.Answers.{steps_named, steps_in, steps_for, explained_where, proof_by_head, explained, answer_to, answer_of}
+use Rattle.why_cli.specs.Answers.{if_in_range, steps_named, steps_in, steps_for, explained_where, proof_by_head, explained, answer_to, answer_of}
 use Rattle.why_cli.specs.Shows.{Explains, TellsWhy, IsUnrefused}
 use Rattle.why_cli.proofs.Checking.{heads_name_steps, status_as_check, passes}
 
@@ -66,14 +66,18 @@ wanted_in_range words w e =
 
 -- ---- steps that the head names
 
-some_named : (head : Option Head) (n : ℕ) → steps_named head ≡ Some n → 1 ≤ n
-some_named None n e = absurd (cc)
-some_named (Some Plain) n e = absurd (cc)
-some_named (Some (Sorted version k)) n e = go (nat_le 1 k && nat_le k 64) refl e
+some_in_range : (k n : ℕ) → if_in_range k ≡ Some n → 1 ≤ n
+some_in_range k n e = go (nat_le 1 k && nat_le k 64) refl e
   where
     go : (within : Bool) → nat_le 1 k && nat_le k 64 ≡ within → (if within then Some k else None) ≡ Some n → 1 ≤ n
     go true is e = let same : k ≡ n = cc in subst (λ (m : ℕ). 1 ≤ m) same (leb-true 1 k (and_left (nat_le 1 k) (nat_le k 64) is))
     go false is e = absurd (cc)
+
+some_named : (head : Option Head) (n : ℕ) → steps_named head ≡ Some n → 1 ≤ n
+some_named None n e = absurd (cc)
+some_named (Some Plain) n e = absurd (cc)
+some_named (Some (Named version k)) n e = some_in_range k n e
+some_named (Some (Sorted version k)) n e = some_in_range k n e
 
 -- the head names so many
 record Names (bytes : List ℕ) : Type 0 where

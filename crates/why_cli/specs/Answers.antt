@@ -6,7 +6,7 @@ use Rattle.log_checker.specs.declared.shown.Shown.{Shown}
 use Rattle.log_checker.specs.Verdict.{head_in}
 use Rattle.plan_exclusion.specs.declared.method.Method.TheVariants.{Cones}
 use Rattle.proof_log.specs.declared.head.Head.{Head}
-use Rattle.proof_log.specs.declared.head.Head.TheVariants.{Plain, Sorted}
+use Rattle.proof_log.specs.declared.head.Head.TheVariants.{Plain, Named, Sorted}
 use Rattle.proof_words.specs.Explained.{explained_of}
 use Rattle.rail_base.specs.declared.station.Station.{Station}
 use Rattle.rail_cli.specs.declared.status.Status.TheVariants.{Done, Usage}
@@ -42,11 +42,16 @@ text_explained n d text = unless_refused (with_clauses Cones n d) (λ same. expl
 
 -- ---- how many steps
 
+-- a number of steps, where it is from 1 to 64
+abbrev pub if_in_range : ℕ → Option ℕ
+if_in_range n = if nat_le 1 n && nat_le n 64 then Some n else None
+
 -- the number of steps that a head names, from 1 to 64
 abbrev pub steps_named : Option Head → Option ℕ
 steps_named None = None
 steps_named (Some Plain) = None
-steps_named (Some (Sorted version n)) = if nat_le 1 n && nat_le n 64 then Some n else None
+steps_named (Some (Named version n)) = if_in_range n
+steps_named (Some (Sorted version n)) = if_in_range n
 
 -- that which the head of the proof names
 abbrev pub steps_in : List ℕ → Option ℕ

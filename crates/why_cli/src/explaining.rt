@@ -9,8 +9,9 @@ ghost use Rattle.plan_encoding.specs.Bases.{IsBaseOf};
 ghost use Rattle.rail_cli.specs.Replies.{Replies, Tells};
 ghost use Rattle.why_words.specs.Wanted.{IsInRange};
 ghost use Rattle.why_words.specs.Words.{wanted_by};
-ghost use Rattle.why_cli.specs.Answers.{answer_to, asks_to, explained_against, explained_where, steps_in, steps_named};
-ghost use Rattle.why_cli.specs.Answers.{proof_by_head, proof_explained, proof_for, text_explained, usage, usage_line};
+ghost use Rattle.why_cli.specs.Answers.{answer_to, asks_to, explained_against, explained_where, if_in_range, steps_in};
+ghost use Rattle.why_cli.specs.Answers.{proof_by_head, proof_explained, proof_for, steps_named, text_explained, usage};
+ghost use Rattle.why_cli.specs.Answers.{usage_line};
 ghost use Rattle.why_cli.specs.Replies.{RepliesSome};
 
 use interlocking::{Interlocking, Steps};
@@ -75,6 +76,18 @@ fn proof_explained<S: Shelf>(
     Ok(reply)
 }
 
+/// A number of steps, where it is from 1 to 64.
+fn if_in_range(steps: u32) -> Option<u32>
+    ensures value { result ≡ if_in_range steps }
+    ensures range { IsInRange result }
+{
+    if 1 <= steps && steps <= 64 {
+        Some(steps)
+    } else {
+        None
+    }
+}
+
 /// The number of steps that a head names, from 1 to 64.
 fn steps_named(head: Option<Head>) -> Option<u32>
     ensures value { result ≡ steps_named head }
@@ -83,13 +96,8 @@ fn steps_named(head: Option<Head>) -> Option<u32>
     match head {
         None => None,
         Some(Head::Plain) => None,
-        Some(Head::Sorted { steps, .. }) => {
-            if 1 <= steps && steps <= 64 {
-                Some(steps)
-            } else {
-                None
-            }
-        }
+        Some(Head::Named { steps, .. }) => if_in_range(steps),
+        Some(Head::Sorted { steps, .. }) => if_in_range(steps),
     }
 }
 

@@ -1,14 +1,29 @@
-use Rattle.std.proofs.Common.{◌++◌, ap, ◌∙◌}
-use Rattle.plan_encoding.specs.declared.numbered.Counts.{Counts}
-use Rattle.proof_log.specs.declared.head.Head.TheVariants.{Sorted}
-use Rattle.rail_spec.specs.Track.{routes_of}
-use Rattle.sat_clause.specs.Clauses.{Store}
-use Rattle.proof_judge.proofs.Under.{under, sorted_store}
+use Rattle.std.proofs.Common.{◌≡◌, None, Some, sym, subst, ◌∙◌}
+use Rattle.alike_clauses.specs.Sorted.{sorted_base}
+use Rattle.plan_clauses.specs.Clauses.{past_limit}
+use Rattle.plan_encoding.specs.declared.draft.BaseFault.{BaseFault}
+use Rattle.plan_encoding.specs.Sorted.{IsSortedRefused}
+use Rattle.proof_judge.proofs.Under.{own_steps, sorted_differs, too_large, under_sorted}
 use Rattle.proof_judge.proofs.judging.judge_sorted.Goals as goal
 
-pub returns : goal.returns
-returns c =
-    let d = c.args.interlocking.now.design.station in
-    under d c.args.sorted.base.steps c.args.bytes.now c.judge_clauses.result (Sorted c.args.version c.args.named) c.steps-steps.result.count c.counts-vars.result.vars _ c.steps-steps.ensures
-    (ap (λ (q : Counts). q.vars) (c.counts-vars.ensures.value d (routes_of d) c.args.sorted.base.steps c.requires.base.base))
-    (c.in_ok-append.ensures ∙ (ap (λ (z : Store). z ++ c.args.sorted.turns) c.into_parts-clauses.ensures.clauses ∙ sorted_store d c.args.sorted c.requires.base)) c.judge_clauses.ensures
+pub judge_turns-requires : goal.judge_turns-requires
+judge_turns-requires c =
+    let i = c.args.interlocking.now in
+    record { base = own_steps i.design.station i.routes c.args.steps.count c.in-Ok.sorted i.table c.in-Ok.ensures.base }
+
+pub returns-then-not-names_question : goal.returns-then-not-names_question
+returns-then-not-names_question c =
+    c.bad_head.ensures ∙ sorted_differs c.args.interlocking.now.design.station c.args.steps.count c.args.bytes.now c.args.version c.args.named (sym c.names_question.ensures ∙ c.if-not-names_question.true)
+
+pub returns-in-Ok : goal.returns-in-Ok
+returns-in-Ok c =
+    let i = c.args.interlocking.now in
+    under_sorted i.design.station c.args.steps.count c.args.bytes.now c.judge_turns.result c.args.version c.args.named c.in-Ok.sorted.base.steps c.in-Ok.ensures.base.base.steps (sym c.names_question.ensures ∙ c.if-not-names_question.false)
+    (subst (λ rs. past_limit 4000000 0 (sorted_base i.design.station rs c.args.steps.count) ≡ None) i.table c.in-Ok.ensures.within) c.judge_turns.ensures
+
+pub returns-in-Err-TooLarge : goal.returns-in-Err-TooLarge
+returns-in-Err-TooLarge c =
+    let i = c.args.interlocking.now in
+    c.bad_head-in-Err-TooLarge.ensures ∙ too_large i.design.station c.args.steps.count c.args.bytes.now c.args.version c.args.named c.in-Err-TooLarge.field-0-0 (sym c.names_question.ensures ∙ c.if-not-names_question.false)
+    (subst (λ rs. past_limit 4000000 0 (sorted_base i.design.station rs c.args.steps.count) ≡ Some c.in-Err-TooLarge.field-0-0) i.table
+    (subst (λ (f : BaseFault). IsSortedRefused i.design.station i.routes c.args.steps.count f) c.in-Err-TooLarge.field-0-is c.in-Err-TooLarge.ensures.fault))
