@@ -42,7 +42,7 @@ class Corpus:
             self.add(path.read_bytes(), plan.read_bytes() if plan.exists() else None)
         for line in (STATIONS / "calls").read_text().splitlines():
             words = line.split()
-            if words[0] == "check" and not words[-1].startswith("NEW/"):
+            if words[:2] == ["rcv", "check"] and not words[-1].startswith("NEW/"):
                 proof = (STATIONS / words[-1]).read_bytes()
                 self.add((STATIONS / words[-2]).read_bytes(), proof=(steps_of(words), proof))
 

@@ -2,7 +2,7 @@
 """Breaks designs, plans, proofs and words of command lines, gives them to every command, and says whether each run keeps to its rules.
 
 The files are those of `stations` and of the worked examples. Each run has to end by itself within the time, with a status of the table
-in README.md and a text of that status by whole lines; nothing stands on standard error; and nothing is stored but a proof, after a
+in docs/COMMANDS.md and a text of that status by whole lines; nothing stands on standard error; and nothing is stored but a proof, after a
 search that ends with status 1, which a check of the same steps accepts. One seed gives the same runs each time, in whatever order they
 are made. The status is 1 where some run breaks a rule. `--case` makes one run again and leaves its files.
 """
