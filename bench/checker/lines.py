@@ -233,7 +233,7 @@ def made_file(chance, text, n):
             text = with_ticks(chance, text, design, words)
     design = check.Design(text)
     line = " ".join(map(str, words)).encode()
-    lines = [b"rcvlog 4 1 %d" % n, line]
+    lines = [b"rcvlog 4 %d %d" % (design.version, n), line]
     base = check.Base(design, n)
     log = check.Log(base, base.clauses + base.turn_clauses())
     try:
