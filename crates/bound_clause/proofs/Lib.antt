@@ -6,6 +6,5 @@ mod Settling
 mod Saying
 mod Ordering
 mod Nothing
-mod Lasting
 mod Fitting
 mod Placing

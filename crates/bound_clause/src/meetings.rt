@@ -2,7 +2,7 @@
 
 ghost use Rattle.std.specs.Prelude.{◌≡◌, [], ◌∷◌, ◌++◌, OnOk};
 ghost use Rattle.rail_base.specs.Members.{In};
-ghost use Rattle.rail_bound.specs.Certificates.{first_of_leg, is_named_place, last_of_leg, routes_of_place};
+ghost use Rattle.rail_bound.specs.Certificates.{first_of_leg, is_named_place, last_of_leg};
 ghost use Rattle.rail_bound.specs.Clauses.{meet_named};
 ghost use Rattle.bound_clause.specs.Said.{said_after, said_between, said_of_meetings, said_of_pair};
 ghost use Rattle.bound_clause.specs.Spoken.{ContendAll, ContendWithAll, numbered, pairs_in};
@@ -10,46 +10,15 @@ ghost use Rattle.bound_clause.specs.Spoken.{ContendAll, ContendWithAll, numbered
 use crate::numbered::NumberedBound;
 use rail_base::plan::Command;
 use rail_base::route::RouteNo;
-use rail_bound::{Leg, Place};
+use rail_bound::{Leg, Place, first_routes, last_routes};
 use sat_clause::Lit;
 use std::alloc::AllocError;
-use std::slice;
-
-/// The routes of a place: the train uses one of them.
-fn routes_of(place: &Place) -> &[RouteNo]
-    ensures { result.now ≡ routes_of_place place.now }
-{
-    match place {
-        Place::Named { route } => slice::from_ref(route),
-        Place::Among { routes, .. } => routes.as_slice(),
-    }
-}
 
 /// Whether a place names its route.
 fn is_named_place(place: &Place) -> bool
     ensures { result ≡ is_named_place place.now }
 {
     matches!(place, Place::Named { .. })
-}
-
-/// The routes of a leg's first place.
-fn first_routes(leg: &Leg) -> &[RouteNo]
-    ensures { result.now ≡ routes_of_place (first_of_leg leg.now) }
-{
-    match leg.places.as_slice().first() {
-        Some(place) => routes_of(place),
-        None => &[],
-    }
-}
-
-/// The routes of a leg's last place.
-fn last_routes(leg: &Leg) -> &[RouteNo]
-    ensures { result.now ≡ routes_of_place (last_of_leg leg.now) }
-{
-    match leg.places.as_slice().last() {
-        Some(place) => routes_of(place),
-        None => &[],
-    }
 }
 
 /// Whether a leg's first place names its route.

@@ -4,25 +4,18 @@ ghost use Rattle.std.specs.Prelude.{◌≡◌, ◌++◌, OnOk, option_map};
 ghost use Rattle.rail_base.specs.Routes.{IsRoute, route_at};
 ghost use Rattle.rail_base.specs.Stations.{IsTrain, first_visit, train_of};
 ghost use Rattle.rail_bound.specs.Certificates.{visit_from};
-ghost use Rattle.rail_spec.specs.Plans.{has_node, starts_in};
+ghost use Rattle.rail_spec.specs.Plans.{starts_in};
 ghost use Rattle.bound_clause.specs.Said.{said_before, said_of_origin, said_of_start, said_of_starts};
 ghost use Rattle.bound_clause.specs.Spoken.{numbered, pairs_in, routes_in, station_of};
 
 use crate::numbered::NumberedBound;
-use rail_base::list::List;
+use interlocking::has_node;
 use rail_base::plan::Command;
 use rail_base::route::{RouteNo, Start, route_at};
-use rail_base::station::{NodeNo, TrainNo};
+use rail_base::station::TrainNo;
 use rail_bound::{Origin, Requirement};
 use sat_clause::Lit;
 use std::alloc::AllocError;
-
-/// Whether a node is one of these.
-fn has_node(nodes: &List<NodeNo>, node: NodeNo) -> bool
-    ensures { result ≡ has_node nodes.now node }
-{
-    nodes.as_slice().iter().any(|other| other.0 == node.0)
-}
 
 impl NumberedBound<'_> {
     /// Whether the route of a command starts at a boundary of its train's first visit.
@@ -36,7 +29,7 @@ impl NumberedBound<'_> {
         let start = route_at(&interlocking.routes, command.route).start;
         let visits = interlocking.design.train(command.train).visits.as_slice();
         match (start, visits.first()) {
-            (Start::Boundary(node), Some(nodes)) => has_node(nodes, node),
+            (Start::Boundary(node), Some(nodes)) => has_node(nodes.as_slice(), node),
             _ => false,
         }
     }

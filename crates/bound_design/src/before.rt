@@ -10,13 +10,11 @@ ghost use Rattle.bound_design.specs.Covered.{comes_before_in, follows_among, fol
 ghost use Rattle.bound_design.specs.Covering.{leads_into as leads};
 ghost use Rattle.bound_design.specs.Named.{leg_fits, place_fits};
 
-use crate::places::routes_of;
 use crate::tracks::{leads_into, open_routes, routes_of_numbers, starts_of};
-use cone_design::goes_on;
-use interlocking::Interlocking;
+use interlocking::{Interlocking, goes_on};
 use number_sets::NumberSet;
 use rail_base::route::{Finish, Route, RouteNo, Start};
-use rail_bound::{Leg, Place};
+use rail_bound::{Leg, Place, routes_of};
 use std::alloc::{AllocError, Global};
 
 /// Whether a route starts at a boundary.

@@ -12,7 +12,6 @@ ghost use Rattle.bound_design.specs.Covered.{begins_at, is_made_where_it_exits, 
 ghost use Rattle.bound_design.specs.Named.{leg_fits, place_fits, requirement_fits};
 
 use crate::before::is_first;
-use crate::places::routes_of;
 use crate::reaching::first_place;
 use crate::requirement::first_visit;
 use crate::tracks::{open_routes, routes_of_numbers};
@@ -20,7 +19,7 @@ use crate::visit::{Visit, visit_of};
 use interlocking::Interlocking;
 use rail_base::route::Route;
 use rail_base::station::{NodeNo, TrainNo};
-use rail_bound::{Bound, Leg, Origin, Place};
+use rail_bound::{Bound, Leg, Origin, Place, routes_of};
 use std::alloc::{AllocError, Global};
 
 /// How far from a route's start, in mm, the first of these nodes is in the visit's set, or 0 where none is.

@@ -6,8 +6,7 @@ ghost use Rattle.rail_base.specs.declared.route.Route.{Route};
 ghost use Rattle.rail_bound.specs.Validity.{are_few_choices as few_choices, choices as many_choices};
 ghost use Rattle.bound_design.specs.Named.{few_choices_before};
 
-use crate::places::{first_routes, routes_of};
-use rail_bound::{Leg, Place};
+use rail_bound::{Leg, Place, first_routes, routes_of};
 
 /// Of a leg with more choices nothing is shown.
 const MOST_CHOICES: usize = 4096;

@@ -2,14 +2,13 @@
 
 ghost use Rattle.std.specs.Prelude.{◌≡◌, nat_le};
 ghost use Rattle.std.specs.List.{list_all};
-ghost use Rattle.rail_bound.specs.Validity.{first_leg, last_leg, most_places, places_of};
+ghost use Rattle.rail_bound.specs.Validity.{most_places, places_of};
 ghost use Rattle.bound_design.specs.Named.{leg_fits, place_fits};
 
 use crate::lists::is_empty;
 use crate::places::place_in_design;
 use crate::requirement::is_one_of;
 use interlocking::Interlocking;
-use rail_base::station::TrainNo;
 use rail_bound::{Leg, Place};
 
 /// How many places all legs may have.
@@ -53,24 +52,4 @@ pub(crate) fn are_few_places(legs: &[Leg]) -> bool
         left -= leg.places.len();
     }
     true
-}
-
-/// The train of the first leg; 0 where there is none.
-pub(crate) fn first_train(legs: &[Leg]) -> TrainNo
-    ensures { result ≡ (first_leg legs.now).train }
-{
-    match legs.first() {
-        Some(leg) => leg.train,
-        None => TrainNo(0),
-    }
-}
-
-/// The train of the last leg; 0 where there is none.
-pub(crate) fn last_train(legs: &[Leg]) -> TrainNo
-    ensures { result ≡ (last_leg legs.now).train }
-{
-    match legs.last() {
-        Some(leg) => leg.train,
-        None => TrainNo(0),
-    }
 }

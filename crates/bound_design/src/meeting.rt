@@ -6,12 +6,11 @@ ghost use Rattle.rail_base.specs.Members.{all_neighbors};
 ghost use Rattle.bound_design.specs.Meeting.{is_paired_with, are_paired_where_they_meet};
 ghost use Rattle.bound_design.specs.Named.{contend_where_they_meet_in, leg_fits};
 
-use crate::places::{first_routes, last_routes};
 use cone_design::{Contention, SortedPairs};
 use rail_base::plan::Command;
 use rail_base::route::RouteNo;
 use rail_base::station::TrainNo;
-use rail_bound::Leg;
+use rail_bound::{Leg, first_routes, last_routes};
 
 /// Whether a command and each that gives the train one of the routes are one of the pairs.
 fn is_paired_with(pairs: &SortedPairs, command: Command, train: TrainNo, routes: &[RouteNo]) -> bool

@@ -4,11 +4,10 @@ ghost use Rattle.std.specs.Prelude.{◌≡◌, true, IfOk, Some};
 ghost use Rattle.bound_design.specs.Named.{origin_fits, visit_said};
 ghost use Rattle.bound_design.specs.Named.{first_visit, requirement_fits};
 
-use crate::legs::first_train;
 use crate::requirement::first_visit;
 use cone_design::{Contention, is_in_design};
 use rail_base::station::TrainNo;
-use rail_bound::{Bound, Origin};
+use rail_bound::{Bound, Origin, first_train};
 use std::alloc::{AllocError, Global};
 
 /// Whether the origin goes with a visit of this train and number.

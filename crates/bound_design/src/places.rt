@@ -1,47 +1,15 @@
-//! The routes of places.
+//! Whether places name routes of a design.
 
 ghost use Rattle.std.specs.Prelude.{◌≡◌, length};
 ghost use Rattle.std.specs.List.{list_all};
 ghost use Rattle.rail_base.specs.Admission.{is_from};
-ghost use Rattle.rail_bound.specs.Certificates.{first_of_leg, last_of_leg, routes_of_place};
 ghost use Rattle.bound_design.specs.Named.{place_fits};
 
 use crate::lists::{are_increasing, is_empty};
 use crate::requirement::is_one_of;
 use interlocking::Interlocking;
 use rail_base::route::{RouteNo, RouteTable};
-use rail_bound::{Leg, Place};
-use std::slice::from_ref;
-
-/// The routes of a place.
-pub(crate) fn routes_of(place: &Place) -> &[RouteNo]
-    ensures { result.now ≡ routes_of_place place.now }
-{
-    match place {
-        Place::Named { route } => from_ref(route),
-        Place::Among { routes, .. } => routes.as_slice(),
-    }
-}
-
-/// The routes of the first place of a leg.
-pub(crate) fn first_routes(leg: &Leg) -> &[RouteNo]
-    ensures { result.now ≡ routes_of_place (first_of_leg leg.now) }
-{
-    match leg.places.as_slice().first() {
-        Some(place) => routes_of(place),
-        None => &[],
-    }
-}
-
-/// The routes of the last place of a leg.
-pub(crate) fn last_routes(leg: &Leg) -> &[RouteNo]
-    ensures { result.now ≡ routes_of_place (last_of_leg leg.now) }
-{
-    match leg.places.as_slice().last() {
-        Some(place) => routes_of(place),
-        None => &[],
-    }
-}
+use rail_bound::Place;
 
 /// Whether all routes are there.
 fn are_routes(table: &RouteTable, routes: &[RouteNo]) -> bool

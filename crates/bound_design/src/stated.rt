@@ -5,7 +5,7 @@ ghost use Rattle.rail_bound.specs.Validity.{names_design};
 ghost use Rattle.bound_design.specs.Named.{is_chain, is_stated, names_fit};
 
 use crate::choices::are_few_choices;
-use crate::legs::{are_few_places, last_train, legs_in_design};
+use crate::legs::{are_few_places, legs_in_design};
 use crate::lists::is_empty;
 use crate::meeting::legs_meet;
 use crate::origin::origin_in_design;
@@ -13,7 +13,7 @@ use crate::requirement;
 use crate::requirement::requirement_in_design;
 use cone_design::Contention;
 use interlocking::Interlocking;
-use rail_bound::Bound;
+use rail_bound::{Bound, last_train};
 use std::alloc::{AllocError, Global};
 
 /// Whether the design has what is required and what the legs name.

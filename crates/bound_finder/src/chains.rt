@@ -4,8 +4,8 @@ use crate::goals::Goal;
 use crate::known::{route, visit_place};
 use crate::links::{Link, Search};
 use crate::paths::Span;
-use bound_ticks::Visit;
 use interlocking::Interlocking;
+use leg_targets::Visit;
 use rail_base::route::RouteNo;
 use std::alloc::{AllocError, Global};
 

@@ -6,7 +6,7 @@ use crate::known::count_trains;
 use crate::links::Search;
 use crate::paths::Span;
 use crate::waits::Wait;
-use bound_ticks::Visit;
+use leg_targets::Visit;
 use rail_base::list::List;
 use rail_base::plan::{Command, Violation};
 use rail_base::route::RouteNo;

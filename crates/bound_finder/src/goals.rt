@@ -2,8 +2,8 @@
 
 use crate::known::is_train;
 use crate::paths::Paths;
-use bound_ticks::Visit;
 use interlocking::Interlocking;
+use leg_targets::Visit;
 use rail_base::plan::{Command, Violation};
 use rail_base::station::{Order, TrainNo, Within};
 use rail_bound::Requirement;

@@ -4,9 +4,8 @@ ghost use Rattle.std.specs.Prelude.{◌≡◌, ◌≤◌, IsTrue, All, length};
 ghost use Rattle.rail_base.specs.Routes.{IsRoute};
 ghost use Rattle.rail_base.specs.Stations.{IsTrain};
 
-use bound_ticks::Visit;
-use cone_design::goes_on;
-use interlocking::Interlocking;
+use interlocking::{Interlocking, goes_on};
+use leg_targets::Visit;
 use rail_base::plan::Command;
 use rail_base::route::{Route, RouteNo, Start};
 use rail_base::station::TrainNo;
@@ -106,7 +105,7 @@ pub(crate) fn release_place(
     next: RouteNo,
 ) -> Option<u64> {
     if is_train(interlocking, train) && is_way(interlocking, way) && is_route(interlocking, next) {
-        Some(bound_ticks::release_place(interlocking, train, way, next))
+        Some(leg_targets::release_place(interlocking, train, way, next))
     } else {
         None
     }
@@ -115,7 +114,7 @@ pub(crate) fn release_place(
 /// Where on the last route of a way a visit can be made at the earliest, in mm from the way's start.
 pub(crate) fn target(interlocking: &Interlocking, visit: Visit, way: &[RouteNo]) -> Option<u64> {
     if is_train(interlocking, visit.train) && is_way(interlocking, way) {
-        Some(bound_ticks::target(interlocking, visit, way))
+        Some(leg_targets::target(interlocking, visit, way))
     } else {
         None
     }
@@ -128,7 +127,7 @@ pub(crate) fn visit_place(
     way: &[RouteNo],
 ) -> Option<u64> {
     if is_train(interlocking, visit.train) && is_way(interlocking, way) {
-        Some(bound_ticks::visit_place(interlocking, visit, way))
+        Some(leg_targets::visit_place(interlocking, visit, way))
     } else {
         None
     }

@@ -3,7 +3,7 @@
 use crate::known::{contend, route};
 use crate::links::Search;
 use crate::paths::Given;
-use bound_ticks::Visit;
+use leg_targets::Visit;
 use rail_base::history::TrainHistory;
 use rail_base::plan::Command;
 use rail_base::station::TrainNo;

@@ -9,7 +9,7 @@ use Rattle.rail_bound.specs.declared.Leg.{Leg}
 use Rattle.rail_bound.specs.Validity.{is_ahead}
 use Rattle.bound_ticks.specs.declared.ahead.Between.{Between}
 use Rattle.bound_ticks.specs.Ahead.{ahead_on, ahead_on_all}
-use Rattle.bound_ticks.specs.Visits.{visit_of}
+use Rattle.leg_targets.specs.Visits.{visit_of}
 use Rattle.bound_ticks.specs.Ways.{ways_by_number}
 use Rattle.bound_ticks.proofs.Longer.{numbered}
 

@@ -14,7 +14,7 @@ use Rattle.rail_bound.specs.Ways.{least_way, ways}
 use Rattle.bound_ticks.specs.Chains.{chain_of, end_ticks, leg_to_release, to_release, to_visit}
 use Rattle.bound_ticks.specs.Ways.{IsLeg, IsPlaceOf, first_routes}
 use Rattle.bound_ticks.proofs.Least.{least_way_most}
-use Rattle.bound_ticks.proofs.Parts.{rest_is}
+use Rattle.leg_targets.proofs.Parts.{rest_is}
 
 -- the routes of a leg's first place
 pub first_place_is : (routes : List Route) (l : Leg) → first_place (ride_of routes l) ≡ map (route_at routes) (routes_of_place (first_of_leg l))

@@ -1,8 +1,5 @@
-pub mod Greatest
 pub mod Adding
 pub mod Longer
-pub mod Reaching
-pub mod Parts
 pub mod Least
 pub mod Chained
 pub mod Aheads

@@ -12,7 +12,7 @@ use Rattle.rail_bound.specs.Rides.{release_place}
 use Rattle.rail_bound.specs.Validity.{is_ahead}
 use Rattle.rail_bound.specs.Ways.{ways}
 use Rattle.bound_ticks.specs.declared.ahead.Between.{Between}
-use Rattle.bound_ticks.specs.Visits.{visit_of}
+use Rattle.leg_targets.specs.Visits.{visit_of}
 
 -- the place is not past where the way has released what any of these routes waits for
 abbrev pub all_past : Interlocking → TrainNo → List RouteNo → ℕ → List RouteNo → Bool

@@ -1,7 +1,6 @@
 -- The legs of a certificate by the numbers of their routes, and the ticks that they take.
 pub mod Ways
 pub mod Looks
-pub mod Visits
 pub mod Chains
 pub mod Ahead
 pub mod Claims

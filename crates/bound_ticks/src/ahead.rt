@@ -4,12 +4,12 @@ ghost use Rattle.std.specs.Prelude.{◌≡◌, ◌≤◌, All, IfOk, length};
 ghost use Rattle.rail_base.specs.Routes.{IsRoute};
 ghost use Rattle.rail_base.specs.Stations.{IsTrain};
 ghost use Rattle.rail_bound.specs.Validity.{are_ahead};
-ghost use Rattle.bound_ticks.specs.Visits.{visit_of};
+ghost use Rattle.leg_targets.specs.Visits.{visit_of};
 ghost use Rattle.bound_ticks.specs.Ways.{IsLeg};
 
-use crate::targets::{Visit, release_place, target, visit_place};
 use crate::ways::{first_routes, ways_of};
 use interlocking::Interlocking;
+use leg_targets::{Visit, release_place, target, visit_place};
 use rail_base::route::RouteNo;
 use rail_base::station::TrainNo;
 use rail_bound::Leg;

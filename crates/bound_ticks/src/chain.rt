@@ -4,13 +4,13 @@ ghost use Rattle.std.specs.Prelude.{◌≡◌, ◌≤◌, ◌+◌, All, IfOk, No
 ghost use Rattle.std.specs.Option.{ForSome};
 ghost use Rattle.rail_base.specs.Stations.{IsTrain};
 ghost use Rattle.bound_ticks.specs.Chains.{chain_of, end_ticks};
-ghost use Rattle.bound_ticks.specs.Visits.{origin_of};
+ghost use Rattle.leg_targets.specs.Visits.{origin_of};
 ghost use Rattle.bound_ticks.specs.Ways.{IsLeg};
 
 use crate::legs::Ride;
-use crate::targets::Visit;
 use crate::ways::first_routes;
 use interlocking::Interlocking;
+use leg_targets::Visit;
 use rail_bound::Leg;
 use std::alloc::{AllocError, Global};
 

@@ -10,12 +10,10 @@ mod legs;
 mod requirement;
 mod shown;
 mod stretches;
-mod targets;
 mod ways;
 
 pub use legs::Ride;
 pub use requirement::{visit_from, visit_to};
 pub use shown::is_shown;
 pub use stretches::{followed, stretches_of};
-pub use targets::{Visit, release_place, target, visit_place};
-pub use ways::{first_routes, routes_of_place};
+pub use ways::first_routes;

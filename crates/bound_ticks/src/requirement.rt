@@ -7,10 +7,10 @@ ghost use Rattle.rail_spec.specs.Requirements.{most_ticks};
 ghost use Rattle.rail_bound.specs.Certificates.{visit_from, visit_to};
 ghost use Rattle.rail_bound.specs.Validity.{is_too_late, is_too_long, requirement_in_design};
 ghost use Rattle.bound_ticks.specs.Claims.{requirement_fits};
-ghost use Rattle.bound_ticks.specs.Visits.{origin_of};
+ghost use Rattle.leg_targets.specs.Visits.{origin_of};
 
-use crate::targets::Visit;
 use interlocking::Interlocking;
+use leg_targets::Visit;
 use rail_base::station::{Order, Station, Within};
 use rail_bound::Requirement;
 

@@ -10,16 +10,16 @@ ghost use Rattle.rail_bound.specs.declared.Origin.TheVariants as origin;
 ghost use Rattle.rail_bound.specs.Validity.{is_too_late, is_too_long, names_design, shown};
 ghost use Rattle.bound_ticks.specs.Claims.{cone_shows_of, from_of, made_at, passes_of, shown_by};
 ghost use Rattle.bound_ticks.specs.Claims.{ticks_between_of, ticks_of, to_of};
-ghost use Rattle.bound_ticks.specs.Visits.{origin_of, visit_of};
+ghost use Rattle.leg_targets.specs.Visits.{origin_of, visit_of};
 
 use crate::ahead::Between;
 use crate::chain::Chain;
 use crate::claim::Claim;
 use crate::requirement::{is_too_late, is_too_long, visit_from, visit_to};
 use crate::stretches::{MOST_LOOKS, followed, stretches_of};
-use crate::targets::Visit;
 use cone_design::Contention;
 use cone_run::visit_shown;
+use leg_targets::Visit;
 use rail_bound::{Bound, Origin};
 use rail_cone::Cone;
 use std::alloc::{AllocError, Global};

@@ -2,25 +2,13 @@
 
 ghost use Rattle.std.specs.Prelude.{◌≡◌, ◌++◌, ◌∷◌, All, IfOk, OnOk, flat_map, length};
 ghost use Rattle.rail_base.specs.Routes.{IsRoute};
-ghost use Rattle.rail_bound.specs.Certificates.{routes_of_place};
 ghost use Rattle.bound_ticks.specs.Ways.{IsPlaceOf, IsWay, first_routes, longer_by, precedes_way, ways_by_number};
 
-use cone_design::goes_on;
+use interlocking::goes_on;
 use rail_base::list::List;
 use rail_base::route::{RouteNo, RouteTable, route_at};
-use rail_bound::{Leg, Place};
+use rail_bound::{Leg, Place, routes_of};
 use std::alloc::{AllocError, Global};
-use std::slice::from_ref;
-
-/// The routes of a place.
-pub fn routes_of_place(place: &Place) -> &[RouteNo]
-    ensures { result.now ≡ routes_of_place place.now }
-{
-    match place {
-        Place::Named { route } => from_ref(route),
-        Place::Among { routes, .. } => routes.as_slice(),
-    }
-}
 
 /// The routes of the first place of the first of some legs.
 pub fn first_routes(legs: &[Leg]) -> &[RouteNo]
@@ -30,7 +18,7 @@ pub fn first_routes(legs: &[Leg]) -> &[RouteNo]
         [] => &[],
         [leg, ..] => match leg.places.as_slice() {
             [] => &[],
-            [place, ..] => routes_of_place(place),
+            [place, ..] => routes_of(place),
         },
     }
 }
@@ -116,7 +104,7 @@ pub(crate) fn ways_of(
         }
         [place, rest @ ..] => {
             let later = ways_of(alloc, routes, rest)?;
-            longer_ways(alloc, routes, routes_of_place(place), &later)
+            longer_ways(alloc, routes, routes_of(place), &later)
         }
     }
 }

@@ -21,7 +21,6 @@ use crate::order::{pairs_in_order, trains_in_order};
 pub use crate::pairs::SortedPairs;
 use crate::trains::{holders_in_paths, pairs_in_design, trains_in_design};
 use crate::violations::violation_in_design;
-pub use crate::ways::goes_on;
 use interlocking::Interlocking;
 use rail_cone::Cone;
 use std::alloc::{AllocError, Global};
@@ -56,6 +55,3 @@ pub fn is_in_design(alloc: Global, contention: &Contention, cone: &Cone) -> Resu
     }
     pairs_in_design(alloc, contention, cone)
 }
-
-#[cfg(test)]
-mod tests;

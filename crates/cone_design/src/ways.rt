@@ -7,17 +7,8 @@ ghost use Rattle.rail_base.specs.Routes.{IsRoute, route_at};
 ghost use Rattle.rail_spec.specs.Plans.{goes_on, is_start};
 ghost use Rattle.rail_cone.specs.Validity.{from_boundary, is_way};
 
-use rail_base::route::{Finish, Route, RouteNo, RouteTable, Start, route_at};
-
-/// Whether a route that starts here goes on where another ends: at a signal.
-pub fn goes_on(finish: Finish, start: Start) -> bool
-    ensures { result ≡ goes_on finish start }
-{
-    match (finish, start) {
-        (Finish::Signal(end), Start::Signal(begin)) => end == begin,
-        _ => false,
-    }
-}
+use interlocking::goes_on;
+use rail_base::route::{Route, RouteNo, RouteTable, Start, route_at};
 
 /// Whether the first route starts at a boundary.
 fn is_from_boundary(routes: &RouteTable, path: &[RouteNo]) -> bool

@@ -12,8 +12,8 @@ use Rattle.rail_base.specs.Stations.{horizon, order_of, within_of}
 use Rattle.rail_spec.specs.Requirements.{most_ticks}
 use Rattle.rail_cone.specs.declared.Cone.{Cone}
 use Rattle.rail_cone.specs.declared.ConeTrain.{ConeTrain}
-use Rattle.timetable.specs.Names.{train_name}
-use Rattle.cone_words.specs.Names.{section_name, makes_text, nodes_text}
+use Rattle.rail_base.specs.Names.{section_name, train_name}
+use Rattle.cone_words.specs.Names.{makes_text, nodes_text}
 use Rattle.cone_words.specs.Phrases.{joined, sentence, ticks_text, path_text}
 
 -- what no plan that meets the design has

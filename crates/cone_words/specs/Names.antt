@@ -1,17 +1,12 @@
--- The names by which sections and visits are told.
+-- How visits are told.
 use Rattle.std.specs.Prelude.{ℕ, List, [], ◌++◌, codes, decimal}
 use Rattle.rail_base.specs.declared.station.Station.{Station}
-use Rattle.rail_base.specs.declared.station.SectionNo.{SectionNo}
 use Rattle.rail_base.specs.declared.station.TrainNo.{TrainNo}
 use Rattle.rail_base.specs.Numbering.{entry}
 use Rattle.rail_base.specs.declared.station.NodeNo.{NodeNo}
 use Rattle.rail_base.specs.Stations.{train_of}
-use Rattle.timetable.specs.Names.{train_name, node_name}
+use Rattle.rail_base.specs.Names.{train_name, node_name}
 use Rattle.cone_words.specs.Phrases.{joined}
-
--- the name of a section, empty where there is no such section
-abbrev pub section_name : Station → SectionNo → List ℕ
-section_name d z = entry [] d.sections z.0
 
 -- the nodes of a train's visit
 abbrev pub nodes_of_visit : Station → TrainNo → ℕ → List NodeNo

@@ -7,11 +7,12 @@ ghost use Rattle.rail_base.specs.declared.plan.Violation.TheVariants as violatio
 ghost use Rattle.cone_words.specs.Cones.{followed_text, opening_line, holder_text, train_text, pair_text, parts_told};
 ghost use Rattle.cone_words.specs.Cones.{missed_text, by_horizon_text, failure_text, cone_told};
 
-use crate::names::{order_of, train_name, within_of};
+use crate::entries::{order_of, within_of};
 use crate::phrases::{most_ticks, put_makes, put_nodes, put_path, put_shared, put_ticks};
 use crate::sentences::push_sentence;
 use interlocking::Interlocking;
 use rail_base::design::Design;
+use rail_base::names::train_name;
 use rail_base::plan::{Command, Violation};
 use rail_base::station::TrainNo;
 use rail_cone::{Cone, ConeTrain};

@@ -3,11 +3,11 @@
 #![tactic(auto)]
 
 mod cones;
-mod names;
+mod entries;
 mod phrases;
 mod sentences;
 
 pub use cones::{push_cone, push_opening, push_parts};
-pub use names::{order_of, train_name, within_of};
+pub use entries::{order_of, within_of};
 pub use phrases::{most_ticks, put_any_route, put_makes, put_nodes, put_shared, put_ticks};
 pub use sentences::push_sentence;

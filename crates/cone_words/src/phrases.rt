@@ -3,13 +3,14 @@
 ghost use Rattle.std.specs.Prelude.{◌≡◌, ◌++◌, ◌==◌, codes, decimal, IfOk, OnOk, if◌then◌else◌};
 ghost use Rattle.rail_base.specs.Routes.{route_at, shared};
 ghost use Rattle.rail_spec.specs.Requirements.{most_ticks};
-ghost use Rattle.timetable.specs.Names.{node_name};
-ghost use Rattle.cone_words.specs.Names.{section_name, makes_text, nodes_text};
+ghost use Rattle.rail_base.specs.Names.{node_name, section_name};
+ghost use Rattle.cone_words.specs.Names.{makes_text, nodes_text};
 ghost use Rattle.cone_words.specs.Phrases.{each_after, joined, ticks_text, route_number, any_route_text, path_text};
 ghost use Rattle.cone_words.specs.Cones.{sections_text};
 
-use crate::names::{has_section, node_name, nodes_of_visit, section_name, sections_of, train_name};
+use crate::entries::{has_section, nodes_of_visit, sections_of};
 use rail_base::design::Design;
+use rail_base::names::{node_name, section_name, train_name};
 use rail_base::route::{RouteNo, RouteTable};
 use rail_base::station::{NodeNo, SectionNo, TrainNo, Within};
 use rail_text::put_number;

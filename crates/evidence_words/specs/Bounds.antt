@@ -18,7 +18,7 @@ use Rattle.rail_bound.specs.Certificates.{VisitOf, routes_of_place, kept_out, la
 use Rattle.rail_bound.specs.Validity.{first_leg, followed}
 use Rattle.bound_ticks.specs.Chains.{chain_of, leg_to_release}
 use Rattle.bound_ticks.specs.Ways.{first_routes}
-use Rattle.timetable.specs.Names.{train_name}
+use Rattle.rail_base.specs.Names.{train_name}
 use Rattle.cone_words.specs.Names.{makes_text, nodes_text}
 use Rattle.cone_words.specs.Phrases.{joined, sentence, ticks_text, any_route_text}
 use Rattle.cone_words.specs.Cones.{opening_line, parts_told, sections_text}

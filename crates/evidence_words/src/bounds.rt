@@ -6,7 +6,7 @@ ghost use Rattle.rail_base.specs.Stations.{IsTrain};
 ghost use Rattle.rail_outside.specs.Lines.{lines_of};
 ghost use Rattle.rail_bound.specs.declared.Requirement.TheVariants as requirement;
 ghost use Rattle.rail_bound.specs.Validity.{names_design, followed};
-ghost use Rattle.bound_ticks.specs.Visits.{origin_of, visit_of};
+ghost use Rattle.leg_targets.specs.Visits.{origin_of, visit_of};
 ghost use Rattle.bound_ticks.specs.Ways.{IsLeg};
 ghost use Rattle.bound_ticks.specs.Claims.{requirement_fits};
 ghost use Rattle.rail_base.specs.declared.station.Station.{Station};
@@ -17,13 +17,15 @@ ghost use Rattle.evidence_words.specs.Bounds.{end_tick, first_tick, horizon_text
 ghost use Rattle.evidence_words.specs.Bounds.{made_text, origin_text, origin_tick, passed, since_text, start_text};
 
 use crate::legs::{Chain, put_moment};
-use bound_ticks::{Visit, followed, stretches_of, visit_from, visit_to};
+use bound_ticks::{followed, stretches_of, visit_from, visit_to};
 use cone_words::{
     most_ticks, order_of, push_opening, push_parts, push_sentence, put_makes, put_nodes, put_ticks,
-    train_name, within_of,
+    within_of,
 };
 use interlocking::Interlocking;
+use leg_targets::Visit;
 use rail_base::design::Design;
+use rail_base::names::train_name;
 use rail_base::plan::Command;
 use rail_base::station::TrainNo;
 use rail_bound::{Bound, Leg, Origin, Requirement};

@@ -4,15 +4,17 @@ ghost use Rattle.std.specs.Prelude.{◌≡◌, ◌≤◌, ◌+◌, ◌++◌, All
 ghost use Rattle.std.specs.Option.{ForSome};
 ghost use Rattle.rail_base.specs.Stations.{IsTrain};
 ghost use Rattle.rail_outside.specs.Lines.{lines_of};
-ghost use Rattle.bound_ticks.specs.Visits.{origin_of};
+ghost use Rattle.leg_targets.specs.Visits.{origin_of};
 ghost use Rattle.evidence_words.specs.Bounds.{moment_text};
 
-use crate::places::{first_train, last_routes, leg_text, put_meeting};
-use bound_ticks::{Ride, Visit, first_routes};
-use cone_words::{push_sentence, put_any_route, put_makes, put_ticks, train_name};
+use crate::places::{leg_text, put_meeting};
+use bound_ticks::{Ride, first_routes};
+use cone_words::{push_sentence, put_any_route, put_makes, put_ticks};
 use interlocking::Interlocking;
+use leg_targets::Visit;
 use rail_base::design::Design;
-use rail_bound::Leg;
+use rail_base::names::train_name;
+use rail_bound::{Leg, first_train, last_routes};
 use rail_text::put_number;
 use std::alloc::{AllocError, Global};
 

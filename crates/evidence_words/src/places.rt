@@ -1,18 +1,16 @@
 //! The places of legs, told. An error is want of memory.
 
 ghost use Rattle.std.specs.Prelude.{◌≡◌, ◌++◌, codes, IfOk, OnOk};
-ghost use Rattle.rail_bound.specs.Certificates.{kept_out, last_of_leg, routes_of_place};
-ghost use Rattle.rail_bound.specs.Validity.{first_leg};
+ghost use Rattle.rail_bound.specs.Certificates.{kept_out};
 ghost use Rattle.cone_words.specs.Phrases.{each_after, joined};
 ghost use Rattle.evidence_words.specs.Bounds.{leg_text, meeting_text, only, place_text, unused_text};
 
-use bound_ticks::routes_of_place;
-use cone_words::{put_any_route, put_shared, train_name};
+use cone_words::{put_any_route, put_shared};
 use interlocking::Interlocking;
 use rail_base::design::Design;
+use rail_base::names::train_name;
 use rail_base::route::RouteNo;
-use rail_base::station::TrainNo;
-use rail_bound::{Leg, Place};
+use rail_bound::{Leg, Place, routes_of};
 use std::alloc::{AllocError, Global};
 
 /// The routes that a place keeps out.
@@ -42,7 +40,7 @@ fn put_unused(text: &mut Vec<u8>, routes: &[RouteNo]) -> Result<(), AllocError>
 fn put_place(text: &mut Vec<u8>, place: &Place) -> Result<(), AllocError>
     ensures { OnOk result (text.new.items ≡ text.old.items ++ place_text place.now) }
 {
-    put_any_route(text, routes_of_place(place))?;
+    put_any_route(text, routes_of(place))?;
     put_unused(text, kept_out(place))
 }
 
@@ -78,26 +76,6 @@ pub fn leg_text(alloc: Global, design: &Design, leg: &Leg) -> Result<Vec<u8>, Al
     text.extend_from_slice(b" takes ")?;
     put_places(&mut text, leg.places.as_slice())?;
     Ok(text)
-}
-
-/// The routes of the last place of a leg.
-pub fn last_routes(leg: &Leg) -> &[RouteNo]
-    ensures { result.now ≡ routes_of_place (last_of_leg leg.now) }
-{
-    match leg.places.as_slice().last() {
-        Some(place) => routes_of_place(place),
-        None => &[],
-    }
-}
-
-/// The train of the first of some legs.
-pub fn first_train(legs: &[Leg]) -> TrainNo
-    ensures { result ≡ (first_leg legs.now).train }
-{
-    match legs.first() {
-        Some(leg) => leg.train,
-        None => TrainNo(0),
-    }
 }
 
 /// The one of these routes, if there is just one.

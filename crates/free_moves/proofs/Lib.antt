@@ -2,4 +2,3 @@ pub mod Gaining
 pub mod Stepping
 pub mod Further
 pub mod Least
-pub mod Lined

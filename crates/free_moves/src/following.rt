@@ -9,17 +9,8 @@ ghost use Rattle.rail_cone.specs.Validity.{from_boundary};
 ghost use Rattle.rail_free.specs.Legs.{is_dead};
 ghost use Rattle.rail_course.specs.Tracks.{way};
 
+use interlocking::goes_on;
 use rail_base::route::{Finish, Route, RouteNo, RouteTable, Start, route_at};
-
-/// Whether a route that starts here goes on where another ends: at a signal.
-fn goes_on(finish: Finish, start: Start) -> bool
-    ensures { result ≡ goes_on finish start }
-{
-    match (finish, start) {
-        (Finish::Signal(end), Start::Signal(begin)) => end == begin,
-        _ => false,
-    }
-}
 
 /// Whether two routes start at one place.
 fn is_start(one: Start, other: Start) -> bool

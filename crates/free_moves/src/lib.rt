@@ -13,8 +13,3 @@ mod trips;
 
 pub use following::goes_further;
 pub use ticks::{on_ticks, run_ticks};
-
-#[cfg(test)]
-mod line;
-#[cfg(test)]
-mod tests;

@@ -1,34 +1,14 @@
 //! How routes are related.
 
 ghost use Rattle.std.specs.Prelude.{◌≡◌, ◌≤◌, ◌&&◌, ◌||◌, ◌++◌, ◌∷◌, [], OnOk, cond, length};
-ghost use Rattle.rail_spec.specs.Plans.{end_at_one_signal, goes_on, has_node, is_start, starts_in};
+ghost use Rattle.rail_spec.specs.Plans.{is_start};
 ghost use Rattle.plan_clauses.specs.Clauses.{at_boundary, exclude};
 ghost use Rattle.rail_base.specs.Numbering.{entry};
 
+use interlocking::end_at_one_signal;
 use rail_base::list::List;
-use rail_base::route::{Finish, Route, RouteNo, Start};
-use rail_base::station::NodeNo;
+use rail_base::route::{Route, RouteNo, Start};
 use std::alloc::AllocError;
-
-/// Whether a route that starts here goes on where another ends: at a signal.
-pub fn goes_on(finish: Finish, start: Start) -> bool
-    ensures { result ≡ goes_on finish start }
-{
-    match (finish, start) {
-        (Finish::Signal(end), Start::Signal(begin)) => end == begin,
-        _ => false,
-    }
-}
-
-/// Whether two routes end at one signal.
-fn end_at_one_signal(one: Finish, other: Finish) -> bool
-    ensures { result ≡ end_at_one_signal one other }
-{
-    match (one, other) {
-        (Finish::Signal(one), Finish::Signal(other)) => one == other,
-        _ => false,
-    }
-}
 
 /// Whether two routes start at boundaries, or at one place.
 fn exclude_by_starts(one: Start, other: Start) -> bool
@@ -46,23 +26,6 @@ pub fn exclude(one: &Route, other: &Route) -> bool
     ensures { result ≡ exclude one.now other.now }
 {
     exclude_by_starts(one.start, other.start) || end_at_one_signal(one.finish, other.finish)
-}
-
-/// Whether a node is one of these.
-pub fn has_node(nodes: &List<NodeNo>, node: NodeNo) -> bool
-    ensures { result ≡ has_node nodes.now node }
-{
-    nodes.as_slice().iter().any(|other| other.0 == node.0)
-}
-
-/// Whether a start is a boundary of the set.
-pub fn starts_in(set: &List<NodeNo>, start: Start) -> bool
-    ensures { result ≡ starts_in set.now start }
-{
-    match start {
-        Start::Boundary(node) => has_node(set, node),
-        Start::Signal(_) => false,
-    }
 }
 
 /// Puts a member at the end of a list, where it belongs there.

@@ -9,9 +9,10 @@ ghost use Rattle.plan_encoding.specs.Frames.{station, table};
 ghost use Rattle.plan_encoding.specs.Tables.{exclude_both, exclusions, going_on, leading, rows_by, sharing};
 
 use crate::frame::Frame;
-use crate::links::{exclude, goes_on, push_if};
+use crate::links::{exclude, push_if};
 use crate::network::Network;
 use crate::tables::Tables;
+use interlocking::goes_on;
 use rail_base::list::List;
 use rail_base::route::{RouteNo, Start, route_at};
 use rail_base::station::TrainNo;

@@ -11,8 +11,9 @@ ghost use Rattle.plan_encoding.specs.Tables.{leading};
 
 use crate::draft::{BaseFault, Draft};
 use crate::frame::Frame;
-use crate::links::{has_node, row_of};
+use crate::links::row_of;
 use crate::tables::Tables;
+use interlocking::has_node;
 use rail_base::plan::Command;
 use rail_base::route::{RouteNo, Start, route_at};
 use rail_base::station::{NodeNo, TrainNo};
@@ -91,7 +92,7 @@ impl Frame<'_> {
             .as_slice()
             .first()
         {
-            Some(set) => has_node(set, node),
+            Some(set) => has_node(set.as_slice(), node),
             None => false,
         }
     }

@@ -10,8 +10,9 @@ ghost use Rattle.plan_encoding.specs.Frames.{IsCommand, Lists, Stops, over, stat
 
 use crate::draft::{BaseFault, Draft};
 use crate::frame::Frame;
-use crate::links::{push_if, starts_in};
+use crate::links::push_if;
 use crate::tables::Tables;
+use interlocking::starts_in;
 use rail_base::plan::Command;
 use rail_base::route::{RouteNo, route_at};
 use rail_base::station::TrainNo;
@@ -34,7 +35,7 @@ impl Frame<'_> {
             .as_slice()
             .first()
         {
-            Some(set) => starts_in(set, start),
+            Some(set) => starts_in(set.as_slice(), start),
             None => false,
         }
     }

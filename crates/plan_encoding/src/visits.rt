@@ -12,9 +12,10 @@ ghost use Rattle.plan_encoding.specs.Frames.{Lists, Stops, over, station, table,
 
 use crate::draft::{BaseFault, Draft};
 use crate::frame::Frame;
-use crate::links::{push_if, starts_in};
+use crate::links::push_if;
 use crate::tables::Tables;
 use crate::visit::{Visit, nodes_of};
+use interlocking::starts_in;
 use number_sets::NumberSet;
 use rail_base::list::List;
 use rail_base::plan::Command;
@@ -31,7 +32,7 @@ impl Frame<'_> {
     {
         let route = route_at(&self.interlocking.routes, route);
         if visit.number == 1 {
-            return starts_in(visit.list, route.start);
+            return starts_in(visit.list.as_slice(), route.start);
         }
         leads_to(&visit.set, route)
     }

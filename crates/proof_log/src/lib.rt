@@ -14,8 +14,6 @@ mod origins;
 mod parts;
 mod read;
 mod requirements;
-#[cfg(test)]
-mod tests;
 mod words;
 mod write;
 

@@ -8,6 +8,3 @@ mod pairs;
 
 pub use likeness::are_alike;
 pub use pairs::neighbors;
-
-#[cfg(test)]
-mod tests;

@@ -2,6 +2,7 @@
 pub mod Numbering
 pub mod Members
 pub mod Stations
+pub mod Names
 pub mod Routes
 pub mod Admitted
 pub mod Admission

@@ -6,6 +6,7 @@
 pub mod design;
 pub mod history;
 pub mod list;
+pub mod names;
 pub mod plan;
 pub mod route;
 pub mod state;

@@ -1,3 +1,4 @@
+pub mod Ending
 pub mod Clearing
 pub mod Links
 pub mod Hops

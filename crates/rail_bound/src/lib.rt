@@ -3,7 +3,9 @@
 #![tactic(auto)]
 
 pub mod laws;
+mod legs;
 
+pub use legs::{first_routes, first_train, last_routes, last_train, routes_of};
 use rail_base::list::List;
 use rail_base::plan::Command;
 use rail_base::route::RouteNo;

@@ -3,20 +3,13 @@ use Rattle.std.specs.Prelude.{ℕ, List, ◌++◌, map, codes, decimal, ℤ, nat
 use Rattle.std.specs.List.{enumerate_from, flat_map}
 use Rattle.rail_base.specs.declared.station.Station.{Station}
 use Rattle.rail_base.specs.declared.station.SectionNo.{SectionNo}
-use Rattle.rail_base.specs.declared.station.SignalNo.{SignalNo}
 use Rattle.rail_base.specs.declared.route.Route.{Route}
 use Rattle.rail_base.specs.declared.route.Start.{Start}
 use Rattle.rail_base.specs.declared.route.Start.TheVariants as start
 use Rattle.rail_base.specs.declared.route.Finish.{Finish}
 use Rattle.rail_base.specs.declared.route.Finish.TheVariants as finish
 use Rattle.rail_base.specs.Routes.{length_mm}
-use Rattle.rail_base.specs.Stations.{signal_of}
-use Rattle.timetable.specs.Names.{node_name}
-use Rattle.rail_cli.specs.Texts.{section_name}
-
--- the name of a signal, empty where there is no such signal
-abbrev pub signal_name : Station → SignalNo → List ℕ
-signal_name d s = (signal_of d s).name
+use Rattle.rail_base.specs.Names.{node_name, section_name, signal_name}
 
 -- where a route begins
 abbrev pub start_text : Station → Start → List ℕ

@@ -13,13 +13,12 @@ use Rattle.rail_base.specs.declared.plan.Command.{Command}
 use Rattle.rail_base.specs.declared.station.Station.{Station}
 use Rattle.rail_base.specs.declared.station.SectionNo.{SectionNo}
 use Rattle.rail_base.specs.declared.station.TrainNo.{TrainNo}
-use Rattle.rail_base.specs.Numbering.{entry}
 use Rattle.rail_plan.specs.declared.fault.PlanCode.{PlanCode}
 use Rattle.rail_plan.specs.declared.fault.PlanCode.TheVariants as plan_code
 use Rattle.rail_plan.specs.declared.place.PlanPlace.{PlanPlace}
 use Rattle.rail_plan.specs.declared.place.PlanPlace.TheVariants as plan_place
 use Rattle.rail_spec.specs.Track.{routes_of}
-use Rattle.timetable.specs.Names.{train_name}
+use Rattle.rail_base.specs.Names.{section_name, train_name}
 use Rattle.rail_cli.specs.declared.input.InputFile.{InputFile}
 use Rattle.rail_cli.specs.declared.input.InputFile.TheVariants as file
 
@@ -151,10 +150,6 @@ plan_code_text plan_code.P1 = codes "P1"
 plan_code_text plan_code.P2 = codes "P2"
 plan_code_text plan_code.P3 = codes "P3"
 plan_code_text plan_code.P4 = codes "P4"
-
--- the name of a section, empty where there is no such section
-abbrev pub section_name : Station → SectionNo → List ℕ
-section_name d z = entry [] d.sections z.0
 
 -- `step <i>`
 abbrev pub step_text : ℕ → List ℕ

@@ -8,7 +8,6 @@ mod ending;
 mod input;
 mod laws;
 mod listing;
-mod names;
 mod reading;
 mod refusals;
 mod reply;

@@ -14,12 +14,12 @@ ghost use Rattle.rail_cli.specs.Replies.{RefusesFile, Replies, RepliesSome, Tell
 
 use crate::ending::Ending;
 use crate::input::InputFile;
-use crate::names::{node_name, section_name, signal_name};
 use crate::reading::{admit, fetch};
 use crate::reply::Reply;
 use crate::status::Status;
 use interlocking::Interlocking;
 use rail_base::design::Design;
+use rail_base::names::{node_name, section_name, signal_name};
 use rail_base::route::{Finish, Route, Start};
 use rail_base::station::SectionNo;
 use rail_outside::Shelf;

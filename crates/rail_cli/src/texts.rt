@@ -9,12 +9,12 @@ ghost use Rattle.rail_cli.specs.Texts.{ticks_spent_line, log_spent_line, trial_l
 ghost use Rattle.rail_cli.specs.Texts.{plan_code_text, step_text, train_text, plan_place_text, plan_refused_line};
 
 use crate::input::InputFile;
-use crate::names::{section_name, train_name};
 use design_table::{Code, EntryKind, Place};
 use interlocking::Interlocking;
 use log_checker::Reason;
 use plan_text::writing::write_plan;
 use rail_base::design::Design;
+use rail_base::names::{section_name, train_name};
 use rail_base::plan::Plan;
 use rail_base::station::TrainNo;
 use rail_plan::fault::PlanCode;

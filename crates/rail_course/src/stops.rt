@@ -8,7 +8,7 @@ ghost use Rattle.rail_spec.specs.Visits.{stops, stops_after, visits_at, visits_o
 ghost use Rattle.rail_course.specs.Tracks.{routes_at, way};
 ghost use Rattle.rail_course.specs.Stops.{stop_at};
 
-use interlocking::Interlocking;
+use interlocking::{Interlocking, has_node};
 use rail_base::list::List;
 use rail_base::route::{RouteNo, route_at};
 use rail_base::state::Stop;
@@ -103,19 +103,12 @@ pub fn stops_of(
     stops_from(alloc, interlocking, path[0], &path[1..])
 }
 
-/// Whether a node is one of these.
-fn has_node(nodes: &List<NodeNo>, node: NodeNo) -> bool
-    ensures { result ≡ has_node nodes.now node }
-{
-    nodes.as_slice().iter().any(|other| other.0 == node.0)
-}
-
 /// The stops from the first one at one of these nodes.
 fn from_first<'a>(stops: &'a [Stop], nodes: &List<NodeNo>) -> &'a [Stop]
     ensures { result.now ≡ from_first (λ p. has_node nodes.now p.node) stops.now }
 {
     for i in 0..stops.len() {
-        if has_node(nodes, stops[i].node) {
+        if has_node(nodes.as_slice(), stops[i].node) {
             return &stops[i..];
         }
     }

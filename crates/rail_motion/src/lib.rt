@@ -36,6 +36,3 @@ pub struct Span {
 pub use ahead::Ahead;
 pub use braking::brakes;
 pub use speeds::{advance, next_speed, permitted, step};
-
-#[cfg(test)]
-mod tests;

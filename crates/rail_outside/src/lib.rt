@@ -11,8 +11,6 @@ mod print;
 mod shelf;
 mod sink;
 mod sure;
-#[cfg(test)]
-mod tests;
 
 pub use memory_shelf::{Call, MemoryShelf};
 pub use memory_sink::{Failure, MemorySink};

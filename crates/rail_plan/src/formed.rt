@@ -5,7 +5,7 @@ ghost use Rattle.std.specs.Option.{option_or};
 ghost use Rattle.std.specs.List.{list_all};
 ghost use Rattle.rail_base.specs.Numbering.{first_of_list};
 ghost use Rattle.rail_base.specs.Stations.{IsTrain, first_visit, train_of};
-ghost use Rattle.rail_spec.specs.Plans.{end_at_one_signal, goes_on, has_node, path, routes_given, starts_in};
+ghost use Rattle.rail_spec.specs.Plans.{path, routes_given, starts_in};
 ghost use Rattle.rail_plan.specs.Named.{HasRoute, HaveRoutes};
 ghost use Rattle.rail_plan.specs.WellFormed.{is_apart, are_apart, last_of_list};
 ghost use Rattle.interlocking.specs.Plans.{names_only, is_well_formed};
@@ -13,32 +13,12 @@ ghost use Rattle.rail_plan.specs.Interlocked.{begins_after, is_placed, may_follo
 ghost use Rattle.rail_plan.specs.Interlocked.{placed_badly};
 
 use crate::place::PlanPlace;
-use interlocking::Interlocking;
+use interlocking::{Interlocking, end_at_one_signal, goes_on, has_node};
 use rail_base::design::Design;
 use rail_base::list::List;
 use rail_base::plan::{Command, Plan};
-use rail_base::route::{Finish, Route, RouteNo, RouteTable, Start, route_at};
-use rail_base::station::{NodeNo, TrainNo};
-
-/// Whether a route that starts here goes on where another ends: at a signal.
-fn goes_on(finish: Finish, start: Start) -> bool
-    ensures { result ≡ goes_on finish start }
-{
-    match (finish, start) {
-        (Finish::Signal(end), Start::Signal(begin)) => end == begin,
-        _ => false,
-    }
-}
-
-/// Whether two routes end at one signal.
-fn end_at_one_signal(one: Finish, other: Finish) -> bool
-    ensures { result ≡ end_at_one_signal one other }
-{
-    match (one, other) {
-        (Finish::Signal(one), Finish::Signal(other)) => one == other,
-        _ => false,
-    }
-}
+use rail_base::route::{Route, RouteNo, RouteTable, Start, route_at};
+use rail_base::station::TrainNo;
 
 /// Whether two routes start at different places, and don't end at one signal.
 fn are_apart(one: &Route, other: &Route) -> bool
@@ -47,20 +27,13 @@ fn are_apart(one: &Route, other: &Route) -> bool
     one.start != other.start && !end_at_one_signal(one.finish, other.finish)
 }
 
-/// Whether a node is one of these.
-fn has_node(nodes: &List<NodeNo>, node: NodeNo) -> bool
-    ensures { result ≡ has_node nodes.now node }
-{
-    nodes.as_slice().iter().any(|other| other.0 == node.0)
-}
-
 /// Whether a start is a boundary of the train's first visit.
 fn starts_there(design: &Design, train: TrainNo, start: Start) -> bool
     requires { IsTrain design.now.station train }
     ensures { result ≡ starts_in (first_visit (train_of design.now.station train)) start }
 {
     match (start, design.train(train).visits.as_slice().first()) {
-        (Start::Boundary(node), Some(nodes)) => has_node(nodes, node),
+        (Start::Boundary(node), Some(nodes)) => has_node(nodes.as_slice(), node),
         _ => false,
     }
 }

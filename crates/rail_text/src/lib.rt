@@ -4,8 +4,6 @@
 mod cursor;
 mod laws;
 mod numbers;
-#[cfg(test)]
-mod tests;
 
 pub use cursor::{Cursor, Piece};
 pub use laws::{numbers_read_back, pieces_join_back};

@@ -5,20 +5,8 @@ ghost use Rattle.rail_words.specs.Words.{texts_of};
 ghost use Rattle.rcv.specs.Ends.{EndsWith};
 
 use rail_cli::{Status, run_words};
-use rail_files::{FileShelf, OutSink};
+use rail_files::{FileShelf, OutSink, command_words};
 use std::alloc::AllocError;
-use std::env;
-use std::io::ErrorKind;
-
-/// The words of the command line; none, which ask for nothing, where one of them is no text.
-fn words(rt: &HostRuntime) -> Result<Vec<String>, AllocError> {
-    let alloc = rt.alloc();
-    match env::args(rt) {
-        Ok(args) => args.collect(alloc),
-        Err(error) if error.kind() == ErrorKind::OutOfMemory => Err(AllocError),
-        Err(_) => Ok(Vec::new(alloc)),
-    }
-}
 
 /// The number of the status with which these words are done, over real files and standard output.
 fn run_over_files(rt: HostRuntime, words: &[String]) -> u8
@@ -34,7 +22,7 @@ fn run_over_files(rt: HostRuntime, words: &[String]) -> u8
 pub(crate) fn run(rt: HostRuntime) -> u8
     ensures { (words : List (List ℕ)) × EndsWith words result }
 {
-    match words(&rt) {
+    match command_words(&rt) {
         Ok(words) => run_over_files(rt, words.as_slice()),
         Err(AllocError) => Status::Memory.code(),
     }

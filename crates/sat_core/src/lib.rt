@@ -12,8 +12,6 @@ mod round;
 mod solver;
 mod spans;
 mod targets;
-#[cfg(test)]
-mod tests;
 mod units;
 
 pub use assignment::Assignment;

@@ -9,8 +9,6 @@ mod pair;
 mod scan;
 mod settled;
 mod step;
-#[cfg(test)]
-mod tests;
 mod trail;
 mod walk;
 mod watch;

@@ -7,7 +7,7 @@ use Rattle.rail_base.specs.declared.station.TrainNo.{TrainNo}
 use Rattle.rail_base.specs.declared.route.RouteNo.{RouteNo}
 use Rattle.rail_base.specs.declared.plan.Violation.{Violation}
 use Rattle.rail_base.specs.declared.plan.Violation.TheVariants.{Path, Within, Order, Grant, Visit}
-use Rattle.timetable.specs.Names.{train_name, node_name}
+use Rattle.rail_base.specs.Names.{train_name, node_name}
 
 -- each line as its bytes
 abbrev pub lines_of : List (Vec ℕ Global) → List (List ℕ)

@@ -2,11 +2,11 @@
 
 ghost use Rattle.std.specs.Prelude.{◌≡◌, ◌++◌, decimal, IfOk};
 ghost use Rattle.timetable.specs.Lines.{is_path_failure, met_line, failure, failure_line};
-ghost use Rattle.timetable.specs.Names.{train_name};
+ghost use Rattle.rail_base.specs.Names.{train_name};
 
 use crate::events::put_tick;
-use crate::names::train_name;
 use rail_base::design::Design;
+use rail_base::names::train_name;
 use rail_base::plan::Violation;
 use rail_base::station::TrainNo;
 use rail_text::put_number;
@@ -42,7 +42,7 @@ fn train_failure(
         ≡ what.now ++ train_name design.now.station train ++ counted.now ++ decimal number) }
 {
     let mut line = Vec::from_slice(alloc, what)?;
-    line.extend_from_slice(train_name(design, train.0 as usize))?;
+    line.extend_from_slice(train_name(design, train))?;
     line.extend_from_slice(counted)?;
     put_number(&mut line, u64::from(number))?;
     Ok(line)

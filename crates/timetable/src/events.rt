@@ -3,8 +3,8 @@
 ghost use Rattle.std.specs.Prelude.{◌≡◌, ◌*◌, ◌++◌, decimal, IfOk, OnOk};
 ghost use Rattle.timetable.specs.Lines.{at_tick, train_line, grant_line, pass_line, visit_line};
 
-use crate::names::{node_name, train_name};
 use rail_base::design::Design;
+use rail_base::names::{name_of_train, node_name};
 use rail_base::route::RouteNo;
 use rail_base::station::NodeNo;
 use rail_text::put_number;
@@ -32,7 +32,7 @@ pub fn train_line(alloc: Global, design: &Design, number: usize) -> Result<Vec<u
     ensures { IfOk result (λ line. line.items ≡ train_line design.now.station (record { 0 = number })) }
 {
     let mut line = Vec::from_slice(alloc, b"train ")?;
-    line.extend_from_slice(train_name(design, number))?;
+    line.extend_from_slice(name_of_train(&design.station, number))?;
     line.push(b'\n')?;
     Ok(line)
 }

@@ -3,7 +3,6 @@
 
 mod ending;
 mod events;
-mod names;
 mod text;
 mod trains;
 

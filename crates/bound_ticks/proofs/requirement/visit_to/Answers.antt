@@ -1,5 +1,5 @@
 use Rattle.rail_base.specs.Stations.{IsTrain}
-use Rattle.bound_ticks.specs.declared.targets.Visit.{Visit}
+use Rattle.leg_targets.specs.declared.targets.Visit.{Visit}
 use Rattle.bound_ticks.proofs.Requiring.{order_good, some_is, within_good}
 use Rattle.bound_ticks.proofs.requirement.visit_to.Goals as goal
 

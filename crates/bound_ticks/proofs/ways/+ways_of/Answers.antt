@@ -2,13 +2,13 @@ use Rattle.std.proofs.Common.{rules, ◌≡◌, ◌+◌, ◌-◌, All, flat_map,
 use Rattle.rail_base.specs.Routes.{IsRoute}
 use Rattle.bound_ticks.specs.Ways.{IsWay, longer_by}
 use Rattle.bound_ticks.proofs.Longer.{longer_ways_are}
-use Rattle.bound_ticks.proofs.Parts.{ok_more, rest_long}
+use Rattle.leg_targets.proofs.Parts.{ok_more, rest_long}
 use Rattle.bound_ticks.proofs.ways.+ways_of.Goals as goal
 
 pub returns-in_ok-later-in-len1-up-clause-named : goal.returns-in_ok-later-in-len1-up-clause-named
 returns-in_ok-later-in-len1-up-clause-named t c =
     let routes = c.args.routes.now in
-    let place = c.routes_of_place.result.now in
+    let place = c.routes_of.result.now in
     let later = c.deref.result.now in
     let named : All (IsRoute routes) place = search rules in
     let are = subst (λ ws. All (IsWay routes (length (take (length c.args.places.now - 1) (drop 1 c.args.places.now)))) ws) (sym c.deref.ensures.value) c.in_ok-later-in-len1-up.ensures.named in

@@ -1,5 +1,5 @@
 use Rattle.std.proofs.Common.{◌≡◌, ◌++◌, take, codes}
-use Rattle.cone_words.specs.Names.{section_name}
+use Rattle.rail_base.specs.Names.{section_name}
 use Rattle.cone_words.specs.Phrases.{each_after}
 use Rattle.cone_words.proofs.phrases.put_each_section.Given as goal
 

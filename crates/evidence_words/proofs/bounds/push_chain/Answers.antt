@@ -1,7 +1,7 @@
 use Rattle.std.proofs.Common.{List, ◌≤◌, All, length, refl, subst, sym, arith}
 use Rattle.rail_bound.specs.declared.Leg.{Leg}
 use Rattle.bound_ticks.specs.Chains.{chain_of}
-use Rattle.bound_ticks.specs.Visits.{origin_of}
+use Rattle.leg_targets.specs.Visits.{origin_of}
 use Rattle.bound_ticks.specs.Ways.{IsLeg}
 use Rattle.bound_ticks.proofs.Chained.{chain_by}
 use Rattle.bound_ticks.proofs.Naming.{is_named}

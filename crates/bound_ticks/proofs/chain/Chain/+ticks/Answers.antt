@@ -1,9 +1,9 @@
 use Rattle.std.proofs.Common.{rules, ◌-◌, All, None, length, take, drop, subst, sym, arith}
 use Rattle.rail_base.specs.Routes.{IsRoute}
-use Rattle.bound_ticks.specs.Visits.{origin_of}
+use Rattle.leg_targets.specs.Visits.{origin_of}
 use Rattle.bound_ticks.specs.Ways.{IsLeg}
 use Rattle.bound_ticks.proofs.Chained.{chain_by, first_routes_named, release_most}
-use Rattle.bound_ticks.proofs.Parts.{rest_all, rest_long}
+use Rattle.leg_targets.proofs.Parts.{rest_all, rest_long}
 use Rattle.bound_ticks.proofs.chain.Chain.+ticks.Goals as goal
 
 pub leg_to_release-requires : goal.leg_to_release-requires

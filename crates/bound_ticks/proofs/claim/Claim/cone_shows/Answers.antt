@@ -1,6 +1,6 @@
 use Rattle.std.proofs.Common.{ap, ◌∙◌}
 use Rattle.bound_ticks.specs.Claims.{made_at}
-use Rattle.bound_ticks.specs.Visits.{visit_of}
+use Rattle.leg_targets.specs.Visits.{visit_of}
 use Rattle.bound_ticks.proofs.Naming.{cone_made}
 use Rattle.bound_ticks.proofs.claim.Claim.cone_shows.Goals as goal
 

@@ -1,8 +1,8 @@
 use Rattle.std.proofs.Common.{Some, ap, ◌∙◌}
 use Rattle.bound_ticks.specs.Chains.{chain_of}
-use Rattle.bound_ticks.specs.Visits.{visit_of}
+use Rattle.leg_targets.specs.Visits.{visit_of}
 use Rattle.bound_ticks.proofs.Chained.{chain_from}
-use Rattle.bound_ticks.proofs.Parts.{ok_more}
+use Rattle.leg_targets.proofs.Parts.{ok_more}
 use Rattle.bound_ticks.proofs.claim.Claim.ticks_between.Goals as goal
 
 pub returns : goal.returns

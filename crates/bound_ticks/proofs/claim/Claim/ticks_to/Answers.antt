@@ -1,8 +1,8 @@
 use Rattle.std.proofs.Common.{None, ap, ◌∙◌}
 use Rattle.bound_ticks.specs.Chains.{chain_of}
-use Rattle.bound_ticks.specs.Visits.{origin_of}
+use Rattle.leg_targets.specs.Visits.{origin_of}
 use Rattle.bound_ticks.proofs.Chained.{chain_by, chain_to}
-use Rattle.bound_ticks.proofs.Parts.{ok_more}
+use Rattle.leg_targets.proofs.Parts.{ok_more}
 use Rattle.bound_ticks.proofs.claim.Claim.ticks_to.Goals as goal
 
 pub returns-clause-ticks : goal.returns-clause-ticks

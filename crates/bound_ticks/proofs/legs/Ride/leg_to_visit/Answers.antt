@@ -1,6 +1,6 @@
 use Rattle.std.proofs.Common.{ap, ◌∙◌, arith}
 use Rattle.bound_ticks.specs.Chains.{to_visit}
-use Rattle.bound_ticks.specs.Visits.{origin_of, visit_of}
+use Rattle.leg_targets.specs.Visits.{origin_of, visit_of}
 use Rattle.bound_ticks.specs.Ways.{ways_by_number}
 use Rattle.bound_ticks.proofs.Least.{way_step, way_total}
 use Rattle.bound_ticks.proofs.legs.Ride.leg_to_visit.Goals as goal

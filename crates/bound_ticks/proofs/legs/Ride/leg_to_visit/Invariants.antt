@@ -2,7 +2,7 @@ use Rattle.std.proofs.Common.{◌≡◌, drop, map}
 use Rattle.rail_course.specs.Tracks.{routes_at}
 use Rattle.rail_bound.specs.Ways.{least_way}
 use Rattle.bound_ticks.specs.Chains.{to_visit}
-use Rattle.bound_ticks.specs.Visits.{origin_of, visit_of}
+use Rattle.leg_targets.specs.Visits.{origin_of, visit_of}
 use Rattle.bound_ticks.proofs.legs.Ride.leg_to_visit.Given as goal
 
 -- the least so far, and of the ways left

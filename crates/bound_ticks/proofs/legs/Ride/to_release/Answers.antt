@@ -2,7 +2,7 @@ use Rattle.std.proofs.Common.{ap, ◌∙◌}
 use Rattle.rail_base.specs.Routes.{route_at}
 use Rattle.rail_course.specs.Tracks.{routes_at}
 use Rattle.bound_ticks.specs.Chains.{ticks_on}
-use Rattle.bound_ticks.specs.Visits.{origin_of}
+use Rattle.leg_targets.specs.Visits.{origin_of}
 use Rattle.bound_ticks.proofs.Least.{release_of, route_step}
 use Rattle.bound_ticks.proofs.legs.Ride.to_release.Goals as goal
 

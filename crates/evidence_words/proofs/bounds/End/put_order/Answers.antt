@@ -1,7 +1,7 @@
 use Rattle.std.proofs.Common.{refl, ap, decimal}
 use Rattle.cone_words.proofs.Joining.{first_as, more_as}
 use Rattle.rail_base.specs.declared.station.Order.{Order}
-use Rattle.bound_ticks.specs.Visits.{origin_of}
+use Rattle.leg_targets.specs.Visits.{origin_of}
 use Rattle.evidence_words.specs.Bounds.{arrives_text}
 use Rattle.cone_words.specs.Names.{makes_text}
 use Rattle.evidence_words.proofs.bounds.End.put_order.Goals as goal

@@ -1,7 +1,7 @@
 use Rattle.std.proofs.Common.{refl, ap, ◌∙◌, decimal}
 use Rattle.cone_words.proofs.Joining.{first_as, more_as}
 use Rattle.rail_base.specs.declared.station.Within.{Within}
-use Rattle.bound_ticks.specs.Visits.{origin_of}
+use Rattle.leg_targets.specs.Visits.{origin_of}
 use Rattle.evidence_words.specs.Bounds.{arrives_text}
 use Rattle.rail_spec.specs.Requirements.{most_ticks}
 use Rattle.cone_words.specs.Phrases.{ticks_text}

@@ -1,7 +1,7 @@
 use Rattle.std.proofs.Common.{List, refl, ap, ap₂, ◌∙◌}
 use Rattle.cone_words.proofs.Joining.{then_as}
 use Rattle.rail_base.specs.declared.route.RouteNo.{RouteNo}
-use Rattle.timetable.specs.Names.{train_name}
+use Rattle.rail_base.specs.Names.{train_name}
 use Rattle.cone_words.specs.Phrases.{any_route_text}
 use Rattle.evidence_words.specs.Bounds.{meeting_text, only}
 use Rattle.evidence_words.proofs.legs.Chain.wait_text.Goals as goal

@@ -1,5 +1,0 @@
-use Rattle.std.proofs.Common.{length}
-use Rattle.bound_ticks.proofs.targets.+release_place.Given as goal
-
-abbrev pub decreases-release_place : goal.decreases-release_place
-decreases-release_place l = length l.way.now

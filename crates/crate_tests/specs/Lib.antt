@@ -1,0 +1,2 @@
+-- Stations of tests.
+pub mod Line

@@ -1,0 +1,2 @@
+-- Visits, as the definitions of certificates have them.
+pub mod Visits

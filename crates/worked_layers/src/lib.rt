@@ -1,0 +1,160 @@
+//! Worked examples below the commands: runs and searches whose budgets no command gives, and clauses for which none asks.
+#![tactic(auto)]
+
+use anyhow::{Result, ensure};
+use infra_reader::read_design;
+use interlocking::{Interlocking, Steps};
+use plan_encoding::sorted_base;
+use plan_exclusion::Method;
+use rail_base::history::Verdict;
+use rail_plan::reading::read_plan;
+use rail_routes::interlocking;
+use sat_clause::Lit;
+use std::alloc::Global;
+use verify_loop::{Budgets, Outcome, verify};
+use worked_examples::{Row, Run, Search, Text, Turns};
+
+/// The bytes of a file of a worked example; none where it has no such file.
+fn bytes_of<'a>(texts: &'a [Text], name: &str) -> &'a [u8] {
+    match texts.iter().find(|file| file.name == name) {
+        Some(file) => file.text.as_bytes(),
+        None => &[],
+    }
+}
+
+/// Whether a plan is met at the tick that is told, or where none is told nothing is decided.
+fn ends(verdict: &Verdict, met: Option<u64>) -> bool {
+    match verdict {
+        Verdict::Met { tick, .. } => met == Some(*tick),
+        Verdict::Failed { .. } => false,
+        Verdict::Undecided => met.is_none(),
+    }
+}
+
+/// Whether a run shows what it has to, from event to event and tick by tick.
+fn shows(alloc: Global, interlocking: &Interlocking, plan: &[u8], run: &Run) -> Result<bool> {
+    let plan = read_plan(alloc, interlocking, plan)?;
+    let by_events = plan_run::simulate(alloc, interlocking, &plan, run.ticks)?;
+    let by_ticks = tick_sim::simulate(alloc, interlocking, &plan, run.ticks)?;
+    Ok(ends(&by_events, run.met) && ends(&by_ticks, run.met))
+}
+
+/// Whether a search ends for want of room in its log, and tells what it has to.
+fn lacks_room(alloc: Global, interlocking: &Interlocking, search: &Search) -> Result<bool> {
+    ensure!(
+        1 <= search.steps && search.steps <= 64,
+        "steps out of range"
+    );
+    let steps = Steps {
+        count: search.steps,
+    };
+    let budgets = Budgets {
+        conflicts: 1000,
+        ticks: 1000,
+        log_bytes: search.log_bytes,
+    };
+    match verify(alloc, interlocking, steps, Method::Cones, budgets) {
+        Outcome::LogSpent { bytes, next, .. } => {
+            Ok(bytes == search.bytes && search.next.is_none_or(|wanted| wanted == next))
+        }
+        _ => Ok(false),
+    }
+}
+
+/// The literals of a clause, with a space between each and the next.
+fn spelled(alloc: Global, clause: &[Lit]) -> Result<String> {
+    let mut text = String::new(alloc);
+    for lit in clause {
+        let gap = if text.is_empty() { "" } else { " " };
+        let sign = if lit.negated { "-" } else { "" };
+        let var = lit.var;
+        write!(text, "{gap}{sign}{var}")?;
+    }
+    Ok(text)
+}
+
+/// Whether trains that are alike come in turn by just the clauses that are told.
+fn come_in_turn(alloc: Global, interlocking: &Interlocking, turns: &Turns<'_>) -> Result<bool> {
+    ensure!(1 <= turns.steps && turns.steps <= 64, "steps out of range");
+    let steps = Steps { count: turns.steps };
+    let listed = sorted_base(alloc, interlocking, steps)?.turns;
+    if listed.count() != turns.clauses.len() as u64 {
+        return Ok(false);
+    }
+    for (place, wanted) in turns.clauses.iter().enumerate() {
+        let id = place as u64 + 1;
+        if !listed.live(id) || spelled(alloc, listed.clause(id))?.as_str() != *wanted {
+            return Ok(false);
+        }
+    }
+    Ok(true)
+}
+
+/// How many runs of a worked example do not what they have to; each is named.
+fn wrong_runs(
+    rt: &impl Print,
+    alloc: Global,
+    interlocking: &Interlocking,
+    row: &Row<'_>,
+    plan: &[u8],
+) -> Result<u64> {
+    let mut wrong = 0u64;
+    for run in row.runs.iter() {
+        if !shows(alloc, interlocking, plan, run)? {
+            println!(rt; "{}: {} ticks show something else", row.name, run.ticks)?;
+            wrong = wrong.saturating_add(1);
+        }
+    }
+    Ok(wrong)
+}
+
+/// How many searches of a worked example do not what they have to; each is named.
+fn wrong_searches(
+    rt: &impl Print,
+    alloc: Global,
+    interlocking: &Interlocking,
+    row: &Row<'_>,
+) -> Result<u64> {
+    let mut wrong = 0u64;
+    for search in row.searches.iter() {
+        if !lacks_room(alloc, interlocking, search)? {
+            println!(rt;
+                "{}: a log of {} bytes ends otherwise",
+                row.name, search.log_bytes
+            )?;
+            wrong = wrong.saturating_add(1);
+        }
+    }
+    Ok(wrong)
+}
+
+/// How many lists of clauses of a worked example are not as they have to be; each is named.
+fn wrong_turns(
+    rt: &impl Print,
+    alloc: Global,
+    interlocking: &Interlocking,
+    row: &Row<'_>,
+) -> Result<u64> {
+    let mut wrong = 0u64;
+    for turns in row.turns.iter() {
+        if !come_in_turn(alloc, interlocking, turns)? {
+            println!(rt; "{}: {} steps have other clauses", row.name, turns.steps)?;
+            wrong = wrong.saturating_add(1);
+        }
+    }
+    Ok(wrong)
+}
+
+/// How many runs, searches and lists of clauses of a worked example are not what they have to be; each is named.
+pub fn wrong_layers(rt: &impl Print, alloc: Global, row: &Row<'_>, texts: &[Text]) -> Result<u64> {
+    if row.runs.is_empty() && row.searches.is_empty() && row.turns.is_empty() {
+        return Ok(0);
+    }
+    let design = read_design(alloc, bytes_of(texts, "design.toml"))?;
+    let interlocking = interlocking(alloc, design)?;
+    let plan = bytes_of(texts, "plan.json");
+    let runs = wrong_runs(rt, alloc, &interlocking, row, plan)?;
+    let searches = wrong_searches(rt, alloc, &interlocking, row)?;
+    let turns = wrong_turns(rt, alloc, &interlocking, row)?;
+    Ok(runs.saturating_add(searches).saturating_add(turns))
+}
