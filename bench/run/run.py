@@ -36,14 +36,15 @@ class Design:
         entries.append(keys)
         return keys.get("name")
 
-    def line(self, edges, length, speed, signal_each, uneven=False):
+    def line(self, edges, length, speed, signal_each, uneven=False, section_of=None):
         """A line of so many edges from a boundary to a boundary, with a signal after each so many of them; its nodes. Every other
         edge has half the speed where `uneven` is set."""
         nodes = [self.add("node", boundary=True)]
         for number in range(1, edges + 1):
             nodes.append(self.add("node", boundary=number == edges))
+            own = len(self.entries["edge"]) if section_of is None else section_of(number)
             section = self.add("edge", **{"from": nodes[-2]}, from_side="b", to=nodes[-1], to_side="a",
-                               length_mm=length, speed_mm_s=speed // 2 if uneven and number % 2 else speed, section=f"section{len(self.entries['edge'])}")
+                               length_mm=length, speed_mm_s=speed // 2 if uneven and number % 2 else speed, section=f"section{own}")
             if number < edges and number % signal_each == 0:
                 self.add("signal", node=nodes[-1], toward="b")
             assert section
@@ -85,6 +86,19 @@ def following(lines, routes, length, speed, uneven=False):
         for behind in (0, 2):
             design.add("train", vehicle="v", visits=[[nodes[0]], [nodes[-1]]])
             starts.append((nodes[0], first_signal, routes, behind))
+    return design, starts
+
+
+def crossing(lines, routes, length, speed):
+    """Lines with a train each, all of which begin at once. Each line crosses those before it: a train comes to a section of another
+    two steps behind it."""
+    design = Design(vehicle(speed, min(length, 100_000)))
+    starts = []
+    for line in range(lines):
+        first_signal = len(design.entries["signal"])
+        nodes = design.line(routes, length, speed, 1, section_of=lambda number, line=line: 2 * line + number)
+        design.add("train", vehicle="v", visits=[[nodes[0]], [nodes[-1]]])
+        starts.append((nodes[0], first_signal, routes, 0))
     return design, starts
 
 
@@ -149,6 +163,7 @@ def commands(program, folder):
     yield "32 trains over 62 routes each, a day", 0.5, "met", simulated(program, folder, following(16, 62, 1_300_000, 1_000))
     yield "32 trains over 62 short routes each, a day", 0.5, "met", simulated(program, folder, following(16, 62, 10_000, 1_000))
     yield "32 trains over 62 routes, every other one slow", 0.5, "met", simulated(program, folder, following(16, 62, 500_000, 20_000, True))
+    yield "32 trains over 31 routes each, which cross", 0.5, "met", simulated(program, folder, crossing(32, 31, 10_000, 1_000))
     yield "32 trains in turn over 1,998 nodes each, all demands", 2, "met", simulated(program, folder, in_turn(32, 1_998, 1_000, 1_000))
     yield "32 trains in turn over long edges, all demands", 2, "", simulated(program, folder, in_turn(32, 1_998, 100_000, 100_000))
     yield "100,000 cones of a train that is followed for a day", 10, "no line 100002", checked(program, folder, 100_000, "r visit 1 2 t 1 86400 1 1 0 0 0")

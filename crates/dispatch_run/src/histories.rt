@@ -5,7 +5,6 @@ ghost use Rattle.rail_spec.specs.Dispatches.{Dispatch};
 ghost use Rattle.dispatch_run.specs.Followers.{IsTraffic};
 ghost use Rattle.dispatch_run.specs.InTraffic.{IsFollowerIn, history_in, state_in, states_in, train_history_in};
 
-use crate::grants::IDLE;
 use crate::marks::{
     mark_grants, mark_passes, mark_releases, mark_visits, none_granted, none_passed, none_released,
     none_visited,
@@ -14,6 +13,7 @@ use crate::traffic::{Follower, Traffic};
 use rail_base::history::TrainHistory;
 use rail_base::list::List;
 use rail_base::state::TrainState;
+use rail_course::IDLE;
 use std::alloc::{AllocError, Global};
 
 impl Traffic<'_> {

@@ -7,12 +7,12 @@ ghost use Rattle.dispatch_run.specs.InTraffic.{AreLookedAtIn, AreToBeToldIn, IsF
 ghost use Rattle.dispatch_run.specs.InTraffic.{IsLookedAtIn, IsSeenIn, IsToBeToldIn, IsTurnIn, history_in};
 ghost use Rattle.dispatch_run.specs.InTraffic.{looked_state_in, looked_states_in, train_history_in};
 
-use crate::grants::{granted_on, state_of};
 use crate::looks::{Look, look_of};
 use crate::moves::is_followed;
 use crate::traffic::{Follower, Traffic};
 use rail_base::history::TrainHistory;
 use rail_base::state::TrainState;
+use rail_course::{granted_on, state_of};
 use std::alloc::{AllocError, Global};
 
 /// The last tick that a run may have.

@@ -13,6 +13,7 @@ ghost use Rattle.plan_run.specs.Planned.{IsPlanned};
 use crate::due::next_due;
 use crate::planned::followers;
 use dispatch_run::Traffic;
+use dispatcher::journeys;
 use interlocking::Interlocking;
 use rail_base::history::Verdict;
 use rail_base::list::List;
@@ -108,7 +109,7 @@ fn run_plan<'a>(
         courses: courses.as_slice(),
     };
     let planned = PlannedCourses { courses, plan };
-    let journeys = planned.journeys(alloc)?;
+    let journeys = journeys(alloc, &planned)?;
     let run = Run {
         interlocking,
         plan,

@@ -5,7 +5,6 @@ use Rattle.std.proofs.Math.Path.{fun_ext}
 use Rattle.std.proofs.lemmas.List.{append-nil, map-append, drop_more}
 use Rattle.std.proofs.lemmas.List.Sums.{sum_by-cons}
 use Rattle.rail_base.specs.declared.station.Station.{Station}
-use Rattle.rail_base.specs.declared.station.SectionNo.{SectionNo}
 use Rattle.rail_base.specs.declared.station.TrainNo.{TrainNo}
 use Rattle.rail_base.specs.declared.route.Route.{Route}
 use Rattle.rail_base.specs.declared.route.RouteNo.{RouteNo}
@@ -14,7 +13,7 @@ use Rattle.rail_base.specs.Numbering.{count_from, before_first, entry}
 use Rattle.rail_base.specs.Stations.{IsTrain, trains}
 use Rattle.rail_spec.specs.Plans.{is_route}
 use Rattle.rail_spec.specs.Dispatches.{Dispatch, routes_before}
-use Rattle.rail_base.specs.Routes.{route_at, length_mm, exits, release_offset}
+use Rattle.rail_base.specs.Routes.{route_at, length_mm, exits}
 use Rattle.rail_base.proofs.Members.{below_or_not, get_or-counted, get_or-counted_past, map-map}
 use Rattle.rail_base.proofs.Lists.{length-map}
 use Rattle.rail_course.specs.declared.course.Course.{Course}
@@ -240,6 +239,3 @@ map_step f g old new x ys k y all lt is made same before =
     let rest = map g (drop (k + 1) ys) in
     ap (λ xs. map f xs ++ rest) made ∙ ap (λ ts. ts ++ rest) (map-append f old (x ∷ [])) ∙ append_assoc (map f old) (f x ∷ []) rest
     ∙ ap (λ t. map f old ++ (t ∷ rest)) same ∙ ap (λ zs. map f old ++ map g zs) (ap (λ z. z ∷ drop (k + 1) ys) is ∙ sym (drop_more ys k y lt)) ∙ before
-
-pub release_small : (a m : ℕ) (r q : Route) (z : SectionNo) → a ≡ release_offset r z → r ≡ q → ((y : SectionNo) → release_offset q y ≤ m) → a ≤ m
-release_small a m r q z e s h = let k = h z in let f = e ∙ ap (λ p. release_offset p z) s in omega arith

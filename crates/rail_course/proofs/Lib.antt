@@ -3,7 +3,7 @@ pub mod Rating
 pub mod Walking
 pub mod Rises
 pub mod Granting
+pub mod Parting
 pub mod Waiting
 pub mod Coursing
 pub mod Fronting
-pub mod Gathering

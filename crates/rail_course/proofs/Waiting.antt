@@ -1,21 +1,28 @@
 -- A command may be granted exactly where all its waits are over.
-use Rattle.std.proofs.Common.{◌≡◌, ℕ, ◌+◌, ◌≤◌, inl, inr, Bool, true, false, ◌&&◌, nat_le, nat_lt, List, [], ◌∷◌, map, fold, max, sum_by, refl, sym, ap, ◌∙◌, arith, leb-true, le-leb}
+use Rattle.std.proofs.Common.{◌≡◌, ℕ, ◌+◌, ◌≤◌, inl, inr, zero, suc, Bool, true, false, ◌&&◌, nat_le, nat_lt, List, [], ◌∷◌, map, length, slice_get, Option, None, Some, option_map, fold, max, sum_by, refl, sym, ap, ◌∙◌, arith, leb-true, le-leb}
 use Rattle.std.specs.List.{list_all}
 use Rattle.std.proofs.lemmas.List.Folds.{list_all-map}
+use Rattle.std.proofs.lemmas.Option.{slice_get-map}
 use Rattle.rail_base.specs.declared.station.Station.{Station}
 use Rattle.rail_base.specs.declared.station.SectionNo.{SectionNo}
+use Rattle.rail_base.specs.declared.station.TrainNo.{TrainNo}
 use Rattle.rail_base.specs.declared.route.Route.{Route}
+use Rattle.rail_base.specs.declared.route.RouteNo.{RouteNo}
 use Rattle.rail_base.specs.declared.plan.Command.{Command}
 use Rattle.rail_base.specs.declared.state.TrainState.{TrainState}
 use Rattle.rail_base.specs.Members.{In}
 use Rattle.rail_base.specs.Stations.{train_length}
 use Rattle.rail_base.specs.Routes.{route_at, shared, share, has_section, sections, release_offset, length_mm}
 use Rattle.rail_base.proofs.Members.{and_left, and_right, and_both, list_any_gives, same_bool, in_filter}
-use Rattle.rail_base.proofs.Lists.{in_map, in_filter_back}
+use Rattle.rail_base.proofs.Lists.{in_map, in_filter_back, length-map}
 use Rattle.rail_spec.specs.Plans.{contend, step_of, precedes, commands}
 use Rattle.rail_spec.specs.Dispatches.{Dispatch, state_of, routes_before, is_granted, has_released, has_cleared, is_ready}
 use Rattle.rail_spec.specs.Dispatches.{of_plan}
-use Rattle.rail_course.specs.Waits.{IsContending, is_over, wait_for, waits_of}
+use Rattle.rail_course.specs.declared.itineraries.Itineraries.{Itineraries}
+use Rattle.rail_course.specs.declared.waits.Wait.{Wait}
+use Rattle.rail_course.specs.Itineraries.{path_in, train_waits_in}
+use Rattle.rail_course.specs.Telling.{ShowTick, TellWhatIsReady}
+use Rattle.rail_course.specs.Waits.{IsContending, is_over, wait_for, waits_of, waits_of_train}
 
 pub list_all-same : {X : Type 0} (p q : X → Bool) (xs : List X) → ((x : X) → In x xs → p x ≡ q x) → list_all p xs ≡ list_all q xs
 list_all-same p q [] h = refl
@@ -74,3 +81,45 @@ plan_contending d routes plan c e m =
     let before = (in_filter_back (λ e. precedes routes plan e c) (commands plan) e m).1 in
     let both = and_left (contend routes e c) (nat_lt (step_of plan e) (step_of plan c)) before in
     and_right _ (share (route_at routes e.route) (route_at routes c.route)) both
+
+-- ---- all waits of a command tell whether it is ready
+
+module _ (d : Station) (routes : List Route) (p : Dispatch) where
+  pub all_waits_tell : IsContending d routes p → (t : TrainNo) (waits : List (List Wait)) → waits ≡ waits_of_train d routes p t → TellWhatIsReady d routes p t waits
+  all_waits_tell contending t waits same = record {
+    many = ap length same ∙ length-map (λ r. waits_of d routes p (record { train = t; route = r })) (p.path t);
+    next = λ k s shows r own here there.
+        (let g = (state_of s t).granted in
+        let found : Some (waits_of d routes p (record { train = t; route = r })) ≡ Some own =
+        sym (ap (option_map (λ r. waits_of d routes p (record { train = t; route = r }))) here)
+        ∙ sym (slice_get-map (λ r. waits_of d routes p (record { train = t; route = r })) (p.path t) g)
+        ∙ sym (ap (λ ws. slice_get ws g) same) ∙ there in
+        let is : waits_of d routes p (record { train = t; route = r }) ≡ own = cc in
+        ap (list_all (is_over s)) (sym is) ∙ sym (ready_when_over d routes p s contending (record { train = t; route = r })));
+  }
+
+-- so do those that are worked out over its paths
+pub all_waits_in : (i : Itineraries) (p : Dispatch) → IsContending i.interlocking.now.design.station i.interlocking.now.routes p → path_in i ≡ p.path → (t : TrainNo) (waits : List (List Wait)) → waits ≡ train_waits_in i p.before t
+    → TellWhatIsReady i.interlocking.now.design.station i.interlocking.now.routes p t waits
+all_waits_in i p contending same t waits are =
+    let d = i.interlocking.now.design.station in
+    let routes = i.interlocking.now.routes in
+    all_waits_tell d routes p contending t waits (are ∙ ap (λ path. waits_of_train d routes (record { path = path; before = p.before; concerns = p.concerns }) t) same)
+
+-- ---- the waits of the next command
+
+-- of two lists of one length both have a member at a place, or none has
+both_there : {X Y : Type 0} (xs : List X) (ys : List Y) (g : ℕ) → length ys ≡ length xs → (P : Option X → Option Y → Type 0) → P None None → ((x : X) (y : Y) → slice_get xs g ≡ Some x → slice_get ys g ≡ Some y → P (Some x) (Some y)) → P (slice_get xs g) (slice_get ys g)
+both_there [] [] zero e P none some = none
+both_there [] [] (suc g) e P none some = none
+both_there [] (y ∷ ys) g e P none some = absurd (omega arith)
+both_there (x ∷ xs) [] g e P none some = absurd (omega arith)
+both_there (x ∷ xs) (y ∷ ys) zero e P none some = some x y refl refl
+both_there (x ∷ xs) (y ∷ ys) (suc g) e P none some = both_there xs ys g (omega arith) P none some
+
+-- there is no next command, or its waits tell whether it is ready
+pub next_told : (d : Station) (routes : List Route) (p : Dispatch) (t : TrainNo) (waits : List (List Wait)) → TellWhatIsReady d routes p t waits → (k : ℕ) (s : List TrainState) → ShowTick d routes p k s → (P : Option RouteNo → Option (List Wait) → Type 0) → P None None
+    → ((r : RouteNo) (own : List Wait) → list_all (is_over s) own ≡ is_ready d routes p s (record { train = t; route = r }) → P (Some r) (Some own))
+    → P (slice_get (p.path t) (state_of s t).granted) (slice_get waits (state_of s t).granted)
+next_told d routes p t waits tell k s shows P none some =
+    both_there (p.path t) waits (state_of s t).granted tell.many P none (λ r own here there. some r own (tell.next k s shows r own here there))

@@ -15,6 +15,7 @@ use Rattle.rail_course.specs.declared.waits.Wait.{Wait}
 use Rattle.rail_course.specs.Courses.{AreCourses, IsCourse}
 use Rattle.rail_course.specs.Journeys.{IsJourney}
 use Rattle.rail_course.specs.Releases.{release_for, releases_of_route, releases_of_train}
+use Rattle.rail_course.specs.Telling.{TellWhatIsReady}
 use Rattle.rail_course.specs.Tracks.{IsCommand}
 use Rattle.rail_course.specs.Waits.{wait_for}
 
@@ -64,7 +65,8 @@ module _ (i : Itineraries) where
   abbrev pub releases_in : TrainNo → List Release
   releases_in = releases_of_train i.interlocking.now.design.station i.interlocking.now.routes going_in
 
-  -- the journey is that of its train in each dispatch with these paths, whose commands have these waits
+  -- the journey is that of its train in each dispatch with these paths in which these waits tell what is ready
   abbrev pub IsJourneyIn : Course → List (List Wait) → Journey → Type 0
-  IsJourneyIn c waits j = (p : Dispatch) → path_in ≡ p.path → waits ≡ train_waits_in p.before c.train
+  IsJourneyIn c waits j = (p : Dispatch) → path_in ≡ p.path
+      → TellWhatIsReady i.interlocking.now.design.station i.interlocking.now.routes p c.train waits
       → IsJourney i.interlocking.now.design.station i.interlocking.now.routes p j

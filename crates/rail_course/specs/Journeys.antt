@@ -6,13 +6,13 @@ use Rattle.rail_base.specs.Stations.{trains}
 use Rattle.rail_spec.specs.Dispatches.{Dispatch}
 use Rattle.rail_course.specs.declared.journey.Journey.{Journey}
 use Rattle.rail_course.specs.Courses.{IsCourse}
-use Rattle.rail_course.specs.Waits.{waits_of_train}
+use Rattle.rail_course.specs.Telling.{TellWhatIsReady}
 use Rattle.rail_course.specs.Releases.{releases_of_train}
 
 -- the journey is that of its train
 pub record IsJourney (d : Station) (routes : List Route) (p : Dispatch) (j : Journey) : Type 0 where
   pub course : IsCourse d routes (p.path j.course.now.train) j.course.now
-  pub waiting : map (λ v. v.items) j.waits.items ≡ waits_of_train d routes p j.course.now.train
+  pub telling : TellWhatIsReady d routes p j.course.now.train (map (λ v. v.items) j.waits.items)
   pub releasing : j.releases.items ≡ releases_of_train d routes p j.course.now.train
 
 -- these are the journeys of all trains, in file order

@@ -4,6 +4,8 @@ pub mod Fronts
 pub mod Stops
 pub mod Courses
 pub mod Waits
+pub mod Granting
+pub mod Telling
 pub mod Releases
 pub mod Journeys
 pub mod Itineraries

@@ -1,31 +1,11 @@
--- What the commands of a plan wait for.
-use Rattle.std.specs.Prelude.{List, filter, map}
-use Rattle.rail_base.specs.declared.station.TrainNo.{TrainNo}
-use Rattle.rail_base.specs.declared.plan.Command.{Command}
-use Rattle.rail_spec.specs.Plans.{precedes, preceding}
+-- The journeys that a plan gives the trains.
+use Rattle.std.specs.Prelude.{List}
 use Rattle.rail_spec.specs.Dispatches.{of_plan}
 use Rattle.rail_course.specs.declared.journey.Journey.{Journey}
 use Rattle.rail_course.specs.declared.planned.PlannedCourses.{PlannedCourses}
-use Rattle.rail_course.specs.declared.waits.Wait.{Wait}
-use Rattle.rail_course.specs.Itineraries.{train_waits_in, wait_in}
 use Rattle.rail_course.specs.Journeys.{AreJourneys}
 
 module _ (p : PlannedCourses) where
-  -- the waits of a command for those of these that precede it
-  abbrev pub waits_among : Command → List Command → List Wait
-  waits_among c es = let given = p.courses.given in
-      map (wait_in given c) (filter (λ e. precedes given.interlocking.now.routes p.plan.now.steps e c) es)
-
-  -- the waits of a command
-  abbrev pub planned_waits : Command → List Wait
-  planned_waits c = let given = p.courses.given in
-      map (wait_in given c) (preceding given.interlocking.now.routes p.plan.now.steps c)
-
-  -- the waits of each command of a train's path
-  abbrev pub planned_train_waits : TrainNo → List (List Wait)
-  planned_train_waits = let given = p.courses.given in
-      train_waits_in given (preceding given.interlocking.now.routes p.plan.now.steps)
-
   -- these are the journeys of all trains in the plan, in file order
   abbrev pub ArePlannedJourneys : List Journey → Type 0
   ArePlannedJourneys = let i = p.courses.given.interlocking.now in

@@ -1,9 +1,10 @@
 //! The journeys of trains.
 
-ghost use Rattle.std.specs.Prelude.{◌≡◌, ◌++◌, IfOk, OnOk, map};
+ghost use Rattle.std.specs.Prelude.{◌≡◌, ◌++◌, IfOk, OnOk, map, nat_abs};
 ghost use Rattle.rail_base.specs.Routes.{IsRoute};
 ghost use Rattle.rail_base.specs.Stations.{IsTrain};
-ghost use Rattle.rail_course.specs.Itineraries.{IsCourseIn, IsJourneyIn, releases_in, route_releases_in};
+ghost use Rattle.rail_course.specs.Itineraries.{IsCommandIn, IsCourseIn, IsJourneyIn, releases_in};
+ghost use Rattle.rail_course.specs.Itineraries.{route_releases_in};
 
 use crate::course::Course;
 use crate::courses::Courses;
@@ -34,6 +35,13 @@ pub struct Journey<'a> {
     pub releases: Vec<Release>,
 }
 
+/// Where a section of a route is released, in mm from the start of the route.
+fn offset_of(part: &(SectionNo, i64)) -> u64
+    ensures { result ≡ nat_abs part.now.1 }
+{
+    part.1.unsigned_abs()
+}
+
 impl<'a> Courses<'a> {
     /// Adds the releases of one route of a train's path.
     fn push_releases(
@@ -55,15 +63,24 @@ impl<'a> Courses<'a> {
         let before = self.place_of(command);
         let route = route_at(&self.given.interlocking.routes, number);
         for part in route.sections.as_slice() {
-            let section = part.0;
             releases.push(Release {
                 route: number,
-                section,
+                section: part.0,
                 number: before.number,
-                place: before.length + route.release_offset(section) + course.length,
+                place: before.length + offset_of(part) + course.length,
             })?;
         }
         Ok(())
+    }
+
+    /// The releases of a command.
+    pub fn releases_of(&self, alloc: Global, command: Command) -> Result<Vec<Release>, AllocError>
+        requires { IsCommandIn self.now.given command }
+        ensures { IfOk result (λ r. r.items ≡ route_releases_in self.now.given command.train command.route) }
+    {
+        let mut releases = Vec::new(alloc);
+        self.push_releases(&mut releases, command.train, command.route)?;
+        Ok(releases)
     }
 
     /// The releases of a train's path.

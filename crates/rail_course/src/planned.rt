@@ -1,10 +1,9 @@
 //! The paths that a plan gives the trains, and their courses.
 
-ghost use Rattle.std.specs.Prelude.{◌≡◌, All, IfOk, map};
+ghost use Rattle.std.specs.Prelude.{◌≡◌, IfOk, map};
 ghost use Rattle.rail_base.specs.Stations.{trains};
 ghost use Rattle.rail_spec.specs.Feasible.{IsWellFormed};
 ghost use Rattle.rail_spec.specs.Plans.{path};
-ghost use Rattle.rail_course.specs.Itineraries.{IsCommandIn};
 ghost use Rattle.rail_course.specs.Tracks.{ArePaths};
 
 use crate::courses::Courses;
@@ -34,12 +33,13 @@ pub fn paths_of(
     Ok(paths)
 }
 
-/// A plan, and the courses that it gives the trains.
+/// A well-formed plan, and the courses that it gives the trains.
 #[derive(Clone, Copy)]
 pub struct PlannedCourses<'a> {
     pub courses: Courses<'a>,
     pub plan: &'a Plan,
-    pub ghost named: { All (λ step. All (IsCommandIn courses.given) step) plan.now.steps },
+    pub ghost formed: { IsWellFormed courses.given.interlocking.now.design.station courses.given.interlocking.now.routes
+        64 plan.now.steps },
     pub ghost paths: { courses.given.paths.now
         ≡ map (path plan.now.steps) (trains courses.given.interlocking.now.design.station) },
 }

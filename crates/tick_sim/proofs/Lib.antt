@@ -2,3 +2,4 @@ pub mod Reaching
 pub mod Marking
 pub mod Verdicting
 pub mod Lawful
+mod Gathering

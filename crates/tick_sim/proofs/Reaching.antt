@@ -1,6 +1,5 @@
 -- In the run of a well-formed plan every train may move on.
-use Rattle.std.proofs.Common.{◌≡◌, ℕ, zero, suc, ◌+◌, ◌-◌, ◌*◌, ◌≤◌, ◌<◌, ◌⊎◌, Bool, true, false, if◌then◌else◌, List, length, take, slice_get, Option, None, Some, option_map, refl, sym, ap, subst, ◌∙◌, arith, mul-le-mul, le_refl}
-use Rattle.std.proofs.lemmas.Option.{slice_get-map}
+use Rattle.std.proofs.Common.{◌≡◌, ℕ, zero, suc, ◌+◌, ◌-◌, ◌*◌, ◌≤◌, ◌<◌, ◌⊎◌, Bool, true, false, if◌then◌else◌, List, length, take, slice_get, Option, None, Some, refl, sym, ap, subst, arith, mul-le-mul, le_refl}
 use Rattle.rail_base.specs.declared.station.Station.{Station}
 use Rattle.rail_base.specs.declared.station.TrainNo.{TrainNo}
 use Rattle.rail_base.specs.declared.route.Route.{Route}
@@ -13,7 +12,7 @@ use Rattle.rail_spec.specs.Track.{routes_of}
 use Rattle.rail_spec.specs.Motion.{permitted}
 use Rattle.rail_spec.specs.Plans.{path, path_routes}
 use Rattle.rail_spec.specs.Feasible.{IsWellFormed}
-use Rattle.rail_spec.specs.Dispatches.{state_of, rates, stretches, authority, of_plan, is_ready, granted_with}
+use Rattle.rail_spec.specs.Dispatches.{state_of, rates, stretches, authority, of_plan, has_released, is_ready, granted_with}
 use Rattle.rail_spec.specs.Dispatches.{granted_after, moved, state_at}
 use Rattle.rail_laws.proofs.Exclusion.{by_tick, idle_at_first}
 use Rattle.rail_laws.proofs.UnderWay.{still, next_grants, travels}
@@ -21,22 +20,19 @@ use Rattle.rail_laws.proofs.Admits.{sound}
 use Rattle.rail_laws.proofs.Small.{stays_small, IsSmall}
 use Rattle.rail_laws.proofs.Standing.{at_in}
 use Rattle.rail_course.specs.declared.waits.Wait.{Wait}
-use Rattle.rail_course.specs.Waits.{waits_of, waits_of_train}
-use Rattle.rail_course.proofs.Waiting.{plan_contending, ready_when_over}
-use Rattle.tick_sim.specs.Granting.{granted_on}
+use Rattle.rail_course.specs.Telling.{TellWhatIsReady}
+use Rattle.rail_course.proofs.Waiting.{next_told}
+use Rattle.rail_course.specs.Granting.{granted_on}
 use Rattle.tick_sim.specs.Runs.{CanMove, IsReached}
 
 module _ (d : Station) (routes : List Route) (plan : List (List Command)) where
   -- what the waits say is granted
-  pub granted_is : (s : List TrainState) (t : TrainNo) (ws : List (List Wait)) → ws ≡ waits_of_train d routes (of_plan routes plan) t → granted_on s (state_of s t).granted (slice_get ws (state_of s t).granted) ≡ granted_after d routes (of_plan routes plan) s t
-  granted_is s t ws same =
-      ap (λ w. granted_on s (state_of s t).granted (slice_get w (state_of s t).granted)) same
-      ∙ ap (granted_on s (state_of s t).granted) (slice_get-map (λ r. waits_of d routes (of_plan routes plan) (record { train = t; route = r })) (path plan t) (state_of s t).granted)
-      ∙ go (slice_get (path plan t) (state_of s t).granted)
-    where
-      go : (o : Option RouteNo) → granted_on s (state_of s t).granted (option_map (λ r. waits_of d routes (of_plan routes plan) (record { train = t; route = r })) o) ≡ granted_with d routes (of_plan routes plan) s t o
-      go None = refl
-      go (Some r) = ap (λ b. if b then (state_of s t).granted + 1 else (state_of s t).granted) (sym (ready_when_over d routes (of_plan routes plan) s (plan_contending d routes plan) (record { train = t; route = r })))
+  pub granted_is : (s : List TrainState) → IsReached d routes plan s → (t : TrainNo) (ws : List (List Wait)) → TellWhatIsReady d routes (of_plan routes plan) t ws → granted_on s (state_of s t).granted (slice_get ws (state_of s t).granted) ≡ granted_after d routes (of_plan routes plan) s t
+  granted_is s reached t ws tell =
+      next_told d routes (of_plan routes plan) t ws tell reached.tick s
+      (record { granted = λ u there. ap (λ v. (state_of v u).granted) reached.is; released = λ c z own. ap (λ v. has_released d routes (of_plan routes plan) v c z) reached.is })
+      (λ o u. granted_on s (state_of s t).granted u ≡ granted_with d routes (of_plan routes plan) s t o) refl
+      (λ r own e. ap (λ b. if b then (state_of s t).granted + 1 else (state_of s t).granted) e)
 
   -- no train is granted more than its path
   grants_within : (s : List TrainState) (t : TrainNo) → (state_of s t).granted ≤ length (path plan t) → granted_after d routes (of_plan routes plan) s t ≤ length (path plan t)

@@ -1,5 +1,5 @@
 -- Runs as the simulator makes them.
-pub mod Granting
 pub mod Runs
 pub mod Marks
 pub mod Running
+pub mod Pairs

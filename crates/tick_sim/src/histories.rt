@@ -3,7 +3,6 @@
 ghost use Rattle.std.specs.Prelude.{◌≡◌, ◌-◌, IfOk};
 ghost use Rattle.tick_sim.specs.Running.{IsNowIn, history_in, train_history_in};
 
-use crate::grants::state_of;
 use crate::marks::{
     mark_grants, mark_passes, mark_releases, mark_visits, none_granted, none_passed, none_released,
     none_visited,
@@ -13,6 +12,7 @@ use crate::run::Run;
 use rail_base::history::{History, TrainHistory};
 use rail_base::list::List;
 use rail_base::state::TrainState;
+use rail_course::state_of;
 use std::alloc::{AllocError, Global};
 
 impl Ride<'_> {

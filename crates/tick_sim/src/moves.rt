@@ -8,11 +8,10 @@ ghost use Rattle.rail_spec.specs.Plans.{path};
 ghost use Rattle.rail_spec.specs.Dispatches.{authority, state_of, stretches};
 ghost use Rattle.tick_sim.specs.Running.{CanMoveIn, IsReachedIn, first_routes, granted_in, moved_in, tick_in};
 
-use crate::grants::{granted_on, state_of};
 use crate::ride::Ride;
 use crate::run::Run;
 use rail_base::state::TrainState;
-use rail_course::Front;
+use rail_course::{Front, granted_on, state_of};
 use rail_motion::{Ahead, advance};
 use std::alloc::{AllocError, Global};
 

@@ -8,14 +8,14 @@ ghost use Rattle.rail_spec.specs.Safety.{Clash, KeepsToTrack};
 ghost use Rattle.rail_laws.specs.Progress.{IsGrantedInTime};
 ghost use Rattle.tick_sim.specs.Running.{path_violation_in, states_in, verdict_in};
 
-use crate::grants::IDLE;
+use crate::pairs::journeys;
 use crate::run::Run;
 use interlocking::Interlocking;
 use rail_base::history::Verdict;
 use rail_base::list::List;
 use rail_base::plan::Plan;
 use rail_base::state::TrainState;
-use rail_course::{Courses, Itineraries, PlannedCourses, paths_of};
+use rail_course::{Courses, IDLE, Itineraries, PlannedCourses, paths_of};
 use rail_require::{first_violation, is_done};
 use std::alloc::{AllocError, Global};
 
@@ -96,7 +96,7 @@ fn run_plan<'a>(
         courses: courses.as_slice(),
     };
     let planned = PlannedCourses { courses, plan };
-    let journeys = planned.journeys(alloc)?;
+    let journeys = journeys(&planned, alloc)?;
     let run = Run {
         interlocking,
         plan,

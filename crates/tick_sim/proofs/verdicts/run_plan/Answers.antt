@@ -1,6 +1,5 @@
 use Rattle.std.proofs.Common.{length, All, ap, sym, subst, ◌∙◌}
 use Rattle.rail_course.specs.Tracks.{IsInRange}
-use Rattle.rail_course.proofs.Granting.{plan_named}
 use Rattle.tick_sim.proofs.verdicts.run_plan.Goals as goal
 
 pub invariant_of-given : goal.invariant_of-given
@@ -10,4 +9,4 @@ invariant_of-given c = record {
 }
 
 pub invariant_of-planned : goal.invariant_of-planned
-invariant_of-planned c = record { named = plan_named c.args.interlocking.now c.args.plan.now.steps c.requires; paths = c.as_slice.ensures.value ∙ c.in_ok-paths.ensures.all }
+invariant_of-planned c = record { formed = c.requires; paths = c.as_slice.ensures.value ∙ c.in_ok-paths.ensures.all }

@@ -4,7 +4,7 @@ use Rattle.interlocking.specs.declared.railway.Interlocking.{Interlocking}
 use Rattle.rail_cone.specs.Cones.{of_cone}
 use Rattle.dispatch_run.specs.Followers.{AreFollowers}
 use Rattle.cone_run.proofs.Riding.{last_within}
-use Rattle.cone_run.proofs.Leading.{contending, may_go}
+use Rattle.cone_run.proofs.Leading.{may_go}
 use Rattle.cone_run.proofs.layout.Layout.history.Goals as goal
 
 pub history_of-requires : goal.history_of-requires
@@ -18,7 +18,6 @@ history_of-requires c =
     let most = adm.ticks.1 in
     let last = c.last_tick.ensures in (
       record {
-        contending = contending d i.routes cone known;
         goes = may_go d i.routes cone known adm i.table i.few;
         followers = subst (AreFollowers d i.routes (of_cone cone)) (sym c.as_slice-2.ensures.value) (subst (λ (i : Interlocking). AreFollowers i.design.station i.routes (of_cone cone) c.in_ok-followers.followers.items) c.args.self.now.over c.in_ok-followers.ensures);
       },

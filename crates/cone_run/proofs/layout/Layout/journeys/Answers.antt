@@ -4,8 +4,12 @@ use Rattle.rail_course.specs.declared.course.Course.{Course}
 use Rattle.rail_course.specs.declared.journey.Journey.{Journey}
 use Rattle.rail_course.specs.Itineraries.{IsCourseIn}
 use Rattle.rail_course.specs.Journeys.{IsJourney}
+use Rattle.rail_course.specs.Waits.{IsContending}
 use Rattle.rail_course.proofs.Coursing.{map_step, path_of_number}
+use Rattle.rail_course.proofs.Waiting.{all_waits_in}
+use Rattle.interlocking.specs.declared.railway.Interlocking.{Interlocking}
 use Rattle.rail_cone.specs.Cones.{free_path, of_cone}
+use Rattle.cone_run.proofs.Leading.{contending}
 use Rattle.cone_run.proofs.Ranging.{no_free_path}
 use Rattle.cone_run.proofs.layout.Layout.journeys.Goals as goal
 
@@ -26,8 +30,9 @@ loop-course-preserved c =
     let items = c.in_ok-push.ensures.items in
     let over = self.contention.interlocking.now in
     let same = path_of_number over.design.station (free_path cone) given.paths.now self.given (no_free_path over.design.station over.routes cone self.known) in
+    let contends = subst (λ (i : Interlocking). IsContending i.design.station i.routes p) (sym self.over) (contending over.design.station over.routes cone self.known) in
     record {
       each = subst (All (IsJourney d routes p)) (sym items) (All-push (IsJourney d routes p) c.loop-course.journeys.items _ c.loop-course.invariant.each
-          (c.in_ok-journey.ensures.journey p same c.in_ok-waits.ensures));
+          (c.in_ok-journey.ensures.journey p same (all_waits_in given p contends same _ _ c.in_ok-waits.ensures)));
       left = map_step (λ (j : Journey). j.course.now.train) (λ (x : Course). x.train) c.loop-course.journeys.items c.push.new.self.items _ self.courses.courses.now c.loop-course.course-index c.course-item.result _ c.loop-course-test.true c.course-item.is items (ap (λ (x : Course). x.train) c.in_ok-journey.ensures.course) c.loop-course.invariant.left;
     }

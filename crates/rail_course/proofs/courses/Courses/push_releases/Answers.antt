@@ -1,11 +1,13 @@
-use Rattle.std.proofs.Common.{◌≡◌, ◌≤◌, ◌++◌, map, ap, sym, ◌∙◌, arith}
+use Rattle.std.proofs.Common.{◌≡◌, ◌++◌, map, get_or, ℤ, pos, ap, sym, ◌∙◌, arith}
+use Rattle.rail_base.specs.declared.station.SectionNo.{SectionNo}
 use Rattle.rail_base.specs.declared.route.Route.{Route}
-use Rattle.rail_base.specs.Routes.{route_at, length_mm}
+use Rattle.rail_base.specs.Routes.{route_at}
+use Rattle.rail_base.specs.Stations.{train_length}
 use Rattle.rail_base.proofs.Members.{map-map}
 use Rattle.rail_course.specs.Itineraries.{release_in}
 use Rattle.rail_course.proofs.Rating.{vehicle_is_good}
-use Rattle.rail_course.proofs.Coursing.{release_small}
-use Rattle.rail_course.proofs.Granting.{brief, laid_out}
+use Rattle.rail_course.proofs.Granting.{brief}
+use Rattle.rail_course.proofs.Parting.{grown, part_offset, part_small, same_release}
 use Rattle.rail_course.proofs.courses.Courses.push_releases.Goals as goal
 
 pub loop-part-init : goal.loop-part-init
@@ -17,16 +19,30 @@ loop-part-init c =
 
 pub overflow_add-before : goal.overflow_add-before
 overflow_add-before c =
+    let i = c.args.self.now.given.interlocking.now in
     let short = c.place_of-before.ensures.short in
-    let near = brief c.args.self.now.given.interlocking.now c.args.number in
-    let small : c.release_offset.result ≤ length_mm (route_at c.args.self.now.given.interlocking.now.routes c.args.number) = release_small _ _ _ _ _ c.release_offset.ensures c.route_at-route.ensures ((laid_out c.args.self.now.given.interlocking.now).each c.args.number).releases in
-    omega arith
+    let near = brief i c.args.number in
+    let small = part_small i c.args.number c.as_slice-part-items.result.now c.loop-part.part-index c.offset_of.result (record { 0 = 0 }, pos 0) (c.as_slice-part-items.ensures ∙ ap (λ (r : Route). r.sections) c.route_at-route.ensures) c.loop-part-test.true c.offset_of.ensures in
+    omega (arith, short, near, small)
 
 pub overflow_add-before-in-loop-part : goal.overflow_add-before-in-loop-part
 overflow_add-before-in-loop-part c =
+    let i = c.args.self.now.given.interlocking.now in
     let short = c.place_of-before.ensures.short in
-    let near = brief c.args.self.now.given.interlocking.now c.args.number in
-    let small : c.release_offset.result ≤ length_mm (route_at c.args.self.now.given.interlocking.now.routes c.args.number) = release_small _ _ _ _ _ c.release_offset.ensures c.route_at-route.ensures ((laid_out c.args.self.now.given.interlocking.now).each c.args.number).releases in
+    let near = brief i c.args.number in
+    let small = part_small i c.args.number c.as_slice-part-items.result.now c.loop-part.part-index c.offset_of.result (record { 0 = 0 }, pos 0) (c.as_slice-part-items.ensures ∙ ap (λ (r : Route). r.sections) c.route_at-route.ensures) c.loop-part-test.true c.offset_of.ensures in
     let long = c.course-course.ensures.course.long in
-    let good = (vehicle_is_good c.args.self.now.given.interlocking.now.design c.course-course.result.now.train c.course-course.ensures.course.train).length_mm.1 in
-    omega arith
+    let good = (vehicle_is_good i.design c.course-course.result.now.train c.course-course.ensures.course.train).length_mm.1 in
+    omega (arith, short, near, small, long, good)
+
+pub loop-part-preserved : goal.loop-part-preserved
+loop-part-preserved c =
+    let given = c.args.self.now.given in
+    let i = given.interlocking.now in
+    let z = (get_or c.as_slice-part-items.result.now c.loop-part.part-index (record { 0 = 0 }, pos 0)).0 in
+    let release = λ (y : SectionNo × ℤ). release_in given (record { train = c.args.train; route = c.args.number }) y.0 in
+    let at = part_offset i c.args.number c.as_slice-part-items.result.now c.loop-part.part-index c.offset_of.result (record { 0 = 0 }, pos 0) (c.as_slice-part-items.ensures ∙ ap (λ (r : Route). r.sections) c.route_at-route.ensures) c.loop-part-test.true c.offset_of.ensures in
+    let before = c.place_of-before.ensures.length in
+    let long : c.course-course.result.now.length ≡ train_length i.design.station c.args.train = c.course-course.ensures.course.long ∙ ap (train_length i.design.station) c.course-course.ensures.train in
+    grown release c.loop-part.releases.items c.push.new.self.items _ c.as_slice-part-items.result.now c.loop-part.part-index (record { 0 = 0 }, pos 0) _ c.loop-part-test.true c.in_ok-push.ensures.items
+    (same_release c.args.number z _ _ _ _ c.place_of-before.ensures.number (omega (arith, at, before, long))) c.loop-part.invariant

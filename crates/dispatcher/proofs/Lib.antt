@@ -1,0 +1,8 @@
+mod Steps
+mod Last
+mod Enough
+mod Telling
+mod Gathering
+mod Entering
+mod Merging
+mod Knowing

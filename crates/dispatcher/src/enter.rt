@@ -1,0 +1,48 @@
+//! How a command leaves and enters the queues of its sections.
+
+ghost use Rattle.std.specs.Prelude.{◌≡◌, ◌++◌, ◌==◌, [], if◌then◌else◌, All, OnOk, filter, length, map};
+ghost use Rattle.rail_base.specs.declared.station.SectionNo.{SectionNo};
+ghost use Rattle.rail_base.specs.Routes.{has_section};
+ghost use Rattle.dispatcher.specs.Queues.{IsWithin, queue_at};
+ghost use Rattle.dispatcher.specs.Waits.{wait_until};
+
+use crate::lists::{empty, put};
+use rail_base::list::List;
+use rail_base::route::Route;
+use rail_base::station::TrainNo;
+use rail_course::{Release, Wait};
+use std::alloc::{AllocError, Global};
+
+/// Empties the queues of a route's sections.
+pub(crate) fn leave(queues: &mut Vec<List<Wait>>, alloc: Global, route: &Route)
+    requires { All (λ p. IsWithin (length queues.old.items) p.0) route.now.sections }
+    ensures many { length queues.new.items ≡ length queues.old.items }
+    ensures left { (z : SectionNo) → queue_at queues.new.items z
+        ≡ (if has_section route.now z then [] else queue_at queues.old.items z) }
+{
+    for part in route.sections.as_slice() {
+        empty(queues, alloc, part.0.0);
+    }
+}
+
+/// Puts the releases of a train's command into the queues of their sections.
+pub(crate) fn enter(
+    queues: &mut Vec<List<Wait>>,
+    train: TrainNo,
+    releases: &[Release],
+) -> Result<(), AllocError>
+    requires { All (λ r. IsWithin (length queues.old.items) r.section) releases.now }
+    ensures many { length queues.new.items ≡ length queues.old.items }
+    ensures entered { OnOk result ((z : SectionNo) → queue_at queues.new.items z
+        ≡ queue_at queues.old.items z ++ map (wait_until train) (filter (λ r. r.section.0 == z.0) releases.now)) }
+{
+    for release in releases {
+        let wait = Wait {
+            train,
+            number: release.number,
+            place: release.place,
+        };
+        put(queues, release.section.0, wait)?;
+    }
+    Ok(())
+}

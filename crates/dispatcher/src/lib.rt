@@ -1,0 +1,10 @@
+//! What the commands of a plan wait for, told by queues of commands by section.
+#![tactic(auto)]
+
+mod enter;
+mod lists;
+mod planned;
+mod turns;
+mod waits;
+
+pub use planned::journeys;

@@ -1,0 +1,101 @@
+//! The waits of a command for what stands last on its sections.
+
+ghost use Rattle.std.specs.Prelude.{◌≡◌, ◌&&◌, List, IfOk, IfSome, OnOk, length};
+ghost use Rattle.std.specs.List.{list_all};
+ghost use Rattle.rail_base.specs.declared.state.TrainState.{TrainState};
+ghost use Rattle.rail_base.specs.Routes.{IsRoute, route_at, sections};
+ghost use Rattle.rail_course.specs.Waits.{is_over};
+ghost use Rattle.dispatcher.specs.Queues.{queue_at};
+ghost use Rattle.dispatcher.specs.Waits.{lets_pass};
+
+use interlocking::Interlocking;
+use rail_base::list::List;
+use rail_base::plan::Command;
+use rail_base::station::TrainNo;
+use rail_course::Wait;
+use std::alloc::{AllocError, Global};
+
+/// One wait in place of two for the same command.
+fn merged(first: Wait, second: Wait) -> Option<Wait>
+    ensures { IfSome result (λ w. (s : List TrainState) → is_over s w ≡ (is_over s first && is_over s second)) }
+{
+    if first.train != second.train || first.number != second.number {
+        return None;
+    }
+    Some(Wait {
+        train: first.train,
+        number: first.number,
+        place: first.place.max(second.place),
+    })
+}
+
+/// Adds two waits, or one in place of them where they are for the same command.
+fn push_two(waits: &mut Vec<Wait>, first: Wait, second: Wait) -> Result<(), AllocError>
+    ensures { OnOk result ((s : List TrainState) → list_all (is_over s) waits.new.items
+        ≡ (list_all (is_over s) waits.old.items && (is_over s first && is_over s second))) }
+{
+    let Some(both) = merged(first, second) else {
+        waits.push(first)?;
+        waits.push(second)?;
+        return Ok(());
+    };
+    waits.push(both)?;
+    Ok(())
+}
+
+/// Adds a wait; one for the same command as the last one is merged with it.
+fn push_wait(waits: &mut Vec<Wait>, wait: Wait) -> Result<(), AllocError>
+    ensures { OnOk result ((s : List TrainState) → list_all (is_over s) waits.new.items
+        ≡ (list_all (is_over s) waits.old.items && is_over s wait)) }
+{
+    let Some(last) = waits.pop() else {
+        waits.push(wait)?;
+        return Ok(());
+    };
+    push_two(waits, last, wait)?;
+    Ok(())
+}
+
+/// Adds a wait of a train, if it is for another one.
+fn push_other(waits: &mut Vec<Wait>, wait: Wait, train: TrainNo) -> Result<(), AllocError>
+    ensures { OnOk result ((s : List TrainState) → list_all (is_over s) waits.new.items
+        ≡ (list_all (is_over s) waits.old.items && lets_pass s train wait)) }
+{
+    if wait.train == train {
+        return Ok(());
+    }
+    push_wait(waits, wait)?;
+    Ok(())
+}
+
+/// Adds the waits of a queue that are for other trains.
+fn push_queue(waits: &mut Vec<Wait>, queue: &[Wait], train: TrainNo) -> Result<(), AllocError>
+    ensures { OnOk result ((s : List TrainState) → list_all (is_over s) waits.new.items
+        ≡ (list_all (is_over s) waits.old.items && list_all (lets_pass s train) queue.now)) }
+{
+    for wait in queue {
+        push_other(waits, *wait, train)?;
+    }
+    Ok(())
+}
+
+/// The waits of a command for the other trains in the queues of its sections.
+pub(crate) fn waits_of(
+    interlocking: &Interlocking,
+    alloc: Global,
+    queues: &[List<Wait>],
+    command: Command,
+) -> Result<Vec<Wait>, AllocError>
+    requires route { IsRoute interlocking.now.routes command.route }
+    requires many { length queues.now ≡ length interlocking.now.design.station.sections }
+    ensures { IfOk result (λ own. (s : List TrainState) → list_all (is_over s) own.items
+        ≡ list_all (λ z. list_all (lets_pass s command.train) (queue_at queues.now z))
+        (sections (route_at interlocking.now.routes command.route))) }
+{
+    let mut waits = Vec::new(alloc);
+    for part in interlocking.route(command.route).sections.as_slice() {
+        let queue = queues[part.0.0 as usize - 1].as_slice();
+        push_queue(&mut waits, queue, command.train)?;
+    }
+    Ok(waits)
+}

@@ -1,0 +1,103 @@
+-- The sections of a route, each of which stands once in it.
+use Rattle.std.proofs.Common.{◌≡◌, ℕ, ◌+◌, ◌≤◌, ◌<◌, inl, inr, Bool, true, false, cond, ◌==◌, List, [], ◌∷◌, ◌++◌, map, filter, drop, get_or, fold, max, length, ℤ, nat_abs, refl, sym, ap, subst, ◌∙◌, append_assoc, arith, eq-eqb, eqb-true}
+use Rattle.std.proofs.lemmas.List.{drop_more}
+use Rattle.rail_base.specs.declared.station.Station.{Station}
+use Rattle.rail_base.specs.declared.station.EdgeNo.{EdgeNo}
+use Rattle.rail_base.specs.declared.station.SectionNo.{SectionNo}
+use Rattle.rail_base.specs.declared.route.Route.{Route}
+use Rattle.rail_base.specs.declared.route.RouteNo.{RouteNo}
+use Rattle.rail_base.specs.Admitted.{IsAdmitted}
+use Rattle.rail_base.specs.Members.{In, Pairs}
+use Rattle.rail_base.specs.Routes.{no_route, route_at, length_mm, release_offset}
+use Rattle.rail_base.specs.Stations.{section_of}
+use Rattle.rail_base.proofs.Admitting.{admitted}
+use Rattle.rail_base.proofs.Contained.{in_at}
+use Rattle.rail_base.proofs.Members.{false_unless}
+use Rattle.rail_base.proofs.Lists.{in_map, in_map_back}
+use Rattle.rail_spec.specs.Track.{first_occurrences, routes_of}
+use Rattle.rail_laws.proofs.Admits.{entry_is}
+use Rattle.rail_laws.proofs.RouteLaws.{route_is, way_edges}
+use Rattle.rail_laws.proofs.Told.{first_in, told}
+use Rattle.interlocking.specs.declared.railway.Interlocking.{Interlocking}
+use Rattle.rail_course.specs.declared.journey.Release.{Release}
+use Rattle.rail_course.proofs.Granting.{laid_out}
+
+-- each part has a section of its own
+abbrev pub Once : List (SectionNo × ℤ) → Type 0
+Once ps = Pairs (λ (y z : SectionNo × ℤ). y.0 ≡ z.0 → ⊥) ps
+
+abbrev pub is_of : SectionNo → SectionNo × ℤ → Bool
+is_of z p = p.0.0 == z.0
+
+same_section : (y z : SectionNo) → (y.0 == z.0) ≡ true → y ≡ z
+same_section y z e = ap (λ n. record { 0 = n }) (eqb-true y.0 z.0 e)
+
+none_of : (ps : List (SectionNo × ℤ)) (z : SectionNo) → ((q : SectionNo × ℤ) → In q ps → z ≡ q.0 → ⊥) → filter (is_of z) ps ≡ []
+none_of [] z h = refl
+none_of (q ∷ qs) z h =
+    let other : is_of z q ≡ false = false_unless (is_of z q) (λ e. h q (inl refl) (sym (same_section q.0 z e))) in
+    ap (λ b. cond b (q ∷ filter (is_of z) qs) (filter (is_of z) qs)) other ∙ none_of qs z (λ x m. h x (inr m))
+
+-- of such parts those of one's section are that one
+pub alone : (ps : List (SectionNo × ℤ)) → Once ps → (p : SectionNo × ℤ) → In p ps → filter (is_of p.0) ps ≡ p ∷ []
+alone [] once p m = absurd m
+alone (q ∷ qs) once p (inl e) =
+    let here : is_of p.0 q ≡ true = eq-eqb q.0.0 p.0.0 (ap (λ (x : SectionNo × ℤ). x.0.0) e) in
+    ap (λ b. cond b (q ∷ filter (is_of p.0) qs) (filter (is_of p.0) qs)) here
+    ∙ ap (λ xs. q ∷ xs) (none_of qs p.0 (λ x m s. once.0 x m (ap (λ (y : SectionNo × ℤ). y.0) e ∙ s)))
+    ∙ ap (λ x. x ∷ []) e
+alone (q ∷ qs) once p (inr m) =
+    let other : is_of p.0 q ≡ false = false_unless (is_of p.0 q) (λ e. once.0 p m (same_section q.0 p.0 e)) in
+    ap (λ b. cond b (q ∷ filter (is_of p.0) qs) (filter (is_of p.0) qs)) other ∙ alone qs once.1 p m
+
+module _ (i : Interlocking) where
+  abbrev station : Station
+  station = i.design.station
+
+  adm : IsAdmitted station
+  adm = admitted station i.design.admitted
+
+  pub parts_once : (r : RouteNo) → Once (route_at i.routes r).sections
+  parts_once r = subst (λ rs. Once (route_at rs r).sections) (sym i.table) (entry_is (λ (q : Route). Once q.sections) no_route (routes_of station) r.0 tt (λ q m. (told station adm q m).each_once))
+
+  -- so a route has released a section at the offset that stands beside it
+  pub offset_is : (r : RouteNo) (p : SectionNo × ℤ) → In p (route_at i.routes r).sections → release_offset (route_at i.routes r) p.0 ≡ nat_abs p.1
+  offset_is r p m =
+      ap (λ ps. fold max 0 (map (λ (q : SectionNo × ℤ). nat_abs q.1) ps)) (alone (route_at i.routes r).sections (parts_once r) p m) ∙ (let e : max 0 (nat_abs p.1) ≡ nat_abs p.1 = omega arith in e)
+
+  -- its sections are those of the station
+  pub sections_within : (r : RouteNo) (p : SectionNo × ℤ) → In p (route_at i.routes r).sections → (1 ≤ p.0.0) × (p.0.0 ≤ length station.sections)
+  sections_within r = subst (λ rs. (p : SectionNo × ℤ) → In p (route_at rs r).sections → (1 ≤ p.0.0) × (p.0.0 ≤ length station.sections)) (sym i.table)
+      (entry_is (λ (q : Route). (p : SectionNo × ℤ) → In p q.sections → (1 ≤ p.0.0) × (p.0.0 ≤ length station.sections)) no_route (routes_of station) r.0 (λ p m. absurd m) of_route)
+    where
+      of_route : (q : Route) → In q (routes_of station) → (p : SectionNo × ℤ) → In p q.sections → (1 ≤ p.0.0) × (p.0.0 ≤ length station.sections)
+      of_route q m p k =
+          let first : In p.0 (first_occurrences (map (section_of station) q.edges)) = subst (In p.0) (told station adm q m).sections_are (in_map (λ (x : SectionNo × ℤ). x.0) q.sections p k) in
+          at (in_map_back (section_of station) q.edges p.0 (first_in (map (section_of station) q.edges) p.0 first))
+        where
+          at : ((e : EdgeNo) × In e q.edges × (section_of station e ≡ p.0)) → (1 ≤ p.0.0) × (p.0.0 ≤ length station.sections)
+          at (e, n, same) =
+              let l = (route_is station adm q m).elementary in
+              subst (λ (z : SectionNo). (1 ≤ z.0) × (z.0 ≤ length station.sections)) same (adm.edge e (way_edges station l.end q.edges l.way e n)).section
+
+  -- what stands beside a section, by its place in the route
+  pub part_offset : (r : RouteNo) (parts : List (SectionNo × ℤ)) (k n : ℕ) (other : SectionNo × ℤ) → parts ≡ (route_at i.routes r).sections → k < length parts → n ≡ nat_abs (get_or parts k other).1 → n ≡ release_offset (route_at i.routes r) (get_or parts k other).0
+  part_offset r parts k n other same less is =
+      is ∙ sym ((subst (λ ps. k < length ps → release_offset (route_at i.routes r) (get_or ps k other).0 ≡ nat_abs (get_or ps k other).1) (sym same) (λ l. offset_is r (get_or (route_at i.routes r).sections k other) (in_at (route_at i.routes r).sections k other l))) less)
+
+  pub part_small : (r : RouteNo) (parts : List (SectionNo × ℤ)) (k n : ℕ) (other : SectionNo × ℤ) → parts ≡ (route_at i.routes r).sections → k < length parts → n ≡ nat_abs (get_or parts k other).1 → n ≤ length_mm (route_at i.routes r)
+  part_small r parts k n other same less is =
+      let at = part_offset r parts k n other same less is in
+      let within = ((laid_out i).each r).releases (get_or parts k other).0 in
+      omega (arith, at, within)
+
+-- ---- releases that are gathered
+
+pub same_release : (r : RouteNo) (z : SectionNo) (m n a b : ℕ) → m ≡ n → a ≡ b → ◌≡◌ {A = Release} (record { route = r; section = z; number = m; place = a }) (record { route = r; section = z; number = n; place = b })
+same_release r z m n a b e f = cc
+
+-- one more of what is made of each
+pub grown : {X Y : Type 0} (g : Y → X) (old new : List X) (x : X) (ys : List Y) (k : ℕ) (other : Y) (all : List X) → k < length ys → new ≡ old ++ x ∷ [] → x ≡ g (get_or ys k other) → old ++ map g (drop k ys) ≡ all → new ++ map g (drop (k + 1) ys) ≡ all
+grown g old new x ys k other all less made is left =
+    ap (λ zs. zs ++ map g (drop (k + 1) ys)) made ∙ append_assoc old (x ∷ []) (map g (drop (k + 1) ys)) ∙ ap (λ y. old ++ (y ∷ map g (drop (k + 1) ys))) is
+    ∙ ap (λ zs. old ++ map g zs) (sym (drop_more ys k other less)) ∙ left

@@ -1,0 +1,57 @@
+//! Which commands are granted in a tick.
+
+ghost use Rattle.std.specs.Prelude.{◌≡◌, ◌<◌, ◌^◌, List, map, slice_get, option_map};
+ghost use Rattle.std.specs.List.{list_all};
+ghost use Rattle.rail_spec.specs.Dispatches.{state_of};
+ghost use Rattle.rail_course.specs.Waits.{is_over};
+ghost use Rattle.rail_course.specs.Granting.{granted_on};
+
+use crate::waits::Wait;
+use rail_base::state::TrainState;
+use rail_base::station::TrainNo;
+
+/// How a train begins: nothing is granted, and it stands at the start of its path.
+pub const IDLE: TrainState = TrainState {
+    granted: 0,
+    x: 0,
+    v: 0,
+};
+
+/// The state of a train; who is no train is idle.
+pub fn state_of(states: &[TrainState], train: TrainNo) -> TrainState
+    ensures { result ≡ state_of states.now train }
+{
+    if train.0 == 0 || states.len() < train.0 as usize {
+        return IDLE;
+    }
+    states[train.0 as usize - 1]
+}
+
+/// Whether a wait is over.
+fn is_over(states: &[TrainState], wait: &Wait) -> bool
+    ensures { result ≡ is_over states.now wait.now }
+{
+    let state = state_of(states, wait.train);
+    wait.number < state.granted && wait.place <= state.x
+}
+
+/// Whether all of these waits are over.
+fn are_over(states: &[TrainState], waits: &[Wait]) -> bool
+    ensures { result ≡ list_all (is_over states.now) waits.now }
+{
+    waits.iter().all(|wait| is_over(states, wait))
+}
+
+/// How many commands are granted after the tick, where so many are before it and these are the waits of each.
+pub fn granted_on(states: &[TrainState], granted: usize, waits: &[Vec<Wait>]) -> usize
+    ensures { result ≡ granted_on states.now granted (slice_get (map (λ v. v.items) waits.now) granted) }
+{
+    if waits.len() <= granted {
+        return granted;
+    }
+    if are_over(states, waits[granted].as_slice()) {
+        granted + 1
+    } else {
+        granted
+    }
+}

@@ -1,0 +1,10 @@
+use Rattle.std.proofs.Common.{map, ap, ◌∙◌}
+use Rattle.rail_course.specs.Itineraries.{path_in}
+use Rattle.tick_sim.specs.Pairs.{planned_waits}
+use Rattle.rail_base.specs.declared.route.RouteNo.{RouteNo}
+use Rattle.tick_sim.proofs.pairs.waits_of_train.Goals as goal
+
+pub loop-route-init : goal.loop-route-init
+loop-route-init c =
+    let items = c.new-waits.ensures.items in
+    rw items (ap (map (λ (r : RouteNo). planned_waits c.args.planned.now (record { train = c.args.train; route = r }))) (c.deref-route-items.ensures.value ∙ c.course-course.ensures.course.given ∙ ap (path_in c.args.planned.now.courses.given) c.course-course.ensures.train))

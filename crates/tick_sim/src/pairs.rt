@@ -1,0 +1,87 @@
+//! What the commands of a plan wait for, pair by pair, and the journeys that this gives the trains.
+
+ghost use Rattle.std.specs.Prelude.{◌≡◌, ◌++◌, All, IfOk, OnOk, map};
+ghost use Rattle.rail_base.specs.Routes.{IsRoute};
+ghost use Rattle.rail_base.specs.Stations.{IsTrain};
+ghost use Rattle.rail_course.specs.Itineraries.{IsCommandIn};
+ghost use Rattle.rail_course.specs.Planned.{ArePlannedJourneys};
+ghost use Rattle.tick_sim.specs.Pairs.{planned_train_waits, planned_waits, waits_among};
+
+use rail_base::list::List;
+use rail_base::plan::Command;
+use rail_base::station::TrainNo;
+use rail_course::{Journey, PlannedCourses, Wait};
+use rail_plan::paths::precedes;
+use std::alloc::{AllocError, Global};
+
+/// Adds the waits of a command for those of a step that precede it.
+fn push_waits(
+    planned: &PlannedCourses,
+    waits: &mut Vec<Wait>,
+    command: Command,
+    step: &List<Command>,
+) -> Result<(), AllocError>
+    requires command { IsRoute planned.now.courses.given.interlocking.now.routes command.route }
+    requires step { All (IsCommandIn planned.now.courses.given) step.now }
+    ensures { OnOk result (waits.new.items ≡ waits.old.items ++ waits_among planned.now command step.now) }
+{
+    let interlocking = planned.courses.given.interlocking;
+    for other in step.as_slice() {
+        if precedes(interlocking, planned.plan, *other, command) {
+            waits.push(planned.courses.wait_for(command, *other))?;
+        }
+    }
+    Ok(())
+}
+
+/// The waits of a command.
+fn waits_of(
+    planned: &PlannedCourses,
+    alloc: Global,
+    command: Command,
+) -> Result<Vec<Wait>, AllocError>
+    requires { IsRoute planned.now.courses.given.interlocking.now.routes command.route }
+    ensures { IfOk result (λ w. w.items ≡ planned_waits planned.now command) }
+{
+    let mut waits = Vec::new(alloc);
+    for step in planned.plan.steps.as_slice() {
+        push_waits(planned, &mut waits, command, step)?;
+    }
+    Ok(waits)
+}
+
+/// The waits of each command of a train's path.
+fn waits_of_train(
+    planned: &PlannedCourses,
+    alloc: Global,
+    train: TrainNo,
+) -> Result<Vec<Vec<Wait>>, AllocError>
+    requires { IsTrain planned.now.courses.given.interlocking.now.design.station train }
+    ensures { IfOk result (λ w. map (λ v. v.items) w.items ≡ planned_train_waits planned.now train) }
+{
+    let mut waits = Vec::new(alloc);
+    let course = planned.courses.course(train);
+    for route in &course.path {
+        let command = Command {
+            train,
+            route: *route,
+        };
+        waits.push(waits_of(planned, alloc, command)?)?;
+    }
+    Ok(waits)
+}
+
+/// The journeys of all trains, in file order.
+pub(crate) fn journeys<'a>(
+    planned: &PlannedCourses<'a>,
+    alloc: Global,
+) -> Result<Vec<Journey<'a>>, AllocError>
+    ensures { IfOk result (λ js. ArePlannedJourneys planned.now js.items) }
+{
+    let mut journeys = Vec::new(alloc);
+    for course in planned.courses.courses {
+        let waits = waits_of_train(planned, alloc, course.train)?;
+        journeys.push(planned.courses.journey(alloc, course, waits)?)?;
+    }
+    Ok(journeys)
+}
