@@ -74,7 +74,7 @@ def trains_of(design):
 
 def made_plans(design):
     """Plans that may be good or not: each train in turn on routes 1 and 2, and all of them in one step."""
-    trains = trains_of(design)[:32]
+    trains = trains_of(design)[:128]
     in_turn = [[[train, route]] for train in trains for route in (1, 2)]
     at_once = [[[train, 1 + number] for number, train in enumerate(trains)]]
     return [json.dumps({"steps": steps}, separators=(",", ":")).encode() for steps in (in_turn, at_once)]

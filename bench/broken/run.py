@@ -80,7 +80,7 @@ def budgets(chance):
 
 def steps_asked(chance, steps):
     """The steps of a check: mostly those that a proof was written for."""
-    return steps if chance.random() < 0.8 else chance.choice(("1", "2", "3", "4", "5", "8", "64"))
+    return steps if chance.random() < 0.8 else chance.choice(("1", "2", "3", "4", "5", "8", "64", "256"))
 
 
 def sound_case(chance):

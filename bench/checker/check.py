@@ -9,7 +9,7 @@ import tomllib
 
 SMALL = 4294967295
 LOOKS = 33554432
-LITERALS = 4000000
+LITERALS = 16000000
 MOST_BYTES = 268435456
 
 
@@ -1038,7 +1038,7 @@ def main(words):
         data = file.read()
     if steps is None:
         head = head_of(data.split(b"\n")[0])
-        if head is None or head[0] == 1 or not 1 <= head[2] <= 64:
+        if head is None or head[0] == 1 or not 1 <= head[2] <= 256:
             sys.exit("usage: check.py [--steps N] DESIGN PROOF")
         steps = head[2]
     answer = judge(design, steps, data)

@@ -75,7 +75,7 @@ def examples(version):
     """The files of the stations and of the worked examples."""
     for number, station in enumerate(corpus.stations(refused=False)):
         for place, (steps, proof) in enumerate(station.proofs):
-            if 1 <= int(steps) <= 64:
+            if 1 <= int(steps) <= 256:
                 yield File(f"example {number}.{place}", of_version(station.design, version), int(steps), proof)
 
 

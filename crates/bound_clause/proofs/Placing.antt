@@ -1,5 +1,5 @@
 -- The variable of the order of two contending commands, by the place of their pair.
-use Rattle.std.proofs.Common.{◌≡◌, ℕ, ◌≤◌, List, length, Some, get_or, sym, ap, subst, ◌∙◌}
+use Rattle.std.proofs.Common.{◌≡◌, ℕ, List, length, Some, get_or, sym, ap, subst, ◌∙◌}
 use Rattle.std.specs.List.{slice_get}
 use Rattle.std.proofs.lemmas.Option.{slice_get-get_or}
 use Rattle.rail_base.specs.declared.station.Station.{Station}
@@ -7,12 +7,10 @@ use Rattle.rail_base.specs.declared.route.Route.{Route}
 use Rattle.rail_base.specs.declared.plan.Command.{Command}
 use Rattle.rail_base.specs.Members.{In}
 use Rattle.rail_base.specs.Numbering.{before_first}
-use Rattle.rail_base.proofs.Admitting.{admitted}
 use Rattle.plan_clauses.specs.Variables.{pairs, is_pair}
 use Rattle.cone_design.specs.declared.contention.Contention.{Contention}
 use Rattle.cone_design.proofs.Contending.{mirrored}
 use Rattle.cone_clause.proofs.Said.{one_place, place_inside}
-use Rattle.cone_clause.proofs.Sizes.{pairs_few}
 use Rattle.cone_clause.proofs.Walked.{place_is}
 
 some_same : {X : Type 0} {a b : X} → Some a ≡ Some b → a ≡ b
@@ -26,13 +24,6 @@ place_before d routes ps e p place index m =
     let inside = place_inside (pairs d routes) place p there in
     let same : get_or (pairs d routes) place p ≡ p = some_same (sym (slice_get-get_or (pairs d routes) place p inside) ∙ there) in
     subst (λ (q : Command × Command). length (before_first (is_pair q.0 q.1) (pairs d routes)) ≡ place) same (place_is d routes place p inside)
-
--- the pairs are few
-pub few_pairs : (c : Contention) → length c.pairs.now ≤ 4096000000
-few_pairs c =
-    let interlocking = c.interlocking.now in
-    let high = (admitted interlocking.design.station interlocking.design.admitted).many_trains.1 in
-    subst (λ n. n ≤ 4096000000) (sym (ap length c.ordered)) (pairs_few interlocking.design.station interlocking.routes high interlocking.few)
 
 -- each of them is there the other way round too
 pub turned : (c : Contention) (e f : Command) → In (e, f) c.pairs.now → In (f, e) c.pairs.now

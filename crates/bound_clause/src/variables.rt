@@ -32,7 +32,7 @@ impl NumberedBound<'_> {
     /// How many variables say that a command is given by a step.
     fn used_count(&self) -> u32
         ensures value { result ≡ used_count self.now }
-        ensures bound { result ≤ 4096000 }
+        ensures bound { result ≤ 65536000 }
     {
         let interlocking = self.contention.interlocking;
         let trains = interlocking.design.station.trains.len() as u32;

@@ -9,7 +9,7 @@ use leg_targets::Visit;
 use rail_base::route::RouteNo;
 use std::alloc::{AllocError, Global};
 
-/// A plan has no more steps, so a chain has no more legs; a certificate has no more places.
+/// A certificate has no more places, so a chain has no more legs.
 const MOST_PLACES: usize = 64;
 
 /// What the best chain of a layer to a command is worth, and its last link; none for a chain without links.

@@ -16,7 +16,7 @@ use rail_cone::{Cone, ConeTrain};
 use std::alloc::AllocError;
 
 /// No plan has more steps, so no path has more commands.
-const MOST_COMMANDS: usize = 64;
+const MOST_COMMANDS: usize = 256;
 
 /// What a cone says of a train, by places among all commands.
 #[derive(Clone, Copy)]

@@ -10,13 +10,13 @@ use rail_base::plan::Command;
 use rail_base::route::{Route, RouteNo, Start};
 use rail_base::station::TrainNo;
 
-/// No way has more routes, since no plan has more steps.
+/// A leg has no more places, so no way that may be a leg has more routes. Of a longer one no ticks are told.
 const MOST_ROUTES: usize = 64;
 
 /// How many trains a design has.
 pub(crate) fn count_trains(interlocking: &Interlocking) -> u32
     ensures value { result ≡ length interlocking.now.design.station.trains }
-    ensures few { result ≤ 32 }
+    ensures few { result ≤ 128 }
 {
     interlocking.design.station.trains.len() as u32
 }

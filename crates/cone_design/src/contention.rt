@@ -1,6 +1,6 @@
 //! The contending commands of an interlocking.
 
-ghost use Rattle.std.specs.Prelude.{◌≡◌, true};
+ghost use Rattle.std.specs.Prelude.{◌≡◌, ◌≤◌, length, true};
 ghost use Rattle.plan_clauses.specs.Variables.{pairs as contending};
 ghost use Rattle.cone_design.specs.Fits.{fits};
 
@@ -16,6 +16,7 @@ pub struct Contention<'a> {
     /// The pairs in the order of their variables.
     pub pairs: &'a [(Command, Command)],
     pub ghost ordered: { pairs.now ≡ contending interlocking.now.design.station interlocking.now.routes },
+    pub ghost few: { length pairs.now ≤ 8000000 },
 }
 
 impl<'a> Contention<'a> {

@@ -11,7 +11,7 @@ use rail_base::plan::{Command, Plan};
 use rail_plan::formed::well_formed;
 
 /// The most steps of a plan.
-const MOST_STEPS: u32 = 64;
+const MOST_STEPS: u32 = 256;
 
 /// Whether a command names a train and a route.
 fn is_of(interlocking: &Interlocking, command: Command) -> bool
@@ -53,7 +53,7 @@ fn names_only(interlocking: &Interlocking, plan: &Plan) -> bool
 
 /// Whether a plan names only what is there and is well formed.
 pub(crate) fn can_be_run(interlocking: &Interlocking, plan: &Plan) -> bool
-    ensures { IsTrue result → IsWellFormed interlocking.now 64 plan.now.steps }
+    ensures { IsTrue result → IsWellFormed interlocking.now 256 plan.now.steps }
 {
     names_only(interlocking, plan) && well_formed(interlocking, plan, MOST_STEPS).is_none()
 }

@@ -60,11 +60,11 @@ module _ (d : Station) (routes : List Route) (plan : List (List Command)) (t : T
   }
 
 -- a well-formed plan is orderly
-pub orderly : (i : Interlocking) (plan : List (List Command)) → IsWellFormed i.design.station i.routes 64 plan → IsOrderly i.design.station i.routes plan
+pub orderly : (i : Interlocking) (plan : List (List Command)) → IsWellFormed i.design.station i.routes 256 plan → IsOrderly i.design.station i.routes plan
 orderly i plan formed = record {
   trains = λ c m. (command_of (in_flat_map_back (λ (s : List Command). s) plan c m));
-  one = and_right (nat_le (length plan) 64) (list_all one_each plan) (and_left (nat_le (length plan) 64 && list_all one_each plan) (list_all (λ t. is_path (train_of i.design.station t) (path_routes i.routes plan t)) (trains i.design.station)) formed.formed);
-  once = path_differs i.design.station (admitted i.design.station i.design.admitted) 64 plan (subst (λ rs. IsWellFormed i.design.station rs 64 plan) i.table formed);
+  one = and_right (nat_le (length plan) 256) (list_all one_each plan) (and_left (nat_le (length plan) 256 && list_all one_each plan) (list_all (λ t. is_path (train_of i.design.station t) (path_routes i.routes plan t)) (trains i.design.station)) formed.formed);
+  once = path_differs i.design.station (admitted i.design.station i.design.admitted) 256 plan (subst (λ rs. IsWellFormed i.design.station rs 256 plan) i.table formed);
   released = λ r z. ((laid_out i).each r).releases z;
 }
   where

@@ -156,7 +156,7 @@ module _ (s : SpelledSheet) (named : HasNames s) (d03 : repeated_names s ≡ [])
   vehicles_out = array_outside vehicle_outside 0 64 keys.Vehicle s.vehicles
 
   abbrev trains_out : List Place
-  trains_out = array_outside train_outside 1 32 keys.Train s.trains
+  trains_out = array_outside train_outside 1 128 keys.Train s.trains
 
   abbrev orders_out : List Place
   orders_out = count_outside 0 256 keys.Order s.orders
@@ -194,12 +194,12 @@ module _ (s : SpelledSheet) (named : HasNames s) (d03 : repeated_names s ≡ [])
 
   all_few : are_few d ≡ true
   all_few =
-      and_seven (nat_le (length d.nodes) 2000) (nat_le (length d.edges) 4000) (nat_le (length d.signals) 1000) (nat_le (length d.vehicles) 64) (is_from 1 32 (length d.trains)) (nat_le (length d.orders) 256) (nat_le (length d.withins) 256)
+      and_seven (nat_le (length d.nodes) 2000) (nat_le (length d.edges) 4000) (nat_le (length d.signals) 1000) (nat_le (length d.vehicles) 64) (is_from 1 128 (length d.trains)) (nat_le (length d.orders) 256) (nat_le (length d.withins) 256)
       (and_right (nat_le 0 (length d.nodes)) (nat_le (length d.nodes) 2000) (few (node_in names) 0 2000 keys.Node s.nodes few_nodes))
       (and_right (nat_le 0 (length d.edges)) (nat_le (length d.edges) 4000) (few (edge_in names) 0 4000 keys.Edge s.edges (array_count edge_outside 0 4000 keys.Edge s.edges few_edges)))
       (and_right (nat_le 0 (length d.signals)) (nat_le (length d.signals) 1000) (few (signal_in names) 0 1000 keys.Signal s.signals few_signals))
       (and_right (nat_le 0 (length d.vehicles)) (nat_le (length d.vehicles) 64) (few (vehicle_in names) 0 64 keys.Vehicle s.vehicles (array_count vehicle_outside 0 64 keys.Vehicle s.vehicles few_vehicles)))
-      (few (train_in names) 1 32 keys.Train s.trains (array_count train_outside 1 32 keys.Train s.trains few_trains))
+      (few (train_in names) 1 128 keys.Train s.trains (array_count train_outside 1 128 keys.Train s.trains few_trains))
       (and_right (nat_le 0 (length d.orders)) (nat_le (length d.orders) 256) (few (order_in names) 0 256 keys.Order s.orders few_orders))
       (and_right (nat_le 0 (length d.withins)) (nat_le (length d.withins) 256) (few (within_in names) 0 256 keys.Within s.withins (array_count within_outside 0 256 keys.Within s.withins few_withins)))
 
@@ -373,7 +373,7 @@ module _ (s : SpelledSheet) (named : HasNames s) (d03 : repeated_names s ≡ [])
     good_train x m =
         let t = train_in names x in
         let unknown = none_in (train_unknown names) 1 s.trains x unknown_trains m in
-        let outside = none_in train_outside 1 s.trains x (array_each train_outside 1 32 keys.Train s.trains few_trains) m in
+        let outside = none_in train_outside 1 s.trains x (array_each train_outside 1 128 keys.Train s.trains few_trains) m in
         let inner = none_in (λ i t. at (not (can_enter d t)) (Field kinds.Train i keys.Visits)) 1 d.trains t d10 (in_map (train_in names) s.trains x m) in
         let place = Field kinds.Train unknown.0 in
         let lost = unless_among names.vehicles x.vehicle (place keys.Vehicle) in

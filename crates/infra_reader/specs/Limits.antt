@@ -70,7 +70,7 @@ track_outside s =
 unfoldable pub traffic_outside : SpelledSheet → List Place
 traffic_outside s =
     array_outside vehicle_outside 0 64 keys.Vehicle s.vehicles
-    ++ (array_outside train_outside 1 32 keys.Train s.trains
+    ++ (array_outside train_outside 1 128 keys.Train s.trains
     ++ (count_outside 0 256 keys.Order s.orders
     ++ array_outside within_outside 0 256 keys.Within s.withins))
 

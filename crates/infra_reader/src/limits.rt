@@ -217,9 +217,9 @@ fn refuse_vehicles(sheet: &Sheet) -> Result<(), DesignFault>
 /// Refuses no train or too many, and trains with too few or too many visits.
 fn refuse_trains(sheet: &Sheet) -> Result<(), DesignFault>
     ensures { Reads (λ x. x) result Code.D05
-        (array_outside train_outside 1 32 Key.Train (sheet_seen sheet.now).trains) tt }
+        (array_outside train_outside 1 128 Key.Train (sheet_seen sheet.now).trains) tt }
 {
-    refuse_array(1, 32, Key::Train, sheet.trains.as_slice())
+    refuse_array(1, 128, Key::Train, sheet.trains.as_slice())
 }
 
 /// Refuses too many orders.

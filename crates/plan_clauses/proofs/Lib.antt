@@ -20,3 +20,4 @@ pub mod Shown
 pub mod Plain
 pub mod InRange
 pub mod Retold
+pub mod Few

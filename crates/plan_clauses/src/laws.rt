@@ -1,6 +1,6 @@
 //! Laws of the base, each the contract of a function that does nothing.
 
-ghost use Rattle.std.specs.Prelude.{◌≡◌, ℕ, ◌≤◌, Bool, true, List};
+ghost use Rattle.std.specs.Prelude.{◌≡◌, ℕ, ◌*◌, ◌≤◌, Bool, true, List, None, length};
 ghost use Rattle.std.specs.List.{list_all};
 ghost use Rattle.rail_base.specs.declared.station.Station.{Station};
 ghost use Rattle.rail_base.specs.declared.route.Route.{Route};
@@ -8,8 +8,9 @@ ghost use Rattle.rail_base.specs.declared.plan.Command.{Command};
 ghost use Rattle.sat_clause.specs.Clauses.{clause_holds};
 ghost use Rattle.rail_spec.specs.Track.{routes_of};
 ghost use Rattle.rail_spec.specs.Feasible.{IsFeasible, IsInfeasible, IsRunnable};
-ghost use Rattle.plan_clauses.specs.Clauses.{base_clauses};
+ghost use Rattle.plan_clauses.specs.Clauses.{base_clauses, past_limit};
 ghost use Rattle.plan_clauses.specs.Models.{model_of, decoded};
+ghost use Rattle.plan_clauses.specs.Variables.{pairs};
 ghost use Rattle.plan_clauses.specs.Laws.{VisitsAll, Agrees, NoneBy, IsInRange};
 
 /// The model of a plan that can be carried out, and whose paths make all visits, makes the base true.
@@ -49,4 +50,10 @@ pub fn literals_are_in_range()
 /// Where no values that make the base of n steps true say that all is given by step k, no plan of k steps is feasible.
 pub fn none_by_is_infeasible()
     ensures { (d : Station) (n k : ℕ) → 1 ≤ k → k ≤ n → NoneBy d (routes_of d) n k → IsInfeasible d k }
+{}
+
+/// A base with no more literals than a limit has at most half as many pairs of commands that contend.
+pub fn bases_within_a_limit_have_few_pairs()
+    ensures { (d : Station) (routes : List Route) (n limit : ℕ) → past_limit limit 0 (base_clauses d routes n) ≡ None
+        → 2 * length (pairs d routes) ≤ limit }
 {}

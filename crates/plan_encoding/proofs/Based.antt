@@ -70,12 +70,12 @@ module _ (d : Station) (routes : List Route) (n : ℕ) (b : Numbered) (is : IsBa
 module _ (d : Station) (routes : List Route) (n : ℕ) (old : Drafted) (empty : old.literals ≡ 0) where
   -- a fault of listing is one of the base
   pub refused : (e : BaseFault) → FaultSays (listed old (base_clauses d routes n)) e → IsRefused d routes n e
-  refused (TooLarge k) h = ap (λ m. past_limit 4000000 m (base_clauses d routes n)) (sym empty) ∙ listed_past old (base_clauses d routes n) k h
+  refused (TooLarge k) h = ap (λ m. past_limit 16000000 m (base_clauses d routes n)) (sym empty) ∙ listed_past old (base_clauses d routes n) k h
   refused Memory h = tt
 
   -- and where all was listed, there are not too many
-  pub not_refused : (new : Drafted) → listed old (base_clauses d routes n) ≡ Listed new → past_limit 4000000 0 (base_clauses d routes n) ≡ None
-  not_refused new h = ap (λ m. past_limit 4000000 m (base_clauses d routes n)) (sym empty) ∙ listed_none old new (base_clauses d routes n) h
+  pub not_refused : (new : Drafted) → listed old (base_clauses d routes n) ≡ Listed new → past_limit 16000000 0 (base_clauses d routes n) ≡ None
+  not_refused new h = ap (λ m. past_limit 16000000 m (base_clauses d routes n)) (sym empty) ∙ listed_none old new (base_clauses d routes n) h
 
 -- all clauses are kept
 pub kept : (d : Station) (routes : List Route) (n : ℕ) (old new : Drafted) → listed old (base_clauses d routes n) ≡ Listed new → old ≡ record { keep = true; literals = 0; clauses = [] } → new.clauses ≡ map (λ c. (c, true)) (base_clauses d routes n)

@@ -8,6 +8,7 @@ pub mod Chained
 pub mod Released
 pub mod Starting
 pub mod Ordering
+pub mod Counting
 pub mod Based
 pub mod Beginning
 pub mod Sorting

@@ -20,7 +20,7 @@ listed_then d e [] more h = ap (λ x. listed x more) (same d e h)
   where
     same : (d e : Drafted) → Listed d ≡ Listed e → d ≡ e
     same d e h = cc
-listed_then d e (c ∷ cs) more h = go (nat_lt 4000000 (d.literals + length c)) h (listed_then (with_clause d c) e cs more)
+listed_then d e (c ∷ cs) more h = go (nat_lt 16000000 (d.literals + length c)) h (listed_then (with_clause d c) e cs more)
   where
     go : (b : Bool) → (if b then TooMany (d.literals + length c) else listed (with_clause d c) cs) ≡ Listed e → (listed (with_clause d c) cs ≡ Listed e → listed (with_clause d c) (cs ++ more) ≡ listed e more)
         → (if b then TooMany (d.literals + length c) else listed (with_clause d c) (cs ++ more)) ≡ listed e more
@@ -29,7 +29,7 @@ listed_then d e (c ∷ cs) more h = go (nat_lt 4000000 (d.literals + length c)) 
 
 pub listed_fails : (d : Drafted) (k : ℕ) (cs more : List (List Lit)) → listed d cs ≡ TooMany k → listed d (cs ++ more) ≡ TooMany k
 listed_fails d k [] more h = absurd (cc)
-listed_fails d k (c ∷ cs) more h = go (nat_lt 4000000 (d.literals + length c)) h (listed_fails (with_clause d c) k cs more)
+listed_fails d k (c ∷ cs) more h = go (nat_lt 16000000 (d.literals + length c)) h (listed_fails (with_clause d c) k cs more)
   where
     go : (b : Bool) → (if b then TooMany (d.literals + length c) else listed (with_clause d c) cs) ≡ TooMany k → (listed (with_clause d c) cs ≡ TooMany k → listed (with_clause d c) (cs ++ more) ≡ TooMany k)
         → (if b then TooMany (d.literals + length c) else listed (with_clause d c) (cs ++ more)) ≡ TooMany k
@@ -105,21 +105,21 @@ four_lits k l m o a b c d e f g h = cc
 -- ---- the limit
 
 -- listing finds too many literals exactly where the list has a beginning with more, and so many as the shortest has
-pub listed_past : (d : Drafted) (cs : List (List Lit)) (k : ℕ) → listed d cs ≡ TooMany k → past_limit 4000000 d.literals cs ≡ Some k
+pub listed_past : (d : Drafted) (cs : List (List Lit)) (k : ℕ) → listed d cs ≡ TooMany k → past_limit 16000000 d.literals cs ≡ Some k
 listed_past d [] k h = absurd (cc)
-listed_past d (c ∷ cs) k h = go (nat_lt 4000000 (d.literals + length c)) h (listed_past (with_clause d c) cs k)
+listed_past d (c ∷ cs) k h = go (nat_lt 16000000 (d.literals + length c)) h (listed_past (with_clause d c) cs k)
   where
-    go : (b : Bool) → (if b then TooMany (d.literals + length c) else listed (with_clause d c) cs) ≡ TooMany k → (listed (with_clause d c) cs ≡ TooMany k → past_limit 4000000 (d.literals + length c) cs ≡ Some k)
-        → (if b then Some (d.literals + length c) else past_limit 4000000 (d.literals + length c) cs) ≡ Some k
+    go : (b : Bool) → (if b then TooMany (d.literals + length c) else listed (with_clause d c) cs) ≡ TooMany k → (listed (with_clause d c) cs ≡ TooMany k → past_limit 16000000 (d.literals + length c) cs ≡ Some k)
+        → (if b then Some (d.literals + length c) else past_limit 16000000 (d.literals + length c) cs) ≡ Some k
     go true h rest = cc
     go false h rest = rest h
 
-pub listed_none : (d e : Drafted) (cs : List (List Lit)) → listed d cs ≡ Listed e → past_limit 4000000 d.literals cs ≡ None
+pub listed_none : (d e : Drafted) (cs : List (List Lit)) → listed d cs ≡ Listed e → past_limit 16000000 d.literals cs ≡ None
 listed_none d e [] h = refl
-listed_none d e (c ∷ cs) h = go (nat_lt 4000000 (d.literals + length c)) h (listed_none (with_clause d c) e cs)
+listed_none d e (c ∷ cs) h = go (nat_lt 16000000 (d.literals + length c)) h (listed_none (with_clause d c) e cs)
   where
-    go : (b : Bool) → (if b then TooMany (d.literals + length c) else listed (with_clause d c) cs) ≡ Listed e → (listed (with_clause d c) cs ≡ Listed e → past_limit 4000000 (d.literals + length c) cs ≡ None)
-        → (if b then Some (d.literals + length c) else past_limit 4000000 (d.literals + length c) cs) ≡ None
+    go : (b : Bool) → (if b then TooMany (d.literals + length c) else listed (with_clause d c) cs) ≡ Listed e → (listed (with_clause d c) cs ≡ Listed e → past_limit 16000000 (d.literals + length c) cs ≡ None)
+        → (if b then Some (d.literals + length c) else past_limit 16000000 (d.literals + length c) cs) ≡ None
     go true h rest = absurd (cc)
     go false h rest = rest h
 
@@ -129,7 +129,7 @@ listed_kept d e [] h k = sym (append-nil d.clauses ∙ same h)
   where
     same : Listed d ≡ Listed e → d.clauses ≡ e.clauses
     same h = cc
-listed_kept d e (c ∷ cs) h k = go (nat_lt 4000000 (d.literals + length c)) h (listed_kept (with_clause d c) e cs)
+listed_kept d e (c ∷ cs) h k = go (nat_lt 16000000 (d.literals + length c)) h (listed_kept (with_clause d c) e cs)
   where
     go : (b : Bool) → (if b then TooMany (d.literals + length c) else listed (with_clause d c) cs) ≡ Listed e → (listed (with_clause d c) cs ≡ Listed e → d.keep ≡ true → e.clauses ≡ (if d.keep then d.clauses ++ (c, true) ∷ [] else d.clauses) ++ map (λ c. (c, true)) cs)
         → e.clauses ≡ d.clauses ++ (c, true) ∷ map (λ c. (c, true)) cs

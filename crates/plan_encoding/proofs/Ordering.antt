@@ -3,7 +3,6 @@ use Rattle.std.proofs.Common.{◌≡◌, ℕ, zero, suc, ◌+◌, ◌^◌, ◌*�
 use Rattle.std.proofs.lemmas.List.{append_assoc, map-append, take-append-drop}
 use Rattle.std.proofs.lemmas.Grind.{flat_map-append}
 use Rattle.std.proofs.lemmas.Nat.{mul-le}
-use Rattle.std.proofs.Math.Nat.{suc-mul}
 use Rattle.rail_base.specs.declared.station.Station.{Station}
 use Rattle.rail_base.specs.declared.station.TrainNo.{TrainNo}
 use Rattle.rail_base.specs.declared.route.Route.{Route}
@@ -18,10 +17,6 @@ use Rattle.rail_spec.specs.Plans.{all_commands, commands_of, contend, is_command
 use Rattle.plan_clauses.specs.Variables.{Before, is_pair, number_of, pairs, pairs_of}
 use Rattle.plan_clauses.proofs.Steps.{is_command_same, is_command_self}
 use Rattle.plan_encoding.proofs.Gathering.{drop_next}
-use Rattle.rail_base.proofs.Admitting.{admitted}
-use Rattle.plan_encoding.specs.declared.frame.Frame.{Frame}
-use Rattle.plan_encoding.specs.Families.{last_pair}
-use Rattle.plan_encoding.proofs.Tabled.{commands_few}
 
 -- the members before the first that passes, which is named
 first_there : {X : Type 0} (test : X → Bool) (xs ys : List X) (y : X) → ((x : X) → In x xs → test x ≡ true → ⊥) → test y ≡ true → before_first test (xs ++ y ∷ ys) ≡ xs
@@ -53,22 +48,7 @@ taken_more {X} xs i other h = ap (λ n. take n xs) (next i) ∙ go xs i h
     go (y ∷ ys) zero l = refl
     go (y ∷ ys) (suc j) l = ap (λ zs. y ∷ zs) (go ys j (omega arith))
 
-length-take_most : {X : Type 0} (xs : List X) (i : ℕ) → length (take i xs) ≤ length xs
-length-take_most xs zero = omega arith
-length-take_most [] (suc i) = omega arith
-length-take_most (x ∷ xs) (suc i) = let h = length-take_most xs i in omega arith
-
--- no more than so many for each
-length-parts : {X Y : Type 0} (f : X → List Y) (m : ℕ) (xs : List X) → ((x : X) → length (f x) ≤ m) → length (flat_map f xs) ≤ length xs * m
-length-parts f m [] h = omega arith
-length-parts f m (x ∷ xs) h =
-    let a = length-append (f x) (flat_map f xs) in
-    let b = length-parts f m xs h in
-    let c = h x in
-    let e = suc-mul (length xs) m in
-    omega arith
-
-length-kept : {X : Type 0} (test : X → Bool) (xs : List X) → length (filter test xs) ≤ length xs
+pub length-kept : {X : Type 0} (test : X → Bool) (xs : List X) → length (filter test xs) ≤ length xs
 length-kept test [] = omega arith
 length-kept test (x ∷ xs) = go (test x) (length-kept test xs)
   where
@@ -95,13 +75,6 @@ module _ (d : Station) (routes : List Route) where
       let w : u.0 ≡ c.train.0 = ap (λ (c : Command). c.train.0) b.2 in
       let v : e.train.0 ≡ c.train.0 = ap (λ (c : Command). c.train.0) same in
       absurd (omega arith))
-
-  pub length-pairs_of : (e : Command) → length (pairs_of d routes e) ≤ length (all_commands d routes)
-  length-pairs_of e =
-      let pair : Command → Command × Command = λ c. (e, c) in
-      let a = length-map pair (filter (contend routes e) (all_commands d routes)) in
-      let b = length-kept (contend routes e) (all_commands d routes) in
-      omega arith
 
   -- the pairs of the first commands
   abbrev pub pairs_to : ℕ → List (Command × Command)
@@ -172,28 +145,9 @@ module _ (d : Station) (routes : List Route) where
       ∙ (length-append (flat_map (pairs_of d routes) (take i (all_commands d routes))) (pairs_of d routes e ++ [])
       ∙ ap (λ m. length (pairs_to i) + m) (ap length (append-nil (pairs_of d routes e)) ∙ length-map pair (filter (contend routes e) (all_commands d routes)))))
 
-  -- they are not too many
-  pub pairs_few : (i : ℕ) → length (all_commands d routes) ≤ 64000 → length (pairs_to i) ≤ 4096000000
-  pairs_few i h =
-      let a = length-parts (pairs_of d routes) 64000 (take i (all_commands d routes)) (λ e. let k = length-pairs_of e in omega arith) in
-      let t = length-take_most (all_commands d routes) i in
-      omega arith
-
-  -- nor are all pairs
-  pub pairs_all_few : length (all_commands d routes) ≤ 64000 → length (pairs d routes) ≤ 4096000000
-  pairs_all_few h = let a = length-parts (pairs_of d routes) 64000 (all_commands d routes) (λ e. let k = length-pairs_of e in omega arith) in omega arith
-
 -- the variables of commands are few
-pub own_few : (t r n : ℕ) → t ≤ 32 → r ≤ 2000 → n ≤ 64 → t * r * n ≤ 4096000
+pub own_few : (t r n : ℕ) → t ≤ 128 → r ≤ 2000 → n ≤ 256 → t * r * n ≤ 65536000
 own_few t r n a b c =
-    let one : t * r ≤ 32 * 2000 = mul-le t r 32 2000 a b in
-    let two : t * r * n ≤ 64000 * 64 = mul-le (t * r) n 64000 64 (omega arith) c in
-    omega arith
-
--- the number of the last variable of a pair is small
-pub last_few : (f : Frame) → last_pair f + 64 < 2 ^ 32
-last_few f =
-    let high = ((admitted f.interlocking.now.design.station f.interlocking.now.design.admitted).many_trains).1 in
-    let all = pairs_all_few f.interlocking.now.design.station f.interlocking.now.routes (commands_few f.interlocking.now.design.station f.interlocking.now.routes high f.interlocking.now.few) in
-    let own = own_few (length f.interlocking.now.design.station.trains) (length f.interlocking.now.routes) f.steps.count high f.interlocking.now.few f.steps.most in
+    let one : t * r ≤ 128 * 2000 = mul-le t r 128 2000 a b in
+    let two : t * r * n ≤ 256000 * 256 = mul-le (t * r) n 256000 256 (omega arith) c in
     omega arith

@@ -2,9 +2,9 @@
 use Rattle.std.proofs.Common.{ℕ, ◌+◌, ◌-◌, ◌*◌, ◌≤◌, arith}
 use Rattle.std.proofs.lemmas.Nat.{mul-le}
 
--- of up to 32 trains, 2,000 routes and 64 steps
-pub given_small : (t r routes n : ℕ) → t ≤ 32 → r ≤ routes → routes ≤ 2000 → n ≤ 64 → 1 ≤ t → 1 ≤ r → ((t - 1) * routes + (r - 1)) * n ≤ 4096000
+-- of up to 128 trains, 2,000 routes and 256 steps
+pub given_small : (t r routes n : ℕ) → t ≤ 128 → r ≤ routes → routes ≤ 2000 → n ≤ 256 → 1 ≤ t → 1 ≤ r → ((t - 1) * routes + (r - 1)) * n ≤ 65536000
 given_small t r routes n a b c e f g =
-    let row : (t - 1) * routes ≤ 31 * 2000 = mul-le (t - 1) routes 31 2000 (omega arith) c in
-    let all : ((t - 1) * routes + (r - 1)) * n ≤ 64000 * 64 = mul-le ((t - 1) * routes + (r - 1)) n 64000 64 (omega arith) e in
+    let row : (t - 1) * routes ≤ 127 * 2000 = mul-le (t - 1) routes 127 2000 (omega arith) c in
+    let all : ((t - 1) * routes + (r - 1)) * n ≤ 256000 * 256 = mul-le ((t - 1) * routes + (r - 1)) n 256000 256 (omega arith) e in
     omega arith

@@ -15,27 +15,27 @@ use Rattle.plan_encoding.specs.Sorted.{IsSortedRefused}
 use Rattle.plan_encoding.proofs.Listing.{listed_none, listed_past}
 
 -- a beginning with too many literals is one of more clauses
-past_front : (sum k : ℕ) (cs more : List (List Lit)) → past_limit 4000000 sum cs ≡ Some k → past_limit 4000000 sum (cs ++ more) ≡ Some k
+past_front : (sum k : ℕ) (cs more : List (List Lit)) → past_limit 16000000 sum cs ≡ Some k → past_limit 16000000 sum (cs ++ more) ≡ Some k
 past_front sum k [] more h = absurd (cc)
-past_front sum k (c ∷ cs) more h = go (nat_lt 4000000 (sum + length c)) h (past_front (sum + length c) k cs more)
+past_front sum k (c ∷ cs) more h = go (nat_lt 16000000 (sum + length c)) h (past_front (sum + length c) k cs more)
   where
-    go : (b : Bool) → (if b then Some (sum + length c) else past_limit 4000000 (sum + length c) cs) ≡ Some k
-        → (past_limit 4000000 (sum + length c) cs ≡ Some k → past_limit 4000000 (sum + length c) (cs ++ more) ≡ Some k)
-        → (if b then Some (sum + length c) else past_limit 4000000 (sum + length c) (cs ++ more)) ≡ Some k
+    go : (b : Bool) → (if b then Some (sum + length c) else past_limit 16000000 (sum + length c) cs) ≡ Some k
+        → (past_limit 16000000 (sum + length c) cs ≡ Some k → past_limit 16000000 (sum + length c) (cs ++ more) ≡ Some k)
+        → (if b then Some (sum + length c) else past_limit 16000000 (sum + length c) (cs ++ more)) ≡ Some k
     go true h rest = h
     go false h rest = rest h
 
 -- once clauses are listed, those after them decide
-past_then : (old new : Drafted) (cs more : List (List Lit)) → listed old cs ≡ Listed new → past_limit 4000000 old.literals (cs ++ more) ≡ past_limit 4000000 new.literals more
-past_then old new [] more h = ap (λ (x : Drafted). past_limit 4000000 x.literals more) (same h)
+past_then : (old new : Drafted) (cs more : List (List Lit)) → listed old cs ≡ Listed new → past_limit 16000000 old.literals (cs ++ more) ≡ past_limit 16000000 new.literals more
+past_then old new [] more h = ap (λ (x : Drafted). past_limit 16000000 x.literals more) (same h)
   where
     same : Listed old ≡ Listed new → old ≡ new
     same h = cc
-past_then old new (c ∷ cs) more h = go (nat_lt 4000000 (old.literals + length c)) h (past_then (with_clause old c) new cs more)
+past_then old new (c ∷ cs) more h = go (nat_lt 16000000 (old.literals + length c)) h (past_then (with_clause old c) new cs more)
   where
     go : (b : Bool) → (if b then TooMany (old.literals + length c) else listed (with_clause old c) cs) ≡ Listed new
-        → (listed (with_clause old c) cs ≡ Listed new → past_limit 4000000 (old.literals + length c) (cs ++ more) ≡ past_limit 4000000 new.literals more)
-        → (if b then Some (old.literals + length c) else past_limit 4000000 (old.literals + length c) (cs ++ more)) ≡ past_limit 4000000 new.literals more
+        → (listed (with_clause old c) cs ≡ Listed new → past_limit 16000000 (old.literals + length c) (cs ++ more) ≡ past_limit 16000000 new.literals more)
+        → (if b then Some (old.literals + length c) else past_limit 16000000 (old.literals + length c) (cs ++ more)) ≡ past_limit 16000000 new.literals more
     go true h rest = absurd (cc)
     go false h rest = rest h
 
@@ -46,11 +46,11 @@ module _ (d : Station) (routes : List Route) (n : ℕ) where
   base_refused Memory h = tt
 
   module _ (old mid after : Drafted) (empty : old.literals ≡ 0) (first : listed old (base_clauses d routes n) ≡ Listed mid) (goes_on : after.literals ≡ mid.literals) where
-    past_is : past_limit 4000000 0 (sorted_base d routes n) ≡ past_limit 4000000 after.literals (turn_clauses d routes n (neighbors d))
+    past_is : past_limit 16000000 0 (sorted_base d routes n) ≡ past_limit 16000000 after.literals (turn_clauses d routes n (neighbors d))
     past_is =
-        ap (λ m. past_limit 4000000 m (sorted_base d routes n)) (sym empty)
+        ap (λ m. past_limit 16000000 m (sorted_base d routes n)) (sym empty)
         ∙ (past_then old mid (base_clauses d routes n) (turn_clauses d routes n (neighbors d)) first
-        ∙ ap (λ m. past_limit 4000000 m (turn_clauses d routes n (neighbors d))) (sym goes_on))
+        ∙ ap (λ m. past_limit 16000000 m (turn_clauses d routes n (neighbors d))) (sym goes_on))
 
     -- so is one of the clauses after it
     pub turns_refused : (e : BaseFault) → FaultSays (listed after (turn_clauses d routes n (neighbors d))) e → IsSortedRefused d routes n e
@@ -58,5 +58,5 @@ module _ (d : Station) (routes : List Route) (n : ℕ) where
     turns_refused Memory h = tt
 
     -- and where these are listed too, there are not too many
-    pub both_fit : (new : Drafted) → listed after (turn_clauses d routes n (neighbors d)) ≡ Listed new → past_limit 4000000 0 (sorted_base d routes n) ≡ None
+    pub both_fit : (new : Drafted) → listed after (turn_clauses d routes n (neighbors d)) ≡ Listed new → past_limit 16000000 0 (sorted_base d routes n) ≡ None
     both_fit new h = past_is ∙ listed_none after new (turn_clauses d routes n (neighbors d)) h

@@ -182,8 +182,8 @@ commands_many d routes =
         let e = suc-mul (length ts) (length routes) in
         omega arith
 
-pub commands_few : (d : Station) (routes : List Route) → length d.trains ≤ 32 → length routes ≤ 2000 → length (all_commands d routes) ≤ 64000
-commands_few d routes a b = let c = commands_many d routes in let e : length d.trains * length routes ≤ 32 * 2000 = mul-le (length d.trains) (length routes) 32 2000 a b in omega arith
+pub commands_few : (d : Station) (routes : List Route) → length d.trains ≤ 128 → length routes ≤ 2000 → length (all_commands d routes) ≤ 256000
+commands_few d routes a b = let c = commands_many d routes in let e : length d.trains * length routes ≤ 128 * 2000 = mul-le (length d.trains) (length routes) 128 2000 a b in omega arith
 
 -- the other members are in the table too
 pub tail_known : (routes : List Route) (all : List RouteNo) (r : RouteNo) (later : List RouteNo) → all ≡ r ∷ later → All (IsRoute routes) all → All (IsRoute routes) later

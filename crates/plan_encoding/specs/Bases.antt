@@ -32,7 +32,7 @@ pub record IsBaseOf (d : Station) (table : List Route) (n : ℕ) (b : Numbered) 
   pub pairs : b.pairs ≡ pairs d table
   pub clauses : b.clauses ≡ map (λ c. (c, true)) (base_clauses d table n)
 
--- there are more than 4,000,000 literals, so many up to the first clause that is too much
+-- there are more than 16,000,000 literals, so many up to the first clause that is too much
 abbrev pub IsRefused : Station → List Route → ℕ → BaseFault → Type 0
-IsRefused d routes n (TooLarge k) = past_limit 4000000 0 (base_clauses d routes n) ≡ Some k
+IsRefused d routes n (TooLarge k) = past_limit 16000000 0 (base_clauses d routes n) ≡ Some k
 IsRefused d routes n Memory = Unit {0}

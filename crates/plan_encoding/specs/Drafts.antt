@@ -29,7 +29,7 @@ abbrev pub listed : Drafted → List (List Lit) → Listing
 listed d [] = Listed d
 listed d (c ∷ cs) =
     let rest = listed (with_clause d c) cs in
-    if nat_lt 4000000 (d.literals + length c) then TooMany (d.literals + length c) else rest
+    if nat_lt 16000000 (d.literals + length c) then TooMany (d.literals + length c) else rest
 
 -- the fault tells how many literals there are, where there are too many
 abbrev pub FaultSays : Listing → BaseFault → Type 0

@@ -16,7 +16,7 @@ pub record IsSortedBaseOf (d : Station) (table : List Route) (n : ℕ) (s : Sort
   pub base : IsBaseOf d table n s.base
   pub turns : s.turns ≡ map (λ c. (c, true)) (turn_clauses d table n (neighbors d))
 
--- there are more than 4,000,000 literals, so many up to the first clause that is too much
+-- there are more than 16,000,000 literals, so many up to the first clause that is too much
 abbrev pub IsSortedRefused : Station → List Route → ℕ → BaseFault → Type 0
-IsSortedRefused d routes n (TooLarge k) = past_limit 4000000 0 (sorted_base d routes n) ≡ Some k
+IsSortedRefused d routes n (TooLarge k) = past_limit 16000000 0 (sorted_base d routes n) ≡ Some k
 IsSortedRefused d routes n Memory = Unit {0}

@@ -1,6 +1,6 @@
 //! Clauses that are listed one after another: counted first, and then kept.
 
-ghost use Rattle.std.specs.Prelude.{◌≡◌, true, [], ◌∷◌, OnOk, IfErr};
+ghost use Rattle.std.specs.Prelude.{◌≡◌, true, [], ◌∷◌, IfOk, OnOk, IfErr};
 ghost use Rattle.plan_encoding.specs.Drafts.{Listed, listed, FaultSays};
 ghost use Rattle.plan_encoding.specs.declared.draft.BaseFault.TheVariants.{Memory};
 
@@ -10,13 +10,13 @@ use std::marker::Model;
 use thiserror::Error;
 
 /// The most literals that a base may have.
-const MOST: u64 = 4_000_000;
+const MOST: u64 = 16_000_000;
 
 /// Why a base is not made.
 #[derive(Clone, Copy, Debug, PartialEq, Eq, Error)]
 pub enum BaseFault {
-    /// It has more than 4,000,000 literals. So many have the clauses up to the first that is too much.
-    #[error("more than 4,000,000 literals")]
+    /// It has more than 16,000,000 literals. So many have the clauses up to the first that is too much.
+    #[error("more than 16,000,000 literals")]
     TooLarge { literals: u64 },
     #[error("out of memory")]
     Memory,
@@ -43,6 +43,8 @@ impl<T: Drop> From<AllocFailed<T>> for BaseFault {
 pub struct Draft {
     keep: bool,
     literals: u64,
+    /// How many clauses were listed, so that room for them can be made.
+    count: u64,
     clauses: Arena,
 }
 
@@ -54,7 +56,7 @@ impl Model for Draft {
 
     ghost view = { λ d. record { keep = d.keep; literals = d.literals; clauses = d.clauses } };
 
-    ghost invariant = { λ d. d.literals ≤ 4000000 };
+    ghost invariant = { λ d. d.literals ≤ 16000000 };
 }
 
 impl Draft {
@@ -67,8 +69,21 @@ impl Draft {
         Draft {
             keep,
             literals: 0,
+            count: 0,
             clauses: Arena::new(alloc),
         }
+    }
+
+    /// An empty draft that keeps clauses, with room for as many as were listed in this one.
+    pub fn kept(&self, alloc: Global) -> Result<Draft, AllocError>
+        ensures { IfOk result (λ draft. draft ≡ record { keep = true; literals = 0; clauses = [] }) }
+    {
+        Ok(Draft {
+            keep: true,
+            literals: 0,
+            count: 0,
+            clauses: Arena::with_room(alloc, self.count as usize, self.literals as usize)?,
+        })
     }
 
     /// An empty draft that keeps clauses, and goes on counting their literals from this one.
@@ -78,6 +93,7 @@ impl Draft {
         Draft {
             keep: true,
             literals: self.literals,
+            count: 0,
             clauses: Arena::new(alloc),
         }
     }
@@ -95,6 +111,7 @@ impl Draft {
             self.clauses.push(clause)?;
         }
         self.literals = literals;
+        self.count = self.count.saturating_add(1);
         Ok(())
     }
 

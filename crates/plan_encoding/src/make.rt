@@ -89,10 +89,10 @@ impl Tables<'_> {
 ///
 /// # Errors
 ///
-/// `TooLarge` exactly where the clauses have more than 4,000,000 literals; `Memory` where memory is wanting.
+/// `TooLarge` exactly where the clauses have more than 16,000,000 literals; `Memory` where memory is wanting.
 pub fn base(alloc: Global, interlocking: &Interlocking, steps: Steps) -> Result<Base, BaseFault>
     ensures base { IfOk result (IsBaseOf interlocking.now.design.station interlocking.now.routes steps.count) }
-    ensures within { OnOk result (past_limit 4000000 0
+    ensures within { OnOk result (past_limit 16000000 0
         (base_clauses interlocking.now.design.station interlocking.now.routes steps.count) ≡ None) }
     ensures fault { IfErr result (IsRefused interlocking.now.design.station interlocking.now.routes steps.count) }
 {
@@ -103,7 +103,7 @@ pub fn base(alloc: Global, interlocking: &Interlocking, steps: Steps) -> Result<
     let tables = frame.tables(alloc)?;
     let mut count = Draft::new(alloc, false);
     tables.put_all(alloc, &mut count)?;
-    let mut draft = Draft::new(alloc, true);
+    let mut draft = count.kept(alloc)?;
     tables.put_all(alloc, &mut draft)?;
     let pairs = tables.pairs(alloc)?;
     Ok(base_of(interlocking, steps, pairs, draft.into_clauses()))

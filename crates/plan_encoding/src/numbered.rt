@@ -49,8 +49,8 @@ impl Model for Base {
       clauses = b.clauses;
     } };
 
-    ghost invariant = { λ b. (b.trains ≤ 32) × (b.routes ≤ 2000) × (b.steps.count ≤ 64) ×
-        (length b.pairs.items ≤ 4096000000) };
+    ghost invariant = { λ b. (b.trains ≤ 128) × (b.routes ≤ 2000) × (b.steps.count ≤ 256) ×
+        (length b.pairs.items ≤ 8000000) };
 }
 
 impl Base {
@@ -105,7 +105,8 @@ impl Base {
 
     /// The pairs of commands that contend, in the order of their variables.
     pub fn pairs(&self) -> &[(Command, Command)]
-        ensures { result.now ≡ self.now.pairs }
+        ensures pairs { result.now ≡ self.now.pairs }
+        ensures bound { length result.now ≤ 8000000 }
     {
         &self.pairs
     }
@@ -115,6 +116,7 @@ impl Base {
     pub fn into_parts(self) -> (Arena, Vec<(Command, Command)>)
         ensures clauses { result.0 ≡ self.clauses }
         ensures pairs { result.1.items ≡ self.pairs }
+        ensures bound { length result.1.items ≤ 8000000 }
     {
         let Base { clauses, pairs, .. } = self;
         (clauses, pairs)
@@ -179,7 +181,7 @@ pub fn base_of(
     pairs: Vec<(Command, Command)>,
     clauses: Arena,
 ) -> Base
-    requires pairs { length pairs.items ≤ 4096000000 }
+    requires pairs { length pairs.items ≤ 8000000 }
     ensures { result ≡ record {
       trains = length interlocking.now.design.station.trains;
       routes = length interlocking.now.routes;

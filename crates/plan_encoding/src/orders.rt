@@ -112,6 +112,7 @@ impl Tables<'_> {
     /// Lists what the variables of all pairs say, and gives how many variables there are up to these.
     pub fn put_orders(&self, alloc: Global, draft: &mut Draft) -> Result<u32, BaseFault>
         ensures last { IfOk result (λ last. last ≡ last_pair self.now.frame) }
+        ensures bound { IfOk result (λ last. last ≤ 73536000) }
         ensures ok { OnOk result (Lists self.now.frame (all_in_order self.now.frame) draft.old draft.new) }
         ensures err { IfErr result (Stops self.now.frame (all_in_order self.now.frame) draft.old) }
     {

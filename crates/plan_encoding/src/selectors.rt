@@ -1,6 +1,6 @@
 //! The variables of steps.
 
-ghost use Rattle.std.specs.Prelude.{◌≡◌};
+ghost use Rattle.std.specs.Prelude.{◌≡◌, ◌≤◌};
 ghost use Rattle.plan_encoding.specs.Families.{last_pair};
 
 use crate::tables::Tables;
@@ -11,4 +11,5 @@ pub struct Selectors<'a> {
     pub tables: &'a Tables<'a>,
     pub last: u32,
     pub ghost number: { last ≡ last_pair tables.now.frame },
+    pub ghost low: { last ≤ 73536000 },
 }

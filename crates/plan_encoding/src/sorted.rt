@@ -27,14 +27,14 @@ pub struct SortedBase {
 ///
 /// # Errors
 ///
-/// `TooLarge` exactly where all of them have more than 4,000,000 literals; `Memory` where memory is wanting.
+/// `TooLarge` exactly where all of them have more than 16,000,000 literals; `Memory` where memory is wanting.
 pub fn sorted_base(
     alloc: Global,
     interlocking: &Interlocking,
     steps: Steps,
 ) -> Result<SortedBase, BaseFault>
     ensures base { IfOk result (IsSortedBaseOf interlocking.now.design.station interlocking.now.routes steps.count) }
-    ensures within { OnOk result (past_limit 4000000 0
+    ensures within { OnOk result (past_limit 16000000 0
         (sorted_base interlocking.now.design.station interlocking.now.routes steps.count) ≡ None) }
     ensures fault { IfErr result
         (IsSortedRefused interlocking.now.design.station interlocking.now.routes steps.count) }
@@ -44,14 +44,14 @@ pub fn sorted_base(
         steps,
     };
     let tables = frame.tables(alloc)?;
-    let pairs = tables.pairs(alloc)?;
     let neighbors = neighbors(alloc, &interlocking.design)?;
     let mut count = Draft::new(alloc, false);
     tables.put_all(alloc, &mut count)?;
-    let mut draft = Draft::new(alloc, true);
+    let mut draft = count.kept(alloc)?;
     tables.put_all(alloc, &mut draft)?;
     let mut turns = draft.after(alloc);
     tables.put_turns(alloc, &mut turns, neighbors.as_slice())?;
+    let pairs = tables.pairs(alloc)?;
     Ok(SortedBase {
         base: base_of(interlocking, steps, pairs, draft.into_clauses()),
         turns: turns.into_clauses(),

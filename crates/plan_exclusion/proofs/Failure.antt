@@ -38,14 +38,14 @@ cone_shows : (d : Station) (n : ℕ) (plan : List (List Command)) (cone : Cone) 
 cone_shows d n plan cone refutes = valid_shows of.Cone (fault_of d (routes_of d) cone) (numbered_clause d (routes_of d) n cone) refutes.valid
 
 module _ (d : Station) (n : ℕ) (routes : List Route) (table : routes ≡ routes_of d) (plan : List (List Command)) (runs : IsRunnable d (routes_of d) n plan) where
-  -- it is well formed over the table for 64 steps, and for n
+  -- it is well formed over the table for 256 steps, and for n
   pub formed_so : (m : ℕ) → n ≤ m → IsWellFormed d routes m plan
   formed_so m le = subst (λ (r : List Route). IsWellFormed d r m plan) (sym table) (well_formed_within d (routes_of d) n m plan le runs.well_formed)
 
   pub fails_so : (history : List TrainHistory) (tick : ℕ) (violation : Violation) → FailsSo d plan history tick violation → (ticks : ℕ) × (verdict_of d routes plan ticks ≡ Failed history tick violation)
   fails_so history tick violation f = (tick, ap (λ (r : List Route). verdict_of d r plan tick) table ∙ f)
 
-  module _ (good : IsAdmitted d) (each : GivesEach d plan) (some : 1 ≤ n) (most : n ≤ 64) (cone : Cone)
+  module _ (good : IsAdmitted d) (each : GivesEach d plan) (some : 1 ≤ n) (most : n ≤ 256) (cone : Cone)
       (refutes : GivesEach d plan → (m : ℕ) → IsWellFormed d routes m plan → Refutes d routes m cone plan) (small : GivesEach d plan → IsSmall cone) where
     -- the cone refutes it
     pub refutes_so : Refutes d routes n cone plan

@@ -9,6 +9,6 @@ use Rattle.dispatch_run.specs.Followers.{IsTraffic}
 
 -- the dispatch is that of a well-formed plan, and the traffic its
 pub record IsPlanned (dispatch : Dispatch) (traffic : Traffic) (plan : List (List Command)) : Type 0 where
-  pub formed : IsWellFormed traffic.interlocking.now.design.station traffic.interlocking.now.routes 64 plan
+  pub formed : IsWellFormed traffic.interlocking.now.design.station traffic.interlocking.now.routes 256 plan
   pub same : dispatch ≡ of_plan traffic.interlocking.now.routes plan
   pub is : IsTraffic dispatch traffic

@@ -167,14 +167,14 @@ module _ (d : Station) (good : is_admitted d ≡ true) (routes : List Route) (pl
 
   -- ---- the plan
 
-  nothing_refused : IsRunnable d routes 64 plan → admitted_plan d routes (ordered d plan) ≡ Ok (ordered d plan)
+  nothing_refused : IsRunnable d routes 256 plan → admitted_plan d routes (ordered d plan) ≡ Ok (ordered d plan)
   nothing_refused run =
-      let placed : misplaced d routes 64 (ordered d plan) ≡ [] = same_misplaced d routes 64 plan ∙ (formed_where_none d routes plan named 64).0 run.well_formed.formed in
+      let placed : misplaced d routes 256 (ordered d plan) ≡ [] = same_misplaced d routes 256 plan ∙ (formed_where_none d routes plan named 256).0 run.well_formed.formed in
       let free : blocked d routes (ordered d plan) ≡ [] = free_of_executable d routes (ordered d plan) (ordered_executable d routes plan named run.executable) in
       ap (λ ps. unless P3 ps (unless P4 (blocked d routes (ordered d plan)) (Ok (ordered d plan)))) placed
       ∙ ap (λ ps. unless P4 ps (Ok (ordered d plan))) free
 
-  read_so : length routes < 2 ^ 32 → IsRunnable d routes 64 plan → plan_of d routes (plan_text d plan) ≡ Ok (ordered d plan)
+  read_so : length routes < 2 ^ 32 → IsRunnable d routes 256 plan → plan_of d routes (plan_text d plan) ≡ Ok (ordered d plan)
   read_so few run =
       ap (λ o. plan_of_text d routes (option_and_then text_steps o)) (spelled (plan_value d plan) (plain few) low)
       ∙ ap (plan_of_text d routes) (steps_spelled d plan)
@@ -182,5 +182,5 @@ module _ (d : Station) (good : is_admitted d ≡ true) (routes : List Route) (pl
       ∙ ap (admitted_plan d routes) all_planned
       ∙ nothing_refused run
 
-pub plans_read_back : (d : Station) (routes : List Route) (plan : List (List Command)) → is_admitted d ≡ true → length routes < 2 ^ 32 → IsRunnable d routes 64 plan → plan_of d routes (plan_text d plan) ≡ Ok (map (in_file_order d) plan)
+pub plans_read_back : (d : Station) (routes : List Route) (plan : List (List Command)) → is_admitted d ≡ true → length routes < 2 ^ 32 → IsRunnable d routes 256 plan → plan_of d routes (plan_text d plan) ≡ Ok (map (in_file_order d) plan)
 plans_read_back d routes plan good few run = read_so d good routes plan run.well_formed.named few run

@@ -12,6 +12,6 @@ ghost use Rattle.plan_text.specs.Text.{in_file_order, plan_text};
 /// The text of a plan that the reader doesn't refuse spells that plan, with the trains of each step in file order.
 pub fn plans_read_back()
     ensures { (d : Station) (routes : List Route) (plan : List (List Command))
-        → is_admitted d ≡ true → length routes < 2 ^ 32 → IsRunnable d routes 64 plan
+        → is_admitted d ≡ true → length routes < 2 ^ 32 → IsRunnable d routes 256 plan
         → plan_of d routes (plan_text d plan) ≡ Ok (map (in_file_order d) plan) }
 {}

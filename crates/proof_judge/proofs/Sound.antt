@@ -105,7 +105,7 @@ by_so d admitted n k bytes some (Some (Named version steps)) e = go (not (versio
     go : (differs : Bool) → (if differs then No 1 HeadDiffers else judged_under (Named version steps) d n bytes) ≡ Yes k → (k ≤ n) × IsInfeasible d k
     go true e = absurd (cc)
     go false e = under_so d admitted (Named version steps) n k bytes some e
-by_so d admitted n k bytes some (Some (Sorted version steps)) e = go (not (version == d.version && steps == n)) (is_some (past_limit 4000000 0 (clauses_under (Sorted version steps) d n))) e
+by_so d admitted n k bytes some (Some (Sorted version steps)) e = go (not (version == d.version && steps == n)) (is_some (past_limit 16000000 0 (clauses_under (Sorted version steps) d n))) e
   where
     go : (differs large : Bool) → (if differs then No 1 HeadDiffers else if large then No 1 BaseTooLarge else judged_under (Sorted version steps) d n bytes) ≡ Yes k → (k ≤ n) × IsInfeasible d k
     go true large e = absurd (cc)

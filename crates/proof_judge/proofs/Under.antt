@@ -37,11 +37,11 @@ module _ {E : Type 0} (d : Station) (n : ℕ) (bytes : List ℕ) (r : Result Sho
       ap (λ b. if not b then No 1 HeadDiffers else judged_under (Named version named) d n bytes) names in
       subst (λ z. IfOk r (λ shown. shown ≡ z)) (sym same) h
 
-  pub under_sorted : (version named steps : ℕ) → steps ≡ n → (version == d.version && named == n) ≡ true → past_limit 4000000 0 (sorted_base d (routes_of d) n) ≡ None
+  pub under_sorted : (version named steps : ℕ) → steps ≡ n → (version == d.version && named == n) ≡ true → past_limit 16000000 0 (sorted_base d (routes_of d) n) ≡ None
       → IfOk r (λ shown. shown ≡ judged_under (Sorted version named) d steps bytes) → IfOk r (λ shown. shown ≡ judged_by d n bytes (Some (Sorted version named)))
   under_sorted version named steps s names fits h =
       let same : judged_by d n bytes (Some (Sorted version named)) ≡ judged_under (Sorted version named) d n bytes =
-      ap (λ b. if not b then No 1 HeadDiffers else if is_some (past_limit 4000000 0 (sorted_base d (routes_of d) n)) then No 1 BaseTooLarge else judged_under (Sorted version named) d n bytes) names
+      ap (λ b. if not b then No 1 HeadDiffers else if is_some (past_limit 16000000 0 (sorted_base d (routes_of d) n)) then No 1 BaseTooLarge else judged_under (Sorted version named) d n bytes) names
       ∙ ap (λ o. if is_some o then No 1 BaseTooLarge else judged_under (Sorted version named) d n bytes) fits in
       subst (λ z. IfOk r (λ shown. shown ≡ z)) (sym same) (subst (λ k. IfOk r (λ shown. shown ≡ judged_under (Sorted version named) d k bytes)) s h)
 
@@ -55,12 +55,12 @@ named_differs d n bytes version named other =
 
 pub sorted_differs : (d : Station) (n : ℕ) (bytes : List ℕ) (version named : ℕ) → (version == d.version && named == n) ≡ false → No 1 HeadDiffers ≡ judged_by d n bytes (Some (Sorted version named))
 sorted_differs d n bytes version named other =
-    sym (ap (λ b. if not b then No 1 HeadDiffers else if is_some (past_limit 4000000 0 (sorted_base d (routes_of d) n)) then No 1 BaseTooLarge else judged_under (Sorted version named) d n bytes) other)
+    sym (ap (λ b. if not b then No 1 HeadDiffers else if is_some (past_limit 16000000 0 (sorted_base d (routes_of d) n)) then No 1 BaseTooLarge else judged_under (Sorted version named) d n bytes) other)
 
 -- too many clauses
-pub too_large : (d : Station) (n : ℕ) (bytes : List ℕ) (version named k : ℕ) → (version == d.version && named == n) ≡ true → past_limit 4000000 0 (sorted_base d (routes_of d) n) ≡ Some k → No 1 BaseTooLarge ≡ judged_by d n bytes (Some (Sorted version named))
+pub too_large : (d : Station) (n : ℕ) (bytes : List ℕ) (version named k : ℕ) → (version == d.version && named == n) ≡ true → past_limit 16000000 0 (sorted_base d (routes_of d) n) ≡ Some k → No 1 BaseTooLarge ≡ judged_by d n bytes (Some (Sorted version named))
 too_large d n bytes version named k names large =
-    sym (ap (λ b. if not b then No 1 HeadDiffers else if is_some (past_limit 4000000 0 (sorted_base d (routes_of d) n)) then No 1 BaseTooLarge else judged_under (Sorted version named) d n bytes) names
+    sym (ap (λ b. if not b then No 1 HeadDiffers else if is_some (past_limit 16000000 0 (sorted_base d (routes_of d) n)) then No 1 BaseTooLarge else judged_under (Sorted version named) d n bytes) names
     ∙ ap (λ o. if is_some o then No 1 BaseTooLarge else judged_under (Sorted version named) d n bytes) large)
 
 -- the clauses of a base, and then those that trains come in turn

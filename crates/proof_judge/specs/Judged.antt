@@ -59,7 +59,7 @@ judged_by d n bytes (Some (Named version steps)) =
     if not (version == d.version && steps == n) then No 1 HeadDiffers else judged_under (Named version steps) d n bytes
 judged_by d n bytes (Some (Sorted version steps)) =
     if not (version == d.version && steps == n) then No 1 HeadDiffers
-    else if is_some (past_limit 4000000 0 (clauses_under (Sorted version steps) d n)) then No 1 BaseTooLarge
+    else if is_some (past_limit 16000000 0 (clauses_under (Sorted version steps) d n)) then No 1 BaseTooLarge
     else judged_under (Sorted version steps) d n bytes
 judged_by d n bytes (Some Plain) = judged_under Plain d n bytes
 judged_by d n bytes None = judged_under Plain d n bytes

@@ -122,9 +122,9 @@ module _ (d : Station) (n : ℕ) where
       large true found = absurd (cc)
       large false found = under_named (Sorted version steps) bytes k found
 
-      differs : (b : Bool) → (if b then No 1 HeadDiffers else if is_some (past_limit 4000000 0 (clauses_under (Sorted version steps) d n)) then No 1 BaseTooLarge else judged_under (Sorted version steps) d n bytes) ≡ Yes k → All (IsNamedPiece d) (after_first (pieces bytes))
+      differs : (b : Bool) → (if b then No 1 HeadDiffers else if is_some (past_limit 16000000 0 (clauses_under (Sorted version steps) d n)) then No 1 BaseTooLarge else judged_under (Sorted version steps) d n bytes) ≡ Yes k → All (IsNamedPiece d) (after_first (pieces bytes))
       differs true found = absurd (cc)
-      differs false found = large (is_some (past_limit 4000000 0 (clauses_under (Sorted version steps) d n))) found
+      differs false found = large (is_some (past_limit 16000000 0 (clauses_under (Sorted version steps) d n))) found
 
   -- where a file shows k, each cone and bound of its lines names what the design has
   pub judged_named : (bytes : List ℕ) (k : ℕ) → judged d n bytes ≡ Yes k → All (IsNamedPiece d) (after_first (pieces bytes))

@@ -195,7 +195,7 @@ module _ (d : Station) where
   pub admitted : is_admitted d ≡ true → IsAdmitted d
   admitted h =
       let all = five (are_few d) (is_timed d) (are_named d) (is_sound_track d) (is_sound_traffic d) h in
-      let few = seven (nat_le (length d.nodes) 2000) (nat_le (length d.edges) 4000) (nat_le (length d.signals) 1000) (nat_le (length d.vehicles) 64) (is_from 1 32 (length d.trains)) (nat_le (length d.orders) 256) (nat_le (length d.withins) 256) all.0 in
+      let few = seven (nat_le (length d.nodes) 2000) (nat_le (length d.edges) 4000) (nat_le (length d.signals) 1000) (nat_le (length d.vehicles) 64) (is_from 1 128 (length d.trains)) (nat_le (length d.orders) 256) (nat_le (length d.withins) 256) all.0 in
       let time = three (is_from 1 2 d.version) (is_from 100 1000 d.tick_ms) (is_from 1 86400 (horizon d)) all.1 in
       let n1 = are_names (map (λ (n : Node). n.name) d.nodes) in
       let n2 = are_names (map (λ (e : Edge). e.name) d.edges) in
@@ -216,7 +216,7 @@ module _ (d : Station) where
         many_edges = up_to _ _ few.1;
         many_signals = up_to _ _ few.2;
         many_vehicles = up_to _ _ few.3;
-        many_trains = ranged 1 32 (length d.trains) few.4;
+        many_trains = ranged 1 128 (length d.trains) few.4;
         many_orders = up_to _ _ few.5;
         many_withins = up_to _ _ few.6;
         node_names = named (λ (n : Node). n.name) d.nodes names.0;

@@ -108,7 +108,7 @@ is_good_within d w = is_visit d w.from_train w.from_visit && is_visit d w.to_tra
 -- how many entries there may be
 abbrev pub are_few : Station → Bool
 are_few d = nat_le (length d.nodes) 2000 && nat_le (length d.edges) 4000 && nat_le (length d.signals) 1000
-    && nat_le (length d.vehicles) 64 && is_from 1 32 (length d.trains) && nat_le (length d.orders) 256
+    && nat_le (length d.vehicles) 64 && is_from 1 128 (length d.trains) && nat_le (length d.orders) 256
     && nat_le (length d.withins) 256
 
 -- the version, the tick and the horizon

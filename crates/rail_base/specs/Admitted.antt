@@ -91,7 +91,7 @@ pub record IsAdmitted (d : Station) : Type 0 where
   pub many_edges : length d.edges ≤ 4000
   pub many_signals : length d.signals ≤ 1000
   pub many_vehicles : length d.vehicles ≤ 64
-  pub many_trains : Ranges 1 32 (length d.trains)
+  pub many_trains : Ranges 1 128 (length d.trains)
   pub many_orders : length d.orders ≤ 256
   pub many_withins : length d.withins ≤ 256
   pub node_names : Pairs (λ (a b : Node). a.name ≡ b.name → ⊥) d.nodes

@@ -86,10 +86,10 @@ module _ (m : Method) (d : Station) (n : ℕ) (b : Budgets) (tell : Outcome → 
   abbrev unless_many : Outcome → Answer
   unless_many found = unless_refused (with_clauses m n d) (λ same. tell found)
 
-  few_told : (found : Outcome) → past_limit 4000000 0 (first_clauses m d n) ≡ None → unless_many found ≡ tell found
+  few_told : (found : Outcome) → past_limit 16000000 0 (first_clauses m d n) ≡ None → unless_many found ≡ tell found
   few_told found few = answered_next (with_clauses m n d) d (λ same. tell found) (small_passes m n d few)
 
-  many_told : (literals : ℕ) → past_limit 4000000 0 (first_clauses m d n) ≡ Some literals → unless_many (outcome.TooLarge literals) ≡ tell (outcome.TooLarge literals)
+  many_told : (literals : ℕ) → past_limit 16000000 0 (first_clauses m d n) ≡ Some literals → unless_many (outcome.TooLarge literals) ≡ tell (outcome.TooLarge literals)
   many_told literals many = answered_refusal (with_clauses m n d) _ (λ same. tell (outcome.TooLarge literals)) (too_large_refused m n d literals many) ∙ sym (large literals)
 
   -- the reply to the end of a search is one to the search
@@ -226,7 +226,7 @@ pub want_so : (r : Result Reply Ending) (files : Files) (asked : Option Asked) �
 want_so r files asked is = subst (λ (x : Result Reply Ending). RepliesSo x files asked) (sym is) (outcome.Memory, may_want files asked, tt)
 
 -- what a search was asked for, from a request that is in range
-pub search_steps : (asked : Asked) (n conflicts ticks : ℕ) (bounds : Bool) (design proof : List ℕ) → asked ≡ verify n conflicts ticks bounds design proof → IsInRange asked → (1 ≤ n) × (n ≤ 64)
+pub search_steps : (asked : Asked) (n conflicts ticks : ℕ) (bounds : Bool) (design proof : List ℕ) → asked ≡ verify n conflicts ticks bounds design proof → IsInRange asked → (1 ≤ n) × (n ≤ 256)
 search_steps asked n conflicts ticks bounds design proof is range = subst IsInRange is range
 
 -- ---- runs
@@ -265,10 +265,10 @@ was_searched : (m : Method) (n conflicts ticks : ℕ) (design_bytes : List ℕ) 
 was_searched m n conflicts ticks design_bytes found d spells verdict =
     let one = passed (within_limit file.Design design_bytes) (with_text m n conflicts ticks design_bytes found) (long_refuses file.Design design_bytes) verdict in
     let two = passed (design_in one.read) (λ e. searched_in m e n conflicts ticks found) (design_refuses (and_then (design_of one.read) with_routes)) one.verdict in
-    let three = passed (with_clauses m n two.read) (λ same. told_outcome two.read n conflicts ticks found) (clauses_refuse two.read (past_limit 4000000 0 (first_clauses m two.read n))) two.verdict in
+    let three = passed (with_clauses m n two.read) (λ same. told_outcome two.read n conflicts ticks found) (clauses_refuse two.read (past_limit 16000000 0 (first_clauses m two.read n))) two.verdict in
     let text : design_bytes ≡ one.read = file_is file.Design design_bytes one.read one.is in
     let same : d ≡ two.read = read-same one.read d two.read (ap design_of (sym text) ∙ spells) two.is in
-    let few : with_clauses m n two.read ≡ Ok two.read = same_clauses two.read (past_limit 4000000 0 (first_clauses m two.read n)) three.read three.is in
+    let few : with_clauses m n two.read ≡ Ok two.read = same_clauses two.read (past_limit 16000000 0 (first_clauses m two.read n)) three.read three.is in
     record {
       fits = one.is ∙ ap (λ (bytes : List ℕ). Ok bytes) (sym text);
       reads = ap design_in text ∙ (two.is ∙ ap (λ (e : Station). Ok e) (sym same));

@@ -157,7 +157,7 @@ module _ (seed size : ℕ) (t : Status) (text new_text : Option (List ℕ)) (pie
   was_tried : (found : Outcome) → is_verdict (tried seed size found).status ≡ true → tried seed size found ≡ told_trial seed size (made seed size) found
   was_tried found verdict =
       let one = passed (design_or_answer (with_routes (made seed size))) (λ d. tried_in seed size d found) (design_refuses (with_routes (made seed size))) verdict in
-      let two = passed (with_clauses Cones (2 * size) one.read) (λ same. told_trial seed size one.read found) (clauses_refuse one.read (past_limit 4000000 0 (base_clauses one.read (routes_of one.read) (2 * size)))) one.verdict in
+      let two = passed (with_clauses Cones (2 * size) one.read) (λ same. told_trial seed size one.read found) (clauses_refuse one.read (past_limit 16000000 0 (base_clauses one.read (routes_of one.read) (2 * size)))) one.verdict in
       let same : made seed size ≡ one.read = listed-same (made seed size) one.read one.is in
       one.comes ∙ two.comes ∙ ap (λ (d : Station). told_trial seed size d found) (sym same)
 

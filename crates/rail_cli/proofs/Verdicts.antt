@@ -42,8 +42,8 @@ within limit sum (c ∷ cs) few =
     let all : literals (c ∷ cs) ≡ length c + literals cs = sum_by-cons length c cs in
     rw (le-ltb limit (sum + length c) (omega arith)) (within limit (sum + length c) cs (omega arith))
 
-few_fit : (m : Method) (d : Station) (n : ℕ) → HasFewClauses m d n → past_limit 4000000 0 (first_clauses m d n) ≡ None
-few_fit m d n few = within 4000000 0 (first_clauses m d n) (omega arith)
+few_fit : (m : Method) (d : Station) (n : ℕ) → HasFewClauses m d n → past_limit 16000000 0 (first_clauses m d n) ≡ None
+few_fit m d n few = within 16000000 0 (first_clauses m d n) (omega arith)
 
 few_pass : (m : Method) (d : Station) (n : ℕ) → HasFewClauses m d n → with_clauses m n d ≡ Ok d
 few_pass m d n few = small_passes m n d (few_fit m d n few)

@@ -135,9 +135,9 @@ abbrev pub unless_too_large : Station → Option ℕ → Result Station Answer
 unless_too_large d None = Ok d
 unless_too_large d (Some literals) = Err (one_line status.DesignRefused too_large_line)
 
--- a design of which the clauses that a search by the method begins with have at most 4,000,000 literals
+-- a design of which the clauses that a search by the method begins with have at most 16,000,000 literals
 abbrev pub with_clauses : Method → ℕ → Station → Result Station Answer
-with_clauses m n d = unless_too_large d (past_limit 4000000 0 (first_clauses m d n))
+with_clauses m n d = unless_too_large d (past_limit 16000000 0 (first_clauses m d n))
 
 -- what a proof file shows
 abbrev pub told : Shown → Answer

@@ -95,7 +95,7 @@ deciding_tick verdict.Undecided = 0
 pub record DecidesPlan (d : Station) (bytes : List ℕ) (s : Status) : Type 0 where
   pub plan : List (List Command)
   pub spelled : plan_in d bytes ≡ Ok plan
-  pub exactly : (s ≡ statuses.Done) ↔ IsFeasible d 64 plan
+  pub exactly : (s ≡ statuses.Done) ↔ IsFeasible d 256 plan
   pub safe : RunsSafely d plan
 
 -- the one file spells a design, the other a plan over it, and the status is 0 exactly where that is feasible

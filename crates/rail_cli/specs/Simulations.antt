@@ -43,17 +43,17 @@ BeginsWith front text = (rest : List ℕ) × (text ≡ front ++ rest)
 -- the status is 0 exactly where the plan is feasible, and else 1; the text is the timetable, whose first line is `met tick <k>` at the deciding tick exactly in the first case, and which begins with `met tick` in no other; and the run is safe
 pub record TellsFeasible (d : Station) (plan : List (List Command)) (s : Status) (old new : Option (List ℕ))
     : Type 0 where
-  pub done : (s ≡ statuses.Done) ↔ IsFeasible d 64 plan
-  pub failed : (s ≡ statuses.No) ↔ (IsFeasible d 64 plan → ⊥)
+  pub done : (s ≡ statuses.Done) ↔ IsFeasible d 256 plan
+  pub failed : (s ≡ statuses.No) ↔ (IsFeasible d 256 plan → ⊥)
   pub met : ((more : List (List ℕ)) × (timetable_of d (shown_by d plan) ≡ met_line (cost d (routes_of d) plan) ∷ more))
-      ↔ IsFeasible d 64 plan
-  pub begins : BeginsWith (codes "met tick") (timetable_text d (shown_by d plan)) ↔ IsFeasible d 64 plan
+      ↔ IsFeasible d 256 plan
+  pub begins : BeginsWith (codes "met tick") (timetable_text d (shown_by d plan)) ↔ IsFeasible d 256 plan
   pub text : new ≡ grown old (timetable_text d (shown_by d plan))
   pub safe : RunsSafely d plan
 
 -- the status is 0 exactly where the plan is feasible, and its run is safe
 pub record Settles (d : Station) (plan : List (List Command)) (s : Status) : Type 0 where
-  pub done : (s ≡ statuses.Done) ↔ IsFeasible d 64 plan
+  pub done : (s ≡ statuses.Done) ↔ IsFeasible d 256 plan
   pub safe : RunsSafely d plan
 
 -- where the words ask for a simulation in which nothing is refused, the status settles it

@@ -29,9 +29,9 @@ pub record HasRoutes (d : Station) : Type 0 where
   pub once : edges_met_again d ≡ []
   pub few : length (all_closings d) ≤ 2000
 
--- the clauses that a search by the method for plans of n steps begins with have at most 4,000,000 literals
+-- the clauses that a search by the method for plans of n steps begins with have at most 16,000,000 literals
 abbrev pub HasFewClauses : Method → Station → ℕ → Type 0
-HasFewClauses m d n = literals (first_clauses m d n) ≤ 4000000
+HasFewClauses m d n = literals (first_clauses m d n) ≤ 16000000
 
 -- the file is within its limit and spells this design, whose routes can be listed
 pub record SpellsDesign (bytes : List ℕ) (d : Station) : Type 0 where

@@ -77,7 +77,7 @@ fn checked_proof<S: Shelf>(
     Ok(reply)
 }
 
-/// The reply to a check, by the names of its files. The steps are 1 to 64.
+/// The reply to a check, by the names of its files. The steps are 1 to 256.
 pub(crate) fn checked<S: Shelf>(
     alloc: Global,
     shelf: &mut S,
@@ -86,7 +86,7 @@ pub(crate) fn checked<S: Shelf>(
     proof: &str,
 ) -> Result<Reply, Ending>
     requires some { 1 ≤ steps }
-    requires most { steps ≤ 64 }
+    requires most { steps ≤ 256 }
     ensures replies { (files : Files) → S.held shelf.old ≡ Some files
         → Replies result (checked steps (files design.now) (files proof.now)) }
     ensures some { RepliesSome result (Some (check steps design.now proof.now)) }

@@ -27,5 +27,6 @@ pub use reading::{admit, fetch};
 pub use refusals::one_line;
 pub use reply::Reply;
 pub use run::{print, run_words};
+pub use simulation::read_steps;
 pub use status::Status;
 pub use sure::run_words_surely;

@@ -242,7 +242,7 @@ fn searched_in<S: Shelf>(
     )
 }
 
-/// The reply to a search for a plan of so many steps, 1 to 64, by the names of its files; plans that fail are excluded
+/// The reply to a search for a plan of so many steps, 1 to 256, by the names of its files; plans that fail are excluded
 /// by bounds where these are asked for. Where there is no plan, the log that shows it is stored under the proof's name.
 pub(crate) fn searched<S: Shelf>(
     alloc: Global,
@@ -254,7 +254,7 @@ pub(crate) fn searched<S: Shelf>(
     proof: &str,
 ) -> Result<Reply, Ending>
     requires some { 1 ≤ steps }
-    requires most { steps ≤ 64 }
+    requires most { steps ≤ 256 }
     requires room { budgets.log_bytes ≡ limit_of InputFile.Proof }
     ensures replies { (files : Files) → S.held shelf.old ≡ Some files
         → RepliesSo result files (Some (verify steps budgets.conflicts budgets.ticks bounds design.now proof.now)) }

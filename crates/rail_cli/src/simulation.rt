@@ -32,12 +32,12 @@ use rail_plan::reading::read_plan;
 use std::alloc::{AllocError, Global};
 use timetable::timetable_lines;
 
-/// The plan over a design that the bytes spell.
-fn read_steps(alloc: Global, interlocking: &Interlocking, bytes: &[u8]) -> Result<Plan, Ending>
+/// The plan over a design that the bytes spell. The ending tells why it is refused, or is want of memory.
+pub fn read_steps(alloc: Global, interlocking: &Interlocking, bytes: &[u8]) -> Result<Plan, Ending>
     ensures reads { Reads (λ p. p.steps) result (plan_in interlocking.now.design.station bytes.now) }
     ensures refuses { OnlyRefuses result }
     ensures runnable { let d = interlocking.now.design.station in
-        IfOk result (λ p. IsRunnable d (routes_of d) 64 p.steps) }
+        IfOk result (λ p. IsRunnable d (routes_of d) 256 p.steps) }
 {
     match read_plan(alloc, interlocking, bytes) {
         Ok(plan) => Ok(plan),
@@ -60,11 +60,11 @@ fn status_of(verdict: &Verdict) -> Status
 
 /// The timetable of a plan's run up to the horizon.
 fn show(alloc: Global, interlocking: &Interlocking, plan: &Plan) -> Result<Reply, AllocError>
-    requires runnable { let d = interlocking.now.design.station in IsRunnable d (routes_of d) 64 plan.now.steps }
+    requires runnable { let d = interlocking.now.design.station in IsRunnable d (routes_of d) 256 plan.now.steps }
     ensures shown { let d = interlocking.now.design.station in Tells result (shown d (shown_by d plan.now.steps)) }
     ensures verdict { IfOk result (λ reply. is_verdict reply.status ≡ true) }
     ensures exactly { IfOk result (λ reply. (reply.status ≡ Status.Done)
-        ↔ IsFeasible interlocking.now.design.station 64 plan.now.steps) }
+        ↔ IsFeasible interlocking.now.design.station 256 plan.now.steps) }
     ensures safe { OnOk result (RunsSafely interlocking.now.design.station plan.now.steps) }
 {
     let verdict = simulate(alloc, interlocking, plan, interlocking.design.horizon())?;

@@ -119,18 +119,18 @@ module _ (i : Interlocking) where
   few_edges path = subst (λ rs. length (edges_of rs path) ≤ way rs path) (sym i.table) (edges_few station adm path)
 
   -- what a well-formed plan has
-  module _ (plan : List (List Command)) (formed : IsWellFormed station i.routes 64 plan) where
-    there : IsWellFormed station (routes_of station) 64 plan
-    there = subst (λ rs. IsWellFormed station rs 64 plan) i.table formed
+  module _ (plan : List (List Command)) (formed : IsWellFormed station i.routes 256 plan) where
+    there : IsWellFormed station (routes_of station) 256 plan
+    there = subst (λ rs. IsWellFormed station rs 256 plan) i.table formed
 
     few : length (routes_of station) ≤ 2000
     few = subst (λ rs. length rs ≤ 2000) i.table i.few
 
     pub plan_named : All (λ step. All (IsCommand station i.routes) step) plan
-    plan_named = subst (λ rs. All (λ step. All (IsCommand station rs) step) plan) (sym i.table) (named station adm 64 plan there few)
+    plan_named = subst (λ rs. All (λ step. All (IsCommand station rs) step) plan) (sym i.table) (named station adm 256 plan there few)
 
     pub plan_in_range : (t : TrainNo) → IsInRange i.routes (path plan t)
-    plan_in_range = subst (λ rs. (t : TrainNo) → IsInRange rs (path plan t)) (sym i.table) (in_range station adm 64 plan there few)
+    plan_in_range = subst (λ rs. (t : TrainNo) → IsInRange rs (path plan t)) (sym i.table) (in_range station adm 256 plan there few)
 
 -- paths in range are those of all trains
 pub paths_are : (d : Station) (routes : List Route) (f : TrainNo → List RouteNo) → ((t : TrainNo) → IsInRange routes (f t)) → (paths : List (List RouteNo)) → paths ≡ map f (trains d) → ArePaths d routes f paths

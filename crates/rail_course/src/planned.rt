@@ -21,7 +21,7 @@ pub fn paths_of(
     interlocking: &Interlocking,
     plan: &Plan,
 ) -> Result<Vec<List<RouteNo>>, AllocError>
-    requires { IsWellFormed interlocking.now.design.station interlocking.now.routes 64 plan.now.steps }
+    requires { IsWellFormed interlocking.now.design.station interlocking.now.routes 256 plan.now.steps }
     ensures { IfOk result (λ paths. ArePaths interlocking.now.design.station interlocking.now.routes
         (path plan.now.steps) paths.items) }
 {
@@ -39,7 +39,7 @@ pub struct PlannedCourses<'a> {
     pub courses: Courses<'a>,
     pub plan: &'a Plan,
     pub ghost formed: { IsWellFormed courses.given.interlocking.now.design.station courses.given.interlocking.now.routes
-        64 plan.now.steps },
+        256 plan.now.steps },
     pub ghost paths: { courses.given.paths.now
         ≡ map (path plan.now.steps) (trains courses.given.interlocking.now.design.station) },
 }

@@ -32,7 +32,7 @@ runs_beside = refl
 goes_round : is_admitted ring ≡ true
 goes_round = refl
 
-runnable : IsRunnable (follow_within 8000) (routes_of (follow_within 8000)) 64 plan_two
+runnable : IsRunnable (follow_within 8000) (routes_of (follow_within 8000)) 256 plan_two
 runnable = record { well_formed = record { named = refl; formed = refl }; executable = refl }
 
 feasible : IsFeasible (follow_within 8000) 4 plan_two

@@ -12,7 +12,7 @@ use Rattle.rail_laws.proofs.Stations.{halt, follow, plan_one, plan_two, plan_ear
 abbrev heads : Station → List (List Command) → ℕ → List (List ℕ)
 heads d plan n = map (λ k. map (λ s. s.x) (state_at d (routes_of d) (of_plan (routes_of d) plan) k)) (one_to n)
 
-good : is_well_formed follow (routes_of follow) 64 plan_two ≡ true
+good : is_well_formed follow (routes_of follow) 256 plan_two ≡ true
 good = refl
 
 can_do : is_executable follow (routes_of follow) plan_two ≡ true

@@ -147,29 +147,29 @@ module _ (d : Station) (routes : List Route) where
 
   -- ---- a plan that is read can be run
 
-  pub runnable : (o : Option (List (List Written))) (plan : List (List Command)) → plan_of_text d routes o ≡ Ok plan → IsRunnable d routes 64 plan
+  pub runnable : (o : Option (List (List Written))) (plan : List (List Command)) → plan_of_text d routes o ≡ Ok plan → IsRunnable d routes 256 plan
   runnable None plan e = cc
   runnable (Some text) plan e = at_known (unknown (train_names d) (length routes) text) e
     where
-      at_blocked : (ps : List PlanPlace) → misplaced d routes 64 (planned (train_names d) (length routes) text) ≡ [] → blocked d routes (planned (train_names d) (length routes) text) ≡ ps → unless P4 ps (Ok (planned (train_names d) (length routes) text)) ≡ Ok plan → IsRunnable d routes 64 plan
+      at_blocked : (ps : List PlanPlace) → misplaced d routes 256 (planned (train_names d) (length routes) text) ≡ [] → blocked d routes (planned (train_names d) (length routes) text) ≡ ps → unless P4 ps (Ok (planned (train_names d) (length routes) text)) ≡ Ok plan → IsRunnable d routes 256 plan
       at_blocked [] m b k =
           let same : planned (train_names d) (length routes) text ≡ plan = cc in
           let named = planned_named text in
-          subst (IsRunnable d routes 64) same (record {
-            well_formed = record { named = named; formed = (formed_where_none d routes (planned (train_names d) (length routes) text) named 64).1 m };
+          subst (IsRunnable d routes 256) same (record {
+            well_formed = record { named = named; formed = (formed_where_none d routes (planned (train_names d) (length routes) text) named 256).1 m };
             executable = executable_of_free d routes (planned (train_names d) (length routes) text) named b;
           })
       at_blocked (q ∷ ps) m b k = cc
 
-      at_misplaced : (ps : List PlanPlace) → misplaced d routes 64 (planned (train_names d) (length routes) text) ≡ ps → unless P3 ps (unless P4 (blocked d routes (planned (train_names d) (length routes) text)) (Ok (planned (train_names d) (length routes) text))) ≡ Ok plan → IsRunnable d routes 64 plan
+      at_misplaced : (ps : List PlanPlace) → misplaced d routes 256 (planned (train_names d) (length routes) text) ≡ ps → unless P3 ps (unless P4 (blocked d routes (planned (train_names d) (length routes) text)) (Ok (planned (train_names d) (length routes) text))) ≡ Ok plan → IsRunnable d routes 256 plan
       at_misplaced [] m k = at_blocked (blocked d routes (planned (train_names d) (length routes) text)) m refl k
       at_misplaced (q ∷ ps) m k = cc
 
-      at_known : (ps : List PlanPlace) → unless P2 ps (admitted_plan d routes (planned (train_names d) (length routes) text)) ≡ Ok plan → IsRunnable d routes 64 plan
-      at_known [] k = at_misplaced (misplaced d routes 64 (planned (train_names d) (length routes) text)) refl k
+      at_known : (ps : List PlanPlace) → unless P2 ps (admitted_plan d routes (planned (train_names d) (length routes) text)) ≡ Ok plan → IsRunnable d routes 256 plan
+      at_known [] k = at_misplaced (misplaced d routes 256 (planned (train_names d) (length routes) text)) refl k
       at_known (q ∷ ps) k = cc
 
-  pub runnable_result : (o : Option (List (List Written))) (result : Result Plan PlanFault) → Gives (λ p. p.steps) result (plan_of_text d routes o) → IfOk result (λ p. IsRunnable d routes 64 p.steps)
+  pub runnable_result : (o : Option (List (List Written))) (result : Result Plan PlanFault) → Gives (λ p. p.steps) result (plan_of_text d routes o) → IfOk result (λ p. IsRunnable d routes 256 p.steps)
   runnable_result o (Ok plan) h = runnable o plan.steps h
   runnable_result o (Err e) h = tt
 

@@ -94,7 +94,7 @@ module _ (i : Interlocking) where
   abbrev pub known_steps : List Data → Result (List (List Command)) Refusal
   known_steps = steps_read (train_names i.design.station) (length i.routes)
 
-  -- the plan, where it is well formed for 64 and executable
+  -- the plan, where it is well formed for 256 and executable
   abbrev pub admitted_plan : List (List Command) → Result (List (List Command)) Refusal
   admitted_plan = reading.admitted_plan i.design.station i.routes
 

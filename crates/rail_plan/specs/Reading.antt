@@ -66,9 +66,9 @@ abbrev pub unless : {X : Type 0} → PlanCode → List PlanPlace → Result X Re
 unless code [] answer = answer
 unless code (p ∷ ps) answer = Err (code, p)
 
--- the plan, where it is well formed for 64 and executable
+-- the plan, where it is well formed for 256 and executable
 abbrev pub admitted_plan : Station → List Route → List (List Command) → Result (List (List Command)) Refusal
-admitted_plan d routes plan = unless P3 (misplaced d routes 64 plan) (unless P4 (blocked d routes plan) (Ok plan))
+admitted_plan d routes plan = unless P3 (misplaced d routes 256 plan) (unless P4 (blocked d routes plan) (Ok plan))
 
 -- the plan of a text, which may be none
 abbrev pub plan_of_text : Station → List Route → Option (List (List Written)) → Result (List (List Command)) Refusal

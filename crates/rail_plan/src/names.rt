@@ -29,7 +29,7 @@ pub(crate) fn train_names<'a>(
 
 /// The train of a name.
 fn train_named(names: &IndexSet<&[u8]>, name: &str) -> Option<TrainNo>
-    requires { length names.now.keys ≤ 32 }
+    requires { length names.now.keys ≤ 128 }
     ensures { result ≡ train_named (map (λ k. k.now) names.now.keys) name.now }
 {
     let index = names.get_index_of(name.as_bytes())?;
@@ -50,7 +50,7 @@ fn route_numbered(many: usize, number: u64) -> Option<RouteNo>
 
 /// The command that a value spells, where its train and its route are there.
 pub(crate) fn command_at(names: &IndexSet<&[u8]>, many: usize, value: &Value) -> Option<Command>
-    requires names { length names.now.keys ≤ 32 }
+    requires names { length names.now.keys ≤ 128 }
     requires many { many < 2 ^ 32 }
     ensures { result ≡ seen (map (λ k. k.now) names.now.keys) many (view value.now) }
 {

@@ -21,7 +21,7 @@ use serde_json::Value;
 use std::alloc::Global;
 
 /// How many steps a plan may have.
-const MOST_STEPS: u32 = 64;
+const MOST_STEPS: u32 = 256;
 
 /// The value that the bytes are, by the reading of `serde_json`.
 fn value_of(alloc: Global, bytes: &[u8]) -> Result<Value, PlanFault>
@@ -50,7 +50,7 @@ fn read_step(
     number: usize,
     values: &[Value],
 ) -> Result<List<Command>, PlanFault>
-    requires names { length names.now.keys ≤ 32 }
+    requires names { length names.now.keys ≤ 128 }
     requires many { many < 2 ^ 32 }
     ensures { Gives (λ s. s) result (step_read (map (λ k. k.now) names.now.keys) many number (map view values.now)) }
 {
@@ -90,7 +90,7 @@ fn read_steps(
     many: usize,
     values: &[Value],
 ) -> Result<List<List<Command>>, PlanFault>
-    requires names { length names.now.keys ≤ 32 }
+    requires names { length names.now.keys ≤ 128 }
     requires many { many < 2 ^ 32 }
     ensures { Gives (λ s. s) result (steps_read (map (λ k. k.now) names.now.keys) many (map view values.now)) }
 {
@@ -122,7 +122,7 @@ fn known_steps(
     read_steps(alloc, &names, interlocking.routes.len(), values)
 }
 
-/// The plan, where it is well formed for 64 and executable.
+/// The plan, where it is well formed for 256 and executable.
 fn admit(interlocking: &Interlocking, plan: Plan) -> Result<Plan, PlanFault>
     requires { names_only interlocking.now plan.steps ≡ true }
     ensures { Gives (λ p. p.steps) result (admitted_plan interlocking.now plan.steps) }
@@ -159,14 +159,14 @@ fn plan_at(alloc: Global, interlocking: &Interlocking, value: &Value) -> Result<
 }
 
 /// Reads a plan over a design and its routes, or tells the first refusal: P1 before P2, P2 before P3, P3 before P4, and
-/// of each the first place. A plan that is read is well formed for 64 and executable.
+/// of each the first place. A plan that is read is well formed for 256 and executable.
 pub fn read_plan(
     alloc: Global,
     interlocking: &Interlocking,
     bytes: &[u8],
 ) -> Result<Plan, PlanFault>
     ensures given { Gives (λ p. p.steps) result (plan_of interlocking.now bytes.now) }
-    ensures runnable { IfOk result (λ p. IsRunnable interlocking.now 64 p.steps) }
+    ensures runnable { IfOk result (λ p. IsRunnable interlocking.now 256 p.steps) }
 {
     let value = value_of(alloc, bytes)?;
     plan_at(alloc, interlocking, &value)

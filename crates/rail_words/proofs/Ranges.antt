@@ -33,7 +33,7 @@ fits numeral value n e = go (numeral && nat_lt value (2 ^ 64)) refl e
 seed_fits : (text : Text) (n : ℕ) → seed_of text ≡ Some n → n ≤ 18446744073709551615
 seed_fits text n e = fits (is_numeral text) (digits_value 10 text) n e
 
-check_made : (steps : Option ℕ) (design proof : Text) (a : Asked) → ((n : ℕ) → steps ≡ Some n → (1 ≤ n) × (n ≤ 64)) → option_map (λ n. check n design proof) steps ≡ Some a → IsInRange a
+check_made : (steps : Option ℕ) (design proof : Text) (a : Asked) → ((n : ℕ) → steps ≡ Some n → (1 ≤ n) × (n ≤ 256)) → option_map (λ n. check n design proof) steps ≡ Some a → IsInRange a
 check_made None design proof a h e = absurd (cc)
 check_made (Some n) design proof a h e = let same : check n design proof ≡ a = cc in subst IsInRange same (h n refl)
 
@@ -41,9 +41,9 @@ checked_so : (steps design proof : Option Text) (a : Asked) → check_with steps
 checked_so None design proof a e = absurd (cc)
 checked_so (Some steps) None proof a e = absurd (cc)
 checked_so (Some steps) (Some design) None a e = absurd (cc)
-checked_so (Some steps) (Some design) (Some proof) a e = check_made (steps_of steps) design proof a (λ n h. kept 64 (number_of steps) n h) e
+checked_so (Some steps) (Some design) (Some proof) a e = check_made (steps_of steps) design proof a (λ n h. kept 256 (number_of steps) n h) e
 
-verify_made : (steps conflicts ticks : Option ℕ) (bounds : Bool) (design proof : Text) (a : Asked) → ((n : ℕ) → steps ≡ Some n → (1 ≤ n) × (n ≤ 64)) → verify_within steps conflicts ticks bounds design proof ≡ Some a → IsInRange a
+verify_made : (steps conflicts ticks : Option ℕ) (bounds : Bool) (design proof : Text) (a : Asked) → ((n : ℕ) → steps ≡ Some n → (1 ≤ n) × (n ≤ 256)) → verify_within steps conflicts ticks bounds design proof ≡ Some a → IsInRange a
 verify_made None conflicts ticks bounds design proof a h e = absurd (cc)
 verify_made (Some n) None ticks bounds design proof a h e = absurd (cc)
 verify_made (Some n) (Some c) None bounds design proof a h e = absurd (cc)
@@ -55,7 +55,7 @@ verified_so (Some s) None ticks bounds design proof a e = absurd (cc)
 verified_so (Some s) (Some c) None bounds design proof a e = absurd (cc)
 verified_so (Some s) (Some c) (Some t) bounds None proof a e = absurd (cc)
 verified_so (Some s) (Some c) (Some t) bounds (Some design) None a e = absurd (cc)
-verified_so (Some s) (Some c) (Some t) bounds (Some design) (Some proof) a e = verify_made (steps_of s) (conflicts_of c) (ticks_of t) bounds design proof a (λ n h. kept 64 (number_of s) n h) e
+verified_so (Some s) (Some c) (Some t) bounds (Some design) (Some proof) a e = verify_made (steps_of s) (conflicts_of c) (ticks_of t) bounds design proof a (λ n h. kept 256 (number_of s) n h) e
 
 simulated_so : (design plan : Option Text) (a : Asked) → simulate_with design plan ≡ Some a → IsInRange a
 simulated_so None plan a e = absurd (cc)

@@ -72,7 +72,7 @@ check_read program [] design proof n e i j = absurd (cc)
 check_read program (x ∷ xs) [] proof n h i j = absurd (false≢true i)
 check_read program (x ∷ xs) (y ∷ ys) [] n h i j = absurd (false≢true j)
 check_read program (x ∷ xs) (y ∷ ys) (z ∷ zs) n h i j =
-    let e : (x == 45) ≡ false = off (x == 45) (digits_plain 64 (x ∷ xs) n h) in
+    let e : (x == 45) ≡ false = off (x == 45) (digits_plain 256 (x ∷ xs) n h) in
     let f : (y == 45) ≡ false = off (y == 45) i in
     let g : (z == 45) ≡ false = off (z == 45) j in
     read_rows (program ∷ codes "check" ∷ codes "--steps" ∷ (x ∷ xs) ∷ (y ∷ ys) ∷ (z ∷ zs) ∷ []) _ (x ∷ xs) (y ∷ ys) (z ∷ zs) n
@@ -94,7 +94,7 @@ verify_read program (x ∷ xs) (u ∷ us) [] design proof n c t p q r i j = absu
 verify_read program (x ∷ xs) (u ∷ us) (v ∷ vs) [] proof n c t p q r i j = absurd (false≢true i)
 verify_read program (x ∷ xs) (u ∷ us) (v ∷ vs) (y ∷ ys) [] n c t p q r i j = absurd (false≢true j)
 verify_read program (x ∷ xs) (u ∷ us) (v ∷ vs) (y ∷ ys) (z ∷ zs) n c t p q r i j =
-    let a : (x == 45) ≡ false = off (x == 45) (digits_plain 64 (x ∷ xs) n p) in
+    let a : (x == 45) ≡ false = off (x == 45) (digits_plain 256 (x ∷ xs) n p) in
     let b : (u == 45) ≡ false = off (u == 45) (digits_plain 10000000 (u ∷ us) c q) in
     let d : (v == 45) ≡ false = off (v == 45) (digits_plain 1000000000000 (v ∷ vs) t r) in
     let f : (y == 45) ≡ false = off (y == 45) i in
@@ -111,7 +111,7 @@ bounds_read program (x ∷ xs) (u ∷ us) [] design proof n c t p q r i j = absu
 bounds_read program (x ∷ xs) (u ∷ us) (v ∷ vs) [] proof n c t p q r i j = absurd (false≢true i)
 bounds_read program (x ∷ xs) (u ∷ us) (v ∷ vs) (y ∷ ys) [] n c t p q r i j = absurd (false≢true j)
 bounds_read program (x ∷ xs) (u ∷ us) (v ∷ vs) (y ∷ ys) (z ∷ zs) n c t p q r i j =
-    let a : (x == 45) ≡ false = off (x == 45) (digits_plain 64 (x ∷ xs) n p) in
+    let a : (x == 45) ≡ false = off (x == 45) (digits_plain 256 (x ∷ xs) n p) in
     let b : (u == 45) ≡ false = off (u == 45) (digits_plain 10000000 (u ∷ us) c q) in
     let d : (v == 45) ≡ false = off (v == 45) (digits_plain 1000000000000 (v ∷ vs) t r) in
     let f : (y == 45) ≡ false = off (y == 45) i in

@@ -13,7 +13,7 @@ number_to greatest text =
 
 -- how many steps a plan may have
 abbrev pub steps_of : Text → Option ℕ
-steps_of = number_to 64
+steps_of = number_to 256
 
 -- how many clauses may be derived
 abbrev pub conflicts_of : Text → Option ℕ
@@ -39,12 +39,12 @@ pub data Asked : Type 0 where
   check : ℕ → Text → Text → Asked
   trial : ℕ → ℕ → Asked
 
--- its number of steps, where it has one, is from 1 to 64; its seed fits 64 bits, and its size is from 1 to 6
+-- its number of steps, where it has one, is from 1 to 256; its seed fits 64 bits, and its size is from 1 to 6
 abbrev pub IsInRange : Asked → Type 0
 IsInRange (simulate design plan) = Unit {0}
 IsInRange (routes design) = Unit {0}
-IsInRange (verify n conflicts ticks bounds design proof) = (1 ≤ n) × (n ≤ 64)
-IsInRange (check n design proof) = (1 ≤ n) × (n ≤ 64)
+IsInRange (verify n conflicts ticks bounds design proof) = (1 ≤ n) × (n ≤ 256)
+IsInRange (check n design proof) = (1 ≤ n) × (n ≤ 256)
 IsInRange (trial seed size) = (seed ≤ 18446744073709551615) × (1 ≤ size) × (size ≤ 6)
 
 abbrev pub simulate_with : Option Text → Option Text → Option Asked

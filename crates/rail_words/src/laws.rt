@@ -25,7 +25,7 @@ pub fn bounds_are_read()
     ensures { BoundsAreRead }
 {}
 
-/// `check --steps N DESIGN PROOF` after the program's name, N from 1 to 64 in digits, with such values, asks for that.
+/// `check --steps N DESIGN PROOF` after the program's name, N from 1 to 256 in digits, with such values, asks for that.
 pub fn check_is_read()
     ensures { CheckIsRead }
 {}
@@ -36,7 +36,7 @@ pub fn trial_is_read()
     ensures { TrialIsRead }
 {}
 
-/// A request's number of steps is from 1 to 64, and its size from 1 to 6.
+/// A request's number of steps is from 1 to 256, and its size from 1 to 6.
 pub fn requests_are_in_range()
     ensures { RequestsAreInRange }
 {}

@@ -31,7 +31,7 @@ pub enum Request<'a> {
     Routes {
         design: &'a str,
     },
-    /// Look for a plan of at most so many steps, 1 to 64, within budgets of derived clauses and of ticks, or for a proof that
+    /// Look for a plan of at most so many steps, 1 to 256, within budgets of derived clauses and of ticks, or for a proof that
     /// there is none, the design and the proof by their files' names.
     Verify {
         steps: u32,
@@ -42,7 +42,7 @@ pub enum Request<'a> {
         design: &'a str,
         proof: &'a str,
     },
-    /// Check a proof that a design has no plan of so many steps, 1 to 64, the design and the proof by their files' names.
+    /// Check a proof that a design has no plan of so many steps, 1 to 256, the design and the proof by their files' names.
     Check {
         steps: u32,
         design: &'a str,
@@ -151,12 +151,12 @@ fn number_to(greatest: u64, text: &str) -> Option<u64>
     }
 }
 
-/// The number of steps that a text gives, from 1 to 64.
+/// The number of steps that a text gives, from 1 to 256.
 fn steps_of(text: &str) -> Option<u32>
     ensures { result ≡ steps_of text.now }
 {
     match number(text.as_bytes()) {
-        Some(steps) if 1 <= steps && steps <= 64 => Some(steps as u32),
+        Some(steps) if 1 <= steps && steps <= 256 => Some(steps as u32),
         _ => None,
     }
 }

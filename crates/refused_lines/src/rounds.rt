@@ -56,7 +56,7 @@ struct Question<'a> {
 impl Question<'_> {
     /// The plan of which these values tell, as its text reads back.
     fn plan_of(&self, values: &Assignment) -> Result<Plan>
-        ensures { IfOk result (λ p. IsRunnable self.now.interlocking.now 64 p.steps) }
+        ensures { IfOk result (λ p. IsRunnable self.now.interlocking.now 256 p.steps) }
     {
         let told = decode(self.alloc, self.base, values)?;
         let text = write_plan(self.alloc, &self.interlocking.design, &told)?;
@@ -65,7 +65,7 @@ impl Question<'_> {
 
     /// The slice of a plan that fails.
     fn evidence(&self, plan: &Plan) -> Result<Evidence>
-        requires { IsRunnable self.now.interlocking.now 64 plan.now.steps }
+        requires { IsRunnable self.now.interlocking.now 256 plan.now.steps }
     {
         match simulate(self.alloc, self.interlocking, plan, MOST)? {
             Verdict::Failed {

@@ -1,24 +1,20 @@
 ghost use Rattle.std.specs.Prelude.{◌≡◌, ◌+◌, ◌-◌, ◌≤◌, ◌<◌, ◌↔◌, IsTrue, IsSome, IfOk, OnErr, Some, [], ◌∷◌, ◌++◌};
 ghost use Rattle.std.specs.Prelude.{length, take, true, slice_range};
 ghost use Rattle.sat_clause.specs.Clauses.{live_clause, without};
+ghost use Rattle.sat_clause.specs.Layout.{begin_at};
 
 use crate::lit::Lit;
 use std::alloc::{AllocError, Global};
 use std::marker::Model;
 
-/// Where a clause begins and ends in the list of all literals.
-#[derive(Clone, Copy)]
-struct Head {
-    start: usize,
-    end: usize,
-    live: bool,
-}
-
 /// Clauses in a row, known by their numbers 1, 2, and so on. Each is live until it is forgotten.
 #[derive(Drop)]
 pub struct Arena {
     lits: Vec<Lit>,
-    heads: Vec<Head>,
+    /// Where each clause ends among all literals. It begins where the one before ends.
+    ends: Vec<usize>,
+    /// Whether it is live.
+    marks: Vec<bool>,
 }
 
 impl Model for Arena {
@@ -26,12 +22,11 @@ impl Model for Arena {
 
     ghost Value = { Store };
 
-    ghost use Rattle.std.specs.Prelude.{length};
-    ghost use Rattle.sat_clause.specs.Layout.{clauses_of, LaidOut};
+    ghost use Rattle.sat_clause.specs.Layout.{clauses_of, heads_of, IsLaidOut};
 
-    ghost view = { λ a. clauses_of a.lits.items a.heads.items };
+    ghost view = { λ a. clauses_of a.lits.items (heads_of 0 a.ends.items a.marks.items) };
 
-    ghost invariant = { λ a. LaidOut 0 a.heads.items (length a.lits.items) };
+    ghost invariant = { λ a. IsLaidOut a.lits.items a.ends.items a.marks.items };
 }
 
 /// The literals from one place up to another.
@@ -43,6 +38,17 @@ fn part(lits: &[Lit], start: usize, end: usize) -> &[Lit]
     &lits[start..end]
 }
 
+/// Where the clause at a place begins, by where the clauses end.
+fn begin(ends: &[usize], place: usize) -> usize
+    requires { place ≤ length ends.now }
+    ensures { result ≡ begin_at 0 ends.now place }
+{
+    if place == 0 {
+        return 0;
+    }
+    ends[place - 1]
+}
+
 impl Arena {
     /// No clause. What is pushed later takes its memory from `alloc`.
     pub fn new(alloc: Global) -> Arena
@@ -50,15 +56,31 @@ impl Arena {
     {
         Arena {
             lits: Vec::new(alloc),
-            heads: Vec::new(alloc),
+            ends: Vec::new(alloc),
+            marks: Vec::new(alloc),
         }
+    }
+
+    /// No clause, and memory for so many clauses that have so many literals in all.
+    ///
+    /// # Errors
+    ///
+    /// Want of memory alone.
+    pub fn with_room(alloc: Global, clauses: usize, literals: usize) -> Result<Arena, AllocError>
+        ensures { IfOk result (λ arena. arena ≡ []) }
+    {
+        Ok(Arena {
+            lits: Vec::with_capacity(alloc, literals)?,
+            ends: Vec::with_capacity(alloc, clauses)?,
+            marks: Vec::with_capacity(alloc, clauses)?,
+        })
     }
 
     /// How many clauses there are, live or forgotten. It is the number of the last one.
     pub fn count(&self) -> u64
         ensures { result ≡ length self.now }
     {
-        self.heads.len() as u64
+        self.ends.len() as u64
     }
 
     /// Puts a clause at the end, live, and gives its number. Where there is no memory nothing changes.
@@ -68,28 +90,29 @@ impl Arena {
         ensures err { OnErr result (self.new ≡ self.old) }
     {
         let start = self.lits.len();
+        let place = self.ends.len();
         self.lits.extend_from_slice(clause)?;
         let end = self.lits.len();
-        let head = Head {
-            start,
-            end,
-            live: true,
-        };
-        if self.heads.push(head).is_err() {
+        if self.ends.push(end).is_err() {
             self.lits.truncate(start);
             return Err(AllocError);
         }
-        Ok(self.heads.len() as u64)
+        if self.marks.push(true).is_err() {
+            self.ends.truncate(place);
+            self.lits.truncate(start);
+            return Err(AllocError);
+        }
+        Ok(self.ends.len() as u64)
     }
 
     /// Whether there is a clause of this number that isn't forgotten.
     pub fn live(&self, id: u64) -> bool
         ensures { IsTrue result ↔ IsSome (live_clause self.now id) }
     {
-        if id == 0 || id > self.heads.len() as u64 {
+        if id == 0 || id > self.marks.len() as u64 {
             return false;
         }
-        self.heads[id as usize - 1].live
+        self.marks[id as usize - 1]
     }
 
     /// The literals of a live clause, lent as they were pushed.
@@ -97,8 +120,10 @@ impl Arena {
         requires { IsSome (live_clause self.now id) }
         ensures { live_clause self.now id ≡ Some result.now }
     {
-        let head = &self.heads[id as usize - 1];
-        part(&self.lits, head.start, head.end)
+        let place = id as usize - 1;
+        let start = begin(&self.ends, place);
+        let end = self.ends[place];
+        part(&self.lits, start, end)
     }
 
     /// Makes a live clause forgotten. The other clauses and all numbers stay as they are.
@@ -106,7 +131,7 @@ impl Arena {
         requires { IsSome (live_clause self.old id) }
         ensures { self.new ≡ without self.old id }
     {
-        self.heads[id as usize - 1].live = false;
+        self.marks[id as usize - 1] = false;
     }
 
     /// Takes the last clause off, live or forgotten. There has to be one.
@@ -114,8 +139,10 @@ impl Arena {
         requires { 0 < length self.old }
         ensures { self.new ≡ take (length self.old - 1) self.old }
     {
-        if let Some(head) = self.heads.pop() {
-            self.lits.truncate(head.start);
-        }
+        let place = self.ends.len() - 1;
+        let start = begin(&self.ends, place);
+        self.marks.truncate(place);
+        self.ends.truncate(place);
+        self.lits.truncate(start);
     }
 }

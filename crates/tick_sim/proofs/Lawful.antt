@@ -14,24 +14,24 @@ use Rattle.rail_laws.proofs.Admits.{never_clash}
 use Rattle.rail_laws.proofs.Keeping.{keeps_authority, keeps_all_limits}
 use Rattle.rail_laws.proofs.Lively.{no_deadlock}
 
-module _ (d : Station) (good : is_admitted d ≡ true) (routes : List Route) (same : routes ≡ routes_of d) (plan : List (List Command)) (formed : IsWellFormed d routes 64 plan) where
-  over_these : IsWellFormed d (routes_of d) 64 plan
-  over_these = subst (λ rs. IsWellFormed d rs 64 plan) same formed
+module _ (d : Station) (good : is_admitted d ≡ true) (routes : List Route) (same : routes ≡ routes_of d) (plan : List (List Command)) (formed : IsWellFormed d routes 256 plan) where
+  over_these : IsWellFormed d (routes_of d) 256 plan
+  over_these = subst (λ rs. IsWellFormed d rs 256 plan) same formed
 
   -- no two trains are in one section
   pub apart : is_executable d routes plan ≡ true → (k : ℕ) → Clash d routes plan k → ⊥
   apart executable =
       subst (λ rs. (k : ℕ) → Clash d rs plan k → ⊥) (sym same)
-      (never_clash d (admitted d good) 64 plan over_these.formed (subst (λ rs. is_executable d rs plan ≡ true) same executable))
+      (never_clash d (admitted d good) 256 plan over_these.formed (subst (λ rs. is_executable d rs plan ≡ true) same executable))
 
   -- each is within its authority and its limits
   pub keeps : KeepsToTrack d routes plan
   keeps = subst (λ rs. KeepsToTrack d rs plan) (sym same) (record {
-    in_authority = keeps_authority d (admitted d good) 64 plan over_these.formed;
-    in_limits = keeps_all_limits d (admitted d good) 64 plan over_these.formed;
+    in_authority = keeps_authority d (admitted d good) 256 plan over_these.formed;
+    in_limits = keeps_all_limits d (admitted d good) 256 plan over_these.formed;
   })
 
   -- and each command is granted
   pub granted : is_executable d routes plan ≡ true → IsGrantedInTime d routes plan
   granted executable = subst (λ rs. IsGrantedInTime d rs plan) (sym same)
-      (no_deadlock d (admitted d good) 64 plan (record { well_formed = over_these; executable = subst (λ rs. is_executable d rs plan ≡ true) same executable }))
+      (no_deadlock d (admitted d good) 256 plan (record { well_formed = over_these; executable = subst (λ rs. is_executable d rs plan ≡ true) same executable }))

@@ -56,7 +56,7 @@ module _ (d : Station) (routes : List Route) (plan : List (List Command)) where
       by_tick d routes plan (λ old new. old.granted ≤ length (path plan t) → new.granted ≤ length (path plan t)) k t (λ h. h)
       (λ low high h. moved_within t (state_of (state_at d routes (of_plan routes plan) k) t) (granted_after d routes (of_plan routes plan) (state_at d routes (of_plan routes plan) k) t) h (grants_within (state_at d routes (of_plan routes plan) k) t h)) (stays_within k t)
 
-module _ (d : Station) (adm : IsAdmitted d) (plan : List (List Command)) (formed : IsWellFormed d (routes_of d) 64 plan) where
+module _ (d : Station) (adm : IsAdmitted d) (plan : List (List Command)) (formed : IsWellFormed d (routes_of d) 256 plan) where
   can_move_at : (k : ℕ) → k ≤ 86400 → (t : TrainNo) → IsTrain d t → CanMove d (routes_of d) plan t (granted_after d (routes_of d) (of_plan (routes_of d) plan) (state_at d (routes_of d) (of_plan (routes_of d) plan) k) t) (state_of (state_at d (routes_of d) (of_plan (routes_of d) plan) k) t)
   can_move_at k early t named = record {
     within = grants_within d (routes_of d) plan (state_at d (routes_of d) (of_plan (routes_of d) plan) k) t (stays_within d (routes_of d) plan k t);
@@ -73,14 +73,14 @@ module _ (d : Station) (adm : IsAdmitted d) (plan : List (List Command)) (formed
 
       go : (g : ℕ) → (g ≡ old.granted) ⊎ (g ≡ old.granted + 1) → 1 ≤ g → permitted (rates d t) (stretches d (take g (path_routes (routes_of d) plan t))) (authority (take g (path_routes (routes_of d) plan t))) old.x old.v (old.v - (rates d t).brake) ≡ true
       go zero e l = absurd (omega arith)
-      go (suc g) e l = still d (routes_of d) plan (sound d adm 64 plan formed.formed) t named old g (travels d (routes_of d) plan (sound d adm 64 plan formed.formed) k t) e
+      go (suc g) e l = still d (routes_of d) plan (sound d adm 256 plan formed.formed) t named old g (travels d (routes_of d) plan (sound d adm 256 plan formed.formed) k t) e
 
   pub can_move : (s : List TrainState) → IsReached d (routes_of d) plan s → (t : TrainNo) → IsTrain d t → CanMove d (routes_of d) plan t (granted_after d (routes_of d) (of_plan (routes_of d) plan) s t) (state_of s t)
   can_move s r t named = subst (λ s. CanMove d (routes_of d) plan t (granted_after d (routes_of d) (of_plan (routes_of d) plan) s t) (state_of s t)) (sym r.is) (can_move_at r.tick r.early t named)
 
 -- the same of routes that are those of the design
-pub can_move_on : (d : Station) → IsAdmitted d → (routes : List Route) → routes ≡ routes_of d → (plan : List (List Command)) → IsWellFormed d routes 64 plan → (s : List TrainState) → IsReached d routes plan s → (t : TrainNo) → IsTrain d t
+pub can_move_on : (d : Station) → IsAdmitted d → (routes : List Route) → routes ≡ routes_of d → (plan : List (List Command)) → IsWellFormed d routes 256 plan → (s : List TrainState) → IsReached d routes plan s → (t : TrainNo) → IsTrain d t
     → CanMove d routes plan t (granted_after d routes (of_plan routes plan) s t) (state_of s t)
 can_move_on d adm routes same plan =
-    let P : List Route → Type 0 = λ rs. IsWellFormed d rs 64 plan → (s : List TrainState) → IsReached d rs plan s → (t : TrainNo) → IsTrain d t → CanMove d rs plan t (granted_after d rs (of_plan rs plan) s t) (state_of s t) in
+    let P : List Route → Type 0 = λ rs. IsWellFormed d rs 256 plan → (s : List TrainState) → IsReached d rs plan s → (t : TrainNo) → IsTrain d t → CanMove d rs plan t (granted_after d rs (of_plan rs plan) s t) (state_of s t) in
     subst P (sym same) (λ f s r t n. can_move d adm plan f s r t n)

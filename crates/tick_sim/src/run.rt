@@ -14,7 +14,7 @@ pub struct Run<'a> {
     pub interlocking: &'a Interlocking,
     pub plan: &'a Plan,
     pub journeys: &'a [Journey<'a>],
-    pub ghost formed: { IsWellFormed interlocking.now.design.station interlocking.now.routes 64 plan.now.steps },
+    pub ghost formed: { IsWellFormed interlocking.now.design.station interlocking.now.routes 256 plan.now.steps },
     pub ghost led: { AreJourneys interlocking.now.design.station interlocking.now.routes
         (of_plan interlocking.now.routes plan.now.steps) journeys.now },
 }

@@ -81,7 +81,7 @@ fn run_plan<'a>(
     plan: &'a Plan,
     ticks: u64,
 ) -> Result<Verdict, AllocError>
-    requires { IsWellFormed interlocking.now.design.station interlocking.now.routes 64 plan.now.steps }
+    requires { IsWellFormed interlocking.now.design.station interlocking.now.routes 256 plan.now.steps }
     ensures { IfOk result (λ v. v
         ≡ verdict_of interlocking.now.design.station interlocking.now.routes plan.now.steps ticks) }
 {
@@ -116,7 +116,7 @@ pub fn simulate(
     plan: &Plan,
     ticks: u64,
 ) -> Result<Verdict, AllocError>
-    requires formed { IsWellFormed interlocking.now.design.station interlocking.now.routes 64 plan.now.steps }
+    requires formed { IsWellFormed interlocking.now.design.station interlocking.now.routes 256 plan.now.steps }
     ensures value { IfOk result (λ v. v
         ≡ verdict_of interlocking.now.design.station interlocking.now.routes plan.now.steps ticks) }
     ensures keeps { KeepsToTrack interlocking.now.design.station interlocking.now.routes plan.now.steps }

@@ -14,12 +14,12 @@ use Rattle.rail_base.proofs.Members.{and_both}
 use Rattle.verify_loop.specs.Outcomes.{head, first_clauses}
 
 -- its numbers are small
-numbers_small : (d : Station) (n : ℕ) → IsAdmitted d → n ≤ 64 → (is_small d.version && is_small n) ≡ true
+numbers_small : (d : Station) (n : ℕ) → IsAdmitted d → n ≤ 256 → (is_small d.version && is_small n) ≡ true
 numbers_small d n good few =
     let most = good.version.1 in
     and_both (is_small d.version) (is_small n) (le-leb d.version 4294967295 (omega arith)) (le-leb n 4294967295 (omega arith))
 
-pub kept_so : (m : Method) (d : Station) (n : ℕ) → IsAdmitted d → n ≤ 64 → keeps_head (head m d n) ≡ true
+pub kept_so : (m : Method) (d : Station) (n : ℕ) → IsAdmitted d → n ≤ 256 → keeps_head (head m d n) ≡ true
 kept_so Cones d n good few = numbers_small d n good few
 kept_so Bounds d n good few = numbers_small d n good few
 
@@ -27,8 +27,8 @@ kept_so Bounds d n good few = numbers_small d n good few
 names_own : (d : Station) (n : ℕ) → (d.version == d.version && n == n) ≡ true
 names_own d n = and_both (d.version == d.version) (n == n) (eq-eqb d.version d.version refl) (eq-eqb n n refl)
 
-pub judged_so : (m : Method) (d : Station) (n : ℕ) (bytes : List ℕ) → past_limit 4000000 0 (first_clauses m d n) ≡ None → judged_by d n bytes (Some (head m d n)) ≡ judged_under (head m d n) d n bytes
+pub judged_so : (m : Method) (d : Station) (n : ℕ) (bytes : List ℕ) → past_limit 16000000 0 (first_clauses m d n) ≡ None → judged_by d n bytes (Some (head m d n)) ≡ judged_under (head m d n) d n bytes
 judged_so Cones d n bytes fits = ap (λ b. if not b then No 1 HeadDiffers else judged_under (head Cones d n) d n bytes) (names_own d n)
 judged_so Bounds d n bytes fits =
-    ap (λ b. if not b then No 1 HeadDiffers else if is_some (past_limit 4000000 0 (first_clauses Bounds d n)) then No 1 BaseTooLarge else judged_under (head Bounds d n) d n bytes) (names_own d n)
+    ap (λ b. if not b then No 1 HeadDiffers else if is_some (past_limit 16000000 0 (first_clauses Bounds d n)) then No 1 BaseTooLarge else judged_under (head Bounds d n) d n bytes) (names_own d n)
     ∙ ap (λ o. if is_some o then No 1 BaseTooLarge else judged_under (head Bounds d n) d n bytes) fits

@@ -25,7 +25,7 @@ pub record IsStartFor (m : Method) (i : Interlocking) (s : SortedBase) : Type 0 
   pub whole : base_clauses i.design.station (routes_of i.design.station) s.base.steps ++ more
       ≡ first_clauses m i.design.station s.base.steps
 
--- there are more than 4,000,000 literals, so many up to the first clause that is too much
+-- there are more than 16,000,000 literals, so many up to the first clause that is too much
 abbrev pub IsTooLarge : Method → Station → ℕ → BaseFault → Type 0
-IsTooLarge m d n (TooLarge k) = past_limit 4000000 0 (first_clauses m d n) ≡ Some k
+IsTooLarge m d n (TooLarge k) = past_limit 16000000 0 (first_clauses m d n) ≡ Some k
 IsTooLarge m d n Memory = Unit {0}

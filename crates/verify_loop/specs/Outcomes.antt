@@ -157,11 +157,11 @@ module _ (m : Method) (d : Station) (n : ℕ) where
       × (map (λ (p : PlanOf). p.steps) failed.items ≡ plans_of rs) × (sum ≡ cost_of d n (plans_of rs))
       × IsFound (evidence_in rs) at_hand.steps × (b.ticks < sum + cost d (routes_of d) at_hand.steps)
   Says b (LogSpent log bytes next) = IsFull b log.items bytes next
-  Says b (TooLarge literals) = past_limit 4000000 0 first_clauses ≡ Some literals
+  Says b (TooLarge literals) = past_limit 16000000 0 first_clauses ≡ Some literals
   Says b Memory = Unit {0}
 
-  -- the clauses have at most 4,000,000 literals, unless the search says that they have more or there was no memory
+  -- the clauses have at most 16,000,000 literals, unless the search says that they have more or there was no memory
   abbrev pub Fits : Outcome → Type 0
   Fits (TooLarge literals) = Unit {0}
   Fits Memory = Unit {0}
-  Fits _ = past_limit 4000000 0 first_clauses ≡ None
+  Fits _ = past_limit 16000000 0 first_clauses ≡ None

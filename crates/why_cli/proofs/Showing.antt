@@ -67,10 +67,10 @@ wanted_in_range words w e =
 -- ---- steps that the head names
 
 some_in_range : (k n : ℕ) → if_in_range k ≡ Some n → 1 ≤ n
-some_in_range k n e = go (nat_le 1 k && nat_le k 64) refl e
+some_in_range k n e = go (nat_le 1 k && nat_le k 256) refl e
   where
-    go : (within : Bool) → nat_le 1 k && nat_le k 64 ≡ within → (if within then Some k else None) ≡ Some n → 1 ≤ n
-    go true is e = let same : k ≡ n = cc in subst (λ (m : ℕ). 1 ≤ m) same (leb-true 1 k (and_left (nat_le 1 k) (nat_le k 64) is))
+    go : (within : Bool) → nat_le 1 k && nat_le k 256 ≡ within → (if within then Some k else None) ≡ Some n → 1 ≤ n
+    go true is e = let same : k ≡ n = cc in subst (λ (m : ℕ). 1 ≤ m) same (leb-true 1 k (and_left (nat_le 1 k) (nat_le k 256) is))
     go false is e = absurd (cc)
 
 some_named : (head : Option Head) (n : ℕ) → steps_named head ≡ Some n → 1 ≤ n

@@ -42,11 +42,11 @@ text_explained n d text = unless_refused (with_clauses Cones n d) (λ same. expl
 
 -- ---- how many steps
 
--- a number of steps, where it is from 1 to 64
+-- a number of steps, where it is from 1 to 256
 abbrev pub if_in_range : ℕ → Option ℕ
-if_in_range n = if nat_le 1 n && nat_le n 64 then Some n else None
+if_in_range n = if nat_le 1 n && nat_le n 256 then Some n else None
 
--- the number of steps that a head names, from 1 to 64
+-- the number of steps that a head names, from 1 to 256
 abbrev pub steps_named : Option Head → Option ℕ
 steps_named None = None
 steps_named (Some Plain) = None

@@ -76,19 +76,19 @@ fn proof_explained<S: Shelf>(
     Ok(reply)
 }
 
-/// A number of steps, where it is from 1 to 64.
+/// A number of steps, where it is from 1 to 256.
 fn if_in_range(steps: u32) -> Option<u32>
     ensures value { result ≡ if_in_range steps }
     ensures range { IsInRange result }
 {
-    if 1 <= steps && steps <= 64 {
+    if 1 <= steps && steps <= 256 {
         Some(steps)
     } else {
         None
     }
 }
 
-/// The number of steps that a head names, from 1 to 64.
+/// The number of steps that a head names, from 1 to 256.
 fn steps_named(head: Option<Head>) -> Option<u32>
     ensures value { result ≡ steps_named head }
     ensures range { IsInRange result }

@@ -7,7 +7,7 @@ pub fn names_are_read()
     ensures { NamesAreRead }
 {}
 
-/// `--steps N DESIGN PROOF` after the program's name, N from 1 to 64 in digits, with such names, asks for that.
+/// `--steps N DESIGN PROOF` after the program's name, N from 1 to 256 in digits, with such names, asks for that.
 pub fn steps_are_read()
     ensures { StepsAreRead }
 {}

@@ -12,7 +12,7 @@ use std::alloc::{AllocError, Global};
 /// The sentences about a proof of a design, each by its file's name.
 #[derive(Clone, Copy, Debug, PartialEq, Eq)]
 pub struct Wanted<'a> {
-    /// For plans of so many steps, 1 to 64, or of as many as the proof's head names.
+    /// For plans of so many steps, 1 to 256, or of as many as the proof's head names.
     pub steps: Option<u32>,
     pub design: &'a str,
     pub proof: &'a str,

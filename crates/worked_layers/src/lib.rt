@@ -42,7 +42,7 @@ fn shows(alloc: Global, interlocking: &Interlocking, plan: &[u8], run: &Run) -> 
 /// Whether a search ends for want of room in its log, and tells what it has to.
 fn lacks_room(alloc: Global, interlocking: &Interlocking, search: &Search) -> Result<bool> {
     ensure!(
-        1 <= search.steps && search.steps <= 64,
+        1 <= search.steps && search.steps <= 256,
         "steps out of range"
     );
     let steps = Steps {
@@ -75,7 +75,7 @@ fn spelled(alloc: Global, clause: &[Lit]) -> Result<String> {
 
 /// Whether trains that are alike come in turn by just the clauses that are told.
 fn come_in_turn(alloc: Global, interlocking: &Interlocking, turns: &Turns<'_>) -> Result<bool> {
-    ensure!(1 <= turns.steps && turns.steps <= 64, "steps out of range");
+    ensure!(1 <= turns.steps && turns.steps <= 256, "steps out of range");
     let steps = Steps { count: turns.steps };
     let listed = sorted_base(alloc, interlocking, steps)?.turns;
     if listed.count() != turns.clauses.len() as u64 {

@@ -1,21 +1,20 @@
 use Rattle.std.proofs.Common.{length, refl, sym, ap, subst, ◌∙◌, arith}
-use Rattle.rail_base.proofs.Admitting.{admitted}
 use Rattle.plan_clauses.specs.Variables.{pairs}
 use Rattle.plan_clauses.specs.Clauses.{clauses}
+use Rattle.plan_clauses.proofs.Few.{few_pairs}
 use Rattle.plan_encoding.specs.declared.frame.Frame.{Frame}
 use Rattle.plan_encoding.specs.Bases.{IsBaseOf, IsRefused}
 use Rattle.plan_encoding.specs.Drafts.{Drafted}
 use Rattle.plan_encoding.specs.Frames.{Lists, Stops, over, station, table}
 use Rattle.plan_encoding.proofs.Based.{kept, not_refused, refused}
 use Rattle.plan_encoding.proofs.Listing.{handed_on}
-use Rattle.plan_encoding.proofs.Ordering.{pairs_all_few}
-use Rattle.plan_encoding.proofs.Tabled.{commands_few}
 use Rattle.plan_encoding.proofs.make.base.Goals as goal
 
 pub base_of-requires : goal.base_of-requires
 base_of-requires c =
-    let high = ((admitted c.args.interlocking.now.design.station c.args.interlocking.now.design.admitted).many_trains).1 in
-    let few = pairs_all_few c.args.interlocking.now.design.station c.args.interlocking.now.routes (commands_few c.args.interlocking.now.design.station c.args.interlocking.now.routes high c.args.interlocking.now.few) in
+    let fits = not_refused c.args.interlocking.now.design.station c.args.interlocking.now.routes c.args.steps.count c.in_ok-draft.draft (ap (λ (x : Drafted). x.literals) c.in_ok-draft.ensures) c.put_all-2.new.draft
+    (subst (λ (f : Frame). Lists f (over f clauses) c.in_ok-draft.draft c.put_all-2.new.draft) c.in_ok-tables.ensures c.in_ok-put_all-2.ensures.ok) in
+    let few = few_pairs c.args.interlocking.now.design.station c.args.interlocking.now.routes c.args.steps.count 16000000 fits in
     let is = ap length (c.in_ok-pairs.ensures ∙ ap (λ (f : Frame). pairs (station f) (table f)) c.in_ok-tables.ensures) in
     record { pairs = omega arith }
 
@@ -26,8 +25,8 @@ returns-in_err-put_all-clause-fault c = handed_on (IsRefused c.args.interlocking
 
 pub returns-in_err-put_all-2-clause-fault : goal.returns-in_err-put_all-2-clause-fault
 returns-in_err-put_all-2-clause-fault c = handed_on (IsRefused c.args.interlocking.now.design.station c.args.interlocking.now.routes c.args.steps.count) c.from_residual-in_err-put_all-2.result c.in_err-put_all-2.field-0.0 c.from_residual-in_err-put_all-2.ensures.1
-    (refused c.args.interlocking.now.design.station c.args.interlocking.now.routes c.args.steps.count c.new-draft.result (ap (λ (x : Drafted). x.literals) c.new-draft.ensures) c.in_err-put_all-2.field-0.0
-    (subst (λ (f : Frame). Stops f (over f clauses) c.new-draft.result c.in_err-put_all-2.field-0.0) c.in_ok-tables.ensures c.in_err-put_all-2.ensures.err))
+    (refused c.args.interlocking.now.design.station c.args.interlocking.now.routes c.args.steps.count c.in_ok-draft.draft (ap (λ (x : Drafted). x.literals) c.in_ok-draft.ensures) c.in_err-put_all-2.field-0.0
+    (subst (λ (f : Frame). Stops f (over f clauses) c.in_ok-draft.draft c.in_err-put_all-2.field-0.0) c.in_ok-tables.ensures c.in_err-put_all-2.ensures.err))
 
 pub returns-clause-base : goal.returns-clause-base
 returns-clause-base c = subst (IsBaseOf c.args.interlocking.now.design.station c.args.interlocking.now.routes c.args.steps.count) (sym c.base_of.ensures) (record {
@@ -35,10 +34,10 @@ returns-clause-base c = subst (IsBaseOf c.args.interlocking.now.design.station c
   routes = refl;
   steps = refl;
   pairs = c.in_ok-pairs.ensures ∙ ap (λ (f : Frame). pairs (station f) (table f)) c.in_ok-tables.ensures;
-  clauses = c.into_clauses.ensures ∙ kept c.args.interlocking.now.design.station c.args.interlocking.now.routes c.args.steps.count c.new-draft.result c.put_all-2.new.draft
-      (subst (λ (f : Frame). Lists f (over f clauses) c.new-draft.result c.put_all-2.new.draft) c.in_ok-tables.ensures c.in_ok-put_all-2.ensures.ok) c.new-draft.ensures;
+  clauses = c.into_clauses.ensures ∙ kept c.args.interlocking.now.design.station c.args.interlocking.now.routes c.args.steps.count c.in_ok-draft.draft c.put_all-2.new.draft
+      (subst (λ (f : Frame). Lists f (over f clauses) c.in_ok-draft.draft c.put_all-2.new.draft) c.in_ok-tables.ensures c.in_ok-put_all-2.ensures.ok) c.in_ok-draft.ensures;
 })
 
 pub returns-clause-within : goal.returns-clause-within
-returns-clause-within c = not_refused c.args.interlocking.now.design.station c.args.interlocking.now.routes c.args.steps.count c.new-draft.result (ap (λ (x : Drafted). x.literals) c.new-draft.ensures) c.put_all-2.new.draft
-    (subst (λ (f : Frame). Lists f (over f clauses) c.new-draft.result c.put_all-2.new.draft) c.in_ok-tables.ensures c.in_ok-put_all-2.ensures.ok)
+returns-clause-within c = not_refused c.args.interlocking.now.design.station c.args.interlocking.now.routes c.args.steps.count c.in_ok-draft.draft (ap (λ (x : Drafted). x.literals) c.in_ok-draft.ensures) c.put_all-2.new.draft
+    (subst (λ (f : Frame). Lists f (over f clauses) c.in_ok-draft.draft c.put_all-2.new.draft) c.in_ok-tables.ensures c.in_ok-put_all-2.ensures.ok)

@@ -23,7 +23,7 @@ violation_shown-requires g c =
     let tick = new.tick in
     let found = c.in_ok-progress-2.ensures in
     let now_told : new.histories.items ≡ history_at d routes plan tick = found.is.told ∙ ap (λ p. any.history_at d routes p tick) planned.same in
-    subst HasNumbers (sym (c.as_slice-in-loop-progress.ensures.value ∙ now_told)) (plans_have_numbers d routes plan (admitted d c.args.traffic.now.interlocking.now.design.admitted) 64 (omega arith) planned.formed.formed tick)
+    subst HasNumbers (sym (c.as_slice-in-loop-progress.ensures.value ∙ now_told)) (plans_have_numbers d routes plan (admitted d c.args.traffic.now.interlocking.now.design.admitted) 256 (omega arith) planned.formed.formed tick)
 
 pub loop-progress-preserved : goal.loop-progress-preserved
 loop-progress-preserved g c =

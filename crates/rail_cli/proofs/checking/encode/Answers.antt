@@ -8,7 +8,7 @@ use Rattle.rail_cli.proofs.Judging.{refused_so, small_passes}
 use Rattle.rail_cli.proofs.checking.encode.Goals as goal
 
 pub returns-in-Ok-clause-reads : goal.returns-in-Ok-clause-reads
-returns-in-Ok-clause-reads c = small_passes Cones c.args.steps.count c.args.interlocking.now.design.station (ap (λ (r : List Route). past_limit 4000000 0 (base_clauses c.args.interlocking.now.design.station r c.args.steps.count)) (sym c.args.interlocking.now.table) ∙ c.in-Ok.ensures.within)
+returns-in-Ok-clause-reads c = small_passes Cones c.args.steps.count c.args.interlocking.now.design.station (ap (λ (r : List Route). past_limit 16000000 0 (base_clauses c.args.interlocking.now.design.station r c.args.steps.count)) (sym c.args.interlocking.now.table) ∙ c.in-Ok.ensures.within)
 
 pub returns-in-Ok-clause-base : goal.returns-in-Ok-clause-base
 returns-in-Ok-clause-base c = subst (λ (r : List Route). IsBaseOf c.args.interlocking.now.design.station r c.args.steps.count c.in-Ok.base) c.args.interlocking.now.table c.in-Ok.ensures.base

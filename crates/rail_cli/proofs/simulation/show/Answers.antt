@@ -22,7 +22,7 @@ returns-clause-exactly c =
     let plan = c.args.plan.now.steps in
     let same : c.in_ok-verdict.verdict ≡ shown_by d plan = c.in_ok-verdict.ensures.value ∙ ap₂ (λ r h. verdict_of d r plan h) c.args.interlocking.now.table c.horizon.ensures.value in
     let kind : c.status_of.result ≡ verdict_status (shown_by d plan) = c.status_of.ensures ∙ ap verdict_status same in
-    subst (λ (s : Status). (s ≡ statuses.Done) ↔ IsFeasible d 64 plan) (sym kind) (done_exactly d 64 plan (admitted d c.args.interlocking.now.design.admitted) c.requires.runnable)
+    subst (λ (s : Status). (s ≡ statuses.Done) ↔ IsFeasible d 256 plan) (sym kind) (done_exactly d 256 plan (admitted d c.args.interlocking.now.design.admitted) c.requires.runnable)
 
 pub returns-clause-safe : goal.returns-clause-safe
-returns-clause-safe c = runs_safely c.args.interlocking.now.design.station 64 c.args.plan.now.steps (admitted c.args.interlocking.now.design.station c.args.interlocking.now.design.admitted) c.requires.runnable
+returns-clause-safe c = runs_safely c.args.interlocking.now.design.station 256 c.args.plan.now.steps (admitted c.args.interlocking.now.design.station c.args.interlocking.now.design.admitted) c.requires.runnable

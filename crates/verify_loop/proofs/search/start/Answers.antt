@@ -14,7 +14,7 @@ returns-in-Bounds-clause-start c =
 pub returns-in-Bounds-clause-within : goal.returns-in-Bounds-clause-within
 returns-in-Bounds-clause-within c =
     let d = c.args.interlocking.now.design.station in
-    subst (λ (m : Method). OnOk c.sorted_base.result (past_limit 4000000 0 (first_clauses m d c.args.steps.count) ≡ None)) (sym c.in-Bounds.is)
+    subst (λ (m : Method). OnOk c.sorted_base.result (past_limit 16000000 0 (first_clauses m d c.args.steps.count) ≡ None)) (sym c.in-Bounds.is)
     (sorted_within_of d c.args.interlocking.now.routes c.args.steps.count c.sorted_base.result c.args.interlocking.now.table c.sorted_base.ensures.within)
 
 pub returns-in-Bounds-clause-fault : goal.returns-in-Bounds-clause-fault
@@ -31,7 +31,7 @@ returns-in-Ok-clause-start c =
 pub returns-in-Ok-clause-within : goal.returns-in-Ok-clause-within
 returns-in-Ok-clause-within c =
     let d = c.args.interlocking.now.design.station in
-    subst (λ (m : Method). past_limit 4000000 0 (first_clauses m d c.args.steps.count) ≡ None) (sym c.in-Cones.is)
+    subst (λ (m : Method). past_limit 16000000 0 (first_clauses m d c.args.steps.count) ≡ None) (sym c.in-Cones.is)
     (base_within d c.args.interlocking.now.routes c.args.steps.count c.args.interlocking.now.table c.in-Ok.ensures.within)
 
 pub returns-in-Err-clause-fault : goal.returns-in-Err-clause-fault

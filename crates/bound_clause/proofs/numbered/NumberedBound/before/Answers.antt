@@ -1,25 +1,25 @@
 use Rattle.std.proofs.Common.{◌≡◌, ℕ, ◌≤◌, ◌+◌, List, length, Some, sym, ap₂, subst, arith}
 use Rattle.std.specs.List.{slice_get}
 use Rattle.rail_base.specs.declared.plan.Command.{Command}
-use Rattle.bound_clause.proofs.Placing.{place_before, few_pairs}
+use Rattle.bound_clause.proofs.Placing.{place_before}
 use Rattle.bound_clause.proofs.numbered.NumberedBound.before.Goals as goal
 
 pub overflow_cast-result : goal.overflow_cast-result
 overflow_cast-result c =
-    let few = few_pairs c.args.self.now.contention in
+    let few = c.args.self.now.contention.few in
     let inside : c.place_of-place.result ≤ length c.args.self.now.contention.pairs.now = subst (λ (ps : List (Command × Command)). c.place_of-place.result ≤ length ps) c.sorted.ensures c.place_of-place.ensures.bound in
     omega arith
 
 pub overflow_add-result : goal.overflow_add-result
 overflow_add-result c =
-    let few = few_pairs c.args.self.now.contention in
+    let few = c.args.self.now.contention.few in
     let inside : c.place_of-place.result ≤ length c.args.self.now.contention.pairs.now = subst (λ (ps : List (Command × Command)). c.place_of-place.result ≤ length ps) c.sorted.ensures c.place_of-place.ensures.bound in
     let used = c.used_count.ensures.bound in
     omega arith
 
 pub overflow_add-result-2 : goal.overflow_add-result-2
 overflow_add-result-2 c =
-    let few = few_pairs c.args.self.now.contention in
+    let few = c.args.self.now.contention.few in
     let inside : c.place_of-place.result ≤ length c.args.self.now.contention.pairs.now = subst (λ (ps : List (Command × Command)). c.place_of-place.result ≤ length ps) c.sorted.ensures c.place_of-place.ensures.bound in
     let used = c.used_count.ensures.bound in
     omega arith

@@ -27,7 +27,7 @@ overflow_cast-var c =
     let inside = said_inside self items said c.loop-place.place-index c.loop-place-test.true in
     let here = inside.0 in
     let few = inside.1 in
-    let start : c.used_count-used.result ≤ 4096000 = c.used_count-used.ensures.bound in
+    let start : c.used_count-used.result ≤ 65536000 = c.used_count-used.ensures.bound in
     omega arith
 
 pub overflow_add-var : goal.overflow_add-var
@@ -38,7 +38,7 @@ overflow_add-var c =
     let inside = said_inside self items said c.loop-place.place-index c.loop-place-test.true in
     let here = inside.0 in
     let few = inside.1 in
-    let start : c.used_count-used.result ≤ 4096000 = c.used_count-used.ensures.bound in
+    let start : c.used_count-used.result ≤ 65536000 = c.used_count-used.ensures.bound in
     omega arith
 
 pub overflow_add-var-then-next-place : goal.overflow_add-var-then-next-place
@@ -49,7 +49,7 @@ overflow_add-var-then-next-place c =
     let inside = said_inside self items said c.loop-place.place-index c.loop-place-test.true in
     let here = inside.0 in
     let few = inside.1 in
-    let start : c.used_count-used.result ≤ 4096000 = c.used_count-used.ensures.bound in
+    let start : c.used_count-used.result ≤ 65536000 = c.used_count-used.ensures.bound in
     omega arith
 
 pub offset_bounds-self-place : goal.offset_bounds-self-place
@@ -60,7 +60,7 @@ offset_bounds-self-place c =
     let inside = said_inside self items said c.loop-place.place-index c.loop-place-test.true in
     let here = inside.0 in
     let few = inside.1 in
-    let start : c.used_count-used.result ≤ 4096000 = c.used_count-used.ensures.bound in
+    let start : c.used_count-used.result ≤ 65536000 = c.used_count-used.ensures.bound in
     omega arith
 
 pub bounds-self-place : goal.bounds-self-place
@@ -71,7 +71,7 @@ bounds-self-place c =
     let inside = said_inside self items said c.loop-place.place-index c.loop-place-test.true in
     let here = inside.0 in
     let few = inside.1 in
-    let start : c.used_count-used.result ≤ 4096000 = c.used_count-used.ensures.bound in
+    let start : c.used_count-used.result ≤ 65536000 = c.used_count-used.ensures.bound in
     omega arith
 
 pub overflow_add-next : goal.overflow_add-next
@@ -82,7 +82,7 @@ overflow_add-next c =
     let inside = said_inside self items said c.loop-place.place-index c.loop-place-test.true in
     let here = inside.0 in
     let few = inside.1 in
-    let start : c.used_count-used.result ≤ 4096000 = c.used_count-used.ensures.bound in
+    let start : c.used_count-used.result ≤ 65536000 = c.used_count-used.ensures.bound in
     omega arith
 
 pub loop-place-preserved : goal.loop-place-preserved

@@ -3,15 +3,14 @@ use Rattle.plan_encoding.specs.Drafts.{listed}
 use Rattle.plan_encoding.specs.Families.{given_by}
 use Rattle.plan_encoding.specs.Frames.{told}
 use Rattle.plan_encoding.proofs.Listing.{next_one, next_one_fails, next_member_one, handed_on, three_lits}
-use Rattle.plan_encoding.proofs.Ordering.{last_few}
 use Rattle.plan_encoding.proofs.Tabled.{known_commands}
 use Rattle.plan_encoding.proofs.selectors.Selectors.put_by_step.Goals as goal
 
 pub overflow_add-by : goal.overflow_add-by
 overflow_add-by c =
-    let few = last_few c.args.self.now.tables.now.frame in
+    let low = c.args.self.now.low in
     let most = c.args.self.now.tables.now.frame.steps.most in
-    let last = c.args.self.now.number in
+    let step = c.requires.step in
     omega arith
 
 pub loop-command-init : goal.loop-command-init

@@ -1,6 +1,7 @@
 use Rattle.std.proofs.Common.{List, flat_map}
 use Rattle.std.proofs.lemmas.Nat.{mul-le}
 use Rattle.rail_base.proofs.Admitting.{admitted}
+use Rattle.plan_encoding.proofs.Counting.{row_few}
 use Rattle.plan_encoding.proofs.Ordering.{own_few}
 use Rattle.plan_encoding.proofs.Tabled.{commands_many}
 use Rattle.std.proofs.Common.{◌≡◌, ℕ, ◌+◌, ◌*◌, ◌≤◌, ◌<◌, length, filter, get_or, sym, ap, ◌∙◌, arith}
@@ -8,7 +9,7 @@ use Rattle.rail_base.specs.declared.plan.Command.{Command}
 use Rattle.plan_clauses.specs.Clauses.{in_order}
 use Rattle.plan_encoding.proofs.Listing.{listed_next, next_fails, handed_on}
 use Rattle.rail_spec.specs.Plans.{all_commands, contend}
-use Rattle.plan_encoding.proofs.Ordering.{pairs_more, pairs_few, number_is}
+use Rattle.plan_encoding.proofs.Ordering.{length-kept, pairs_more, pairs_to, number_is}
 use Rattle.plan_encoding.proofs.Tabled.{next_rivals, commands_few, known_commands, known_rivals}
 use Rattle.plan_encoding.specs.Drafts.{listed}
 use Rattle.plan_encoding.specs.Frames.{over, told}
@@ -39,7 +40,8 @@ invariant_of-contenders c = record {
       let length-rivals = ap length rivals in
       let more = pairs_more c.args.self.now.frame.interlocking.now.design.station c.args.self.now.frame.interlocking.now.routes c.loop-command.command-index (record { train = record { 0 = 0 }; route = record { 0 = 0 } }) within in
       let length-same = ap (λ e. length (filter (contend c.args.self.now.frame.interlocking.now.routes e) (all_commands c.args.self.now.frame.interlocking.now.design.station c.args.self.now.frame.interlocking.now.routes))) same in
-      let most = pairs_few c.args.self.now.frame.interlocking.now.design.station c.args.self.now.frame.interlocking.now.routes (c.loop-command.command-index + 1) few in
+      let fewer = c.loop-command.invariant.few in
+      let kept = length-kept (contend c.args.self.now.frame.interlocking.now.routes (get_or (all_commands c.args.self.now.frame.interlocking.now.design.station c.args.self.now.frame.interlocking.now.routes) c.loop-command.command-index (record { train = record { 0 = 0 }; route = record { 0 = 0 } }))) (all_commands c.args.self.now.frame.interlocking.now.design.station c.args.self.now.frame.interlocking.now.routes) in
       omega arith;
   numbers = λ i some l.
       let rivals : c.deref.result.now ≡ filter (contend c.args.self.now.frame.interlocking.now.routes (get_or c.deref-command-items.result.now c.loop-command.command-index (record { train = record { 0 = 0 }; route = record { 0 = 0 } }))) (all_commands c.args.self.now.frame.interlocking.now.design.station c.args.self.now.frame.interlocking.now.routes) = c.deref.ensures.value ∙ c.in_ok-rivals.ensures in
@@ -65,11 +67,15 @@ loop-command-preserved c =
     let length-rivals = ap length rivals in
     let more = pairs_more c.args.self.now.frame.interlocking.now.design.station c.args.self.now.frame.interlocking.now.routes c.loop-command.command-index (record { train = record { 0 = 0 }; route = record { 0 = 0 } }) within in
     let length-same = ap (λ e. length (filter (contend c.args.self.now.frame.interlocking.now.routes e) (all_commands c.args.self.now.frame.interlocking.now.design.station c.args.self.now.frame.interlocking.now.routes))) same in
-    let most = pairs_few c.args.self.now.frame.interlocking.now.design.station c.args.self.now.frame.interlocking.now.routes (c.loop-command.command-index + 1) few in
+    let row = row_few c.args.self.now.frame (get_or c.deref-command-items.result.now c.loop-command.command-index (record { train = record { 0 = 0 }; route = record { 0 = 0 } })) c.deref.result.now c.loop-command.draft c.put_orders_of.new.draft (length (pairs_to c.args.self.now.frame.interlocking.now.design.station c.args.self.now.frame.interlocking.now.routes c.loop-command.command-index)) c.in_ok-put_orders_of.ensures.ok c.loop-command.invariant.few c.loop-command.invariant.spent in
+    let fewer = row.0 in
+    let spent = row.1 in
     let len = c.len.ensures in
     let value = ap length c.in_ok-rivals.ensures in
     record {
       counted = omega arith;
+      few = omega arith;
+      spent = omega arith;
       left = listed_next c.args.self.now.frame _ _ _ (next_rivals (in_order c.args.self.now.frame.interlocking.now.design.station c.args.self.now.frame.interlocking.now.routes c.args.self.now.frame.steps.count) c.args.self.now.frame.interlocking.now.design.station c.args.self.now.frame.interlocking.now.routes c.deref-command-items.result.now c.loop-command.command-index _ c.loop-command-test.true c.deref.result.now (c.deref.ensures.value ∙ c.in_ok-rivals.ensures)) c.loop-command.draft c.put_orders_of.new.draft _ c.in_ok-put_orders_of.ensures.ok c.loop-command.invariant.left;
     }
 
@@ -87,7 +93,7 @@ overflow_mul-last c =
     let few = commands_few c.args.self.now.frame.interlocking.now.design.station c.args.self.now.frame.interlocking.now.routes high c.args.self.now.frame.interlocking.now.few in
     let many = ap length c.args.self.now.every_command in
     let len = c.len.ensures in
-    let all : c.len.result * c.args.self.now.frame.steps.count ≤ 64000 * 64 = mul-le c.len.result c.args.self.now.frame.steps.count 64000 64 (omega arith) c.args.self.now.frame.steps.most in
+    let all : c.len.result * c.args.self.now.frame.steps.count ≤ 256000 * 256 = mul-le c.len.result c.args.self.now.frame.steps.count 256000 256 (omega arith) c.args.self.now.frame.steps.most in
     omega arith
 
 pub loop-command-init : goal.loop-command-init
@@ -97,6 +103,8 @@ loop-command-init c = record {
       let many = ap length c.args.self.now.every_command in
       let all : c.len.result ≡ length (all_commands c.args.self.now.frame.interlocking.now.design.station c.args.self.now.frame.interlocking.now.routes) = omega arith in
       ap (λ m. m * c.args.self.now.frame.steps.count) (all ∙ commands_many c.args.self.now.frame.interlocking.now.design.station c.args.self.now.frame.interlocking.now.routes) ∙ zero_more _;
+  few = omega arith;
+  spent = omega arith;
   left =
       ap (λ cs. listed c.args.draft.now (told c.args.self.now.frame cs))
       (ap (λ xs. flat_map (λ e. flat_map (over c.args.self.now.frame in_order) (pairs_of c.args.self.now.frame.interlocking.now.design.station c.args.self.now.frame.interlocking.now.routes e)) xs) (c.deref-command-items.ensures.value ∙ c.args.self.now.every_command)
@@ -119,7 +127,9 @@ overflow_cast-last-in-loop-command c =
     let length-rivals = ap length rivals in
     let more = pairs_more c.args.self.now.frame.interlocking.now.design.station c.args.self.now.frame.interlocking.now.routes c.loop-command.command-index (record { train = record { 0 = 0 }; route = record { 0 = 0 } }) within in
     let length-same = ap (λ e. length (filter (contend c.args.self.now.frame.interlocking.now.routes e) (all_commands c.args.self.now.frame.interlocking.now.design.station c.args.self.now.frame.interlocking.now.routes))) same in
-    let most = pairs_few c.args.self.now.frame.interlocking.now.design.station c.args.self.now.frame.interlocking.now.routes (c.loop-command.command-index + 1) few in
+    let row = row_few c.args.self.now.frame (get_or c.deref-command-items.result.now c.loop-command.command-index (record { train = record { 0 = 0 }; route = record { 0 = 0 } })) c.deref.result.now c.loop-command.draft c.put_orders_of.new.draft (length (pairs_to c.args.self.now.frame.interlocking.now.design.station c.args.self.now.frame.interlocking.now.routes c.loop-command.command-index)) c.in_ok-put_orders_of.ensures.ok c.loop-command.invariant.few c.loop-command.invariant.spent in
+    let fewer = row.0 in
+    let spent = row.1 in
     let len = c.len.ensures in
     let value = ap length c.in_ok-rivals.ensures in
     omega arith
@@ -137,7 +147,17 @@ overflow_add-last c =
     let length-rivals = ap length rivals in
     let more = pairs_more c.args.self.now.frame.interlocking.now.design.station c.args.self.now.frame.interlocking.now.routes c.loop-command.command-index (record { train = record { 0 = 0 }; route = record { 0 = 0 } }) within in
     let length-same = ap (λ e. length (filter (contend c.args.self.now.frame.interlocking.now.routes e) (all_commands c.args.self.now.frame.interlocking.now.design.station c.args.self.now.frame.interlocking.now.routes))) same in
-    let most = pairs_few c.args.self.now.frame.interlocking.now.design.station c.args.self.now.frame.interlocking.now.routes (c.loop-command.command-index + 1) few in
+    let row = row_few c.args.self.now.frame (get_or c.deref-command-items.result.now c.loop-command.command-index (record { train = record { 0 = 0 }; route = record { 0 = 0 } })) c.deref.result.now c.loop-command.draft c.put_orders_of.new.draft (length (pairs_to c.args.self.now.frame.interlocking.now.design.station c.args.self.now.frame.interlocking.now.routes c.loop-command.command-index)) c.in_ok-put_orders_of.ensures.ok c.loop-command.invariant.few c.loop-command.invariant.spent in
+    let fewer = row.0 in
+    let spent = row.1 in
     let len = c.len.ensures in
     let value = ap length c.in_ok-rivals.ensures in
+    omega arith
+
+pub returns-clause-bound : goal.returns-clause-bound
+returns-clause-bound c =
+    let high = ((admitted c.args.self.now.frame.interlocking.now.design.station c.args.self.now.frame.interlocking.now.design.admitted).many_trains).1 in
+    let own = own_few (length c.args.self.now.frame.interlocking.now.design.station.trains) (length c.args.self.now.frame.interlocking.now.routes) c.args.self.now.frame.steps.count high c.args.self.now.frame.interlocking.now.few c.args.self.now.frame.steps.most in
+    let counted = c.loop-command.invariant.counted in
+    let few = c.loop-command.invariant.few in
     omega arith

@@ -7,7 +7,7 @@ pub slice-requires-clause-formed : goal.slice-requires-clause-formed
 slice-requires-clause-formed c =
     let f = c.args.self.now in
     let i = f.contention.interlocking.now in
-    formed_so i.design.station f.steps.count i.routes i.table f.plan.now.steps f.runs 64 f.steps.most
+    formed_so i.design.station f.steps.count i.routes i.table f.plan.now.steps f.runs 256 f.steps.most
 
 pub slice-requires-clause-fails : goal.slice-requires-clause-fails
 slice-requires-clause-fails c =

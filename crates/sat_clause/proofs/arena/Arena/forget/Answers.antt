@@ -1,14 +1,21 @@
-use Rattle.std.proofs.Common.{arith, ◌-◌, refl, ap, ◌∙◌}
+use Rattle.std.proofs.Common.{◌<◌, ◌-◌, length, ap, ◌∙◌, arith}
 use Rattle.sat_clause.specs.Clauses.{without}
-use Rattle.sat_clause.proofs.Laid.{head-within, laid-set, clauses-without}
+use Rattle.sat_clause.proofs.Laid.{forgets, forgotten-clauses, number-within}
 use Rattle.sat_clause.proofs.arena.Arena.forget.Goals as goal
+
+pub index_mut-requires : goal.index_mut-requires
+index_mut-requires c =
+    let w = number-within c.self.inside.lits.items c.self.inside.ends.items c.self.inside.marks.items c.self.invariant c.args.self.now c.args.id c.self.view_is c.requires in
+    let m = c.self.invariant.marked in
+    omega arith
 
 pub invariant_of-self : goal.invariant_of-self
 invariant_of-self c =
-    let w = head-within _ _ _ _ c.self.view_is c.requires in
-    laid-set _ _ _ _ c.index_mut.result.now _ c.self.invariant (omega arith) (ap (λ h. h.start) c.index_mut.ensures.value) (ap (λ h. h.end) c.index_mut.ensures.value)
+    let w = number-within c.self.inside.lits.items c.self.inside.ends.items c.self.inside.marks.items c.self.invariant c.args.self.now c.args.id c.self.view_is c.requires in
+    forgets c.self.inside.lits.items c.self.inside.ends.items c.self.inside.marks.items c.self.invariant (c.args.id - 1) (omega arith)
 
 pub returns : goal.returns
 returns c =
-    let w = head-within _ _ _ _ c.self.view_is c.requires in
-    clauses-without _ _ c.args.id (c.args.id - 1) c.index_mut.result.now _ (omega arith) (omega arith) (ap (λ h. h.start) c.index_mut.ensures.value) (ap (λ h. h.end) c.index_mut.ensures.value) refl ∙ ap (λ s. without s c.args.id) c.self.view_is
+    let w = number-within c.self.inside.lits.items c.self.inside.ends.items c.self.inside.marks.items c.self.invariant c.args.self.now c.args.id c.self.view_is c.requires in
+    forgotten-clauses c.self.inside.lits.items c.self.inside.ends.items c.self.inside.marks.items c.self.invariant (c.args.id - 1) (omega arith) c.args.id (omega arith)
+    ∙ ap (λ s. without s c.args.id) c.self.view_is

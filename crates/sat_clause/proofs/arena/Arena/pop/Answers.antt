@@ -1,21 +1,30 @@
-use Rattle.std.proofs.Common.{arith, ◌∷◌, [], ◌++◌, ◌≡◌, ap, ◌∙◌, sym, length, ℕ, subst}
-use Rattle.sat_clause.proofs.Laid.{length_take_le}
-use Rattle.std.specs.Prelude.{option_to_list}
-use Rattle.sat_clause.specs.Layout.{LaidOut, clauses_of}
-use Rattle.sat_clause.proofs.Laid.{laid-pop, clauses-pop}
+use Rattle.std.proofs.Common.{◌≡◌, ◌+◌, ◌-◌, ℕ, List, length, take, ap, ◌∙◌, arith}
+use Rattle.sat_clause.specs.Layout.{begin_at}
+use Rattle.sat_clause.proofs.Laid.{count-store, pops, popped-clauses}
 use Rattle.sat_clause.proofs.arena.Arena.pop.Goals as goal
 
 pub invariant_of-self : goal.invariant_of-self
 invariant_of-self c =
-    let all : c.self.inside.heads.items ≡ c.pop.new.self.items ++ c.in-Some.head ∷ [] = c.pop.ensures.items ∙ ap (λ o. c.pop.new.self.items ++ option_to_list o) c.in-Some.is in
-    let p = laid-pop _ _ _ c.in-Some.head (rw all at c.self.invariant) in
-    let n : length c.truncate.new.self.items ≡ c.in-Some.head.start = ap length c.truncate.ensures.items ∙ length_take_le c.in-Some.head.start c.self.inside.lits.items (omega arith) in
-    let P : ℕ → Type 0 = λ e. LaidOut 0 c.pop.new.self.items e in
-    subst P (sym n) p.0
+    let lits = c.self.inside.lits.items in
+    let es = c.self.inside.ends.items in
+    let ms = c.self.inside.marks.items in
+    let k = c.len-place.result - 1 in
+    let n = count-store lits es ms c.self.invariant in
+    let v = ap length c.self.view_is in
+    let m = c.len-place.ensures in
+    let last : k + 1 ≡ length es = omega arith in
+    let b : c.begin-start.result ≡ begin_at 0 es k = c.begin-start.ensures ∙ ap (λ (xs : List ℕ). begin_at 0 xs k) c.deref.ensures.value in
+    pops lits es ms c.self.invariant k last c.truncate-3.new.self.items c.truncate-2.new.self.items c.truncate.new.self.items (c.truncate-3.ensures.items ∙ ap (λ s. take s lits) b) c.truncate-2.ensures.items c.truncate.ensures.items
 
-pub returns-in-Some : goal.returns-in-Some
-returns-in-Some c =
-    let all : c.self.inside.heads.items ≡ c.pop.new.self.items ++ c.in-Some.head ∷ [] = c.pop.ensures.items ∙ ap (λ o. c.pop.new.self.items ++ option_to_list o) c.in-Some.is in
-    let p = laid-pop _ _ _ c.in-Some.head (rw all at c.self.invariant) in
-    let cut = clauses-pop c.self.inside.lits.items c.pop.new.self.items c.in-Some.head c.args.self.now p.0 (omega arith) (ap (clauses_of c.self.inside.lits.items) (sym all) ∙ c.self.view_is) in
-    ap (λ l. clauses_of l c.pop.new.self.items) c.truncate.ensures.items ∙ cut
+pub returns : goal.returns
+returns c =
+    let lits = c.self.inside.lits.items in
+    let es = c.self.inside.ends.items in
+    let ms = c.self.inside.marks.items in
+    let k = c.len-place.result - 1 in
+    let n = count-store lits es ms c.self.invariant in
+    let v = ap length c.self.view_is in
+    let m = c.len-place.ensures in
+    let last : k + 1 ≡ length es = omega arith in
+    let b : c.begin-start.result ≡ begin_at 0 es k = c.begin-start.ensures ∙ ap (λ (xs : List ℕ). begin_at 0 xs k) c.deref.ensures.value in
+    popped-clauses lits es ms c.self.invariant k last c.truncate-3.new.self.items c.truncate-2.new.self.items c.truncate.new.self.items (c.truncate-3.ensures.items ∙ ap (λ s. take s lits) b) c.truncate-2.ensures.items c.truncate.ensures.items c.args.self.now c.self.view_is

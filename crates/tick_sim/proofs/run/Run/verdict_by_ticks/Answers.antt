@@ -25,7 +25,7 @@ first_violation-requires c =
     let d = c.args.self.now.interlocking.now.design.station in
     let routes = c.args.self.now.interlocking.now.routes in
     let plan = c.args.self.now.plan.now.steps in
-    subst HasNumbers (sym c.in_ok-history-2.ensures) (plans_have_numbers d routes plan (admitted d c.args.self.now.interlocking.now.design.admitted) 64 (omega arith) c.args.self.now.formed.formed c.loop-tick.tick)
+    subst HasNumbers (sym c.in_ok-history-2.ensures) (plans_have_numbers d routes plan (admitted d c.args.self.now.interlocking.now.design.admitted) 256 (omega arith) c.args.self.now.formed.formed c.loop-tick.tick)
 
 pub returns-in-Some : goal.returns-in-Some
 returns-in-Some c =
