@@ -94,7 +94,7 @@ def main():
             answer, seconds, megabytes = measured([given.program, "check", "--steps", str(steps), design, proof], given.limit)
             bad = seconds > given.seconds or megabytes > given.megabytes or answer != "no line 2 no final line"
             missed += bad
-            search = [given.program, "verify", "--steps", str(steps), "--conflicts", "0", "--ticks", "0", design, folder / "none"]
+            search = [given.program, "verify", "--steps", str(steps), "--conflicts", "1", "--ticks", "1", design, folder / "none"]
             ended, later, more = measured(search, given.limit)
             print(f"{name:36} check {seconds:>6.2f} s {megabytes:>5.0f} MB  verify {later:>6.2f} s {more:>5.0f} MB  {answer}; {ended}"
                   f"{'  MISSED' if bad else ''}", flush=True)
