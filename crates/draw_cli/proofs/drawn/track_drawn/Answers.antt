@@ -1,0 +1,11 @@
+use Rattle.std.proofs.Common.{refl, arith}
+use Rattle.draw_cli.proofs.drawn.track_drawn.Goals as goal
+
+pub returns : goal.returns
+returns c = record {
+  status = refl;
+  picture = c.in_ok-picture.picture;
+  lines = c.in_ok-lines.ensures;
+  words_are = c.in_ok-picture.ensures.words;
+  few = omega (arith, c.in_ok-picture.ensures.size);
+}

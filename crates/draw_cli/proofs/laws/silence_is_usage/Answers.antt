@@ -1,0 +1,7 @@
+use Rattle.std.proofs.Common.{Option, subst}
+use Rattle.draw_cli.specs.Wanted.{Wanted}
+use Rattle.draw_cli.specs.Answers.{IsAnswerTo}
+use Rattle.draw_cli.proofs.laws.silence_is_usage.Goals as goal
+
+pub returns : goal.returns
+returns c = λ files words a nothing h. subst (λ (w : Option Wanted). IsAnswerTo files w a) nothing h

@@ -1,0 +1,27 @@
+-- Pictures, their words, and their drawings.
+use Rattle.std.specs.Prelude.{◌≡◌, ℕ, List, [], ◌∷◌, ◌++◌, map, Option, Some, None}
+use Rattle.std.specs.List.{filter_map}
+use Rattle.drawing.specs.declared.shape.Point.{Point}
+use Rattle.drawing.specs.declared.shape.Shape.{Shape}
+use Rattle.drawing.specs.declared.shape.Shape.TheVariants.{Line, Bar, Dot, Words, Note}
+use Rattle.drawing.specs.Lines.{end_line, ground_line, head_line, shape_line}
+
+-- the words of a shape
+abbrev pub words_of : Shape → Option (List ℕ)
+words_of (Line points color width) = None
+words_of (Bar corner width height color) = None
+words_of (Dot center radius color) = None
+words_of (Words place anchor color text) = Some text
+words_of (Note place anchor color text) = None
+
+-- the words of a picture, in order
+abbrev pub words_in : List Shape → List (List ℕ)
+words_in picture = filter_map words_of picture
+
+-- the lines of a drawing of a picture, of a size in px to the right and below
+abbrev pub drawing_of : Point → List Shape → List (List ℕ)
+drawing_of size picture = head_line size ∷ ground_line ∷ map shape_line picture ++ end_line ∷ []
+
+-- these are the lines of a drawing of the picture, of some size
+abbrev pub IsDrawingOf : List Shape → List (List ℕ) → Type 0
+IsDrawingOf picture lines = (size : Point) × (lines ≡ drawing_of size picture)

@@ -1,0 +1,5 @@
+-- Pictures, and the lines that show them.
+pub mod Parts
+pub mod Lines
+pub mod Drawing
+pub mod Laws

@@ -1,0 +1,76 @@
+//! The shapes of a picture.
+
+use rail_base::list::{List, Name};
+
+/// A place in a picture, in px from the left and from the top.
+#[derive(Clone, Copy, Debug, PartialEq, Eq)]
+pub struct Point {
+    pub x: u64,
+    pub y: u64,
+}
+
+/// Which part of a text stands at its place.
+#[derive(Clone, Copy, Debug, PartialEq, Eq)]
+pub enum Anchor {
+    Start,
+    Middle,
+    End,
+}
+
+/// A colour.
+#[derive(Clone, Copy, Debug, PartialEq, Eq)]
+pub enum Color {
+    Black,
+    White,
+    Gray,
+    Red,
+    Green,
+    /// By its hue, in degrees.
+    Hue(u64),
+}
+
+/// The colour of a number: neighbours differ much in hue.
+pub fn numbered_color(number: u64) -> Color {
+    Color::Hue(number.saturating_mul(137) % 360)
+}
+
+/// A shape of a picture, its sizes in px.
+#[derive(Drop)]
+pub enum Shape {
+    /// A line from one point to the next.
+    Line {
+        points: List<Point>,
+        color: Color,
+        width: u64,
+    },
+    /// A filled bar, by its left upper corner.
+    Bar {
+        corner: Point,
+        width: u64,
+        height: u64,
+        color: Color,
+    },
+    /// A filled disc.
+    Dot {
+        center: Point,
+        radius: u64,
+        color: Color,
+    },
+    /// A text that says what something is or what has happened.
+    Words {
+        place: Point,
+        anchor: Anchor,
+        color: Color,
+        text: Name,
+    },
+    /// A text beside the others, as the number at an axis.
+    Note {
+        place: Point,
+        anchor: Anchor,
+        color: Color,
+        text: Name,
+    },
+}
+
+/// Shapes in order.
+pub type Picture = List<Shape>;

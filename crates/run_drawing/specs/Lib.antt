@@ -1,0 +1,2 @@
+-- What a picture of a run says.
+pub mod Words

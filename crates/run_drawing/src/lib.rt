@@ -1,0 +1,14 @@
+//! The picture of a run: a line for each train over time and place, its visits, what is asked of them, and which train
+//! holds which section when.
+#![tactic(auto)]
+
+mod axes;
+mod bars;
+mod outcome;
+mod picture;
+mod requirements;
+mod scale;
+mod trains;
+mod visits;
+
+pub use picture::run_picture;

@@ -1,0 +1,2 @@
+-- What a picture of a track says.
+pub mod Words
