@@ -33,7 +33,7 @@ kept_same p q (x ∷ xs) same = ap (λ b. cond b (x ∷ filter p xs) (filter p x
 kept_none : {X : Type 0} (p : X → Bool) (xs : List X) → ((x : X) → In x xs → p x ≡ false) → filter p xs ≡ []
 kept_none p xs none = none_in (filter p xs) (λ x m. let l = in_filter_back p xs x m in true≢false (sym l.1 ∙ none x l.0))
 
-any_same : {X : Type 0} (p q : X → Bool) (xs : List X) → ((x : X) → In x xs → p x ≡ q x) → list_any p xs ≡ list_any q xs
+pub any_same : {X : Type 0} (p q : X → Bool) (xs : List X) → ((x : X) → In x xs → p x ≡ q x) → list_any p xs ≡ list_any q xs
 any_same p q [] same = refl
 any_same p q (x ∷ xs) same = ap (λ b. b || list_any p xs) (same x (inl refl)) ∙ ap (λ b. q x || b) (any_same p q xs (λ y m. same y (inr m)))
 

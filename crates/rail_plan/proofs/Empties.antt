@@ -1,5 +1,5 @@
 -- When lists that are made of others are empty.
-use Rattle.std.proofs.Common.{◌≡◌, ℕ, ◌≤◌, ◌↔◌, inl, Bool, true, List, [], ◌∷◌, map, filter, flat_map, length, refl, subst, arith}
+use Rattle.std.proofs.Common.{◌≡◌, ℕ, ◌≤◌, ◌↔◌, inl, Bool, true, List, [], ◌∷◌, map, filter, flat_map, length, None, refl, subst, arith}
 use Rattle.std.specs.Prelude.{IsNone}
 use Rattle.rail_base.specs.declared.station.Station.{Station}
 use Rattle.rail_base.specs.declared.station.TrainNo.{TrainNo}
@@ -17,6 +17,10 @@ none_in (x ∷ xs) h = absurd (h x (inl refl))
 pub none_first : {X : Type 0} (xs : List X) → (IsNone (first_of_list xs)) ↔ (xs ≡ [])
 none_first [] = (λ e. refl, λ e. refl)
 none_first (x ∷ xs) = (λ e. cc, λ e. cc)
+
+pub empty_of : {X : Type 0} (xs : List X) → None ≡ first_of_list xs → xs ≡ []
+empty_of [] e = refl
+empty_of (x ∷ xs) e = cc
 
 pub none_mapped : {X Y : Type 0} (f : X → Y) (xs : List X) → map f xs ≡ [] → xs ≡ []
 none_mapped f [] e = refl

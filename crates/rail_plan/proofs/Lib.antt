@@ -3,7 +3,7 @@ pub mod Named
 pub mod Placed
 pub mod Empties
 pub mod WellFormed
-pub mod Clearing
+pub mod Resting
 pub mod Stopped
 pub mod Steps
 pub mod Blocked
@@ -13,4 +13,7 @@ pub mod TrainNames
 pub mod Seen
 pub mod Json
 pub mod Spelled
-pub mod Overlooked
+pub mod Holding
+pub mod Taking
+pub mod Within
+pub mod Contending

@@ -32,13 +32,13 @@ has_its_section r z m = go (in_map_back (λ (p : SectionNo × ℤ). p.0) r.secti
     go : (p : SectionNo × ℤ) × In p r.sections × (p.0 ≡ z) → has_section r z ≡ true
     go (p, k, e) = list_any_from (λ (q : SectionNo × ℤ). q.0.0 == z.0) r.sections p k (eq-eqb p.0.0 z.0 (ap (λ (y : SectionNo). y.0) e))
 
-its_section : (r : Route) (z : SectionNo) → has_section r z ≡ true → In z (sections r)
+pub its_section : (r : Route) (z : SectionNo) → has_section r z ≡ true → In z (sections r)
 its_section r z h = go (list_any_gives (λ (p : SectionNo × ℤ). p.0.0 == z.0) r.sections h)
   where
     go : (p : SectionNo × ℤ) × In p r.sections × ((p.0.0 == z.0) ≡ true) → In z (sections r)
     go (p, m, e) = subst (λ y. In y (sections r)) (same_section p.0 z e) (in_map (λ (p : SectionNo × ℤ). p.0) r.sections p m)
 
-shares_it : (r q : Route) (z : SectionNo) → has_section r z ≡ true → In z (sections q) → share r q ≡ true
+pub shares_it : (r q : Route) (z : SectionNo) → has_section r z ≡ true → In z (sections q) → share r q ≡ true
 shares_it r q z h m = go (list_any_gives (λ (p : SectionNo × ℤ). p.0.0 == z.0) r.sections h)
   where
     go : (p : SectionNo × ℤ) × In p r.sections × ((p.0.0 == z.0) ≡ true) → share r q ≡ true

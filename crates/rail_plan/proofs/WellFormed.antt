@@ -265,3 +265,7 @@ module _ (d : Station) (routes : List Route) (plan : List (List Command)) where
 
 pub paths_of_formed : (d : Station) (routes : List Route) (plan : List (List Command)) (n : ℕ) → is_well_formed d routes n plan ≡ true → list_all (λ t. is_path (train_of d t) (path_routes routes plan t)) (trains d) ≡ true
 paths_of_formed d routes plan n h = and_right (nat_le (length plan) n && list_all one_each plan) (list_all (λ t. is_path (train_of d t) (path_routes routes plan t)) (trains d)) h
+
+-- and gives no train two routes in a step
+pub one_each_of : (d : Station) (routes : List Route) (plan : List (List Command)) (n : ℕ) → is_well_formed d routes n plan ≡ true → list_all one_each plan ≡ true
+one_each_of d routes plan n h = and_right (nat_le (length plan) n) (list_all one_each plan) (and_left (nat_le (length plan) n && list_all one_each plan) (list_all (λ t. is_path (train_of d t) (path_routes routes plan t)) (trains d)) h)

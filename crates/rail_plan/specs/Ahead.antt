@@ -1,24 +1,17 @@
 -- What earlier steps leave of the sections for one step.
-use Rattle.std.specs.Prelude.{ℕ, ◌+◌, ◌-◌, Bool, not, ◌&&◌, ◌||◌, nat_le, List, [], ◌∷◌, map, filter, flat_map, length}
-use Rattle.std.specs.Prelude.{sum_by, if◌then◌else◌, Option, None, Some}
+use Rattle.std.specs.Prelude.{◌+◌, Bool, not, ◌&&◌, ◌||◌, nat_le, List, [], ◌∷◌, map, filter, flat_map, length}
+use Rattle.std.specs.Prelude.{sum_by}
 use Rattle.std.specs.List.{list_any}
 use Rattle.rail_base.specs.declared.station.Station.{Station}
 use Rattle.rail_base.specs.declared.station.TrainNo.{TrainNo}
 use Rattle.rail_base.specs.declared.station.SectionNo.{SectionNo}
 use Rattle.rail_base.specs.declared.route.Route.{Route}
-use Rattle.rail_base.specs.declared.route.RouteNo.{RouteNo}
 use Rattle.rail_base.specs.declared.plan.Command.{Command}
 use Rattle.rail_base.specs.Stations.{train_length, trains}
-use Rattle.rail_spec.specs.Plans.{is_train, route_at, length_mm, sections, has_section, share, release_offset, exits}
+use Rattle.rail_spec.specs.Plans.{is_train, route_at, length_mm, sections, has_section, release_offset, exits}
 use Rattle.rail_spec.specs.Plans.{path_routes}
-use Rattle.interlocking.specs.Sections.{last_release}
 use Rattle.rail_plan.specs.declared.place.PlanPlace.{PlanPlace}
 use Rattle.rail_plan.specs.declared.place.PlanPlace.TheVariants as place
-
--- how much of this length is left after the routes, or None where one of them exits
-abbrev pub left_after : ℕ → List Route → Option ℕ
-left_after left [] = Some left
-left_after left (r ∷ rs) = if exits r then None else left_after (left - length_mm r) rs
 
 -- these steps give e's train so much track that it can leave the section of e
 abbrev pub clears : Station → List Route → List (List Command) → Command → SectionNo → Bool
@@ -36,25 +29,6 @@ stops d routes between t z e = not (is_train e.train t) && has_section (route_at
 abbrev pub is_stopped : Station → List Route → TrainNo → SectionNo → List (List Command) → List Command → Bool
 is_stopped d routes t z [] step = list_any (stops d routes [] t z) step
 is_stopped d routes t z (s ∷ ss) step = list_any (stops d routes (s ∷ ss) t z) s || is_stopped d routes t z ss step
-
--- these steps give e's train so much track that it can leave all sections that its route shares with q
-abbrev pub clears_all : Station → List Route → List (List Command) → Command → RouteNo → Bool
-clears_all d routes between e q =
-    let given = path_routes routes between e.train in
-    let released = last_release (route_at routes e.route) (route_at routes q) in
-    nat_le (released + train_length d e.train) (sum_by length_mm given)
-    || list_any exits given
-
--- e is for another train, and stops c over a section that they share
-abbrev pub stops_over : Station → List Route → List (List Command) → Command → Command → Bool
-stops_over d routes between c e = not (is_train e.train c.train)
-    && share (route_at routes e.route) (route_at routes c.route) && not (clears_all d routes between e c.route)
-
--- a command of the step, or of one of those before it, stops c over a section
-abbrev pub is_stopped_over : Station → List Route → Command → List (List Command) → List Command → Bool
-is_stopped_over d routes c [] step = list_any (stops_over d routes [] c) step
-is_stopped_over d routes c (s ∷ ss) step = list_any (stops_over d routes (s ∷ ss) c) s
-    || is_stopped_over d routes c ss step
 
 -- the sections of c's route over which it is stopped
 abbrev pub stopped_sections : Station → List Route → List (List Command) → List Command → Command → List SectionNo

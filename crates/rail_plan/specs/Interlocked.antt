@@ -3,7 +3,6 @@ use Rattle.std.specs.Prelude.{ℕ, Bool, not, List, filter, length, Option, Resu
 use Rattle.rail_base.specs.declared.station.TrainNo.{TrainNo}
 use Rattle.rail_base.specs.declared.station.SectionNo.{SectionNo}
 use Rattle.rail_base.specs.declared.route.Route.{Route}
-use Rattle.rail_base.specs.declared.route.RouteNo.{RouteNo}
 use Rattle.rail_base.specs.declared.plan.Command.{Command}
 use Rattle.rail_base.specs.Stations.{first_visit, train_of, trains}
 use Rattle.rail_spec.specs.Plans.{path_routes}
@@ -12,6 +11,8 @@ use Rattle.serde_json.specs.Data.{Data}
 use Rattle.rail_plan.specs.declared.place.PlanPlace.{PlanPlace}
 use Rattle.rail_plan.specs.Ahead as ahead
 use Rattle.rail_plan.specs.Executable as executable
+use Rattle.rail_plan.specs.Holds as held
+use Rattle.rail_plan.specs.declared.holds.Hold.{Hold}
 use Rattle.rail_plan.specs.Reading as reading
 use Rattle.rail_plan.specs.Reading.{Refusal, steps_read, train_names}
 use Rattle.rail_plan.specs.Text.{Written}
@@ -48,33 +49,9 @@ module _ (i : Interlocking) where
 
   -- ---- executable
 
-  -- these steps give a command's train so much track that it can leave the section
-  abbrev pub clears : List (List Command) → Command → SectionNo → Bool
-  clears = ahead.clears i.design.station i.routes
-
-  -- they give it so much that it can leave all sections that its route shares with the other
-  abbrev pub clears_all : List (List Command) → Command → RouteNo → Bool
-  clears_all = ahead.clears_all i.design.station i.routes
-
-  -- a command is for another train, has the section and is not so given
-  abbrev pub stops : List (List Command) → TrainNo → SectionNo → Command → Bool
-  stops = ahead.stops i.design.station i.routes
-
-  -- a command of the step, or of one of those before it, so stops the train
-  abbrev pub is_stopped : TrainNo → SectionNo → List (List Command) → List Command → Bool
-  is_stopped = ahead.is_stopped i.design.station i.routes
-
-  -- the second command is for another train, and stops the first over a section that they share
-  abbrev pub stops_over : List (List Command) → Command → Command → Bool
-  stops_over = ahead.stops_over i.design.station i.routes
-
-  -- a command of the step, or of one of those before it, stops this one over a section
-  abbrev pub is_stopped_over : Command → List (List Command) → List Command → Bool
-  is_stopped_over = ahead.is_stopped_over i.design.station i.routes
-
-  -- the sections of a command's route over which it is stopped
-  abbrev pub stopped_sections : List (List Command) → List Command → Command → List SectionNo
-  stopped_sections = ahead.stopped_sections i.design.station i.routes
+  -- a command is for another train, and has the section
+  abbrev pub takes : TrainNo → SectionNo → Command → Bool
+  takes = held.takes i.routes
 
   -- the places of a train in a step, after the steps before it
   abbrev pub stopped_in : List (List Command) → List Command → TrainNo → List PlanPlace
@@ -83,6 +60,34 @@ module _ (i : Interlocking) where
   -- the places of a step, by train
   abbrev pub stopped : List (List Command) → List Command → List PlanPlace
   stopped = ahead.stopped i.design.station i.routes
+
+  -- how much track the train of a command lacks after the command's route, for a release at this offset of the route
+  abbrev pub lack_after : Command → ℕ → ℕ
+  lack_after = held.lack_after i.design.station i.routes
+
+  -- the hold on a section after a command took its route
+  abbrev pub taken_by : SectionNo → Command → Hold → Hold
+  taken_by = held.taken_by i.design.station i.routes
+
+  -- and after the commands of a step took theirs
+  abbrev pub taken_by_step : SectionNo → List Command → Hold → Hold
+  taken_by_step = held.taken_by_step i.design.station i.routes
+
+  -- the hold on a section after a step
+  abbrev pub turned : SectionNo → List Command → Hold → Hold
+  turned = held.turned i.design.station i.routes
+
+  -- the holds or the commands of the step keep the train from the section
+  abbrev pub is_held : List Hold → List Command → TrainNo → SectionNo → Bool
+  is_held = held.is_held i.routes
+
+  -- the sections of a command's route from which they keep it
+  abbrev pub held_sections : List Hold → List Command → Command → List SectionNo
+  held_sections = held.held_sections i.routes
+
+  -- the holds tell for each section the one train that can't leave it after these steps
+  abbrev pub AreHolds : List (List Command) → List Hold → Type 0
+  AreHolds = held.AreHolds i.design.station i.routes
 
   -- where the plan isn't executable, by step, train and section
   abbrev pub blocked : List (List Command) → List PlanPlace

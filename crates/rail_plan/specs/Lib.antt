@@ -1,6 +1,7 @@
 -- Where plans can't be carried out.
 pub mod Named
 pub mod Ahead
+pub mod Holds
 pub mod Executable
 pub mod Reading
 pub mod Text

@@ -4,6 +4,7 @@
 pub mod clearance;
 pub mod fault;
 pub mod formed;
+mod holds;
 pub mod laws;
 mod names;
 pub mod paths;
