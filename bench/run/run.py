@@ -120,6 +120,20 @@ def in_turn(trains, edges, length, speed):
     return design, starts
 
 
+def in_rows(lines, trains, steps, length, speed, behind):
+    """Lines of as many routes as a plan may have steps. The trains of a line follow each other, each so many steps behind the one
+    before. A train is given its routes up to the last step, and has to come to the end of the first."""
+    design = Design(vehicle(speed, length // 2))
+    starts = []
+    for line in range(lines):
+        first_signal = len(design.entries["signal"])
+        nodes = design.line(steps, length, speed, 1)
+        for number in range(trains // lines):
+            design.add("train", vehicle="v", visits=[[nodes[0]], [nodes[1]]])
+            starts.append((nodes[0], first_signal, steps - behind * number, behind * number))
+    return design, starts
+
+
 def plan(starts, numbers):
     """The plan in which each train is given its routes step by step, from its first step on."""
     steps = [[] for _ in range(max(routes + behind for _, _, routes, behind in starts))]
@@ -166,6 +180,11 @@ def commands(program, folder):
     yield "32 trains over 31 routes each, which cross", 0.5, "met", simulated(program, folder, crossing(32, 31, 10_000, 1_000))
     yield "32 trains in turn over 1,998 nodes each, all demands", 2, "met", simulated(program, folder, in_turn(32, 1_998, 1_000, 1_000))
     yield "32 trains in turn over long edges, all demands", 2, "", simulated(program, folder, in_turn(32, 1_998, 100_000, 100_000))
+    yield "128 trains in turn over 1,998 nodes each, all demands", 2, "met", simulated(program, folder, in_turn(128, 1_998, 1_000, 10_000))
+    yield "128 trains in a row over up to 256 routes each", 2, "met", simulated(program, folder, in_rows(1, 128, 256, 10_000, 20_000, 2))
+    yield "126 trains in seven rows over up to 256 routes each", 2, "met", simulated(program, folder, in_rows(7, 126, 256, 10_000, 20_000, 2))
+    refused = "plan refused P4 step 1 train train0 section section0"
+    yield "128 trains over 256 routes each, all at once", 2, refused, simulated(program, folder, in_rows(1, 128, 256, 10_000, 20_000, 0))
     yield "100,000 cones of a train that is followed for a day", 10, "no line 100002", checked(program, folder, 100_000, "r visit 1 2 t 1 86400 1 1 0 0 0")
 
 

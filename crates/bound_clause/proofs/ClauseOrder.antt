@@ -11,7 +11,7 @@ use Rattle.rail_base.proofs.Lists.{in_append, in_flat_map_back}
 use Rattle.rail_cone.specs.Validity as cone
 use Rattle.rail_cone.specs.Clauses.{Fact, Used, Before, Literal}
 use Rattle.rail_cone.proofs.Saying.{is_command_self}
-use Rattle.cone_design.proofs.Sorted.{all_pairs_append, commands_sorted}
+use Rattle.cone_form.proofs.Sorted.{all_pairs_append, commands_sorted}
 use Rattle.cone_clause.proofs.ClauseOrder.{is_fact_before, is_literal_before}
 use Rattle.rail_bound.specs.declared.Bound.{Bound}
 use Rattle.rail_bound.specs.Clauses.{is_named, is_kept_out, is_before, is_kept_behind, used_literals, before_literals, clause_of_bound}

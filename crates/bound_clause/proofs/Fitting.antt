@@ -18,8 +18,8 @@ use Rattle.rail_spec.specs.Plans.{is_train, contend, all_commands}
 use Rattle.plan_clauses.specs.Variables.{pairs}
 use Rattle.plan_clauses.proofs.Places.{pair_from}
 use Rattle.rail_cone.proofs.Saying.{in_all}
-use Rattle.cone_design.proofs.Ranges.{all_routes}
-use Rattle.cone_design.proofs.Orders.{member_at}
+use Rattle.cone_form.proofs.Ranges.{all_routes}
+use Rattle.cone_form.proofs.Orders.{member_at}
 use Rattle.rail_cone.specs.declared.Cone.{Cone}
 use Rattle.rail_cone.specs.Validity as cone
 use Rattle.rail_bound.specs.declared.Place.{Place}

@@ -12,7 +12,7 @@ use Rattle.rail_spec.specs.Feasible.{IsFeasible, IsInfeasible}
 use Rattle.sat_clause.specs.declared.lit.Lit.{Lit}
 use Rattle.sat_clause.specs.Clauses.{clause_holds}
 use Rattle.plan_clauses.specs.Models.{model_of}
-use Rattle.cone_design.proofs.Sorted.{all_pairs_map}
+use Rattle.cone_form.proofs.Sorted.{all_pairs_map}
 use Rattle.rail_cone.specs.declared.Cone.{Cone}
 use Rattle.rail_cone.specs.Validity.{is_valid_cone}
 use Rattle.rail_cone.specs.Clauses.{Literal}

@@ -13,7 +13,7 @@ use Rattle.rail_spec.specs.Plans.{route_at, is_train, is_command, contend, start
 use Rattle.rail_laws.proofs.Given.{same_train}
 use Rattle.plan_clauses.specs.Variables.{pairs}
 use Rattle.plan_clauses.proofs.Places.{command_of, pair_of, pair_from}
-use Rattle.cone_design.proofs.Contending.{mirrored}
+use Rattle.cone_form.proofs.Contending.{mirrored}
 use Rattle.rail_cone.specs.Cones as cone
 use Rattle.rail_cone.specs.Cones.{has_route, is_free, is_listed, named}
 use Rattle.rail_cone.specs.Clauses as words
@@ -29,13 +29,13 @@ use Rattle.rail_bound.specs.declared.Bound.{Bound}
 use Rattle.rail_bound.specs.Certificates.{VisitOf, routes_of_place, named_at, kept_out, first_of_leg, last_of_leg, visit_from, cone_of}
 use Rattle.rail_bound.specs.Clauses.{any_next, stands_in, is_at, meet_named, are_where_they_meet, joins, may_join, begins_at_once, is_named, is_past_cone, is_kept_out, is_before, is_kept_behind, used_literals, before_literals, clause_of_bound}
 use Rattle.rail_bound.specs.Validity.{names_design}
-use Rattle.bound_clause.specs.Said.{used_by, not_used_by, said_of_place, said_of_leg, said_of_legs, said_of_pair, said_after, said_between, said_of_meetings, said_before, said_of_start, said_at, said_of_origin, said}
+use Rattle.bound_clause.specs.Said.{used_by, not_used_by, said_of_place, said_of_leg, said_of_legs, said_of_pair, said_after, said_between, said_of_meetings, said_before, said_of_start, said_at, said_of_origin, said_literals}
 use Rattle.bound_clause.proofs.Fitting.{train_fits, place_fits, numbered_in, numbered_out, command_in, first_command, last_command, leg_fits}
 
 -- ---- literals that are there where a test passes
 
-abbrev used : Command → Bool → Literal
-used c negated = record { fact = Used c; negated = negated }
+abbrev used_literal : Command → Bool → Literal
+used_literal c negated = record { fact = Used c; negated = negated }
 
 abbrev before : Command → Command → Bool → Literal
 before e c negated = record { fact = Before e c; negated = negated }
@@ -125,13 +125,13 @@ module _ (d : Station) (routes : List Route) (b : Bound) where
   abbrev before_part : List Literal
   before_part = flat_map before_of (all_commands d routes)
 
-  pub put_named : (c : Command) → In c (all_commands d routes) → is_named d routes b c ≡ true → In (used c true) (clause_of_bound d routes b)
-  put_named c m h = in_append_left (used c true) used_part before_part (in_flat_map (used_literals d routes b) (all_commands d routes) c (used c true) m
-      (in_append_left (used c true) (if is_named d routes b c then used c true ∷ [] else []) (if is_kept_out d routes b c then used c false ∷ [] else []) (in_if (is_named d routes b c) (used c true) h)))
+  pub put_named : (c : Command) → In c (all_commands d routes) → is_named d routes b c ≡ true → In (used_literal c true) (clause_of_bound d routes b)
+  put_named c m h = in_append_left (used_literal c true) used_part before_part (in_flat_map (used_literals d routes b) (all_commands d routes) c (used_literal c true) m
+      (in_append_left (used_literal c true) (if is_named d routes b c then used_literal c true ∷ [] else []) (if is_kept_out d routes b c then used_literal c false ∷ [] else []) (in_if (is_named d routes b c) (used_literal c true) h)))
 
-  pub put_out : (c : Command) → In c (all_commands d routes) → is_kept_out d routes b c ≡ true → In (used c false) (clause_of_bound d routes b)
-  put_out c m h = in_append_left (used c false) used_part before_part (in_flat_map (used_literals d routes b) (all_commands d routes) c (used c false) m
-      (in_append_right (used c false) (if is_named d routes b c then used c true ∷ [] else []) (if is_kept_out d routes b c then used c false ∷ [] else []) (in_if (is_kept_out d routes b c) (used c false) h)))
+  pub put_out : (c : Command) → In c (all_commands d routes) → is_kept_out d routes b c ≡ true → In (used_literal c false) (clause_of_bound d routes b)
+  put_out c m h = in_append_left (used_literal c false) used_part before_part (in_flat_map (used_literals d routes b) (all_commands d routes) c (used_literal c false) m
+      (in_append_right (used_literal c false) (if is_named d routes b c then used_literal c true ∷ [] else []) (if is_kept_out d routes b c then used_literal c false ∷ [] else []) (in_if (is_kept_out d routes b c) (used_literal c false) h)))
 
   pub put_before : (e c : Command) → In e (all_commands d routes) → In c (all_commands d routes) → is_before d routes b e c ≡ true → In (before e c true) (clause_of_bound d routes b)
   put_before e c i m h = in_append_right (before e c true) used_part before_part (in_flat_map before_of (all_commands d routes) e (before e c true) i (in_flat_map (before_literals d routes b e) (all_commands d routes) c (before e c true) m
@@ -152,7 +152,7 @@ module _ (d : Station) (routes : List Route) (b : Bound) where
   of_cone : (l : Literal) → In l (clause_of_cone d routes (cone_of b)) → In l clause
   of_cone l i = go (in_append l (flat_map (words.used_literals d routes (cone_of b)) (all_commands d routes)) (flat_map (λ e. flat_map (words.before_literals d routes (cone_of b) e) (all_commands d routes)) (all_commands d routes)) i)
     where
-      one_used : (c : Command) → In c (all_commands d routes) → ((cone.is_named (cone_of b) c ≡ true) × (used c true ≡ l)) ⊎ ((cone.is_named (cone_of b) c ≡ false) × ((is_closed d routes (cone_of b) c.train && further c) ≡ true) × (used c false ≡ l)) → In l clause
+      one_used : (c : Command) → In c (all_commands d routes) → ((cone.is_named (cone_of b) c ≡ true) × (used_literal c true ≡ l)) ⊎ ((cone.is_named (cone_of b) c ≡ false) × ((is_closed d routes (cone_of b) c.train && further c) ≡ true) × (used_literal c false ≡ l)) → In l clause
       one_used c m (inl (h, e)) = subst (λ l. In l clause) e (put_named c m (or_right (list_any (stands_in named_at c) b.legs) _ h))
       one_used c m (inr (h, k, e)) = subst (λ l. In l clause) e (put_out c m (or_right (list_any (stands_in kept_out c) b.legs) _
           (and_both _ _ (and_both _ _ (ap not h) (and_left (is_closed d routes (cone_of b) c.train) _ k)) (and_right (is_closed d routes (cone_of b) c.train) _ k))))
@@ -163,7 +163,7 @@ module _ (d : Station) (routes : List Route) (b : Bound) where
           (and_both _ _ (and_both _ _ (ap not h) (and_left (is_free (cone_of b) c) _ k)) (and_right (is_free (cone_of b) c) _ k))))
 
       go : In l (flat_map (words.used_literals d routes (cone_of b)) (all_commands d routes)) ⊎ In l (flat_map (λ e. flat_map (words.before_literals d routes (cone_of b) e) (all_commands d routes)) (all_commands d routes)) → In l clause
-      go (inl j) = let c = in_flat_map_back (words.used_literals d routes (cone_of b)) (all_commands d routes) l j in one_used c.0 c.1 (either_if (cone.is_named (cone_of b) c.0) (is_closed d routes (cone_of b) c.0.train && further c.0) l (used c.0 true) (used c.0 false) c.2)
+      go (inl j) = let c = in_flat_map_back (words.used_literals d routes (cone_of b)) (all_commands d routes) l j in one_used c.0 c.1 (either_if (cone.is_named (cone_of b) c.0) (is_closed d routes (cone_of b) c.0.train && further c.0) l (used_literal c.0 true) (used_literal c.0 false) c.2)
       go (inr j) =
           let e = in_flat_map_back (λ e. flat_map (words.before_literals d routes (cone_of b) e) (all_commands d routes)) (all_commands d routes) l j in
           let c = in_flat_map_back (words.before_literals d routes (cone_of b) e.0) (all_commands d routes) l e.2 in
@@ -233,7 +233,7 @@ module _ (d : Station) (routes : List Route) (b : Bound) where
         go origin.Start eo v ev i = absurd i
         go (origin.Cone k c) eo v ev i = absurd i
 
-    pub said_in : (l : Literal) → In l (said d routes b) → In l clause
+    pub said_in : (l : Literal) → In l (said_literals d routes b) → In l clause
     said_in l i = go (in_append l (clause_of_cone d routes (cone_of b) ++ said_of_legs b ++ said_of_meetings b.legs) (said_of_origin d routes b) i)
       where
         two : In l (clause_of_cone d routes (cone_of b)) ⊎ In l (said_of_legs b) → In l clause
@@ -251,7 +251,7 @@ module _ (d : Station) (routes : List Route) (b : Bound) where
   -- ---- and each literal of the clause is said
 
   abbrev of_said : Literal → Type 0
-  of_said l = In l (said d routes b)
+  of_said l = In l (said_literals d routes b)
 
   said_by_cone : (l : Literal) → In l (clause_of_cone d routes (cone_of b)) → of_said l
   said_by_cone l i = in_append_left l (clause_of_cone d routes (cone_of b) ++ said_of_legs b ++ said_of_meetings b.legs) (said_of_origin d routes b) (in_append_left l (clause_of_cone d routes (cone_of b) ++ said_of_legs b) (said_of_meetings b.legs) (in_append_left l (clause_of_cone d routes (cone_of b)) (said_of_legs b) i))
@@ -281,40 +281,40 @@ module _ (d : Station) (routes : List Route) (b : Bound) where
   by_cone_before e c l n m i = said_by_cone l (in_append_right l cone_used cone_before (in_flat_map cone_before_of (all_commands d routes) e l n (in_flat_map (words.before_literals d routes (cone_of b) e) (all_commands d routes) c l m i)))
 
   -- what a leg says of a command that stands in it
-  by_leg : (at : Place → List RouteNo) (negated : Bool) (c : Command) → ((t : TrainNo) (p : Place) → In c.route (at p) → In (used (record { train = t; route = c.route }) negated) (said_of_place t p)) → list_any (stands_in at c) b.legs ≡ true → of_said (used c negated)
+  by_leg : (at : Place → List RouteNo) (negated : Bool) (c : Command) → ((t : TrainNo) (p : Place) → In c.route (at p) → In (used_literal (record { train = t; route = c.route }) negated) (said_of_place t p)) → list_any (stands_in at c) b.legs ≡ true → of_said (used_literal c negated)
   by_leg at negated c place h =
       let g = list_any_gives (stands_in at c) b.legs h in
       let t = same_train g.0.train c.train (and_left (is_train g.0.train c.train) _ g.2) in
       let p = list_any_gives (λ p. has_route (at p) c.route) g.0.places (and_right (is_train g.0.train c.train) _ g.2) in
       let here = place g.0.train p.0 (has_route_in (at p.0) c.route p.2) in
-      let there : In (used (record { train = g.0.train; route = c.route }) negated) (said_of_legs b) =
+      let there : In (used_literal (record { train = g.0.train; route = c.route }) negated) (said_of_legs b) =
       in_flat_map said_of_leg b.legs g.0 _ g.1 (in_flat_map (said_of_place g.0.train) g.0.places p.0 _ p.1 here) in
-      said_by_legs (used c negated) (subst (λ (t : TrainNo). In (used (record { train = t; route = c.route }) negated) (said_of_legs b)) t there)
+      said_by_legs (used_literal c negated) (subst (λ (t : TrainNo). In (used_literal (record { train = t; route = c.route }) negated) (said_of_legs b)) t there)
 
-  said_named : (c : Command) → In c (all_commands d routes) → is_named d routes b c ≡ true → of_said (used c true)
+  said_named : (c : Command) → In c (all_commands d routes) → is_named d routes b c ≡ true → of_said (used_literal c true)
   said_named c m h = go (either (list_any (stands_in named_at c) b.legs) (cone.is_named (cone_of b) c) h)
     where
-      at_place : (t : TrainNo) (p : Place) → In c.route (named_at p) → In (used (record { train = t; route = c.route }) true) (said_of_place t p)
+      at_place : (t : TrainNo) (p : Place) → In c.route (named_at p) → In (used_literal (record { train = t; route = c.route }) true) (said_of_place t p)
       at_place t (place.Named r) (inl e) = inl (ap (λ (r : RouteNo). not_used_by t r) e)
       at_place t (place.Named r) (inr e) = absurd e
       at_place t (place.Among rs without) e = absurd e
 
-      go : (list_any (stands_in named_at c) b.legs ≡ true) ⊎ (cone.is_named (cone_of b) c ≡ true) → of_said (used c true)
+      go : (list_any (stands_in named_at c) b.legs ≡ true) ⊎ (cone.is_named (cone_of b) c ≡ true) → of_said (used_literal c true)
       go (inl k) = by_leg named_at true c at_place k
-      go (inr k) = by_cone_used c (used c true) m (if_first (cone.is_named (cone_of b) c) (is_closed d routes (cone_of b) c.train && further c) (used c true) (used c false) k)
+      go (inr k) = by_cone_used c (used_literal c true) m (if_first (cone.is_named (cone_of b) c) (is_closed d routes (cone_of b) c.train && further c) (used_literal c true) (used_literal c false) k)
 
-  said_out : (c : Command) → In c (all_commands d routes) → is_kept_out d routes b c ≡ true → of_said (used c false)
+  said_out : (c : Command) → In c (all_commands d routes) → is_kept_out d routes b c ≡ true → of_said (used_literal c false)
   said_out c m h = go (either (list_any (stands_in kept_out c) b.legs) (is_past_cone d routes b c) h)
     where
-      at_place : (t : TrainNo) (p : Place) → In c.route (kept_out p) → In (used (record { train = t; route = c.route }) false) (said_of_place t p)
+      at_place : (t : TrainNo) (p : Place) → In c.route (kept_out p) → In (used_literal (record { train = t; route = c.route }) false) (said_of_place t p)
       at_place t (place.Named r) e = absurd e
       at_place t (place.Among rs without) e = in_map (used_by t) without c.route e
 
-      go : (list_any (stands_in kept_out c) b.legs ≡ true) ⊎ (is_past_cone d routes b c ≡ true) → of_said (used c false)
+      go : (list_any (stands_in kept_out c) b.legs ≡ true) ⊎ (is_past_cone d routes b c ≡ true) → of_said (used_literal c false)
       go (inl k) = by_leg kept_out false c at_place k
       go (inr k) =
           let closed = and_left (not (cone.is_named (cone_of b) c) && is_closed d routes (cone_of b) c.train) (further c) k in
-          by_cone_used c (used c false) m (if_second (cone.is_named (cone_of b) c) (is_closed d routes (cone_of b) c.train && further c) (used c true) (used c false)
+          by_cone_used c (used_literal c false) m (if_second (cone.is_named (cone_of b) c) (is_closed d routes (cone_of b) c.train && further c) (used_literal c true) (used_literal c false)
           (is_false (cone.is_named (cone_of b) c) (and_left (not (cone.is_named (cone_of b) c)) _ closed))
           (and_both _ _ (and_right (not (cone.is_named (cone_of b) c)) _ closed) (and_right (not (cone.is_named (cone_of b) c) && is_closed d routes (cone_of b) c.train) (further c) k)))
 
@@ -360,19 +360,19 @@ module _ (d : Station) (routes : List Route) (b : Bound) where
           (is_false (is_listed (cone_of b) e c) (and_left (not (is_listed (cone_of b) e c)) _ free))
           (and_both _ _ (and_right (not (is_listed (cone_of b) e c)) _ free) (and_right (not (is_listed (cone_of b) e c) && is_free (cone_of b) c) (contend routes e c) k)))
 
-  pub in_said : (l : Literal) → In l clause → In l (said d routes b)
+  pub in_said : (l : Literal) → In l clause → In l (said_literals d routes b)
   in_said l i = go (in_append l used_part before_part i)
     where
-      of_used : (c : Command) → In c (all_commands d routes) → In l (if is_named d routes b c then used c true ∷ [] else []) ⊎ In l (if is_kept_out d routes b c then used c false ∷ [] else []) → of_said l
-      of_used c m (inl j) = let o = one_if (is_named d routes b c) l (used c true) j in subst of_said o.1 (said_named c m o.0)
-      of_used c m (inr j) = let o = one_if (is_kept_out d routes b c) l (used c false) j in subst of_said o.1 (said_out c m o.0)
+      of_used : (c : Command) → In c (all_commands d routes) → In l (if is_named d routes b c then used_literal c true ∷ [] else []) ⊎ In l (if is_kept_out d routes b c then used_literal c false ∷ [] else []) → of_said l
+      of_used c m (inl j) = let o = one_if (is_named d routes b c) l (used_literal c true) j in subst of_said o.1 (said_named c m o.0)
+      of_used c m (inr j) = let o = one_if (is_kept_out d routes b c) l (used_literal c false) j in subst of_said o.1 (said_out c m o.0)
 
       of_before : (e c : Command) → In e (all_commands d routes) → In c (all_commands d routes) → In l (if is_before d routes b e c then before e c true ∷ [] else []) ⊎ In l (if is_kept_behind d routes b e c then before e c false ∷ [] else []) → of_said l
       of_before e c n m (inl j) = let o = one_if (is_before d routes b e c) l (before e c true) j in subst of_said o.1 (said_earlier e c n m o.0)
       of_before e c n m (inr j) = let o = one_if (is_kept_behind d routes b e c) l (before e c false) j in subst of_said o.1 (said_behind e c n m o.0)
 
       go : In l used_part ⊎ In l before_part → of_said l
-      go (inl j) = let c = in_flat_map_back (used_literals d routes b) (all_commands d routes) l j in of_used c.0 c.1 (in_append l (if is_named d routes b c.0 then used c.0 true ∷ [] else []) (if is_kept_out d routes b c.0 then used c.0 false ∷ [] else []) c.2)
+      go (inl j) = let c = in_flat_map_back (used_literals d routes b) (all_commands d routes) l j in of_used c.0 c.1 (in_append l (if is_named d routes b c.0 then used_literal c.0 true ∷ [] else []) (if is_kept_out d routes b c.0 then used_literal c.0 false ∷ [] else []) c.2)
       go (inr j) =
           let e = in_flat_map_back before_of (all_commands d routes) l j in
           let c = in_flat_map_back (before_literals d routes b e.0) (all_commands d routes) l e.2 in

@@ -14,7 +14,7 @@ use Rattle.rail_bound.specs.declared.Bound.{Bound}
 use Rattle.rail_bound.specs.Clauses.{is_named, is_kept_out, is_before, is_kept_behind, clause_of_bound}
 use Rattle.rail_bound.specs.Validity.{names_design, is_consistent}
 use Rattle.bound_clause.specs.Numbered.{numbered_bound, clause_if_consistent}
-use Rattle.bound_clause.specs.Said.{said}
+use Rattle.bound_clause.specs.Said.{said_literals}
 use Rattle.bound_clause.specs.Order.{BothSigns, IsPutInOrder}
 use Rattle.bound_clause.proofs.Holding.{clause_rises}
 use Rattle.bound_clause.proofs.Ordering.{is_less, each_two, one_of_variable, same_members}
@@ -24,13 +24,13 @@ module _ (d : Station) (routes : List Route) (n : ℕ) (some : 1 ≤ n) (b : Bou
   abbrev number : Literal → Lit
   number = lit_of d routes n
 
-  numbered_in : (x : Lit) → In x (map number (said d routes b)) → In x (numbered_bound d routes n b)
-  numbered_in x i = let k = in_map_back number (said d routes b) x i in subst (λ y. In y (numbered_bound d routes n b)) k.2 (in_map number (clause_of_bound d routes b) k.0 (said_in d routes b names k.0 k.1))
+  numbered_in : (x : Lit) → In x (map number (said_literals d routes b)) → In x (numbered_bound d routes n b)
+  numbered_in x i = let k = in_map_back number (said_literals d routes b) x i in subst (λ y. In y (numbered_bound d routes n b)) k.2 (in_map number (clause_of_bound d routes b) k.0 (said_in d routes b names k.0 k.1))
 
-  in_numbered : (x : Lit) → In x (numbered_bound d routes n b) → In x (map number (said d routes b))
-  in_numbered x i = let k = in_map_back number (clause_of_bound d routes b) x i in subst (λ y. In y (map number (said d routes b))) k.2 (in_map number (said d routes b) k.0 (in_said d routes b k.0 k.1))
+  in_numbered : (x : Lit) → In x (numbered_bound d routes n b) → In x (map number (said_literals d routes b))
+  in_numbered x i = let k = in_map_back number (clause_of_bound d routes b) x i in subst (λ y. In y (map number (said_literals d routes b))) k.2 (in_map number (said_literals d routes b) k.0 (in_said d routes b k.0 k.1))
 
-  module _ (old new : List Lit) (is : old ≡ map number (said d routes b)) (placed : IsPutInOrder old new) where
+  module _ (old new : List Lit) (is : old ≡ map number (said_literals d routes b)) (placed : IsPutInOrder old new) where
     to : (x : Lit) → In x new → In x (numbered_bound d routes n b)
     to x i = numbered_in x (subst (In x) is (placed.no_more x i))
 

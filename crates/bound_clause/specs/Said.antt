@@ -97,5 +97,5 @@ module _ (d : Station) (routes : List Route) where
   said_of_origin b = said_at b.origin (visit_from d b.requirement)
 
   -- all that is said
-  abbrev pub said : Bound → List Literal
-  said b = clause_of_cone d routes (cone_of b) ++ said_of_legs b ++ said_of_meetings b.legs ++ said_of_origin b
+  abbrev pub said_literals : Bound → List Literal
+  said_literals b = clause_of_cone d routes (cone_of b) ++ said_of_legs b ++ said_of_meetings b.legs ++ said_of_origin b

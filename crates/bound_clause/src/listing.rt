@@ -1,17 +1,17 @@
-//! How the clause of a certificate is listed.
+//! How the clause of a certificate is made.
 
 ghost use Rattle.std.specs.Prelude.{◌≡◌, IfOk, option_map, true};
 ghost use Rattle.rail_bound.specs.Certificates.{cone_of};
 ghost use Rattle.rail_bound.specs.Validity.{names_design};
 ghost use Rattle.rail_cone.specs.Clauses.{clause_of_cone};
 ghost use Rattle.bound_clause.specs.Numbered.{clause_if_consistent};
-ghost use Rattle.bound_clause.specs.Said.{said};
+ghost use Rattle.bound_clause.specs.Said.{said_literals};
 ghost use Rattle.bound_clause.specs.Spoken.{numbered, routes_in, station_of};
 
 use crate::numbered::NumberedBound;
 use crate::order::{put_in_order, rises};
 use cone_clause::clause_of as clause_of_cone;
-use cone_design::Contention;
+use cone_form::Contention;
 use interlocking::Steps;
 use rail_bound::{Bound, Origin};
 use sat_clause::Lit;
@@ -30,9 +30,9 @@ impl NumberedBound<'_> {
     }
 
     /// All that the certificate says, in some order; one literal may stand there twice.
-    fn said(&self, alloc: Global) -> Result<Vec<Lit>, AllocError>
+    fn said_literals(&self, alloc: Global) -> Result<Vec<Lit>, AllocError>
         ensures { IfOk result (λ c. c.items
-            ≡ numbered self.now (said (station_of self.now) (routes_in self.now) self.now.bound.now)) }
+            ≡ numbered self.now (said_literals (station_of self.now) (routes_in self.now) self.now.bound.now)) }
     {
         let mut clause = self.of_cone(alloc)?;
         self.push_legs(&mut clause)?;
@@ -65,7 +65,7 @@ pub fn clause_of(
         steps,
         bound,
     };
-    let mut clause = bound.said(alloc)?;
+    let mut clause = bound.said_literals(alloc)?;
     put_in_order(&mut clause);
     if rises(&clause) {
         Ok(Some(clause))

@@ -3,7 +3,7 @@
 ghost use Rattle.std.specs.Prelude.{◌≡◌, true};
 ghost use Rattle.rail_bound.specs.Validity.{names_design};
 
-use cone_design::Contention;
+use cone_form::Contention;
 use interlocking::Steps;
 use rail_bound::Bound;
 

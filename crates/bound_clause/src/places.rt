@@ -30,7 +30,7 @@ impl NumberedBound<'_> {
     {
         for number in routes {
             let route = *number;
-            clause.push(self.used(Command { train, route }, false))?;
+            clause.push(self.used_literal(Command { train, route }, false))?;
         }
         Ok(())
     }
@@ -50,7 +50,7 @@ impl NumberedBound<'_> {
         match place {
             Place::Named { route } => {
                 let route = *route;
-                clause.push(self.used(Command { train, route }, true))?;
+                clause.push(self.used_literal(Command { train, route }, true))?;
                 Ok(())
             }
             Place::Among { without, .. } => self.push_used(clause, train, without.as_slice()),

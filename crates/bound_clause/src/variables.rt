@@ -14,7 +14,7 @@ use sat_clause::Lit;
 
 impl NumberedBound<'_> {
     /// Whether a command is used: the literal that says so, or that it is not.
-    pub(crate) fn used(&self, command: Command, negated: bool) -> Lit
+    pub(crate) fn used_literal(&self, command: Command, negated: bool) -> Lit
         requires train { IsTrain (station_of self.now) command.train }
         requires route { IsRoute (routes_in self.now) command.route }
         ensures { result ≡ lit_of (station_of self.now) (routes_in self.now) self.now.steps.count

@@ -76,9 +76,9 @@ module _ (d : Station) (routes : List Route) (b : Bound) where
   has h =
       let a = requirement_in_design d routes b.requirement in
       let s = not (is_empty b.legs) in
-      let front = and_left (a && s && list_all (leg_in_design d routes) b.legs) _ (and_left _ _ (and_left _ _ (and_left _ _ (and_left _ _ h)))) in
+      let prefix = and_left (a && s && list_all (leg_in_design d routes) b.legs) _ (and_left _ _ (and_left _ _ (and_left _ _ (and_left _ _ h)))) in
       record {
-        requirement = and_left a s (and_left (a && s) (list_all (leg_in_design d routes) b.legs) front);
-        some = and_right a s (and_left (a && s) (list_all (leg_in_design d routes) b.legs) front);
-        legs = and_right (a && s) (list_all (leg_in_design d routes) b.legs) front;
+        requirement = and_left a s (and_left (a && s) (list_all (leg_in_design d routes) b.legs) prefix);
+        some = and_right a s (and_left (a && s) (list_all (leg_in_design d routes) b.legs) prefix);
+        legs = and_right (a && s) (list_all (leg_in_design d routes) b.legs) prefix;
       }

@@ -10,7 +10,7 @@ use Rattle.rail_bound.specs.declared.Place.{Place}
 use Rattle.rail_bound.specs.declared.Leg.{Leg}
 use Rattle.rail_bound.specs.Certificates.{routes_of_place}
 use Rattle.rail_bound.specs.Validity.{choices, places_of, are_few_choices}
-use Rattle.cone_design.proofs.Walks.{drop_next, drop_end}
+use Rattle.cone_form.proofs.Walks.{drop_next, drop_end}
 use Rattle.bound_design.specs.Named.{few_choices_before}
 
 -- ---- places

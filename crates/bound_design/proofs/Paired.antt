@@ -13,8 +13,8 @@ use Rattle.rail_base.proofs.Members.{In, and_left, and_right, and_both, list_all
 use Rattle.rail_spec.specs.Plans.{all_commands}
 use Rattle.plan_clauses.specs.Variables.{pairs}
 use Rattle.rail_cone.proofs.Saying.{in_all}
-use Rattle.cone_design.proofs.Contending.{contending_is}
-use Rattle.cone_design.proofs.Ranges.{all_routes, from_bounds}
+use Rattle.cone_form.proofs.Contending.{contending_is}
+use Rattle.cone_form.proofs.Ranges.{all_routes, from_bounds}
 use Rattle.rail_bound.specs.declared.Place.{Place}
 use Rattle.rail_bound.specs.declared.Place.TheVariants as place
 use Rattle.rail_bound.specs.declared.Leg.{Leg}
@@ -56,10 +56,10 @@ module _ (d : Station) (routes : List Route) where
   pub is_leg : (l : Leg) → leg_in_design d routes l ≡ true → IsLeg l
   is_leg l h =
       let t = is_from 1 (length d.trains) l.train.0 in
-      let front = and_left (t && not (is_empty l.places)) (list_all (place_in_design d routes) l.places) h in
+      let prefix = and_left (t && not (is_empty l.places)) (list_all (place_in_design d routes) l.places) h in
       record {
-        train = from_bounds 1 (length d.trains) l.train.0 (and_left t (not (is_empty l.places)) front);
-        some = and_right t (not (is_empty l.places)) front;
+        train = from_bounds 1 (length d.trains) l.train.0 (and_left t (not (is_empty l.places)) prefix);
+        some = and_right t (not (is_empty l.places)) prefix;
         places = and_right (t && not (is_empty l.places)) (list_all (place_in_design d routes) l.places) h;
       }
 

@@ -21,7 +21,7 @@ IsNodeSet set nodes = (n : NodeNo) → contains set n.0 ≡ has_node nodes n
 abbrev pub leads_into : NumberSet → Finish → Bool
 leads_into set (finish.Signal s) = contains set s.0
 leads_into set (finish.Exit n) = false
-leads_into set (finish.Dead n) = false
+leads_into set (finish.DeadEnd n) = false
 
 module _ (routes : List Route) where
   -- these are the routes of the numbers: all of the ones pass a test where all of the others do

@@ -6,7 +6,7 @@ ghost use Rattle.rail_base.specs.Members.{all_neighbors};
 ghost use Rattle.bound_design.specs.Meeting.{is_paired_with, are_paired_where_they_meet};
 ghost use Rattle.bound_design.specs.Named.{contend_where_they_meet_in, leg_fits};
 
-use cone_design::{Contention, SortedPairs};
+use cone_form::{Contention, SortedPairs};
 use rail_base::plan::Command;
 use rail_base::route::RouteNo;
 use rail_base::station::TrainNo;

@@ -5,7 +5,7 @@ ghost use Rattle.bound_design.specs.Named.{origin_fits, visit_said};
 ghost use Rattle.bound_design.specs.Named.{first_visit, requirement_fits};
 
 use crate::requirement::first_visit;
-use cone_design::{Contention, is_in_design};
+use cone_form::{Contention, is_in_design};
 use rail_base::station::TrainNo;
 use rail_bound::{Bound, Origin, first_train};
 use std::alloc::{AllocError, Global};

@@ -52,8 +52,8 @@ pub(crate) fn requirement_in_design(interlocking: &Interlocking, requirement: Re
 
 /// The within of a number.
 pub(crate) fn within_of(station: &Station, within: u32) -> &Within
-    requires first { 1 ≤ within }
-    requires last { within ≤ length station.now.withins }
+    requires at_least_one { 1 ≤ within }
+    requires within { within ≤ length station.now.withins }
     ensures { result.now ≡ within_of station.now within }
 {
     &station.withins.as_slice()[within as usize - 1]
@@ -61,8 +61,8 @@ pub(crate) fn within_of(station: &Station, within: u32) -> &Within
 
 /// The order of a number.
 pub(crate) fn order_of(station: &Station, order: u32) -> &Order
-    requires first { 1 ≤ order }
-    requires last { order ≤ length station.now.orders }
+    requires at_least_one { 1 ≤ order }
+    requires within { order ≤ length station.now.orders }
     ensures { result.now ≡ order_of station.now order }
 {
     &station.orders.as_slice()[order as usize - 1]

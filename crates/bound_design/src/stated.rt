@@ -11,7 +11,7 @@ use crate::meeting::legs_meet;
 use crate::origin::origin_in_design;
 use crate::requirement;
 use crate::requirement::requirement_in_design;
-use cone_design::Contention;
+use cone_form::Contention;
 use interlocking::Interlocking;
 use rail_bound::{Bound, last_train};
 use std::alloc::{AllocError, Global};

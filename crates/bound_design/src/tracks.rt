@@ -9,7 +9,7 @@ ghost use Rattle.rail_base.specs.Routes.{IsRoute};
 ghost use Rattle.rail_spec.specs.Plans.{goes_on};
 ghost use Rattle.bound_design.specs.Covering.{AreOf, AreOpen, AreUnmarked, IsStartSet, leads_into};
 
-use cone_design::{has_mark, marks_of};
+use cone_form::{has_mark, marks_of};
 use interlocking::Interlocking;
 use number_sets::NumberSet;
 use rail_base::route::{Finish, Route, RouteNo, RouteTable, Start, route_at};
@@ -54,7 +54,7 @@ fn is_marked(own: &[bool], kept: &[bool], route: RouteNo) -> bool
 }
 
 /// The routes without a mark.
-fn unmarked<'a>(
+fn unmarked_routes<'a>(
     alloc: Global,
     interlocking: &'a Interlocking,
     own: &[bool],
@@ -87,7 +87,7 @@ pub(crate) fn open_routes<'a>(
 {
     let own = marks_of(alloc, &interlocking.routes, own)?;
     let kept = marks_of(alloc, &interlocking.routes, kept)?;
-    let open = unmarked(alloc, interlocking, own.as_slice(), kept.as_slice())?;
+    let open = unmarked_routes(alloc, interlocking, own.as_slice(), kept.as_slice())?;
     Ok(open)
 }
 
@@ -123,6 +123,6 @@ pub(crate) fn leads_into(set: &NumberSet, finish: Finish) -> bool
 {
     match finish {
         Finish::Signal(signal) => set.contains(signal.0),
-        Finish::Exit(_) | Finish::Dead(_) => false,
+        Finish::Exit(_) | Finish::DeadEnd(_) => false,
     }
 }

@@ -26,6 +26,142 @@ struct End {
     worth: u64,
 }
 
+impl Search<'_> {
+    /// The legs of the chain of fewest links that is long enough for a goal to fail, and of these the longest.
+    pub(crate) fn chain(
+        &mut self,
+        goal: &Goal,
+        links: &[Link],
+    ) -> Result<Option<Vec<Span>>, AllocError> {
+        let Some(mut layer) = self.first_layer(goal)? else {
+            return Ok(None);
+        };
+        let ends = self.ends(goal, None)?;
+        let mut best = vec![in self.alloc; 0; layer.len()]?;
+        let mut layers = Vec::new(self.alloc);
+        for _links in 0..MOST_PLACES {
+            let next = match (layers.is_empty(), goal.from_place()) {
+                (true, Some(visit)) => {
+                    let own = self.ends_from(goal, visit)?;
+                    if let Some(last) = best_end(goal, layer.as_slice(), own.as_slice()) {
+                        return self.chain_of(layers, layer, last);
+                    }
+                    let own = self.links_of_visit(links, visit)?;
+                    grow_arrivals(self.alloc, goal, layer.as_slice(), &own, &mut best)?
+                }
+                _ => {
+                    if let Some(last) = best_end(goal, layer.as_slice(), ends.as_slice()) {
+                        return self.chain_of(layers, layer, last);
+                    }
+                    grow_arrivals(self.alloc, goal, layer.as_slice(), links, &mut best)?
+                }
+            };
+            layers.push(layer)?;
+            match next {
+                Some(next) => layer = next,
+                None => return Ok(None),
+            }
+        }
+        Ok(None)
+    }
+
+    /// The command with which the first leg of a goal begins, where it begins with a visit.
+    fn first_of_goal(&self, visit: Visit) -> Option<usize> {
+        let (first, end) = self.paths.span(visit.train);
+        if visit.number <= 1 {
+            return if first < end { Some(first) } else { None };
+        }
+        let routes = self.tables.visit(visit.train, visit.number);
+        if visit.number > 2 && !is_made_at_end(self.interlocking, visit, routes) {
+            return None;
+        }
+        for index in first..end {
+            let route = *self.paths.routes.get(index)?;
+            if routes.iter().any(|other| *other == route) {
+                return Some(index);
+            }
+        }
+        None
+    }
+
+    /// The chains without links, if there are any: that of the command with which the first leg begins, or all.
+    fn first_layer(&self, goal: &Goal) -> Result<Option<Vec<Option<Arrival>>>, AllocError> {
+        let start = Some(Arrival {
+            worth: 0,
+            link: None,
+        });
+        let count = self.paths.given.len();
+        let Some(visit) = goal.begins_with() else {
+            return Ok(Some(vec![in self.alloc; start; count]?));
+        };
+        let Some(first) = self.first_of_goal(visit) else {
+            return Ok(None);
+        };
+        let mut layer = vec![in self.alloc; None; count]?;
+        if let Some(place) = layer.get_mut(first) {
+            *place = start;
+        }
+        Ok(Some(layer))
+    }
+
+    /// The last legs of a goal, with ticks from the grant of their first command, or from a visit's place on their first route.
+    fn ends(&mut self, goal: &Goal, from: Option<Visit>) -> Result<Vec<End>, AllocError> {
+        let mut ends = Vec::new(self.alloc);
+        let Some(last) = self.last_of_goal(goal) else {
+            return Ok(ends);
+        };
+        let Some(to) = goal.to else {
+            let span = Span { first: last, last };
+            ends.push(End { span, worth: 0 })?;
+            return Ok(ends);
+        };
+        let (start, _) = self.paths.span(goal.train);
+        let paths = self.paths;
+        for first in start..last.saturating_add(1) {
+            let span = Span { first, last };
+            let ticks = self.ticks_to_visit(goal.train, paths.walk(span), from, to)?;
+            if let Some(ticks) = ticks {
+                let worth = worth(goal, span, ticks);
+                ends.push(End { span, worth })?;
+            }
+        }
+        Ok(ends)
+    }
+
+    /// The last legs that are the first too, with ticks from a visit's place.
+    fn ends_from(&mut self, goal: &Goal, visit: Visit) -> Result<Vec<End>, AllocError> {
+        if goal.train != visit.train {
+            return Ok(Vec::new(self.alloc));
+        }
+        self.ends(goal, Some(visit))
+    }
+
+    /// The links of the first leg where ticks are counted from a visit's place.
+    fn links_of_visit(&mut self, links: &[Link], visit: Visit) -> Result<Vec<Link>, AllocError> {
+        match self.first_of_goal(visit) {
+            Some(first) => self.links_from(links, first, visit),
+            None => Ok(Vec::new(self.alloc)),
+        }
+    }
+
+    /// The legs of a chain over layers, where they have few places.
+    fn chain_of(
+        &self,
+        layers: Vec<Vec<Option<Arrival>>>,
+        layer: Vec<Option<Arrival>>,
+        last: Span,
+    ) -> Result<Option<Vec<Span>>, AllocError> {
+        let mut layers = layers;
+        layers.push(layer)?;
+        let legs = legs(self.alloc, layers.as_slice(), last)?;
+        Ok(if are_few(legs.as_slice()) {
+            Some(legs)
+        } else {
+            None
+        })
+    }
+}
+
 /// How many commands these are.
 fn count(span: Span) -> usize {
     span.last.saturating_add(1).saturating_sub(span.first)
@@ -40,7 +176,7 @@ fn worth(goal: &Goal, span: Span, ticks: u64) -> u64 {
 }
 
 /// The arrivals one link further on, where they are worth more than any before.
-fn grown(
+fn grow_arrivals(
     alloc: Global,
     goal: &Goal,
     layer: &[Option<Arrival>],
@@ -139,140 +275,4 @@ fn is_made_at_end(interlocking: &Interlocking, visit: Visit, routes: &[RouteNo])
     routes
         .iter()
         .all(|number| is_made_at_end_of(interlocking, visit, *number))
-}
-
-impl Search<'_> {
-    /// The command with which the first leg of a goal begins, where it begins with a visit.
-    fn first_of_goal(&self, visit: Visit) -> Option<usize> {
-        let (first, end) = self.paths.span(visit.train);
-        if visit.number <= 1 {
-            return if first < end { Some(first) } else { None };
-        }
-        let routes = self.tables.visit(visit.train, visit.number);
-        if visit.number > 2 && !is_made_at_end(self.interlocking, visit, routes) {
-            return None;
-        }
-        for index in first..end {
-            let route = *self.paths.routes.get(index)?;
-            if routes.iter().any(|other| *other == route) {
-                return Some(index);
-            }
-        }
-        None
-    }
-
-    /// The chains without links, if there are any: that of the command with which the first leg begins, or all.
-    fn first_layer(&self, goal: &Goal) -> Result<Option<Vec<Option<Arrival>>>, AllocError> {
-        let start = Some(Arrival {
-            worth: 0,
-            link: None,
-        });
-        let count = self.paths.given.len();
-        let Some(visit) = goal.begins_with() else {
-            return Ok(Some(vec![in self.alloc; start; count]?));
-        };
-        let Some(first) = self.first_of_goal(visit) else {
-            return Ok(None);
-        };
-        let mut layer = vec![in self.alloc; None; count]?;
-        if let Some(place) = layer.get_mut(first) {
-            *place = start;
-        }
-        Ok(Some(layer))
-    }
-
-    /// The last legs of a goal, with ticks from the grant of their first command, or from a visit's place on their first route.
-    fn ends(&mut self, goal: &Goal, from: Option<Visit>) -> Result<Vec<End>, AllocError> {
-        let mut ends = Vec::new(self.alloc);
-        let Some(last) = self.last_of_goal(goal) else {
-            return Ok(ends);
-        };
-        let Some(to) = goal.to else {
-            let span = Span { first: last, last };
-            ends.push(End { span, worth: 0 })?;
-            return Ok(ends);
-        };
-        let (start, _) = self.paths.span(goal.train);
-        let paths = self.paths;
-        for first in start..last.saturating_add(1) {
-            let span = Span { first, last };
-            let ticks = self.ticks_to_visit(goal.train, paths.way(span), from, to)?;
-            if let Some(ticks) = ticks {
-                let worth = worth(goal, span, ticks);
-                ends.push(End { span, worth })?;
-            }
-        }
-        Ok(ends)
-    }
-
-    /// The legs of the chain of fewest links that is long enough for a goal to fail, and of these the longest.
-    pub(crate) fn chain(
-        &mut self,
-        goal: &Goal,
-        links: &[Link],
-    ) -> Result<Option<Vec<Span>>, AllocError> {
-        let Some(mut layer) = self.first_layer(goal)? else {
-            return Ok(None);
-        };
-        let ends = self.ends(goal, None)?;
-        let mut best = vec![in self.alloc; 0; layer.len()]?;
-        let mut layers = Vec::new(self.alloc);
-        for _links in 0..MOST_PLACES {
-            let next = match (layers.is_empty(), goal.from_place()) {
-                (true, Some(visit)) => {
-                    let own = self.ends_from(goal, visit)?;
-                    if let Some(last) = best_end(goal, layer.as_slice(), own.as_slice()) {
-                        return self.chain_of(layers, layer, last);
-                    }
-                    let own = self.links_of_visit(links, visit)?;
-                    grown(self.alloc, goal, layer.as_slice(), &own, &mut best)?
-                }
-                _ => {
-                    if let Some(last) = best_end(goal, layer.as_slice(), ends.as_slice()) {
-                        return self.chain_of(layers, layer, last);
-                    }
-                    grown(self.alloc, goal, layer.as_slice(), links, &mut best)?
-                }
-            };
-            layers.push(layer)?;
-            match next {
-                Some(next) => layer = next,
-                None => return Ok(None),
-            }
-        }
-        Ok(None)
-    }
-
-    /// The last legs that are the first too, with ticks from a visit's place.
-    fn ends_from(&mut self, goal: &Goal, visit: Visit) -> Result<Vec<End>, AllocError> {
-        if goal.train != visit.train {
-            return Ok(Vec::new(self.alloc));
-        }
-        self.ends(goal, Some(visit))
-    }
-
-    /// The links of the first leg where ticks are counted from a visit's place.
-    fn links_of_visit(&mut self, links: &[Link], visit: Visit) -> Result<Vec<Link>, AllocError> {
-        match self.first_of_goal(visit) {
-            Some(first) => self.links_from(links, first, visit),
-            None => Ok(Vec::new(self.alloc)),
-        }
-    }
-
-    /// The legs of a chain over layers, where they have few places.
-    fn chain_of(
-        &self,
-        layers: Vec<Vec<Option<Arrival>>>,
-        layer: Vec<Option<Arrival>>,
-        last: Span,
-    ) -> Result<Option<Vec<Span>>, AllocError> {
-        let mut layers = layers;
-        layers.push(layer)?;
-        let legs = legs(self.alloc, layers.as_slice(), last)?;
-        Ok(if are_few(legs.as_slice()) {
-            Some(legs)
-        } else {
-            None
-        })
-    }
 }

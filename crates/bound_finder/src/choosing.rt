@@ -4,7 +4,7 @@ use crate::goals::Goal;
 use crate::known::{contend, leads_to, route, starts_at_boundary, starts_like};
 use crate::links::Search;
 use crate::paths::Span;
-use cone_design::is_named;
+use cone_form::is_named;
 use leg_targets::Visit;
 use rail_base::plan::Command;
 use rail_base::route::{Finish, RouteNo, Start};
@@ -46,10 +46,10 @@ pub(crate) struct Meeting {
 pub(crate) struct Wide<'a, 'b> {
     pub form: Form<'a>,
     pub train: TrainNo,
-    pub way: &'b [RouteNo],
+    pub walk: &'b [RouteNo],
     /// The visit from whose place its ticks are counted.
     pub from: Option<Visit>,
-    /// The leg before it, with its train and way.
+    /// The leg before it, with its train and walk.
     pub before: Option<(TrainNo, &'b [RouteNo])>,
     /// What the leg before it counts from.
     pub before_from: Option<Visit>,
@@ -75,20 +75,10 @@ pub(crate) fn has_route(routes: &[RouteNo], route: RouteNo) -> bool {
     routes.iter().any(|other| *other == route)
 }
 
-impl Form<'_> {
-    /// Whether the cone from which ticks are counted names a train's command with a route.
-    fn names(&self, train: TrainNo, route: RouteNo) -> bool {
-        match self.origin {
-            Origin::Cone { cone, .. } => is_named(cone, Command { train, route }),
-            Origin::Visit | Origin::Start | Origin::FirstTick => false,
-        }
-    }
-}
-
 impl Wide<'_, '_> {
     /// Whether this is the leg's last place.
     pub(crate) fn is_last(&self, place: usize) -> bool {
-        self.way.len() <= place.saturating_add(1)
+        self.walk.len() <= place.saturating_add(1)
     }
 
     /// How many ticks are lost.
@@ -116,116 +106,12 @@ impl Search<'_> {
         is_only && before.iter().any(|before| form.names(train, *before))
     }
 
-    /// Whether a train uses a route after another command is given.
-    fn is_after(&self, command: Command, earlier: Command) -> bool {
-        match (self.paths.step(command), self.paths.step(earlier)) {
-            (Some(step), Some(other)) => other < step,
-            _ => true,
-        }
-    }
-
     /// Whether the plan gives a train a route.
     pub(crate) fn is_used(&self, train: TrainNo, route: RouteNo) -> bool {
         self.paths.step(Command { train, route }).is_some()
     }
 
-    /// Whether a route of a leg's first place may be the first of a path, or make the visit with which the leg begins.
-    fn may_begin(&self, wide: &Wide<'_, '_>, route: RouteNo) -> bool {
-        if wide.before.is_some() {
-            return true;
-        }
-        let Some(visit) = wide.form.goal.begins_with() else {
-            return true;
-        };
-        if visit.number <= 1 {
-            return starts_at_boundary(self.interlocking, route);
-        }
-        has_route(self.tables.visit(visit.train, visit.number), route)
-    }
-
-    /// Whether a route of a leg's first place contends with what the leg waits for, and is not used before that.
-    fn may_wait(&self, wide: &Wide<'_, '_>, route: RouteNo) -> bool {
-        let Some((train, way)) = wide.before else {
-            return true;
-        };
-        let Some(last) = way.last() else {
-            return false;
-        };
-        let earlier = Command {
-            train,
-            route: *last,
-        };
-        let own = Command {
-            train: wide.train,
-            route,
-        };
-        contend(self.interlocking, earlier, own) && self.is_after(own, earlier)
-    }
-
-    /// Whether a route of a leg's last place contends with all that wait for the leg, and none of them is used before it.
-    fn may_release(&self, wide: &Wide<'_, '_>, route: RouteNo) -> bool {
-        let Some(next) = wide.next else {
-            return true;
-        };
-        let own = Command {
-            train: wide.train,
-            route,
-        };
-        next.routes.iter().all(|other| {
-            let later = Command {
-                train: next.train,
-                route: *other,
-            };
-            contend(self.interlocking, own, later) && self.is_after(later, own)
-        })
-    }
-
-    /// Whether a route starts where the leg's own route does.
-    fn is_alike(&self, wide: &Wide<'_, '_>, place: usize, route: RouteNo) -> bool {
-        match wide.way.get(place) {
-            Some(own) => starts_like(self.interlocking, route, *own),
-            None => false,
-        }
-    }
-
-    /// Whether a route may be one of a place, apart from the ticks.
-    fn admits(&self, wide: &Wide<'_, '_>, place: usize, route: RouteNo) -> bool {
-        if place > 0 {
-            if starts_at_boundary(self.interlocking, route) {
-                return false;
-            }
-            if wide.form.breadth == Breadth::Alike && !self.is_alike(wide, place, route) {
-                return false;
-            }
-        } else if !self.may_begin(wide, route) || !self.may_wait(wide, route) {
-            return false;
-        }
-        !wide.is_last(place) || self.may_release(wide, route)
-    }
-
-    /// The least ticks of a leg on one way.
-    fn ticks_of_way(
-        &mut self,
-        wide: &Wide<'_, '_>,
-        way: &[RouteNo],
-    ) -> Result<Option<u64>, AllocError> {
-        let Some(next) = wide.next else {
-            return match wide.form.goal.to {
-                Some(to) => self.ticks_to_visit(wide.train, way, wide.from, to),
-                None => Ok(Some(0)),
-            };
-        };
-        let mut least = u64::MAX;
-        for route in &next.routes {
-            match self.ticks_to_release(wide.train, way, wide.from, *route)? {
-                Some(ticks) => least = least.min(ticks),
-                None => return Ok(None),
-            }
-        }
-        Ok(Some(least))
-    }
-
-    /// The least ticks of a leg with a route at a place, over its own routes before and these ways behind; none where on one of
+    /// The least ticks of a leg with a route at a place, over its own routes before and these walks behind; none where on one of
     /// them nothing is known.
     pub(crate) fn ticks_with(
         &mut self,
@@ -235,74 +121,29 @@ impl Search<'_> {
         later: &[Vec<RouteNo>],
     ) -> Result<Option<u64>, AllocError> {
         let mut least = u64::MAX;
-        let mut way = Vec::new(self.alloc);
-        for own in wide.way.iter().take(place) {
-            way.push(*own)?;
+        let mut walk = Vec::new(self.alloc);
+        for own in wide.walk.iter().take(place) {
+            walk.push(*own)?;
         }
-        if let Some(own) = way.as_slice().last() {
+        if let Some(own) = walk.as_slice().last() {
             if !leads_to(self.interlocking, *own, &[route]) {
                 return Ok(Some(least));
             }
         }
-        way.push(route)?;
-        let length = way.len();
+        walk.push(route)?;
+        let length = walk.len();
         for rest in later {
             if !leads_to(self.interlocking, route, rest.as_slice()) {
                 continue;
             }
-            way.truncate(length);
-            way.extend_from_slice(rest.as_slice())?;
-            match self.ticks_of_way(wide, way.as_slice())? {
+            walk.truncate(length);
+            walk.extend_from_slice(rest.as_slice())?;
+            match self.ticks_of_walk(wide, walk.as_slice())? {
                 Some(ticks) => least = least.min(ticks),
                 None => return Ok(None),
             }
         }
         Ok(Some(least))
-    }
-
-    /// The least ticks of the leg before one to where it has released what a route waits for.
-    fn ticks_before(
-        &mut self,
-        wide: &Wide<'_, '_>,
-        place: usize,
-        route: RouteNo,
-    ) -> Result<Option<u64>, AllocError> {
-        if place > 0 {
-            return Ok(Some(wide.ticks_before));
-        }
-        match wide.before {
-            Some((train, way)) => self.ticks_to_release(train, way, wide.before_from, route),
-            None => Ok(Some(wide.ticks_before)),
-        }
-    }
-
-    /// Adds a route to a choice where that leaves the legs long enough; whether it did.
-    fn try_route(
-        &mut self,
-        wide: &Wide<'_, '_>,
-        place: usize,
-        later: &[Vec<RouteNo>],
-        choice: &mut Choice,
-        route: RouteNo,
-    ) -> Result<bool, AllocError> {
-        if !self.admits(wide, place, route) {
-            return Ok(false);
-        }
-        let Some(ticks) = self.ticks_with(wide, place, route, later)? else {
-            return Ok(false);
-        };
-        let Some(before) = self.ticks_before(wide, place, route)? else {
-            return Ok(false);
-        };
-        let ticks = ticks.min(choice.ticks);
-        let before = before.min(choice.before);
-        if wide.loss(ticks, before) > wide.slack {
-            return Ok(false);
-        }
-        choice.routes.push(route)?;
-        choice.ticks = ticks;
-        choice.before = before;
-        Ok(true)
     }
 
     /// The routes of a list that a place may have, and the rest kept out; none where one that the plan uses may not be had.
@@ -341,5 +182,164 @@ impl Search<'_> {
         }
         choice.routes.sort()?;
         Ok(Some(choice))
+    }
+
+    /// Whether a train uses a route after another command is given.
+    fn is_after(&self, command: Command, earlier: Command) -> bool {
+        match (self.paths.step(command), self.paths.step(earlier)) {
+            (Some(step), Some(other)) => other < step,
+            _ => true,
+        }
+    }
+
+    /// Whether a route of a leg's first place may be the first of a path, or make the visit with which the leg begins.
+    fn may_begin(&self, wide: &Wide<'_, '_>, route: RouteNo) -> bool {
+        if wide.before.is_some() {
+            return true;
+        }
+        let Some(visit) = wide.form.goal.begins_with() else {
+            return true;
+        };
+        if visit.number <= 1 {
+            return starts_at_boundary(self.interlocking, route);
+        }
+        has_route(self.tables.visit(visit.train, visit.number), route)
+    }
+
+    /// Whether a route of a leg's first place contends with what the leg waits for, and is not used before that.
+    fn may_wait(&self, wide: &Wide<'_, '_>, route: RouteNo) -> bool {
+        let Some((train, walk)) = wide.before else {
+            return true;
+        };
+        let Some(last) = walk.last() else {
+            return false;
+        };
+        let earlier = Command {
+            train,
+            route: *last,
+        };
+        let own = Command {
+            train: wide.train,
+            route,
+        };
+        contend(self.interlocking, earlier, own) && self.is_after(own, earlier)
+    }
+
+    /// Whether a route of a leg's last place contends with all that wait for the leg, and none of them is used before it.
+    fn may_release(&self, wide: &Wide<'_, '_>, route: RouteNo) -> bool {
+        let Some(next) = wide.next else {
+            return true;
+        };
+        let own = Command {
+            train: wide.train,
+            route,
+        };
+        next.routes.iter().all(|other| {
+            let later = Command {
+                train: next.train,
+                route: *other,
+            };
+            contend(self.interlocking, own, later) && self.is_after(later, own)
+        })
+    }
+
+    /// Whether a route starts where the leg's own route does.
+    fn is_alike(&self, wide: &Wide<'_, '_>, place: usize, route: RouteNo) -> bool {
+        match wide.walk.get(place) {
+            Some(own) => starts_like(self.interlocking, route, *own),
+            None => false,
+        }
+    }
+
+    /// Whether a route may be one of a place, apart from the ticks.
+    fn admits(&self, wide: &Wide<'_, '_>, place: usize, route: RouteNo) -> bool {
+        if place > 0 {
+            if starts_at_boundary(self.interlocking, route) {
+                return false;
+            }
+            if wide.form.breadth == Breadth::Alike && !self.is_alike(wide, place, route) {
+                return false;
+            }
+        } else if !self.may_begin(wide, route) || !self.may_wait(wide, route) {
+            return false;
+        }
+        !wide.is_last(place) || self.may_release(wide, route)
+    }
+
+    /// The least ticks of a leg on one walk.
+    fn ticks_of_walk(
+        &mut self,
+        wide: &Wide<'_, '_>,
+        walk: &[RouteNo],
+    ) -> Result<Option<u64>, AllocError> {
+        let Some(next) = wide.next else {
+            return match wide.form.goal.to {
+                Some(to) => self.ticks_to_visit(wide.train, walk, wide.from, to),
+                None => Ok(Some(0)),
+            };
+        };
+        let mut least = u64::MAX;
+        for route in &next.routes {
+            match self.ticks_to_release(wide.train, walk, wide.from, *route)? {
+                Some(ticks) => least = least.min(ticks),
+                None => return Ok(None),
+            }
+        }
+        Ok(Some(least))
+    }
+
+    /// The least ticks of the leg before one to where it has released what a route waits for.
+    fn ticks_before(
+        &mut self,
+        wide: &Wide<'_, '_>,
+        place: usize,
+        route: RouteNo,
+    ) -> Result<Option<u64>, AllocError> {
+        if place > 0 {
+            return Ok(Some(wide.ticks_before));
+        }
+        match wide.before {
+            Some((train, walk)) => self.ticks_to_release(train, walk, wide.before_from, route),
+            None => Ok(Some(wide.ticks_before)),
+        }
+    }
+
+    /// Adds a route to a choice where that leaves the legs long enough; whether it did.
+    fn try_route(
+        &mut self,
+        wide: &Wide<'_, '_>,
+        place: usize,
+        later: &[Vec<RouteNo>],
+        choice: &mut Choice,
+        route: RouteNo,
+    ) -> Result<bool, AllocError> {
+        if !self.admits(wide, place, route) {
+            return Ok(false);
+        }
+        let Some(ticks) = self.ticks_with(wide, place, route, later)? else {
+            return Ok(false);
+        };
+        let Some(before) = self.ticks_before(wide, place, route)? else {
+            return Ok(false);
+        };
+        let ticks = ticks.min(choice.ticks);
+        let before = before.min(choice.before);
+        if wide.loss(ticks, before) > wide.slack {
+            return Ok(false);
+        }
+        choice.routes.push(route)?;
+        choice.ticks = ticks;
+        choice.before = before;
+        Ok(true)
+    }
+}
+
+impl Form<'_> {
+    /// Whether the cone from which ticks are counted names a train's command with a route.
+    fn names(&self, train: TrainNo, route: RouteNo) -> bool {
+        match self.origin {
+            Origin::Cone { cone, .. } => is_named(cone, Command { train, route }),
+            Origin::Visit | Origin::Start | Origin::FirstTick => false,
+        }
     }
 }

@@ -9,7 +9,7 @@ use crate::links::{Link, Search};
 use crate::paths::{Given, Paths, Span};
 use crate::tables::Tables;
 use crate::ticks::Ticks;
-use cone_design::Contention;
+use cone_form::Contention;
 use rail_base::history::History;
 use rail_base::list::List;
 use rail_base::plan::{Plan, Violation};
@@ -37,6 +37,49 @@ struct Candidate {
     legs: Vec<Span>,
     bound: Bound,
     size: usize,
+}
+
+impl Finder {
+    /// A finder that knows nothing yet.
+    pub fn new(alloc: Global) -> Finder {
+        Finder {
+            alloc,
+            tables: None,
+            ticks: Ticks::new(alloc),
+        }
+    }
+
+    /// Bounds that may exclude a plan that fails in this walk, the best first; each is still to be judged and tried against
+    /// the plan. `Err` where memory ran out; the finder may then be used on.
+    pub fn bounds(
+        &mut self,
+        contention: &Contention,
+        plan: &Plan,
+        history: &History,
+        violation: Violation,
+    ) -> Result<Vec<Bound>, AllocError> {
+        let interlocking = contention.interlocking;
+        if self.tables.is_none() {
+            self.tables = Some(Tables::of(self.alloc, interlocking)?);
+        }
+        let Some(tables) = &self.tables else {
+            return Ok(Vec::new(self.alloc));
+        };
+        let paths = Paths::of(self.alloc, interlocking, plan)?;
+        let goals = goals(self.alloc, interlocking, &paths, violation)?;
+        let mut search = Search {
+            alloc: self.alloc,
+            interlocking,
+            tables,
+            paths: &paths,
+            history,
+            ticks: &mut self.ticks,
+            waits: Vec::new(self.alloc),
+        };
+        search.waits = search.find_waits()?;
+        let found = search.candidates(goals.as_slice())?;
+        search.in_order(found)
+    }
 }
 
 impl Search<'_> {
@@ -218,47 +261,4 @@ fn least_of(found: &[Candidate]) -> Option<usize>
     }
     let (index, _) = least?;
     Some(index)
-}
-
-impl Finder {
-    /// A finder that knows nothing yet.
-    pub fn new(alloc: Global) -> Finder {
-        Finder {
-            alloc,
-            tables: None,
-            ticks: Ticks::new(alloc),
-        }
-    }
-
-    /// Bounds that may exclude a plan that fails in this way, the best first; each is still to be judged and tried against
-    /// the plan. `Err` where memory ran out; the finder may then be used on.
-    pub fn bounds(
-        &mut self,
-        contention: &Contention,
-        plan: &Plan,
-        history: &History,
-        violation: Violation,
-    ) -> Result<Vec<Bound>, AllocError> {
-        let interlocking = contention.interlocking;
-        if self.tables.is_none() {
-            self.tables = Some(Tables::of(self.alloc, interlocking)?);
-        }
-        let Some(tables) = &self.tables else {
-            return Ok(Vec::new(self.alloc));
-        };
-        let paths = Paths::of(self.alloc, interlocking, plan)?;
-        let goals = goals(self.alloc, interlocking, &paths, violation)?;
-        let mut search = Search {
-            alloc: self.alloc,
-            interlocking,
-            tables,
-            paths: &paths,
-            history,
-            ticks: &mut self.ticks,
-            waits: Vec::new(self.alloc),
-        };
-        search.waits = search.find_waits()?;
-        let found = search.candidates(goals.as_slice())?;
-        search.in_order(found)
-    }
 }

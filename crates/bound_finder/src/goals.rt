@@ -49,11 +49,6 @@ impl Goal {
         }
     }
 
-    /// Whether its requirement is an order.
-    fn is_order(&self) -> bool {
-        matches!(self.requirement, Requirement::Order { .. })
-    }
-
     /// Whether any chain shows it, however few ticks it takes.
     pub(crate) fn takes_any(&self) -> bool {
         self.is_order() && !matches!(self.beginning, Beginning::Cone { .. })
@@ -76,6 +71,36 @@ impl Goal {
             ..*self
         }
     }
+
+    /// Whether its requirement is an order.
+    fn is_order(&self) -> bool {
+        matches!(self.requirement, Requirement::Order { .. })
+    }
+}
+
+/// The requirements of two visits each, and what a plan's violation says, each from where ticks are counted first.
+pub(crate) fn goals(
+    alloc: Global,
+    interlocking: &Interlocking,
+    paths: &Paths,
+    violation: Violation,
+) -> Result<Vec<Goal>, AllocError> {
+    let station = &interlocking.design.station;
+    let mut goals = Vec::new(alloc);
+    let mut number = 0u32;
+    for within in station.withins.as_slice() {
+        number = number.saturating_add(1);
+        goals.push(goal_of_within(interlocking, number, within))?;
+    }
+    number = 0;
+    for order in station.orders.as_slice() {
+        number = number.saturating_add(1);
+        goals.push(goal_of_order(number, order))?;
+    }
+    if let Some(goal) = goal_of_violation(interlocking, paths, violation) {
+        goals.push(goal)?;
+    }
+    Ok(goals)
 }
 
 /// The goal of a within, which has a number.
@@ -171,29 +196,4 @@ fn goal_of_violation(
         }
         Violation::Path { .. } | Violation::Within { .. } | Violation::Order { .. } => None,
     }
-}
-
-/// The requirements of two visits each, and what a plan's violation says, each from where ticks are counted first.
-pub(crate) fn goals(
-    alloc: Global,
-    interlocking: &Interlocking,
-    paths: &Paths,
-    violation: Violation,
-) -> Result<Vec<Goal>, AllocError> {
-    let station = &interlocking.design.station;
-    let mut goals = Vec::new(alloc);
-    let mut number = 0u32;
-    for within in station.withins.as_slice() {
-        number = number.saturating_add(1);
-        goals.push(goal_of_within(interlocking, number, within))?;
-    }
-    number = 0;
-    for order in station.orders.as_slice() {
-        number = number.saturating_add(1);
-        goals.push(goal_of_order(number, order))?;
-    }
-    if let Some(goal) = goal_of_violation(interlocking, paths, violation) {
-        goals.push(goal)?;
-    }
-    Ok(goals)
 }

@@ -17,6 +17,82 @@ pub(crate) fn horizon_at(horizons: &[u64], train: TrainNo) -> u64 {
     horizons.get(train.0 as usize - 1).copied().unwrap_or(0)
 }
 
+impl Search<'_> {
+    /// What holds up a train's first command that is not granted by a tick, where none of them is granted at that tick.
+    pub(crate) fn held_by(&self, train: TrainNo, tick: u64) -> Option<Wait> {
+        if tick == 0 {
+            return None;
+        }
+        let granted = self.count_granted(train, tick);
+        if self.count_granted(train, tick - 1) != granted {
+            return None;
+        }
+        let (first, end) = self.paths.span(train);
+        let next = first.checked_add(granted)?;
+        if end <= next {
+            return None;
+        }
+        longest(self.waits.as_slice(), next)
+    }
+
+    /// The ticks up to which the trains are followed to know what one does by a tick, none where that does not end soon.
+    pub(crate) fn horizons(
+        &self,
+        train: TrainNo,
+        tick: u64,
+    ) -> Result<Option<Vec<u64>>, AllocError> {
+        let count = count_trains(self.interlocking) as usize;
+        let mut horizons = vec![in self.alloc; 0; count]?;
+        raise(&mut horizons, train, tick);
+        for _round in 0..MOST_ROUNDS {
+            let by_waits = self.follow_waits(&mut horizons);
+            let by_holders = self.follow_holders(&mut horizons);
+            if !by_waits && !by_holders {
+                return Ok(Some(horizons));
+            }
+        }
+        Ok(None)
+    }
+
+    /// The train of a command, by its place among all.
+    fn train_at(&self, place: usize) -> TrainNo {
+        match self.paths.given.get(place) {
+            Some(given) => given.command.train,
+            None => TrainNo(0),
+        }
+    }
+
+    /// Follows the trains for which granted commands have waited; whether any further than before.
+    fn follow_waits(&self, horizons: &mut [u64]) -> bool {
+        let mut goes_on = false;
+        for wait in self.waits.as_slice() {
+            let horizon = horizon_at(horizons, self.train_at(wait.own));
+            if !self.is_granted_by(wait.own, horizon) {
+                continue;
+            }
+            if let Some(tick) = wait.tick {
+                let other = self.train_at(wait.other);
+                goes_on = raise(horizons, other, tick) || goes_on;
+            }
+        }
+        goes_on
+    }
+
+    /// Follows the trains that hold others up; whether any further than before.
+    fn follow_holders(&self, horizons: &mut [u64]) -> bool {
+        let mut goes_on = false;
+        for number in 1..count_trains(self.interlocking) + 1 {
+            let train = TrainNo(number);
+            let horizon = horizon_at(horizons, train);
+            if let Some(wait) = self.held_by(train, horizon) {
+                let other = self.train_at(wait.other);
+                goes_on = raise(horizons, other, horizon.saturating_sub(1)) || goes_on;
+            }
+        }
+        goes_on
+    }
+}
+
 /// Follows a train up to a tick; whether that is further than before.
 fn raise(horizons: &mut [u64], train: TrainNo, tick: u64) -> bool {
     if train.0 == 0 {
@@ -59,80 +135,4 @@ fn longest(waits: &[Wait], own: usize) -> Option<Wait> {
         }
     }
     longest
-}
-
-impl Search<'_> {
-    /// What holds up a train's first command that is not granted by a tick, where none of them is granted at that tick.
-    pub(crate) fn held_by(&self, train: TrainNo, tick: u64) -> Option<Wait> {
-        if tick == 0 {
-            return None;
-        }
-        let granted = self.count_granted(train, tick);
-        if self.count_granted(train, tick - 1) != granted {
-            return None;
-        }
-        let (first, end) = self.paths.span(train);
-        let next = first.checked_add(granted)?;
-        if end <= next {
-            return None;
-        }
-        longest(self.waits.as_slice(), next)
-    }
-
-    /// The train of a command, by its place among all.
-    fn train_at(&self, place: usize) -> TrainNo {
-        match self.paths.given.get(place) {
-            Some(given) => given.command.train,
-            None => TrainNo(0),
-        }
-    }
-
-    /// Follows the trains for which granted commands have waited; whether any further than before.
-    fn follow_waits(&self, horizons: &mut [u64]) -> bool {
-        let mut goes_on = false;
-        for wait in self.waits.as_slice() {
-            let horizon = horizon_at(horizons, self.train_at(wait.own));
-            if !self.is_granted_by(wait.own, horizon) {
-                continue;
-            }
-            if let Some(tick) = wait.tick {
-                let other = self.train_at(wait.other);
-                goes_on = raise(horizons, other, tick) || goes_on;
-            }
-        }
-        goes_on
-    }
-
-    /// Follows the trains that hold others up; whether any further than before.
-    fn follow_holders(&self, horizons: &mut [u64]) -> bool {
-        let mut goes_on = false;
-        for number in 1..count_trains(self.interlocking) + 1 {
-            let train = TrainNo(number);
-            let horizon = horizon_at(horizons, train);
-            if let Some(wait) = self.held_by(train, horizon) {
-                let other = self.train_at(wait.other);
-                goes_on = raise(horizons, other, horizon.saturating_sub(1)) || goes_on;
-            }
-        }
-        goes_on
-    }
-
-    /// The ticks up to which the trains are followed to know what one does by a tick, none where that does not end soon.
-    pub(crate) fn horizons(
-        &self,
-        train: TrainNo,
-        tick: u64,
-    ) -> Result<Option<Vec<u64>>, AllocError> {
-        let count = count_trains(self.interlocking) as usize;
-        let mut horizons = vec![in self.alloc; 0; count]?;
-        raise(&mut horizons, train, tick);
-        for _round in 0..MOST_ROUNDS {
-            let by_waits = self.follow_waits(&mut horizons);
-            let by_holders = self.follow_holders(&mut horizons);
-            if !by_waits && !by_holders {
-                return Ok(Some(horizons));
-            }
-        }
-        Ok(None)
-    }
 }

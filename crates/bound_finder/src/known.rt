@@ -10,13 +10,13 @@ use rail_base::plan::Command;
 use rail_base::route::{Route, RouteNo, Start};
 use rail_base::station::TrainNo;
 
-/// A leg has no more places, so no way that may be a leg has more routes. Of a longer one no ticks are told.
+/// A leg has no more places, so no walk that may be a leg has more routes. Of a longer one no ticks are counted.
 const MOST_ROUTES: usize = 64;
 
 /// How many trains a design has.
 pub(crate) fn count_trains(interlocking: &Interlocking) -> u32
     ensures value { result ≡ length interlocking.now.design.station.trains }
-    ensures few { result ≤ 128 }
+    ensures at_most_128 { result ≤ 128 }
 {
     interlocking.design.station.trains.len() as u32
 }
@@ -24,7 +24,7 @@ pub(crate) fn count_trains(interlocking: &Interlocking) -> u32
 /// How many routes it has.
 pub(crate) fn count_routes(interlocking: &Interlocking) -> u32
     ensures value { result ≡ length interlocking.now.routes }
-    ensures few { result ≤ 2000 }
+    ensures at_most_2000 { result ≤ 2000 }
 {
     interlocking.routes.len() as u32
 }
@@ -43,12 +43,12 @@ pub(crate) fn is_route(interlocking: &Interlocking, route: RouteNo) -> bool
     1 <= route.0 && route.0 <= count_routes(interlocking)
 }
 
-/// Whether the routes of a way are of a design, and few.
-pub(crate) fn is_way(interlocking: &Interlocking, way: &[RouteNo]) -> bool
-    ensures routes { IsTrue result → All (IsRoute interlocking.now.routes) way.now }
-    ensures few { IsTrue result → length way.now ≤ 64 }
+/// Whether the routes of a walk are of a design, and few.
+pub(crate) fn is_walk(interlocking: &Interlocking, walk: &[RouteNo]) -> bool
+    ensures routes { IsTrue result → All (IsRoute interlocking.now.routes) walk.now }
+    ensures at_most_64 { IsTrue result → length walk.now ≤ 64 }
 {
-    way.len() <= MOST_ROUTES && way.iter().all(|route| is_route(interlocking, *route))
+    walk.len() <= MOST_ROUTES && walk.iter().all(|route| is_route(interlocking, *route))
 }
 
 /// The route of a number, if there is one.
@@ -86,9 +86,9 @@ pub(crate) fn starts_like(interlocking: &Interlocking, one: RouteNo, other: Rout
     }
 }
 
-/// Whether a route goes on to a way, if that has routes.
-pub(crate) fn leads_to(interlocking: &Interlocking, number: RouteNo, way: &[RouteNo]) -> bool {
-    let Some(next) = way.first() else {
+/// Whether a route goes on to a walk, if that has routes.
+pub(crate) fn leads_to(interlocking: &Interlocking, number: RouteNo, walk: &[RouteNo]) -> bool {
+    let Some(next) = walk.first() else {
         return true;
     };
     match (route(interlocking, number), route(interlocking, *next)) {
@@ -97,37 +97,40 @@ pub(crate) fn leads_to(interlocking: &Interlocking, number: RouteNo, way: &[Rout
     }
 }
 
-/// Where on a way a train has released what a route waits for, in mm from the way's start.
+/// Where on a walk a train has released what a route waits for, in mm from the walk's start.
 pub(crate) fn release_place(
     interlocking: &Interlocking,
     train: TrainNo,
-    way: &[RouteNo],
+    walk: &[RouteNo],
     next: RouteNo,
 ) -> Option<u64> {
-    if is_train(interlocking, train) && is_way(interlocking, way) && is_route(interlocking, next) {
-        Some(leg_targets::release_place(interlocking, train, way, next))
+    if is_train(interlocking, train)
+        && is_walk(interlocking, walk)
+        && is_route(interlocking, next)
+    {
+        Some(leg_targets::release_place(interlocking, train, walk, next))
     } else {
         None
     }
 }
 
-/// Where on the last route of a way a visit can be made at the earliest, in mm from the way's start.
-pub(crate) fn target(interlocking: &Interlocking, visit: Visit, way: &[RouteNo]) -> Option<u64> {
-    if is_train(interlocking, visit.train) && is_way(interlocking, way) {
-        Some(leg_targets::target(interlocking, visit, way))
+/// Where on the last route of a walk a visit can be made at the earliest, in mm from the walk's start.
+pub(crate) fn target(interlocking: &Interlocking, visit: Visit, walk: &[RouteNo]) -> Option<u64> {
+    if is_train(interlocking, visit.train) && is_walk(interlocking, walk) {
+        Some(leg_targets::target(interlocking, visit, walk))
     } else {
         None
     }
 }
 
-/// Where on the first route of a way a visit is made at the latest, in mm from the way's start.
+/// Where on the first route of a walk a visit is made at the latest, in mm from the walk's start.
 pub(crate) fn visit_place(
     interlocking: &Interlocking,
     visit: Visit,
-    way: &[RouteNo],
+    walk: &[RouteNo],
 ) -> Option<u64> {
-    if is_train(interlocking, visit.train) && is_way(interlocking, way) {
-        Some(leg_targets::visit_place(interlocking, visit, way))
+    if is_train(interlocking, visit.train) && is_walk(interlocking, walk) {
+        Some(leg_targets::visit_place(interlocking, visit, walk))
     } else {
         None
     }

@@ -35,91 +35,33 @@ pub(crate) struct Link {
 }
 
 impl Search<'_> {
-    /// The last command of a train that contends with another and stands before it.
-    fn last_before(&self, train: TrainNo, next: &Given) -> Option<usize> {
-        let (first, end) = self.paths.span(train);
-        for index in (first..end).rev() {
-            let given = self.paths.given.get(index)?;
-            if given.step < next.step && contend(self.interlocking, given.command, next.command) {
-                return Some(index);
-            }
-        }
-        None
-    }
-
-    /// The least ticks of a train on a way to where it has released what a route waits for, from a visit's place on it or
+    /// The least ticks of a train on a walk to where it has released what a route waits for, from a visit's place on it or
     /// from the grant of its first route; none where the visit is past that.
     pub(crate) fn ticks_to_release(
         &mut self,
         train: TrainNo,
-        way: &[RouteNo],
+        walk: &[RouteNo],
         from: Option<Visit>,
         next: RouteNo,
     ) -> Result<Option<u64>, AllocError> {
-        match release_place(self.interlocking, train, way, next) {
-            Some(place) => self.ticks_from(train, way, from, place),
+        match release_place(self.interlocking, train, walk, next) {
+            Some(place) => self.ticks_from(train, walk, from, place),
             None => Ok(None),
         }
     }
 
-    /// The same to where a visit can be made on the way's last route.
+    /// The same to where a visit can be made on the walk's last route.
     pub(crate) fn ticks_to_visit(
         &mut self,
         train: TrainNo,
-        way: &[RouteNo],
+        walk: &[RouteNo],
         from: Option<Visit>,
         to: Visit,
     ) -> Result<Option<u64>, AllocError> {
-        match target(self.interlocking, to, way) {
-            Some(place) => self.ticks_from(train, way, from, place),
+        match target(self.interlocking, to, walk) {
+            Some(place) => self.ticks_from(train, walk, from, place),
             None => Ok(None),
         }
-    }
-
-    /// The same to a place.
-    fn ticks_from(
-        &mut self,
-        train: TrainNo,
-        way: &[RouteNo],
-        from: Option<Visit>,
-        place: u64,
-    ) -> Result<Option<u64>, AllocError> {
-        let start = match from {
-            None => None,
-            Some(visit) => {
-                let start = visit_place(self.interlocking, visit, way);
-                if start.is_none_or(|start| place < start) {
-                    return Ok(None);
-                }
-                start
-            }
-        };
-        self.ticks
-            .hop(self.alloc, self.interlocking, train, way, start, place)
-    }
-
-    /// Adds the links from each command of a train up to the last one for which another waits.
-    fn push_links(
-        &mut self,
-        links: &mut Vec<Link>,
-        train: TrainNo,
-        next: usize,
-        given: &Given,
-    ) -> Result<(), AllocError> {
-        let Some(last) = self.last_before(train, given) else {
-            return Ok(());
-        };
-        let (start, _) = self.paths.span(train);
-        for first in start..last.saturating_add(1) {
-            let span = Span { first, last };
-            let paths = self.paths;
-            let way = paths.way(span);
-            let route = given.command.route;
-            if let Some(ticks) = self.ticks_to_release(train, way, None, route)? {
-                links.push(Link { span, next, ticks })?;
-            }
-        }
-        Ok(())
     }
 
     /// All links of a plan.
@@ -153,8 +95,8 @@ impl Search<'_> {
             let Some(next) = paths.routes.get(link.next) else {
                 continue;
             };
-            let way = paths.way(link.span);
-            let ticks = self.ticks_to_release(visit.train, way, Some(visit), *next)?;
+            let walk = paths.walk(link.span);
+            let ticks = self.ticks_to_release(visit.train, walk, Some(visit), *next)?;
             if let Some(ticks) = ticks {
                 own.push(Link { ticks, ..*link })?;
             }
@@ -172,6 +114,65 @@ impl Search<'_> {
             }
         }
         None
+    }
+
+    /// The last command of a train that contends with another and stands before it.
+    fn last_before(&self, train: TrainNo, next: &Given) -> Option<usize> {
+        let (first, end) = self.paths.span(train);
+        for index in (first..end).rev() {
+            let given = self.paths.given.get(index)?;
+            if given.step < next.step && contend(self.interlocking, given.command, next.command) {
+                return Some(index);
+            }
+        }
+        None
+    }
+
+    /// The least ticks of a train on a walk to a place, from a visit's place on it or from the grant of its first route;
+    /// none where the visit is past that.
+    fn ticks_from(
+        &mut self,
+        train: TrainNo,
+        walk: &[RouteNo],
+        from: Option<Visit>,
+        place: u64,
+    ) -> Result<Option<u64>, AllocError> {
+        let start = match from {
+            None => None,
+            Some(visit) => {
+                let start = visit_place(self.interlocking, visit, walk);
+                if start.is_none_or(|start| place < start) {
+                    return Ok(None);
+                }
+                start
+            }
+        };
+        self.ticks
+            .hop(self.alloc, self.interlocking, train, walk, start, place)
+    }
+
+    /// Adds the links from each command of a train up to the last one for which another waits.
+    fn push_links(
+        &mut self,
+        links: &mut Vec<Link>,
+        train: TrainNo,
+        next: usize,
+        given: &Given,
+    ) -> Result<(), AllocError> {
+        let Some(last) = self.last_before(train, given) else {
+            return Ok(());
+        };
+        let (start, _) = self.paths.span(train);
+        for first in start..last.saturating_add(1) {
+            let span = Span { first, last };
+            let paths = self.paths;
+            let walk = paths.walk(span);
+            let route = given.command.route;
+            if let Some(ticks) = self.ticks_to_release(train, walk, None, route)? {
+                links.push(Link { span, next, ticks })?;
+            }
+        }
+        Ok(())
     }
 
     /// Whether a goal's last leg may end with a route.

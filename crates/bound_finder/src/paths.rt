@@ -52,6 +52,44 @@ impl Paths {
         Ok(paths)
     }
 
+    /// Where the commands of a train begin and end.
+    pub(crate) fn span(&self, train: TrainNo) -> (usize, usize) {
+        if train.0 == 0 {
+            return (0, 0);
+        }
+        match self.spans.get(train.0 as usize - 1) {
+            Some(span) => *span,
+            None => (0, 0),
+        }
+    }
+
+    /// The routes of some commands in a row.
+    pub(crate) fn walk(&self, span: Span) -> &[RouteNo] {
+        if span.last < span.first || self.routes.len() <= span.last {
+            return &[];
+        }
+        &self.routes.as_slice()[span.first..span.last + 1]
+    }
+
+    /// The commands of a train.
+    pub(crate) fn commands(&self, train: TrainNo) -> &[Given] {
+        let (first, end) = self.span(train);
+        if end < first || self.given.len() < end {
+            return &[];
+        }
+        &self.given.as_slice()[first..end]
+    }
+
+    /// The step in which a command stands, if it stands in one.
+    pub(crate) fn step(&self, command: Command) -> Option<usize> {
+        for given in self.commands(command.train) {
+            if given.command.route == command.route {
+                return Some(given.step);
+            }
+        }
+        None
+    }
+
     /// Adds the commands of a train.
     fn add_train(&mut self, plan: &Plan, train: TrainNo) -> Result<(), AllocError> {
         let first = self.given.len();
@@ -76,43 +114,5 @@ impl Paths {
         }
         self.spans.push((first, end))?;
         Ok(())
-    }
-
-    /// Where the commands of a train begin and end.
-    pub(crate) fn span(&self, train: TrainNo) -> (usize, usize) {
-        if train.0 == 0 {
-            return (0, 0);
-        }
-        match self.spans.get(train.0 as usize - 1) {
-            Some(span) => *span,
-            None => (0, 0),
-        }
-    }
-
-    /// The routes of some commands in a row.
-    pub(crate) fn way(&self, span: Span) -> &[RouteNo] {
-        if span.last < span.first || self.routes.len() <= span.last {
-            return &[];
-        }
-        &self.routes.as_slice()[span.first..span.last + 1]
-    }
-
-    /// The commands of a train.
-    pub(crate) fn commands(&self, train: TrainNo) -> &[Given] {
-        let (first, end) = self.span(train);
-        if end < first || self.given.len() < end {
-            return &[];
-        }
-        &self.given.as_slice()[first..end]
-    }
-
-    /// The step in which a command stands, if it stands in one.
-    pub(crate) fn step(&self, command: Command) -> Option<usize> {
-        for given in self.commands(command.train) {
-            if given.command.route == command.route {
-                return Some(given.step);
-            }
-        }
-        None
     }
 }

@@ -3,11 +3,41 @@
 use crate::goals::Goal;
 use crate::known::{count_routes, count_trains, share};
 use crate::links::Search;
-use cone_design::free_path;
+use cone_form::free_path;
 use interlocking::Interlocking;
 use rail_base::route::RouteNo;
 use rail_bound::{Bound, Leg, Origin, Place};
 use rail_cone::Cone;
+
+impl Search<'_> {
+    /// How many literals a certificate's clause has, roughly.
+    pub(crate) fn size(&self, goal: &Goal, bound: &Bound) -> usize {
+        let legs = size_of_legs(bound.legs.as_slice());
+        match (&bound.origin, goal.from) {
+            (Origin::FirstTick, Some(from)) => {
+                let routes = self.tables.visit(from.train, 1);
+                let others = count_trains(self.interlocking).saturating_sub(1) as usize;
+                let sharing = count_sharing(self.interlocking, routes);
+                legs.saturating_add(sharing.saturating_mul(others))
+            }
+            (Origin::Cone { cone, .. }, _) => legs.saturating_add(self.size_of_cone(cone)),
+            _ => legs,
+        }
+    }
+
+    /// How many literals say what a cone takes for granted.
+    fn size_of_cone(&self, cone: &Cone) -> usize {
+        let others = count_trains(self.interlocking).saturating_sub(1) as usize;
+        let mut size = cone.pairs.len();
+        for train in cone.trains.as_slice() {
+            let sharing = count_sharing(self.interlocking, free_path(cone, train.train));
+            size = size
+                .saturating_add(train.path.len())
+                .saturating_add(sharing.saturating_mul(others));
+        }
+        size
+    }
+}
 
 /// How many routes a place has.
 fn width(place: &Place) -> usize {
@@ -62,34 +92,4 @@ fn count_sharing(interlocking: &Interlocking, routes: &[RouteNo]) -> usize {
         }
     }
     count
-}
-
-impl Search<'_> {
-    /// How many literals say what a cone takes for granted.
-    fn size_of_cone(&self, cone: &Cone) -> usize {
-        let others = count_trains(self.interlocking).saturating_sub(1) as usize;
-        let mut size = cone.pairs.len();
-        for train in cone.trains.as_slice() {
-            let sharing = count_sharing(self.interlocking, free_path(cone, train.train));
-            size = size
-                .saturating_add(train.path.len())
-                .saturating_add(sharing.saturating_mul(others));
-        }
-        size
-    }
-
-    /// How many literals a certificate's clause has, roughly.
-    pub(crate) fn size(&self, goal: &Goal, bound: &Bound) -> usize {
-        let legs = size_of_legs(bound.legs.as_slice());
-        match (&bound.origin, goal.from) {
-            (Origin::FirstTick, Some(from)) => {
-                let routes = self.tables.visit(from.train, 1);
-                let others = count_trains(self.interlocking).saturating_sub(1) as usize;
-                let sharing = count_sharing(self.interlocking, routes);
-                legs.saturating_add(sharing.saturating_mul(others))
-            }
-            (Origin::Cone { cone, .. }, _) => legs.saturating_add(self.size_of_cone(cone)),
-            _ => legs,
-        }
-    }
 }

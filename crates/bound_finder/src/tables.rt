@@ -19,6 +19,71 @@ pub(crate) struct Tables {
     starting: Vec<Vec<RouteNo>>,
 }
 
+impl Tables {
+    /// The lists of a design.
+    pub(crate) fn of(alloc: Global, interlocking: &Interlocking) -> Result<Tables, AllocError> {
+        let mut tables = Tables {
+            visits: visits_of_trains(alloc, interlocking)?,
+            ending: signal_lists(alloc, interlocking)?,
+            starting: signal_lists(alloc, interlocking)?,
+        };
+        for number in 1..count_routes(interlocking) + 1 {
+            let route = RouteNo(number);
+            tables.add(route, interlocking.route(route))?;
+        }
+        Ok(tables)
+    }
+
+    /// The routes on which each visit of a train can be made.
+    pub(crate) fn visits(&self, train: TrainNo) -> &[Vec<RouteNo>] {
+        if train.0 == 0 {
+            return &[];
+        }
+        match self.visits.get(train.0 as usize - 1) {
+            Some(visits) => visits.as_slice(),
+            None => &[],
+        }
+    }
+
+    /// The routes on which a visit can be made, counted from 1.
+    pub(crate) fn visit(&self, train: TrainNo, number: u32) -> &[RouteNo] {
+        if number == 0 {
+            return &[];
+        }
+        match self.visits(train).get(number as usize - 1) {
+            Some(routes) => routes.as_slice(),
+            None => &[],
+        }
+    }
+
+    /// The routes that end where one starts.
+    pub(crate) fn before(&self, start: Start) -> &[RouteNo] {
+        match start {
+            Start::Signal(signal) => list_at(&self.ending, signal.0),
+            Start::Boundary(_) => &[],
+        }
+    }
+
+    /// The routes that start where one ends.
+    pub(crate) fn after(&self, finish: Finish) -> &[RouteNo] {
+        match finish {
+            Finish::Signal(signal) => list_at(&self.starting, signal.0),
+            Finish::Exit(_) | Finish::DeadEnd(_) => &[],
+        }
+    }
+
+    /// Adds a route to the lists of the signals where it starts and ends.
+    fn add(&mut self, number: RouteNo, route: &Route) -> Result<(), AllocError> {
+        if let Finish::Signal(signal) = route.finish {
+            add_at(&mut self.ending, signal.0, number)?;
+        }
+        if let Start::Signal(signal) = route.start {
+            add_at(&mut self.starting, signal.0, number)?;
+        }
+        Ok(())
+    }
+}
+
 /// The routes on which a visit can be made.
 fn routes_of_visit(
     alloc: Global,
@@ -98,70 +163,5 @@ fn list_at(lists: &[Vec<RouteNo>], signal: u32) -> &[RouteNo] {
     match lists.get(signal as usize - 1) {
         Some(list) => list.as_slice(),
         None => &[],
-    }
-}
-
-impl Tables {
-    /// The lists of a design.
-    pub(crate) fn of(alloc: Global, interlocking: &Interlocking) -> Result<Tables, AllocError> {
-        let mut tables = Tables {
-            visits: visits_of_trains(alloc, interlocking)?,
-            ending: signal_lists(alloc, interlocking)?,
-            starting: signal_lists(alloc, interlocking)?,
-        };
-        for number in 1..count_routes(interlocking) + 1 {
-            let route = RouteNo(number);
-            tables.add(route, interlocking.route(route))?;
-        }
-        Ok(tables)
-    }
-
-    /// Adds a route to the lists of the signals where it starts and ends.
-    fn add(&mut self, number: RouteNo, route: &Route) -> Result<(), AllocError> {
-        if let Finish::Signal(signal) = route.finish {
-            add_at(&mut self.ending, signal.0, number)?;
-        }
-        if let Start::Signal(signal) = route.start {
-            add_at(&mut self.starting, signal.0, number)?;
-        }
-        Ok(())
-    }
-
-    /// The routes on which each visit of a train can be made.
-    pub(crate) fn visits(&self, train: TrainNo) -> &[Vec<RouteNo>] {
-        if train.0 == 0 {
-            return &[];
-        }
-        match self.visits.get(train.0 as usize - 1) {
-            Some(visits) => visits.as_slice(),
-            None => &[],
-        }
-    }
-
-    /// The routes on which a visit can be made, counted from 1.
-    pub(crate) fn visit(&self, train: TrainNo, number: u32) -> &[RouteNo] {
-        if number == 0 {
-            return &[];
-        }
-        match self.visits(train).get(number as usize - 1) {
-            Some(routes) => routes.as_slice(),
-            None => &[],
-        }
-    }
-
-    /// The routes that end where one starts.
-    pub(crate) fn before(&self, start: Start) -> &[RouteNo] {
-        match start {
-            Start::Signal(signal) => list_at(&self.ending, signal.0),
-            Start::Boundary(_) => &[],
-        }
-    }
-
-    /// The routes that start where one ends.
-    pub(crate) fn after(&self, finish: Finish) -> &[RouteNo] {
-        match finish {
-            Finish::Signal(signal) => list_at(&self.starting, signal.0),
-            Finish::Exit(_) | Finish::Dead(_) => &[],
-        }
     }
 }

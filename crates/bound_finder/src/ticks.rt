@@ -1,6 +1,6 @@
-//! The least ticks of trains on ways, each found out once.
+//! The least ticks of trains on walks, each found out once.
 
-use crate::known::{is_train, is_way};
+use crate::known::{is_train, is_walk};
 use free_moves::{on_ticks, run_ticks};
 use interlocking::Interlocking;
 use rail_base::route::RouteNo;
@@ -8,18 +8,18 @@ use rail_base::station::{TrainNo, VehicleNo};
 use std::alloc::{AllocError, Global};
 use std::collections::BTreeMap;
 
-/// No place on a way is past this one, in mm.
+/// No place on a walk is past this one, in mm.
 const MOST_PLACE: u64 = 1 << 46;
 
 /// So many trips are kept at the most.
 const MOST_TRIPS: usize = 4_000_000;
 
-/// A trip on a way to a place.
+/// A trip on a walk to a place.
 #[derive(Clone, Copy, PartialEq, Eq, PartialOrd, Ord)]
 struct Trip {
     vehicle: VehicleNo,
-    way: usize,
-    /// Whether it begins at a place, or else with the grant of the way's first route.
+    walk: usize,
+    /// Whether it begins at a place, or else with the grant of the walk's first route.
     runs: bool,
     from: u64,
     place: u64,
@@ -28,47 +28,35 @@ struct Trip {
 /// The least ticks of trips.
 #[derive(Drop)]
 pub(crate) struct Ticks {
-    ways: BTreeMap<Vec<RouteNo>, usize>,
+    walks: BTreeMap<Vec<RouteNo>, usize>,
     known: BTreeMap<Trip, u64>,
 }
 
 impl Ticks {
     pub(crate) fn new(alloc: Global) -> Ticks {
         Ticks {
-            ways: BTreeMap::new(alloc),
+            walks: BTreeMap::new(alloc),
             known: BTreeMap::new(alloc),
         }
     }
 
-    /// The number of a way.
-    fn way_number(&mut self, alloc: Global, way: &[RouteNo]) -> Result<usize, AllocError> {
-        if let Some(number) = self.ways.get(way) {
-            return Ok(*number);
-        }
-        let mut routes = Vec::new(alloc);
-        routes.extend_from_slice(way)?;
-        let number = self.ways.len();
-        self.ways.insert(routes, number)?;
-        Ok(number)
-    }
-
-    /// The least ticks of a train from a place of a way, or from the grant of its first route, to another place; none
+    /// The least ticks of a train from a place of a walk, or from the grant of its first route, to another place; none
     /// where the train or a route is not of the design, or the place is too far.
     pub(crate) fn hop(
         &mut self,
         alloc: Global,
         interlocking: &Interlocking,
         train: TrainNo,
-        way: &[RouteNo],
+        walk: &[RouteNo],
         from: Option<u64>,
         place: u64,
     ) -> Result<Option<u64>, AllocError> {
-        if !is_train(interlocking, train) || !is_way(interlocking, way) || place > MOST_PLACE {
+        if !is_train(interlocking, train) || !is_walk(interlocking, walk) || place > MOST_PLACE {
             return Ok(None);
         }
         let trip = Trip {
             vehicle: interlocking.design.train(train).vehicle,
-            way: self.way_number(alloc, way)?,
+            walk: self.walk_number(alloc, walk)?,
             runs: from.is_some(),
             from: from.unwrap_or(0),
             place,
@@ -78,12 +66,24 @@ impl Ticks {
         }
         let most = interlocking.design.horizon();
         let ticks = match from {
-            Some(from) => on_ticks(alloc, interlocking, train, way, from, place, most)?,
-            None => run_ticks(alloc, interlocking, train, way, place, most)?,
+            Some(from) => on_ticks(alloc, interlocking, train, walk, from, place, most)?,
+            None => run_ticks(alloc, interlocking, train, walk, place, most)?,
         };
         if self.known.len() < MOST_TRIPS {
             self.known.insert(trip, ticks)?;
         }
         Ok(Some(ticks))
+    }
+
+    /// The number of a walk.
+    fn walk_number(&mut self, alloc: Global, walk: &[RouteNo]) -> Result<usize, AllocError> {
+        if let Some(number) = self.walks.get(walk) {
+            return Ok(*number);
+        }
+        let mut routes = Vec::new(alloc);
+        routes.extend_from_slice(walk)?;
+        let number = self.walks.len();
+        self.walks.insert(routes, number)?;
+        Ok(number)
     }
 }

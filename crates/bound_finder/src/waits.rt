@@ -19,25 +19,6 @@ pub(crate) struct Wait {
 }
 
 impl Search<'_> {
-    /// What has happened to a train.
-    fn history_of(&self, train: TrainNo) -> Option<&TrainHistory> {
-        if train.0 == 0 {
-            return None;
-        }
-        self.history.as_slice().get(train.0 as usize - 1)
-    }
-
-    /// The tick at which a command is granted, by its place among all, where that has come.
-    fn grant_tick(&self, place: usize) -> Option<u64> {
-        let given = self.paths.given.get(place)?;
-        let history = self.history_of(given.command.train)?;
-        let grant = history
-            .grants
-            .as_slice()
-            .get(place.checked_sub(given.first)?)?;
-        grant.1
-    }
-
     /// The tick at which a visit is made, where that has come.
     pub(crate) fn visit_tick(&self, visit: Visit) -> Option<u64> {
         if visit.number == 0 {
@@ -66,6 +47,34 @@ impl Search<'_> {
             }
         }
         count
+    }
+
+    /// What each command waits for.
+    pub(crate) fn find_waits(&self) -> Result<Vec<Wait>, AllocError> {
+        let mut waits = Vec::new(self.alloc);
+        for (own, given) in self.paths.given.iter().enumerate() {
+            self.push_waits(&mut waits, own, given)?;
+        }
+        Ok(waits)
+    }
+
+    /// What has happened to a train.
+    fn history_of(&self, train: TrainNo) -> Option<&TrainHistory> {
+        if train.0 == 0 {
+            return None;
+        }
+        self.history.as_slice().get(train.0 as usize - 1)
+    }
+
+    /// The tick at which a command is granted, by its place among all, where that has come.
+    fn grant_tick(&self, place: usize) -> Option<u64> {
+        let given = self.paths.given.get(place)?;
+        let history = self.history_of(given.command.train)?;
+        let grant = history
+            .grants
+            .as_slice()
+            .get(place.checked_sub(given.first)?)?;
+        grant.1
     }
 
     /// The tick at which the other command has released all that it shares with one, where that has come.
@@ -97,14 +106,5 @@ impl Search<'_> {
             }
         }
         Ok(())
-    }
-
-    /// What each command waits for.
-    pub(crate) fn find_waits(&self) -> Result<Vec<Wait>, AllocError> {
-        let mut waits = Vec::new(self.alloc);
-        for (own, given) in self.paths.given.iter().enumerate() {
-            self.push_waits(&mut waits, own, given)?;
-        }
-        Ok(waits)
     }
 }

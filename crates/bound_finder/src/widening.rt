@@ -26,91 +26,45 @@ struct Widened {
     stretches: u64,
 }
 
-/// A copy of routes.
-fn copied(alloc: Global, routes: &[RouteNo]) -> Result<Vec<RouteNo>, AllocError> {
-    let mut copy = Vec::new(alloc);
-    copy.extend_from_slice(routes)?;
-    Ok(copy)
-}
-
-/// The values in reverse order.
-fn reversed<T: Drop>(alloc: Global, items: Vec<T>) -> Result<List<T>, AllocError> {
-    let mut items = items;
-    let mut list = List::new(alloc);
-    for _item in 0..items.len() {
-        if let Some(item) = items.pop() {
-            list.push(item)?;
-        }
-    }
-    Ok(list)
-}
-
-/// The ways of which the first route is one of these.
-fn longer(
-    alloc: Global,
-    interlocking: &Interlocking,
-    routes: &[RouteNo],
-    later: &[Vec<RouteNo>],
-) -> Result<Vec<Vec<RouteNo>>, AllocError> {
-    let mut ways = Vec::new(alloc);
-    for route in routes {
-        for way in later {
-            if leads_to(interlocking, *route, way.as_slice()) {
-                let mut longer = vec![in alloc; *route]?;
-                longer.extend_from_slice(way.as_slice())?;
-                ways.push(longer)?;
-            }
-        }
-    }
-    Ok(ways)
-}
-
-/// The better of two choices: that which keeps fewer routes out, and then that with more routes.
-fn better(one: Option<Choice>, other: Option<Choice>) -> Option<Choice> {
-    match (one, other) {
-        (Some(one), Some(other)) => {
-            let fewer = other.without.len() < one.without.len();
-            let same = other.without.len() == one.without.len();
-            if fewer || (same && other.routes.len() > one.routes.len()) {
-                Some(other)
-            } else {
-                Some(one)
-            }
-        }
-        (Some(one), None) => Some(one),
-        (None, other) => other,
-    }
-}
-
-/// How many stretches the track of a route has.
-fn stretches_of_route(interlocking: &Interlocking, number: RouteNo) -> u64 {
-    match route(interlocking, number) {
-        Some(route) => route.edges.len() as u64,
-        None => 0,
-    }
-}
-
-/// Whether a route ends at a signal.
-fn goes_on(interlocking: &Interlocking, number: RouteNo) -> bool {
-    match route(interlocking, number) {
-        Some(route) => matches!(route.finish, Finish::Signal(_)),
-        None => false,
-    }
-}
-
-/// The ticks of a leg, by its place.
-fn ticks_at(ticks: &[u64], index: usize) -> u64 {
-    ticks.get(index).copied().unwrap_or(0)
-}
-
-/// Sets the ticks of a leg.
-fn set_ticks(ticks: &mut [u64], index: usize, value: u64) {
-    if let Some(place) = ticks.get_mut(index) {
-        *place = value;
-    }
-}
-
 impl Search<'_> {
+    /// The legs of a chain's certificate, none where they can't be had in this breadth.
+    pub(crate) fn legs(&mut self, form: &Form<'_>) -> Result<Option<List<Leg>>, AllocError> {
+        let Some(mut ticks) = self.own_ticks(form)? else {
+            return Ok(None);
+        };
+        let Some(mut slack) = slack(form, ticks.as_slice()) else {
+            return Ok(None);
+        };
+        let mut legs = Vec::new(self.alloc);
+        let mut next: Option<Meeting> = None;
+        let mut stretches = 0u64;
+        for index in (0..form.legs.len()).rev() {
+            let wide = self.wide(form, index, next.as_ref(), ticks.as_slice(), slack);
+            let Some(widen) = self.widen(&wide)? else {
+                return Ok(None);
+            };
+            let Widened {
+                leg,
+                first,
+                ticks: own,
+                before,
+                stretches: more,
+            } = widen;
+            slack = slack.saturating_sub(wide.loss(own, before));
+            set_ticks(&mut ticks, index, own);
+            if index > 0 {
+                set_ticks(&mut ticks, index - 1, before);
+            }
+            stretches = stretches.saturating_add(more);
+            next = Some(first);
+            legs.push(leg)?;
+        }
+        if !self.is_long(form, ticks.as_slice(), stretches) {
+            return Ok(None);
+        }
+        Ok(Some(reverse_list(self.alloc, legs)?))
+    }
+
     /// The train of some commands in a row.
     fn train(&self, span: Span) -> TrainNo {
         match self.paths.given.get(span.first) {
@@ -127,14 +81,14 @@ impl Search<'_> {
         }
     }
 
-    /// How many stretches the tracks of a way have, by itself and with each route that may follow.
-    fn stretches_of_way(&self, way: &[RouteNo]) -> u64 {
+    /// How many stretches the tracks of a walk have, by itself and with each route that may follow.
+    fn stretches_of_walk(&self, walk: &[RouteNo]) -> u64 {
         let mut own = 0u64;
-        for number in way {
+        for number in walk {
             own = own.saturating_add(stretches_of_route(self.interlocking, *number));
         }
         let mut count = own;
-        if let Some(last) = way.last() {
+        if let Some(last) = walk.last() {
             for next in self.after(*last) {
                 let more = stretches_of_route(self.interlocking, *next);
                 count = count.saturating_add(own).saturating_add(more);
@@ -143,11 +97,11 @@ impl Search<'_> {
         count
     }
 
-    /// How many those of all ways have, each to so many places.
-    fn stretches(&self, ways: &[Vec<RouteNo>], places: usize) -> u64 {
+    /// How many those of all walks have, each to so many places.
+    fn stretches(&self, walks: &[Vec<RouteNo>], places: usize) -> u64 {
         let mut count = 0u64;
-        for way in ways {
-            count = count.saturating_add(self.stretches_of_way(way.as_slice()));
+        for walk in walks {
+            count = count.saturating_add(self.stretches_of_walk(walk.as_slice()));
         }
         count.saturating_mul(places as u64)
     }
@@ -204,7 +158,7 @@ impl Search<'_> {
         next: &[RouteNo],
         most: usize,
     ) -> Result<Option<Choice>, AllocError> {
-        let Some(own) = wide.way.get(place) else {
+        let Some(own) = wide.walk.get(place) else {
             return Ok(None);
         };
         if !wide.is_last(place) {
@@ -280,7 +234,7 @@ impl Search<'_> {
         next: &[RouteNo],
         most: usize,
     ) -> Result<Option<(Place, Choice)>, AllocError> {
-        let Some(own) = wide.way.get(place) else {
+        let Some(own) = wide.walk.get(place) else {
             return Ok(None);
         };
         let named = self.may_be_named(wide, place, *own, next);
@@ -290,8 +244,11 @@ impl Search<'_> {
                 let has_own = has_route(choice.routes.as_slice(), *own);
                 if has_own && (!named || choice.routes.len() > 1) {
                     let place = Place::Among {
-                        routes: List::from_vec(copied(self.alloc, choice.routes.as_slice())?),
-                        without: List::from_vec(copied(self.alloc, choice.without.as_slice())?),
+                        routes: List::from_vec(copy_routes(self.alloc, choice.routes.as_slice())?),
+                        without: List::from_vec(copy_routes(
+                            self.alloc,
+                            choice.without.as_slice(),
+                        )?),
                     };
                     return Ok(Some((place, choice)));
                 }
@@ -305,23 +262,23 @@ impl Search<'_> {
     }
 
     /// A leg with its places, none where one of them can't be had.
-    fn widened(&mut self, wide: &Wide<'_, '_>) -> Result<Option<Widened>, AllocError> {
+    fn widen(&mut self, wide: &Wide<'_, '_>) -> Result<Option<Widened>, AllocError> {
         let alloc = self.alloc;
         let targets = match wide.next {
             Some(next) => next.routes.len(),
             None => 1,
         };
         let mut most = wide.form.most_choices.checked_div(targets).unwrap_or(1);
-        let mut ways = vec![in alloc; Vec::new(alloc)]?;
+        let mut walks = vec![in alloc; Vec::new(alloc)]?;
         let mut places = Vec::new(alloc);
         let mut next = Vec::new(alloc);
         let mut ticks = wide.ticks;
         let mut before = wide.ticks_before;
-        for index in (0..wide.way.len()).rev() {
+        for index in (0..wide.walk.len()).rev() {
             let Some((place, choice)) = self.place(
                 wide,
                 index,
-                ways.as_slice(),
+                walks.as_slice(),
                 next.as_slice(),
                 most,
             )?
@@ -336,7 +293,12 @@ impl Search<'_> {
                 before: least_before,
             } = choice;
             most = most.checked_div(routes.len()).unwrap_or(0).max(1);
-            ways = longer(alloc, self.interlocking, routes.as_slice(), ways.as_slice())?;
+            walks = longer(
+                alloc,
+                self.interlocking,
+                routes.as_slice(),
+                walks.as_slice(),
+            )?;
             next = routes;
             ticks = least;
             before = least_before;
@@ -344,7 +306,7 @@ impl Search<'_> {
         Ok(Some(Widened {
             leg: Leg {
                 train: wide.train,
-                places: reversed(alloc, places)?,
+                places: reverse_list(alloc, places)?,
             },
             first: Meeting {
                 train: wide.train,
@@ -352,7 +314,7 @@ impl Search<'_> {
             },
             ticks,
             before,
-            stretches: self.stretches(ways.as_slice(), targets),
+            stretches: self.stretches(walks.as_slice(), targets),
         }))
     }
 
@@ -361,7 +323,7 @@ impl Search<'_> {
         let mut all = Vec::new(self.alloc);
         let paths = self.paths;
         for (index, span) in form.legs.iter().enumerate() {
-            let way = paths.way(*span);
+            let walk = paths.walk(*span);
             let train = self.train(*span);
             let from = if index == 0 {
                 form.goal.from_place()
@@ -370,10 +332,10 @@ impl Search<'_> {
             };
             let ticks = match (form.legs.get(index.saturating_add(1)), form.goal.to) {
                 (Some(next), _) => match paths.routes.get(next.first) {
-                    Some(route) => self.ticks_to_release(train, way, from, *route)?,
+                    Some(route) => self.ticks_to_release(train, walk, from, *route)?,
                     None => None,
                 },
-                (None, Some(to)) => self.ticks_to_visit(train, way, from, to)?,
+                (None, Some(to)) => self.ticks_to_visit(train, walk, from, to)?,
                 (None, None) => Some(0),
             };
             match ticks {
@@ -384,48 +346,94 @@ impl Search<'_> {
         Ok(Some(all))
     }
 
-    /// The legs of a chain's certificate, none where they can't be had in this breadth.
-    pub(crate) fn legs(&mut self, form: &Form<'_>) -> Result<Option<List<Leg>>, AllocError> {
-        let Some(mut ticks) = self.own_ticks(form)? else {
-            return Ok(None);
-        };
-        let Some(mut slack) = slack(form, ticks.as_slice()) else {
-            return Ok(None);
-        };
-        let mut legs = Vec::new(self.alloc);
-        let mut next: Option<Meeting> = None;
-        let mut stretches = 0u64;
-        for index in (0..form.legs.len()).rev() {
-            let wide = self.wide(form, index, next.as_ref(), ticks.as_slice(), slack);
-            let Some(widened) = self.widened(&wide)? else {
-                return Ok(None);
-            };
-            let Widened {
-                leg,
-                first,
-                ticks: own,
-                before,
-                stretches: more,
-            } = widened;
-            slack = slack.saturating_sub(wide.loss(own, before));
-            set_ticks(&mut ticks, index, own);
-            if index > 0 {
-                set_ticks(&mut ticks, index - 1, before);
-            }
-            stretches = stretches.saturating_add(more);
-            next = Some(first);
-            legs.push(leg)?;
-        }
-        if !self.is_long(form, ticks.as_slice(), stretches) {
-            return Ok(None);
-        }
-        Ok(Some(reversed(self.alloc, legs)?))
-    }
-
     /// Whether the legs are still long enough if no more than so many stretches are looked at.
     fn is_long(&self, form: &Form<'_>, ticks: &[u64], stretches: u64) -> bool {
         let most = MOST_LOOKS.checked_div(stretches).unwrap_or(0);
         form.goal.takes_any() || form.goal.least <= total(ticks, most)
+    }
+}
+
+/// A copy of routes.
+fn copy_routes(alloc: Global, routes: &[RouteNo]) -> Result<Vec<RouteNo>, AllocError> {
+    let mut copy = Vec::new(alloc);
+    copy.extend_from_slice(routes)?;
+    Ok(copy)
+}
+
+/// The values in reverse order.
+fn reverse_list<T: Drop>(alloc: Global, items: Vec<T>) -> Result<List<T>, AllocError> {
+    let mut items = items;
+    let mut list = List::new(alloc);
+    for _item in 0..items.len() {
+        if let Some(item) = items.pop() {
+            list.push(item)?;
+        }
+    }
+    Ok(list)
+}
+
+/// The walks of which the first route is one of these.
+fn longer(
+    alloc: Global,
+    interlocking: &Interlocking,
+    routes: &[RouteNo],
+    later: &[Vec<RouteNo>],
+) -> Result<Vec<Vec<RouteNo>>, AllocError> {
+    let mut walks = Vec::new(alloc);
+    for route in routes {
+        for walk in later {
+            if leads_to(interlocking, *route, walk.as_slice()) {
+                let mut longer = vec![in alloc; *route]?;
+                longer.extend_from_slice(walk.as_slice())?;
+                walks.push(longer)?;
+            }
+        }
+    }
+    Ok(walks)
+}
+
+/// The better of two choices: that which keeps fewer routes out, and then that with more routes.
+fn better(one: Option<Choice>, other: Option<Choice>) -> Option<Choice> {
+    match (one, other) {
+        (Some(one), Some(other)) => {
+            let fewer = other.without.len() < one.without.len();
+            let same = other.without.len() == one.without.len();
+            if fewer || (same && other.routes.len() > one.routes.len()) {
+                Some(other)
+            } else {
+                Some(one)
+            }
+        }
+        (Some(one), None) => Some(one),
+        (None, other) => other,
+    }
+}
+
+/// How many stretches the track of a route has.
+fn stretches_of_route(interlocking: &Interlocking, number: RouteNo) -> u64 {
+    match route(interlocking, number) {
+        Some(route) => route.edges.len() as u64,
+        None => 0,
+    }
+}
+
+/// Whether a route ends at a signal.
+fn goes_on(interlocking: &Interlocking, number: RouteNo) -> bool {
+    match route(interlocking, number) {
+        Some(route) => matches!(route.finish, Finish::Signal(_)),
+        None => false,
+    }
+}
+
+/// The ticks of a leg, by its place.
+fn ticks_at(ticks: &[u64], index: usize) -> u64 {
+    ticks.get(index).copied().unwrap_or(0)
+}
+
+/// Sets the ticks of a leg.
+fn set_ticks(ticks: &mut [u64], index: usize, value: u64) {
+    if let Some(place) = ticks.get_mut(index) {
+        *place = value;
     }
 }
 
@@ -446,7 +454,7 @@ impl<'a> Search<'a> {
         let mut wide = Wide {
             form: *form,
             train: self.train(span),
-            way: paths.way(span),
+            walk: paths.walk(span),
             from: None,
             before: None,
             before_from: None,
@@ -460,7 +468,7 @@ impl<'a> Search<'a> {
             return wide;
         }
         let span = form.legs[index - 1];
-        wide.before = Some((self.train(span), paths.way(span)));
+        wide.before = Some((self.train(span), paths.walk(span)));
         wide.ticks_before = ticks_at(ticks, index - 1);
         if index == 1 {
             wide.before_from = form.goal.from_place();

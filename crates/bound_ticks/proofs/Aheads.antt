@@ -1,4 +1,4 @@
--- Whether all ways are ahead, one way at a time.
+-- Whether all walks are ahead, one walk at a time.
 use Rattle.std.proofs.Common.{◌≡◌, ℕ, ◌+◌, ◌≤◌, ◌<◌, Bool, true, false, ◌&&◌, List, [], ◌∷◌, map, drop, get_or, length, refl, sym, ap, ◌∙◌}
 use Rattle.std.specs.List.{list_all}
 use Rattle.std.proofs.lemmas.List.{drop_more}
@@ -10,7 +10,7 @@ use Rattle.rail_bound.specs.Validity.{is_ahead}
 use Rattle.bound_ticks.specs.declared.ahead.Between.{Between}
 use Rattle.bound_ticks.specs.Ahead.{ahead_on, ahead_on_all}
 use Rattle.leg_targets.specs.Visits.{visit_of}
-use Rattle.bound_ticks.specs.Ways.{ways_by_number}
+use Rattle.bound_ticks.specs.Walks.{walks_by_number}
 use Rattle.bound_ticks.proofs.Longer.{numbered}
 
 module _ {X : Type 0} (f : X → Bool) (xs : List X) (i : ℕ) where
@@ -26,7 +26,7 @@ all_map : {X Y : Type 0} (f : Y → Bool) (g : X → Y) (xs : List X) → list_a
 all_map f g [] = refl
 all_map f g (x ∷ xs) = ap (λ t. f (g x) && t) (all_map f g xs)
 
-pub all_ahead : (b : Between) (l : Leg) (ls : List Leg) (ws : List (List RouteNo)) → ws ≡ ways_by_number b.interlocking.now.routes l.places → list_all (ahead_on b l ls) ws ≡ ahead_on_all b l ls
+pub all_ahead : (b : Between) (l : Leg) (ls : List Leg) (ws : List (List RouteNo)) → ws ≡ walks_by_number b.interlocking.now.routes l.places → list_all (ahead_on b l ls) ws ≡ ahead_on_all b l ls
 all_ahead b l ls ws are =
     let i = b.interlocking.now in
     let f = is_ahead i.design.station i.routes (visit_of b.from) (visit_of b.to) l ls in

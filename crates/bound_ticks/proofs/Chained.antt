@@ -10,10 +10,10 @@ use Rattle.rail_bound.specs.declared.Place.{Place}
 use Rattle.rail_bound.specs.Certificates.{VisitOf, first_of_leg, first_of_places, ride_of, routes_of_place, target, visit_place}
 use Rattle.rail_bound.specs.Rides.{chain_ticks, first_place, least_route, on_ticks, release_place, run_ticks, wait_ticks}
 use Rattle.rail_bound.specs.Validity.{ticks_from_visit, ticks_to}
-use Rattle.rail_bound.specs.Ways.{least_way, ways}
+use Rattle.rail_bound.specs.Walks.{least_walk, walks}
 use Rattle.bound_ticks.specs.Chains.{chain_of, end_ticks, leg_to_release, to_release, to_visit}
-use Rattle.bound_ticks.specs.Ways.{IsLeg, IsPlaceOf, first_routes}
-use Rattle.bound_ticks.proofs.Least.{least_way_most}
+use Rattle.bound_ticks.specs.Walks.{IsLeg, IsPlaceOf, first_routes}
+use Rattle.bound_ticks.proofs.Least.{least_walk_most}
 use Rattle.leg_targets.proofs.Parts.{rest_is}
 
 -- the routes of a leg's first place
@@ -51,10 +51,10 @@ module _ (d : Station) (routes : List Route) (h : ℕ) where
 
   end_most : (from to : Option VisitOf) (l : Leg) → end_ticks d routes h from to l ≤ h
   end_most from None l = omega arith
-  end_most from (Some v) l = least_way_most (to_visit d routes h from l.train v) h (ways (ride_of routes l).places)
+  end_most from (Some v) l = least_walk_most (to_visit d routes h from l.train v) h (walks (ride_of routes l).places)
 
   pub release_most : (from : Option VisitOf) (l : Leg) (next : List RouteNo) → leg_to_release d routes h from l next ≤ h
-  release_most from l next = least_way_most (to_release d routes h from l.train next) h (ways (ride_of routes l).places)
+  release_most from l next = least_walk_most (to_release d routes h from l.train next) h (walks (ride_of routes l).places)
 
   pub chain_most : (from to : Option VisitOf) (legs : List Leg) → chain_of d routes h from to legs ≤ length legs * (h + 1)
   chain_most from to [] = omega arith
@@ -79,15 +79,15 @@ chain_to d routes h None (l ∷ ls) = waits l ls
   where
     waits : (l : Leg) (ls : List Leg) → chain_of d routes h None None (l ∷ ls) ≡ wait_ticks d routes h (ride_of routes l) (map (ride_of routes) ls)
     waits l [] = refl
-    waits l (m ∷ ls) = ap₂ (λ a b. a + (1 + b)) (ap (λ qs. least_way (λ rs. least_route (λ q. run_ticks d routes h l.train rs (release_place d l.train rs q)) h qs) h (ways (ride_of routes l).places)) (sym (first_place_is routes m))) (waits m ls)
+    waits l (m ∷ ls) = ap₂ (λ a b. a + (1 + b)) (ap (λ qs. least_walk (λ rs. least_route (λ q. run_ticks d routes h l.train rs (release_place d l.train rs q)) h qs) h (walks (ride_of routes l).places)) (sym (first_place_is routes m))) (waits m ls)
 chain_to d routes h (Some v) (l ∷ ls) = visits l ls
   where
     visits : (l : Leg) (ls : List Leg) → chain_of d routes h None (Some v) (l ∷ ls) ≡ chain_ticks d routes h (ride_of routes l) (map (ride_of routes) ls) (target d v)
     visits l [] = refl
-    visits l (m ∷ ls) = ap₂ (λ a b. a + (1 + b)) (ap (λ qs. least_way (λ rs. least_route (λ q. run_ticks d routes h l.train rs (release_place d l.train rs q)) h qs) h (ways (ride_of routes l).places)) (sym (first_place_is routes m))) (visits m ls)
+    visits l (m ∷ ls) = ap₂ (λ a b. a + (1 + b)) (ap (λ qs. least_walk (λ rs. least_route (λ q. run_ticks d routes h l.train rs (release_place d l.train rs q)) h qs) h (walks (ride_of routes l).places)) (sym (first_place_is routes m))) (visits m ls)
 
 -- the ticks from a visit
 pub chain_from : (d : Station) (routes : List Route) (h : ℕ) (from to : VisitOf) (legs : List Leg) → chain_of d routes h (Some from) (Some to) legs ≡ ticks_from_visit d routes h from to legs
 chain_from d routes h from to [] = refl
 chain_from d routes h from to (l ∷ []) = refl
-chain_from d routes h from to (l ∷ m ∷ ls) = ap₂ (λ a b. a + (1 + b)) (ap (λ qs. least_way (λ rs. least_route (λ q. on_ticks d routes h l.train rs (visit_place d from rs) (release_place d l.train rs q)) h qs) h (ways (ride_of routes l).places)) (sym (first_place_is routes m))) (chain_to d routes h (Some to) (m ∷ ls))
+chain_from d routes h from to (l ∷ m ∷ ls) = ap₂ (λ a b. a + (1 + b)) (ap (λ qs. least_walk (λ rs. least_route (λ q. on_ticks d routes h l.train rs (visit_place d from rs) (release_place d l.train rs q)) h qs) h (walks (ride_of routes l).places)) (sym (first_place_is routes m))) (chain_to d routes h (Some to) (m ∷ ls))

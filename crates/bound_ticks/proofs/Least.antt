@@ -10,26 +10,26 @@ use Rattle.rail_course.specs.Tracks.{routes_at}
 use Rattle.rail_bound.specs.Certificates.{VisitOf, ride_of}
 use Rattle.rail_bound.specs.declared.Leg.{Leg}
 use Rattle.rail_bound.specs.Rides.{least_route, release_place}
-use Rattle.rail_bound.specs.Ways.{least_way, ways}
-use Rattle.bound_ticks.specs.Ways.{ways_by_number}
+use Rattle.rail_bound.specs.Walks.{least_walk, walks}
+use Rattle.bound_ticks.specs.Walks.{walks_by_number}
 use Rattle.bound_ticks.proofs.Longer.{numbered}
 use Rattle.bound_ticks.specs.Chains.{ticks_on}
 
--- what it takes to where a way has released what a route waits for
+-- what it takes to where a walk has released what a route waits for
 abbrev pub release_of : Interlocking → ℕ → Option VisitOf → TrainNo → List RouteNo → Route → ℕ
-release_of i h from t way q = let rs = routes_at i.routes way in ticks_on i.design.station i.routes h from t rs (release_place i.design.station t rs q)
+release_of i h from t walk q = let rs = routes_at i.routes walk in ticks_on i.design.station i.routes h from t rs (release_place i.design.station t rs q)
 
 pub sooner_route : (f : Route → ℕ) (n m : ℕ) (q : Route) (qs : List Route) → m ≡ min n (f q) → least_route f n (q ∷ qs) ≡ least_route f m qs
 sooner_route f n m q [] h = omega arith
 sooner_route f n m q (r ∷ qs) h = let g = sooner_route f n m q qs h in omega arith
 
-pub sooner_way : (f : List Route → ℕ) (n m : ℕ) (w : List Route) (ws : List (List Route)) → m ≡ min n (f w) → least_way f n (w ∷ ws) ≡ least_way f m ws
-sooner_way f n m w [] h = omega arith
-sooner_way f n m w (v ∷ ws) h = let g = sooner_way f n m w ws h in omega arith
+pub sooner_walk : (f : List Route → ℕ) (n m : ℕ) (w : List Route) (ws : List (List Route)) → m ≡ min n (f w) → least_walk f n (w ∷ ws) ≡ least_walk f m ws
+sooner_walk f n m w [] h = omega arith
+sooner_walk f n m w (v ∷ ws) h = let g = sooner_walk f n m w ws h in omega arith
 
-pub least_way_most : (f : List Route → ℕ) (n : ℕ) (ws : List (List Route)) → least_way f n ws ≤ n
-least_way_most f n [] = omega arith
-least_way_most f n (w ∷ ws) = let g = least_way_most f n ws in omega arith
+pub least_walk_most : (f : List Route → ℕ) (n : ℕ) (ws : List (List Route)) → least_walk f n ws ≤ n
+least_walk_most f n [] = omega arith
+least_walk_most f n (w ∷ ws) = let g = least_walk_most f n ws in omega arith
 
 module _ (f : Route → ℕ) (g : RouteNo → Route) (xs : List RouteNo) (i : ℕ) (other : RouteNo) where
   pub route_step : (n m t all : ℕ) → i < length xs → t ≡ f (g (get_or xs i other)) → m ≡ min n t → least_route f n (map g (drop i xs)) ≡ all → least_route f m (map g (drop (i + 1) xs)) ≡ all
@@ -37,12 +37,12 @@ module _ (f : Route → ℕ) (g : RouteNo → Route) (xs : List RouteNo) (i : �
       sym (sooner_route f n m (g (get_or xs i other)) (map g (drop (i + 1) xs)) (lower ∙ ap (min n) took)) ∙ (ap (λ ys. least_route f n (map g ys)) (sym (drop_more xs i other less)) ∙ h)
 
 module _ (f : List Route → ℕ) (routes : List Route) (ws : List (List RouteNo)) (i : ℕ) where
-  pub way_step : (v w : List RouteNo) (n m t all : ℕ) → i < length ws → v ≡ get_or ws i v → w ≡ v → t ≡ f (routes_at routes w) → m ≡ min n t
-      → least_way f n (map (routes_at routes) (drop i ws)) ≡ all → least_way f m (map (routes_at routes) (drop (i + 1) ws)) ≡ all
-  way_step v w n m t all less here same took lower h =
-      sym (sooner_way f n m (routes_at routes (get_or ws i v)) (map (routes_at routes) (drop (i + 1) ws)) (lower ∙ ap (min n) (took ∙ ap (λ z. f (routes_at routes z)) (same ∙ here))))
-      ∙ (ap (λ ys. least_way f n (map (routes_at routes) ys)) (sym (drop_more ws i v less)) ∙ h)
+  pub walk_step : (v w : List RouteNo) (n m t all : ℕ) → i < length ws → v ≡ get_or ws i v → w ≡ v → t ≡ f (routes_at routes w) → m ≡ min n t
+      → least_walk f n (map (routes_at routes) (drop i ws)) ≡ all → least_walk f m (map (routes_at routes) (drop (i + 1) ws)) ≡ all
+  walk_step v w n m t all less here same took lower h =
+      sym (sooner_walk f n m (routes_at routes (get_or ws i v)) (map (routes_at routes) (drop (i + 1) ws)) (lower ∙ ap (min n) (took ∙ ap (λ z. f (routes_at routes z)) (same ∙ here))))
+      ∙ (ap (λ ys. least_walk f n (map (routes_at routes) ys)) (sym (drop_more ws i v less)) ∙ h)
 
-  pub way_total : (l : Leg) (h least : ℕ) → length ws ≤ i → least_way f least (map (routes_at routes) (drop i ws)) ≡ least_way f h (map (routes_at routes) ws) → ws ≡ ways_by_number routes l.places → least ≡ least_way f h (ways (ride_of routes l).places)
-  way_total l h least over left are =
-      ap (λ vs. least_way f least (map (routes_at routes) vs)) (sym (drop_of_length-le ws over)) ∙ (left ∙ ap (least_way f h) (ap (map (routes_at routes)) are ∙ numbered routes l.places))
+  pub walk_total : (l : Leg) (h least : ℕ) → length ws ≤ i → least_walk f least (map (routes_at routes) (drop i ws)) ≡ least_walk f h (map (routes_at routes) ws) → ws ≡ walks_by_number routes l.places → least ≡ least_walk f h (walks (ride_of routes l).places)
+  walk_total l h least over left are =
+      ap (λ vs. least_walk f least (map (routes_at routes) vs)) (sym (drop_of_length-le ws over)) ∙ (left ∙ ap (least_walk f h) (ap (map (routes_at routes)) are ∙ numbered routes l.places))

@@ -12,8 +12,8 @@ use Rattle.interlocking.specs.declared.railway.Interlocking.{Interlocking}
 use Rattle.rail_cone.specs.declared.Cone.{Cone}
 use Rattle.rail_spec.specs.Plans.{is_train}
 use Rattle.rail_cone.specs.Cones.{named}
-use Rattle.rail_cone.specs.Validity.{free_granted, held, cone_visit}
-use Rattle.cone_design.specs.Fits.{fits}
+use Rattle.rail_cone.specs.Validity.{free_granted, holder_fits, cone_visit}
+use Rattle.cone_form.specs.Fits.{fits}
 use Rattle.cone_run.specs.Runs.{visit_shown}
 use Rattle.rail_bound.specs.declared.Bound.{Bound}
 use Rattle.rail_bound.specs.declared.Leg.{Leg}
@@ -23,8 +23,8 @@ use Rattle.rail_bound.specs.declared.Place.TheVariants as place
 use Rattle.rail_bound.specs.Certificates.{VisitOf, cone_at, train_to}
 use Rattle.rail_bound.specs.Validity.{are_few_choices, are_increasing, contend_where_they_meet, is_empty, is_numbered, last_leg, leg_in_design, most_places, origin_in_design, place_in_design, places_of, requirement_in_design}
 use Rattle.bound_ticks.specs.Claims.{IsNamed, cone_shows_of, from_of, made_at, names_fit}
-use Rattle.bound_ticks.specs.Looks.{capped}
-use Rattle.bound_ticks.specs.Ways.{IsLeg, IsPlaceOf}
+use Rattle.bound_ticks.specs.Looks.{cap}
+use Rattle.bound_ticks.specs.Walks.{IsLeg, IsPlaceOf}
 
 from_is : (a b n : ℕ) → is_from a b n ≡ true → (a ≤ n) × (n ≤ b)
 from_is a b n h = (leb-true a n (and_left (nat_le a n) (nat_le n b) h), leb-true n b (and_right (nat_le a n) (nat_le n b) h))
@@ -44,9 +44,9 @@ module _ (i : Interlocking) where
   leg_named : (l : Leg) → leg_in_design i.design.station i.routes l ≡ true → length l.places ≤ 64 → IsLeg i l
   leg_named l h few =
       let places = and_right (is_from 1 (length i.design.station.trains) l.train.0 && not (is_empty l.places)) (list_all (place_in_design i.design.station i.routes) l.places) h in
-      let front = and_left (is_from 1 (length i.design.station.trains) l.train.0 && not (is_empty l.places)) (list_all (place_in_design i.design.station i.routes) l.places) h in
+      let prefix = and_left (is_from 1 (length i.design.station.trains) l.train.0 && not (is_empty l.places)) (list_all (place_in_design i.design.station i.routes) l.places) h in
       record {
-        train = from_is 1 (length i.design.station.trains) l.train.0 (and_left (is_from 1 (length i.design.station.trains) l.train.0) (not (is_empty l.places)) front);
+        train = from_is 1 (length i.design.station.trains) l.train.0 (and_left (is_from 1 (length i.design.station.trains) l.train.0) (not (is_empty l.places)) prefix);
         places = all_from_in (IsPlaceOf i.routes) l.places (λ p m. place_named p (list_all_at (place_in_design i.design.station i.routes) l.places p places m));
         few = few;
       }
@@ -81,13 +81,13 @@ module _ (i : Interlocking) where
   made_if b k false at = refl
 
   abbrev shows : Bound → ℕ → VisitOf → Cone → Bool
-  shows b k v c = list_all (free_granted i.design.station i.routes c) c.trains && list_all (λ t. held i.design.station i.routes c t t.holder) c.trains
+  shows b k v c = list_all (free_granted i.design.station i.routes c) c.trains && list_all (λ t. holder_fits i.design.station i.routes c t t.holder) c.trains
       && made_at i b k (cone_visit i.design.station i.routes c (named c v.train).horizon v.train v.number)
 
   -- a visit made in the run of the cone is what the certificate's cone shows
   pub cone_made : (b : Bound) (k : ℕ) (c : Cone) (v : VisitOf) → b.origin ≡ origin.Cone k c → made_at i b k (visit_shown i c v.train v.number) ≡ cone_shows_of i b k v
   cone_made b k c v at =
-      made_if b k (list_all (free_granted i.design.station i.routes c) c.trains && list_all (λ t. held i.design.station i.routes c t t.holder) c.trains) (cone_visit i.design.station i.routes c (named c v.train).horizon v.train v.number)
+      made_if b k (list_all (free_granted i.design.station i.routes c) c.trains && list_all (λ t. holder_fits i.design.station i.routes c t t.holder) c.trains) (cone_visit i.design.station i.routes c (named c v.train).horizon v.train v.number)
       ∙ ap (shows b k v) (sym (ap (cone_at b.requirement) at))
 
   pub is_named : (b : Bound) → names_fit i b ≡ true → IsNamed i b
@@ -118,5 +118,5 @@ module _ (i : Interlocking) where
       }
 
 -- a count that is not too great is exact
-pub exact : (s n : ℕ) → s ≡ capped n → s ≤ 33554432 → s ≡ n
+pub exact : (s n : ℕ) → s ≡ cap n → s ≤ 33554432 → s ≡ n
 exact s n e few = omega arith

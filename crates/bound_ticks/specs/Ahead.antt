@@ -10,23 +10,23 @@ use Rattle.rail_bound.specs.declared.Leg.{Leg}
 use Rattle.rail_bound.specs.Certificates.{ride_of}
 use Rattle.rail_bound.specs.Rides.{release_place}
 use Rattle.rail_bound.specs.Validity.{is_ahead}
-use Rattle.rail_bound.specs.Ways.{ways}
+use Rattle.rail_bound.specs.Walks.{walks}
 use Rattle.bound_ticks.specs.declared.ahead.Between.{Between}
 use Rattle.leg_targets.specs.Visits.{visit_of}
 
--- the place is not past where the way has released what any of these routes waits for
+-- the place is not past where the walk has released what any of these routes waits for
 abbrev pub all_past : Interlocking → TrainNo → List RouteNo → ℕ → List RouteNo → Bool
-all_past i t way place next =
-    let rs = routes_at i.routes way in
+all_past i t walk place next =
+    let rs = routes_at i.routes walk in
     list_all (λ s. nat_le place (release_place i.design.station t rs s)) (map (route_at i.routes) next)
 
--- on the way the first visit's place is not past where the way leads
+-- on the walk the first visit's place is not past where the walk leads
 abbrev pub ahead_on : Between → Leg → List Leg → List RouteNo → Bool
-ahead_on b l ls way = let i = b.interlocking.now in
-    is_ahead i.design.station i.routes (visit_of b.from) (visit_of b.to) l ls (routes_at i.routes way)
+ahead_on b l ls walk = let i = b.interlocking.now in
+    is_ahead i.design.station i.routes (visit_of b.from) (visit_of b.to) l ls (routes_at i.routes walk)
 
--- so on all ways of the leg
+-- so on all walks of the leg
 abbrev pub ahead_on_all : Between → Leg → List Leg → Bool
 ahead_on_all b l ls = let i = b.interlocking.now in
     let test = is_ahead i.design.station i.routes (visit_of b.from) (visit_of b.to) l ls in
-    list_all test (ways (ride_of i.routes l).places)
+    list_all test (walks (ride_of i.routes l).places)

@@ -8,31 +8,31 @@ use Rattle.rail_base.specs.Routes.{route_at}
 use Rattle.rail_bound.specs.declared.Leg.{Leg}
 use Rattle.rail_bound.specs.Certificates.{VisitOf, ride_of, target, visit_place}
 use Rattle.rail_bound.specs.Rides.{least_route, on_ticks, release_place, run_ticks}
-use Rattle.rail_bound.specs.Ways.{least_way, ways}
-use Rattle.bound_ticks.specs.Ways.{first_routes}
+use Rattle.rail_bound.specs.Walks.{least_walk, walks}
+use Rattle.bound_ticks.specs.Walks.{first_routes}
 
 module _ (d : Station) (routes : List Route) (h : ℕ) where
-  -- the least ticks to a place of a way, from the grant of its first route or from the visit
+  -- the least ticks to a place of a walk, from the grant of its first route or from the visit
   abbrev pub ticks_on : Option VisitOf → TrainNo → List Route → ℕ → ℕ
   ticks_on None t rs y = run_ticks d routes h t rs y
   ticks_on (Some v) t rs y = on_ticks d routes h t rs (visit_place d v rs) y
 
-  -- to where the way has released what one of these routes waits for
+  -- to where the walk has released what one of these routes waits for
   abbrev pub to_release : Option VisitOf → TrainNo → List RouteNo → List Route → ℕ
   to_release from t next rs =
       least_route (λ q. ticks_on from t rs (release_place d t rs q)) h (map (route_at routes) next)
 
-  -- the same over all ways of a leg
+  -- the same over all walks of a leg
   abbrev pub leg_to_release : Option VisitOf → Leg → List RouteNo → ℕ
-  leg_to_release from l next = least_way (to_release from l.train next) h (ways (ride_of routes l).places)
+  leg_to_release from l next = least_walk (to_release from l.train next) h (walks (ride_of routes l).places)
 
   -- to where a visit can be made
   abbrev pub to_visit : Option VisitOf → TrainNo → VisitOf → List Route → ℕ
   to_visit from t v rs = ticks_on from t rs (target d v rs)
 
-  -- the same over all ways of a leg
+  -- the same over all walks of a leg
   abbrev pub leg_to_visit : Option VisitOf → Leg → VisitOf → ℕ
-  leg_to_visit from l v = least_way (to_visit from l.train v) h (ways (ride_of routes l).places)
+  leg_to_visit from l v = least_walk (to_visit from l.train v) h (walks (ride_of routes l).places)
 
   -- the ticks of the last leg: to a visit, or none where they end with the grant of its first command
   abbrev pub end_ticks : Option VisitOf → Option VisitOf → Leg → ℕ

@@ -9,8 +9,8 @@ use Rattle.rail_bound.specs.declared.Requirement.{Requirement}
 use Rattle.rail_bound.specs.Certificates.{VisitOf, visit_from, visit_to}
 use Rattle.rail_bound.specs.Validity.{cone_shows, followed, is_made_at, is_shown, is_too_long, names_design}
 use Rattle.rail_bound.specs.Validity.{passes_between, requirement_in_design, ticks_from_visit, ticks_to}
-use Rattle.cone_design.specs.Fits.{fits}
-use Rattle.bound_ticks.specs.Ways.{IsLeg}
+use Rattle.cone_form.specs.Fits.{fits}
+use Rattle.bound_ticks.specs.Walks.{IsLeg}
 
 module _ (i : Interlocking) where
   -- the design has what is required

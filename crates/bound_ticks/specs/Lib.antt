@@ -1,5 +1,5 @@
 -- The legs of a certificate by the numbers of their routes, and the ticks that they take.
-pub mod Ways
+pub mod Walks
 pub mod Looks
 pub mod Chains
 pub mod Ahead

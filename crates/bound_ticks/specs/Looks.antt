@@ -6,5 +6,5 @@ abbrev pub too_many : ℕ
 too_many = 33554433
 
 -- no more than that
-abbrev pub capped : ℕ → ℕ
-capped n = min n too_many
+abbrev pub cap : ℕ → ℕ
+cap n = min n too_many

@@ -5,9 +5,9 @@ ghost use Rattle.rail_base.specs.Routes.{IsRoute};
 ghost use Rattle.rail_base.specs.Stations.{IsTrain};
 ghost use Rattle.rail_bound.specs.Validity.{are_ahead};
 ghost use Rattle.leg_targets.specs.Visits.{visit_of};
-ghost use Rattle.bound_ticks.specs.Ways.{IsLeg};
+ghost use Rattle.bound_ticks.specs.Walks.{IsLeg};
 
-use crate::ways::{first_routes, ways_of};
+use crate::walks::{first_routes, walks_of};
 use interlocking::Interlocking;
 use leg_targets::{Visit, release_place, target, visit_place};
 use rail_base::route::RouteNo;
@@ -28,53 +28,53 @@ pub(crate) struct Between<'a> {
 impl Between<'_> {
     ghost use Rattle.bound_ticks.specs.Ahead.{ahead_on, ahead_on_all, all_past};
 
-    /// Whether a place is not past where a way has released what any of these routes waits for.
-    fn all_past(&self, train: TrainNo, way: &[RouteNo], place: u64, next: &[RouteNo]) -> bool
+    /// Whether a place is not past where a walk has released what any of these routes waits for.
+    fn all_past(&self, train: TrainNo, walk: &[RouteNo], place: u64, next: &[RouteNo]) -> bool
         requires train { IsTrain self.now.interlocking.now.design.station train }
-        requires way { All (IsRoute self.now.interlocking.now.routes) way.now }
-        requires few { length way.now ≤ 64 }
+        requires walk { All (IsRoute self.now.interlocking.now.routes) walk.now }
+        requires at_most_64 { length walk.now ≤ 64 }
         requires next { All (IsRoute self.now.interlocking.now.routes) next.now }
-        ensures { result ≡ all_past self.now.interlocking.now train way.now place next.now }
+        ensures { result ≡ all_past self.now.interlocking.now train walk.now place next.now }
     {
         for route in next {
-            if place > release_place(self.interlocking, train, way, *route) {
+            if place > release_place(self.interlocking, train, walk, *route) {
                 return false;
             }
         }
         true
     }
 
-    /// Whether on a way the first visit's place is not past where the way leads.
-    fn ahead_on(&self, leg: &Leg, rest: &[Leg], way: &[RouteNo]) -> bool
+    /// Whether on a walk the first visit's place is not past where the walk leads.
+    fn ahead_on(&self, leg: &Leg, rest: &[Leg], walk: &[RouteNo]) -> bool
         requires leg { IsLeg self.now.interlocking.now leg.now }
         requires rest { All (IsLeg self.now.interlocking.now) rest.now }
-        requires way { All (IsRoute self.now.interlocking.now.routes) way.now }
-        requires few { length way.now ≤ 64 }
-        ensures { result ≡ ahead_on self.now leg.now rest.now way.now }
+        requires walk { All (IsRoute self.now.interlocking.now.routes) walk.now }
+        requires at_most_64 { length walk.now ≤ 64 }
+        ensures { result ≡ ahead_on self.now leg.now rest.now walk.now }
     {
-        let place = visit_place(self.interlocking, self.from, way);
+        let place = visit_place(self.interlocking, self.from, walk);
         if rest.is_empty() {
-            return place <= target(self.interlocking, self.to, way);
+            return place <= target(self.interlocking, self.to, walk);
         }
-        self.all_past(leg.train, way, place, first_routes(rest))
+        self.all_past(leg.train, walk, place, first_routes(rest))
     }
 
-    /// Whether it is so on all ways of the leg.
+    /// Whether it is so on all walks of the leg.
     fn ahead_on_all(&self, alloc: Global, leg: &Leg, rest: &[Leg]) -> Result<bool, AllocError>
         requires leg { IsLeg self.now.interlocking.now leg.now }
         requires rest { All (IsLeg self.now.interlocking.now) rest.now }
         ensures { IfOk result (λ b. b ≡ ahead_on_all self.now leg.now rest.now) }
     {
-        let ways = ways_of(alloc, &self.interlocking.routes, leg.places.as_slice())?;
-        for way in &ways {
-            if !self.ahead_on(leg, rest, way.as_slice()) {
+        let walks = walks_of(alloc, &self.interlocking.routes, leg.places.as_slice())?;
+        for walk in &walks {
+            if !self.ahead_on(leg, rest, walk.as_slice()) {
                 return Ok(false);
             }
         }
         Ok(true)
     }
 
-    /// Whether it is so on all ways of the first of some legs.
+    /// Whether it is so on all walks of the first of some legs.
     pub(crate) fn are_ahead(&self, alloc: Global, legs: &[Leg]) -> Result<bool, AllocError>
         requires { All (IsLeg self.now.interlocking.now) legs.now }
         ensures { let i = self.now.interlocking.now in IfOk result (λ b. b

@@ -5,10 +5,10 @@ ghost use Rattle.std.specs.Option.{ForSome};
 ghost use Rattle.rail_base.specs.Stations.{IsTrain};
 ghost use Rattle.bound_ticks.specs.Chains.{chain_of, end_ticks};
 ghost use Rattle.leg_targets.specs.Visits.{origin_of};
-ghost use Rattle.bound_ticks.specs.Ways.{IsLeg};
+ghost use Rattle.bound_ticks.specs.Walks.{IsLeg};
 
 use crate::legs::Ride;
-use crate::ways::first_routes;
+use crate::walks::first_routes;
 use interlocking::Interlocking;
 use leg_targets::Visit;
 use rail_bound::Leg;
@@ -52,7 +52,7 @@ impl Chain<'_> {
         legs: &[Leg],
     ) -> Result<u64, AllocError>
         requires legs { All (IsLeg self.now.interlocking.now) legs.now }
-        requires many { length legs.now ≤ 64 }
+        requires at_most_64 { length legs.now ≤ 64 }
         requires from { ForSome from (λ v. IsTrain self.now.interlocking.now.design.station v.train) }
         ensures { let i = self.now.interlocking.now in IfOk result (λ n. n
             ≡ chain_of i.design.station i.routes self.now.most (origin_of from) (origin_of self.now.to) legs.now) }

@@ -8,9 +8,9 @@ ghost use Rattle.rail_course.specs.Tracks.{routes_at};
 ghost use Rattle.rail_bound.specs.Certificates.{VisitOf};
 ghost use Rattle.bound_ticks.specs.Chains.{leg_to_release, leg_to_visit, ticks_on, to_release, to_visit};
 ghost use Rattle.leg_targets.specs.Visits.{origin_of, visit_of};
-ghost use Rattle.bound_ticks.specs.Ways.{IsLeg};
+ghost use Rattle.bound_ticks.specs.Walks.{IsLeg};
 
-use crate::ways::ways_of;
+use crate::walks::walks_of;
 use free_moves::{on_ticks, run_ticks};
 use interlocking::Interlocking;
 use leg_targets::{Visit, release_place, target, visit_place};
@@ -32,83 +32,91 @@ pub struct Ride<'a> {
 }
 
 impl Ride<'_> {
-    /// The least ticks to a place of a way.
-    fn ticks_on(&self, alloc: Global, way: &[RouteNo], place: u64) -> Result<u64, AllocError>
-        requires way { All (IsRoute self.now.interlocking.now.routes) way.now }
-        requires few { length way.now ≤ 64 }
+    /// The least ticks to a place of a walk.
+    fn ticks_on(&self, alloc: Global, walk: &[RouteNo], place: u64) -> Result<u64, AllocError>
+        requires walk { All (IsRoute self.now.interlocking.now.routes) walk.now }
+        requires at_most_64 { length walk.now ≤ 64 }
         requires place { place < 2 ^ 47 }
-        ensures { let i = self.now.interlocking.now in let rs = routes_at i.routes way.now in
+        ensures { let i = self.now.interlocking.now in let rs = routes_at i.routes walk.now in
             let from = origin_of self.now.from in IfOk result (λ n. n
             ≡ ticks_on i.design.station i.routes self.now.most from self.now.leg.now.train rs place) }
     {
         let train = self.leg.train;
         match self.from {
-            None => run_ticks(alloc, self.interlocking, train, way, place, self.most),
+            None => run_ticks(alloc, self.interlocking, train, walk, place, self.most),
             Some(visit) => {
-                let from = visit_place(self.interlocking, visit, way);
-                on_ticks(alloc, self.interlocking, train, way, from, place, self.most)
+                let from = visit_place(self.interlocking, visit, walk);
+                on_ticks(
+                    alloc,
+                    self.interlocking,
+                    train,
+                    walk,
+                    from,
+                    place,
+                    self.most,
+                )
             }
         }
     }
 
-    /// The least ticks to where a visit can be made on a way.
-    fn to_visit(&self, alloc: Global, way: &[RouteNo], visit: Visit) -> Result<u64, AllocError>
-        requires way { All (IsRoute self.now.interlocking.now.routes) way.now }
-        requires few { length way.now ≤ 64 }
+    /// The least ticks to where a visit can be made on a walk.
+    fn to_visit(&self, alloc: Global, walk: &[RouteNo], visit: Visit) -> Result<u64, AllocError>
+        requires walk { All (IsRoute self.now.interlocking.now.routes) walk.now }
+        requires at_most_64 { length walk.now ≤ 64 }
         requires visit { IsTrain self.now.interlocking.now.design.station visit.train }
-        ensures { let i = self.now.interlocking.now in let rs = routes_at i.routes way.now in
+        ensures { let i = self.now.interlocking.now in let rs = routes_at i.routes walk.now in
             let from = origin_of self.now.from in let train = self.now.leg.now.train in IfOk result (λ n. n
             ≡ to_visit i.design.station i.routes self.now.most from train (visit_of visit) rs) }
     {
-        self.ticks_on(alloc, way, target(self.interlocking, visit, way))
+        self.ticks_on(alloc, walk, target(self.interlocking, visit, walk))
     }
 
-    /// The least ticks to where a way has released what one of these routes waits for.
+    /// The least ticks to where a walk has released what one of these routes waits for.
     fn to_release(
         &self,
         alloc: Global,
-        way: &[RouteNo],
+        walk: &[RouteNo],
         next: &[RouteNo],
     ) -> Result<u64, AllocError>
-        requires way { All (IsRoute self.now.interlocking.now.routes) way.now }
-        requires few { length way.now ≤ 64 }
+        requires walk { All (IsRoute self.now.interlocking.now.routes) walk.now }
+        requires at_most_64 { length walk.now ≤ 64 }
         requires next { All (IsRoute self.now.interlocking.now.routes) next.now }
-        ensures { let i = self.now.interlocking.now in let rs = routes_at i.routes way.now in
+        ensures { let i = self.now.interlocking.now in let rs = routes_at i.routes walk.now in
             let from = origin_of self.now.from in let train = self.now.leg.now.train in IfOk result (λ n. n
             ≡ to_release i.design.station i.routes self.now.most from train next.now rs) }
     {
         let mut least = self.most;
         for route in next {
-            let place = release_place(self.interlocking, self.leg.train, way, *route);
-            least = least.min(self.ticks_on(alloc, way, place)?);
+            let place = release_place(self.interlocking, self.leg.train, walk, *route);
+            least = least.min(self.ticks_on(alloc, walk, place)?);
         }
         Ok(least)
     }
 
-    /// The least ticks to a visit over all ways of the leg.
+    /// The least ticks to a visit over all walks of the leg.
     pub fn leg_to_visit(&self, alloc: Global, visit: Visit) -> Result<u64, AllocError>
         requires { IsTrain self.now.interlocking.now.design.station visit.train }
         ensures { let i = self.now.interlocking.now in let from = origin_of self.now.from in IfOk result (λ n. n
             ≡ leg_to_visit i.design.station i.routes self.now.most from self.now.leg.now (visit_of visit)) }
     {
-        let ways = ways_of(alloc, &self.interlocking.routes, self.leg.places.as_slice())?;
+        let walks = walks_of(alloc, &self.interlocking.routes, self.leg.places.as_slice())?;
         let mut least = self.most;
-        for way in &ways {
-            least = least.min(self.to_visit(alloc, way.as_slice(), visit)?);
+        for walk in &walks {
+            least = least.min(self.to_visit(alloc, walk.as_slice(), visit)?);
         }
         Ok(least)
     }
 
-    /// The least ticks to a release over all ways of the leg.
+    /// The least ticks to a release over all walks of the leg.
     pub fn leg_to_release(&self, alloc: Global, next: &[RouteNo]) -> Result<u64, AllocError>
         requires { All (IsRoute self.now.interlocking.now.routes) next.now }
         ensures { let i = self.now.interlocking.now in let from = origin_of self.now.from in IfOk result (λ n. n
             ≡ leg_to_release i.design.station i.routes self.now.most from self.now.leg.now next.now) }
     {
-        let ways = ways_of(alloc, &self.interlocking.routes, self.leg.places.as_slice())?;
+        let walks = walks_of(alloc, &self.interlocking.routes, self.leg.places.as_slice())?;
         let mut least = self.most;
-        for way in &ways {
-            least = least.min(self.to_release(alloc, way.as_slice(), next)?);
+        for walk in &walks {
+            least = least.min(self.to_release(alloc, walk.as_slice(), next)?);
         }
         Ok(least)
     }

@@ -1,6 +1,6 @@
 //! Whether certificates of lower bounds show what they say: the ticks that chains of trains take at the least.
 //!
-//! Places and lengths are in mm from the start of a way.
+//! Places and lengths are in mm from the start of a walk.
 #![tactic(auto)]
 
 mod ahead;
@@ -10,10 +10,10 @@ mod legs;
 mod requirement;
 mod shown;
 mod stretches;
-mod ways;
+mod walks;
 
 pub use legs::Ride;
 pub use requirement::{visit_from, visit_to};
 pub use shown::is_shown;
-pub use stretches::{followed, stretches_of};
-pub use ways::first_routes;
+pub use stretches::{stretches_of, ticks_followed};
+pub use walks::first_routes;

@@ -16,8 +16,8 @@ use rail_bound::Requirement;
 
 /// The within of a number.
 fn within_of(station: &Station, within: u32) -> &Within
-    requires first { 1 ≤ within }
-    requires last { within ≤ length station.now.withins }
+    requires at_least_one { 1 ≤ within }
+    requires within { within ≤ length station.now.withins }
     ensures { result.now ≡ within_of station.now within }
 {
     &station.withins.as_slice()[within as usize - 1]
@@ -25,8 +25,8 @@ fn within_of(station: &Station, within: u32) -> &Within
 
 /// The order of a number.
 fn order_of(station: &Station, order: u32) -> &Order
-    requires first { 1 ≤ order }
-    requires last { order ≤ length station.now.orders }
+    requires at_least_one { 1 ≤ order }
+    requires within { order ≤ length station.now.orders }
     ensures { result.now ≡ order_of station.now order }
 {
     &station.orders.as_slice()[order as usize - 1]
@@ -121,7 +121,7 @@ pub(crate) fn is_too_late(
     ticks: u64,
 ) -> bool
     requires fits { requirement_fits interlocking.now requirement ≡ true }
-    requires few { ticks ≤ 10000000 }
+    requires at_most_10000000 { ticks ≤ 10000000 }
     ensures { let i = interlocking.now in result
         ≡ is_too_late i.design.station i.routes requirement tick ticks }
 {

@@ -16,8 +16,8 @@ use crate::ahead::Between;
 use crate::chain::Chain;
 use crate::claim::Claim;
 use crate::requirement::{is_too_late, is_too_long, visit_from, visit_to};
-use crate::stretches::{MOST_LOOKS, followed, stretches_of};
-use cone_design::Contention;
+use crate::stretches::{MOST_LOOKS, stretches_of, ticks_followed};
+use cone_form::Contention;
 use cone_run::visit_shown;
 use leg_targets::Visit;
 use rail_bound::{Bound, Origin};
@@ -64,7 +64,7 @@ impl Claim<'_> {
         requires { ForSome to (λ v. IsTrain self.now.contention.interlocking.now.design.station v.train) }
         ensures ticks { IfOk result (λ n. n
             ≡ ticks_of self.now.contention.interlocking.now self.now.most self.now.bound.now (origin_of to)) }
-        ensures few { IfOk result (λ n. n ≤ 5529664) }
+        ensures at_most_5529664 { IfOk result (λ n. n ≤ 5529664) }
     {
         let chain = Chain {
             interlocking: self.contention.interlocking,
@@ -221,7 +221,7 @@ pub fn is_shown(alloc: Global, contention: &Contention, bound: &Bound) -> Result
     let claim = Claim {
         contention: *contention,
         bound,
-        most: followed(contention.interlocking, stretches),
+        most: ticks_followed(contention.interlocking, stretches),
     };
     claim.is_shown(alloc)
 }

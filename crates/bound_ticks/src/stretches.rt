@@ -4,11 +4,11 @@ ghost use Rattle.std.specs.Prelude.{◌≡◌, ◌≤◌, ◌/◌, All, IfOk, mi
 ghost use Rattle.rail_base.specs.Routes.{IsRoute};
 ghost use Rattle.rail_base.specs.Stations.{horizon};
 ghost use Rattle.rail_course.specs.Tracks.{routes_at};
-ghost use Rattle.rail_bound.specs.Validity.{most_looks, stretches_in, stretches_of, stretches_of_leg, stretches_of_way};
-ghost use Rattle.bound_ticks.specs.Looks.{capped};
-ghost use Rattle.bound_ticks.specs.Ways.{IsLeg};
+ghost use Rattle.rail_bound.specs.Validity.{most_looks, stretches_in, stretches_of, stretches_of_leg, stretches_of_walk};
+ghost use Rattle.bound_ticks.specs.Looks.{cap};
+ghost use Rattle.bound_ticks.specs.Walks.{IsLeg};
 
-use crate::ways::{first_routes, ways_of};
+use crate::walks::{first_routes, walks_of};
 use free_moves::goes_further;
 use interlocking::Interlocking;
 use rail_base::route::{RouteNo, RouteTable, route_at};
@@ -19,42 +19,42 @@ use std::alloc::{AllocError, Global};
 pub(crate) const MOST_LOOKS: u64 = 33_554_432;
 
 /// A count, or one more than the most.
-fn capped(count: u64) -> u64
-    ensures { result ≡ capped count }
+fn cap(count: u64) -> u64
+    ensures { result ≡ cap count }
 {
     count.min(MOST_LOOKS + 1)
 }
 
-/// The stretches of a way.
-fn stretches_in(routes: &RouteTable, way: &[RouteNo]) -> u64
-    requires { All (IsRoute routes.now) way.now }
-    ensures { result ≡ capped (stretches_in (routes_at routes.now way.now)) }
+/// The stretches of a walk.
+fn stretches_in(routes: &RouteTable, walk: &[RouteNo]) -> u64
+    requires { All (IsRoute routes.now) walk.now }
+    ensures { result ≡ cap (stretches_in (routes_at routes.now walk.now)) }
 {
     let mut count = 0;
-    for number in way {
-        count = capped(count + capped(route_at(routes, *number).edges.len() as u64));
+    for number in walk {
+        count = cap(count + cap(route_at(routes, *number).edges.len() as u64));
     }
     count
 }
 
-/// The stretches of a way, by itself and with each route that goes on where it ends.
-fn stretches_of_way(interlocking: &Interlocking, way: &[RouteNo]) -> u64
-    requires { All (IsRoute interlocking.now.routes) way.now }
+/// The stretches of a walk, by itself and with each route that goes on where it ends.
+fn stretches_of_walk(interlocking: &Interlocking, walk: &[RouteNo]) -> u64
+    requires { All (IsRoute interlocking.now.routes) walk.now }
     ensures { let routes = interlocking.now.routes in result
-        ≡ capped (stretches_of_way interlocking.now.design.station routes (routes_at routes way.now)) }
+        ≡ cap (stretches_of_walk interlocking.now.design.station routes (routes_at routes walk.now)) }
 {
     let routes = &interlocking.routes;
-    let own = stretches_in(routes, way);
+    let own = stretches_in(routes, walk);
     let mut count = own;
     for next in routes.as_slice() {
-        if goes_further(routes, way, next) {
-            count = capped(count + own + capped(next.edges.len() as u64));
+        if goes_further(routes, walk, next) {
+            count = cap(count + own + cap(next.edges.len() as u64));
         }
     }
     count
 }
 
-/// The stretches of all ways of a leg, for each of the places to which they lead.
+/// The stretches of all walks of a leg, for each of the places to which they lead.
 fn stretches_of_leg(
     alloc: Global,
     interlocking: &Interlocking,
@@ -63,14 +63,14 @@ fn stretches_of_leg(
 ) -> Result<u64, AllocError>
     requires { IsLeg interlocking.now leg.now }
     ensures { let d = interlocking.now.design.station in
-        IfOk result (λ n. n ≡ capped (stretches_of_leg d interlocking.now.routes leg.now places)) }
+        IfOk result (λ n. n ≡ cap (stretches_of_leg d interlocking.now.routes leg.now places)) }
 {
-    let ways = ways_of(alloc, &interlocking.routes, leg.places.as_slice())?;
+    let walks = walks_of(alloc, &interlocking.routes, leg.places.as_slice())?;
     let mut count = 0;
-    for way in &ways {
-        count = capped(count + stretches_of_way(interlocking, way.as_slice()));
+    for walk in &walks {
+        count = cap(count + stretches_of_walk(interlocking, walk.as_slice()));
     }
-    Ok(capped(count * capped(places as u64)))
+    Ok(cap(count * cap(places as u64)))
 }
 
 /// The stretches of all legs, each of which leads to what the next waits for.
@@ -81,22 +81,22 @@ pub fn stretches_of(
 ) -> Result<u64, AllocError>
     requires { All (IsLeg interlocking.now) legs.now }
     ensures { let d = interlocking.now.design.station in
-        IfOk result (λ n. n ≡ capped (stretches_of d interlocking.now.routes legs.now)) }
+        IfOk result (λ n. n ≡ cap (stretches_of d interlocking.now.routes legs.now)) }
 {
     match legs {
         [] => Ok(0),
         [last] => stretches_of_leg(alloc, interlocking, last, 1),
         [leg, rest @ ..] => {
             let own = stretches_of_leg(alloc, interlocking, leg, first_routes(rest).len())?;
-            Ok(capped(own + stretches_of(alloc, interlocking, rest)?))
+            Ok(cap(own + stretches_of(alloc, interlocking, rest)?))
         }
     }
 }
 
 /// The ticks in which so many stretches may be looked at.
-pub fn followed(interlocking: &Interlocking, stretches: u64) -> u64
+pub fn ticks_followed(interlocking: &Interlocking, stretches: u64) -> u64
     ensures ticks { result ≡ min (horizon interlocking.now.design.station) (most_looks / stretches) }
-    ensures few { result ≤ 86400 }
+    ensures at_most_86400 { result ≤ 86400 }
 {
     let most = MOST_LOOKS.checked_div(stretches).unwrap_or(0);
     interlocking.design.horizon().min(most)

@@ -19,7 +19,7 @@ use Rattle.rail_cone.specs.declared.Cone.{Cone}
 use Rattle.rail_cone.specs.Validity.{is_before, is_pair_before, in_design}
 use Rattle.rail_cone.specs.Clauses.{Fact, Used, Before, Literal, clause_of_cone}
 use Rattle.cone_clause.proofs.ClauseOrder.{is_fact_before, is_literal_before, clause_sorted}
-use Rattle.cone_design.proofs.Sorted.{all_pairs_map, pairs_sorted}
+use Rattle.cone_form.proofs.Sorted.{all_pairs_map, pairs_sorted}
 use Rattle.cone_clause.specs.Numbered.{variable_of, lit_of, numbered_clause}
 use Rattle.cone_clause.proofs.Known.{IsKnown, all_known}
 use Rattle.rail_base.proofs.Lists.{list_all_from, in_map_back, in_count_back}

@@ -20,7 +20,7 @@ use Rattle.rail_cone.specs.Validity.{in_design}
 use Rattle.rail_cone.specs.Clauses.{Before, Literal, before_literals}
 use Rattle.rail_cone.proofs.Naming.{IsNamed, named_or_not, has_route_in, in_has_route}
 use Rattle.rail_cone.proofs.Saying.{is_command_same, is_command_self}
-use Rattle.cone_design.proofs.Placed.{to_place, is_pair_same, pair_itself}
+use Rattle.cone_form.proofs.Placed.{to_place, is_pair_same, pair_itself}
 use Rattle.sat_clause.specs.declared.lit.Lit.{Lit}
 use Rattle.rail_spec.specs.Plans.{all_commands}
 use Rattle.cone_clause.specs.Numbered.{lit_of}
@@ -210,14 +210,14 @@ module _ (d : Station) (routes : List Route) (k : Cone) (fits : in_design d rout
     more next i other now new l said none v negated is h grown before =
         let inside : i < length (pairs d routes) = place_inside (pairs d routes) i said.0 said.1 in
         let p : Command × Command = get_or (pairs d routes) i other in
-        let front : List Literal = flat_map said_of (take next (pairs d routes)) in
-        let parts : flat_map said_of (take (i + 1) (pairs d routes)) ≡ front ++ said_of p =
+        let prefix : List Literal = flat_map said_of (take next (pairs d routes)) in
+        let parts : flat_map said_of (take (i + 1) (pairs d routes)) ≡ prefix ++ said_of p =
         ap (flat_map said_of) (take_more (pairs d routes) i other inside)
         ∙ (flat_map-append said_of (take i (pairs d routes)) (p ∷ [])
         ∙ ap₂ (λ xs ys. xs ++ ys) (quiet next i other l (omega arith) none) (append-nil (said_of p))) in
         grown ∙ (ap₂ (λ xs ys. xs ++ ys) before (one_said n i other said v negated is h)
-        ∙ (append_assoc old (map (lit_of d routes n) front) (map (lit_of d routes n) (said_of p))
-        ∙ ap (λ ls. old ++ ls) (sym (ap (map (lit_of d routes n)) parts ∙ map-append (lit_of d routes n) front (said_of p)))))
+        ∙ (append_assoc old (map (lit_of d routes n) prefix) (map (lit_of d routes n) (said_of p))
+        ∙ ap (λ ls. old ++ ls) (sym (ap (map (lit_of d routes n)) parts ∙ map-append (lit_of d routes n) prefix (said_of p)))))
 
     whole : Whole (pairs d routes)
     whole next other now l none before =

@@ -1,6 +1,6 @@
 -- The numbers of places are small.
 use Rattle.std.proofs.Common.{ℕ, ◌≤◌, ◌<◌, List, length, get_or}
-use Rattle.cone_design.proofs.Orders.{member_at}
+use Rattle.cone_form.proofs.Orders.{member_at}
 use Rattle.cone_clause.specs.declared.numbered.NumberedCone.{NumberedCone}
 use Rattle.cone_clause.specs.Places.{AreSaid}
 use Rattle.cone_clause.proofs.Said.{place_inside}

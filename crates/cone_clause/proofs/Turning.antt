@@ -2,8 +2,8 @@
 use Rattle.std.proofs.Common.{sym, subst}
 use Rattle.rail_base.specs.declared.plan.Command.{Command}
 use Rattle.rail_base.specs.Members.{In}
-use Rattle.cone_design.specs.declared.contention.Contention.{Contention}
-use Rattle.cone_design.proofs.Contending.{mirrored, listed_there}
+use Rattle.cone_form.specs.declared.contention.Contention.{Contention}
+use Rattle.cone_form.proofs.Contending.{mirrored, listed_there}
 use Rattle.cone_clause.specs.declared.numbered.NumberedCone.{NumberedCone}
 use Rattle.cone_clause.proofs.Said.{IsMirrored}
 

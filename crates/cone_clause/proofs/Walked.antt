@@ -21,8 +21,8 @@ use Rattle.rail_cone.specs.Cones.{unnamed, first_named, named, is_named, is_list
 use Rattle.rail_cone.specs.Validity.{in_design, is_pair_before}
 use Rattle.rail_cone.specs.Clauses.{Before, Literal, used_literals, before_literals}
 use Rattle.rail_cone.proofs.Naming.{IsNamed, named_or_not, of_design, proper, listed_is}
-use Rattle.cone_design.proofs.Ranges.{all_routes}
-use Rattle.cone_design.proofs.Sorted.{pairs_sorted}
+use Rattle.cone_form.proofs.Ranges.{all_routes}
+use Rattle.cone_form.proofs.Sorted.{pairs_sorted}
 use Rattle.cone_clause.specs.Numbered.{signed, lit_of}
 use Rattle.cone_clause.proofs.Gathering.{flat_flat}
 use Rattle.cone_clause.proofs.Signing.{before_signed}

@@ -1,11 +1,11 @@
-//! How the clause of a cone is listed.
+//! How the clause of a cone is made.
 
 ghost use Rattle.std.specs.Prelude.{◌≡◌, true, IfOk};
-ghost use Rattle.cone_design.specs.Fits.{fits};
+ghost use Rattle.cone_form.specs.Fits.{fits};
 ghost use Rattle.cone_clause.specs.Numbered.{clause_in};
 
 use crate::numbered::NumberedCone;
-use cone_design::Contention;
+use cone_form::Contention;
 use interlocking::Steps;
 use rail_cone::Cone;
 use sat_clause::Lit;

@@ -1,9 +1,9 @@
 //! Cones over the variables of the base.
 
 ghost use Rattle.std.specs.Prelude.{◌≡◌, true};
-ghost use Rattle.cone_design.specs.Fits.{fits};
+ghost use Rattle.cone_form.specs.Fits.{fits};
 
-use cone_design::Contention;
+use cone_form::Contention;
 use interlocking::Steps;
 use rail_cone::Cone;
 

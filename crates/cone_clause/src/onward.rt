@@ -9,7 +9,7 @@ ghost use Rattle.rail_spec.specs.Plans.{is_start};
 ghost use Rattle.rail_cone.specs.Cones.{all_free, named};
 ghost use Rattle.rail_cone.specs.Clauses.{goes_further, is_closed, is_path_violation};
 
-use cone_design::named;
+use cone_form::named;
 use interlocking::goes_on;
 use rail_base::plan::Violation;
 use rail_base::route::{Route, RouteNo, RouteTable, Start, route_at};

@@ -4,7 +4,7 @@ ghost use Rattle.std.specs.Prelude.{IfOk, OnOk};
 ghost use Rattle.cone_clause.specs.Spoken.{AddsAllFree, AddsBefore, AddsFree, AddsListed, ArePlaces};
 
 use crate::numbered::NumberedCone;
-use cone_design::free_path;
+use cone_form::free_path;
 use rail_base::plan::Command;
 use rail_base::station::TrainNo;
 use std::alloc::{AllocError, Global};

@@ -4,14 +4,14 @@ ghost use Rattle.std.specs.Prelude.{◌≡◌, ◌≤◌, ◌++◌, All, OnOk};
 ghost use Rattle.rail_base.specs.Routes.{IsRoute};
 ghost use Rattle.rail_base.specs.Stations.{IsTrain};
 ghost use Rattle.rail_cone.specs.Cones.{named};
-ghost use Rattle.cone_design.specs.Marks.{MarksPath};
+ghost use Rattle.cone_form.specs.Marks.{MarksPath};
 ghost use Rattle.cone_clause.specs.Spoken.{given_count, given_number, used_sign};
 ghost use Rattle.cone_clause.specs.Spoken.{routes_in, said_of_commands, said_of_train, station_of};
 
 use crate::numbered::NumberedCone;
 use crate::onward::{goes_further, is_closed};
 use crate::signs::push_signed;
-use cone_design::{has_mark, marks_of, path};
+use cone_form::{has_mark, marks_of, path};
 use rail_base::plan::Command;
 use rail_base::route::{RouteNo, RouteTable, route_at};
 use rail_base::station::TrainNo;

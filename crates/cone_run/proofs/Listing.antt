@@ -16,11 +16,11 @@ use Rattle.rail_cone.specs.Validity.{in_design, is_before, is_pair_before}
 use Rattle.rail_cone.proofs.Naming.{listed_waits, waits_listed}
 use Rattle.rail_cone.proofs.Saying.{is_command_same, is_command_self}
 use Rattle.rail_spec.specs.Plans.{contend}
-use Rattle.cone_design.proofs.Orders.{Less, less, from_less, not_both, PairLess, pair_less}
-use Rattle.cone_design.proofs.Sorted.{all_pairs_filter, all_pairs_map, pairs_sorted}
-use Rattle.cone_design.proofs.Placed.{is_pair_same}
-use Rattle.cone_design.proofs.Walks.{drop_next}
-use Rattle.cone_design.proofs.Contending.{listed_sorted, listed_there, mirrored}
+use Rattle.cone_form.proofs.Orders.{Less, less, from_less, not_both, PairLess, pair_less}
+use Rattle.cone_form.proofs.Sorted.{all_pairs_filter, all_pairs_map, pairs_sorted}
+use Rattle.cone_form.proofs.Placed.{is_pair_same}
+use Rattle.cone_form.proofs.Walks.{drop_next}
+use Rattle.cone_form.proofs.Contending.{listed_sorted, listed_there, mirrored}
 
 not_self : (c : Command) → Less c c → ⊥
 not_self c l = not_both c c l l
@@ -110,16 +110,16 @@ module _ {W : Type 0} (wait : Command → W) (listed : Command → Bool) (run : 
   listed_next now new all t e h =
       let e' : Command = (get_or run i other).1 in
       let later : List Command = map (λ p. p.1) (drop (i + 1) run) in
-      let front : map (λ p. p.1) (drop i run) ≡ e' ∷ later = ap (map (λ p. p.1)) (drop_next run i other inside) in
+      let prefix : map (λ p. p.1) (drop i run) ≡ e' ∷ later = ap (map (λ p. p.1)) (drop_next run i other inside) in
       ap (λ ws. ws ++ map wait (filter listed later)) e
       ∙ (append_assoc now (wait e' ∷ []) (map wait (filter listed later))
       ∙ (ap (λ b. now ++ map wait (cond b (e' ∷ filter listed later) (filter listed later))) (sym t)
-      ∙ (ap (λ es. now ++ map wait (filter listed es)) (sym front) ∙ h)))
+      ∙ (ap (λ es. now ++ map wait (filter listed es)) (sym prefix) ∙ h)))
 
   pub unlisted_next : (now all : List W) → listed (get_or run i other).1 ≡ false → now ++ map wait (filter listed (map (λ p. p.1) (drop i run))) ≡ all → now ++ map wait (filter listed (map (λ p. p.1) (drop (i + 1) run))) ≡ all
   unlisted_next now all t h =
       let e' : Command = (get_or run i other).1 in
       let later : List Command = map (λ p. p.1) (drop (i + 1) run) in
-      let front : map (λ p. p.1) (drop i run) ≡ e' ∷ later = ap (map (λ p. p.1)) (drop_next run i other inside) in
+      let prefix : map (λ p. p.1) (drop i run) ≡ e' ∷ later = ap (map (λ p. p.1)) (drop_next run i other inside) in
       ap (λ b. now ++ map wait (cond b (e' ∷ filter listed later) (filter listed later))) (sym t)
-      ∙ (ap (λ es. now ++ map wait (filter listed es)) (sym front) ∙ h)
+      ∙ (ap (λ es. now ++ map wait (filter listed es)) (sym prefix) ∙ h)

@@ -24,11 +24,11 @@ use Rattle.rail_cone.specs.Cones.{named, of_cone}
 use Rattle.rail_cone.specs.Validity as validity
 use Rattle.dispatch_run.specs.declared.traffic.Follower.{Follower}
 use Rattle.dispatch_run.specs.Followers.{AreFollowers}
-use Rattle.cone_run.specs.declared.layout.Layout.{Layout}
+use Rattle.cone_run.specs.declared.layout.ConeLayout.{ConeLayout}
 use Rattle.cone_run.specs.Checks.{IsEntry}
 use Rattle.cone_run.specs.Runs.{run_of, visit_shown}
 
-module _ (l : Layout) where
+module _ (l : ConeLayout) where
   -- the station
   abbrev pub station_of : Station
   station_of = l.contention.interlocking.now.design.station
@@ -45,20 +45,20 @@ module _ (l : Layout) where
 
   -- what a command waits for: those that are listed before it
   abbrev pub waits_in : Command → List Wait
-  waits_in c = map (wait_in l.courses.given c) ((of_cone l.cone.now).before c)
+  waits_in c = map (wait_in l.train_paths.given c) ((of_cone l.cone.now).before c)
 
   -- the waits of each free command of a train
   abbrev pub train_waits_in : TrainNo → List (List Wait)
-  train_waits_in = itineraries.train_waits_in l.courses.given (of_cone l.cone.now).before
+  train_waits_in = itineraries.train_waits_in l.train_paths.given (of_cone l.cone.now).before
 
   -- these are the journeys of all trains in the run, in file order
   abbrev pub AreJourneysOf : List Journey → Type 0
-  AreJourneysOf = let i = l.courses.given.interlocking.now in
+  AreJourneysOf = let i = l.train_paths.given.interlocking.now in
       AreJourneys i.design.station i.routes (of_cone l.cone.now)
 
   -- these are the followers of all trains in the run, in file order
   abbrev pub AreFollowersOf : List Follower → Type 0
-  AreFollowersOf = let i = l.courses.given.interlocking.now in
+  AreFollowersOf = let i = l.train_paths.given.interlocking.now in
       AreFollowers i.design.station i.routes (of_cone l.cone.now)
 
   -- ---- what is asked of it
@@ -93,12 +93,12 @@ module _ (l : Layout) where
   holds_up = validity.holds_up station_of routes_in l.cone.now
 
   -- a train has this holder where it needs one, which holds it up, and none where it needs none
-  abbrev pub held : ConeTrain → Option Command → Bool
-  held = validity.held station_of routes_in l.cone.now
+  abbrev pub holder_fits : ConeTrain → Option Command → Bool
+  holder_fits = validity.holder_fits station_of routes_in l.cone.now
 
   -- it is so with all trains
-  abbrev pub all_held : Bool
-  all_held = list_all (λ (c : ConeTrain). held c c.holder) l.cone.now.trains
+  abbrev pub all_holders_fit : Bool
+  all_holders_fit = list_all (λ (c : ConeTrain). holder_fits c c.holder) l.cone.now.trains
 
   -- the tick, up to this one, of a train's visit
   abbrev pub visit_in : ℕ → TrainNo → ℕ → Option ℕ

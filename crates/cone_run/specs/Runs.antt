@@ -7,7 +7,7 @@ use Rattle.rail_cone.specs.declared.ConeTrain.{ConeTrain}
 use Rattle.rail_cone.specs.declared.Cone.{Cone}
 use Rattle.rail_cone.specs.declared.ConeFault.{ConeFault}
 use Rattle.rail_cone.specs.Cones.{named, of_cone}
-use Rattle.rail_cone.specs.Validity.{fault_of, free_granted, held, cone_visit}
+use Rattle.rail_cone.specs.Validity.{fault_of, free_granted, holder_fits, cone_visit}
 use Rattle.dispatch_quiet.specs.Histories.{history_at}
 use Rattle.rail_base.specs.declared.history.TrainHistory.{TrainHistory}
 
@@ -23,7 +23,7 @@ module _ (i : Interlocking) (k : Cone) where
   -- the tick, up to the train's horizon, of a visit in the run, where the commands are granted or held up as the cone says
   abbrev pub visit_shown : TrainNo → ℕ → Option ℕ
   visit_shown t v = let d = i.design.station in
-      if list_all (free_granted d i.routes k) k.trains && list_all (λ c. held d i.routes k c c.holder) k.trains
+      if list_all (free_granted d i.routes k) k.trains && list_all (λ c. holder_fits d i.routes k c c.holder) k.trains
       then cone_visit d i.routes k (named k t).horizon t v else None
 
   -- what happens to each train in the run, up to the greatest horizon

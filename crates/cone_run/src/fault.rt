@@ -5,11 +5,11 @@ ghost use Rattle.cone_run.specs.Layouts.{fault_in};
 ghost use Rattle.cone_run.specs.Runs.{first_reason};
 
 use crate::checked::ConeRun;
-use crate::layout::Layout;
+use crate::layout::ConeLayout;
 use crate::paths::free_paths;
-use cone_design::{Contention, is_in_design};
+use cone_form::{Contention, is_in_design};
 use rail_cone::{Cone, ConeFault};
-use rail_course::{Courses, Itineraries};
+use rail_course::{Itineraries, TrainPaths};
 use std::alloc::{AllocError, Global};
 
 impl ConeRun<'_> {
@@ -20,17 +20,17 @@ impl ConeRun<'_> {
         if !self.all_granted() {
             return Ok(Some(ConeFault::CommandNotGranted));
         }
-        if !self.all_held() {
+        if !self.all_holders_fit() {
             return Ok(Some(ConeFault::HolderNotValid));
         }
-        if !self.shown(alloc)? {
+        if !self.is_shown(alloc)? {
             return Ok(Some(ConeFault::ViolationNotShown));
         }
         Ok(None)
     }
 }
 
-impl Layout<'_> {
+impl ConeLayout<'_> {
     /// The first reason against a cone that speaks of the design.
     fn fault(&self, alloc: Global) -> Result<Option<ConeFault>, AllocError>
         ensures { IfOk result (λ f. f ≡ fault_in self.now) }
@@ -62,15 +62,15 @@ pub fn fault_of<'a>(
         interlocking,
         paths: paths.as_slice(),
     };
-    let courses = given.courses(alloc)?;
-    let courses = Courses {
+    let train_paths = given.train_paths(alloc)?;
+    let train_paths = TrainPaths {
         given,
-        courses: courses.as_slice(),
+        train_paths: train_paths.as_slice(),
     };
-    let layout = Layout {
+    let layout = ConeLayout {
         contention: *contention,
         cone,
-        courses,
+        train_paths,
     };
     layout.fault(alloc)
 }

@@ -4,7 +4,7 @@ ghost use Rattle.std.specs.Prelude.{◌≡◌, ◌≤◌, true, Some};
 ghost use Rattle.rail_base.specs.Routes.{IsRoute};
 ghost use Rattle.rail_cone.specs.Cones.{all_free, is_listed};
 ghost use Rattle.cone_run.specs.Runs.{last_tick};
-ghost use Rattle.cone_run.specs.Layouts.{all_granted, all_held, free_granted, has_cleared, held};
+ghost use Rattle.cone_run.specs.Layouts.{all_granted, all_holders_fit, free_granted, has_cleared, holder_fits};
 ghost use Rattle.cone_run.specs.Layouts.{holder_needed, holds_up, just_granted, routes_in};
 
 use crate::asked::{all_released, grant_tick, is_by};
@@ -85,8 +85,8 @@ impl TrainRun<'_> {
     }
 
     /// Whether the train has a holder where it needs one, which holds it up, and has none where it needs none.
-    fn held(&self) -> bool
-        ensures { result ≡ held self.now.run.layout self.now.said.now self.now.said.now.holder }
+    fn holder_fits(&self) -> bool
+        ensures { result ≡ holder_fits self.now.run.layout self.now.said.now self.now.said.now.holder }
     {
         let needed = self.holder_needed();
         match self.said.holder {
@@ -137,15 +137,15 @@ impl ConeRun<'_> {
     }
 
     /// Whether each train has a holder where it needs one, which holds it up, and has none where it needs none.
-    pub(crate) fn all_held(&self) -> bool
-        ensures { result ≡ all_held self.now.layout }
+    pub(crate) fn all_holders_fit(&self) -> bool
+        ensures { result ≡ all_holders_fit self.now.layout }
     {
         for entry in self.layout.cone.trains.as_slice() {
             let train = TrainRun {
                 run: *self,
                 said: entry,
             };
-            if !train.held() {
+            if !train.holder_fits() {
                 return false;
             }
         }

@@ -2,21 +2,21 @@
 
 ghost use Rattle.std.specs.Prelude.{◌≡◌, true, map};
 ghost use Rattle.rail_base.specs.Stations.{trains};
-ghost use Rattle.cone_design.specs.Fits.{fits};
+ghost use Rattle.cone_form.specs.Fits.{fits};
 ghost use Rattle.rail_cone.specs.Cones.{free_path};
 
-use cone_design::Contention;
+use cone_form::Contention;
 use rail_cone::Cone;
-use rail_course::Courses;
+use rail_course::TrainPaths;
 
 /// A cone that speaks of the design, and the courses that its free commands give the trains.
 #[derive(Clone, Copy)]
-pub(crate) struct Layout<'a> {
+pub(crate) struct ConeLayout<'a> {
     pub contention: Contention<'a>,
     pub cone: &'a Cone,
-    pub courses: Courses<'a>,
+    pub train_paths: TrainPaths<'a>,
     pub ghost known: { fits contention.interlocking.now cone.now ≡ true },
-    pub ghost over: { courses.given.interlocking.now ≡ contention.interlocking.now },
-    pub ghost given: { courses.given.paths.now
+    pub ghost over: { train_paths.given.interlocking.now ≡ contention.interlocking.now },
+    pub ghost given: { train_paths.given.paths.now
         ≡ map (free_path cone.now) (trains contention.interlocking.now.design.station) },
 }

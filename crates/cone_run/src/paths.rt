@@ -3,9 +3,9 @@
 ghost use Rattle.std.specs.Prelude.{◌≡◌, true, IfOk};
 ghost use Rattle.rail_course.specs.Tracks.{ArePaths};
 ghost use Rattle.rail_cone.specs.Cones.{free_path};
-ghost use Rattle.cone_design.specs.Fits.{fits};
+ghost use Rattle.cone_form.specs.Fits.{fits};
 
-use cone_design::free_path;
+use cone_form::free_path;
 use interlocking::Interlocking;
 use rail_base::list::List;
 use rail_base::route::RouteNo;

@@ -5,18 +5,18 @@ ghost use Rattle.rail_cone.specs.Cones.{of_cone};
 ghost use Rattle.dispatch_quiet.specs.Histories.{history_at};
 ghost use Rattle.rail_spec.specs.Dispatches.{Dispatch};
 ghost use Rattle.dispatch_run.specs.Followers.{IsTraffic};
-ghost use Rattle.cone_design.specs.Fits.{fits};
+ghost use Rattle.cone_form.specs.Fits.{fits};
 ghost use Rattle.cone_run.specs.Layouts.{history_in};
 ghost use Rattle.cone_run.specs.Runs.{last_tick, run_of};
 
-use crate::layout::Layout;
+use crate::layout::ConeLayout;
 use crate::paths::free_paths;
-use cone_design::Contention;
+use cone_form::Contention;
 use dispatch_run::Traffic;
 use rail_base::history::{History, TrainHistory};
 use rail_base::list::List;
 use rail_cone::Cone;
-use rail_course::{Courses, Itineraries};
+use rail_course::{Itineraries, TrainPaths};
 use std::alloc::{AllocError, Global};
 
 /// The last tick of a cone's run: the greatest of its horizons.
@@ -30,7 +30,7 @@ fn last_tick(cone: &Cone) -> u64
         .fold(0, |most, horizon| most.max(horizon))
 }
 
-impl Layout<'_> {
+impl ConeLayout<'_> {
     /// What happens to each train in the run of the cone.
     pub(crate) fn history(&self, alloc: Global) -> Result<Vec<TrainHistory>, AllocError>
         ensures { IfOk result (λ h. h.items ≡ history_in self.now) }
@@ -80,15 +80,15 @@ pub fn cone_history<'a>(
         interlocking,
         paths: paths.as_slice(),
     };
-    let courses = given.courses(alloc)?;
-    let courses = Courses {
+    let train_paths = given.train_paths(alloc)?;
+    let train_paths = TrainPaths {
         given,
-        courses: courses.as_slice(),
+        train_paths: train_paths.as_slice(),
     };
-    let layout = Layout {
+    let layout = ConeLayout {
         contention: *contention,
         cone,
-        courses,
+        train_paths,
     };
     Ok(List::from_vec(layout.history(alloc)?))
 }

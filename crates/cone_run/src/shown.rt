@@ -8,10 +8,10 @@ ghost use Rattle.cone_run.specs.Layouts.{comes_after, comes_late, shown, station
 use crate::checked::ConeRun;
 use crate::visits::place_of;
 use crate::waits::{free_of, horizon_of};
-use cone_design::path;
+use cone_form::path;
 use rail_base::plan::Violation;
 use rail_base::station::{Order, TrainNo, Within};
-use rail_course::{stops_of, visits_of};
+use rail_course::{path_nodes_of, visits_of};
 use std::alloc::{AllocError, Global};
 
 impl ConeRun<'_> {
@@ -22,9 +22,9 @@ impl ConeRun<'_> {
     {
         let interlocking = self.layout.contention.interlocking;
         let routes = path(self.layout.cone, train);
-        let stops = stops_of(alloc, interlocking, routes)?;
+        let path_nodes = path_nodes_of(alloc, interlocking, routes)?;
         let visits = interlocking.design.train(train).visits.as_slice();
-        let visits = visits_of(alloc, visits, &stops)?;
+        let visits = visits_of(alloc, visits, &path_nodes)?;
         Ok(place_of(visits.as_slice(), visit).is_none())
     }
 
@@ -108,7 +108,7 @@ impl ConeRun<'_> {
     }
 
     /// Whether the violation is certain.
-    pub(crate) fn shown(&self, alloc: Global) -> Result<bool, AllocError>
+    pub(crate) fn is_shown(&self, alloc: Global) -> Result<bool, AllocError>
         ensures { IfOk result (λ b. b ≡ shown self.now.layout self.now.layout.cone.now.violation) }
     {
         let station = &self.layout.contention.interlocking.design.station;

@@ -2,18 +2,18 @@
 
 ghost use Rattle.std.specs.Prelude.{◌≡◌, true, IfOk};
 ghost use Rattle.rail_base.specs.Stations.{IsTrain};
-ghost use Rattle.cone_design.specs.Fits.{fits};
+ghost use Rattle.cone_form.specs.Fits.{fits};
 ghost use Rattle.cone_run.specs.Layouts.{shown_visit, station_of};
 ghost use Rattle.cone_run.specs.Runs.{visit_shown};
 
 use crate::checked::ConeRun;
-use crate::layout::Layout;
+use crate::layout::ConeLayout;
 use crate::paths::free_paths;
 use crate::waits::horizon_of;
-use cone_design::Contention;
+use cone_form::Contention;
 use rail_base::station::TrainNo;
 use rail_cone::Cone;
-use rail_course::{Courses, Itineraries};
+use rail_course::{Itineraries, TrainPaths};
 use std::alloc::{AllocError, Global};
 
 impl ConeRun<'_> {
@@ -22,14 +22,14 @@ impl ConeRun<'_> {
         requires train { IsTrain (station_of self.now.layout) train }
         ensures { result ≡ shown_visit self.now.layout train visit }
     {
-        if !self.all_granted() || !self.all_held() {
+        if !self.all_granted() || !self.all_holders_fit() {
             return None;
         }
         self.visit_tick(horizon_of(self.layout.cone, train), train, visit)
     }
 }
 
-impl Layout<'_> {
+impl ConeLayout<'_> {
     /// The tick, up to the train's horizon, of a visit, where the cone's commands are granted or held up as it says.
     fn visit_made(
         &self,
@@ -72,15 +72,15 @@ pub fn visit_shown<'a>(
         interlocking,
         paths: paths.as_slice(),
     };
-    let courses = given.courses(alloc)?;
-    let courses = Courses {
+    let train_paths = given.train_paths(alloc)?;
+    let train_paths = TrainPaths {
         given,
-        courses: courses.as_slice(),
+        train_paths: train_paths.as_slice(),
     };
-    let layout = Layout {
+    let layout = ConeLayout {
         contention: *contention,
         cone,
-        courses,
+        train_paths,
     };
     layout.visit_made(alloc, train, visit)
 }

@@ -8,12 +8,12 @@ ghost use Rattle.cone_run.specs.Layouts.{station_of, visit_in};
 
 use crate::asked::up_to;
 use crate::checked::ConeRun;
-use rail_base::state::Stop;
+use rail_base::state::PathNode;
 use rail_base::station::TrainNo;
 use rail_require::visit_tick;
 
 /// The entry of a number, counted from 1.
-pub(crate) fn place_of(visits: &[Option<Stop>], visit: u32) -> Option<Stop>
+pub(crate) fn place_of(visits: &[Option<PathNode>], visit: u32) -> Option<PathNode>
     ensures { result ≡ entry None visits.now visit }
 {
     if visit == 0 || visits.len() < visit as usize {
@@ -25,7 +25,7 @@ pub(crate) fn place_of(visits: &[Option<Stop>], visit: u32) -> Option<Stop>
 impl ConeRun<'_> {
     /// The tick, up to the last one, of a train's visit.
     pub(crate) fn visit_tick(&self, last: u64, train: TrainNo, visit: u32) -> Option<u64>
-        requires last { last ≤ last_tick self.now.layout.cone.now }
+        requires within { last ≤ last_tick self.now.layout.cone.now }
         requires train { IsTrain (station_of self.now.layout) train }
         ensures { result ≡ visit_in self.now.layout last train visit }
     {

@@ -6,7 +6,7 @@ ghost use Rattle.rail_base.specs.Stations.{IsTrain};
 ghost use Rattle.rail_cone.specs.Cones.{named};
 ghost use Rattle.cone_run.specs.Layouts.{AreFollowersOf, AreJourneysOf, train_waits_in, waits_in};
 
-use crate::layout::Layout;
+use crate::layout::ConeLayout;
 use dispatch_run::Follower;
 use rail_base::plan::Command;
 use rail_base::station::TrainNo;
@@ -38,10 +38,10 @@ pub(crate) fn free_of(cone: &Cone, train: TrainNo) -> u32
     0
 }
 
-impl<'a> Layout<'a> {
+impl<'a> ConeLayout<'a> {
     /// The waits of a command for those that are listed before it. They are among those that contend with it.
     fn waits_of(&self, alloc: Global, command: Command) -> Result<Vec<Wait>, AllocError>
-        requires { IsRoute self.now.courses.given.interlocking.now.routes command.route }
+        requires { IsRoute self.now.train_paths.given.interlocking.now.routes command.route }
         ensures { IfOk result (λ w. w.items ≡ waits_in self.now command) }
     {
         let pairs = self.contention.sorted();
@@ -49,7 +49,7 @@ impl<'a> Layout<'a> {
         let mut waits = Vec::new(alloc);
         for (_, other) in pairs.pairs_from(command) {
             if listed.is_among(*other, command) {
-                waits.push(self.courses.wait_for(command, *other))?;
+                waits.push(self.train_paths.wait_for(command, *other))?;
             }
         }
         Ok(waits)
@@ -57,12 +57,12 @@ impl<'a> Layout<'a> {
 
     /// The waits of each free command of a train.
     fn waits_of_train(&self, alloc: Global, train: TrainNo) -> Result<Vec<Vec<Wait>>, AllocError>
-        requires { IsTrain self.now.courses.given.interlocking.now.design.station train }
+        requires { IsTrain self.now.train_paths.given.interlocking.now.design.station train }
         ensures { IfOk result (λ w. map (λ v. v.items) w.items ≡ train_waits_in self.now train) }
     {
         let mut waits = Vec::new(alloc);
-        let course = self.courses.course(train);
-        for route in &course.path {
+        let train_path = self.train_paths.train_path(train);
+        for route in &train_path.path {
             let command = Command {
                 train,
                 route: *route,
@@ -77,9 +77,9 @@ impl<'a> Layout<'a> {
         ensures { IfOk result (λ journeys. AreJourneysOf self.now journeys.items) }
     {
         let mut journeys = Vec::new(alloc);
-        for course in self.courses.courses {
-            let waits = self.waits_of_train(alloc, course.train)?;
-            journeys.push(self.courses.journey(alloc, course, waits)?)?;
+        for train_path in self.train_paths.train_paths {
+            let waits = self.waits_of_train(alloc, train_path.train)?;
+            journeys.push(self.train_paths.journey(alloc, train_path, waits)?)?;
         }
         Ok(journeys)
     }
@@ -97,7 +97,7 @@ impl<'a> Layout<'a> {
         for journey in journeys {
             followers.push(Follower {
                 journey,
-                until: Some(horizon_of(self.cone, journey.course.train)),
+                until: Some(horizon_of(self.cone, journey.train_path.train)),
             })?;
         }
         Ok(followers)

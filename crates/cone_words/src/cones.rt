@@ -1,4 +1,4 @@
-//! Cones, told. An error is want of memory.
+//! The sentences about a cone. An error is want of memory.
 
 ghost use Rattle.std.specs.Prelude.{◌≡◌, ◌++◌, ◌∷◌, [], codes, decimal, map, IfOk, OnOk};
 ghost use Rattle.rail_outside.specs.Lines.{lines_of};

@@ -1,4 +1,4 @@
-//! What cones mean, in sentences with the names of the design. A route is told by its number. Each sentence begins with the number
+//! What cones mean, in sentences with the names of the design. A route is named by its number. Each sentence begins with the number
 //! of a file's line, and ends with an LF. Wherever a call answers with an error, it is want of memory.
 #![tactic(auto)]
 

@@ -7,7 +7,7 @@ ghost use Rattle.cone_words.specs.Phrases.{line_head, sentence};
 use rail_text::put_number;
 use std::alloc::{AllocError, Global};
 
-/// The front of a sentence about the line of this number.
+/// The first words of a sentence about the line of this number.
 pub fn line_head(alloc: Global, line: u64) -> Result<Vec<u8>, AllocError>
     ensures { IfOk result (λ text. text.items ≡ line_head line) }
 {

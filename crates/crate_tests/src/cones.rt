@@ -8,7 +8,7 @@ ghost use Rattle.rail_base.specs.declared.route.Start.TheVariants as start;
 ghost use Rattle.rail_spec.specs.Track.{routes_of};
 
 use crate::stations::{edge, name, node, one, train, two, vehicle};
-use cone_design::{Contention, SortedPairs, is_free, is_in_design};
+use cone_form::{Contention, SortedPairs, is_free, is_in_design};
 use interlocking::Interlocking;
 use rail_base::design::Design;
 use rail_base::list::List;
@@ -23,7 +23,7 @@ fn dead_end(alloc: Global) -> Result<Station, AllocError>
     ensures admitted { IfOk result (λ d. is_admitted d ≡ true) }
     ensures routes { IfOk result (λ d. routes_of d ≡ record {
       start = start.Boundary (record { 0 = 1 });
-      finish = finish.Dead (record { 0 = 2 });
+      finish = finish.DeadEnd (record { 0 = 2 });
       length = pos 10000;
       edges = record { 0 = 1 } ∷ [];
       nodes = (record { 0 = 1 }, pos 0) ∷ (record { 0 = 2 }, pos 10000) ∷ [];
@@ -61,7 +61,7 @@ fn dead_end(alloc: Global) -> Result<Station, AllocError>
 fn table(alloc: Global) -> Result<RouteTable, AllocError>
     ensures { IfOk result (λ rs. rs ≡ record {
       start = start.Boundary (record { 0 = 1 });
-      finish = finish.Dead (record { 0 = 2 });
+      finish = finish.DeadEnd (record { 0 = 2 });
       length = pos 10000;
       edges = record { 0 = 1 } ∷ [];
       nodes = (record { 0 = 1 }, pos 0) ∷ (record { 0 = 2 }, pos 10000) ∷ [];
@@ -71,7 +71,7 @@ fn table(alloc: Global) -> Result<RouteTable, AllocError>
     let nodes = two(alloc, (NodeNo(1), 0), (NodeNo(2), 10_000))?;
     let route = Route {
         start: Start::Boundary(NodeNo(1)),
-        finish: Finish::Dead(NodeNo(2)),
+        finish: Finish::DeadEnd(NodeNo(2)),
         length: 10_000,
         edges: one(alloc, EdgeNo(1))?,
         nodes,

@@ -33,8 +33,8 @@ fn a_file_shelf_stores_whole_files(rt: HostRuntime) -> io::Result<()> {
         b"",
     ] {
         assert!(rt; shelf.store("proof", text).is_ok());
-        let held = shelf.fetch(alloc, "proof", 40);
-        assert!(rt; held.is_ok_and(|bytes| bytes.as_slice() == text));
+        let known_files = shelf.fetch(alloc, "proof", 40);
+        assert!(rt; known_files.is_ok_and(|bytes| bytes.as_slice() == text));
     }
     assert_eq!(rt; shelf.faults(), 0);
     assert!(rt; matches!(shelf.store(".", b"rcvlog 1\n"), Err(StoreFault::Failed)));
@@ -55,8 +55,8 @@ fn a_file_named_like_the_part_stays(rt: HostRuntime) -> io::Result<()> {
     fs::write(&rt, "log.rcv-part", DESIGN)?;
     let mut shelf = FileShelf::new(alloc, &rt);
     assert!(rt; shelf.store("log", b"rcvlog 1\n").is_ok());
-    let held = shelf.fetch(alloc, "log", 40);
-    assert!(rt; held.is_ok_and(|bytes| bytes.as_slice() == b"rcvlog 1\n".as_slice()));
+    let known_files = shelf.fetch(alloc, "log", 40);
+    assert!(rt; known_files.is_ok_and(|bytes| bytes.as_slice() == b"rcvlog 1\n".as_slice()));
     let design = shelf.fetch(alloc, "log.rcv-part", 40);
     assert!(rt; design.is_ok_and(|bytes| bytes.as_slice() == DESIGN));
     assert!(rt; fs::metadata(&rt, "log.rcv-part2").is_err());
@@ -81,8 +81,8 @@ fn a_store_fails_where_all_parts_are_taken(rt: HostRuntime) -> io::Result<()> {
         ("last.rcv-part", DESIGN),
         ("last.rcv-part100", DESIGN),
     ] {
-        let held = shelf.fetch(alloc, name, 40);
-        assert!(rt; held.is_ok_and(|bytes| bytes.as_slice() == text));
+        let known_files = shelf.fetch(alloc, name, 40);
+        assert!(rt; known_files.is_ok_and(|bytes| bytes.as_slice() == text));
     }
     assert!(rt; fs::metadata(&rt, "last.rcv-part101").is_err());
     for number in 2..101 {

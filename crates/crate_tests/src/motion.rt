@@ -6,9 +6,9 @@ use std::alloc::{AllocError, Global};
 use std::test::Fail;
 
 #[test]
-fn braking_ways(rt: HostRuntime) {
-    for (u, b, way) in [(10, 3, 12), (2, 3, 0)] {
-        assert_eq!(rt; brakes(u, b), way, "from {u}");
+fn braking_distances(rt: HostRuntime) {
+    for (u, b, walk) in [(10, 3, 12), (2, 3, 0)] {
+        assert_eq!(rt; brakes(u, b), walk, "from {u}");
     }
 }
 
@@ -159,9 +159,9 @@ fn long_spans(alloc: Global, count: u16) -> Result<Vec<Span>, AllocError>
     Ok(spans)
 }
 
-/// Braking ways of 100,000 moves and 5,000,050,000 mm over 10,000 spans.
+/// Braking walks of 100,000 moves and 5,000,050,000 mm over 10,000 spans.
 #[test]
-fn long_ways_are_quick(rt: HostRuntime) -> Result<(), Fail> {
+fn long_walks_are_quick(rt: HostRuntime) -> Result<(), Fail> {
     let spans = long_spans(rt.alloc(), 10_000)?;
     let motor = Motor {
         accel: 1,

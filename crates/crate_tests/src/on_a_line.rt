@@ -12,7 +12,7 @@ use std::test::Fail;
 fn ticks_from_the_grant(rt: HostRuntime) -> Result<(), Fail> {
     let alloc = rt.alloc();
     let line = line(alloc)?;
-    let way = [RouteNo(1), RouteNo(2)];
+    let walk = [RouteNo(1), RouteNo(2)];
     for (place, ticks) in [
         (0u16, 0),
         (500, 0),
@@ -21,7 +21,7 @@ fn ticks_from_the_grant(rt: HostRuntime) -> Result<(), Fail> {
         (16_000, 9),
         (30_000, 12),
     ] {
-        let taken = run_ticks(alloc, &line, TrainNo(1), &way, u64::from(place), 12)?;
+        let taken = run_ticks(alloc, &line, TrainNo(1), &walk, u64::from(place), 12)?;
         assert_eq!(rt; taken, ticks, "{place}");
     }
     Ok(())
@@ -33,9 +33,9 @@ fn ticks_from_the_grant(rt: HostRuntime) -> Result<(), Fail> {
 fn ticks_up_to_a_most(rt: HostRuntime) -> Result<(), Fail> {
     let alloc = rt.alloc();
     let line = line(alloc)?;
-    let way = [RouteNo(1)];
+    let walk = [RouteNo(1)];
     for (place, ticks) in [(501u16, 1), (12_000, 7), (16_000, 8), (30_000, 8)] {
-        let taken = run_ticks(alloc, &line, TrainNo(1), &way, u64::from(place), 8)?;
+        let taken = run_ticks(alloc, &line, TrainNo(1), &walk, u64::from(place), 8)?;
         assert_eq!(rt; taken, ticks, "{place}");
     }
     Ok(())
@@ -65,7 +65,7 @@ fn ticks_after_a_wait(rt: HostRuntime) -> Result<(), Fail> {
 fn ticks_from_a_place(rt: HostRuntime) -> Result<(), Fail> {
     let alloc = rt.alloc();
     let line = line(alloc)?;
-    let way = [RouteNo(1), RouteNo(2)];
+    let walk = [RouteNo(1), RouteNo(2)];
     for (place, ticks) in [
         (4000u16, 0),
         (5999, 0),
@@ -73,7 +73,7 @@ fn ticks_from_a_place(rt: HostRuntime) -> Result<(), Fail> {
         (16_000, 6),
         (30_000, 12),
     ] {
-        let taken = on_ticks(alloc, &line, TrainNo(1), &way, 4000, u64::from(place), 12)?;
+        let taken = on_ticks(alloc, &line, TrainNo(1), &walk, 4000, u64::from(place), 12)?;
         assert_eq!(rt; taken, ticks, "{place}");
     }
     Ok(())

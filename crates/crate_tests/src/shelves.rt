@@ -1,8 +1,8 @@
 //! Each shelf and sink once, with what it keeps.
 
 use rail_outside::{
-    Call, FetchFault, MemoryShelf, MemorySink, Shelf, Sink, SinkFault, StoreFault, SureShelf,
-    SureSink, put_lines,
+    Call, FetchFault, MemoryShelf, MemorySink, ReliableShelf, ReliableSink, Shelf, Sink, SinkFault,
+    StoreFault, put_lines,
 };
 use std::alloc::{AllocError, Global};
 
@@ -84,16 +84,16 @@ fn a_memory_sink_keeps_its_pieces(rt: HostRuntime) -> Result<(), AllocError> {
 }
 
 #[test]
-fn the_sure_ones_never_fail(rt: HostRuntime) -> Result<(), AllocError> {
+fn the_reliable_ones_never_fail(rt: HostRuntime) -> Result<(), AllocError> {
     let alloc = rt.alloc();
-    let mut shelf = SureShelf::new(alloc);
+    let mut shelf = ReliableShelf::new(alloc);
     shelf.add_file("design", b"edges")?;
     assert_eq!(rt; fetched(&mut shelf, alloc, "design", 5), (5, None));
     assert_eq!(rt; fetched(&mut shelf, alloc, "plan", 0), (0, None));
     assert!(rt; shelf.store("design", b"nodes").is_ok());
     assert_eq!(rt; shelf.file("design"), b"nodes".as_slice());
     assert_eq!(rt; shelf.faults(), 0);
-    let mut out = SureSink::new(alloc);
+    let mut out = ReliableSink::new(alloc);
     assert!(rt; out.put(b"yes steps 2\n").is_ok());
     assert_eq!(rt; out.bytes(), b"yes steps 2\n".as_slice());
     assert_eq!(rt; out.faults(), 0);

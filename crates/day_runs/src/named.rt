@@ -13,6 +13,13 @@ use rail_plan::formed::well_formed;
 /// The most steps of a plan.
 const MOST_STEPS: u32 = 256;
 
+/// Whether a plan names only what is there and is well formed.
+pub(crate) fn can_be_run(interlocking: &Interlocking, plan: &Plan) -> bool
+    ensures { IsTrue result → IsWellFormed interlocking.now 256 plan.now.steps }
+{
+    names_only(interlocking, plan) && well_formed(interlocking, plan, MOST_STEPS).is_none()
+}
+
 /// Whether a command names a train and a route.
 fn is_of(interlocking: &Interlocking, command: Command) -> bool
     ensures { result ≡ is_of interlocking.now.design.station interlocking.now.routes command }
@@ -49,11 +56,4 @@ fn names_only(interlocking: &Interlocking, plan: &Plan) -> bool
     ensures { result ≡ names_only interlocking.now plan.now.steps }
 {
     all_steps_are_of(interlocking, plan)
-}
-
-/// Whether a plan names only what is there and is well formed.
-pub(crate) fn can_be_run(interlocking: &Interlocking, plan: &Plan) -> bool
-    ensures { IsTrue result → IsWellFormed interlocking.now 256 plan.now.steps }
-{
-    names_only(interlocking, plan) && well_formed(interlocking, plan, MOST_STEPS).is_none()
 }

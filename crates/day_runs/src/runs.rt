@@ -18,7 +18,7 @@ const COMMANDS: [(u32, u32); 3] = [(1, 1), (2, 3), (1, 2)];
 const DAY: u64 = 86_400;
 
 /// The plan in which each of two trains waits for the other.
-pub(crate) fn crossed(alloc: Global) -> Result<Plan> {
+pub(crate) fn waiting_plan(alloc: Global) -> Result<Plan> {
     let mut steps = List::new(alloc);
     for (train, route) in COMMANDS {
         let mut step = List::new(alloc);
@@ -29,18 +29,6 @@ pub(crate) fn crossed(alloc: Global) -> Result<Plan> {
         steps.push(step)?;
     }
     Ok(Plan { steps })
-}
-
-/// Whether the run of a plan fails at the end of the day, for want of the first train's second grant.
-fn fails_at_the_end(verdict: &Verdict) -> bool {
-    match verdict {
-        Verdict::Failed {
-            tick,
-            violation: Violation::Grant { train, command },
-            ..
-        } => *tick == DAY && train.0 == 1 && *command == 2,
-        _ => false,
-    }
 }
 
 /// How many of so many runs fail at the end of the day.
@@ -65,4 +53,16 @@ pub(crate) fn failed_runs(
         }
     }
     Ok(failed)
+}
+
+/// Whether the run of a plan fails at the end of the day, for want of the first train's second grant.
+fn fails_at_the_end(verdict: &Verdict) -> bool {
+    match verdict {
+        Verdict::Failed {
+            tick,
+            violation: Violation::Grant { train, command },
+            ..
+        } => *tick == DAY && train.0 == 1 && *command == 2,
+        _ => false,
+    }
 }

@@ -3,7 +3,7 @@ pub mod Keys
 pub mod Places
 pub mod Reads
 pub mod Sheet
-pub mod Spelled
+pub mod Parsed
 pub mod Texts
 pub mod Toml
 pub mod Views

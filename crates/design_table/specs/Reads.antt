@@ -36,8 +36,8 @@ Reads view (Err e) code places y = Fails e code places
 
 -- What was read, seen by view, is what the value spells, where this has the form; else it is D02 at the place.
 abbrev pub ReadsSpelled : {X Y V : Type 0} → (X → Y) → Result X DesignFault → (V → Bool) → (V → Y) → V → Place → Type 0
-ReadsSpelled view result has_form spelled value place =
-    Reads view result D02 (at (not (has_form value)) place) (spelled value)
+ReadsSpelled view result has_form parsed value place =
+    Reads view result D02 (at (not (has_form value)) place) (parsed value)
 
 -- The same, where a fact ties what was read to what it was read from.
 abbrev pub ReadsBy : {X D : Type 0} → (X → D → Type 0) → Result X DesignFault → Code → List Place → D → Type 0

@@ -11,8 +11,8 @@ use Rattle.design_table.specs.Forms.{found, is_name, name_of, is_side, side_of, 
 use Rattle.design_table.specs.Forms.{is_visits, visits_of, is_array, items_of, has_unknown}
 use Rattle.design_table.specs.Keys.{kind_key}
 use Rattle.design_table.specs.Reads.{at, in_each, Reads}
-use Rattle.design_table.specs.Spelled.{SpelledNode, SpelledEdge, SpelledSignal, SpelledVehicle, SpelledTrain}
-use Rattle.design_table.specs.Spelled.{SpelledOrder, SpelledWithin, SpelledSheet}
+use Rattle.design_table.specs.Parsed.{ParsedNode, ParsedEdge, ParsedSignal, ParsedVehicle, ParsedTrain}
+use Rattle.design_table.specs.Parsed.{ParsedOrder, ParsedWithin, ParsedSheet}
 use Rattle.design_table.specs.declared.fault.Code.TheVariants.{D02}
 use Rattle.design_table.specs.declared.fault.DesignFault.{DesignFault}
 
@@ -79,14 +79,14 @@ members_of _ = no_members
 -- ---- what entries spell, where their keys have the right form
 
 -- a node, key by key
-abbrev pub node_of : Members → SpelledNode
+abbrev pub node_of : Members → ParsedNode
 node_of ms = record {
   name = name_of (found keys.Name ms);
   boundary = flag_of (found keys.Boundary ms);
 }
 
 -- an edge, key by key
-abbrev pub edge_of : Members → SpelledEdge
+abbrev pub edge_of : Members → ParsedEdge
 edge_of ms = record {
   name = name_of (found keys.Name ms);
   from = name_of (found keys.From ms);
@@ -99,7 +99,7 @@ edge_of ms = record {
 }
 
 -- a signal, key by key
-abbrev pub signal_of : Members → SpelledSignal
+abbrev pub signal_of : Members → ParsedSignal
 signal_of ms = record {
   name = name_of (found keys.Name ms);
   node = name_of (found keys.Node ms);
@@ -107,7 +107,7 @@ signal_of ms = record {
 }
 
 -- a vehicle, key by key
-abbrev pub vehicle_of : Members → SpelledVehicle
+abbrev pub vehicle_of : Members → ParsedVehicle
 vehicle_of ms = record {
   name = name_of (found keys.Name ms);
   length_mm = whole_of (found keys.LengthMm ms);
@@ -117,7 +117,7 @@ vehicle_of ms = record {
 }
 
 -- a train, key by key
-abbrev pub train_of : Members → SpelledTrain
+abbrev pub train_of : Members → ParsedTrain
 train_of ms = record {
   name = name_of (found keys.Name ms);
   vehicle = name_of (found keys.Vehicle ms);
@@ -125,7 +125,7 @@ train_of ms = record {
 }
 
 -- an order, key by key
-abbrev pub order_of : Members → SpelledOrder
+abbrev pub order_of : Members → ParsedOrder
 order_of ms = record {
   first_train = name_of (found keys.FirstTrain ms);
   first_visit = whole_of (found keys.FirstVisit ms);
@@ -134,7 +134,7 @@ order_of ms = record {
 }
 
 -- a within, key by key
-abbrev pub within_of : Members → SpelledWithin
+abbrev pub within_of : Members → ParsedWithin
 within_of ms = record {
   from_train = name_of (found keys.FromTrain ms);
   from_visit = whole_of (found keys.FromVisit ms);
@@ -145,10 +145,10 @@ within_of ms = record {
 
 -- what the entries of an array spell
 abbrev pub entries_of : {A : Type 0} → (Members → A) → EntryKind → Members → List A
-entries_of spelled kind ms = map (λ entry. spelled (members_of entry)) (items_of (found (kind_key kind) ms))
+entries_of parsed kind ms = map (λ entry. parsed (members_of entry)) (items_of (found (kind_key kind) ms))
 
 -- what the whole table spells
-unfoldable pub sheet_of : Members → SpelledSheet
+unfoldable pub sheet_of : Members → ParsedSheet
 sheet_of ms = record {
   version = whole_of (found keys.Version ms);
   tick_ms = whole_of (found keys.TickMs ms);
@@ -183,7 +183,7 @@ wrong_entry kind i _ = Entry kind i ∷ []
 -- What was read, seen by view, is the entry that a table spells; or it is D02 at the first field that is wrong.
 abbrev pub ReadsEntry : {X Y : Type 0} → (X → Y) → Result X DesignFault
     → EntryKind → ℕ → (Members → Y) → Members → Type 0
-ReadsEntry view result kind i spelled ms = Reads view result D02 (wrong_fields kind i ms) (spelled ms)
+ReadsEntry view result kind i parsed ms = Reads view result D02 (wrong_fields kind i ms) (parsed ms)
 
 -- an array: the array itself, then its entries
 abbrev pub wrong_array : EntryKind → Members → List Place
@@ -212,8 +212,8 @@ top_keys =
     ∷ []
 
 -- the whole table, in the order of the walk
-unfoldable pub misspelled : Members → List Place
-misspelled ms =
+unfoldable pub form_fault : Members → List Place
+form_fault ms =
     wrong_whole keys.Version ms
     ++ (wrong_whole keys.TickMs ms
     ++ (wrong_whole keys.HorizonMs ms

@@ -8,16 +8,16 @@ use Rattle.design_table.specs.declared.sheet.TrainEntry.{TrainEntry}
 use Rattle.design_table.specs.declared.sheet.OrderEntry.{OrderEntry}
 use Rattle.design_table.specs.declared.sheet.WithinEntry.{WithinEntry}
 use Rattle.design_table.specs.declared.sheet.Sheet.{Sheet}
-use Rattle.design_table.specs.Spelled.{SpelledNode, SpelledEdge, SpelledSignal, SpelledVehicle, SpelledTrain}
-use Rattle.design_table.specs.Spelled.{SpelledOrder, SpelledWithin, SpelledSheet}
+use Rattle.design_table.specs.Parsed.{ParsedNode, ParsedEdge, ParsedSignal, ParsedVehicle, ParsedTrain}
+use Rattle.design_table.specs.Parsed.{ParsedOrder, ParsedWithin, ParsedSheet}
 use Rattle.design_table.specs.Texts.{visits_seen}
 
 -- a node as it is spelled
-abbrev pub node_seen : NodeEntry → SpelledNode
+abbrev pub node_seen : NodeEntry → ParsedNode
 node_seen n = record { name = n.name.now; boundary = n.boundary }
 
 -- an edge as it is spelled
-abbrev pub edge_seen : EdgeEntry → SpelledEdge
+abbrev pub edge_seen : EdgeEntry → ParsedEdge
 edge_seen e = record {
   name = e.name.now;
   from = e.from.now;
@@ -30,11 +30,11 @@ edge_seen e = record {
 }
 
 -- a signal as it is spelled
-abbrev pub signal_seen : SignalEntry → SpelledSignal
+abbrev pub signal_seen : SignalEntry → ParsedSignal
 signal_seen s = record { name = s.name.now; node = s.node.now; toward = s.toward }
 
 -- a vehicle as it is spelled
-abbrev pub vehicle_seen : VehicleEntry → SpelledVehicle
+abbrev pub vehicle_seen : VehicleEntry → ParsedVehicle
 vehicle_seen v = record {
   name = v.name.now;
   length_mm = v.length_mm;
@@ -44,7 +44,7 @@ vehicle_seen v = record {
 }
 
 -- a train as it is spelled
-abbrev pub train_seen : TrainEntry → SpelledTrain
+abbrev pub train_seen : TrainEntry → ParsedTrain
 train_seen t = record {
   name = t.name.now;
   vehicle = t.vehicle.now;
@@ -52,7 +52,7 @@ train_seen t = record {
 }
 
 -- an order as it is spelled
-abbrev pub order_seen : OrderEntry → SpelledOrder
+abbrev pub order_seen : OrderEntry → ParsedOrder
 order_seen o = record {
   first_train = o.first_train.now;
   first_visit = o.first_visit;
@@ -61,7 +61,7 @@ order_seen o = record {
 }
 
 -- a within as it is spelled
-abbrev pub within_seen : WithinEntry → SpelledWithin
+abbrev pub within_seen : WithinEntry → ParsedWithin
 within_seen w = record {
   from_train = w.from_train.now;
   from_visit = w.from_visit;
@@ -71,7 +71,7 @@ within_seen w = record {
 }
 
 -- the entries in the order of the file
-abbrev pub sheet_seen : Sheet → SpelledSheet
+abbrev pub sheet_seen : Sheet → ParsedSheet
 sheet_seen s = record {
   version = s.version;
   tick_ms = s.tick_ms;

@@ -28,7 +28,7 @@ pub enum Code {
 /// A design that is not read.
 #[derive(Debug, Drop, Error)]
 pub enum DesignFault {
-    /// The document spells no design: the lowest code that holds, at its first place.
+    /// No design can be parsed from the document: the lowest code that holds, at its first place.
     #[error("design refused {code:?} {place:?}")]
     Refused { code: Code, place: Place },
     /// Memory ran out, which says nothing of the document.

@@ -10,7 +10,7 @@ ghost use Rattle.design_table.specs.Places.{place_in, value_in};
 ghost use Rattle.design_table.specs.Texts.{visits_seen};
 
 use crate::fault::{Code, DesignFault};
-use crate::field::{flag_at, has_unknown_key, misspelled, name_at, side_at, whole_at};
+use crate::field::{flag_at, form_fault, has_unknown_key, name_at, side_at, whole_at};
 use crate::key::Key;
 use crate::place::{EntryKind, Place};
 use crate::sheet::Side;
@@ -74,7 +74,7 @@ impl<'a> Fields<'a> {
             Reads (λ x. x) result Code.D02 (at (has_unknown known.now (table_view self.entry.table.now)) unknown) tt }
     {
         if has_unknown_key(self.table, known) {
-            Err(misspelled(Place::UnknownField(self.kind, self.number)))
+            Err(form_fault(Place::UnknownField(self.kind, self.number)))
         } else {
             Ok(())
         }

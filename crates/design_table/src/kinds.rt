@@ -6,8 +6,8 @@ ghost use Rattle.design_table.specs.declared.place.EntryKind.TheVariants as kind
 ghost use Rattle.design_table.specs.Reads.{Reads};
 ghost use Rattle.design_table.specs.Sheet.{wrong_fields, node_of, edge_of, signal_of, vehicle_of, train_of, order_of};
 ghost use Rattle.design_table.specs.Sheet.{within_of, ReadsEntry};
-ghost use Rattle.design_table.specs.Spelled.{SpelledNode, SpelledEdge, SpelledSignal, SpelledVehicle, SpelledTrain};
-ghost use Rattle.design_table.specs.Spelled.{SpelledOrder, SpelledWithin};
+ghost use Rattle.design_table.specs.Parsed.{ParsedNode, ParsedEdge, ParsedSignal, ParsedVehicle, ParsedTrain};
+ghost use Rattle.design_table.specs.Parsed.{ParsedOrder, ParsedWithin};
 ghost use Rattle.design_table.specs.Views.{node_seen, edge_seen, signal_seen, vehicle_seen, train_seen, order_seen};
 ghost use Rattle.design_table.specs.Views.{within_seen};
 
@@ -23,11 +23,11 @@ use std::alloc::Global;
 use toml::Table;
 
 impl<'a> Entry<'a> for NodeEntry<'a> {
-    ghost Spelled = { SpelledNode };
+    ghost Parsed = { ParsedNode };
 
     ghost seen = { node_seen };
 
-    ghost spelled = { node_of };
+    ghost parsed = { node_of };
 
     ghost kind = { kinds.Node };
 
@@ -54,11 +54,11 @@ impl<'a> Entry<'a> for NodeEntry<'a> {
 }
 
 impl<'a> Entry<'a> for EdgeEntry<'a> {
-    ghost Spelled = { SpelledEdge };
+    ghost Parsed = { ParsedEdge };
 
     ghost seen = { edge_seen };
 
-    ghost spelled = { edge_of };
+    ghost parsed = { edge_of };
 
     ghost kind = { kinds.Edge };
 
@@ -109,11 +109,11 @@ impl<'a> Entry<'a> for EdgeEntry<'a> {
 }
 
 impl<'a> Entry<'a> for SignalEntry<'a> {
-    ghost Spelled = { SpelledSignal };
+    ghost Parsed = { ParsedSignal };
 
     ghost seen = { signal_seen };
 
-    ghost spelled = { signal_of };
+    ghost parsed = { signal_of };
 
     ghost kind = { kinds.Signal };
 
@@ -141,11 +141,11 @@ impl<'a> Entry<'a> for SignalEntry<'a> {
 }
 
 impl<'a> Entry<'a> for VehicleEntry<'a> {
-    ghost Spelled = { SpelledVehicle };
+    ghost Parsed = { ParsedVehicle };
 
     ghost seen = { vehicle_seen };
 
-    ghost spelled = { vehicle_of };
+    ghost parsed = { vehicle_of };
 
     ghost kind = { kinds.Vehicle };
 
@@ -187,11 +187,11 @@ impl<'a> Entry<'a> for VehicleEntry<'a> {
 }
 
 impl<'a> Entry<'a> for TrainEntry<'a> {
-    ghost Spelled = { SpelledTrain };
+    ghost Parsed = { ParsedTrain };
 
     ghost seen = { train_seen };
 
-    ghost spelled = { train_of };
+    ghost parsed = { train_of };
 
     ghost kind = { kinds.Train };
 
@@ -223,11 +223,11 @@ impl<'a> Entry<'a> for TrainEntry<'a> {
 }
 
 impl<'a> Entry<'a> for OrderEntry<'a> {
-    ghost Spelled = { SpelledOrder };
+    ghost Parsed = { ParsedOrder };
 
     ghost seen = { order_seen };
 
-    ghost spelled = { order_of };
+    ghost parsed = { order_of };
 
     ghost kind = { kinds.Order };
 
@@ -266,11 +266,11 @@ impl<'a> Entry<'a> for OrderEntry<'a> {
 }
 
 impl<'a> Entry<'a> for WithinEntry<'a> {
-    ghost Spelled = { SpelledWithin };
+    ghost Parsed = { ParsedWithin };
 
     ghost seen = { within_seen };
 
-    ghost spelled = { within_of };
+    ghost parsed = { within_of };
 
     ghost kind = { kinds.Within };
 

@@ -1,4 +1,4 @@
-//! A design as its TOML document spells it: the table of its entries, before any rule of railways is asked.
+//! A design as its TOML document has it: the table of its entries, before any rule of railways is asked.
 //!
 //! A document that is no TOML is refused as D01, and a key of the wrong form as D02. The layer above owns the
 //! rules on what the entries say.

@@ -1,4 +1,4 @@
-//! The entries of a design as its document spells them, borrowed from the table that was read.
+//! The entries of a design as its document has them, borrowed from the table that was read.
 
 /// A side of a node.
 #[derive(Clone, Copy, Debug, PartialEq, Eq)]
@@ -73,7 +73,7 @@ pub struct WithinEntry<'a> {
     pub max_ms: i64,
 }
 
-/// A whole design as its document spells it: keys of the right form, and any names and numbers. Entries stand in
+/// A whole design as its document has it: keys of the right form, and any names and numbers. Entries stand in
 /// the order of the document, and times are in milliseconds.
 #[derive(Debug, Drop)]
 pub struct Sheet<'a> {

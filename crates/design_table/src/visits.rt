@@ -9,13 +9,29 @@ ghost use Rattle.design_table.specs.Reads.{Reads, at, ReadsSpelled};
 ghost use Rattle.design_table.specs.Texts.{texts, visits_seen};
 
 use crate::fault::{Code, DesignFault};
-use crate::field::{is_name_of, misspelled, value_at};
+use crate::field::{form_fault, is_name_of, value_at};
 use crate::key::Key;
 use crate::place::Place;
 use std::alloc::Global;
 use toml::{Table, Value};
 
-/// The name that a value spells.
+/// The visits at a key. A fault anywhere inside has the place of the key.
+pub fn visits_at<'a>(
+    alloc: Global,
+    table: &'a Table,
+    key: Key,
+    place: Place,
+) -> Result<Vec<Vec<&'a str>>, DesignFault>
+    ensures { ReadsSpelled (λ v. visits_seen v.items) result is_visits visits_of
+        (found key (table_view table.now)) place }
+{
+    match value_at(table, key) {
+        Some(Value::Array(values)) => read_visits(alloc, values.as_slice(), place),
+        _ => Err(form_fault(place)),
+    }
+}
+
+/// The name that is parsed from a value.
 fn read_name<'a>(value: &'a Value, place: Place) -> Result<&'a str, DesignFault>
     ensures { ReadsSpelled (λ x. x.now) result is_name_value name_value (view value.now) place }
 {
@@ -24,10 +40,10 @@ fn read_name<'a>(value: &'a Value, place: Place) -> Result<&'a str, DesignFault>
             if is_name_of(text.as_str()) {
                 Ok(text.as_str())
             } else {
-                Err(misspelled(place))
+                Err(form_fault(place))
             }
         }
-        _ => Err(misspelled(place)),
+        _ => Err(form_fault(place)),
     }
 }
 
@@ -56,7 +72,7 @@ fn read_visit<'a>(
 {
     match value {
         Value::Array(values) => read_names(alloc, values.as_slice(), place),
-        _ => Err(misspelled(place)),
+        _ => Err(form_fault(place)),
     }
 }
 
@@ -73,20 +89,4 @@ fn read_visits<'a>(
         visits.push(read_visit(alloc, value, place)?)?;
     }
     Ok(visits)
-}
-
-/// The visits at a key. A fault anywhere inside has the place of the key.
-pub fn visits_at<'a>(
-    alloc: Global,
-    table: &'a Table,
-    key: Key,
-    place: Place,
-) -> Result<Vec<Vec<&'a str>>, DesignFault>
-    ensures { ReadsSpelled (λ v. visits_seen v.items) result is_visits visits_of
-        (found key (table_view table.now)) place }
-{
-    match value_at(table, key) {
-        Some(Value::Array(values)) => read_visits(alloc, values.as_slice(), place),
-        _ => Err(misspelled(place)),
-    }
 }

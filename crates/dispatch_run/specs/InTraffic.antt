@@ -6,9 +6,9 @@ use Rattle.rail_base.specs.declared.state.TrainState.{TrainState}
 use Rattle.rail_base.specs.declared.station.TrainNo.{TrainNo}
 use Rattle.rail_base.specs.Stations.{trains}
 use Rattle.rail_spec.specs.Dispatches.{Dispatch, authority, moved, state_at, state_of, stretches}
-use Rattle.rail_spec.specs.Motion.{Stretch}
-use Rattle.rail_course.specs.declared.course.Course.{Course}
-use Rattle.rail_course.specs.Courses.{IsCourse}
+use Rattle.rail_spec.specs.Motion.{SpanSeen}
+use Rattle.rail_course.specs.declared.train_path.TrainPath.{TrainPath}
+use Rattle.rail_course.specs.TrainPaths.{IsTrainPath}
 use Rattle.rail_course.specs.Tracks.{routes_at}
 use Rattle.dispatch_quiet.specs.Forecasts.{IsSeen}
 use Rattle.dispatch_quiet.specs.Histories.{history_at, train_history}
@@ -25,23 +25,23 @@ use Rattle.dispatch_run.specs.Turns.{AreLookedAt, AreToBeTold, IsLook, IsLookedA
 
 -- the train that a follower is of
 abbrev pub followed_train : Follower → TrainNo
-followed_train f = f.journey.now.course.now.train
+followed_train f = f.journey.now.train_path.now.train
 
 module _ (r : Traffic) where
   -- the course is that of its train
-  abbrev pub IsCourseIn : Course → Type 0
-  IsCourseIn c = IsCourse r.interlocking.now.design.station r.interlocking.now.routes c.path.items c
+  abbrev pub IsTrainPathIn : TrainPath → Type 0
+  IsTrainPathIn c = IsTrainPath r.interlocking.now.design.station r.interlocking.now.routes c.path.items c
 
   -- the first routes of a course, so many of them
-  abbrev pub first_routes : Course → ℕ → List Route
+  abbrev pub first_routes : TrainPath → ℕ → List Route
   first_routes c granted = take granted (routes_at r.interlocking.now.routes c.path.items)
 
   -- their track
-  abbrev pub track_given : Course → ℕ → List Stretch
+  abbrev pub track_given : TrainPath → ℕ → List SpanSeen
   track_given c granted = stretches r.interlocking.now.design.station (first_routes c granted)
 
   -- how far they let a train go
-  abbrev pub authority_given : Course → ℕ → Option ℕ
+  abbrev pub authority_given : TrainPath → ℕ → Option ℕ
   authority_given c granted = authority (first_routes c granted)
 
 module _ (r : Traffic) (dispatch : Dispatch) where

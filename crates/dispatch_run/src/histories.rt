@@ -17,26 +17,6 @@ use rail_course::IDLE;
 use std::alloc::{AllocError, Global};
 
 impl Traffic<'_> {
-    /// What has happened to a train before the first tick: nothing.
-    fn first_history(&self, alloc: Global, follower: &Follower) -> Result<TrainHistory, AllocError>
-        ghost dispatch: { Dispatch }
-        requires { IsFollowerIn self.now dispatch follower.now }
-        ensures { IfOk result (λ h. h ≡ train_history_in self.now dispatch 0 follower.now) }
-    {
-        let journey = follower.journey;
-        let course = journey.course;
-        let grants = none_granted(alloc, course.path.as_slice())?;
-        let passes = none_passed(alloc, course.stops.as_slice())?;
-        let releases = none_released(alloc, journey.releases.as_slice())?;
-        let visits = none_visited(alloc, course.visits.as_slice())?;
-        Ok(TrainHistory {
-            grants: List::from_vec(grants),
-            passes: List::from_vec(passes),
-            releases: List::from_vec(releases),
-            visits: List::from_vec(visits),
-        })
-    }
-
     /// What has happened to each train before the first tick.
     pub(crate) fn first_histories(&self, alloc: Global) -> Result<Vec<TrainHistory>, AllocError>
         ghost dispatch: { Dispatch }
@@ -74,13 +54,13 @@ impl Traffic<'_> {
     ) -> Result<TrainHistory, AllocError>
         ghost dispatch: { Dispatch }
         requires follower { IsFollowerIn self.now dispatch follower.now }
-        requires first { 1 ≤ tick }
+        requires at_least_one { 1 ≤ tick }
         requires now { state ≡ state_in self.now dispatch tick follower.now }
         requires before { old ≡ train_history_in self.now dispatch (tick - 1) follower.now }
         ensures { IfOk result (λ h. h ≡ train_history_in self.now dispatch tick follower.now) }
     {
         let journey = follower.journey;
-        let course = journey.course;
+        let train_path = journey.train_path;
         let TrainHistory {
             grants,
             passes,
@@ -89,16 +69,36 @@ impl Traffic<'_> {
         } = old;
         let grants = mark_grants(alloc, state.granted, tick, grants.as_slice())?;
         let mut passes = passes.into_vec();
-        mark_passes(state, tick, course.stops.as_slice(), &mut passes);
+        mark_passes(state, tick, train_path.path_nodes.as_slice(), &mut passes);
         let mut releases = releases.into_vec();
         mark_releases(state, tick, journey.releases.as_slice(), &mut releases);
         let visits = mark_visits(
             alloc,
             state,
             tick,
-            course.visits.as_slice(),
+            train_path.visits.as_slice(),
             visits.as_slice(),
         )?;
+        Ok(TrainHistory {
+            grants: List::from_vec(grants),
+            passes: List::from_vec(passes),
+            releases: List::from_vec(releases),
+            visits: List::from_vec(visits),
+        })
+    }
+
+    /// What has happened to a train before the first tick: nothing.
+    fn first_history(&self, alloc: Global, follower: &Follower) -> Result<TrainHistory, AllocError>
+        ghost dispatch: { Dispatch }
+        requires { IsFollowerIn self.now dispatch follower.now }
+        ensures { IfOk result (λ h. h ≡ train_history_in self.now dispatch 0 follower.now) }
+    {
+        let journey = follower.journey;
+        let train_path = journey.train_path;
+        let grants = none_granted(alloc, train_path.path.as_slice())?;
+        let passes = none_passed(alloc, train_path.path_nodes.as_slice())?;
+        let releases = none_released(alloc, journey.releases.as_slice())?;
+        let visits = none_visited(alloc, train_path.visits.as_slice())?;
         Ok(TrainHistory {
             grants: List::from_vec(grants),
             passes: List::from_vec(passes),

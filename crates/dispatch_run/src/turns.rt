@@ -19,35 +19,6 @@ use std::alloc::{AllocError, Global};
 const LAST: u64 = 86_400;
 
 impl Traffic<'_> {
-    /// A train after a tick, where it is looked at then; else as it was looked at last. What it sees of the others is
-    /// what they had come to by the tick before.
-    fn next_state(
-        &self,
-        follower: &Follower,
-        states: &[TrainState],
-        looks: &[Look],
-        tick: u64,
-    ) -> TrainState
-        ghost dispatch: { Dispatch }
-        requires traffic { IsTraffic dispatch self.now }
-        requires follower { IsFollowerIn self.now dispatch follower.now }
-        requires turn { IsTurnIn self.now dispatch tick states.now looks.now }
-        ensures { result ≡ looked_state_in self.now dispatch tick states.now looks.now follower.now }
-    {
-        let train = follower.journey.course.train;
-        let state = state_of(states, train);
-        let look = look_of(looks, train);
-        if look.until != tick {
-            return state;
-        }
-        let before = self.drifted(follower, state, look.since, tick - 1 - look.since);
-        if !is_followed(follower.until, tick) {
-            return before;
-        }
-        let granted = granted_on(states, state.granted, follower.journey.waits.as_slice());
-        self.moved(follower, before, granted)
-    }
-
     /// The states of all trains, each as it is looked at last, after a tick.
     pub(crate) fn next_states(
         &self,
@@ -68,28 +39,6 @@ impl Traffic<'_> {
         Ok(next)
     }
 
-    /// What has happened to a train by a tick; it is marked where the train is looked at then.
-    fn next_told(
-        &self,
-        alloc: Global,
-        follower: &Follower,
-        old: TrainHistory,
-        state: TrainState,
-        look: Look,
-        tick: u64,
-    ) -> Result<TrainHistory, AllocError>
-        ghost dispatch: { Dispatch }
-        requires follower { IsFollowerIn self.now dispatch follower.now }
-        requires some { 1 ≤ tick }
-        requires told { IsToBeToldIn self.now dispatch tick follower.now state look old }
-        ensures { IfOk result (λ h. h ≡ train_history_in self.now dispatch tick follower.now) }
-    {
-        if look.until != tick {
-            return Ok(old);
-        }
-        self.history_with(alloc, follower, old, state, tick)
-    }
-
     /// The histories of all trains after a tick.
     pub(crate) fn next_histories(
         &self,
@@ -108,7 +57,7 @@ impl Traffic<'_> {
         let mut told = Vec::new(alloc);
         for i in 0..self.followers.len() {
             let follower = &self.followers[i];
-            let train = follower.journey.course.train;
+            let train = follower.journey.train_path.train;
             let old = olds.remove(0);
             told.push(self.next_told(
                 alloc,
@@ -122,12 +71,83 @@ impl Traffic<'_> {
         Ok(told)
     }
 
+    /// The next looks at all trains after a tick.
+    pub(crate) fn next_looks(
+        &self,
+        alloc: Global,
+        states: &[TrainState],
+        looks: &[Look],
+        tick: u64,
+    ) -> Result<Vec<Look>, AllocError>
+        ghost dispatch: { Dispatch }
+        requires traffic { IsTraffic dispatch self.now }
+        requires looked { AreLookedAtIn self.now dispatch tick states.now looks.now }
+        ensures { IfOk result (λ looks. IsKnownIn self.now dispatch tick states.now looks.items) }
+    {
+        let mut next = Vec::new(alloc);
+        for follower in self.followers {
+            next.push(self.next_look(follower, states, looks, tick))?;
+        }
+        Ok(next)
+    }
+
+    /// A train after a tick, where it is looked at then; else as it was looked at last. What it sees of the others is
+    /// what they had come to by the tick before.
+    fn next_state(
+        &self,
+        follower: &Follower,
+        states: &[TrainState],
+        looks: &[Look],
+        tick: u64,
+    ) -> TrainState
+        ghost dispatch: { Dispatch }
+        requires traffic { IsTraffic dispatch self.now }
+        requires follower { IsFollowerIn self.now dispatch follower.now }
+        requires turn { IsTurnIn self.now dispatch tick states.now looks.now }
+        ensures { result ≡ looked_state_in self.now dispatch tick states.now looks.now follower.now }
+    {
+        let train = follower.journey.train_path.train;
+        let state = state_of(states, train);
+        let look = look_of(looks, train);
+        if look.until != tick {
+            return state;
+        }
+        let before = self.drift_on(follower, state, look.since, tick - 1 - look.since);
+        if !is_followed(follower.until, tick) {
+            return before;
+        }
+        let granted = granted_on(states, state.granted, follower.journey.waits.as_slice());
+        self.move_train(follower, before, granted)
+    }
+
+    /// What has happened to a train by a tick; it is marked where the train is looked at then.
+    fn next_told(
+        &self,
+        alloc: Global,
+        follower: &Follower,
+        old: TrainHistory,
+        state: TrainState,
+        look: Look,
+        tick: u64,
+    ) -> Result<TrainHistory, AllocError>
+        ghost dispatch: { Dispatch }
+        requires follower { IsFollowerIn self.now dispatch follower.now }
+        requires at_least_one { 1 ≤ tick }
+        requires told { IsToBeToldIn self.now dispatch tick follower.now state look old }
+        ensures { IfOk result (λ h. h ≡ train_history_in self.now dispatch tick follower.now) }
+    {
+        if look.until != tick {
+            return Ok(old);
+        }
+        self.history_with(alloc, follower, old, state, tick)
+    }
+
     /// The next look at a train that is granted nothing in the next tick.
     fn far_look(&self, follower: &Follower, state: TrainState, look: Look, tick: u64) -> Look
         ghost dispatch: { Dispatch }
         requires traffic { IsTraffic dispatch self.now }
         requires follower { IsFollowerIn self.now dispatch follower.now }
-        requires some { 1 ≤ tick }
+        requires at_least_one { 1 ≤ tick }
         requires early { tick ≤ 86400 }
         requires looked { IsLookedAtIn self.now dispatch tick follower.now state look }
         ensures seen { IsSeenIn self.now dispatch tick follower.now state result.since result.until }
@@ -156,7 +176,7 @@ impl Traffic<'_> {
         requires looked { AreLookedAtIn self.now dispatch tick states.now looks.now }
         ensures { IsLookIn self.now dispatch tick states.now follower.now result }
     {
-        let train = follower.journey.course.train;
+        let train = follower.journey.train_path.train;
         let state = state_of(states, train);
         let look = self.far_look(follower, state, look_of(looks, train), tick);
         if !is_followed(follower.until, tick + 1) {
@@ -169,25 +189,5 @@ impl Traffic<'_> {
             since: look.since,
             until: tick + 1,
         }
-    }
-
-    /// The next looks at all trains after a tick.
-    pub(crate) fn next_looks(
-        &self,
-        alloc: Global,
-        states: &[TrainState],
-        looks: &[Look],
-        tick: u64,
-    ) -> Result<Vec<Look>, AllocError>
-        ghost dispatch: { Dispatch }
-        requires traffic { IsTraffic dispatch self.now }
-        requires looked { AreLookedAtIn self.now dispatch tick states.now looks.now }
-        ensures { IfOk result (λ looks. IsKnownIn self.now dispatch tick states.now looks.items) }
-    {
-        let mut next = Vec::new(alloc);
-        for follower in self.followers {
-            next.push(self.next_look(follower, states, looks, tick))?;
-        }
-        Ok(next)
     }
 }

@@ -19,7 +19,7 @@ use Rattle.rail_base.proofs.Members.{filter-append}
 use Rattle.rail_spec.specs.Plans.{is_train, path, routes_given}
 use Rattle.rail_spec.specs.Dispatches.{Dispatch, of_plan, has_released}
 use Rattle.rail_laws.proofs.Given.{same_train}
-use Rattle.rail_course.specs.declared.course.Course.{Course}
+use Rattle.rail_course.specs.declared.train_path.TrainPath.{TrainPath}
 use Rattle.rail_course.specs.declared.itineraries.Itineraries.{Itineraries}
 use Rattle.rail_course.specs.declared.planned.PlannedCourses.{PlannedCourses}
 use Rattle.rail_course.specs.declared.waits.Wait.{Wait}
@@ -69,7 +69,7 @@ get_in (y ∷ ys) (suc i) x h is = inr (get_in ys i x (omega arith) is)
 
 module _ (p : PlannedCourses) where
   abbrev given : Itineraries
-  given = p.courses.given
+  given = p.train_paths.given
 
   abbrev station : Station
   station = given.interlocking.now.design.station
@@ -171,23 +171,23 @@ module _ (p : PlannedCourses) where
       (subst (λ steps. AreWaitsIn p t (path steps t) (own_waits waits t)) (take_all (length plan) plan (le_refl (length plan))) (known.each t is))
 
   -- the waits at a course's place are those of its train
-  pub told_at : (waits : List (List (Vec Wait))) → AreKnown p (length plan) waits → (i : ℕ) → i < length p.courses.courses.now → (course : Course) → course ≡ get_or p.courses.courses.now i course → (own : List (Vec Wait)) → own ≡ get_or waits i own
-      → TellWhatIsReady station routes dispatch course.train (map (λ (v : Vec Wait). v.items) own)
-  told_at waits known i less course here own is =
+  pub told_at : (waits : List (List (Vec Wait))) → AreKnown p (length plan) waits → (i : ℕ) → i < length p.train_paths.train_paths.now → (train_path : TrainPath) → train_path ≡ get_or p.train_paths.train_paths.now i train_path → (own : List (Vec Wait)) → own ≡ get_or waits i own
+      → TellWhatIsReady station routes dispatch train_path.train (map (λ (v : Vec Wait). v.items) own)
+  told_at waits known i less train_path here own is =
       subst (λ u. TellWhatIsReady station routes dispatch u (map (λ (v : Vec Wait). v.items) own)) (sym number)
       (subst (λ vs. TellWhatIsReady station routes dispatch t (map (λ (v : Vec Wait). v.items) vs)) waits_are (all_told waits known t train))
     where
       t : TrainNo
       t = record { 0 = suc i }
 
-      many : length p.courses.courses.now ≡ length station.trains
-      many = many_courses station routes (path_in given) p.courses.courses.now p.courses.coursed
+      many : length p.train_paths.train_paths.now ≡ length station.trains
+      many = many_courses station routes (path_in given) p.train_paths.train_paths.now p.train_paths.coursed
 
       train : IsTrain station t
       train = let m = many in (omega arith, omega arith)
 
-      number : course.train ≡ t
-      number = ap (λ (c : Course). c.train) here ∙ ap (λ k. (get_or p.courses.courses.now k course).train) (let e : i ≡ suc i - 1 = omega arith in e) ∙ train_at station routes (path_in given) p.courses.courses.now p.courses.coursed t course train
+      number : train_path.train ≡ t
+      number = ap (λ (c : TrainPath). c.train) here ∙ ap (λ k. (get_or p.train_paths.train_paths.now k train_path).train) (let e : i ≡ suc i - 1 = omega arith in e) ∙ train_at station routes (path_in given) p.train_paths.train_paths.now p.train_paths.coursed t train_path train
 
       waits_are : entry [] waits (suc i) ≡ own
       waits_are = let m = many in let w = known.many in get_or_default waits i [] own (omega arith) ∙ sym is

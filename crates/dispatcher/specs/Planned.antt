@@ -20,17 +20,17 @@ own_waits waits t = map (λ v. v.items) (entry [] waits t.0)
 module _ (p : PlannedCourses) where
   -- the queues after the first n steps
   pub record AreQueues (n : ℕ) (queues : List (List Wait)) : Type 0 where
-    pub many : length queues ≡ length p.courses.given.interlocking.now.design.station.sections
+    pub many : length queues ≡ length p.train_paths.given.interlocking.now.design.station.sections
     pub each : (z : SectionNo) → queue_at queues z
-        ≡ map (wait_in p.courses.given z) (last_on p.courses.given.interlocking.now.routes z [] (take n p.plan.now.steps))
+        ≡ map (wait_in p.train_paths.given z) (last_on p.train_paths.given.interlocking.now.routes z [] (take n p.plan.now.steps))
 
   -- these are the waits of a train's commands that give it these routes
   abbrev pub AreWaitsIn : TrainNo → List RouteNo → List (List Wait) → Type 0
-  AreWaitsIn = let i = p.courses.given.interlocking.now in
+  AreWaitsIn = let i = p.train_paths.given.interlocking.now in
       AreWaitsOf i.design.station i.routes (of_plan i.routes p.plan.now.steps) p.plan.now.steps
 
   -- the waits of each train's commands in the first n steps
   pub record AreKnown (n : ℕ) (waits : List (List (Vec Wait))) : Type 0 where
-    pub many : length waits ≡ length p.courses.given.interlocking.now.design.station.trains
-    pub each : (t : TrainNo) → IsTrain p.courses.given.interlocking.now.design.station t
+    pub many : length waits ≡ length p.train_paths.given.interlocking.now.design.station.trains
+    pub each : (t : TrainNo) → IsTrain p.train_paths.given.interlocking.now.design.station t
         → AreWaitsIn t (path (take n p.plan.now.steps) t) (own_waits waits t)

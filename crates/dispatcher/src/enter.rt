@@ -16,7 +16,7 @@ use std::alloc::{AllocError, Global};
 /// Empties the queues of a route's sections.
 pub(crate) fn leave(queues: &mut Vec<List<Wait>>, alloc: Global, route: &Route)
     requires { All (λ p. IsWithin (length queues.old.items) p.0) route.now.sections }
-    ensures many { length queues.new.items ≡ length queues.old.items }
+    ensures same_length { length queues.new.items ≡ length queues.old.items }
     ensures left { (z : SectionNo) → queue_at queues.new.items z
         ≡ (if has_section route.now z then [] else queue_at queues.old.items z) }
 {
@@ -32,7 +32,7 @@ pub(crate) fn enter(
     releases: &[Release],
 ) -> Result<(), AllocError>
     requires { All (λ r. IsWithin (length queues.old.items) r.section) releases.now }
-    ensures many { length queues.new.items ≡ length queues.old.items }
+    ensures same_length { length queues.new.items ≡ length queues.old.items }
     ensures entered { OnOk result ((z : SectionNo) → queue_at queues.new.items z
         ≡ queue_at queues.old.items z ++ map (wait_until train) (filter (λ r. r.section.0 == z.0) releases.now)) }
 {

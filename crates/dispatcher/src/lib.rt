@@ -1,4 +1,4 @@
-//! What the commands of a plan wait for, told by queues of commands by section.
+//! What the commands of a plan wait for, found by queues of commands by section.
 #![tactic(auto)]
 
 mod enter;

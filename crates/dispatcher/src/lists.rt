@@ -8,7 +8,7 @@ use std::alloc::{AllocError, Global};
 
 /// So many empty lists.
 pub(crate) fn empty_lists<T: Drop>(alloc: Global, count: usize) -> Result<Vec<List<T>>, AllocError>
-    ensures many { IfOk result (λ lists. length lists.items ≡ count) }
+    ensures count { IfOk result (λ lists. length lists.items ≡ count) }
     ensures empty { IfOk result (λ lists. (n : ℕ) → entry [] lists.items n ≡ []) }
 {
     let mut lists = Vec::new(alloc);
@@ -20,9 +20,9 @@ pub(crate) fn empty_lists<T: Drop>(alloc: Global, count: usize) -> Result<Vec<Li
 
 /// Empties the list of a number, counted from 1.
 pub(crate) fn empty<T: Drop>(lists: &mut Vec<List<T>>, alloc: Global, number: u32)
-    requires first { 1 ≤ number }
-    requires last { number ≤ length lists.old.items }
-    ensures many { length lists.new.items ≡ length lists.old.items }
+    requires at_least_one { 1 ≤ number }
+    requires within { number ≤ length lists.old.items }
+    ensures same_length { length lists.new.items ≡ length lists.old.items }
     ensures empty { (n : ℕ) → entry [] lists.new.items n ≡ (if number == n then [] else entry [] lists.old.items n) }
 {
     lists[number as usize - 1] = List::new(alloc);
@@ -30,9 +30,9 @@ pub(crate) fn empty<T: Drop>(lists: &mut Vec<List<T>>, alloc: Global, number: u3
 
 /// Puts an item at the end of the list of a number, counted from 1.
 pub(crate) fn put<T: Drop>(lists: &mut Vec<List<T>>, number: u32, item: T) -> Result<(), AllocError>
-    requires first { 1 ≤ number }
-    requires last { number ≤ length lists.old.items }
-    ensures many { length lists.new.items ≡ length lists.old.items }
+    requires at_least_one { 1 ≤ number }
+    requires within { number ≤ length lists.old.items }
+    ensures same_length { length lists.new.items ≡ length lists.old.items }
     ensures put { OnOk result ((n : ℕ) → entry [] lists.new.items n
         ≡ (if number == n then entry [] lists.old.items n ++ item ∷ [] else entry [] lists.old.items n)) }
 {

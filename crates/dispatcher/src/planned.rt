@@ -16,11 +16,22 @@ use std::alloc::{AllocError, Global};
 /// The waits of each command of a train's path.
 type Waits = List<Vec<Wait>>;
 
+/// The journeys of all trains, in file order.
+pub fn journeys<'a>(
+    alloc: Global,
+    planned: &PlannedCourses<'a>,
+) -> Result<Vec<Journey<'a>>, AllocError>
+    ensures { IfOk result (λ js. ArePlannedJourneys planned.now js.items) }
+{
+    let waits = waits_of_all(planned, alloc)?;
+    journeys_with(planned, alloc, waits)
+}
+
 /// The commands of a step, counted from 0.
 fn step_at<'a>(planned: &PlannedCourses<'a>, number: usize) -> &'a [Command]
     requires { number < length planned.now.plan.now.steps }
     ensures step { result.now ≡ slice_index_or planned.now.plan.now.steps number [] }
-    ensures named { All (IsCommandIn planned.now.courses.given) result.now }
+    ensures named { All (IsCommandIn planned.now.train_paths.given) result.now }
 {
     planned.plan.steps.as_slice()[number].as_slice()
 }
@@ -38,7 +49,7 @@ fn push_step(
     requires waits { AreKnown planned.now number waits.old.items }
     ensures { OnOk result (AreKnown planned.now (number + 1) waits.new.items) }
 {
-    let interlocking = planned.courses.given.interlocking;
+    let interlocking = planned.train_paths.given.interlocking;
     let step = step_at(planned, number);
     for command in step {
         let own = waits_of(interlocking, alloc, queues, *command)?;
@@ -52,13 +63,13 @@ fn push_step(
 fn waits_of_all(planned: &PlannedCourses, alloc: Global) -> Result<Vec<Waits>, AllocError>
     ensures { IfOk result (λ waits. AreKnown planned.now (length planned.now.plan.now.steps) waits.items) }
 {
-    let station = &planned.courses.given.interlocking.design.station;
+    let station = &planned.train_paths.given.interlocking.design.station;
     let mut queues = empty_lists(alloc, station.sections.len())?;
     let mut waits = empty_lists(alloc, station.trains.len())?;
     for number in 0..planned.plan.steps.len() {
         push_step(planned, alloc, &mut waits, queues.as_slice(), number)?;
         turn(
-            &planned.courses,
+            &planned.train_paths,
             &mut queues,
             alloc,
             step_at(planned, number),
@@ -78,20 +89,9 @@ fn journeys_with<'a>(
 {
     let mut left = waits;
     let mut journeys = Vec::new(alloc);
-    for course in planned.courses.courses {
+    for train_path in planned.train_paths.train_paths {
         let own = left.remove(0).into_vec();
-        journeys.push(planned.courses.journey(alloc, course, own)?)?;
+        journeys.push(planned.train_paths.journey(alloc, train_path, own)?)?;
     }
     Ok(journeys)
-}
-
-/// The journeys of all trains, in file order.
-pub fn journeys<'a>(
-    alloc: Global,
-    planned: &PlannedCourses<'a>,
-) -> Result<Vec<Journey<'a>>, AllocError>
-    ensures { IfOk result (λ js. ArePlannedJourneys planned.now js.items) }
-{
-    let waits = waits_of_all(planned, alloc)?;
-    journeys_with(planned, alloc, waits)
 }

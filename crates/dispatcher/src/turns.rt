@@ -11,63 +11,68 @@ ghost use Rattle.dispatcher.specs.Waits.{wait_in};
 use crate::enter::{enter, leave};
 use rail_base::list::List;
 use rail_base::plan::Command;
-use rail_course::{Courses, Wait};
+use rail_course::{TrainPaths, Wait};
 use std::alloc::{AllocError, Global};
 
+/// After a step its commands stand last on their sections.
+pub(crate) fn turn(
+    train_paths: &TrainPaths,
+    queues: &mut Vec<List<Wait>>,
+    alloc: Global,
+    step: &[Command],
+) -> Result<(), AllocError>
+    requires every_section { length queues.old.items ≡ length train_paths.now.given.interlocking.now.design.station.sections }
+    requires step { All (IsCommandIn train_paths.now.given) step.now }
+    ensures same_length { length queues.new.items ≡ length queues.old.items }
+    ensures turned { OnOk result ((z : SectionNo) → queue_at queues.new.items z
+        ≡ these_or (map (wait_in train_paths.now.given z)
+        (on_section train_paths.now.given.interlocking.now.routes z step.now)) (queue_at queues.old.items z)) }
+{
+    leave_all(train_paths, queues, alloc, step);
+    enter_all(train_paths, queues, alloc, step)?;
+    Ok(())
+}
+
 /// Empties the queues of all sections that the commands of a step go over.
-fn leave_all(courses: &Courses, queues: &mut Vec<List<Wait>>, alloc: Global, step: &[Command])
-    requires many { length queues.old.items ≡ length courses.now.given.interlocking.now.design.station.sections }
-    requires step { All (IsCommandIn courses.now.given) step.now }
-    ensures many { length queues.new.items ≡ length queues.old.items }
+fn leave_all(
+    train_paths: &TrainPaths,
+    queues: &mut Vec<List<Wait>>,
+    alloc: Global,
+    step: &[Command],
+)
+    requires every_section { length queues.old.items ≡ length train_paths.now.given.interlocking.now.design.station.sections }
+    requires step { All (IsCommandIn train_paths.now.given) step.now }
+    ensures same_length { length queues.new.items ≡ length queues.old.items }
     ensures left { (z : SectionNo) → queue_at queues.new.items z
-        ≡ (if list_any (λ c. has_section (route_at courses.now.given.interlocking.now.routes c.route) z) step.now then []
+        ≡ (if list_any (λ c. has_section (route_at train_paths.now.given.interlocking.now.routes c.route) z) step.now then []
         else queue_at queues.old.items z) }
 {
     for command in step {
         leave(
             queues,
             alloc,
-            courses.given.interlocking.route(command.route),
+            train_paths.given.interlocking.route(command.route),
         );
     }
 }
 
 /// Puts the commands of a step into the queues of their sections.
 fn enter_all(
-    courses: &Courses,
+    train_paths: &TrainPaths,
     queues: &mut Vec<List<Wait>>,
     alloc: Global,
     step: &[Command],
 ) -> Result<(), AllocError>
-    requires many { length queues.old.items ≡ length courses.now.given.interlocking.now.design.station.sections }
-    requires step { All (IsCommandIn courses.now.given) step.now }
-    ensures many { length queues.new.items ≡ length queues.old.items }
+    requires every_section { length queues.old.items ≡ length train_paths.now.given.interlocking.now.design.station.sections }
+    requires step { All (IsCommandIn train_paths.now.given) step.now }
+    ensures same_length { length queues.new.items ≡ length queues.old.items }
     ensures entered { OnOk result ((z : SectionNo) → queue_at queues.new.items z
         ≡ queue_at queues.old.items z
-        ++ map (wait_in courses.now.given z) (on_section courses.now.given.interlocking.now.routes z step.now)) }
+        ++ map (wait_in train_paths.now.given z) (on_section train_paths.now.given.interlocking.now.routes z step.now)) }
 {
     for command in step {
-        let releases = courses.releases_of(alloc, *command)?;
+        let releases = train_paths.releases_of(alloc, *command)?;
         enter(queues, command.train, releases.as_slice())?;
     }
-    Ok(())
-}
-
-/// After a step its commands stand last on their sections.
-pub(crate) fn turn(
-    courses: &Courses,
-    queues: &mut Vec<List<Wait>>,
-    alloc: Global,
-    step: &[Command],
-) -> Result<(), AllocError>
-    requires many { length queues.old.items ≡ length courses.now.given.interlocking.now.design.station.sections }
-    requires step { All (IsCommandIn courses.now.given) step.now }
-    ensures many { length queues.new.items ≡ length queues.old.items }
-    ensures turned { OnOk result ((z : SectionNo) → queue_at queues.new.items z
-        ≡ these_or (map (wait_in courses.now.given z)
-        (on_section courses.now.given.interlocking.now.routes z step.now)) (queue_at queues.old.items z)) }
-{
-    leave_all(courses, queues, alloc, step);
-    enter_all(courses, queues, alloc, step)?;
     Ok(())
 }

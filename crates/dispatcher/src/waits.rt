@@ -15,8 +15,29 @@ use rail_base::station::TrainNo;
 use rail_course::Wait;
 use std::alloc::{AllocError, Global};
 
+/// The waits of a command for the other trains in the queues of its sections.
+pub(crate) fn waits_of(
+    interlocking: &Interlocking,
+    alloc: Global,
+    queues: &[List<Wait>],
+    command: Command,
+) -> Result<Vec<Wait>, AllocError>
+    requires route { IsRoute interlocking.now.routes command.route }
+    requires every_section { length queues.now ≡ length interlocking.now.design.station.sections }
+    ensures { IfOk result (λ own. (s : List TrainState) → list_all (is_over s) own.items
+        ≡ list_all (λ z. list_all (lets_pass s command.train) (queue_at queues.now z))
+        (sections (route_at interlocking.now.routes command.route))) }
+{
+    let mut waits = Vec::new(alloc);
+    for part in interlocking.route(command.route).sections.as_slice() {
+        let queue = queues[part.0.0 as usize - 1].as_slice();
+        push_queue(&mut waits, queue, command.train)?;
+    }
+    Ok(waits)
+}
+
 /// One wait in place of two for the same command.
-fn merged(first: Wait, second: Wait) -> Option<Wait>
+fn merge(first: Wait, second: Wait) -> Option<Wait>
     ensures { IfSome result (λ w. (s : List TrainState) → is_over s w ≡ (is_over s first && is_over s second)) }
 {
     if first.train != second.train || first.number != second.number {
@@ -34,7 +55,7 @@ fn push_two(waits: &mut Vec<Wait>, first: Wait, second: Wait) -> Result<(), Allo
     ensures { OnOk result ((s : List TrainState) → list_all (is_over s) waits.new.items
         ≡ (list_all (is_over s) waits.old.items && (is_over s first && is_over s second))) }
 {
-    let Some(both) = merged(first, second) else {
+    let Some(both) = merge(first, second) else {
         waits.push(first)?;
         waits.push(second)?;
         return Ok(());
@@ -77,25 +98,4 @@ fn push_queue(waits: &mut Vec<Wait>, queue: &[Wait], train: TrainNo) -> Result<(
         push_other(waits, *wait, train)?;
     }
     Ok(())
-}
-
-/// The waits of a command for the other trains in the queues of its sections.
-pub(crate) fn waits_of(
-    interlocking: &Interlocking,
-    alloc: Global,
-    queues: &[List<Wait>],
-    command: Command,
-) -> Result<Vec<Wait>, AllocError>
-    requires route { IsRoute interlocking.now.routes command.route }
-    requires many { length queues.now ≡ length interlocking.now.design.station.sections }
-    ensures { IfOk result (λ own. (s : List TrainState) → list_all (is_over s) own.items
-        ≡ list_all (λ z. list_all (lets_pass s command.train) (queue_at queues.now z))
-        (sections (route_at interlocking.now.routes command.route))) }
-{
-    let mut waits = Vec::new(alloc);
-    for part in interlocking.route(command.route).sections.as_slice() {
-        let queue = queues[part.0.0 as usize - 1].as_slice();
-        push_queue(&mut waits, queue, command.train)?;
-    }
-    Ok(waits)
 }

@@ -6,7 +6,7 @@ use Rattle.rail_words.specs.Requests.{request_of}
 use Rattle.rail_cli.specs.declared.reply.Reply.{Reply}
 use Rattle.rail_cli.specs.declared.ending.Ending.{Ending}
 use Rattle.rail_cli.specs.declared.ending.Ending.TheVariants as ending
-use Rattle.rail_cli.specs.Answers.{Answer}
+use Rattle.rail_cli.specs.Answers.{ReplySeen}
 use Rattle.rail_cli.specs.Replies.{OnReply, Reads, reply_seen}
 use Rattle.rail_outside.specs.Files.{Files}
 use Rattle.draw_cli.specs.Wanted.{Wanted, track, run, by_routes, by_simulate, command_words, or_else, wanted_of}
@@ -14,13 +14,13 @@ use Rattle.draw_cli.specs.Answers.{Answers, IsAnswerGiven, IsAnswerTo, IsRunAnsw
 use Rattle.draw_cli.specs.Replies.{RepliesSome}
 
 -- a reading that ends the work
-refused_here : {X Y : Type 0} (view : X → Y) (e : Ending) (reading : Result Y Answer) (right : Y → Answer → Type 0) → Reads view (Err e) reading → OnReply (Err e) (λ reply. Answers reading right (reply_seen reply))
-refused_here {Y = Y} view (ending.Told reply) reading right h = subst (λ (r : Result Y Answer). Answers r right (reply_seen reply)) (sym h) refl
+refused_here : {X Y : Type 0} (view : X → Y) (e : Ending) (reading : Result Y ReplySeen) (right : Y → ReplySeen → Type 0) → Reads view (Err e) reading → OnReply (Err e) (λ reply. Answers reading right (reply_seen reply))
+refused_here {Y = Y} view (ending.RefusedWith reply) reading right h = subst (λ (r : Result Y ReplySeen). Answers r right (reply_seen reply)) (sym h) refl
 refused_here view ending.Memory reading right h = tt
 refused_here view ending.ShelfFault reading right h = tt
 
 module _ (r : Result Reply Ending) where
-  pub refused_so : {X Y : Type 0} (view : X → Y) (e : Ending) (reading : Result Y Answer) (right : Y → Answer → Type 0) → r ≡ Err e → Reads view (Err e) reading → OnReply r (λ reply. Answers reading right (reply_seen reply))
+  pub refused_so : {X Y : Type 0} (view : X → Y) (e : Ending) (reading : Result Y ReplySeen) (right : Y → ReplySeen → Type 0) → r ≡ Err e → Reads view (Err e) reading → OnReply r (λ reply. Answers reading right (reply_seen reply))
   refused_so view e reading right is h = subst (λ (x : Result Reply Ending). OnReply x (λ reply. Answers reading right (reply_seen reply))) (sym is) (refused_here view e reading right h)
 
   -- memory was wanting
@@ -28,8 +28,8 @@ module _ (r : Result Reply Ending) where
   wanting fact is = subst (λ (x : Result Reply Ending). OnReply x fact) (sym is) tt
 
   -- something was read
-  pub read_so : {Y : Type 0} (reading : Result Y Answer) (y : Y) (right : Y → Answer → Type 0) → reading ≡ Ok y → OnReply r (λ reply. right y (reply_seen reply)) → OnReply r (λ reply. Answers reading right (reply_seen reply))
-  read_so {Y = Y} reading y right is h = subst (λ (q : Result Y Answer). OnReply r (λ reply. Answers q right (reply_seen reply))) (sym is) h
+  pub read_so : {Y : Type 0} (reading : Result Y ReplySeen) (y : Y) (right : Y → ReplySeen → Type 0) → reading ≡ Ok y → OnReply r (λ reply. right y (reply_seen reply)) → OnReply r (λ reply. Answers reading right (reply_seen reply))
+  read_so {Y = Y} reading y right is h = subst (λ (q : Result Y ReplySeen). OnReply r (λ reply. Answers q right (reply_seen reply))) (sym is) h
 
   pub wanting_some : (wanted : Option Wanted) → r ≡ Err ending.Memory → RepliesSome r wanted
   wanting_some wanted is = record { design_bytes = []; plan_bytes = []; replies = wanting (λ reply. IsAnswerGiven [] [] wanted (reply_seen reply)) is }

@@ -3,7 +3,7 @@ use Rattle.std.specs.Prelude.{◌≡◌, ◌⊎◌, ℕ, false, List, Option, Re
 use Rattle.rail_cli.specs.declared.status.Status.{Status}
 use Rattle.rail_cli.specs.declared.reply.Reply.{Reply}
 use Rattle.rail_cli.specs.declared.ending.Ending.{Ending}
-use Rattle.rail_cli.specs.Answers.{Answer}
+use Rattle.rail_cli.specs.Answers.{ReplySeen}
 use Rattle.rail_cli.specs.Prints.{Prints}
 use Rattle.rail_cli.specs.Replies.{OnReply, reply_seen}
 use Rattle.rail_cli.specs.Statuses.{is_answered}
@@ -17,9 +17,9 @@ pub record RepliesSome (result : Result Reply Ending) (wanted : Option Wanted) :
   pub replies : OnReply result (λ reply. IsAnswerGiven design_bytes plan_bytes wanted (reply_seen reply))
 
 -- an answer that is right is printed
-pub record PrintsRight (right : Answer → Type 0) (s : Status) (text new_text : Option (List ℕ))
+pub record PrintsRight (right : ReplySeen → Type 0) (s : Status) (text new_text : Option (List ℕ))
     (pieces new_pieces : Option (List (List ℕ))) : Type 0 where
-  pub answer : Answer
+  pub answer : ReplySeen
   pub is_right : right answer
   pub prints : Prints answer s text new_text pieces new_pieces
 
@@ -31,7 +31,7 @@ pub record PrintsNothing (s : Status) (text new_text : Option (List ℕ))
   pub pieces_stay : new_pieces ≡ pieces
 
 -- one of the two
-abbrev pub PrintsAnswer : (Answer → Type 0) → Status → Option (List ℕ) → Option (List ℕ)
+abbrev pub PrintsAnswer : (ReplySeen → Type 0) → Status → Option (List ℕ) → Option (List ℕ)
     → Option (List (List ℕ)) → Option (List (List ℕ)) → Type 0
 PrintsAnswer right s text new_text pieces new_pieces =
     PrintsRight right s text new_text pieces new_pieces ⊎ PrintsNothing s text new_text pieces new_pieces

@@ -1,7 +1,7 @@
 -- What words ask for: `DESIGN` or `DESIGN PLAN` after the program's name, taken as `rcv routes` and `rcv simulate` take them.
 use Rattle.std.specs.Prelude.{List, [], ◌∷◌, Option, Some, None, codes}
 use Rattle.clap.specs.Words.{Text}
-use Rattle.rail_words.specs.Requests.{Asked, simulate, routes, verify, check, trial, request_of}
+use Rattle.rail_words.specs.Requests.{RequestSeen, simulate, routes, verify, check, trial, request_of}
 
 -- a drawing of a track, by its design's file, or of a run, by the files of its design and its plan
 pub data Wanted : Type 0 where
@@ -14,7 +14,7 @@ command_words command [] = []
 command_words command (program ∷ words) = program ∷ command ∷ words
 
 -- the drawing for a request to list routes
-abbrev pub by_routes : Option Asked → Option Wanted
+abbrev pub by_routes : Option RequestSeen → Option Wanted
 by_routes (Some (routes design)) = Some (track design)
 by_routes (Some (simulate design plan)) = None
 by_routes (Some (verify n conflicts ticks bounds design proof)) = None
@@ -23,7 +23,7 @@ by_routes (Some (trial seed size)) = None
 by_routes None = None
 
 -- the drawing for a request to simulate
-abbrev pub by_simulate : Option Asked → Option Wanted
+abbrev pub by_simulate : Option RequestSeen → Option Wanted
 by_simulate (Some (simulate design plan)) = Some (run design plan)
 by_simulate (Some (routes design)) = None
 by_simulate (Some (verify n conflicts ticks bounds design proof)) = None

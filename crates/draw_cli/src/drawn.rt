@@ -3,10 +3,10 @@
 ghost use Rattle.std.specs.Prelude.{◌≡◌, ◌≢◌, ◌≤◌, [], ◌∷◌, Some, Err, IfOk, ℕ, List};
 ghost use Rattle.rail_outside.specs.Asks.{fetched};
 ghost use Rattle.rail_outside.specs.Files.{Files};
-ghost use Rattle.rail_outside.specs.Growth.{Rose, GrowsByFront};
+ghost use Rattle.rail_outside.specs.Growth.{Rose, GrowsByPrefix};
 ghost use Rattle.rail_spec.specs.Feasible.{IsRunnable};
 ghost use Rattle.rail_spec.specs.Track.{routes_of};
-ghost use Rattle.rail_cli.specs.Replies.{OnReply, Tells, reply_seen};
+ghost use Rattle.rail_cli.specs.Replies.{OnReply, RepliesWith, reply_seen};
 ghost use Rattle.draw_cli.specs.Answers.{IsAnswerTo, IsRunAnswer, IsRunDrawing, IsTrackAnswer, IsTrackDrawing};
 ghost use Rattle.draw_cli.specs.Answers.{PlanAnswers};
 ghost use Rattle.draw_cli.specs.Answers.{RunAnswers, TrackAnswers, asks_to, usage, usage_line};
@@ -26,10 +26,30 @@ use track_drawing::track_picture;
 
 /// The words ask for nothing.
 pub(crate) fn usage(alloc: Global) -> Result<Reply, AllocError>
-    ensures { Tells result usage }
+    ensures { RepliesWith result usage }
 {
     let line = Vec::from_slice(alloc, b"usage: rcv_draw DESIGN [PLAN]\n")?;
     one_line(alloc, Status::Usage, line)
+}
+
+/// The reply to what is wanted.
+pub(crate) fn reply_to<S: Shelf>(
+    alloc: Global,
+    shelf: &mut S,
+    wanted: Wanted<'_>,
+) -> Result<Reply, Ending>
+    ensures replies { (files : Files) → S.known_files shelf.old ≡ Some files
+        → OnReply result (λ reply. IsAnswerTo files (Some (wanted_by wanted.entry)) (reply_seen reply)) }
+    ensures for_some_files { RepliesSome result (Some (wanted_by wanted.entry)) }
+    ensures cause { result ≡ Err Ending.ShelfFault → Rose (S.fault_count shelf.old) (S.fault_count shelf.new) }
+    ensures never_falls { S.fault_count shelf.old ≤ S.fault_count shelf.new }
+    ensures files_stay { S.known_files shelf.new ≡ S.known_files shelf.old }
+    ensures asks { GrowsByPrefix (S.asked shelf.old) (S.asked shelf.new) (asks_to (Some (wanted_by wanted.entry))) }
+{
+    match wanted {
+        Wanted::Track { design } => track(alloc, shelf, design),
+        Wanted::Run { design, plan } => run(alloc, shelf, design, plan),
+    }
 }
 
 /// The drawing of the track of a design.
@@ -81,13 +101,13 @@ fn run_in(alloc: Global, interlocking: &Interlocking, text: &[u8]) -> Result<Rep
 
 /// The reply for a design, by the name of its file.
 fn track<S: Shelf>(alloc: Global, shelf: &mut S, design: &str) -> Result<Reply, Ending>
-    ensures replies { (files : Files) → S.held shelf.old ≡ Some files
+    ensures replies { (files : Files) → S.known_files shelf.old ≡ Some files
         → OnReply result (λ reply. IsTrackAnswer (files design.now) (reply_seen reply)) }
-    ensures some { (bytes : List ℕ) × OnReply result (λ reply. IsTrackAnswer bytes (reply_seen reply)) }
+    ensures for_some_bytes { (bytes : List ℕ) × OnReply result (λ reply. IsTrackAnswer bytes (reply_seen reply)) }
     ensures cause { result ≡ Err Ending.ShelfFault → Rose (S.fault_count shelf.old) (S.fault_count shelf.new) }
     ensures never_falls { S.fault_count shelf.old ≤ S.fault_count shelf.new }
-    ensures files_stay { S.held shelf.new ≡ S.held shelf.old }
-    ensures asks { GrowsByFront (S.asked shelf.old) (S.asked shelf.new) (fetched design.now ∷ []) }
+    ensures files_stay { S.known_files shelf.new ≡ S.known_files shelf.old }
+    ensures asks { GrowsByPrefix (S.asked shelf.old) (S.asked shelf.new) (fetched design.now ∷ []) }
 {
     let bytes = fetch(alloc, shelf, InputFile::Design, design)?;
     track_in(alloc, bytes.as_slice())
@@ -100,14 +120,14 @@ fn run_over<S: Shelf>(
     interlocking: &Interlocking,
     plan: &str,
 ) -> Result<Reply, Ending>
-    ensures replies { (files : Files) → S.held shelf.old ≡ Some files
+    ensures replies { (files : Files) → S.known_files shelf.old ≡ Some files
         → OnReply result (λ reply. RunAnswers (files plan.now) interlocking.now.design.station (reply_seen reply)) }
-    ensures some { (bytes : List ℕ) × OnReply result (λ reply.
+    ensures for_some_bytes { (bytes : List ℕ) × OnReply result (λ reply.
         RunAnswers bytes interlocking.now.design.station (reply_seen reply)) }
     ensures cause { result ≡ Err Ending.ShelfFault → Rose (S.fault_count shelf.old) (S.fault_count shelf.new) }
     ensures never_falls { S.fault_count shelf.old ≤ S.fault_count shelf.new }
-    ensures files_stay { S.held shelf.new ≡ S.held shelf.old }
-    ensures asks { GrowsByFront (S.asked shelf.old) (S.asked shelf.new) (fetched plan.now ∷ []) }
+    ensures files_stay { S.known_files shelf.new ≡ S.known_files shelf.old }
+    ensures asks { GrowsByPrefix (S.asked shelf.old) (S.asked shelf.new) (fetched plan.now ∷ []) }
 {
     let bytes = fetch(alloc, shelf, InputFile::Plan, plan)?;
     run_in(alloc, interlocking, bytes.as_slice())
@@ -115,36 +135,16 @@ fn run_over<S: Shelf>(
 
 /// The reply for a design and a plan, by the names of their files.
 fn run<S: Shelf>(alloc: Global, shelf: &mut S, design: &str, plan: &str) -> Result<Reply, Ending>
-    ensures replies { (files : Files) → S.held shelf.old ≡ Some files
+    ensures replies { (files : Files) → S.known_files shelf.old ≡ Some files
         → OnReply result (λ reply. IsRunAnswer (files design.now) (files plan.now) (reply_seen reply)) }
-    ensures some { (design_bytes : List ℕ) × (plan_bytes : List ℕ)
+    ensures for_some_bytes { (design_bytes : List ℕ) × (plan_bytes : List ℕ)
         × OnReply result (λ reply. IsRunAnswer design_bytes plan_bytes (reply_seen reply)) }
     ensures cause { result ≡ Err Ending.ShelfFault → Rose (S.fault_count shelf.old) (S.fault_count shelf.new) }
     ensures never_falls { S.fault_count shelf.old ≤ S.fault_count shelf.new }
-    ensures files_stay { S.held shelf.new ≡ S.held shelf.old }
-    ensures asks { GrowsByFront (S.asked shelf.old) (S.asked shelf.new) (fetched design.now ∷ fetched plan.now ∷ []) }
+    ensures files_stay { S.known_files shelf.new ≡ S.known_files shelf.old }
+    ensures asks { GrowsByPrefix (S.asked shelf.old) (S.asked shelf.new) (fetched design.now ∷ fetched plan.now ∷ []) }
 {
     let bytes = fetch(alloc, shelf, InputFile::Design, design)?;
     let interlocking = admit(alloc, bytes.as_slice())?;
     run_over(alloc, shelf, &interlocking, plan)
-}
-
-/// The reply to what is wanted.
-pub(crate) fn drawn<S: Shelf>(
-    alloc: Global,
-    shelf: &mut S,
-    wanted: Wanted<'_>,
-) -> Result<Reply, Ending>
-    ensures replies { (files : Files) → S.held shelf.old ≡ Some files
-        → OnReply result (λ reply. IsAnswerTo files (Some (wanted_by wanted.entry)) (reply_seen reply)) }
-    ensures some { RepliesSome result (Some (wanted_by wanted.entry)) }
-    ensures cause { result ≡ Err Ending.ShelfFault → Rose (S.fault_count shelf.old) (S.fault_count shelf.new) }
-    ensures never_falls { S.fault_count shelf.old ≤ S.fault_count shelf.new }
-    ensures files_stay { S.held shelf.new ≡ S.held shelf.old }
-    ensures asks { GrowsByFront (S.asked shelf.old) (S.asked shelf.new) (asks_to (Some (wanted_by wanted.entry))) }
-{
-    match wanted {
-        Wanted::Track { design } => track(alloc, shelf, design),
-        Wanted::Run { design, plan } => run(alloc, shelf, design, plan),
-    }
 }

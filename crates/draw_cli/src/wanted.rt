@@ -2,7 +2,7 @@
 
 ghost use Rattle.std.specs.Prelude.{◌≡◌, ◌++◌, IfOk, OnOk, Some, None, Err, option_map};
 ghost use Rattle.rail_words.specs.Requests.{request_of};
-ghost use Rattle.rail_words.specs.Words.{asked_of, texts_of};
+ghost use Rattle.rail_words.specs.Words.{request_seen, texts_of};
 ghost use Rattle.draw_cli.specs.Wanted.{by_routes, by_simulate, command_words, or_else};
 ghost use Rattle.draw_cli.specs.Words.{wanted_by};
 
@@ -16,16 +16,6 @@ pub(crate) enum Wanted<'a> {
     Track { design: &'a str },
     /// Of the run of a plan over a design.
     Run { design: &'a str, plan: &'a str },
-}
-
-/// Appends copies of words. The error is want of memory.
-fn push_words(alloc: Global, words: &[String], more: &mut Vec<String>) -> Result<(), AllocError>
-    ensures { OnOk result (texts_of more.new.items ≡ texts_of more.old.items ++ texts_of words.now) }
-{
-    for word in words {
-        more.push(String::from_str(alloc, word.as_str())?)?;
-    }
-    Ok(())
 }
 
 /// The words with a command after the program's name. The error is want of memory.
@@ -48,9 +38,39 @@ pub(crate) fn command_words(
     Ok(more)
 }
 
+/// The drawing that words ask for, given with `routes` and with `simulate` after the program's name.
+pub(crate) fn read_wanted<'a>(
+    alloc: Global,
+    routes: &'a [String],
+    simulate: &'a [String],
+) -> Result<Wanted<'a>, WordsFault>
+    ensures ok { IfOk result (λ wanted. or_else
+        (by_routes (request_of (texts_of routes.entry.now)))
+        (by_simulate (request_of (texts_of simulate.entry.now))) ≡ Some (wanted_by wanted)) }
+    ensures usage { result ≡ Err WordsFault.Usage → or_else
+        (by_routes (request_of (texts_of routes.entry.now)))
+        (by_simulate (request_of (texts_of simulate.entry.now))) ≡ None }
+{
+    match track_wanted(alloc, routes) {
+        Ok(wanted) => Ok(wanted),
+        Err(WordsFault::Usage) => run_wanted(alloc, simulate),
+        Err(WordsFault::Memory) => Err(WordsFault::Memory),
+    }
+}
+
+/// Appends copies of words. The error is want of memory.
+fn push_words(alloc: Global, words: &[String], more: &mut Vec<String>) -> Result<(), AllocError>
+    ensures { OnOk result (texts_of more.new.items ≡ texts_of more.old.items ++ texts_of words.now) }
+{
+    for word in words {
+        more.push(String::from_str(alloc, word.as_str())?)?;
+    }
+    Ok(())
+}
+
 /// The drawing for a request to list routes.
 fn by_routes<'a>(request: Request<'a>) -> Option<Wanted<'a>>
-    ensures { option_map wanted_by result ≡ by_routes (Some (asked_of request.entry)) }
+    ensures { option_map wanted_by result ≡ by_routes (Some (request_seen request.entry)) }
 {
     match request {
         Request::Routes { design } => Some(Wanted::Track { design }),
@@ -63,7 +83,7 @@ fn by_routes<'a>(request: Request<'a>) -> Option<Wanted<'a>>
 
 /// The drawing for a request to simulate.
 fn by_simulate<'a>(request: Request<'a>) -> Option<Wanted<'a>>
-    ensures { option_map wanted_by result ≡ by_simulate (Some (asked_of request.entry)) }
+    ensures { option_map wanted_by result ≡ by_simulate (Some (request_seen request.entry)) }
 {
     match request {
         Request::Simulate { design, plan } => Some(Wanted::Run { design, plan }),
@@ -95,25 +115,5 @@ fn run_wanted<'a>(alloc: Global, words: &'a [String]) -> Result<Wanted<'a>, Word
     match read_words(alloc, words) {
         Ok(request) => by_simulate(request).ok_or(WordsFault::Usage),
         Err(fault) => Err(fault),
-    }
-}
-
-/// The drawing that words ask for, given with `routes` and with `simulate` after the program's name.
-pub(crate) fn read_wanted<'a>(
-    alloc: Global,
-    routes: &'a [String],
-    simulate: &'a [String],
-) -> Result<Wanted<'a>, WordsFault>
-    ensures ok { IfOk result (λ wanted. or_else
-        (by_routes (request_of (texts_of routes.entry.now)))
-        (by_simulate (request_of (texts_of simulate.entry.now))) ≡ Some (wanted_by wanted)) }
-    ensures usage { result ≡ Err WordsFault.Usage → or_else
-        (by_routes (request_of (texts_of routes.entry.now)))
-        (by_simulate (request_of (texts_of simulate.entry.now))) ≡ None }
-{
-    match track_wanted(alloc, routes) {
-        Ok(wanted) => Ok(wanted),
-        Err(WordsFault::Usage) => run_wanted(alloc, simulate),
-        Err(WordsFault::Memory) => Err(WordsFault::Memory),
     }
 }

@@ -11,27 +11,27 @@ use Rattle.drawing.specs.Laws.{Shows, WordsAreInLines}
 behind : (line : List ℕ) (lines : List (List ℕ)) (text : List ℕ) → Shows lines text → Shows (line ∷ lines) text
 behind line lines text h = record { place = h.place; anchor = h.anchor; color = h.color; there = inr h.there }
 
-in_front : (x : List ℕ) (xs ys : List (List ℕ)) → In x xs → In x (xs ++ ys)
-in_front x [] ys h = absurd h
-in_front x (y ∷ xs) ys (inl is) = inl is
-in_front x (y ∷ xs) ys (inr h) = inr (in_front x xs ys h)
+in_prefix : (x : List ℕ) (xs ys : List (List ℕ)) → In x xs → In x (xs ++ ys)
+in_prefix x [] ys h = absurd h
+in_prefix x (y ∷ xs) ys (inl is) = inl is
+in_prefix x (y ∷ xs) ys (inr h) = inr (in_prefix x xs ys h)
 
-shown_by : (picture : List Shape) (text : List ℕ) → In text (words_in picture) → Shows (map shape_line picture) text
-shown_by [] text h = absurd h
-shown_by (Line points color width ∷ rest) text h = behind _ _ text (shown_by rest text h)
-shown_by (Bar corner width height color ∷ rest) text h = behind _ _ text (shown_by rest text h)
-shown_by (Dot center radius color ∷ rest) text h = behind _ _ text (shown_by rest text h)
-shown_by (Note place anchor color other ∷ rest) text h = behind _ _ text (shown_by rest text h)
-shown_by (Words place anchor color own ∷ rest) text (inl is) = record { place = place; anchor = anchor; color = color; there = inl (ap (text_line place anchor color) is) }
-shown_by (Words place anchor color own ∷ rest) text (inr h) = behind _ _ text (shown_by rest text h)
+verdict_at_horizon : (picture : List Shape) (text : List ℕ) → In text (words_in picture) → Shows (map shape_line picture) text
+verdict_at_horizon [] text h = absurd h
+verdict_at_horizon (Line points color width ∷ rest) text h = behind _ _ text (verdict_at_horizon rest text h)
+verdict_at_horizon (Bar corner width height color ∷ rest) text h = behind _ _ text (verdict_at_horizon rest text h)
+verdict_at_horizon (Dot center radius color ∷ rest) text h = behind _ _ text (verdict_at_horizon rest text h)
+verdict_at_horizon (Note place anchor color other ∷ rest) text h = behind _ _ text (verdict_at_horizon rest text h)
+verdict_at_horizon (Words place anchor color own ∷ rest) text (inl is) = record { place = place; anchor = anchor; color = color; there = inl (ap (text_line place anchor color) is) }
+verdict_at_horizon (Words place anchor color own ∷ rest) text (inr h) = behind _ _ text (verdict_at_horizon rest text h)
 
 pub words_are_in_lines : WordsAreInLines
 words_are_in_lines picture lines text drawing there =
-    let h = shown_by picture text there in
+    let h = verdict_at_horizon picture text there in
     let all : Shows (drawing_of drawing.0 picture) text = record {
       place = h.place;
       anchor = h.anchor;
       color = h.color;
-      there = inr (inr (in_front _ (map shape_line picture) (end_line ∷ []) h.there));
+      there = inr (inr (in_prefix _ (map shape_line picture) (end_line ∷ []) h.there));
     } in
     subst (λ (ls : List (List ℕ)). Shows ls text) (sym drawing.1) all

@@ -20,16 +20,6 @@ pub(crate) fn put_attribute(line: &mut Vec<u8>, name: &[u8], number: u64) -> Res
     Ok(())
 }
 
-/// Appends ` <x>,<y>`.
-fn put_point(line: &mut Vec<u8>, point: Point) -> Result<(), AllocError>
-    ensures { OnOk result (line.new.items ≡ line.old.items ++ point_text point) }
-{
-    line.push(b' ')?;
-    put_number(line, point.x)?;
-    line.push(b',')?;
-    put_number(line, point.y)
-}
-
 /// Appends all points.
 pub(crate) fn put_points(line: &mut Vec<u8>, points: &[Point]) -> Result<(), AllocError>
     ensures { OnOk result (line.new.items ≡ line.old.items ++ flat_map point_text points.now) }
@@ -38,15 +28,6 @@ pub(crate) fn put_points(line: &mut Vec<u8>, points: &[Point]) -> Result<(), All
         put_point(line, *point)?;
     }
     Ok(())
-}
-
-/// Appends a hue.
-fn put_hue(line: &mut Vec<u8>, hue: u64) -> Result<(), AllocError>
-    ensures { OnOk result (line.new.items ≡ line.old.items ++ color_text (Color.Hue hue)) }
-{
-    line.extend_from_slice(b"hsl(")?;
-    put_number(line, hue)?;
-    line.extend_from_slice(b",65%,42%)")
 }
 
 /// Appends a colour.
@@ -74,6 +55,35 @@ pub(crate) fn anchor_text(anchor: Anchor) -> &'static [u8]
     }
 }
 
+/// Appends a text, so that XML reads it as text.
+pub(crate) fn put_escaped(line: &mut Vec<u8>, text: &[u8]) -> Result<(), AllocError>
+    ensures { OnOk result (line.new.items ≡ line.old.items ++ escaped text.now) }
+{
+    for byte in text {
+        put_escaped_byte(line, *byte)?;
+    }
+    Ok(())
+}
+
+/// Appends ` <x>,<y>`.
+fn put_point(line: &mut Vec<u8>, point: Point) -> Result<(), AllocError>
+    ensures { OnOk result (line.new.items ≡ line.old.items ++ point_text point) }
+{
+    line.push(b' ')?;
+    put_number(line, point.x)?;
+    line.push(b',')?;
+    put_number(line, point.y)
+}
+
+/// Appends a hue.
+fn put_hue(line: &mut Vec<u8>, hue: u64) -> Result<(), AllocError>
+    ensures { OnOk result (line.new.items ≡ line.old.items ++ color_text (Color.Hue hue)) }
+{
+    line.extend_from_slice(b"hsl(")?;
+    put_number(line, hue)?;
+    line.extend_from_slice(b",65%,42%)")
+}
+
 /// Appends a byte of a text, so that XML reads it as text.
 fn put_escaped_byte(line: &mut Vec<u8>, byte: u8) -> Result<(), AllocError>
     ensures { OnOk result (line.new.items ≡ line.old.items ++ escaped_byte byte) }
@@ -97,15 +107,5 @@ fn put_escaped_byte(line: &mut Vec<u8>, byte: u8) -> Result<(), AllocError>
         return line.extend_from_slice(b"\xef\xbf\xbd");
     }
     line.push(byte)?;
-    Ok(())
-}
-
-/// Appends a text, so that XML reads it as text.
-pub(crate) fn put_escaped(line: &mut Vec<u8>, text: &[u8]) -> Result<(), AllocError>
-    ensures { OnOk result (line.new.items ≡ line.old.items ++ escaped text.now) }
-{
-    for byte in text {
-        put_escaped_byte(line, *byte)?;
-    }
     Ok(())
 }

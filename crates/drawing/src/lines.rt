@@ -11,6 +11,15 @@ use crate::shape::{Anchor, Color, Picture, Point, Shape};
 use crate::size::size_of;
 use std::alloc::{AllocError, Global};
 
+/// The lines of an SVG text that shows a picture, each with its LF: a head with the size, which takes in the places of
+/// all shapes, a white ground, a line for each shape in order, and an end. `Err` is want of memory.
+pub fn drawing_lines(alloc: Global, picture: &Picture) -> Result<Vec<Vec<u8>>, AllocError>
+    ensures { IfOk result (λ lines. IsDrawingOf picture.now (lines_of lines.items)) }
+{
+    let shapes = picture.as_slice();
+    sized_lines(alloc, shapes, size_of(shapes))
+}
+
 /// The line of a line from point to point.
 fn line_line(
     alloc: Global,
@@ -161,13 +170,4 @@ fn sized_lines(alloc: Global, shapes: &[Shape], size: Point) -> Result<Vec<Vec<u
     }
     lines.push(end_line(alloc)?)?;
     Ok(lines)
-}
-
-/// The lines of an SVG text that shows a picture, each with its LF: a head with the size, which takes in the places of
-/// all shapes, a white ground, a line for each shape in order, and an end. `Err` is want of memory.
-pub fn drawing_lines(alloc: Global, picture: &Picture) -> Result<Vec<Vec<u8>>, AllocError>
-    ensures { IfOk result (λ lines. IsDrawingOf picture.now (lines_of lines.items)) }
-{
-    let shapes = picture.as_slice();
-    sized_lines(alloc, shapes, size_of(shapes))
 }

@@ -8,6 +8,18 @@ const MARGIN: u64 = 20;
 /// The width of a character, in px.
 const CHARACTER: u64 = 7;
 
+/// The size that takes in all shapes, in px to the right and below.
+pub(crate) fn size_of(shapes: &[Shape]) -> Point {
+    let mut size = Point { x: 0, y: 0 };
+    for shape in shapes {
+        size = farther(size, shape_end(shape));
+    }
+    Point {
+        x: size.x.saturating_add(MARGIN),
+        y: size.y.saturating_add(MARGIN),
+    }
+}
+
 /// The farther of two places, in each direction.
 fn farther(one: Point, other: Point) -> Point {
     Point {
@@ -68,17 +80,5 @@ fn shape_end(shape: &Shape) -> Point {
             text,
             ..
         } => text_end(*place, *anchor, text.as_bytes()),
-    }
-}
-
-/// The size that takes in all shapes, in px to the right and below.
-pub(crate) fn size_of(shapes: &[Shape]) -> Point {
-    let mut size = Point { x: 0, y: 0 };
-    for shape in shapes {
-        size = farther(size, shape_end(shape));
-    }
-    Point {
-        x: size.x.saturating_add(MARGIN),
-        y: size.y.saturating_add(MARGIN),
     }
 }

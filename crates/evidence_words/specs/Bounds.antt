@@ -17,7 +17,7 @@ use Rattle.rail_bound.specs.declared.Bound.{Bound}
 use Rattle.rail_bound.specs.Certificates.{VisitOf, routes_of_place, kept_out, last_of_leg, visit_from, visit_to}
 use Rattle.rail_bound.specs.Validity.{first_leg, followed}
 use Rattle.bound_ticks.specs.Chains.{chain_of, leg_to_release}
-use Rattle.bound_ticks.specs.Ways.{first_routes}
+use Rattle.bound_ticks.specs.Walks.{first_routes}
 use Rattle.rail_base.specs.Names.{train_name}
 use Rattle.cone_words.specs.Names.{makes_text, nodes_text}
 use Rattle.cone_words.specs.Phrases.{joined, sentence, ticks_text, any_route_text}

@@ -7,7 +7,7 @@ use Rattle.rail_bound.specs.Certificates.{VisitOf, ride_of}
 use Rattle.rail_bound.specs.Rides.{release_ticks}
 use Rattle.rail_bound.specs.Validity.{ticks_from_visit, ticks_to}
 use Rattle.bound_ticks.specs.Chains.{chain_of, leg_to_release}
-use Rattle.bound_ticks.specs.Ways.{first_routes}
+use Rattle.bound_ticks.specs.Walks.{first_routes}
 
 -- from the grant of the first leg's first command to where the legs are through
 abbrev pub EndsAsTheChain : Type 0

@@ -1,4 +1,4 @@
-//! Bounds, told. An error is want of memory.
+//! The sentences about a bound. An error is want of memory.
 
 ghost use Rattle.std.specs.Prelude.{◌≡◌, ◌≤◌, ◌++◌, ◌∷◌, [], true, codes, decimal, All, IfOk, OnOk};
 ghost use Rattle.std.specs.Option.{ForSome};
@@ -7,7 +7,7 @@ ghost use Rattle.rail_outside.specs.Lines.{lines_of};
 ghost use Rattle.rail_bound.specs.declared.Requirement.TheVariants as requirement;
 ghost use Rattle.rail_bound.specs.Validity.{names_design, followed};
 ghost use Rattle.leg_targets.specs.Visits.{origin_of, visit_of};
-ghost use Rattle.bound_ticks.specs.Ways.{IsLeg};
+ghost use Rattle.bound_ticks.specs.Walks.{IsLeg};
 ghost use Rattle.bound_ticks.specs.Claims.{requirement_fits};
 ghost use Rattle.rail_base.specs.declared.station.Station.{Station};
 ghost use Rattle.cone_words.specs.Phrases.{sentence};
@@ -17,7 +17,7 @@ ghost use Rattle.evidence_words.specs.Bounds.{end_tick, first_tick, horizon_text
 ghost use Rattle.evidence_words.specs.Bounds.{made_text, origin_text, origin_tick, passed, since_text, start_text};
 
 use crate::legs::{Chain, put_moment};
-use bound_ticks::{followed, stretches_of, visit_from, visit_to};
+use bound_ticks::{stretches_of, ticks_followed, visit_from, visit_to};
 use cone_words::{
     most_ticks, order_of, push_opening, push_parts, push_sentence, put_makes, put_nodes, put_ticks,
     within_of,
@@ -31,6 +31,32 @@ use rail_base::station::TrainNo;
 use rail_bound::{Bound, Leg, Origin, Requirement};
 use rail_text::put_number;
 use std::alloc::{AllocError, Global};
+
+/// Appends the sentences about a bound.
+pub fn push_bound(
+    alloc: Global,
+    interlocking: &Interlocking,
+    line: u64,
+    bound: &Bound,
+    lines: &mut Vec<Vec<u8>>,
+) -> Result<(), AllocError>
+    requires { let i = interlocking.now in names_design i.design.station i.routes bound.now ≡ true }
+    ensures { let i = interlocking.now in OnOk result (lines_of lines.new.items
+        ≡ lines_of lines.old.items ++ bound_told i.design.station i.routes bound.now line) }
+{
+    let from = visit_from(interlocking, bound.requirement);
+    let after = counted_after(&bound.origin, from);
+    push_opening(alloc, line, lines)?;
+    push_origin(alloc, interlocking, line, &bound.origin, from, lines)?;
+    let tick = push_chain(alloc, interlocking, line, bound, after, lines)?;
+    let end = End {
+        interlocking,
+        after,
+        origin_tick: origin_tick(&bound.origin),
+        tick,
+    };
+    push_end(alloc, &end, line, bound.requirement, lines)
+}
 
 /// Appends that ticks are those of the run.
 fn put_start(text: &mut Vec<u8>) -> Result<(), AllocError>
@@ -142,7 +168,7 @@ fn first_tick(after: Option<Visit>) -> u64
 }
 
 /// The visit, where it is made later than the first leg's first command is granted.
-fn passed(after: Option<Visit>) -> Option<Visit>
+fn later_visit(after: Option<Visit>) -> Option<Visit>
     ensures visit { origin_of result ≡ passed (origin_of after) }
     ensures same { (d : Station) → ForSome after (λ v. IsTrain d v.train) → ForSome result (λ v. IsTrain d v.train) }
 {
@@ -150,18 +176,6 @@ fn passed(after: Option<Visit>) -> Option<Visit>
         return None;
     };
     if visit.number <= 1 { None } else { Some(visit) }
-}
-
-/// The tick of the run at which the visit is made from which ticks are counted, where that is known.
-fn origin_tick(origin: &Origin) -> u64
-    ensures { result ≡ origin_tick origin.now }
-{
-    match origin {
-        Origin::Visit => 0,
-        Origin::Start => 0,
-        Origin::FirstTick => 1,
-        Origin::Cone { tick, .. } => *tick,
-    }
 }
 
 /// When the legs of a bound are through.
@@ -174,6 +188,18 @@ struct End<'a> {
     origin_tick: u64,
     /// The tick at which the legs are through at the earliest.
     tick: u64,
+}
+
+/// The tick of the run at which the visit is made from which ticks are counted, where that is known.
+fn origin_tick(origin: &Origin) -> u64
+    ensures { result ≡ origin_tick origin.now }
+{
+    match origin {
+        Origin::Visit => 0,
+        Origin::Start => 0,
+        Origin::FirstTick => 1,
+        Origin::Cone { tick, .. } => *tick,
+    }
 }
 
 impl End<'_> {
@@ -295,10 +321,10 @@ fn most_followed(
     requires { All (IsLeg interlocking.now) legs.now }
     ensures value { let i = interlocking.now in
         IfOk result (λ n. n ≡ followed i.design.station i.routes legs.now) }
-    ensures few { IfOk result (λ n. n ≤ 86400) }
+    ensures at_most_86400 { IfOk result (λ n. n ≤ 86400) }
 {
     let stretches = stretches_of(alloc, interlocking, legs)?;
-    Ok(followed(interlocking, stretches))
+    Ok(ticks_followed(interlocking, stretches))
 }
 
 /// Appends the sentences about the legs of a bound, and gives the tick at which they are through at the earliest.
@@ -327,7 +353,7 @@ fn push_chain(
         after,
         to: visit_to(interlocking, bound.requirement),
     };
-    chain.push_legs(alloc, passed(after), first_tick(after), legs, lines)
+    chain.push_legs(alloc, later_visit(after), first_tick(after), legs, lines)
 }
 
 /// Appends from when the ticks of a bound are counted.
@@ -363,30 +389,4 @@ fn push_end(
     let mut text = Vec::new(alloc);
     end.put_end(&mut text, requirement)?;
     push_sentence(alloc, lines, line, &text)
-}
-
-/// Appends the sentences about a bound.
-pub fn push_bound(
-    alloc: Global,
-    interlocking: &Interlocking,
-    line: u64,
-    bound: &Bound,
-    lines: &mut Vec<Vec<u8>>,
-) -> Result<(), AllocError>
-    requires { let i = interlocking.now in names_design i.design.station i.routes bound.now ≡ true }
-    ensures { let i = interlocking.now in OnOk result (lines_of lines.new.items
-        ≡ lines_of lines.old.items ++ bound_told i.design.station i.routes bound.now line) }
-{
-    let from = visit_from(interlocking, bound.requirement);
-    let after = counted_after(&bound.origin, from);
-    push_opening(alloc, line, lines)?;
-    push_origin(alloc, interlocking, line, &bound.origin, from, lines)?;
-    let tick = push_chain(alloc, interlocking, line, bound, after, lines)?;
-    let end = End {
-        interlocking,
-        after,
-        origin_tick: origin_tick(&bound.origin),
-        tick,
-    };
-    push_end(alloc, &end, line, bound.requirement, lines)
 }

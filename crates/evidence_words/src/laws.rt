@@ -1,4 +1,4 @@
-//! The ticks that are told, each law the contract of a function that does nothing.
+//! The ticks in sentences, each law the contract of a function that does nothing.
 
 ghost use Rattle.evidence_words.specs.Laws.{EndsAsTheChain, EndsAsTheChainFromVisit, WaitsForTheRelease};
 

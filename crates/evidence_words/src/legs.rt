@@ -1,4 +1,4 @@
-//! The legs of a bound, told one after the other. An error is want of memory.
+//! The sentences about the legs of a bound, one after the other. An error is want of memory.
 
 ghost use Rattle.std.specs.Prelude.{◌≡◌, ◌≤◌, ◌+◌, ◌++◌, All, IfOk, OnOk, codes, decimal, length};
 ghost use Rattle.std.specs.Option.{ForSome};
@@ -59,10 +59,52 @@ pub struct Chain<'a> {
 
 impl Chain<'_> {
     ghost use Rattle.bound_ticks.specs.Chains.{chain_of, end_ticks};
-    ghost use Rattle.bound_ticks.specs.Ways.{IsLeg};
+    ghost use Rattle.bound_ticks.specs.Walks.{IsLeg};
     ghost use Rattle.std.specs.Prelude.{◌∷◌, []};
     ghost use Rattle.cone_words.specs.Phrases.{sentence};
     ghost use Rattle.evidence_words.specs.Bounds.{leg_text, legs_told, wait_text};
+
+    /// Appends the sentences about legs of which the first one's first command is granted at this tick at the earliest, and gives
+    /// the tick at which they are through at the earliest.
+    pub fn push_legs(
+        &self,
+        alloc: Global,
+        from: Option<Visit>,
+        tick: u64,
+        legs: &[Leg],
+        lines: &mut Vec<Vec<u8>>,
+    ) -> Result<u64, AllocError>
+        requires legs { All (IsLeg self.now.interlocking.now) legs.now }
+        requires few { let i = self.now.interlocking.now in let d = i.design.station in
+            tick + chain_of d i.routes self.now.most (origin_of from) (origin_of self.now.to) legs.now ≤ 10000000 }
+        requires from { ForSome from (λ v. IsTrain self.now.interlocking.now.design.station v.train) }
+        ensures end { let i = self.now.interlocking.now in let d = i.design.station in
+            IfOk result (λ n. n
+            ≡ tick + chain_of d i.routes self.now.most (origin_of from) (origin_of self.now.to) legs.now) }
+        ensures lines { let i = self.now.interlocking.now in OnOk result (lines_of lines.new.items
+            ≡ lines_of lines.old.items
+            ++ legs_told i.design.station i.routes self.now.most self.now.line (origin_of self.now.after)
+            (origin_of from) tick legs.now) }
+    {
+        match legs {
+            [] => Ok(tick),
+            [last] => {
+                self.push_leg(alloc, last, lines)?;
+                Ok(tick + self.end_ticks(alloc, from, last)?)
+            }
+            [leg, rest @ ..] => {
+                let ride = Ride {
+                    interlocking: self.interlocking,
+                    leg,
+                    from,
+                    most: self.most,
+                };
+                let next = tick + ride.leg_to_release(alloc, first_routes(rest))? + 1;
+                self.push_waiting(alloc, next, leg, rest, lines)?;
+                self.push_legs(alloc, None, next, rest, lines)
+            }
+        }
+    }
 
     /// That a leg's train is not granted its first route before a moment, since it waits for the leg before.
     fn wait_text(
@@ -135,47 +177,5 @@ impl Chain<'_> {
         let text = self.wait_text(alloc, tick, leg, rest)?;
         push_sentence(alloc, lines, self.line, &text)?;
         Ok(())
-    }
-
-    /// Appends the sentences about legs of which the first one's first command is granted at this tick at the earliest, and gives
-    /// the tick at which they are through at the earliest.
-    pub fn push_legs(
-        &self,
-        alloc: Global,
-        from: Option<Visit>,
-        tick: u64,
-        legs: &[Leg],
-        lines: &mut Vec<Vec<u8>>,
-    ) -> Result<u64, AllocError>
-        requires legs { All (IsLeg self.now.interlocking.now) legs.now }
-        requires few { let i = self.now.interlocking.now in let d = i.design.station in
-            tick + chain_of d i.routes self.now.most (origin_of from) (origin_of self.now.to) legs.now ≤ 10000000 }
-        requires from { ForSome from (λ v. IsTrain self.now.interlocking.now.design.station v.train) }
-        ensures end { let i = self.now.interlocking.now in let d = i.design.station in
-            IfOk result (λ n. n
-            ≡ tick + chain_of d i.routes self.now.most (origin_of from) (origin_of self.now.to) legs.now) }
-        ensures lines { let i = self.now.interlocking.now in OnOk result (lines_of lines.new.items
-            ≡ lines_of lines.old.items
-            ++ legs_told i.design.station i.routes self.now.most self.now.line (origin_of self.now.after)
-            (origin_of from) tick legs.now) }
-    {
-        match legs {
-            [] => Ok(tick),
-            [last] => {
-                self.push_leg(alloc, last, lines)?;
-                Ok(tick + self.end_ticks(alloc, from, last)?)
-            }
-            [leg, rest @ ..] => {
-                let ride = Ride {
-                    interlocking: self.interlocking,
-                    leg,
-                    from,
-                    most: self.most,
-                };
-                let next = tick + ride.leg_to_release(alloc, first_routes(rest))? + 1;
-                self.push_waiting(alloc, next, leg, rest, lines)?;
-                self.push_legs(alloc, None, next, rest, lines)
-            }
-        }
     }
 }

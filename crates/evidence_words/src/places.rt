@@ -1,4 +1,4 @@
-//! The places of legs, told. An error is want of memory.
+//! The sentences about the places of legs. An error is want of memory.
 
 ghost use Rattle.std.specs.Prelude.{◌≡◌, ◌++◌, codes, IfOk, OnOk};
 ghost use Rattle.rail_bound.specs.Certificates.{kept_out};
@@ -12,6 +12,43 @@ use rail_base::names::train_name;
 use rail_base::route::RouteNo;
 use rail_bound::{Leg, Place, routes_of};
 use std::alloc::{AllocError, Global};
+
+/// A leg: its train, and its places.
+pub fn leg_text(alloc: Global, design: &Design, leg: &Leg) -> Result<Vec<u8>, AllocError>
+    ensures { IfOk result (λ text. text.items ≡ leg_text design.now.station leg.now) }
+{
+    let mut text = Vec::from_slice(alloc, train_name(design, leg.train))?;
+    text.extend_from_slice(b" takes ")?;
+    put_places(&mut text, leg.places.as_slice())?;
+    Ok(text)
+}
+
+/// Appends the sections that two routes share, where there is just one of each.
+pub fn put_meeting(
+    alloc: Global,
+    text: &mut Vec<u8>,
+    interlocking: &Interlocking,
+    last: &[RouteNo],
+    first: &[RouteNo],
+) -> Result<(), AllocError>
+    ensures { let i = interlocking.now in OnOk result (text.new.items
+        ≡ text.old.items ++ meeting_text i.design.station i.routes (only last.now) (only first.now)) }
+{
+    let Some(route) = only(last) else {
+        return text.extend_from_slice(b"what the two routes share");
+    };
+    let Some(other) = only(first) else {
+        return text.extend_from_slice(b"what the two routes share");
+    };
+    put_shared(
+        alloc,
+        text,
+        &interlocking.design,
+        &interlocking.routes,
+        route,
+        other,
+    )
+}
 
 /// The routes that a place keeps out.
 fn kept_out(place: &Place) -> &[RouteNo]
@@ -68,16 +105,6 @@ fn put_places(text: &mut Vec<u8>, places: &[Place]) -> Result<(), AllocError>
     }
 }
 
-/// A leg: its train, and its places.
-pub fn leg_text(alloc: Global, design: &Design, leg: &Leg) -> Result<Vec<u8>, AllocError>
-    ensures { IfOk result (λ text. text.items ≡ leg_text design.now.station leg.now) }
-{
-    let mut text = Vec::from_slice(alloc, train_name(design, leg.train))?;
-    text.extend_from_slice(b" takes ")?;
-    put_places(&mut text, leg.places.as_slice())?;
-    Ok(text)
-}
-
 /// The one of these routes, if there is just one.
 fn only(routes: &[RouteNo]) -> Option<RouteNo>
     ensures { result ≡ only routes.now }
@@ -87,31 +114,4 @@ fn only(routes: &[RouteNo]) -> Option<RouteNo>
         [route] => Some(*route),
         [_, _, ..] => None,
     }
-}
-
-/// Appends the sections that two routes share, where there is just one of each.
-pub fn put_meeting(
-    alloc: Global,
-    text: &mut Vec<u8>,
-    interlocking: &Interlocking,
-    last: &[RouteNo],
-    first: &[RouteNo],
-) -> Result<(), AllocError>
-    ensures { let i = interlocking.now in OnOk result (text.new.items
-        ≡ text.old.items ++ meeting_text i.design.station i.routes (only last.now) (only first.now)) }
-{
-    let Some(route) = only(last) else {
-        return text.extend_from_slice(b"what the two routes share");
-    };
-    let Some(other) = only(first) else {
-        return text.extend_from_slice(b"what the two routes share");
-    };
-    put_shared(
-        alloc,
-        text,
-        &interlocking.design,
-        &interlocking.routes,
-        route,
-        other,
-    )
 }

@@ -1,4 +1,4 @@
-//! What is told of the evidence of a line.
+//! The sentences about the evidence of a line.
 
 ghost use Rattle.std.specs.Prelude.{◌≡◌, ◌++◌, true, OnOk};
 ghost use Rattle.rail_outside.specs.Lines.{lines_of};
@@ -15,7 +15,7 @@ use std::alloc::{AllocError, Global};
 ///
 /// # Errors
 ///
-/// Want of memory alone, which leaves a front of the sentences.
+/// Want of memory alone, which leaves a prefix of the sentences.
 pub fn push_evidence(
     alloc: Global,
     interlocking: &Interlocking,

@@ -1,4 +1,4 @@
--- Where a route goes further than a way, one route of the way at a time.
+-- Where a route goes further than a walk, one route of the walk at a time.
 use Rattle.std.proofs.Common.{◌≡◌, ℕ, suc, ◌+◌, ◌-◌, ◌<◌, Bool, true, false, not, ◌&&◌, List, [], ◌∷◌, map, drop, get_or, length, slice_get, Option, None, Some, refl, sym, ap, subst, ◌∙◌, arith, true≢false}
 use Rattle.std.proofs.lemmas.List.{drop_more}
 use Rattle.rail_base.specs.declared.route.Route.{Route}
@@ -47,7 +47,7 @@ value_or : RouteNo → Option RouteNo → RouteNo
 value_or x None = x
 value_or x (Some y) = y
 
--- a route that goes further starts at the signal where the last of the way ends
+-- a route that goes further starts at the signal where the last of the walk ends
 pub last_goes : (f : RouteNo → Route) (q : Route) (xs : List RouteNo) (x : RouteNo) → Some x ≡ slice_get xs (length xs - 1) → goes_further (map f xs) q ≡ true → goes_on (f x).finish q.start ≡ true
 unfolding value_or
 last_goes f q [] x e h = absurd (true≢false (sym h))

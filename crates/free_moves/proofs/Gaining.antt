@@ -5,7 +5,7 @@ use Rattle.rail_motion.specs.declared.Span.{Span}
 use Rattle.rail_motion.specs.Track.{stretches_of, IsRising}
 use Rattle.rail_motion.proofs.Rising.{ends_rise}
 use Rattle.rail_base.specs.Numbering.{greatest}
-use Rattle.rail_spec.specs.Motion.{Rates, Stretch}
+use Rattle.rail_spec.specs.Motion.{MotorSeen, SpanSeen}
 use Rattle.rail_free.specs.Free.{rise, behind, is_free, free}
 use Rattle.rail_free.proofs.Lower.{lower, rise_is}
 
@@ -23,7 +23,7 @@ greatest_found test (suc n) r within passes above =
     (λ h. greatest_found test n r h passes (λ w l m. above w l (omega arith)))
 
 -- a free move is the greatest where the next is none
-pub free_found : (m : Rates) (ss : List Stretch) (end : Option ℕ) (rest : Bool) (x low high : ℕ) → 1 ≤ m.brake → low < high → high ≤ m.top + 1 → high ≤ low + 1
+pub free_found : (m : MotorSeen) (ss : List SpanSeen) (end : Option ℕ) (rest : Bool) (x low high : ℕ) → 1 ≤ m.brake → low < high → high ≤ m.top + 1 → high ≤ low + 1
     → (1 ≤ low → is_free m ss end rest x low ≡ true) → (high ≤ m.top → is_free m ss end rest x high ≡ false) → low ≡ free m ss end rest x
 free_found m ss end rest x low high slows apart within close passes above =
     sym (greatest_found (is_free m ss end rest x) m.top low (omega arith) passes (λ w more most. go w more most (is_free m ss end rest x w) refl))

@@ -1,4 +1,4 @@
--- Ways are short, and the least of what follows them is found one route at a time.
+-- Walks are short, and the least of what follows them is found one route at a time.
 use Rattle.std.proofs.Common.{◌≡◌, ℕ, zero, suc, ◌+◌, ◌-◌, ◌*◌, ◌≤◌, ◌<◌, ◌^◌, min, ◌==◌, Bool, true, false, if◌then◌else◌, List, [], ◌∷◌, map, filter, drop, length, sum_by, Option, None, Some, refl, sym, ap, ◌∙◌, subst, arith}
 use Rattle.std.specs.List.{list_any}
 use Rattle.std.proofs.lemmas.List.{drop_more}
@@ -15,8 +15,8 @@ use Rattle.rail_spec.specs.Track.{routes_of}
 use Rattle.rail_laws.proofs.Admits.{entry_is}
 use Rattle.rail_laws.proofs.Small.{short_route}
 use Rattle.rail_cone.specs.Clauses.{goes_further}
-use Rattle.rail_course.specs.Tracks.{routes_at, way}
-use Rattle.rail_spec.specs.Motion.{Rates, Stretch}
+use Rattle.rail_course.specs.Tracks.{routes_at, path_length}
+use Rattle.rail_spec.specs.Motion.{MotorSeen, SpanSeen}
 use Rattle.rail_spec.specs.Dispatches.{rates, stretches}
 use Rattle.rail_free.specs.Free.{free, steps, steps_from_stop}
 use Rattle.rail_free.specs.Legs.{Leg, least_ticks, least_ticks_waited, least_over, least_whatever_follows, following, with_next}
@@ -27,7 +27,7 @@ module _ (d : Station) (adm : IsAdmitted d) where
   short_at : (r : RouteNo) → length_mm (route_at (routes_of d) r) ≤ 40000000000
   short_at r = entry_is (λ (q : Route). length_mm q ≤ 40000000000) no_route (routes_of d) r.0 (omega arith) (short_route d adm)
 
-  short_sum : (path : List RouteNo) → way (routes_of d) path ≤ length path * 40000000000
+  short_sum : (path : List RouteNo) → path_length (routes_of d) path ≤ length path * 40000000000
   short_sum [] = omega arith
   short_sum (r ∷ rs) =
       let s = sum_by-cons length_mm (route_at (routes_of d) r) (routes_at (routes_of d) rs) in
@@ -35,8 +35,8 @@ module _ (d : Station) (adm : IsAdmitted d) where
       let b = short_sum rs in
       omega arith
 
-pub short_way : (i : Interlocking) (path : List RouteNo) → length path ≤ 65 → way i.routes path < 2 ^ 47
-short_way i path few = subst (λ routes. way routes path < 2 ^ 47) (sym i.table) (let s = short_sum i.design.station (admitted i.design.station i.design.admitted) path in omega arith)
+pub short_path : (i : Interlocking) (path : List RouteNo) → length path ≤ 65 → path_length i.routes path < 2 ^ 47
+short_path i path few = subst (λ routes. path_length routes path < 2 ^ 47) (sym i.table) (let s = short_sum i.design.station (admitted i.design.station i.design.admitted) path in omega arith)
 
 -- ---- what follows
 
@@ -88,11 +88,11 @@ module _ (f : Leg → ℕ) (rs : List Route) (rest : Bool) where
 
 -- ---- a leg
 
-abbrev count : (rest waits : Bool) (most from to : ℕ) → Rates → List Stretch → Option ℕ → ℕ
+abbrev count : (rest waits : Bool) (most from to : ℕ) → MotorSeen → List SpanSeen → Option ℕ → ℕ
 count rest waits most from to m ss end = if waits then steps_from_stop (free m ss end rest) (m.accel + m.brake) from 0 most from to else steps (free m ss end rest) most from to
 
 -- what the track of a leg takes is what the leg does
-pub on_leg : (d : Station) (t : TrainNo) (rs : List Route) (closed rest waits : Bool) (most from to : ℕ) (m : Rates) (ss : List Stretch) (end : Option ℕ) (long n : ℕ)
+pub on_leg : (d : Station) (t : TrainNo) (rs : List Route) (closed rest waits : Bool) (most from to : ℕ) (m : MotorSeen) (ss : List SpanSeen) (end : Option ℕ) (long n : ℕ)
     → m ≡ rates d t → ss ≡ stretches d rs → long ≡ sum_by length_mm rs → end ≡ (if closed then Some long else None)
     → n ≡ (if waits then steps_from_stop (free m ss end rest) (m.accel + m.brake) from 0 most from to else steps (free m ss end rest) most from to)
     → n ≡ (if waits then least_ticks_waited d t (record { routes = rs; closed = closed; rest = rest }) most from to else least_ticks d t (record { routes = rs; closed = closed; rest = rest }) most from to)

@@ -18,25 +18,6 @@ pub(crate) fn rise(accel: u64, speed: u64, limit: u64) -> u64
     twice / 2
 }
 
-/// Where a span ends.
-fn end_of(span: &Span) -> u64
-    ensures { result ≡ nat_abs span.now.end }
-{
-    span.end as u64
-}
-
-/// Whether the way since the end of a span is enough to gain a speed from its limit. Only a span that ends past `from`, and up
-/// to the place, matters.
-fn allows(span: &Span, from: u64, accel: u64, place: u64, speed: u64) -> bool
-    requires accel { 1 ≤ accel }
-    requires speed { speed ≤ 100000 }
-    ensures { result ≡ (not (nat_lt from (nat_abs span.now.end) && nat_le (nat_abs span.now.end) place)
-        || nat_le (rise accel speed (nat_abs span.now.limit)) (place - nat_abs span.now.end)) }
-{
-    let end = end_of(span);
-    end <= from || end > place || rise(accel, speed, span.limit as u64) <= place - end
-}
-
 /// Whether the limits behind a place allow a speed there. Of rising spans none after the first that ends past it
 /// matters.
 pub(crate) fn behind(spans: &[Span], accel: u64, place: u64, speed: u64) -> bool
@@ -56,4 +37,23 @@ pub(crate) fn behind(spans: &[Span], accel: u64, place: u64, speed: u64) -> bool
         from = from.max(end_of(span));
     }
     true
+}
+
+/// Where a span ends.
+fn end_of(span: &Span) -> u64
+    ensures { result ≡ nat_abs span.now.end }
+{
+    span.end as u64
+}
+
+/// Whether the walk since the end of a span is enough to gain a speed from its limit. Only a span that ends past `from`, and up
+/// to the place, matters.
+fn allows(span: &Span, from: u64, accel: u64, place: u64, speed: u64) -> bool
+    requires accel { 1 ≤ accel }
+    requires speed { speed ≤ 100000 }
+    ensures { result ≡ (not (nat_lt from (nat_abs span.now.end) && nat_le (nat_abs span.now.end) place)
+        || nat_le (rise accel speed (nat_abs span.now.limit)) (place - nat_abs span.now.end)) }
+{
+    let end = end_of(span);
+    end <= from || end > place || rise(accel, speed, span.limit as u64) <= place - end
 }

@@ -1,4 +1,4 @@
-//! The least ticks of trips on legs, and whatever follows a way.
+//! The least ticks of trips on legs, and whatever follows a walk.
 
 ghost use Rattle.std.specs.Prelude.{◌≡◌, ◌<◌, ◌≤◌, ◌^◌, ◌+◌, All, IfOk, length, None, Some, if◌then◌else◌, nat_abs};
 ghost use Rattle.std.specs.Option.{ForSome};
@@ -6,7 +6,7 @@ ghost use Rattle.rail_motion.specs.Ranges.{IsPlace};
 ghost use Rattle.rail_motion.specs.Track.{end_of};
 ghost use Rattle.rail_base.specs.Routes.{IsRoute, route_at};
 ghost use Rattle.rail_cone.specs.Validity.{from_boundary};
-ghost use Rattle.rail_course.specs.Tracks.{routes_at, way};
+ghost use Rattle.rail_course.specs.Tracks.{routes_at, path_length};
 ghost use Rattle.rail_free.specs.Free.{steps, steps_from_stop};
 ghost use Rattle.rail_free.specs.Legs.{following, least_over, least_whatever_follows, with_next};
 ghost use Rattle.free_moves.specs.Moves.{free_on};
@@ -20,16 +20,24 @@ use rail_course::{motor_of, spans_of};
 use rail_motion::Ahead;
 use std::alloc::{AllocError, Global};
 
-/// Where the track of a leg ends, if no train goes past its end.
-fn end_of(closed: bool, length: u64) -> Option<i64>
-    requires { length < 2 ^ 47 }
-    ensures value { end_of result ≡ (if closed then Some length else None) }
-    ensures range { ForSome result IsPlace }
-{
-    if closed { Some(length as i64) } else { None }
-}
-
 impl Trip<'_> {
+    /// The least ticks of the trip on a walk, whatever follows it.
+    pub(crate) fn least_ticks(&self, alloc: Global, path: &[RouteNo]) -> Result<u64, AllocError>
+        requires routes { All (IsRoute self.now.interlocking.now.routes) path.now }
+        requires at_most_64 { length path.now ≤ 64 }
+        ensures { let routes = self.now.interlocking.now.routes in
+            let walk = routes_at routes path.now in
+            IfOk result (λ n. n ≡ least_whatever_follows (trip_ticks self.now) routes walk (from_boundary walk)) }
+    {
+        let routes = &self.interlocking.routes;
+        let rest = from_boundary(routes, path);
+        if path.is_empty() || exits(routes, path) {
+            return self.leg_ticks(alloc, path, false, rest);
+        }
+        let closed = self.leg_ticks(alloc, path, true, rest)?;
+        self.least_following(alloc, path, rest, closed)
+    }
+
     /// The least ticks of the trip on the track of a leg, or one more than its most where so many don't reach.
     fn ticks_on(&self, track: &LegTrack) -> u64
         ensures { let gain = nat_abs track.now.motor.accel + nat_abs track.now.motor.brake in
@@ -53,7 +61,7 @@ impl Trip<'_> {
         rest: bool,
     ) -> Result<u64, AllocError>
         requires routes { All (IsRoute self.now.interlocking.now.routes) path.now }
-        requires few { length path.now ≤ 65 }
+        requires at_most_65 { length path.now ≤ 65 }
         ensures { IfOk result (λ n. n ≡ trip_ticks self.now
             (record { routes = routes_at self.now.interlocking.now.routes path.now; closed = closed; rest = rest })) }
     {
@@ -70,7 +78,7 @@ impl Trip<'_> {
         Ok(self.ticks_on(&track))
     }
 
-    /// The same on a way and one more route.
+    /// The same on a walk and one more route.
     fn ticks_with_next(
         &self,
         alloc: Global,
@@ -80,7 +88,7 @@ impl Trip<'_> {
     ) -> Result<u64, AllocError>
         requires routes { All (IsRoute self.now.interlocking.now.routes) path.now }
         requires next { IsRoute self.now.interlocking.now.routes next }
-        requires few { length path.now ≤ 64 }
+        requires at_most_64 { length path.now ≤ 64 }
         ensures { let routes = self.now.interlocking.now.routes in
             let longer = with_next (routes_at routes path.now) rest (route_at routes next) in
             IfOk result (λ n. n ≡ trip_ticks self.now longer) }
@@ -92,7 +100,7 @@ impl Trip<'_> {
         self.leg_ticks(alloc, &longer, closed, rest)
     }
 
-    /// The least of `first` and of what the trip takes on the way with each route that goes further.
+    /// The least of `first` and of what the trip takes on the walk with each route that goes further.
     fn least_following(
         &self,
         alloc: Global,
@@ -101,7 +109,7 @@ impl Trip<'_> {
         first: u64,
     ) -> Result<u64, AllocError>
         requires routes { All (IsRoute self.now.interlocking.now.routes) path.now }
-        requires few { length path.now ≤ 64 }
+        requires at_most_64 { length path.now ≤ 64 }
         ensures { let routes = self.now.interlocking.now.routes in
             let legs = following routes (routes_at routes path.now) rest in
             IfOk result (λ n. n ≡ least_over (trip_ticks self.now) first legs) }
@@ -116,21 +124,13 @@ impl Trip<'_> {
         }
         Ok(least)
     }
+}
 
-    /// The least ticks of the trip on a way, whatever follows it.
-    pub(crate) fn least_ticks(&self, alloc: Global, path: &[RouteNo]) -> Result<u64, AllocError>
-        requires routes { All (IsRoute self.now.interlocking.now.routes) path.now }
-        requires few { length path.now ≤ 64 }
-        ensures { let routes = self.now.interlocking.now.routes in
-            let way = routes_at routes path.now in
-            IfOk result (λ n. n ≡ least_whatever_follows (trip_ticks self.now) routes way (from_boundary way)) }
-    {
-        let routes = &self.interlocking.routes;
-        let rest = from_boundary(routes, path);
-        if path.is_empty() || exits(routes, path) {
-            return self.leg_ticks(alloc, path, false, rest);
-        }
-        let closed = self.leg_ticks(alloc, path, true, rest)?;
-        self.least_following(alloc, path, rest, closed)
-    }
+/// Where the track of a leg ends, if no train goes past its end.
+fn end_of(closed: bool, length: u64) -> Option<i64>
+    requires { length < 2 ^ 47 }
+    ensures value { end_of result ≡ (if closed then Some length else None) }
+    ensures range { ForSome result IsPlace }
+{
+    if closed { Some(length as i64) } else { None }
 }

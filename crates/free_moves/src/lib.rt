@@ -1,6 +1,6 @@
-//! The least ticks that a train takes on a way, however other trains move.
+//! The least ticks that a train takes on a walk, however other trains move.
 //!
-//! Places and lengths are in mm from the start of the way, and speeds in mm per tick.
+//! Places and lengths are in mm from the start of the walk, and speeds in mm per tick.
 #![tactic(auto)]
 
 mod following;

@@ -17,25 +17,12 @@ pub(crate) struct LegTrack<'a> {
     pub rest: bool,
 }
 
-/// A number between two others: `next`, if it lies there.
-fn between(low: u64, high: u64, next: u64) -> u64
-    requires { low + 1 < high }
-    ensures above { low < result }
-    ensures below { result < high }
-{
-    if low < next && next < high {
-        next
-    } else {
-        low + (high - low) / 2
-    }
-}
-
 impl LegTrack<'_> {
     /// How much speed the train gains in a tick at the most.
     pub(crate) fn accel(&self) -> u64
         ensures rate { result ≡ nat_abs self.now.motor.accel }
-        ensures least { 1 ≤ result }
-        ensures most { result ≤ 100000 }
+        ensures at_least_one { 1 ≤ result }
+        ensures at_most_100000 { result ≤ 100000 }
     {
         self.motor.accel as u64
     }
@@ -43,17 +30,41 @@ impl LegTrack<'_> {
     /// How much speed it loses in a tick by full braking.
     pub(crate) fn brake(&self) -> u64
         ensures rate { result ≡ nat_abs self.now.motor.brake }
-        ensures least { 1 ≤ result }
-        ensures most { result ≤ 100000 }
+        ensures at_least_one { 1 ≤ result }
+        ensures at_most_100000 { result ≤ 100000 }
     {
         self.motor.brake as u64
+    }
+
+    /// The greatest free move from a place, sought from a guess on: by ever wider steps, and then by halving.
+    pub(crate) fn free(&self, place: u64, guess: u64) -> u64
+        requires { place < 2 ^ 47 }
+        ensures free { result ≡ free_on self.now place }
+        ensures at_most_100000 { result ≤ 100000 }
+    {
+        let mut low = 0;
+        let mut high = self.top() + 1;
+        let mut next = guess;
+        let mut step: u64 = 1;
+        while low + 1 < high {
+            let middle = between(low, high, next);
+            if self.is_free(place, middle) {
+                low = middle;
+                next = middle.saturating_add(step);
+            } else {
+                high = middle;
+                next = middle.saturating_sub(step);
+            }
+            step = step.saturating_mul(2);
+        }
+        low
     }
 
     /// Its top speed.
     fn top(&self) -> u64
         ensures rate { result ≡ nat_abs self.now.motor.top }
-        ensures least { 1 ≤ result }
-        ensures most { result ≤ 100000 }
+        ensures at_least_one { 1 ≤ result }
+        ensures at_most_100000 { result ≤ 100000 }
     {
         self.motor.top as u64
     }
@@ -82,28 +93,17 @@ impl LegTrack<'_> {
             && behind(self.ahead.spans, accel, place, speed)
             && (!self.rest || rise(accel, speed, 0) <= place)
     }
+}
 
-    /// The greatest free move from a place, sought from a guess on: by ever wider steps, and then by halving.
-    pub(crate) fn free(&self, place: u64, guess: u64) -> u64
-        requires { place < 2 ^ 47 }
-        ensures free { result ≡ free_on self.now place }
-        ensures most { result ≤ 100000 }
-    {
-        let mut low = 0;
-        let mut high = self.top() + 1;
-        let mut next = guess;
-        let mut step: u64 = 1;
-        while low + 1 < high {
-            let middle = between(low, high, next);
-            if self.is_free(place, middle) {
-                low = middle;
-                next = middle.saturating_add(step);
-            } else {
-                high = middle;
-                next = middle.saturating_sub(step);
-            }
-            step = step.saturating_mul(2);
-        }
-        low
+/// A number between two others: `next`, if it lies there.
+fn between(low: u64, high: u64, next: u64) -> u64
+    requires { low + 1 < high }
+    ensures above { low < result }
+    ensures below { result < high }
+{
+    if low < next && next < high {
+        next
+    } else {
+        low + (high - low) / 2
     }
 }

@@ -9,7 +9,7 @@ use crate::moves::LegTrack;
 impl LegTrack<'_> {
     /// The least ticks from a place to another, or one more than `most` where so many don't reach it.
     pub(crate) fn steps(&self, most: u64, from: u64, to: u64) -> u64
-        requires most { most ≤ 86400 }
+        requires at_most_86400 { most ≤ 86400 }
         requires to { to < 2 ^ 47 }
         ensures { result ≡ steps (free_on self.now) most from to }
     {
@@ -29,7 +29,7 @@ impl LegTrack<'_> {
 
     /// The same of a train that could stop at the first place, and gains its acceleration and its braking in each tick.
     pub(crate) fn steps_from_stop(&self, most: u64, from: u64, to: u64) -> u64
-        requires most { most ≤ 86400 }
+        requires at_most_86400 { most ≤ 86400 }
         requires to { to < 2 ^ 47 }
         ensures { let gain = nat_abs self.now.motor.accel + nat_abs self.now.motor.brake in
             result ≡ steps_from_stop (free_on self.now) gain from 0 most from to }

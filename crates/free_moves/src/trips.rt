@@ -6,7 +6,7 @@ ghost use Rattle.rail_base.specs.Stations.{IsTrain};
 use interlocking::Interlocking;
 use rail_base::station::TrainNo;
 
-/// A train, and from where to where it goes on a way.
+/// A train, and from where to where it goes on a walk.
 #[derive(Clone, Copy)]
 pub(crate) struct Trip<'a> {
     pub interlocking: &'a Interlocking,

@@ -3,7 +3,7 @@
 ghost use Rattle.std.specs.Prelude.{◌≡◌, ◌+◌, ◌++◌, ◌∷◌, [], true, false, IfOk, IfErr, OnOk, OnErr, IsSome, Err, length};
 ghost use Rattle.sat_clause.specs.declared.follow.Follow.TheVariants.{Yes};
 ghost use Rattle.sat_clause.specs.Clauses.{live_clause, without};
-ghost use Rattle.sat_clause.specs.Hints.{follow_of, is_held};
+ghost use Rattle.sat_clause.specs.Hints.{follow_of, is_assigned};
 ghost use Rattle.sat_trail.specs.Attached.{is_among};
 ghost use Rattle.sat_trail.specs.Standing.{IsIncreasing};
 ghost use Rattle.sat_core.specs.Faults.{IsFaultAt};

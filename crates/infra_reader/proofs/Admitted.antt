@@ -7,7 +7,7 @@ use Rattle.design_table.specs.declared.place.EntryKind.TheVariants as kinds
 use Rattle.design_table.specs.declared.place.Place.{Place}
 use Rattle.design_table.specs.declared.place.Place.TheVariants.{Top, Entry, Field}
 use Rattle.design_table.specs.Reads.{at, in_each}
-use Rattle.design_table.specs.Spelled.{SpelledNode, SpelledEdge, SpelledSignal, SpelledVehicle, SpelledTrain, SpelledWithin, SpelledSheet}
+use Rattle.design_table.specs.Parsed.{ParsedNode, ParsedEdge, ParsedSignal, ParsedVehicle, ParsedTrain, ParsedWithin, ParsedSheet}
 use Rattle.rail_base.specs.declared.station.Station.{Station}
 use Rattle.rail_base.specs.declared.station.Node.{Node}
 use Rattle.rail_base.specs.declared.station.Edge.{Edge}
@@ -72,14 +72,14 @@ good_names : (names : List (List ℕ)) → list_all is_name names ≡ true → a
 good_names names p q = and_both (list_all is_name names) (all_pairs names_apart names) p q
 
 -- the entries' names, also where the entries are the station's
-named_entries : {X Y : Type 0} (name : Y → List ℕ) (make : X → Y) (spelled : X → List ℕ) (xs : List X) (kind : EntryKind) → ((x : X) → name (make x) ≡ spelled x) → list_all is_name (map spelled xs) ≡ true → repeated kind (map spelled xs) ≡ [] → are_names (map name (map make xs)) ≡ true
-named_entries name make spelled xs kind same p q = subst (λ names. are_names names ≡ true) (sym (go xs)) (good_names (map spelled xs) p (names_differ kind (map spelled xs) q))
+named_entries : {X Y : Type 0} (name : Y → List ℕ) (make : X → Y) (parsed : X → List ℕ) (xs : List X) (kind : EntryKind) → ((x : X) → name (make x) ≡ parsed x) → list_all is_name (map parsed xs) ≡ true → repeated kind (map parsed xs) ≡ [] → are_names (map name (map make xs)) ≡ true
+named_entries name make parsed xs kind same p q = subst (λ names. are_names names ≡ true) (sym (go xs)) (good_names (map parsed xs) p (names_differ kind (map parsed xs) q))
   where
-    go : (xs : List _) → map name (map make xs) ≡ map spelled xs
+    go : (xs : List _) → map name (map make xs) ≡ map parsed xs
     go [] = refl
     go (x ∷ xs) = ap₂ (λ n ns. n ∷ ns) (same x) (go xs)
 
-module _ (s : SpelledSheet) (named : HasNames s) (d03 : repeated_names s ≡ []) (d04 : unknown_names s ≡ []) (d05 : out_of_range s ≡ []) where
+module _ (s : ParsedSheet) (named : HasNames s) (d03 : repeated_names s ≡ []) (d04 : unknown_names s ≡ []) (d05 : out_of_range s ≡ []) where
   abbrev d : Station
   d = station_of s
 
@@ -105,12 +105,12 @@ module _ (s : SpelledSheet) (named : HasNames s) (d03 : repeated_names s ≡ [])
       let n4 = are_names (map (λ (q : Signal). q.name) d.signals) in
       let n5 = are_names (map (λ (v : Vehicle). v.name) d.vehicles) in
       let n6 = are_names (map (λ (t : Train). t.name) d.trains) in
-      let h1 : n1 ≡ true = named_entries (λ (n : Node). n.name) (node_in names) (λ (n : SpelledNode). n.name) s.nodes kinds.Node (λ n. refl) named.nodes r1 in
-      let h2 : n2 ≡ true = named_entries (λ (e : Edge). e.name) (edge_in names) (λ (e : SpelledEdge). e.name) s.edges kinds.Edge (λ e. refl) named.edges r2 in
+      let h1 : n1 ≡ true = named_entries (λ (n : Node). n.name) (node_in names) (λ (n : ParsedNode). n.name) s.nodes kinds.Node (λ n. refl) named.nodes r1 in
+      let h2 : n2 ≡ true = named_entries (λ (e : Edge). e.name) (edge_in names) (λ (e : ParsedEdge). e.name) s.edges kinds.Edge (λ e. refl) named.edges r2 in
       let h3 : n3 ≡ true = good_names (each_once (section_names s)) (added_all is_name [] (section_names s) refl named.sections) (added_apart [] (section_names s) refl) in
-      let h4 : n4 ≡ true = named_entries (λ (q : Signal). q.name) (signal_in names) (λ (q : SpelledSignal). q.name) s.signals kinds.Signal (λ q. refl) named.signals r3 in
-      let h5 : n5 ≡ true = named_entries (λ (v : Vehicle). v.name) (vehicle_in names) (λ (v : SpelledVehicle). v.name) s.vehicles kinds.Vehicle (λ v. refl) named.vehicles r4 in
-      let h6 : n6 ≡ true = named_entries (λ (t : Train). t.name) (train_in names) (λ (t : SpelledTrain). t.name) s.trains kinds.Train (λ t. refl) named.trains r5 in
+      let h4 : n4 ≡ true = named_entries (λ (q : Signal). q.name) (signal_in names) (λ (q : ParsedSignal). q.name) s.signals kinds.Signal (λ q. refl) named.signals r3 in
+      let h5 : n5 ≡ true = named_entries (λ (v : Vehicle). v.name) (vehicle_in names) (λ (v : ParsedVehicle). v.name) s.vehicles kinds.Vehicle (λ v. refl) named.vehicles r4 in
+      let h6 : n6 ≡ true = named_entries (λ (t : Train). t.name) (train_in names) (λ (t : ParsedTrain). t.name) s.trains kinds.Train (λ t. refl) named.trains r5 in
       and_both (n1 && n2 && n3 && n4 && n5) n6 (and_five n1 n2 n3 n4 n5 h1 h2 h3 h4 h5) h6
 
   unknown_track : track_unknown names s ≡ []
@@ -206,10 +206,10 @@ module _ (s : SpelledSheet) (named : HasNames s) (d03 : repeated_names s ≡ [])
   -- ---- nodes that are there
 
   node_there : (name : List ℕ) (place : Place) → unless_among names.nodes name place ≡ [] → is_from 1 (length d.nodes) (number_in names.nodes name) ≡ true
-  node_there name place h = known names.nodes name (length d.nodes) (length-map (node_in names) s.nodes ∙ sym (length-map (λ (n : SpelledNode). n.name) s.nodes)) (there names.nodes name place h)
+  node_there name place h = known names.nodes name (length d.nodes) (length-map (node_in names) s.nodes ∙ sym (length-map (λ (n : ParsedNode). n.name) s.nodes)) (there names.nodes name place h)
 
   node_among : (name : List ℕ) → is_among names.nodes name ≡ true → is_from 1 (length d.nodes) (number_in names.nodes name) ≡ true
-  node_among name h = known names.nodes name (length d.nodes) (length-map (node_in names) s.nodes ∙ sym (length-map (λ (n : SpelledNode). n.name) s.nodes)) h
+  node_among name h = known names.nodes name (length d.nodes) (length-map (node_in names) s.nodes ∙ sym (length-map (λ (n : ParsedNode). n.name) s.nodes)) h
 
   -- ---- the rules on the station
 
@@ -265,7 +265,7 @@ module _ (s : SpelledSheet) (named : HasNames s) (d03 : repeated_names s ≡ [])
 
     -- ---- edges
 
-    good_edge : (x : SpelledEdge) → In x s.edges → is_good_edge d (edge_in names x) ≡ true
+    good_edge : (x : ParsedEdge) → In x s.edges → is_good_edge d (edge_in names x) ≡ true
     good_edge x m =
         let e = edge_in names x in
         let unknown = none_in (edge_unknown names) 1 s.edges x unknown_edges m in
@@ -282,7 +282,7 @@ module _ (s : SpelledSheet) (named : HasNames s) (d03 : repeated_names s ≡ [])
         (ranged 1 10000000 x.length_mm (Field kinds.Edge outside.0 keys.LengthMm) (omega arith) (no_left long fast outside.1))
         (ranged 1 100000 x.speed_mm_s (Field kinds.Edge outside.0 keys.SpeedMmS) (omega arith) (no_right long fast outside.1))
         (moves (per_tick_speed d e.speed_mm_s) (Field kinds.Edge still.0 keys.SpeedMmS) still.1)
-        (known names.sections x.section (length d.sections) refl (added_among [] (section_names s) x.section (in_map (λ (e : SpelledEdge). e.section) s.edges x m)))
+        (known names.sections x.section (length d.sections) refl (added_among [] (section_names s) x.section (in_map (λ (e : ParsedEdge). e.section) s.edges x m)))
 
     -- ---- nodes
 
@@ -302,7 +302,7 @@ module _ (s : SpelledSheet) (named : HasNames s) (d03 : repeated_names s ≡ [])
 
     -- ---- signals
 
-    good_signal : (x : SpelledSignal) → In x s.signals → is_good_signal d (signal_in names x) ≡ true
+    good_signal : (x : ParsedSignal) → In x s.signals → is_good_signal d (signal_in names x) ≡ true
     unfolding misplaced_signals
     good_signal x m =
         let q = signal_in names x in
@@ -331,7 +331,7 @@ module _ (s : SpelledSheet) (named : HasNames s) (d03 : repeated_names s ≡ [])
 
     -- ---- vehicles
 
-    good_vehicle : (x : SpelledVehicle) → In x s.vehicles → is_good_vehicle d (vehicle_in names x) ≡ true
+    good_vehicle : (x : ParsedVehicle) → In x s.vehicles → is_good_vehicle d (vehicle_in names x) ≡ true
     good_vehicle x m =
         let v = vehicle_in names x in
         let outside = none_in vehicle_outside 1 s.vehicles x (array_each vehicle_outside 0 64 keys.Vehicle s.vehicles few_vehicles) m in
@@ -368,7 +368,7 @@ module _ (s : SpelledSheet) (named : HasNames s) (d03 : repeated_names s ≡ [])
         number : List ℕ → NodeNo
         number name = record { 0 = number_in names.nodes name }
 
-    good_train : (x : SpelledTrain) → In x s.trains → is_good_train d (train_in names x) ≡ true
+    good_train : (x : ParsedTrain) → In x s.trains → is_good_train d (train_in names x) ≡ true
     unfolding inner_starts
     good_train x m =
         let t = train_in names x in
@@ -382,7 +382,7 @@ module _ (s : SpelledSheet) (named : HasNames s) (d03 : repeated_names s ≡ [])
         let counts = passes (are_few_visits x.visits) (Field kinds.Train outside.0 keys.Visits) outside.1 in
         let sets = and_right (is_from 1 16 (length x.visits)) (list_all (λ visit. is_from 1 64 (length visit)) x.visits) counts in
         and_four (is_vehicle d t.vehicle) (is_from 1 16 (length t.visits)) (list_all (is_good_set d) t.visits) (can_enter d t)
-        (known names.vehicles x.vehicle (length d.vehicles) (length-map (vehicle_in names) s.vehicles ∙ sym (length-map (λ (v : SpelledVehicle). v.name) s.vehicles)) (there names.vehicles x.vehicle (place keys.Vehicle) (no_left lost strange unknown.1)))
+        (known names.vehicles x.vehicle (length d.vehicles) (length-map (vehicle_in names) s.vehicles ∙ sym (length-map (λ (v : ParsedVehicle). v.name) s.vehicles)) (there names.vehicles x.vehicle (place keys.Vehicle) (no_left lost strange unknown.1)))
         (subst (λ n. is_from 1 16 n ≡ true) (sym (length-map (nodes_in names.nodes) x.visits)) (and_left (is_from 1 16 (length x.visits)) (list_all (λ visit. is_from 1 64 (length visit)) x.visits) counts))
         (list_all_from (is_good_set d) t.visits (λ set k. let y = in_map_back (nodes_in names.nodes) x.visits set k in subst (λ set. is_good_set d set ≡ true) y.2 (good_set y.0 (list_all_at (λ visit. is_from 1 64 (length visit)) x.visits y.0 sets y.1) (list_all_at (list_all (is_among names.nodes)) x.visits y.0 all_there y.1))))
         (passes (can_enter d t) (Field kinds.Train inner.0 keys.Visits) inner.1)
@@ -413,7 +413,7 @@ module _ (s : SpelledSheet) (named : HasNames s) (d03 : repeated_names s ≡ [])
         (passes (is_visit d o.first_train o.first_visit) (Field kinds.Order lost.0 keys.FirstVisit) (no_left first then lost.1))
         (passes (is_visit d o.then_train o.then_visit) (Field kinds.Order lost.0 keys.ThenVisit) (no_right first then lost.1))
 
-    good_within : (x : SpelledWithin) → In x s.withins → is_good_within d (within_in names x) ≡ true
+    good_within : (x : ParsedWithin) → In x s.withins → is_good_within d (within_in names x) ≡ true
     unfolding unless_visit
     good_within x m =
         let w = within_in names x in

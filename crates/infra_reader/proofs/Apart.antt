@@ -27,8 +27,8 @@ module _ {X : Type 0} (clash : X → X → Bool) where
     from_here before (x ∷ xs) e h =
         let rest = flat_map (λ e. places e.0 e.1) (enumerate_from (length before + 1 + 1) xs) in
         let back : length before + 1 - 1 ≡ length before = omega arith in
-        let front : take (length before + 1 - 1) all ≡ before = ap (λ n. take n all) back ∙ ap (take (length before)) e ∙ take_all before (x ∷ xs) in
-        let here : list_any (λ q. clash q x) before ≡ false = subst (λ qs. list_any (λ q. clash q x) qs ≡ false) front (later (length before + 1) x (no_left (places (length before + 1) x) rest h)) in
+        let prefix : take (length before + 1 - 1) all ≡ before = ap (λ n. take n all) back ∙ ap (take (length before)) e ∙ take_all before (x ∷ xs) in
+        let here : list_any (λ q. clash q x) before ≡ false = subst (λ qs. list_any (λ q. clash q x) qs ≡ false) prefix (later (length before + 1) x (no_left (places (length before + 1) x) rest h)) in
         let count : length before + 1 + 1 ≡ length (before ++ x ∷ []) + 1 = omega (arith, length-append before (x ∷ [])) in
         let next = from_here (before ++ x ∷ []) xs (e ∙ sym (append_assoc before (x ∷ []) xs)) (subst (λ n. none_from n xs) count (no_right (places (length before + 1) x) rest h)) in
         let at : (p : X) → In p (before ++ x ∷ []) → list_all (apart p) xs ≡ true = λ p m. list_all_at (λ p. list_all (apart p) xs) (before ++ x ∷ []) p next.0 m in (

@@ -4,7 +4,7 @@ mod Repeats
 mod Visits
 mod Numbers
 mod AllOf
-mod Rates
+mod MotorSeen
 mod Placeless
 pub mod Apart
 mod Sections

@@ -5,8 +5,8 @@ use Rattle.design_table.specs.declared.fault.Code.{Code}
 use Rattle.design_table.specs.declared.fault.Code.TheVariants.{D02, D03, D04, D05, D06, D07, D08, D09, D10, D11}
 use Rattle.design_table.specs.declared.place.Place.{Place}
 use Rattle.design_table.specs.Reads.{unless_at}
-use Rattle.design_table.specs.Sheet.{sheet_of, misspelled}
-use Rattle.design_table.specs.Spelled.{SpelledSheet}
+use Rattle.design_table.specs.Sheet.{sheet_of, form_fault}
+use Rattle.design_table.specs.Parsed.{ParsedSheet}
 use Rattle.design_table.specs.Toml.{toml_of}
 use Rattle.rail_base.specs.declared.station.Station.{Station}
 use Rattle.rail_base.specs.Admission.{is_admitted}
@@ -18,17 +18,17 @@ use Rattle.infra_reader.specs.Stations.{station_of}
 use Rattle.infra_reader.specs.Track.{crowded, open_boundaries, misplaced_signals}
 use Rattle.infra_reader.specs.Traffic.{zeros, inner_starts, missing_visits}
 use Rattle.infra_reader.specs.Spelling.{HasNames}
-use Rattle.infra_reader.specs.Design.{resolved, spelled_by}
+use Rattle.infra_reader.specs.Design.{resolved, parsed_by}
 use Rattle.infra_reader.proofs.Spelling.{has_names}
 use Rattle.infra_reader.proofs.Admitted as reader
-use Rattle.infra_reader.specs.Laws.{SpelledAreAdmitted}
+use Rattle.infra_reader.specs.Laws.{ParsedAreAdmitted}
 
 -- no place is refused, and the rest is read
 passes_on : (code : Code) (places : List Place) (next : Result Station (Code × Place)) (d : Station) → unless_at code places next ≡ Ok d → (places ≡ []) × (next ≡ Ok d)
 passes_on code [] next d e = (refl, e)
 passes_on code (p ∷ ps) next d e = absurd (cc)
 
-from_sheet : (s : SpelledSheet) (d : Station) → HasNames s → resolved s ≡ Ok d → is_admitted d ≡ true
+from_sheet : (s : ParsedSheet) (d : Station) → HasNames s → resolved s ≡ Ok d → is_admitted d ≡ true
 from_sheet s d named e =
     let h3 = passes_on D03 (repeated_names s) _ d e in
     let h4 = passes_on D04 (unknown_names s) _ d h3.1 in
@@ -43,11 +43,11 @@ from_sheet s d named e =
     let same : station_of s ≡ d = cc in
     subst (λ (x : Station). is_admitted x ≡ true) same (reader.admitted s named h3.0 h4.0 h5.0 h6.0 h7.0 h8.0 h9.0 h10.0 h11.0)
 
-from_document : (document : Option Members) (d : Station) → spelled_by document ≡ Ok d → is_admitted d ≡ true
+from_document : (document : Option Members) (d : Station) → parsed_by document ≡ Ok d → is_admitted d ≡ true
 from_document None d e = absurd (cc)
 from_document (Some ms) d e =
-    let h2 = passes_on D02 (misspelled ms) (resolved (sheet_of ms)) d e in
+    let h2 = passes_on D02 (form_fault ms) (resolved (sheet_of ms)) d e in
     from_sheet (sheet_of ms) d (has_names ms h2.0) h2.1
 
-pub spelled_admitted : SpelledAreAdmitted
+pub spelled_admitted : ParsedAreAdmitted
 spelled_admitted bytes d e = admitted d (from_document (toml_of bytes) d e)

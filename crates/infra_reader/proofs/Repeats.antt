@@ -78,8 +78,8 @@ texts_seen {X} name named seen same xs names is = rw is (go xs)
     go [] = refl
     go (x ∷ xs) = ap₂ (λ n ns. n ∷ ns) (same x) (go xs)
 
-pub reads_names : {X : Type 0} (view : X → List (List ℕ)) (r : Result X DesignFault) (kind : EntryKind) (names spelled : List (List ℕ)) → names ≡ spelled → Reads view r D03 (repeated kind names) names → Reads view r D03 (repeated kind spelled) spelled
-reads_names view r kind names spelled same h = subst (λ ns. Reads view r D03 (repeated kind ns) ns) same h
+pub reads_names : {X : Type 0} (view : X → List (List ℕ)) (r : Result X DesignFault) (kind : EntryKind) (names parsed : List (List ℕ)) → names ≡ parsed → Reads view r D03 (repeated kind names) names → Reads view r D03 (repeated kind parsed) parsed
+reads_names view r kind names parsed same h = subst (λ ns. Reads view r D03 (repeated kind ns) ns) same h
 
 -- ---- each name once
 

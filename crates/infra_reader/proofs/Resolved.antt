@@ -7,8 +7,8 @@ use Rattle.design_table.specs.declared.fault.Code.TheVariants.{D02, D03, D04, D0
 use Rattle.design_table.specs.declared.fault.DesignFault.{DesignFault}
 use Rattle.design_table.specs.declared.place.Place.{Place}
 use Rattle.design_table.specs.Reads.{Fails, Reads, unless_at, Refuses, Gives}
-use Rattle.design_table.specs.Sheet.{sheet_of, misspelled}
-use Rattle.design_table.specs.Spelled.{SpelledSheet}
+use Rattle.design_table.specs.Sheet.{sheet_of, form_fault}
+use Rattle.design_table.specs.Parsed.{ParsedSheet}
 use Rattle.design_table.specs.Toml.{toml_of}
 use Rattle.rail_base.specs.declared.station.Station.{Station}
 use Rattle.rail_base.specs.declared.design.Design.{Design}
@@ -21,7 +21,7 @@ use Rattle.infra_reader.specs.Track.{crowded, open_boundaries, misplaced_signals
 use Rattle.infra_reader.specs.Traffic.{zeros, inner_starts, missing_visits}
 use Rattle.infra_reader.specs.Keeping.{KeepsRules}
 use Rattle.infra_reader.specs.Spelling.{HasNames}
-use Rattle.infra_reader.specs.Design.{ruled, resolved, spelled_by, design_of}
+use Rattle.infra_reader.specs.Design.{ruled, resolved, parsed_by, design_of}
 use Rattle.infra_reader.proofs.Phases.{unless_later, refuses_now, refuses_later}
 use Rattle.infra_reader.proofs.Admitted.{admitted}
 
@@ -59,7 +59,7 @@ module _ (d : Station) where
 
 -- ---- the names of a sheet, and its station
 
-module _ (s : SpelledSheet) (names : Names) (same : names ≡ names_of s) where
+module _ (s : ParsedSheet) (names : Names) (same : names ≡ names_of s) where
   pub known_names : track_unknown names s ++ traffic_unknown names s ≡ [] → unknown_names s ≡ []
   known_names h = subst (λ n. track_unknown n s ++ traffic_unknown n s ≡ []) same h
 
@@ -71,7 +71,7 @@ module _ (s : SpelledSheet) (names : Names) (same : names ≡ names_of s) where
 
 -- ---- the rules on a sheet
 
-module _ (s : SpelledSheet) (d03 : repeated_names s ≡ []) where
+module _ (s : ParsedSheet) (d03 : repeated_names s ≡ []) where
   abbrev from_d05 : Result Station (Code × Place)
   from_d05 = unless_at D05 (out_of_range s) (ruled (station_of s))
 
@@ -103,7 +103,7 @@ module _ (s : SpelledSheet) (d03 : repeated_names s ≡ []) where
 
 -- ---- the whole document
 
-module _ (bytes : List ℕ) (ms : Members) (s : SpelledSheet) (document : toml_of bytes ≡ Some ms) (d02 : misspelled ms ≡ []) (spelled : s ≡ sheet_of ms) where
+module _ (bytes : List ℕ) (ms : Members) (s : ParsedSheet) (document : toml_of bytes ≡ Some ms) (d02 : form_fault ms ≡ []) (parsed : s ≡ sheet_of ms) where
   pub gives_design : (r : Result Design DesignFault) → Gives (λ d. d.station) r (resolved s) → Gives (λ d. d.station) r (design_of bytes)
   gives_design r h =
-      subst (λ reading. Gives (λ d. d.station) r reading) (ap resolved spelled ∙ sym (unless_later D02 (misspelled ms) (resolved (sheet_of ms)) d02) ∙ ap spelled_by (sym document)) h
+      subst (λ reading. Gives (λ d. d.station) r reading) (ap resolved parsed ∙ sym (unless_later D02 (form_fault ms) (resolved (sheet_of ms)) d02) ∙ ap parsed_by (sym document)) h

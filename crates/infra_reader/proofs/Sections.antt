@@ -4,7 +4,7 @@ use Rattle.std.specs.List.{list_any, list_all, position_or_len}
 use Rattle.rail_base.specs.Members.{In, all_pairs}
 use Rattle.rail_base.specs.Admission.{are_numbered}
 use Rattle.rail_base.proofs.Members.{and_left, and_right}
-use Rattle.design_table.specs.Spelled.{SpelledEdge}
+use Rattle.design_table.specs.Parsed.{ParsedEdge}
 use Rattle.infra_reader.specs.Names.{Names, is_among, number_in, with_name}
 use Rattle.infra_reader.specs.Stations.{edge_in}
 use Rattle.infra_reader.proofs.Apart.{bytes_same, names_apart, apart_push, all_push}
@@ -28,9 +28,9 @@ module _ {X : Type 0} (p : X → Bool) where
       go true rest = refl
       go false rest = rest
 
-  place_in_front : (xs ys : List X) → list_any p xs ≡ true → position_or_len p (xs ++ ys) < length xs
-  place_in_front [] ys h = absurd (cc)
-  place_in_front (x ∷ xs) ys h = go (p x) h (place_in_front xs ys)
+  place_in_prefix : (xs ys : List X) → list_any p xs ≡ true → position_or_len p (xs ++ ys) < length xs
+  place_in_prefix [] ys h = absurd (cc)
+  place_in_prefix (x ∷ xs) ys h = go (p x) h (place_in_prefix xs ys)
     where
       go : (b : Bool) → (b || list_any p xs) ≡ true → (list_any p xs ≡ true → position_or_len p (xs ++ ys) < length xs) → cond (not b) (1 + position_or_len p (xs ++ ys)) 0 < suc (length xs)
       go true e rest = omega arith
@@ -88,7 +88,7 @@ added_all test known (n ∷ ns) h k = added_all test (with_name known n) ns (go 
 
 -- ---- the numbers of edges' sections
 
-abbrev section : SpelledEdge → List ℕ
+abbrev section : ParsedEdge → List ℕ
 section e = e.section
 
 first_way : (a b c d : Bool) → a ≡ true → b ≡ true → ((a && b) || (c && d)) ≡ true
@@ -101,7 +101,7 @@ second_way a b c d p q = rw (p, q) (go (a && b))
     go true = refl
     go false = refl
 
-pub numbered : (names : Names) (edges : List SpelledEdge) (known : List (List ℕ)) → names.sections ≡ fold with_name known (map section edges) → are_numbered (length names.sections) (length known) (map (edge_in names) edges) ≡ true
+pub numbered : (names : Names) (edges : List ParsedEdge) (known : List (List ℕ)) → names.sections ≡ fold with_name known (map section edges) → are_numbered (length names.sections) (length known) (map (edge_in names) edges) ≡ true
 numbered names [] known all = ap (λ s. length known == length s) all ∙ same (length known)
   where
     same : (n : ℕ) → (n == n) ≡ true
@@ -114,7 +114,7 @@ numbered names (e ∷ es) known all = go (is_among known e.section) refl all (nu
         → are_numbered (length names.sections) (length known) (map (edge_in names) (e ∷ es)) ≡ true
     go true there all old later =
         let more = grown known (map section es) in
-        let place : position_or_len (bytes_eq e.section) names.sections < length known = subst (λ s. position_or_len (bytes_eq e.section) s < length known) (sym (all ∙ more.1)) (place_in_front (bytes_eq e.section) known more.0 there) in
+        let place : position_or_len (bytes_eq e.section) names.sections < length known = subst (λ s. position_or_len (bytes_eq e.section) s < length known) (sym (all ∙ more.1)) (place_in_prefix (bytes_eq e.section) known more.0 there) in
         first_way (nat_le (number_in names.sections e.section) (length known)) (are_numbered (length names.sections) (length known) (map (edge_in names) es)) (number_in names.sections e.section == length known + 1) (are_numbered (length names.sections) (length known + 1) (map (edge_in names) es))
         (grind arith) (old all)
     go false new all old later =

@@ -11,8 +11,8 @@ use Rattle.design_table.specs.declared.place.Place.TheVariants.{Top, Field, Unkn
 use Rattle.design_table.specs.Forms.{found, is_name, name_of, is_name_byte as is_table_byte, is_name_text, is_name_value, name_value, is_side, is_whole, is_array, items_of, has_unknown}
 use Rattle.design_table.specs.Keys.{kind_key}
 use Rattle.design_table.specs.Reads.{at, in_each}
-use Rattle.design_table.specs.Sheet.{Column, columns_of, members_of, node_of, edge_of, signal_of, vehicle_of, train_of, entries_of, sheet_of, wrong_columns, wrong_fields, wrong_entry, wrong_array, wrong_whole, misspelled}
-use Rattle.design_table.specs.Spelled.{SpelledNode, SpelledEdge, SpelledSignal, SpelledVehicle, SpelledTrain}
+use Rattle.design_table.specs.Sheet.{Column, columns_of, members_of, node_of, edge_of, signal_of, vehicle_of, train_of, entries_of, sheet_of, wrong_columns, wrong_fields, wrong_entry, wrong_array, wrong_whole, form_fault}
+use Rattle.design_table.specs.Parsed.{ParsedNode, ParsedEdge, ParsedSignal, ParsedVehicle, ParsedTrain}
 use Rattle.rail_base.specs.Numbering.{after_first}
 use Rattle.rail_base.specs.Admission.{is_from, is_name_byte, is_name as is_base_name}
 use Rattle.rail_base.proofs.Lists.{list_all_from, in_map_back}
@@ -65,12 +65,12 @@ array_right : (kind : EntryKind) (ms : Members) → wrong_array kind ms ≡ [] �
 array_right kind ms h = no_right (at (not (is_array (found (kind_key kind) ms))) (Top (kind_key kind))) (in_each (wrong_entry kind) (items_of (found (kind_key kind) ms))) h
 
 -- a name of all entries, where it is one that their keys need
-names_right : {A : Type 0} (kind : EntryKind) (ms : Members) (spelled : Members → A) (name : A → List ℕ) → ((i : ℕ) (entry : Members) → wrong_fields kind i entry ≡ [] → is_base_name (name (spelled entry)) ≡ true) → wrong_array kind ms ≡ []
-    → list_all is_base_name (map name (entries_of spelled kind ms)) ≡ true
-names_right kind ms spelled name needed h =
-    list_all_from is_base_name (map name (entries_of spelled kind ms)) (λ n m.
-    let x = in_map_back name (entries_of spelled kind ms) n m in
-    let y = in_map_back (λ entry. spelled (members_of entry)) (items_of (found (kind_key kind) ms)) x.0 x.1 in
+names_right : {A : Type 0} (kind : EntryKind) (ms : Members) (parsed : Members → A) (name : A → List ℕ) → ((i : ℕ) (entry : Members) → wrong_fields kind i entry ≡ [] → is_base_name (name (parsed entry)) ≡ true) → wrong_array kind ms ≡ []
+    → list_all is_base_name (map name (entries_of parsed kind ms)) ≡ true
+names_right kind ms parsed name needed h =
+    list_all_from is_base_name (map name (entries_of parsed kind ms)) (λ n m.
+    let x = in_map_back name (entries_of parsed kind ms) n m in
+    let y = in_map_back (λ entry. parsed (members_of entry)) (items_of (found (kind_key kind) ms)) x.0 x.1 in
     let right = none_in (wrong_entry kind) 1 (items_of (found (kind_key kind) ms)) y.0 (array_right kind ms h) y.1 in
     subst (λ n. is_base_name n ≡ true) x.2 (subst (λ a. is_base_name (name a) ≡ true) y.2 (needed right.0 (members_of y.0) (entry_right kind right.0 y.0 right.1))))
 
@@ -110,8 +110,8 @@ section_needed i ms h =
 
 -- ---- the whole sheet
 
-pub has_names : (ms : Members) → misspelled ms ≡ [] → HasNames (sheet_of ms)
-unfolding misspelled sheet_of
+pub has_names : (ms : Members) → form_fault ms ≡ [] → HasNames (sheet_of ms)
+unfolding form_fault sheet_of
 has_names ms h =
     let h1 = no_right (wrong_whole keys.Version ms) _ h in
     let h2 = no_right (wrong_whole keys.TickMs ms) _ h1 in
@@ -126,10 +126,10 @@ has_names ms h =
     let h7 = no_right (wrong_array kinds.Vehicle ms) _ h6 in
     let trains = no_left (wrong_array kinds.Train ms) _ h7 in
     record {
-      nodes = names_right kinds.Node ms node_of (λ (n : SpelledNode). n.name) (λ i entry e. name_needed (Field kinds.Node i) entry (after_first (columns_of kinds.Node)) (after_columns kinds.Node i entry) e) nodes;
-      edges = names_right kinds.Edge ms edge_of (λ (n : SpelledEdge). n.name) (λ i entry e. name_needed (Field kinds.Edge i) entry (after_first (columns_of kinds.Edge)) (after_columns kinds.Edge i entry) e) edges;
-      sections = names_right kinds.Edge ms edge_of (λ (n : SpelledEdge). n.section) (λ i entry e. section_needed i entry e) edges;
-      signals = names_right kinds.Signal ms signal_of (λ (n : SpelledSignal). n.name) (λ i entry e. name_needed (Field kinds.Signal i) entry (after_first (columns_of kinds.Signal)) (after_columns kinds.Signal i entry) e) signals;
-      vehicles = names_right kinds.Vehicle ms vehicle_of (λ (n : SpelledVehicle). n.name) (λ i entry e. name_needed (Field kinds.Vehicle i) entry (after_first (columns_of kinds.Vehicle)) (after_columns kinds.Vehicle i entry) e) vehicles;
-      trains = names_right kinds.Train ms train_of (λ (n : SpelledTrain). n.name) (λ i entry e. name_needed (Field kinds.Train i) entry (after_first (columns_of kinds.Train)) (after_columns kinds.Train i entry) e) trains;
+      nodes = names_right kinds.Node ms node_of (λ (n : ParsedNode). n.name) (λ i entry e. name_needed (Field kinds.Node i) entry (after_first (columns_of kinds.Node)) (after_columns kinds.Node i entry) e) nodes;
+      edges = names_right kinds.Edge ms edge_of (λ (n : ParsedEdge). n.name) (λ i entry e. name_needed (Field kinds.Edge i) entry (after_first (columns_of kinds.Edge)) (after_columns kinds.Edge i entry) e) edges;
+      sections = names_right kinds.Edge ms edge_of (λ (n : ParsedEdge). n.section) (λ i entry e. section_needed i entry e) edges;
+      signals = names_right kinds.Signal ms signal_of (λ (n : ParsedSignal). n.name) (λ i entry e. name_needed (Field kinds.Signal i) entry (after_first (columns_of kinds.Signal)) (after_columns kinds.Signal i entry) e) signals;
+      vehicles = names_right kinds.Vehicle ms vehicle_of (λ (n : ParsedVehicle). n.name) (λ i entry e. name_needed (Field kinds.Vehicle i) entry (after_first (columns_of kinds.Vehicle)) (after_columns kinds.Vehicle i entry) e) vehicles;
+      trains = names_right kinds.Train ms train_of (λ (n : ParsedTrain). n.name) (λ i entry e. name_needed (Field kinds.Train i) entry (after_first (columns_of kinds.Train)) (after_columns kinds.Train i entry) e) trains;
     }

@@ -6,8 +6,8 @@ use Rattle.design_table.specs.declared.fault.Code.TheVariants.{D01, D02, D03, D0
 use Rattle.design_table.specs.declared.place.Place.{Place}
 use Rattle.design_table.specs.declared.place.Place.TheVariants.{File}
 use Rattle.design_table.specs.Reads.{unless_at}
-use Rattle.design_table.specs.Sheet.{sheet_of, misspelled}
-use Rattle.design_table.specs.Spelled.{SpelledSheet}
+use Rattle.design_table.specs.Sheet.{sheet_of, form_fault}
+use Rattle.design_table.specs.Parsed.{ParsedSheet}
 use Rattle.design_table.specs.Toml.{toml_of}
 use Rattle.rail_base.specs.declared.station.Station.{Station}
 use Rattle.infra_reader.specs.Names.{repeated_names}
@@ -28,17 +28,17 @@ ruled d =
     unless_at D11 (missing_visits d) (Ok d))))))
 
 -- the rules on what a sheet says, and then on its station
-abbrev pub resolved : SpelledSheet → Result Station (Code × Place)
+abbrev pub resolved : ParsedSheet → Result Station (Code × Place)
 resolved s =
     unless_at D03 (repeated_names s) (
     unless_at D04 (unknown_names s) (
     unless_at D05 (out_of_range s) (ruled (station_of s))))
 
 -- the rules on the form of a document, and then on what it says
-abbrev pub spelled_by : Option Members → Result Station (Code × Place)
-spelled_by None = Err (D01, File)
-spelled_by (Some ms) = unless_at D02 (misspelled ms) (resolved (sheet_of ms))
+abbrev pub parsed_by : Option Members → Result Station (Code × Place)
+parsed_by None = Err (D01, File)
+parsed_by (Some ms) = unless_at D02 (form_fault ms) (resolved (sheet_of ms))
 
 -- the design that the bytes spell, or the lowest code that holds anywhere, at its first place
 abbrev pub design_of : List ℕ → Result Station (Code × Place)
-design_of bytes = spelled_by (toml_of bytes)
+design_of bytes = parsed_by (toml_of bytes)

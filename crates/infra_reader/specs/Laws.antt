@@ -5,5 +5,5 @@ use Rattle.rail_base.specs.Admitted.{IsAdmitted}
 use Rattle.infra_reader.specs.Design.{design_of}
 
 -- a design that bytes spell is admitted
-abbrev pub SpelledAreAdmitted : Type 0
-SpelledAreAdmitted = (bytes : List ℕ) (d : Station) → design_of bytes ≡ Ok d → IsAdmitted d
+abbrev pub ParsedAreAdmitted : Type 0
+ParsedAreAdmitted = (bytes : List ℕ) (d : Station) → design_of bytes ≡ Ok d → IsAdmitted d

@@ -7,7 +7,7 @@ use Rattle.design_table.specs.declared.place.EntryKind.TheVariants as kinds
 use Rattle.design_table.specs.declared.place.Place.{Place}
 use Rattle.design_table.specs.declared.place.Place.TheVariants.{Top, Field}
 use Rattle.design_table.specs.Reads.{at, in_each}
-use Rattle.design_table.specs.Spelled.{SpelledEdge, SpelledVehicle, SpelledTrain, SpelledWithin, SpelledSheet}
+use Rattle.design_table.specs.Parsed.{ParsedEdge, ParsedVehicle, ParsedTrain, ParsedWithin, ParsedSheet}
 use Rattle.rail_base.specs.Admission.{is_from}
 
 -- the place, where the number is not from the one to the other
@@ -23,13 +23,13 @@ unfoldable pub array_outside : {X : Type 0} → (ℕ → X → List Place) → �
 array_outside outside least most key entries = count_outside least most key entries ++ in_each outside entries
 
 -- an edge's length in mm and speed in mm/s
-abbrev pub edge_outside : ℕ → SpelledEdge → List Place
+abbrev pub edge_outside : ℕ → ParsedEdge → List Place
 edge_outside i e =
     unless_from 1 10000000 e.length_mm (Field kinds.Edge i keys.LengthMm)
     ++ unless_from 1 100000 e.speed_mm_s (Field kinds.Edge i keys.SpeedMmS)
 
 -- a vehicle's length in mm, acceleration and braking in mm/s2, and speed in mm/s
-abbrev pub vehicle_outside : ℕ → SpelledVehicle → List Place
+abbrev pub vehicle_outside : ℕ → ParsedVehicle → List Place
 vehicle_outside i v =
     unless_from 1 2000000 v.length_mm (Field kinds.Vehicle i keys.LengthMm)
     ++ (unless_from 1 100000 v.accel_mm_s2 (Field kinds.Vehicle i keys.AccelMmS2)
@@ -41,11 +41,11 @@ abbrev pub are_few_visits : List (List (List ℕ)) → Bool
 are_few_visits visits = is_from 1 16 (length visits) && list_all (λ visit. is_from 1 64 (length visit)) visits
 
 -- a train's visits
-abbrev pub train_outside : ℕ → SpelledTrain → List Place
+abbrev pub train_outside : ℕ → ParsedTrain → List Place
 train_outside i t = at (not (are_few_visits t.visits)) (Field kinds.Train i keys.Visits)
 
 -- the greatest time of a within in ms
-abbrev pub within_outside : ℕ → SpelledWithin → List Place
+abbrev pub within_outside : ℕ → ParsedWithin → List Place
 within_outside i w = unless_from 0 86400000 w.max_ms (Field kinds.Within i keys.MaxMs)
 
 -- a horizon of 1 ms or more, and of 86,400 ticks at most
@@ -53,21 +53,21 @@ abbrev pub is_horizon : ℤ → ℤ → Bool
 is_horizon horizon_ms tick_ms = int_le (pos 1) horizon_ms && nat_le (nat_abs horizon_ms / nat_abs tick_ms) 86400
 
 -- the version, the tick in ms and the horizon
-unfoldable pub times_outside : SpelledSheet → List Place
+unfoldable pub times_outside : ParsedSheet → List Place
 times_outside s =
     unless_from 1 2 s.version (Top keys.Version)
     ++ (unless_from 100 1000 s.tick_ms (Top keys.TickMs)
     ++ at (not (is_horizon s.horizon_ms s.tick_ms)) (Top keys.HorizonMs))
 
 -- nodes, edges and signals
-unfoldable pub track_outside : SpelledSheet → List Place
+unfoldable pub track_outside : ParsedSheet → List Place
 track_outside s =
     count_outside 0 2000 keys.Node s.nodes
     ++ (array_outside edge_outside 0 4000 keys.Edge s.edges
     ++ count_outside 0 1000 keys.Signal s.signals)
 
 -- vehicles and trains, and then orders and withins
-unfoldable pub traffic_outside : SpelledSheet → List Place
+unfoldable pub traffic_outside : ParsedSheet → List Place
 traffic_outside s =
     array_outside vehicle_outside 0 64 keys.Vehicle s.vehicles
     ++ (array_outside train_outside 1 128 keys.Train s.trains
@@ -75,5 +75,5 @@ traffic_outside s =
     ++ array_outside within_outside 0 256 keys.Within s.withins))
 
 -- D05: numbers and counts that are out of range
-unfoldable pub out_of_range : SpelledSheet → List Place
+unfoldable pub out_of_range : ParsedSheet → List Place
 out_of_range s = times_outside s ++ (track_outside s ++ traffic_outside s)

@@ -7,8 +7,8 @@ use Rattle.design_table.specs.declared.place.EntryKind.TheVariants as kinds
 use Rattle.design_table.specs.declared.place.Place.{Place}
 use Rattle.design_table.specs.declared.place.Place.TheVariants.{Field}
 use Rattle.design_table.specs.Reads.{at, in_each, Reads}
-use Rattle.design_table.specs.Spelled.{SpelledNode, SpelledEdge, SpelledSignal, SpelledVehicle, SpelledTrain}
-use Rattle.design_table.specs.Spelled.{SpelledSheet}
+use Rattle.design_table.specs.Parsed.{ParsedNode, ParsedEdge, ParsedSignal, ParsedVehicle, ParsedTrain}
+use Rattle.design_table.specs.Parsed.{ParsedSheet}
 use Rattle.design_table.specs.declared.fault.Code.TheVariants.{D03}
 use Rattle.design_table.specs.declared.fault.DesignFault.{DesignFault}
 
@@ -36,26 +36,26 @@ pub record Names : Type 0 where
   pub vehicles : List (List ℕ)
   pub trains : List (List ℕ)
 
-abbrev pub node_names : SpelledSheet → List (List ℕ)
-node_names s = map (λ (n : SpelledNode). n.name) s.nodes
+abbrev pub node_names : ParsedSheet → List (List ℕ)
+node_names s = map (λ (n : ParsedNode). n.name) s.nodes
 
-abbrev pub edge_names : SpelledSheet → List (List ℕ)
-edge_names s = map (λ (e : SpelledEdge). e.name) s.edges
+abbrev pub edge_names : ParsedSheet → List (List ℕ)
+edge_names s = map (λ (e : ParsedEdge). e.name) s.edges
 
-abbrev pub section_names : SpelledSheet → List (List ℕ)
-section_names s = map (λ (e : SpelledEdge). e.section) s.edges
+abbrev pub section_names : ParsedSheet → List (List ℕ)
+section_names s = map (λ (e : ParsedEdge). e.section) s.edges
 
-abbrev pub signal_names : SpelledSheet → List (List ℕ)
-signal_names s = map (λ (q : SpelledSignal). q.name) s.signals
+abbrev pub signal_names : ParsedSheet → List (List ℕ)
+signal_names s = map (λ (q : ParsedSignal). q.name) s.signals
 
-abbrev pub vehicle_names : SpelledSheet → List (List ℕ)
-vehicle_names s = map (λ (v : SpelledVehicle). v.name) s.vehicles
+abbrev pub vehicle_names : ParsedSheet → List (List ℕ)
+vehicle_names s = map (λ (v : ParsedVehicle). v.name) s.vehicles
 
-abbrev pub train_names : SpelledSheet → List (List ℕ)
-train_names s = map (λ (t : SpelledTrain). t.name) s.trains
+abbrev pub train_names : ParsedSheet → List (List ℕ)
+train_names s = map (λ (t : ParsedTrain). t.name) s.trains
 
 -- sections are named by edges alone, and numbered by the first of these
-abbrev pub names_of : SpelledSheet → Names
+abbrev pub names_of : ParsedSheet → Names
 names_of s = record {
   nodes = node_names s;
   sections = each_once (section_names s);
@@ -75,7 +75,7 @@ abbrev pub ReadsDistinct : {X : Type 0} → (X → List (List ℕ)) → Result X
 ReadsDistinct view result kind names = Reads view result D03 (repeated kind names) names
 
 -- names that stand twice in their array
-unfoldable pub repeated_names : SpelledSheet → List Place
+unfoldable pub repeated_names : ParsedSheet → List Place
 repeated_names s =
     repeated kinds.Node (node_names s)
     ++ (repeated kinds.Edge (edge_names s)

@@ -1,12 +1,12 @@
 -- A sheet in which all names have the form of names.
 use Rattle.std.specs.Prelude.{◌≡◌, true}
 use Rattle.std.specs.List.{list_all}
-use Rattle.design_table.specs.Spelled.{SpelledSheet}
+use Rattle.design_table.specs.Parsed.{ParsedSheet}
 use Rattle.rail_base.specs.Admission.{is_name}
 use Rattle.infra_reader.specs.Names.{node_names, edge_names, section_names, signal_names, vehicle_names, train_names}
 
 -- the names of all entries, and of sections, are names
-pub record HasNames (s : SpelledSheet) : Type 0 where
+pub record HasNames (s : ParsedSheet) : Type 0 where
   pub nodes : list_all is_name (node_names s) ≡ true
   pub edges : list_all is_name (edge_names s) ≡ true
   pub sections : list_all is_name (section_names s) ≡ true

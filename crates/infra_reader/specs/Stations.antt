@@ -1,9 +1,9 @@
 -- The station that a sheet spells: names become numbers.
 use Rattle.std.specs.Prelude.{ℕ, ℤ, pos, negsuc, List, map, nat_lt, if◌then◌else◌}
-use Rattle.design_table.specs.declared.sheet.Side.TheVariants as spelled
+use Rattle.design_table.specs.declared.sheet.Side.TheVariants as parsed
 use Rattle.design_table.specs.declared.sheet.Side as table
-use Rattle.design_table.specs.Spelled.{SpelledNode, SpelledEdge, SpelledSignal, SpelledVehicle, SpelledTrain}
-use Rattle.design_table.specs.Spelled.{SpelledOrder, SpelledWithin, SpelledSheet}
+use Rattle.design_table.specs.Parsed.{ParsedNode, ParsedEdge, ParsedSignal, ParsedVehicle, ParsedTrain}
+use Rattle.design_table.specs.Parsed.{ParsedOrder, ParsedWithin, ParsedSheet}
 use Rattle.rail_base.specs.declared.station.Station.{Station}
 use Rattle.rail_base.specs.declared.station.Node.{Node}
 use Rattle.rail_base.specs.declared.station.Edge.{Edge}
@@ -25,17 +25,17 @@ number_32 (negsuc n) = 0
 
 -- a side
 abbrev pub side_of : table.Side → Side
-side_of spelled.A = A
-side_of spelled.B = B
+side_of parsed.A = A
+side_of parsed.B = B
 
 -- a side of the node of this name
 abbrev pub end_in : Names → List ℕ → table.Side → End
 end_in names node side = record { node = record { 0 = number_in names.nodes node }; side = side_of side }
 
-abbrev pub node_in : Names → SpelledNode → Node
+abbrev pub node_in : Names → ParsedNode → Node
 node_in names n = record { name = n.name; boundary = n.boundary }
 
-abbrev pub edge_in : Names → SpelledEdge → Edge
+abbrev pub edge_in : Names → ParsedEdge → Edge
 edge_in names e = record {
   name = e.name;
   from = end_in names e.from e.from_side;
@@ -45,14 +45,14 @@ edge_in names e = record {
   section = record { 0 = number_in names.sections e.section };
 }
 
-abbrev pub signal_in : Names → SpelledSignal → Signal
+abbrev pub signal_in : Names → ParsedSignal → Signal
 signal_in names s = record {
   name = s.name;
   node = record { 0 = number_in names.nodes s.node };
   toward = side_of s.toward;
 }
 
-abbrev pub vehicle_in : Names → SpelledVehicle → Vehicle
+abbrev pub vehicle_in : Names → ParsedVehicle → Vehicle
 vehicle_in names v = record {
   name = v.name;
   length_mm = number_32 v.length_mm;
@@ -65,14 +65,14 @@ vehicle_in names v = record {
 abbrev pub nodes_in : List (List ℕ) → List (List ℕ) → List NodeNo
 nodes_in names visit = map (λ node. record { 0 = number_in names node }) visit
 
-abbrev pub train_in : Names → SpelledTrain → Train
+abbrev pub train_in : Names → ParsedTrain → Train
 train_in names t = record {
   name = t.name;
   vehicle = record { 0 = number_in names.vehicles t.vehicle };
   visits = map (nodes_in names.nodes) t.visits;
 }
 
-abbrev pub order_in : Names → SpelledOrder → Order
+abbrev pub order_in : Names → ParsedOrder → Order
 order_in names o = record {
   first_train = record { 0 = number_in names.trains o.first_train };
   first_visit = number_32 o.first_visit;
@@ -80,7 +80,7 @@ order_in names o = record {
   then_visit = number_32 o.then_visit;
 }
 
-abbrev pub within_in : Names → SpelledWithin → Within
+abbrev pub within_in : Names → ParsedWithin → Within
 within_in names w = record {
   from_train = record { 0 = number_in names.trains w.from_train };
   from_visit = number_32 w.from_visit;
@@ -90,7 +90,7 @@ within_in names w = record {
 }
 
 -- the entries in the order of the file, by the numbers of these names
-abbrev pub station_in : Names → SpelledSheet → Station
+abbrev pub station_in : Names → ParsedSheet → Station
 station_in names s = record {
   version = number_32 s.version;
   tick_ms = number_32 s.tick_ms;
@@ -106,5 +106,5 @@ station_in names s = record {
 }
 
 -- the station, by the numbers of the sheet's own names
-abbrev pub station_of : SpelledSheet → Station
+abbrev pub station_of : ParsedSheet → Station
 station_of s = station_in (names_of s) s

@@ -20,6 +20,20 @@ use rail_base::design::Design;
 use rail_base::station::Station;
 use std::alloc::Global;
 
+/// The design that the bytes of a document spell.
+///
+/// # Errors
+///
+/// The lowest code that holds anywhere in the document, from D01 to D11, at its first place in the order of the
+/// walk; or `Memory`, which says nothing of the document.
+pub fn read_design(alloc: Global, bytes: &[u8]) -> Result<Design, DesignFault>
+    ensures { Gives (λ d. d.station) result (design_of bytes.now) }
+{
+    let table = toml_table(alloc, bytes)?;
+    let sheet = read_sheet(alloc, &table)?;
+    admit(alloc, &sheet)
+}
+
 /// Refuses a station that breaks a rule.
 fn refuse_broken(station: &Station) -> Result<(), DesignFault>
     ensures ok { OnOk result (KeepsRules station.now) }
@@ -33,7 +47,7 @@ fn refuse_broken(station: &Station) -> Result<(), DesignFault>
     refuse_missing_visits(station)
 }
 
-/// The design that a sheet of names spells.
+/// The design that is parsed from a sheet of names.
 fn admit(alloc: Global, sheet: &Sheet) -> Result<Design, DesignFault>
     requires { HasNames (sheet_seen sheet.now) }
     ensures { Gives (λ d. d.station) result (resolved (sheet_seen sheet.now)) }
@@ -43,18 +57,4 @@ fn admit(alloc: Global, sheet: &Sheet) -> Result<Design, DesignFault>
     refuse_outside(sheet)?;
     refuse_broken(&station)?;
     Ok(Design { station })
-}
-
-/// The design that the bytes of a document spell.
-///
-/// # Errors
-///
-/// The lowest code that holds anywhere in the document, from D01 to D11, at its first place in the order of the
-/// walk; or `Memory`, which says nothing of the document.
-pub fn read_design(alloc: Global, bytes: &[u8]) -> Result<Design, DesignFault>
-    ensures { Gives (λ d. d.station) result (design_of bytes.now) }
-{
-    let table = toml_table(alloc, bytes)?;
-    let sheet = read_sheet(alloc, &table)?;
-    admit(alloc, &sheet)
 }

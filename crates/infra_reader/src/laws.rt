@@ -1,8 +1,8 @@
 //! What follows of what is read.
 
-ghost use Rattle.infra_reader.specs.Laws.{SpelledAreAdmitted};
+ghost use Rattle.infra_reader.specs.Laws.{ParsedAreAdmitted};
 
 /// A design that bytes spell is admitted: its numbers are in range, its names are there, and its track holds together.
 pub fn spelled_designs_are_admitted()
-    ensures { SpelledAreAdmitted }
+    ensures { ParsedAreAdmitted }
 {}

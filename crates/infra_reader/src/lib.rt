@@ -1,4 +1,4 @@
-//! The reader of designs: the station that a document spells, or the first refusal.
+//! The reader of designs: the station that is parsed from a document, or the first refusal.
 //!
 //! Codes are asked in ascending order, each at its places in the order of the walk: the top keys in order, at an
 //! array the array itself, then its entries, each with its keys in order. So the first place that is met is

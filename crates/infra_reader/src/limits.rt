@@ -3,7 +3,7 @@
 ghost use Rattle.std.specs.Prelude.{◌≡◌, ◌≤◌, ◌<◌, ◌&&◌, ◌/◌, pos, nat_abs, nat_le, int_le, not, length, map, IfOk};
 ghost use Rattle.std.specs.List.{list_all};
 ghost use Rattle.design_table.specs.Reads.{Reads, at};
-ghost use Rattle.design_table.specs.Spelled.{SpelledEdge, SpelledVehicle, SpelledTrain, SpelledWithin};
+ghost use Rattle.design_table.specs.Parsed.{ParsedEdge, ParsedVehicle, ParsedTrain, ParsedWithin};
 ghost use Rattle.design_table.specs.Views.{edge_seen, vehicle_seen, train_seen, within_seen, sheet_seen};
 ghost use Rattle.rail_base.specs.Admission.{is_from};
 ghost use Rattle.infra_reader.specs.Limits.{unless_from, edge_outside, vehicle_outside, train_outside, within_outside};
@@ -16,6 +16,16 @@ use design_table::{
     Code, DesignFault, EdgeEntry, EntryKind, Key, Place, Sheet, TrainEntry, VehicleEntry,
     WithinEntry,
 };
+
+/// Refuses numbers and counts that are out of range. Visit numbers are excepted.
+#[tactic(auto, using(crate::proofs::Places::walk), unfolding(crate::specs::Limits::out_of_range))]
+pub fn refuse_outside(sheet: &Sheet) -> Result<(), DesignFault>
+    ensures { Reads (λ x. x) result Code.D05 (out_of_range (sheet_seen sheet.now)) tt }
+{
+    refuse_times(sheet)?;
+    refuse_track(sheet)?;
+    refuse_traffic(sheet)
+}
 
 /// Refuses a place where a number or a count is out of range.
 fn refuse_unless(is_good: bool, place: Place) -> Result<(), DesignFault>
@@ -31,17 +41,9 @@ fn refuse_unless(is_good: bool, place: Place) -> Result<(), DesignFault>
     }
 }
 
-/// Refuses a number that is not from `low` to `high`.
-#[tactic(auto, unfolding(crate::specs::Limits::unless_from))]
-fn refuse_unless_from(low: u32, high: u32, number: i64, place: Place) -> Result<(), DesignFault>
-    ensures { Reads (λ x. x) result Code.D05 (unless_from low high number place) tt }
-{
-    refuse_unless(i64::from(low) <= number && number <= i64::from(high), place)
-}
-
 #[tactic(auto, using(crate::proofs::Places::walk))]
 impl<'a> Limited for EdgeEntry<'a> {
-    ghost Spelled = { SpelledEdge };
+    ghost Parsed = { ParsedEdge };
 
     ghost seen = { λ e. edge_seen e };
 
@@ -66,7 +68,7 @@ impl<'a> Limited for EdgeEntry<'a> {
 
 #[tactic(auto, using(crate::proofs::Places::walk))]
 impl<'a> Limited for VehicleEntry<'a> {
-    ghost Spelled = { SpelledVehicle };
+    ghost Parsed = { ParsedVehicle };
 
     ghost seen = { λ v. vehicle_seen v };
 
@@ -101,6 +103,14 @@ impl<'a> Limited for VehicleEntry<'a> {
     }
 }
 
+/// Refuses a number that is not from `low` to `high`.
+#[tactic(auto, unfolding(crate::specs::Limits::unless_from))]
+fn refuse_unless_from(low: u32, high: u32, number: i64, place: Place) -> Result<(), DesignFault>
+    ensures { Reads (λ x. x) result Code.D05 (unless_from low high number place) tt }
+{
+    refuse_unless(i64::from(low) <= number && number <= i64::from(high), place)
+}
+
 /// Whether a count is from the one to the other.
 fn is_count(low: usize, high: usize, count: usize) -> bool
     ensures { result ≡ is_from low high count }
@@ -115,17 +125,9 @@ fn are_few_nodes(visits: &[Vec<&str>]) -> bool
     visits.iter().all(|visit| is_count(1, 64, visit.len()))
 }
 
-/// Whether there are 1 to 16 visits of 1 to 64 nodes.
-#[tactic(auto, using(crate::proofs::Visits::few_visits))]
-fn are_few_visits(visits: &[Vec<&str>]) -> bool
-    ensures { result ≡ are_few_visits (visits_seen visits.now) }
-{
-    is_count(1, 16, visits.len()) && are_few_nodes(visits)
-}
-
 #[tactic(auto, using(crate::proofs::Places::walk))]
 impl<'a> Limited for TrainEntry<'a> {
-    ghost Spelled = { SpelledTrain };
+    ghost Parsed = { ParsedTrain };
 
     ghost seen = { λ t. train_seen t };
 
@@ -139,7 +141,7 @@ impl<'a> Limited for TrainEntry<'a> {
 
 #[tactic(auto, using(crate::proofs::Places::walk))]
 impl<'a> Limited for WithinEntry<'a> {
-    ghost Spelled = { SpelledWithin };
+    ghost Parsed = { ParsedWithin };
 
     ghost seen = { λ w. within_seen w };
 
@@ -149,6 +151,14 @@ impl<'a> Limited for WithinEntry<'a> {
         let place = Place::Field(EntryKind::Within, number, Key::MaxMs);
         refuse_unless_from(0, 86_400_000, self.max_ms, place)
     }
+}
+
+/// Whether there are 1 to 16 visits of 1 to 64 nodes.
+#[tactic(auto, using(crate::proofs::Visits::few_visits))]
+fn are_few_visits(visits: &[Vec<&str>]) -> bool
+    ensures { result ≡ are_few_visits (visits_seen visits.now) }
+{
+    is_count(1, 16, visits.len()) && are_few_nodes(visits)
 }
 
 /// How many ticks a horizon gives; 0 where a tick has no length.
@@ -257,14 +267,4 @@ fn refuse_traffic(sheet: &Sheet) -> Result<(), DesignFault>
     refuse_trains(sheet)?;
     refuse_orders(sheet)?;
     refuse_withins(sheet)
-}
-
-/// Refuses numbers and counts that are out of range. Visit numbers are excepted.
-#[tactic(auto, using(crate::proofs::Places::walk), unfolding(crate::specs::Limits::out_of_range))]
-pub fn refuse_outside(sheet: &Sheet) -> Result<(), DesignFault>
-    ensures { Reads (λ x. x) result Code.D05 (out_of_range (sheet_seen sheet.now)) tt }
-{
-    refuse_times(sheet)?;
-    refuse_track(sheet)?;
-    refuse_traffic(sheet)
 }

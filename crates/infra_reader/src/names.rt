@@ -18,13 +18,58 @@ use design_table::{
 use indexmap::IndexSet;
 use std::alloc::{AllocError, Global};
 
-/// The names that entries are told by, in the order of their numbers.
+/// The names by which entries are known, in the order of their numbers.
 #[derive(Drop)]
 pub struct Names<'a> {
     pub nodes: IndexSet<&'a str>,
     pub sections: IndexSet<&'a str>,
     pub vehicles: IndexSet<&'a str>,
     pub trains: IndexSet<&'a str>,
+}
+
+/// The names of a sheet, or the refusal of the first that stands already in an earlier entry of its array.
+#[tactic(auto, using(crate::proofs::Places::walk), unfolding(crate::specs::Names::repeated_names))]
+pub fn read_names<'a>(alloc: Global, sheet: &Sheet<'a>) -> Result<Names<'a>, DesignFault>
+    ensures { let parsed = sheet_seen sheet.now in
+        Reads names_seen result Code.D03 (repeated_names parsed) (names_of parsed) }
+{
+    let nodes = node_names(alloc, sheet)?;
+    edge_names(alloc, sheet)?;
+    signal_names(alloc, sheet)?;
+    let vehicles = vehicle_names(alloc, sheet)?;
+    let trains = train_names(alloc, sheet)?;
+    let sections = section_names(alloc, sheet)?;
+    Ok(Names {
+        nodes,
+        sections,
+        vehicles,
+        trains,
+    })
+}
+
+/// The number of a name, or the refusal of the place where it is none of these.
+pub fn number_at(names: &IndexSet<&str>, name: &str, place: Place) -> Result<u32, DesignFault>
+    ensures { let known = texts names.now.keys in
+        Reads (λ x. x) result Code.D04 (unless_among known name.now place) (number_in known name.now) }
+{
+    match place_of(names, name) {
+        Some(index) => number_after(index),
+        None => Err(DesignFault::Refused {
+            code: Code::D04,
+            place,
+        }),
+    }
+}
+
+/// The number of a name, or the number after the last where it is none of these.
+pub fn number_of(names: &IndexSet<&str>, name: &str) -> Result<u32, DesignFault>
+    ensures ok { IfOk result (λ number. number ≡ number_in (texts names.now.keys) name.now) }
+    ensures err { IfErr result (λ fault. fault ≡ Memory) }
+{
+    match place_of(names, name) {
+        Some(index) => number_after(index),
+        None => number_after(names.len()),
+    }
 }
 
 /// The names of an array, or the refusal of the first that stands already in an earlier entry.
@@ -153,26 +198,6 @@ fn section_names<'a>(alloc: Global, sheet: &Sheet<'a>) -> Result<IndexSet<&'a st
     each_once(alloc, names.as_slice())
 }
 
-/// The names of a sheet, or the refusal of the first that stands already in an earlier entry of its array.
-#[tactic(auto, using(crate::proofs::Places::walk), unfolding(crate::specs::Names::repeated_names))]
-pub fn read_names<'a>(alloc: Global, sheet: &Sheet<'a>) -> Result<Names<'a>, DesignFault>
-    ensures { let spelled = sheet_seen sheet.now in
-        Reads names_seen result Code.D03 (repeated_names spelled) (names_of spelled) }
-{
-    let nodes = node_names(alloc, sheet)?;
-    edge_names(alloc, sheet)?;
-    signal_names(alloc, sheet)?;
-    let vehicles = vehicle_names(alloc, sheet)?;
-    let trains = train_names(alloc, sheet)?;
-    let sections = section_names(alloc, sheet)?;
-    Ok(Names {
-        nodes,
-        sections,
-        vehicles,
-        trains,
-    })
-}
-
 /// The place of a name, counted from 0.
 #[tactic(auto, using(crate::proofs::Repeats::position_text))]
 fn place_of(names: &IndexSet<&str>, name: &str) -> Option<usize>
@@ -189,30 +214,5 @@ fn number_after(count: usize) -> Result<u32, DesignFault>
     match u32::try_from(count) {
         Ok(before) => before.checked_add(1).ok_or(DesignFault::Memory),
         Err(_) => Err(DesignFault::Memory),
-    }
-}
-
-/// The number of a name, or the refusal of the place where it is none of these.
-pub fn number_at(names: &IndexSet<&str>, name: &str, place: Place) -> Result<u32, DesignFault>
-    ensures { let known = texts names.now.keys in
-        Reads (λ x. x) result Code.D04 (unless_among known name.now place) (number_in known name.now) }
-{
-    match place_of(names, name) {
-        Some(index) => number_after(index),
-        None => Err(DesignFault::Refused {
-            code: Code::D04,
-            place,
-        }),
-    }
-}
-
-/// The number of a name, or the number after the last where it is none of these.
-pub fn number_of(names: &IndexSet<&str>, name: &str) -> Result<u32, DesignFault>
-    ensures ok { IfOk result (λ number. number ≡ number_in (texts names.now.keys) name.now) }
-    ensures err { IfErr result (λ fault. fault ≡ Memory) }
-{
-    match place_of(names, name) {
-        Some(index) => number_after(index),
-        None => number_after(names.len()),
     }
 }

@@ -3,8 +3,8 @@
 ghost use Rattle.std.specs.Prelude.{◌≡◌, ◌+◌, map, not, IfOk, IfErr, [], ◌++◌};
 ghost use Rattle.std.specs.List.{list_all};
 ghost use Rattle.design_table.specs.Reads.{Reads, at, in_each};
-ghost use Rattle.design_table.specs.Spelled.{SpelledNode, SpelledEdge, SpelledSignal, SpelledVehicle, SpelledTrain};
-ghost use Rattle.design_table.specs.Spelled.{SpelledOrder, SpelledWithin};
+ghost use Rattle.design_table.specs.Parsed.{ParsedNode, ParsedEdge, ParsedSignal, ParsedVehicle, ParsedTrain};
+ghost use Rattle.design_table.specs.Parsed.{ParsedOrder, ParsedWithin};
 ghost use Rattle.design_table.specs.Views.{node_seen, edge_seen, signal_seen, vehicle_seen, train_seen, order_seen};
 ghost use Rattle.design_table.specs.Views.{within_seen, sheet_seen};
 ghost use Rattle.infra_reader.specs.Names.{is_among, number_in};
@@ -31,6 +31,30 @@ use rail_base::station::{
 };
 use std::alloc::{AllocError, Global};
 
+/// The station, or the refusal of a name that is not there.
+#[tactic(auto, using(crate::proofs::Places::walk))]
+pub fn resolve(alloc: Global, names: &Names, sheet: &Sheet) -> Result<Station, DesignFault>
+    ensures { let known = names_seen names.now in let parsed = sheet_seen sheet.now in
+        Reads (λ x. x) result Code.D04 (track_unknown known parsed ++ traffic_unknown known parsed)
+        (station_in known parsed) }
+{
+    let track = resolve_track(alloc, names, sheet)?;
+    let traffic = resolve_traffic(alloc, names, sheet)?;
+    Ok(Station {
+        version: number_32(sheet.version),
+        tick_ms: number_32(sheet.tick_ms),
+        horizon_ms: number_32(sheet.horizon_ms),
+        nodes: track.nodes,
+        edges: track.edges,
+        sections: track.sections,
+        signals: track.signals,
+        vehicles: traffic.vehicles,
+        trains: traffic.trains,
+        orders: traffic.orders,
+        withins: traffic.withins,
+    })
+}
+
 /// The number, or 0 where it is none of 32 bits.
 fn number_32(whole: i64) -> u32
     ensures { result ≡ number_32 whole }
@@ -48,17 +72,10 @@ fn side_of(side: design_table::Side) -> Side
     }
 }
 
-/// A name of its own.
-fn owned(alloc: Global, text: &str) -> Result<Name, AllocError>
-    ensures { IfOk result (λ name. name ≡ text.now) }
-{
-    Ok(Name::from_vec(Vec::from_slice(alloc, text.as_bytes())?))
-}
-
 impl<'a> Resolve for NodeEntry<'a> {
     type Resolved = Node;
 
-    ghost Spelled = { SpelledNode };
+    ghost Parsed = { ParsedNode };
 
     ghost seen = { λ n. node_seen n };
 
@@ -68,7 +85,7 @@ impl<'a> Resolve for NodeEntry<'a> {
 
     fn resolve(&self, alloc: Global, _names: &Names, _number: u64) -> Result<Node, DesignFault> {
         Ok(Node {
-            name: owned(alloc, self.name)?,
+            name: own_name(alloc, self.name)?,
             boundary: self.boundary,
         })
     }
@@ -77,7 +94,7 @@ impl<'a> Resolve for NodeEntry<'a> {
 impl<'a> Resolve for EdgeEntry<'a> {
     type Resolved = Edge;
 
-    ghost Spelled = { SpelledEdge };
+    ghost Parsed = { ParsedEdge };
 
     ghost seen = { λ e. edge_seen e };
 
@@ -94,7 +111,7 @@ impl<'a> Resolve for EdgeEntry<'a> {
         )?;
         let to = number_at(&names.nodes, self.to, Place::Field(kind, number, Key::To))?;
         let section = number_of(&names.sections, self.section)?;
-        let name = owned(alloc, self.name)?;
+        let name = own_name(alloc, self.name)?;
         Ok(Edge {
             name,
             from: End {
@@ -115,7 +132,7 @@ impl<'a> Resolve for EdgeEntry<'a> {
 impl<'a> Resolve for SignalEntry<'a> {
     type Resolved = Signal;
 
-    ghost Spelled = { SpelledSignal };
+    ghost Parsed = { ParsedSignal };
 
     ghost seen = { λ s. signal_seen s };
 
@@ -126,7 +143,7 @@ impl<'a> Resolve for SignalEntry<'a> {
     fn resolve(&self, alloc: Global, names: &Names, number: u64) -> Result<Signal, DesignFault> {
         let place = Place::Field(EntryKind::Signal, number, Key::Node);
         let node = number_at(&names.nodes, self.node, place)?;
-        let name = owned(alloc, self.name)?;
+        let name = own_name(alloc, self.name)?;
         Ok(Signal {
             name,
             node: NodeNo(node),
@@ -138,7 +155,7 @@ impl<'a> Resolve for SignalEntry<'a> {
 impl<'a> Resolve for VehicleEntry<'a> {
     type Resolved = Vehicle;
 
-    ghost Spelled = { SpelledVehicle };
+    ghost Parsed = { ParsedVehicle };
 
     ghost seen = { λ v. vehicle_seen v };
 
@@ -147,7 +164,7 @@ impl<'a> Resolve for VehicleEntry<'a> {
     ghost resolved = { λ names v. vehicle_in names v };
 
     fn resolve(&self, alloc: Global, _names: &Names, _number: u64) -> Result<Vehicle, DesignFault> {
-        let name = owned(alloc, self.name)?;
+        let name = own_name(alloc, self.name)?;
         Ok(Vehicle {
             name,
             length_mm: number_32(self.length_mm),
@@ -158,6 +175,13 @@ impl<'a> Resolve for VehicleEntry<'a> {
     }
 }
 
+/// A name of its own.
+fn own_name(alloc: Global, text: &str) -> Result<Name, AllocError>
+    ensures { IfOk result (λ name. name ≡ text.now) }
+{
+    Ok(Name::from_vec(Vec::from_slice(alloc, text.as_bytes())?))
+}
+
 /// The nodes of a visit, or the refusal of the place where one of them is not there.
 fn visit_nodes(
     alloc: Global,
@@ -165,8 +189,8 @@ fn visit_nodes(
     visit: &[&str],
     place: Place,
 ) -> Result<List<NodeNo>, DesignFault>
-    ensures { let names = texts nodes.now.keys in let spelled = texts visit.now in
-        Reads (λ x. x) result Code.D04 (at (not (list_all (is_among names) spelled)) place) (nodes_in names spelled) }
+    ensures { let names = texts nodes.now.keys in let parsed = texts visit.now in
+        Reads (λ x. x) result Code.D04 (at (not (list_all (is_among names) parsed)) place) (nodes_in names parsed) }
 {
     let mut numbers = Vec::new(alloc);
     for name in visit {
@@ -175,28 +199,10 @@ fn visit_nodes(
     Ok(List::from_vec(numbers))
 }
 
-/// The nodes of each visit, or the refusal of the place where one of them is not there.
-fn visits_nodes(
-    alloc: Global,
-    nodes: &IndexSet<&str>,
-    visits: &[Vec<&str>],
-    place: Place,
-) -> Result<List<List<NodeNo>>, DesignFault>
-    ensures { let names = texts nodes.now.keys in let spelled = visits_seen visits.now in
-        Reads (λ x. x) result Code.D04 (at (not (list_all (list_all (is_among names)) spelled)) place)
-        (map (nodes_in names) spelled) }
-{
-    let mut numbers = Vec::new(alloc);
-    for visit in visits {
-        numbers.push(visit_nodes(alloc, nodes, visit.as_slice(), place)?)?;
-    }
-    Ok(List::from_vec(numbers))
-}
-
 impl<'a> Resolve for TrainEntry<'a> {
     type Resolved = Train;
 
-    ghost Spelled = { SpelledTrain };
+    ghost Parsed = { ParsedTrain };
 
     ghost seen = { λ t. train_seen t };
 
@@ -210,7 +216,7 @@ impl<'a> Resolve for TrainEntry<'a> {
         let visits_place = Place::Field(kind, number, Key::Visits);
         let vehicle = number_at(&names.vehicles, self.vehicle, vehicle_place)?;
         let visits = visits_nodes(alloc, &names.nodes, self.visits.as_slice(), visits_place)?;
-        let name = owned(alloc, self.name)?;
+        let name = own_name(alloc, self.name)?;
         Ok(Train {
             name,
             vehicle: VehicleNo(vehicle),
@@ -222,7 +228,7 @@ impl<'a> Resolve for TrainEntry<'a> {
 impl<'a> Resolve for OrderEntry<'a> {
     type Resolved = Order;
 
-    ghost Spelled = { SpelledOrder };
+    ghost Parsed = { ParsedOrder };
 
     ghost seen = { λ o. order_seen o };
 
@@ -248,7 +254,7 @@ impl<'a> Resolve for OrderEntry<'a> {
 impl<'a> Resolve for WithinEntry<'a> {
     type Resolved = Within;
 
-    ghost Spelled = { SpelledWithin };
+    ghost Parsed = { ParsedWithin };
 
     ghost seen = { λ w. within_seen w };
 
@@ -272,13 +278,31 @@ impl<'a> Resolve for WithinEntry<'a> {
     }
 }
 
+/// The nodes of each visit, or the refusal of the place where one of them is not there.
+fn visits_nodes(
+    alloc: Global,
+    nodes: &IndexSet<&str>,
+    visits: &[Vec<&str>],
+    place: Place,
+) -> Result<List<List<NodeNo>>, DesignFault>
+    ensures { let names = texts nodes.now.keys in let parsed = visits_seen visits.now in
+        Reads (λ x. x) result Code.D04 (at (not (list_all (list_all (is_among names)) parsed)) place)
+        (map (nodes_in names) parsed) }
+{
+    let mut numbers = Vec::new(alloc);
+    for visit in visits {
+        numbers.push(visit_nodes(alloc, nodes, visit.as_slice(), place)?)?;
+    }
+    Ok(List::from_vec(numbers))
+}
+
 /// Names of their own.
 fn owned_each(alloc: Global, names: &[&str]) -> Result<List<Name>, AllocError>
-    ensures { IfOk result (λ owned. owned ≡ texts names.now) }
+    ensures { IfOk result (λ own_name. own_name ≡ texts names.now) }
 {
     let mut copies = Vec::new(alloc);
     for name in names {
-        copies.push(owned(alloc, name)?)?;
+        copies.push(own_name(alloc, name)?)?;
     }
     Ok(List::from_vec(copies))
 }
@@ -336,14 +360,6 @@ fn resolve_orders(alloc: Global, names: &Names, sheet: &Sheet) -> Result<List<Or
     resolve_each(alloc, names, sheet.orders.as_slice())
 }
 
-/// The withins of the station.
-fn resolve_withins(alloc: Global, names: &Names, sheet: &Sheet) -> Result<List<Within>, DesignFault>
-    ensures { let known = names_seen names.now in let withins = (sheet_seen sheet.now).withins in
-        Reads (λ x. x) result Code.D04 (in_each (within_unknown known) withins) (map (within_in known) withins) }
-{
-    resolve_each(alloc, names, sheet.withins.as_slice())
-}
-
 /// The track of a station.
 #[derive(Drop)]
 struct Track {
@@ -362,11 +378,19 @@ struct Traffic {
     withins: List<Within>,
 }
 
+/// The withins of the station.
+fn resolve_withins(alloc: Global, names: &Names, sheet: &Sheet) -> Result<List<Within>, DesignFault>
+    ensures { let known = names_seen names.now in let withins = (sheet_seen sheet.now).withins in
+        Reads (λ x. x) result Code.D04 (in_each (within_unknown known) withins) (map (within_in known) withins) }
+{
+    resolve_each(alloc, names, sheet.withins.as_slice())
+}
+
 /// The track, or the refusal of a name that is not there.
 #[tactic(auto, using(crate::proofs::Places::walk), unfolding(crate::specs::Unknown::track_unknown))]
 fn resolve_track(alloc: Global, names: &Names, sheet: &Sheet) -> Result<Track, DesignFault>
-    ensures { let known = names_seen names.now in let spelled = sheet_seen sheet.now in
-        Reads (λ x. x) result Code.D04 (track_unknown known spelled) (track_in known spelled) }
+    ensures { let known = names_seen names.now in let parsed = sheet_seen sheet.now in
+        Reads (λ x. x) result Code.D04 (track_unknown known parsed) (track_in known parsed) }
 {
     let nodes = resolve_nodes(alloc, names, sheet)?;
     let edges = resolve_edges(alloc, names, sheet)?;
@@ -383,8 +407,8 @@ fn resolve_track(alloc: Global, names: &Names, sheet: &Sheet) -> Result<Track, D
 /// The traffic, or the refusal of a name that is not there.
 #[tactic(auto, using(crate::proofs::Places::walk), unfolding(crate::specs::Unknown::traffic_unknown))]
 fn resolve_traffic(alloc: Global, names: &Names, sheet: &Sheet) -> Result<Traffic, DesignFault>
-    ensures { let known = names_seen names.now in let spelled = sheet_seen sheet.now in
-        Reads (λ x. x) result Code.D04 (traffic_unknown known spelled) (traffic_in known spelled) }
+    ensures { let known = names_seen names.now in let parsed = sheet_seen sheet.now in
+        Reads (λ x. x) result Code.D04 (traffic_unknown known parsed) (traffic_in known parsed) }
 {
     let vehicles = resolve_vehicles(alloc, names, sheet)?;
     let trains = resolve_trains(alloc, names, sheet)?;
@@ -395,29 +419,5 @@ fn resolve_traffic(alloc: Global, names: &Names, sheet: &Sheet) -> Result<Traffi
         trains,
         orders,
         withins,
-    })
-}
-
-/// The station, or the refusal of a name that is not there.
-#[tactic(auto, using(crate::proofs::Places::walk))]
-pub fn resolve(alloc: Global, names: &Names, sheet: &Sheet) -> Result<Station, DesignFault>
-    ensures { let known = names_seen names.now in let spelled = sheet_seen sheet.now in
-        Reads (λ x. x) result Code.D04 (track_unknown known spelled ++ traffic_unknown known spelled)
-        (station_in known spelled) }
-{
-    let track = resolve_track(alloc, names, sheet)?;
-    let traffic = resolve_traffic(alloc, names, sheet)?;
-    Ok(Station {
-        version: number_32(sheet.version),
-        tick_ms: number_32(sheet.tick_ms),
-        horizon_ms: number_32(sheet.horizon_ms),
-        nodes: track.nodes,
-        edges: track.edges,
-        sections: track.sections,
-        signals: track.signals,
-        vehicles: traffic.vehicles,
-        trains: traffic.trains,
-        orders: traffic.orders,
-        withins: traffic.withins,
     })
 }

@@ -24,43 +24,41 @@ use rail_base::station::{
     Edge, End, Node, NodeNo, Order, Side, Signal, Station, Train, TrainNo, Vehicle, Within,
 };
 
-/// Refuses a place where a rule is broken.
-fn refuse_if(is_broken: bool, code: Code, place: Place) -> Result<(), DesignFault>
-    ensures { Reads (λ x. x) result code (at is_broken place) tt }
+/// Refuses nodes with too many edge ends, and then edges with both ends at one node.
+#[tactic(auto, using(crate::proofs::Places::walk), unfolding(crate::specs::Track::crowded))]
+pub fn refuse_crowded(station: &Station) -> Result<(), DesignFault>
+    ensures { Reads (λ x. x) result Code.D06 (crowded station.now) tt }
 {
-    if is_broken {
-        Err(DesignFault::Refused { code, place })
-    } else {
-        Ok(())
-    }
+    refuse_crowded_nodes(station)?;
+    refuse_loops(station)
 }
 
 // ---- edge ends
 
-/// Whether an end is at this side of the node of this number.
-fn is_at(end: End, node: u64, side: Side) -> bool
-    ensures { result ≡ is_end end (end_at node side) }
+/// Refuses boundaries that have not one edge end.
+#[tactic(auto, unfolding(crate::specs::Track::open_boundaries))]
+pub fn refuse_open_boundaries(station: &Station) -> Result<(), DesignFault>
+    ensures { Reads (λ x. x) result Code.D07 (open_boundaries station.now) tt }
 {
-    u64::from(end.node.0) == node && end.side == side
+    refuse_each::<OpenBoundaries, Node>(station, station.nodes.as_slice())
 }
 
-/// How many ends of an edge are at this side of a node.
-fn ends_of(edge: &Edge, node: u64, side: Side) -> usize
-    ensures { result ≡ count_by (λ end. is_end end (end_at node side)) (both_ends edge.now) }
+/// Refuses signals at boundaries, and later ones for a node and side that have one.
+#[tactic(auto, unfolding(crate::specs::Track::misplaced_signals))]
+pub fn refuse_misplaced_signals(station: &Station) -> Result<(), DesignFault>
+    ensures { Reads (λ x. x) result Code.D08 (misplaced_signals station.now) tt }
 {
-    usize::from(is_at(edge.from, node, side)) + usize::from(is_at(edge.to, node, side))
+    refuse_each::<Misplaced, Signal>(station, station.signals.as_slice())
 }
 
-/// How many edge ends are at this side of a node.
-#[tactic(auto, unfolding(crate::specs::Track::ends_at))]
-fn ends_at(station: &Station, node: u64, side: Side) -> usize
-    ensures { result ≡ ends_at station.now node side }
+/// Refuses numbers that are 0 in a tick.
+#[tactic(auto, using(crate::proofs::Places::walk), unfolding(crate::specs::Traffic::zeros))]
+pub fn refuse_zeros(station: &Station) -> Result<(), DesignFault>
+    ensures { Reads (λ x. x) result Code.D09 (zeros station.now) tt }
 {
-    let mut count = 0;
-    for edge in station.edges.as_slice() {
-        count += ends_of(edge, node, side);
-    }
-    count
+    refuse_no_tick(station)?;
+    refuse_edge_zeros(station)?;
+    refuse_vehicle_zeros(station)
 }
 
 /// Nodes with too many edge ends.
@@ -93,29 +91,32 @@ impl Rule<Edge> for Loops {
     }
 }
 
-/// Refuses nodes with too many edge ends.
-fn refuse_crowded_nodes(station: &Station) -> Result<(), DesignFault>
-    ensures { Reads (λ x. x) result Code.D06
-        (in_each (λ i n. at (is_crowded station.now i) (Entry kinds.Node i)) station.now.nodes) tt }
+/// Refuses trains whose first visit names a node that is no boundary.
+#[tactic(auto, unfolding(crate::specs::Traffic::inner_starts))]
+pub fn refuse_inner_starts(station: &Station) -> Result<(), DesignFault>
+    ensures { Reads (λ x. x) result Code.D10 (inner_starts station.now) tt }
 {
-    refuse_each::<Crowded, Node>(station, station.nodes.as_slice())
+    refuse_each::<InnerStarts, Train>(station, station.trains.as_slice())
 }
 
-/// Refuses edges with both ends at one node.
-fn refuse_loops(station: &Station) -> Result<(), DesignFault>
-    ensures { Reads (λ x. x) result Code.D06
-        (in_each (λ i e. at (is_loop e) (Entry kinds.Edge i)) station.now.edges) tt }
+/// Refuses visit numbers that are none of that train's.
+#[tactic(auto, using(crate::proofs::Places::walk), unfolding(crate::specs::Traffic::missing_visits))]
+pub fn refuse_missing_visits(station: &Station) -> Result<(), DesignFault>
+    ensures { Reads (λ x. x) result Code.D11 (missing_visits station.now) tt }
 {
-    refuse_each::<Loops, Edge>(station, station.edges.as_slice())
+    refuse_orders_missing(station)?;
+    refuse_withins_missing(station)
 }
 
-/// Refuses nodes with too many edge ends, and then edges with both ends at one node.
-#[tactic(auto, using(crate::proofs::Places::walk), unfolding(crate::specs::Track::crowded))]
-pub fn refuse_crowded(station: &Station) -> Result<(), DesignFault>
-    ensures { Reads (λ x. x) result Code.D06 (crowded station.now) tt }
+/// Refuses a place where a rule is broken.
+fn refuse_if(is_broken: bool, code: Code, place: Place) -> Result<(), DesignFault>
+    ensures { Reads (λ x. x) result code (at is_broken place) tt }
 {
-    refuse_crowded_nodes(station)?;
-    refuse_loops(station)
+    if is_broken {
+        Err(DesignFault::Refused { code, place })
+    } else {
+        Ok(())
+    }
 }
 
 /// Boundaries that have not one edge end.
@@ -132,53 +133,48 @@ impl Rule<Node> for OpenBoundaries {
     }
 }
 
-/// Whether a node has no edge end, or more than one.
-fn has_not_one_end(station: &Station, node: u64) -> bool
-    ensures { result ≡ not (ends_at station.now node A + ends_at station.now node B == 1) }
+/// Whether an end is at this side of the node of this number.
+fn is_at(end: End, node: u64, side: Side) -> bool
+    ensures { result ≡ is_end end (end_at node side) }
 {
-    let ends_a = ends_at(station, node, Side::A);
-    let ends_b = ends_at(station, node, Side::B);
-    !((ends_a == 0 && ends_b == 1) || (ends_a == 1 && ends_b == 0))
+    u64::from(end.node.0) == node && end.side == side
 }
 
-/// Refuses boundaries that have not one edge end.
-#[tactic(auto, unfolding(crate::specs::Track::open_boundaries))]
-pub fn refuse_open_boundaries(station: &Station) -> Result<(), DesignFault>
-    ensures { Reads (λ x. x) result Code.D07 (open_boundaries station.now) tt }
+/// How many ends of an edge are at this side of a node.
+fn ends_of(edge: &Edge, node: u64, side: Side) -> usize
+    ensures { result ≡ count_by (λ end. is_end end (end_at node side)) (both_ends edge.now) }
 {
-    refuse_each::<OpenBoundaries, Node>(station, station.nodes.as_slice())
+    usize::from(is_at(edge.from, node, side)) + usize::from(is_at(edge.to, node, side))
 }
 
 // ---- signals
 
-/// Whether the node of a number is a boundary.
-fn is_boundary(station: &Station, node: NodeNo) -> bool
-    ensures { result ≡ (node_of station.now node).boundary }
+/// How many edge ends are at this side of a node.
+#[tactic(auto, unfolding(crate::specs::Track::ends_at))]
+fn ends_at(station: &Station, node: u64, side: Side) -> usize
+    ensures { result ≡ ends_at station.now node side }
 {
-    match node.0 {
-        0 => false,
-        number => match station.nodes.as_slice().get(number as usize - 1) {
-            Some(node) => node.boundary,
-            None => false,
-        },
+    let mut count = 0;
+    for edge in station.edges.as_slice() {
+        count += ends_of(edge, node, side);
     }
+    count
 }
 
-/// Whether two signals are at one node, for one side.
-fn is_beside(signal: &Signal, other: &Signal) -> bool
-    ensures { result ≡ is_beside signal.now other.now }
+/// Refuses nodes with too many edge ends.
+fn refuse_crowded_nodes(station: &Station) -> Result<(), DesignFault>
+    ensures { Reads (λ x. x) result Code.D06
+        (in_each (λ i n. at (is_crowded station.now i) (Entry kinds.Node i)) station.now.nodes) tt }
 {
-    signal.node.0 == other.node.0 && signal.toward == other.toward
+    refuse_each::<Crowded, Node>(station, station.nodes.as_slice())
 }
 
-/// Whether one of so many first signals is at the node and for the side of this one.
-fn is_beside_earlier(signals: &[Signal], count: usize, signal: &Signal) -> bool
-    ensures { result ≡ list_any (λ q. is_beside q signal.now) (take count signals.now) }
+/// Refuses edges with both ends at one node.
+fn refuse_loops(station: &Station) -> Result<(), DesignFault>
+    ensures { Reads (λ x. x) result Code.D06
+        (in_each (λ i e. at (is_loop e) (Entry kinds.Edge i)) station.now.edges) tt }
 {
-    signals
-        .iter()
-        .take(count)
-        .any(|other| is_beside(other, signal))
+    refuse_each::<Loops, Edge>(station, station.edges.as_slice())
 }
 
 /// Signals at boundaries, and later ones for a node and side that have one.
@@ -201,32 +197,35 @@ impl Rule<Signal> for Misplaced {
     }
 }
 
-/// Refuses signals at boundaries, and later ones for a node and side that have one.
-#[tactic(auto, unfolding(crate::specs::Track::misplaced_signals))]
-pub fn refuse_misplaced_signals(station: &Station) -> Result<(), DesignFault>
-    ensures { Reads (λ x. x) result Code.D08 (misplaced_signals station.now) tt }
+/// Whether a node has no edge end, or more than one.
+fn has_not_one_end(station: &Station, node: u64) -> bool
+    ensures { result ≡ not (ends_at station.now node A + ends_at station.now node B == 1) }
 {
-    refuse_each::<Misplaced, Signal>(station, station.signals.as_slice())
+    let ends_a = ends_at(station, node, Side::A);
+    let ends_b = ends_at(station, node, Side::B);
+    !((ends_a == 0 && ends_b == 1) || (ends_a == 1 && ends_b == 0))
 }
 
 // ---- numbers per tick
 
-/// Whether a speed in mm/s is 0 mm in a tick.
-fn is_still(speed_mm_s: u32, tick_ms: u32) -> bool
-    ensures { result ≡ (speed_mm_s * tick_ms / 1000 == 0) }
+/// Whether the node of a number is a boundary.
+fn is_boundary(station: &Station, node: NodeNo) -> bool
+    ensures { result ≡ (node_of station.now node).boundary }
 {
-    u64::from(speed_mm_s) * u64::from(tick_ms) / 1000 == 0
+    match node.0 {
+        0 => false,
+        number => match station.nodes.as_slice().get(number as usize - 1) {
+            Some(node) => node.boundary,
+            None => false,
+        },
+    }
 }
 
-/// Whether a rate in mm/s² is 0 mm per tick in a tick. Where the product is past 64 bits it is not.
-#[tactic(auto, using(crate::proofs::Rates::below_whole))]
-fn is_constant(rate_mm_s2: u32, tick_ms: u32) -> bool
-    ensures { result ≡ (rate_mm_s2 * tick_ms * tick_ms / 1000000 == 0) }
+/// Whether two signals are at one node, for one side.
+fn is_beside(signal: &Signal, other: &Signal) -> bool
+    ensures { result ≡ is_beside signal.now other.now }
 {
-    match (u64::from(rate_mm_s2) * u64::from(tick_ms)).checked_mul(u64::from(tick_ms)) {
-        Some(product) => product < 1_000_000,
-        None => false,
-    }
+    signal.node.0 == other.node.0 && signal.toward == other.toward
 }
 
 /// Edges whose speed is 0 in a tick.
@@ -244,11 +243,14 @@ impl Rule<Edge> for EdgeZeros {
     }
 }
 
-/// Refuses a number that is 0 in a tick.
-fn refuse_zero(is_zero: bool, place: Place) -> Result<(), DesignFault>
-    ensures { Reads (λ x. x) result Code.D09 (at is_zero place) tt }
+/// Whether one of so many first signals is at the node and for the side of this one.
+fn is_beside_earlier(signals: &[Signal], count: usize, signal: &Signal) -> bool
+    ensures { result ≡ list_any (λ q. is_beside q signal.now) (take count signals.now) }
 {
-    refuse_if(is_zero, Code::D09, place)
+    signals
+        .iter()
+        .take(count)
+        .any(|other| is_beside(other, signal))
 }
 
 /// Vehicles whose acceleration, braking or speed is 0 in a tick.
@@ -272,6 +274,31 @@ impl Rule<Vehicle> for VehicleZeros {
     }
 }
 
+/// Whether a speed in mm/s is 0 mm in a tick.
+fn is_still(speed_mm_s: u32, tick_ms: u32) -> bool
+    ensures { result ≡ (speed_mm_s * tick_ms / 1000 == 0) }
+{
+    u64::from(speed_mm_s) * u64::from(tick_ms) / 1000 == 0
+}
+
+/// Whether a rate in mm/s² is 0 mm per tick in a tick. Where the product is past 64 bits it is not.
+#[tactic(auto, using(crate::proofs::MotorSeen::below_whole))]
+fn is_constant(rate_mm_s2: u32, tick_ms: u32) -> bool
+    ensures { result ≡ (rate_mm_s2 * tick_ms * tick_ms / 1000000 == 0) }
+{
+    match (u64::from(rate_mm_s2) * u64::from(tick_ms)).checked_mul(u64::from(tick_ms)) {
+        Some(product) => product < 1_000_000,
+        None => false,
+    }
+}
+
+/// Refuses a number that is 0 in a tick.
+fn refuse_zero(is_zero: bool, place: Place) -> Result<(), DesignFault>
+    ensures { Reads (λ x. x) result Code.D09 (at is_zero place) tt }
+{
+    refuse_if(is_zero, Code::D09, place)
+}
+
 /// Refuses a horizon of no tick.
 #[tactic(auto, unfolding(crate::specs::Traffic::if_zero))]
 fn refuse_no_tick(station: &Station) -> Result<(), DesignFault>
@@ -283,6 +310,8 @@ fn refuse_no_tick(station: &Station) -> Result<(), DesignFault>
     };
     refuse_zero(is_zero, Place::Top(Key::HorizonMs))
 }
+
+// ---- visits
 
 /// Refuses edges whose speed is 0 in a tick.
 fn refuse_edge_zeros(station: &Station) -> Result<(), DesignFault>
@@ -296,35 +325,6 @@ fn refuse_vehicle_zeros(station: &Station) -> Result<(), DesignFault>
     ensures { Reads (λ x. x) result Code.D09 (in_each (vehicle_zeros station.now) station.now.vehicles) tt }
 {
     refuse_each::<VehicleZeros, Vehicle>(station, station.vehicles.as_slice())
-}
-
-/// Refuses numbers that are 0 in a tick.
-#[tactic(auto, using(crate::proofs::Places::walk), unfolding(crate::specs::Traffic::zeros))]
-pub fn refuse_zeros(station: &Station) -> Result<(), DesignFault>
-    ensures { Reads (λ x. x) result Code.D09 (zeros station.now) tt }
-{
-    refuse_no_tick(station)?;
-    refuse_edge_zeros(station)?;
-    refuse_vehicle_zeros(station)
-}
-
-// ---- visits
-
-/// Whether these nodes are boundaries.
-fn are_boundaries(station: &Station, nodes: &[NodeNo]) -> bool
-    ensures { result ≡ list_all (λ n. (node_of station.now n).boundary) nodes.now }
-{
-    nodes.iter().all(|node| is_boundary(station, *node))
-}
-
-/// Whether the nodes of a train's first visit are boundaries.
-fn can_enter(station: &Station, train: &Train) -> bool
-    ensures { result ≡ can_enter station.now train.now }
-{
-    match train.visits.as_slice().first() {
-        Some(visit) => are_boundaries(station, visit.as_slice()),
-        None => true,
-    }
 }
 
 /// Trains whose first visit names a node that is no boundary.
@@ -341,12 +341,21 @@ impl Rule<Train> for InnerStarts {
     }
 }
 
-/// Refuses trains whose first visit names a node that is no boundary.
-#[tactic(auto, unfolding(crate::specs::Traffic::inner_starts))]
-pub fn refuse_inner_starts(station: &Station) -> Result<(), DesignFault>
-    ensures { Reads (λ x. x) result Code.D10 (inner_starts station.now) tt }
+/// Whether these nodes are boundaries.
+fn are_boundaries(station: &Station, nodes: &[NodeNo]) -> bool
+    ensures { result ≡ list_all (λ n. (node_of station.now n).boundary) nodes.now }
 {
-    refuse_each::<InnerStarts, Train>(station, station.trains.as_slice())
+    nodes.iter().all(|node| is_boundary(station, *node))
+}
+
+/// Whether the nodes of a train's first visit are boundaries.
+fn can_enter(station: &Station, train: &Train) -> bool
+    ensures { result ≡ can_enter station.now train.now }
+{
+    match train.visits.as_slice().first() {
+        Some(visit) => are_boundaries(station, visit.as_slice()),
+        None => true,
+    }
 }
 
 /// The train of a number.
@@ -368,19 +377,6 @@ fn is_visit(station: &Station, train: TrainNo, visit: u32) -> bool
         Some(train) => 1 <= visit && visit as usize <= train.visits.len(),
         None => false,
     }
-}
-
-/// Refuses a visit number that is none of that train's.
-#[tactic(auto, unfolding(crate::specs::Traffic::unless_visit))]
-fn refuse_missing(
-    station: &Station,
-    train: TrainNo,
-    visit: u32,
-    place: Place,
-) -> Result<(), DesignFault>
-    ensures { Reads (λ x. x) result Code.D11 (unless_visit station.now train visit place) tt }
-{
-    refuse_if(!is_visit(station, train, visit), Code::D11, place)
 }
 
 /// Orders of visits that are not there.
@@ -417,6 +413,19 @@ impl Rule<Within> for WithinsMissing {
     }
 }
 
+/// Refuses a visit number that is none of that train's.
+#[tactic(auto, unfolding(crate::specs::Traffic::unless_visit))]
+fn refuse_missing(
+    station: &Station,
+    train: TrainNo,
+    visit: u32,
+    place: Place,
+) -> Result<(), DesignFault>
+    ensures { Reads (λ x. x) result Code.D11 (unless_visit station.now train visit place) tt }
+{
+    refuse_if(!is_visit(station, train, visit), Code::D11, place)
+}
+
 /// Refuses orders of visits that are not there.
 fn refuse_orders_missing(station: &Station) -> Result<(), DesignFault>
     ensures { Reads (λ x. x) result Code.D11 (in_each (order_missing station.now) station.now.orders) tt }
@@ -429,13 +438,4 @@ fn refuse_withins_missing(station: &Station) -> Result<(), DesignFault>
     ensures { Reads (λ x. x) result Code.D11 (in_each (within_missing station.now) station.now.withins) tt }
 {
     refuse_each::<WithinsMissing, Within>(station, station.withins.as_slice())
-}
-
-/// Refuses visit numbers that are none of that train's.
-#[tactic(auto, using(crate::proofs::Places::walk), unfolding(crate::specs::Traffic::missing_visits))]
-pub fn refuse_missing_visits(station: &Station) -> Result<(), DesignFault>
-    ensures { Reads (λ x. x) result Code.D11 (missing_visits station.now) tt }
-{
-    refuse_orders_missing(station)?;
-    refuse_withins_missing(station)
 }

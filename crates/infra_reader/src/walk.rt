@@ -18,27 +18,17 @@ use std::alloc::Global;
 /// An entry of the sheet whose numbers have limits.
 pub trait Limited {
     /// What an entry is seen as.
-    ghost Spelled: { Type 0 };
+    ghost Parsed: { Type 0 };
 
     /// What an entry stands for.
-    ghost seen: { Self → Spelled };
+    ghost seen: { Self → Parsed };
 
     /// The keys with numbers out of range.
-    ghost outside: { ℕ → Spelled → List Place };
+    ghost outside: { ℕ → Parsed → List Place };
 
     /// Refuses numbers out of range. Entries are counted from 1.
     fn refuse_outside(&self, number: u64) -> Result<(), DesignFault>
         ensures { Reads (λ x. x) result Code.D05 (outside number (seen self.now)) tt };
-}
-
-/// Refuses entries with numbers out of range.
-fn refuse_each_outside<E: Limited>(entries: &[E]) -> Result<(), DesignFault>
-    ensures { Reads (λ x. x) result Code.D05 (in_each E.outside (map E.seen entries.now)) tt }
-{
-    for (index, entry) in entries.iter().enumerate() {
-        entry.refuse_outside(index as u64 + 1)?;
-    }
-    Ok(())
 }
 
 /// Refuses an array that has not from `least` to `most` entries.
@@ -74,6 +64,16 @@ pub fn refuse_array<E: Limited>(
     refuse_each_outside(entries)
 }
 
+/// Refuses entries that break a rule.
+pub fn refuse_each<R: Rule<E>, E>(station: &Station, entries: &[E]) -> Result<(), DesignFault>
+    ensures { Reads (λ x. x) result R.code (in_each (R.places station.now) entries.now) tt }
+{
+    for (index, entry) in entries.iter().enumerate() {
+        R::check(station, index as u64 + 1, entry)?;
+    }
+    Ok(())
+}
+
 /// A rule on one kind of entry of a station.
 pub trait Rule<E> {
     ghost code: { Code };
@@ -86,14 +86,20 @@ pub trait Rule<E> {
         ensures { Reads (λ x. x) result code (places station.now number entry.now) tt };
 }
 
-/// Refuses entries that break a rule.
-pub fn refuse_each<R: Rule<E>, E>(station: &Station, entries: &[E]) -> Result<(), DesignFault>
-    ensures { Reads (λ x. x) result R.code (in_each (R.places station.now) entries.now) tt }
+/// The entries, by the numbers of the names.
+pub fn resolve_each<E: Resolve>(
+    alloc: Global,
+    names: &Names,
+    entries: &[E],
+) -> Result<List<E::Resolved>, DesignFault>
+    ensures { let known = names_seen names.now in let parsed = map E.seen entries.now in
+        Reads (λ x. x) result Code.D04 (in_each (E.unknown known) parsed) (map (E.resolved known) parsed) }
 {
+    let mut resolved = Vec::new(alloc);
     for (index, entry) in entries.iter().enumerate() {
-        R::check(station, index as u64 + 1, entry)?;
+        resolved.push(entry.resolve(alloc, names, index as u64 + 1)?)?;
     }
-    Ok(())
+    Ok(List::from_vec(resolved))
 }
 
 /// An entry of the sheet that becomes one of the station.
@@ -102,16 +108,16 @@ pub trait Resolve {
     type Resolved: Drop;
 
     /// What an entry is seen as.
-    ghost Spelled: { Type 0 };
+    ghost Parsed: { Type 0 };
 
     /// What an entry stands for.
-    ghost seen: { Self → Spelled };
+    ghost seen: { Self → Parsed };
 
     /// The keys with names that are not there.
-    ghost unknown: { Names → ℕ → Spelled → List Place };
+    ghost unknown: { Names → ℕ → Parsed → List Place };
 
     /// What it becomes.
-    ghost resolved: { Names → Spelled → Self.Resolved };
+    ghost resolved: { Names → Parsed → Self.Resolved };
 
     /// The entry, by the numbers of the names. Entries are counted from 1.
     fn resolve(
@@ -120,22 +126,16 @@ pub trait Resolve {
         names: &Names,
         number: u64,
     ) -> Result<Self::Resolved, DesignFault>
-        ensures { let known = names_seen names.now in let spelled = seen self.now in
-            Reads (λ x. x) result Code.D04 (unknown known number spelled) (resolved known spelled) };
+        ensures { let known = names_seen names.now in let parsed = seen self.now in
+            Reads (λ x. x) result Code.D04 (unknown known number parsed) (resolved known parsed) };
 }
 
-/// The entries, by the numbers of the names.
-pub fn resolve_each<E: Resolve>(
-    alloc: Global,
-    names: &Names,
-    entries: &[E],
-) -> Result<List<E::Resolved>, DesignFault>
-    ensures { let known = names_seen names.now in let spelled = map E.seen entries.now in
-        Reads (λ x. x) result Code.D04 (in_each (E.unknown known) spelled) (map (E.resolved known) spelled) }
+/// Refuses entries with numbers out of range.
+fn refuse_each_outside<E: Limited>(entries: &[E]) -> Result<(), DesignFault>
+    ensures { Reads (λ x. x) result Code.D05 (in_each E.outside (map E.seen entries.now)) tt }
 {
-    let mut resolved = Vec::new(alloc);
     for (index, entry) in entries.iter().enumerate() {
-        resolved.push(entry.resolve(alloc, names, index as u64 + 1)?)?;
+        entry.refuse_outside(index as u64 + 1)?;
     }
-    Ok(List::from_vec(resolved))
+    Ok(())
 }

@@ -14,19 +14,6 @@ use rail_base::route::{Route, RouteNo, RouteTable, route_at};
 use rail_base::station::SectionNo;
 use std::alloc::{AllocError, Global};
 
-/// Where a route has released all of its sections that are in a set, in mm from its start.
-fn last_release_of(route: &Route, set: &NumberSet) -> u64
-    ensures { result ≡ fold max 0 (map (λ p. nat_abs p.1) (filter (λ p. contains set.now p.0.0) route.now.sections)) }
-{
-    route
-        .sections
-        .as_slice()
-        .iter()
-        .filter(|part| set.contains(part.0.0))
-        .map(|part| part.1.unsigned_abs())
-        .fold(0, |most, offset| most.max(offset))
-}
-
 impl Interlocking {
     /// The interlocking of a design with its routes.
     pub fn new(
@@ -35,7 +22,7 @@ impl Interlocking {
         routes: RouteTable,
     ) -> Result<Interlocking, AllocError>
         requires table { routes ≡ routes_of design.station }
-        requires few { length routes ≤ 2000 }
+        requires at_most_2000 { length routes ≤ 2000 }
         ensures design { IfOk result (λ i. i.design ≡ design) }
         ensures routes { IfOk result (λ i. i.routes ≡ routes) }
     {
@@ -88,4 +75,17 @@ impl Interlocking {
     {
         last_release_of(self.route(one), self.sections(other))
     }
+}
+
+/// Where a route has released all of its sections that are in a set, in mm from its start.
+fn last_release_of(route: &Route, set: &NumberSet) -> u64
+    ensures { result ≡ fold max 0 (map (λ p. nat_abs p.1) (filter (λ p. contains set.now p.0.0) route.now.sections)) }
+{
+    route
+        .sections
+        .as_slice()
+        .iter()
+        .filter(|part| set.contains(part.0.0))
+        .map(|part| part.1.unsigned_abs())
+        .fold(0, |most, offset| most.max(offset))
 }

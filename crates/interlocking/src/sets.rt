@@ -7,17 +7,6 @@ use number_sets::NumberSet;
 use rail_base::route::{Route, RouteTable};
 use std::alloc::{AllocError, Global};
 
-/// The set of a route's sections.
-fn section_set(alloc: Global, route: &Route) -> Result<NumberSet, AllocError>
-    ensures { IfOk result (λ set. IsSectionSet set route.now) }
-{
-    let mut set = NumberSet::new(alloc);
-    for part in route.sections.as_slice() {
-        set.add(part.0.0)?;
-    }
-    Ok(set)
-}
-
 /// For each route the set of its sections.
 pub(crate) fn section_sets(alloc: Global, routes: &RouteTable) -> Result<Vec<NumberSet>, AllocError>
     ensures { IfOk result (λ sets. AreSectionSets routes.now sets.items) }
@@ -27,4 +16,15 @@ pub(crate) fn section_sets(alloc: Global, routes: &RouteTable) -> Result<Vec<Num
         sets.push(section_set(alloc, route)?)?;
     }
     Ok(sets)
+}
+
+/// The set of a route's sections.
+fn section_set(alloc: Global, route: &Route) -> Result<NumberSet, AllocError>
+    ensures { IfOk result (λ set. IsSectionSet set route.now) }
+{
+    let mut set = NumberSet::new(alloc);
+    for part in route.sections.as_slice() {
+        set.add(part.0.0)?;
+    }
+    Ok(set)
 }

@@ -1,4 +1,4 @@
--- Places on ways, one route at a time, and how far they are.
+-- Places on walks, one route at a time, and how far they are.
 use Rattle.std.proofs.Common.{◌≡◌, ℕ, zero, suc, ◌+◌, ◌-◌, ◌≤◌, Bool, true, false, if◌then◌else◌, List, [], ◌∷◌, All, take, drop, length, get_or, nat_abs, ℤ, sym, ap, ap₂, subst, ◌∙◌, arith, le_trans}
 use Rattle.rail_base.specs.declared.station.NodeNo.{NodeNo}
 use Rattle.rail_base.specs.declared.station.TrainNo.{TrainNo}
@@ -56,14 +56,14 @@ module _ (i : Interlocking) where
   visit_by d t k n r q e f = let s = visit_near d t k r in let g = e ∙ ap (visit_offset d t k) f in omega arith
 
 module _ (d : Station) (routes : List Route) where
-  pub release_on : (t : TrainNo) (q : Route) (way : List RouteNo) (other : RouteNo) (r : Route) (n m : ℕ) → 2 ≤ length way → r ≡ route_at routes (get_or way 0 other) → n ≡ length_mm r
-      → m ≡ release_place d t (routes_at routes (take (length way - 1) (drop 1 way))) q → n + m ≡ release_place d t (routes_at routes way) q
+  pub release_on : (t : TrainNo) (q : Route) (walk : List RouteNo) (other : RouteNo) (r : Route) (n m : ℕ) → 2 ≤ length walk → r ≡ route_at routes (get_or walk 0 other) → n ≡ length_mm r
+      → m ≡ release_place d t (routes_at routes (take (length walk - 1) (drop 1 walk))) q → n + m ≡ release_place d t (routes_at routes walk) q
   release_on t q [] other r n m two a b e = absurd (omega arith)
   release_on t q (x ∷ []) other r n m two a b e = absurd (omega arith)
   release_on t q (x ∷ y ∷ ys) other r n m two a b e = ap₂ (λ j k. j + k) (b ∙ ap length_mm a) (e ∙ ap (λ zs. release_place d t (routes_at routes zs) q) (rest_is x (y ∷ ys)))
 
-  pub target_on : (v : VisitOf) (way : List RouteNo) (other : RouteNo) (r : Route) (n m : ℕ) → 2 ≤ length way → r ≡ route_at routes (get_or way 0 other) → n ≡ length_mm r
-      → m ≡ target d v (routes_at routes (take (length way - 1) (drop 1 way))) → n + m ≡ target d v (routes_at routes way)
+  pub target_on : (v : VisitOf) (walk : List RouteNo) (other : RouteNo) (r : Route) (n m : ℕ) → 2 ≤ length walk → r ≡ route_at routes (get_or walk 0 other) → n ≡ length_mm r
+      → m ≡ target d v (routes_at routes (take (length walk - 1) (drop 1 walk))) → n + m ≡ target d v (routes_at routes walk)
   target_on v [] other r n m two a b e = absurd (omega arith)
   target_on v (x ∷ []) other r n m two a b e = absurd (omega arith)
   target_on v (x ∷ y ∷ ys) other r n m two a b e = ap₂ (λ j k. j + k) (b ∙ ap length_mm a) (e ∙ ap (λ zs. target d v (routes_at routes zs)) (rest_is x (y ∷ ys)))

@@ -1,4 +1,4 @@
-//! The places on ways to which legs lead, in mm from the start of the way.
+//! The places on walks to which legs lead, in mm from the start of the walk.
 
 ghost use Rattle.std.specs.Prelude.{◌≡◌, ◌≤◌, ◌+◌, ◌*◌, List, ℤ, All, length};
 ghost use Rattle.rail_base.specs.declared.station.NodeNo.{NodeNo};
@@ -24,6 +24,74 @@ pub struct Visit {
     pub number: u32,
 }
 
+/// Where the head of a train is on a walk, in mm from the walk's start, when the last route has released all that it
+/// shares with another. It is 0 on a walk without routes.
+pub fn release_place(
+    interlocking: &Interlocking,
+    train: TrainNo,
+    walk: &[RouteNo],
+    next: RouteNo,
+) -> u64
+    requires train { IsTrain interlocking.now.design.station train }
+    requires walk { All (IsRoute interlocking.now.routes) walk.now }
+    requires at_most_64 { length walk.now ≤ 64 }
+    requires next { IsRoute interlocking.now.routes next }
+    ensures place { let routes = interlocking.now.routes in let rs = routes_at routes walk.now in
+        result ≡ release_place interlocking.now.design.station train rs (route_at routes next) }
+    ensures near { result ≤ length walk.now * 40000000000 + 4294967295 }
+{
+    let routes = &interlocking.routes;
+    match walk {
+        [] => 0,
+        [last] => {
+            let end = route_at(routes, *last);
+            let greatest = greatest_release(end, route_at(routes, next));
+            greatest + u64::from(interlocking.design.vehicle_of(train).length_mm)
+        }
+        [first, rest @ ..] => {
+            route_at(routes, *first).length_mm() + release_place(interlocking, train, rest, next)
+        }
+    }
+}
+
+/// Where on the last route of a walk a visit can be made at the earliest, in mm from the walk's start. It is the route's
+/// start for a first visit and where the visit can't be made on the route, and 0 on a walk without routes.
+pub fn target(interlocking: &Interlocking, visit: Visit, walk: &[RouteNo]) -> u64
+    requires train { IsTrain interlocking.now.design.station visit.train }
+    requires walk { All (IsRoute interlocking.now.routes) walk.now }
+    requires at_most_64 { length walk.now ≤ 64 }
+    ensures place { let rs = routes_at interlocking.now.routes walk.now in
+        result ≡ target interlocking.now.design.station (visit_of visit) rs }
+    ensures near { result ≤ length walk.now * 40000000000 }
+{
+    let routes = &interlocking.routes;
+    match walk {
+        [] => 0,
+        [last] => visit_offset(&interlocking.design, visit, route_at(routes, *last)),
+        [first, rest @ ..] => {
+            route_at(routes, *first).length_mm() + target(interlocking, visit, rest)
+        }
+    }
+}
+
+/// Where on the first route of a walk a visit is made at the latest, in mm from the walk's start. It is 0 for a first
+/// visit, where the visit can't be made on the route, and on a walk without routes.
+pub fn visit_place(interlocking: &Interlocking, visit: Visit, walk: &[RouteNo]) -> u64
+    requires train { IsTrain interlocking.now.design.station visit.train }
+    requires walk { All (IsRoute interlocking.now.routes) walk.now }
+    ensures { let rs = routes_at interlocking.now.routes walk.now in
+        result ≡ visit_place interlocking.now.design.station (visit_of visit) rs }
+{
+    match walk {
+        [] => 0,
+        [first, ..] => visit_offset(
+            &interlocking.design,
+            visit,
+            route_at(&interlocking.routes, *first),
+        ),
+    }
+}
+
 /// The greatest release offset of the sections of a route that another has too.
 fn greatest_release(route: &Route, next: &Route) -> u64
     ensures { result ≡ greatest_of (release_offset route.now) (shared route.now next.now) }
@@ -35,36 +103,6 @@ fn greatest_release(route: &Route, next: &Route) -> u64
         }
     }
     greatest
-}
-
-/// Where the head of a train is on a way, in mm from the way's start, when the last route has released all that it
-/// shares with another. It is 0 on a way without routes.
-pub fn release_place(
-    interlocking: &Interlocking,
-    train: TrainNo,
-    way: &[RouteNo],
-    next: RouteNo,
-) -> u64
-    requires train { IsTrain interlocking.now.design.station train }
-    requires way { All (IsRoute interlocking.now.routes) way.now }
-    requires few { length way.now ≤ 64 }
-    requires next { IsRoute interlocking.now.routes next }
-    ensures place { let routes = interlocking.now.routes in let rs = routes_at routes way.now in
-        result ≡ release_place interlocking.now.design.station train rs (route_at routes next) }
-    ensures near { result ≤ length way.now * 40000000000 + 4294967295 }
-{
-    let routes = &interlocking.routes;
-    match way {
-        [] => 0,
-        [last] => {
-            let end = route_at(routes, *last);
-            let greatest = greatest_release(end, route_at(routes, next));
-            greatest + u64::from(interlocking.design.vehicle_of(train).length_mm)
-        }
-        [first, rest @ ..] => {
-            route_at(routes, *first).length_mm() + release_place(interlocking, train, rest, next)
-        }
-    }
 }
 
 /// The values behind the first.
@@ -118,42 +156,4 @@ fn visit_offset(design: &Design, visit: Visit, route: &Route) -> u64
         nodes_of_visit(design, visit),
         after_first(route.nodes.as_slice()),
     )
-}
-
-/// Where on the last route of a way a visit can be made at the earliest, in mm from the way's start. It is the route's
-/// start for a first visit and where the visit can't be made on the route, and 0 on a way without routes.
-pub fn target(interlocking: &Interlocking, visit: Visit, way: &[RouteNo]) -> u64
-    requires train { IsTrain interlocking.now.design.station visit.train }
-    requires way { All (IsRoute interlocking.now.routes) way.now }
-    requires few { length way.now ≤ 64 }
-    ensures place { let rs = routes_at interlocking.now.routes way.now in
-        result ≡ target interlocking.now.design.station (visit_of visit) rs }
-    ensures near { result ≤ length way.now * 40000000000 }
-{
-    let routes = &interlocking.routes;
-    match way {
-        [] => 0,
-        [last] => visit_offset(&interlocking.design, visit, route_at(routes, *last)),
-        [first, rest @ ..] => {
-            route_at(routes, *first).length_mm() + target(interlocking, visit, rest)
-        }
-    }
-}
-
-/// Where on the first route of a way a visit is made at the latest, in mm from the way's start. It is 0 for a first
-/// visit, where the visit can't be made on the route, and on a way without routes.
-pub fn visit_place(interlocking: &Interlocking, visit: Visit, way: &[RouteNo]) -> u64
-    requires train { IsTrain interlocking.now.design.station visit.train }
-    requires way { All (IsRoute interlocking.now.routes) way.now }
-    ensures { let rs = routes_at interlocking.now.routes way.now in
-        result ≡ visit_place interlocking.now.design.station (visit_of visit) rs }
-{
-    match way {
-        [] => 0,
-        [first, ..] => visit_offset(
-            &interlocking.design,
-            visit,
-            route_at(&interlocking.routes, *first),
-        ),
-    }
 }

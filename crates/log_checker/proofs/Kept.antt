@@ -30,20 +30,20 @@ rest-step values store [] last unit next y rec = refl
 rest-step values store (i ∷ is) last None next y rec = absurd (cc)
 rest-step values store (i ∷ is) last (Some l) next y rec = rec l y
 
-hint-step : (values : ℕ → Bool) (store : Store) (held : List Lit) (i : ℕ) (is : List ℕ) (o : Option (List Lit)) → live_clause store i ≡ o → clauses_hold values store ≡ true
-    → at_clause o (λ c. where_last is (at_last (open_lits held c)) (at_unit (unit_of held c) (λ l. follow_from store (held ++ l ∷ []) is))) ≡ Yes
-    → ((l : Lit) → follow_from store (held ++ l ∷ []) is ≡ Yes → hints_hold values store is ≡ true)
+hint-step : (values : ℕ → Bool) (store : Store) (assigned : List Lit) (i : ℕ) (is : List ℕ) (o : Option (List Lit)) → live_clause store i ≡ o → clauses_hold values store ≡ true
+    → at_clause o (λ c. where_last is (at_last (open_lits assigned c)) (at_unit (unit_of assigned c) (λ l. follow_from store (assigned ++ l ∷ []) is))) ≡ Yes
+    → ((l : Lit) → follow_from store (assigned ++ l ∷ []) is ≡ Yes → hints_hold values store is ≡ true)
     → (holds_at values (live_clause store i) && hints_hold values store is) ≡ true
-hint-step values store held i is None e h y rec = absurd (cc)
-hint-step values store held i is (Some c) e h y rec =
+hint-step values store assigned i is None e h y rec = absurd (cc)
+hint-step values store assigned i is (Some c) e h y rec =
     let a : clause_holds values c ≡ true = live-holds values store i c e h in
-    let b : hints_hold values store is ≡ true = rest-step values store is (at_last (open_lits held c)) (unit_of held c) (λ l. follow_from store (held ++ l ∷ []) is) y rec in
+    let b : hints_hold values store is ≡ true = rest-step values store is (at_last (open_lits assigned c)) (unit_of assigned c) (λ l. follow_from store (assigned ++ l ∷ []) is) y rec in
     rw (e, a, b) refl
 
 -- where a clause follows, its hints are live, so they are true
-hinted : (values : ℕ → Bool) (store : Store) (held : List Lit) (hints : List ℕ) → clauses_hold values store ≡ true → follow_from store held hints ≡ Yes → hints_hold values store hints ≡ true
-hinted values store held [] h y = refl
-hinted values store held (i ∷ is) h y = hint-step values store held i is (live_clause store i) refl h y (λ l z. hinted values store (held ++ l ∷ []) is h z)
+hinted : (values : ℕ → Bool) (store : Store) (assigned : List Lit) (hints : List ℕ) → clauses_hold values store ≡ true → follow_from store assigned hints ≡ Yes → hints_hold values store hints ≡ true
+hinted values store assigned [] h y = refl
+hinted values store assigned (i ∷ is) h y = hint-step values store assigned i is (live_clause store i) refl h y (λ l z. hinted values store (assigned ++ l ∷ []) is h z)
 
 -- so a clause that follows is true
 pub follows-true : (values : ℕ → Bool) (store : Store) (clause : List Lit) (hints : List ℕ) → follow_of store clause hints ≡ Yes → clauses_hold values store ≡ true → clause_holds values clause ≡ true

@@ -12,11 +12,11 @@ use Rattle.sat_clause.specs.Clauses.{Store, clause_holds, live_clause, without}
 use Rattle.sat_clause.specs.Hints.{follow_of}
 use Rattle.proof_log.specs.declared.line.Line.{Line}
 use Rattle.proof_log.specs.declared.line.Line.TheVariants.{Derive, Refute, Forget}
-use Rattle.log_checker.specs.declared.shown.Shown.TheVariants.{Yes, No}
-use Rattle.log_checker.specs.declared.shown.Reason.{Reason}
-use Rattle.log_checker.specs.declared.shown.Reason.TheVariants as reason
+use Rattle.log_checker.specs.declared.check_result.CheckResult.TheVariants.{Yes, No}
+use Rattle.log_checker.specs.declared.check_result.Reason.{Reason}
+use Rattle.log_checker.specs.declared.check_result.Reason.TheVariants as reason
 use Rattle.log_checker.specs.Truth.{clauses_hold}
-use Rattle.log_checker.specs.Verdict.{SoFar, at_first, with_clause, is_derived, forgotten, spelled, by_follow, by_evidence, by_forget, taken, steps_denied, at_end, after_line, shown_from, is_headed, shown_by}
+use Rattle.log_checker.specs.Verdict.{SoFar, at_first, with_clause, is_derived, forgotten, parsed, by_follow, by_evidence, by_forget, taken, steps_denied, at_end, after_line, result_from, is_headed, result_of}
 use Rattle.log_checker.specs.Laws.{AllHold, Denies, ShownIsSo}
 use Rattle.log_checker.proofs.Kept.{follows-true, push-holds, without-holds}
 use Rattle.log_checker.proofs.Denied.{clause-denies}
@@ -89,17 +89,17 @@ module _ (head : Head) (refute : Evidence → Result (List Lit) EvidenceFault) (
     further here (Err reason) next e go = absurd (cc)
     further here (Ok t) next e go = go t refl e
 
-    shown_from-so : (here : ℕ) (s : SoFar) (lines : List Piece) → IsSo s → shown_from head refute vars steps here s lines ≡ Yes k → Denies refute vars steps base k
-    shown_from-so here s [] so e = ended here s.shown so.denied e
-    shown_from-so here s (piece ∷ more) so e =
-        further here (taken head refute vars steps s (spelled head vars piece)) (λ t. shown_from head refute vars steps (here + 1) t more) e
-        (λ t r f. shown_from-so (here + 1) t more (takes s t (spelled head vars piece) so r) f)
+    result_from-so : (here : ℕ) (s : SoFar) (lines : List Piece) → IsSo s → result_from head refute vars steps here s lines ≡ Yes k → Denies refute vars steps base k
+    result_from-so here s [] so e = ended here s.shown so.denied e
+    result_from-so here s (piece ∷ more) so e =
+        further here (taken head refute vars steps s (parsed head vars piece)) (λ t. result_from head refute vars steps (here + 1) t more) e
+        (λ t r f. result_from-so (here + 1) t more (takes s t (parsed head vars piece) so r) f)
 
-    headed : (b : Bool) (more : List Piece) → (if b then shown_from head refute vars steps 2 (at_first base) more else No 1 reason.Text) ≡ Yes k → Denies refute vars steps base k
-    headed true more e = shown_from-so 2 (at_first base) more begins e
+    headed : (b : Bool) (more : List Piece) → (if b then result_from head refute vars steps 2 (at_first base) more else No 1 reason.Text) ≡ Yes k → Denies refute vars steps base k
+    headed true more e = result_from-so 2 (at_first base) more begins e
     headed false more e = absurd (cc)
 
-    lines-so : (lines : List Piece) → shown_by head refute vars steps base lines ≡ Yes k → Denies refute vars steps base k
+    lines-so : (lines : List Piece) → result_of head refute vars steps base lines ≡ Yes k → Denies refute vars steps base k
     lines-so [] e = absurd (cc)
     lines-so (first ∷ more) e = headed (is_headed head first) more e
 

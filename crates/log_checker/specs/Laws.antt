@@ -5,7 +5,7 @@ use Rattle.rail_bound.specs.declared.EvidenceFault.{EvidenceFault}
 use Rattle.proof_log.specs.declared.head.Head.{Head}
 use Rattle.sat_clause.specs.declared.lit.Lit.{Lit}
 use Rattle.sat_clause.specs.Clauses.{Store, clause_holds}
-use Rattle.log_checker.specs.declared.shown.Shown.TheVariants.{Yes}
+use Rattle.log_checker.specs.declared.check_result.CheckResult.TheVariants.{Yes}
 use Rattle.log_checker.specs.Truth.{clauses_hold}
 use Rattle.log_checker.specs.Verdict.{log_verdict}
 

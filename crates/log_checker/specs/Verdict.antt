@@ -19,11 +19,11 @@ use Rattle.proof_log.specs.declared.head.Head.{Head}
 use Rattle.proof_log.specs.declared.head.Head.TheVariants.{Plain, Named, Sorted}
 use Rattle.proof_log.specs.Heads.{head_of, head_text}
 use Rattle.proof_log.specs.Lines.{line_of}
-use Rattle.log_checker.specs.declared.shown.Shown.{Shown}
-use Rattle.log_checker.specs.declared.shown.Shown.TheVariants.{Yes, No}
-use Rattle.log_checker.specs.declared.shown.Reason.{Reason}
-use Rattle.log_checker.specs.declared.shown.Reason.TheVariants.{Text, UnknownClause, HintNotUnit, NoConflict}
-use Rattle.log_checker.specs.declared.shown.Reason.TheVariants.{DropRefused, NotRefuted, NoFinalLine}
+use Rattle.log_checker.specs.declared.check_result.CheckResult.{CheckResult}
+use Rattle.log_checker.specs.declared.check_result.CheckResult.TheVariants.{Yes, No}
+use Rattle.log_checker.specs.declared.check_result.Reason.{Reason}
+use Rattle.log_checker.specs.declared.check_result.Reason.TheVariants.{Text, UnknownClause, HintNotUnit, NoConflict}
+use Rattle.log_checker.specs.declared.check_result.Reason.TheVariants.{DropRefused, NotRefuted, NoFinalLine}
 
 -- ---- lines
 
@@ -43,8 +43,8 @@ if_within head vars (Some (Refute e)) = if may_stand head e then Some (Refute e)
 if_within head vars (Some (Forget ids)) = Some (Forget ids)
 
 -- the line that a piece of a file spells: an LF ends it, no variable is past the last one, and it may stand there
-abbrev pub spelled : Head → ℕ → Piece → Option Line
-spelled head vars piece = if piece.ended then if_within head vars (line_of piece.bytes) else None
+abbrev pub parsed : Head → ℕ → Piece → Option Line
+parsed head vars piece = if piece.ended then if_within head vars (line_of piece.bytes) else None
 
 -- ---- what the last line shows
 
@@ -119,12 +119,12 @@ abbrev pub forgotten_by : SoFar → List ℕ → Result SoFar Reason
 forgotten_by s ids = by_forget s (forgotten s.derived s.store ids)
 
 -- a bad line is the answer, a good one goes on
-abbrev pub after_line : ℕ → Result SoFar Reason → (SoFar → Shown) → Shown
+abbrev pub after_line : ℕ → Result SoFar Reason → (SoFar → CheckResult) → CheckResult
 after_line here (Err reason) next = No here reason
 after_line here (Ok s) next = next s
 
 -- the answer where no line is left, by what the last one shows
-abbrev pub at_end : ℕ → Option ℕ → Shown
+abbrev pub at_end : ℕ → Option ℕ → CheckResult
 at_end here None = No here NoFinalLine
 at_end here (Some k) = Yes k
 
@@ -148,16 +148,16 @@ module _ (head : Head) (refute : Evidence → Result (List Lit) EvidenceFault) (
   taken s (Some (Forget ids)) = forgotten_by s ids
 
   -- what the lines from this place on show
-  abbrev pub shown_from : ℕ → SoFar → List Piece → Shown
-  shown_from here s [] = at_end here s.shown
-  shown_from here s (piece ∷ more) =
-      after_line here (taken s (spelled head vars piece)) (λ t. shown_from (here + 1) t more)
+  abbrev pub result_from : ℕ → SoFar → List Piece → CheckResult
+  result_from here s [] = at_end here s.shown
+  result_from here s (piece ∷ more) =
+      after_line here (taken s (parsed head vars piece)) (λ t. result_from (here + 1) t more)
 
   -- what the lines of a file show, the head being the first of them
-  abbrev pub shown_by : Store → List Piece → Shown
-  shown_by base [] = No 1 NoFinalLine
-  shown_by base (first ∷ more) = if is_headed head first then shown_from 2 (at_first base) more else No 1 Text
+  abbrev pub result_of : Store → List Piece → CheckResult
+  result_of base [] = No 1 NoFinalLine
+  result_of base (first ∷ more) = if is_headed head first then result_from 2 (at_first base) more else No 1 Text
 
   -- what a file shows over the clauses of a base
-  abbrev pub log_verdict : Store → List ℕ → Shown
-  log_verdict base bytes = shown_by base (pieces bytes)
+  abbrev pub log_verdict : Store → List ℕ → CheckResult
+  log_verdict base bytes = result_of base (pieces bytes)

@@ -7,9 +7,9 @@ use Rattle.rail_bound.specs.declared.EvidenceFault.TheVariants as of
 use Rattle.rail_cone.specs.declared.ConeFault.{ConeFault}
 use Rattle.rail_cone.specs.declared.ConeFault.TheVariants.{PathNotInDesign, CommandNotGranted, HolderNotValid}
 use Rattle.rail_cone.specs.declared.ConeFault.TheVariants.{ViolationNotShown}
-use Rattle.log_checker.specs.declared.shown.Reason.{Reason}
-use Rattle.log_checker.specs.declared.shown.Reason.TheVariants.{Text, HeadDiffers, BaseTooLarge, UnknownClause}
-use Rattle.log_checker.specs.declared.shown.Reason.TheVariants.{HintNotUnit, NoConflict, DropRefused, NotRefuted, NoFinalLine}
+use Rattle.log_checker.specs.declared.check_result.Reason.{Reason}
+use Rattle.log_checker.specs.declared.check_result.Reason.TheVariants.{Text, HeadDiffers, BaseTooLarge, UnknownClause}
+use Rattle.log_checker.specs.declared.check_result.Reason.TheVariants.{HintNotUnit, NoConflict, DropRefused, NotRefuted, NoFinalLine}
 
 -- why a cone shows nothing
 abbrev pub cone_words : ConeFault → List ℕ

@@ -3,74 +3,19 @@
 ghost use Rattle.std.specs.Prelude.{◌≡◌, ◌+◌, ◌<◌, ◌^◌, ℕ, IfOk, Ok, length};
 ghost use Rattle.rail_text.specs.Cursors.{lines_left};
 ghost use Rattle.rail_text.specs.Pieces.{pieces};
-ghost use Rattle.log_checker.specs.Verdict.{at_first, head_in, shown_from, log_verdict};
+ghost use Rattle.log_checker.specs.Verdict.{at_first, head_in, result_from, log_verdict};
 ghost use Rattle.log_checker.specs.Laws.{Denies};
-ghost use Rattle.log_checker.specs.declared.shown.Shown.TheVariants.{Yes};
+ghost use Rattle.log_checker.specs.declared.check_result.CheckResult.TheVariants.{Yes};
 
-use crate::held::{Fault, Held};
+use crate::check_result::{CheckResult, Reason};
+use crate::database::{ClauseDatabase, Fault};
 use crate::line::Judge;
 use crate::refuter::Refuter;
-use crate::shown::{Reason, Shown};
 use proof_log::{Head, read_head, write_head};
 use rail_text::Cursor;
 use rup_check::Marks;
 use sat_clause::Arena;
 use std::alloc::{AllocError, Global};
-
-impl<R: Refuter> Judge<'_, R> {
-    /// What the lines after the head show.
-    fn judge_lines(&self, base: Arena, lines: Cursor<'_>) -> Result<Shown, AllocError>
-        requires few { length (lines_left lines) + 2 < 2 ^ 64 }
-        ensures { IfOk result (λ shown. shown
-            ≡ shown_from self.now.head (R.refute self.now.refuter.now) self.now.vars self.now.steps 2 (at_first base)
-            (lines_left lines.entry)) }
-    {
-        let mut marks = Marks::new(self.alloc);
-        let mut held = Held::new(self.alloc, base)?;
-        let mut here = 2;
-        'lines: for piece in lines {
-            match self.take_piece(&mut marks, &mut held, &piece) {
-                Ok(()) => {}
-                Err(Fault::Bad(reason)) => return Ok(Shown::No { line: here, reason }),
-                Err(Fault::Memory) => return Err(AllocError),
-            }
-            here += 1;
-        }
-        match held.shown() {
-            Some(steps) => Ok(Shown::Yes { steps }),
-            None => Ok(Shown::No {
-                line: here,
-                reason: Reason::NoFinalLine,
-            }),
-        }
-    }
-}
-
-/// What a proof file with the judge's head shows.
-fn shown_by<R: Refuter>(
-    judge: &Judge<'_, R>,
-    base: Arena,
-    bytes: &[u8],
-) -> Result<Shown, AllocError>
-    ensures { IfOk result (λ shown. shown
-        ≡ log_verdict judge.now.head (R.refute judge.now.refuter.now) judge.now.vars judge.now.steps base bytes.now) }
-{
-    let head = write_head(judge.alloc, judge.head)?;
-    let mut lines = Cursor::new(bytes);
-    let Some(first) = lines.next() else {
-        return Ok(Shown::No {
-            line: 1,
-            reason: Reason::NoFinalLine,
-        });
-    };
-    if !first.ended || first.bytes != head.as_slice() {
-        return Ok(Shown::No {
-            line: 1,
-            reason: Reason::Text,
-        });
-    }
-    judge.judge_lines(base, lines)
-}
 
 /// The head of a proof file, where its first line is one and an LF ends it.
 pub fn head_in(bytes: &[u8]) -> Option<Head>
@@ -98,7 +43,7 @@ pub fn judge_log<R: Refuter>(
     vars: u32,
     steps: u32,
     bytes: &[u8],
-) -> Result<Shown, AllocError>
+) -> Result<CheckResult, AllocError>
     ensures value { IfOk result (λ shown. shown
         ≡ log_verdict head (R.refute refuter.now) vars steps base bytes.now) }
     ensures sound { (k : ℕ) → result ≡ Ok (Yes k) → Denies (R.refute refuter.now) vars steps base k }
@@ -110,5 +55,60 @@ pub fn judge_log<R: Refuter>(
         vars,
         steps,
     };
-    shown_by(&judge, base, bytes)
+    result_of(&judge, base, bytes)
+}
+
+impl<R: Refuter> Judge<'_, R> {
+    /// What the lines after the head show.
+    fn judge_lines(&self, base: Arena, lines: Cursor<'_>) -> Result<CheckResult, AllocError>
+        requires below_2_64 { length (lines_left lines) + 2 < 2 ^ 64 }
+        ensures { IfOk result (λ shown. shown
+            ≡ result_from self.now.head (R.refute self.now.refuter.now) self.now.vars self.now.steps 2 (at_first base)
+            (lines_left lines.entry)) }
+    {
+        let mut marks = Marks::new(self.alloc);
+        let mut database = ClauseDatabase::new(self.alloc, base)?;
+        let mut here = 2;
+        'lines: for piece in lines {
+            match self.take_piece(&mut marks, &mut database, &piece) {
+                Ok(()) => {}
+                Err(Fault::Bad(reason)) => return Ok(CheckResult::No { line: here, reason }),
+                Err(Fault::Memory) => return Err(AllocError),
+            }
+            here += 1;
+        }
+        match database.shown_steps() {
+            Some(steps) => Ok(CheckResult::Yes { steps }),
+            None => Ok(CheckResult::No {
+                line: here,
+                reason: Reason::NoFinalLine,
+            }),
+        }
+    }
+}
+
+/// What a proof file with the judge's head shows.
+fn result_of<R: Refuter>(
+    judge: &Judge<'_, R>,
+    base: Arena,
+    bytes: &[u8],
+) -> Result<CheckResult, AllocError>
+    ensures { IfOk result (λ shown. shown
+        ≡ log_verdict judge.now.head (R.refute judge.now.refuter.now) judge.now.vars judge.now.steps base bytes.now) }
+{
+    let head = write_head(judge.alloc, judge.head)?;
+    let mut lines = Cursor::new(bytes);
+    let Some(first) = lines.next() else {
+        return Ok(CheckResult::No {
+            line: 1,
+            reason: Reason::NoFinalLine,
+        });
+    };
+    if !first.ended || first.bytes != head.as_slice() {
+        return Ok(CheckResult::No {
+            line: 1,
+            reason: Reason::Text,
+        });
+    }
+    judge.judge_lines(base, lines)
 }

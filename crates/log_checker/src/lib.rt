@@ -1,14 +1,14 @@
 //! Whether a proof file shows that there is no plan, from the clauses of a base, of cones and of bounds alone.
 #![tactic(auto)]
 
-mod held;
+mod check_result;
+mod database;
 mod judge;
 mod laws;
 mod line;
 mod refuter;
-mod shown;
 
+pub use check_result::{CheckResult, Reason};
 pub use judge::{head_in, judge_log};
 pub use laws::shown_is_so;
 pub use refuter::{RefuteFault, Refuter};
-pub use shown::{Reason, Shown};

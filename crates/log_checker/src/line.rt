@@ -3,20 +3,66 @@
 ghost use Rattle.std.specs.Prelude.{◌≡◌, nat_le, IfOk, OnOk, Ok, Err, Some, None, if◌then◌else◌};
 ghost use Rattle.std.specs.List.{list_all};
 ghost use Rattle.rail_text.specs.Lines.{line_of};
-ghost use Rattle.log_checker.specs.Verdict.{if_within, may_stand, spelled, steps_denied, taken};
-ghost use Rattle.log_checker.specs.declared.shown.Reason.{Reason};
-ghost use Rattle.log_checker.specs.declared.shown.Reason.TheVariants.{Text};
-ghost use Rattle.log_checker.specs.declared.held.Fault.TheVariants.{Bad};
+ghost use Rattle.log_checker.specs.Verdict.{if_within, may_stand, parsed, steps_denied, taken};
+ghost use Rattle.log_checker.specs.declared.check_result.Reason.{Reason};
+ghost use Rattle.log_checker.specs.declared.check_result.Reason.TheVariants.{Text};
+ghost use Rattle.log_checker.specs.declared.database.Fault.TheVariants.{Bad};
 
-use crate::held::{Fault, Held};
+use crate::check_result::Reason;
+use crate::database::{ClauseDatabase, Fault};
 use crate::refuter::Refuter;
-use crate::shown::Reason;
 use proof_log::{Head, Line, LineFault, read_line};
 use rail_bound::Evidence;
 use rail_text::Piece;
 use rup_check::Marks;
 use sat_clause::Lit;
 use std::alloc::Global;
+
+impl<R: Refuter> Judge<'_, R> {
+    /// Takes a line.
+    pub fn take(
+        &self,
+        marks: &mut Marks,
+        database: &mut ClauseDatabase,
+        line: &Line,
+    ) -> Result<(), Fault>
+        ensures ok { OnOk result
+            (taken self.now.head (R.refute self.now.refuter.now) self.now.vars self.now.steps database.old (Some line.now)
+            ≡ Ok database.new) }
+        ensures bad { (reason : Reason) → result ≡ Err (Bad reason)
+            → taken self.now.head (R.refute self.now.refuter.now) self.now.vars self.now.steps database.old (Some line.now)
+            ≡ Err reason }
+    {
+        match line {
+            Line::Derive { clause, hints } => {
+                let shown = deny_steps(self.vars, self.steps, clause.as_slice());
+                database.derive(marks, clause.as_slice(), hints.as_slice(), shown)
+            }
+            Line::Refute { evidence } => database.refute(self.alloc, self.refuter, evidence),
+            Line::Forget { clauses } => database.forget(clauses.as_slice()),
+        }
+    }
+
+    /// Takes the line that is parsed from a piece of a file.
+    pub fn take_piece(
+        &self,
+        marks: &mut Marks,
+        database: &mut ClauseDatabase,
+        piece: &Piece<'_>,
+    ) -> Result<(), Fault>
+        ensures ok { OnOk result
+            (taken self.now.head (R.refute self.now.refuter.now) self.now.vars self.now.steps database.old
+            (parsed self.now.head self.now.vars (line_of piece.now)) ≡ Ok database.new) }
+        ensures bad { (reason : Reason) → result ≡ Err (Bad reason)
+            → taken self.now.head (R.refute self.now.refuter.now) self.now.vars self.now.steps database.old
+            (parsed self.now.head self.now.vars (line_of piece.now)) ≡ Err reason }
+    {
+        match spell(self.alloc, self.head, self.vars, piece) {
+            Ok(line) => self.take(marks, database, &line),
+            Err(fault) => Err(fault),
+        }
+    }
+}
 
 /// Whether no variable of the clause is past the last one.
 fn are_within(clause: &[Lit], vars: u32) -> bool
@@ -48,11 +94,11 @@ fn is_within(head: Head, line: &Line, vars: u32) -> bool
     }
 }
 
-/// The line that a piece of a file spells.
+/// The line that is parsed from a piece of a file.
 fn spell(alloc: Global, head: Head, vars: u32, piece: &Piece<'_>) -> Result<Line, Fault>
-    ensures ok { IfOk result (λ line. spelled head vars (line_of piece.now) ≡ Some line) }
+    ensures ok { IfOk result (λ line. parsed head vars (line_of piece.now) ≡ Some line) }
     ensures bad { (reason : Reason) → result ≡ Err (Bad reason)
-        → (reason ≡ Text) × (spelled head vars (line_of piece.now) ≡ None) }
+        → (reason ≡ Text) × (parsed head vars (line_of piece.now) ≡ None) }
 {
     if !piece.ended {
         return Err(Fault::Bad(Reason::Text));
@@ -66,6 +112,16 @@ fn spell(alloc: Global, head: Head, vars: u32, piece: &Piece<'_>) -> Result<Line
         return Err(Fault::Bad(Reason::Text));
     }
     Ok(line)
+}
+
+/// Lines after a head, judged over a base of so many variables, for plans of so many steps.
+#[derive(Drop)]
+pub struct Judge<'a, R: Refuter> {
+    pub alloc: Global,
+    pub refuter: &'a R,
+    pub head: Head,
+    pub vars: u32,
+    pub steps: u32,
 }
 
 /// For how many steps a clause shows that there is no plan.
@@ -83,56 +139,5 @@ fn deny_steps(vars: u32, steps: u32, clause: &[Lit]) -> Option<u32>
             }
         }
         _ => None,
-    }
-}
-
-/// Lines after a head, judged over a base of so many variables, for plans of so many steps.
-#[derive(Drop)]
-pub struct Judge<'a, R: Refuter> {
-    pub alloc: Global,
-    pub refuter: &'a R,
-    pub head: Head,
-    pub vars: u32,
-    pub steps: u32,
-}
-
-impl<R: Refuter> Judge<'_, R> {
-    /// Takes a line.
-    pub fn take(&self, marks: &mut Marks, held: &mut Held, line: &Line) -> Result<(), Fault>
-        ensures ok { OnOk result
-            (taken self.now.head (R.refute self.now.refuter.now) self.now.vars self.now.steps held.old (Some line.now)
-            ≡ Ok held.new) }
-        ensures bad { (reason : Reason) → result ≡ Err (Bad reason)
-            → taken self.now.head (R.refute self.now.refuter.now) self.now.vars self.now.steps held.old (Some line.now)
-            ≡ Err reason }
-    {
-        match line {
-            Line::Derive { clause, hints } => {
-                let shown = deny_steps(self.vars, self.steps, clause.as_slice());
-                held.derive(marks, clause.as_slice(), hints.as_slice(), shown)
-            }
-            Line::Refute { evidence } => held.refute(self.alloc, self.refuter, evidence),
-            Line::Forget { clauses } => held.forget(clauses.as_slice()),
-        }
-    }
-
-    /// Takes the line that a piece of a file spells.
-    pub fn take_piece(
-        &self,
-        marks: &mut Marks,
-        held: &mut Held,
-        piece: &Piece<'_>,
-    ) -> Result<(), Fault>
-        ensures ok { OnOk result
-            (taken self.now.head (R.refute self.now.refuter.now) self.now.vars self.now.steps held.old
-            (spelled self.now.head self.now.vars (line_of piece.now)) ≡ Ok held.new) }
-        ensures bad { (reason : Reason) → result ≡ Err (Bad reason)
-            → taken self.now.head (R.refute self.now.refuter.now) self.now.vars self.now.steps held.old
-            (spelled self.now.head self.now.vars (line_of piece.now)) ≡ Err reason }
-    {
-        match spell(self.alloc, self.head, self.vars, piece) {
-            Ok(line) => self.take(marks, held, &line),
-            Err(fault) => Err(fault),
-        }
     }
 }

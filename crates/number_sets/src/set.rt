@@ -12,6 +12,44 @@ pub struct NumberSet {
     words: Vec<u64>,
 }
 
+impl NumberSet {
+    ghost use Rattle.number_sets.specs.Sets.{contains};
+
+    /// The empty set.
+    pub fn new(alloc: Global) -> NumberSet
+        ensures { (k : ℕ) → contains result k ≡ false }
+    {
+        NumberSet {
+            words: Vec::new(alloc),
+        }
+    }
+
+    /// Adds a number. Where memory is wanting the set stays the same.
+    pub fn add(&mut self, number: u32) -> Result<(), AllocError>
+        ensures added { OnOk result ((k : ℕ) → contains self.new k ≡ (k == number || contains self.old k)) }
+        ensures kept { OnErr result ((k : ℕ) → contains self.new k ≡ contains self.old k) }
+    {
+        widen(&mut self.words, number)?;
+        put(&mut self.words, number);
+        Ok(())
+    }
+
+    /// Whether a number is in the set.
+    pub fn contains(&self, number: u32) -> bool
+        ensures { result ≡ contains self.now number }
+    {
+        has(&self.words, number)
+    }
+
+    /// Whether two sets have a number in common.
+    pub fn meets(&self, other: &NumberSet) -> bool
+        ensures common { result ≡ true → (k : ℕ) × (contains self.now k ≡ true) × (contains other.now k ≡ true) }
+        ensures apart { result ≡ false → (k : ℕ) → contains self.now k ≡ true → contains other.now k ≡ false }
+    {
+        meet(&self.words, &other.words)
+    }
+}
+
 /// Makes room for a number. The set stays the same.
 fn widen(words: &mut Vec<u64>, number: u32) -> Result<(), AllocError>
     ensures same { (k : ℕ) → has words.new.items k ≡ has words.old.items k }
@@ -58,42 +96,4 @@ fn meet(one: &[u64], other: &[u64]) -> bool
     ensures apart { result ≡ false → (k : ℕ) → has one.now k ≡ true → has other.now k ≡ false }
 {
     touch(one, other)
-}
-
-impl NumberSet {
-    ghost use Rattle.number_sets.specs.Sets.{contains};
-
-    /// The empty set.
-    pub fn new(alloc: Global) -> NumberSet
-        ensures { (k : ℕ) → contains result k ≡ false }
-    {
-        NumberSet {
-            words: Vec::new(alloc),
-        }
-    }
-
-    /// Adds a number. Where memory is wanting the set stays the same.
-    pub fn add(&mut self, number: u32) -> Result<(), AllocError>
-        ensures added { OnOk result ((k : ℕ) → contains self.new k ≡ (k == number || contains self.old k)) }
-        ensures kept { OnErr result ((k : ℕ) → contains self.new k ≡ contains self.old k) }
-    {
-        widen(&mut self.words, number)?;
-        put(&mut self.words, number);
-        Ok(())
-    }
-
-    /// Whether a number is in the set.
-    pub fn contains(&self, number: u32) -> bool
-        ensures { result ≡ contains self.now number }
-    {
-        has(&self.words, number)
-    }
-
-    /// Whether two sets have a number in common.
-    pub fn meets(&self, other: &NumberSet) -> bool
-        ensures common { result ≡ true → (k : ℕ) × (contains self.now k ≡ true) × (contains other.now k ≡ true) }
-        ensures apart { result ≡ false → (k : ℕ) → contains self.now k ≡ true → contains other.now k ≡ false }
-    {
-        meet(&self.words, &other.words)
-    }
 }

@@ -117,10 +117,10 @@ module _ (d : Station) (routes : List Route) (n : ℕ) (says : Variable → Bool
           numbers = length-map (λ r. record { 0 = r }) (one_to (length routes)) ∙ length-count 1 (length routes)
       enough (suc more) before w b a f s = go (not (exits (route_at routes w)) && nat_lt (chain_length routes (before ++ w ∷ [])) (clearing d routes n e c)) refl s (enough more (before ++ w ∷ []))
         where
-          stop : (x y : Bool) → exits (route_at routes w) ≡ x → nat_lt (chain_length routes (before ++ w ∷ [])) (clearing d routes n e c) ≡ y → (not x && y) ≡ false → Enough
-          stop true y p q h = record { given = before ++ w ∷ []; each = b; apart = a; clear = inl (w, in_append_right w before (w ∷ []) (inl refl), p) }
-          stop false true p q h = absurd (true≢false h)
-          stop false false p q h = record { given = before ++ w ∷ []; each = b; apart = a; clear = inr (let k = leb-false _ _ q in omega arith) }
+          path_node : (x y : Bool) → exits (route_at routes w) ≡ x → nat_lt (chain_length routes (before ++ w ∷ [])) (clearing d routes n e c) ≡ y → (not x && y) ≡ false → Enough
+          path_node true y p q h = record { given = before ++ w ∷ []; each = b; apart = a; clear = inl (w, in_append_right w before (w ∷ []) (inl refl), p) }
+          path_node false true p q h = absurd (true≢false h)
+          path_node false false p q h = record { given = before ++ w ∷ []; each = b; apart = a; clear = inr (let k = leb-false _ _ q in omega arith) }
 
           further : ((chain : List RouteNo × RouteNo) → In chain ((before ++ w ∷ [], w) ∷ flat_map (chains routes more (clearing d routes n e c) (before ++ w ∷ [])) (onward routes (before ++ w ∷ []) w)) → In chain (chains routes (length routes) (clearing d routes n e c) [] e.route))
               → ((v : RouteNo) → ((r : RouteNo) → In r ((before ++ w ∷ []) ++ v ∷ []) → Between r) → Distinct ((before ++ w ∷ []) ++ v ∷ []) → length routes ≤ length (before ++ w ∷ []) + more
@@ -159,7 +159,7 @@ module _ (d : Station) (routes : List Route) (n : ℕ) (says : Variable → Bool
               → ((v : RouteNo) → ((r : RouteNo) → In r ((before ++ w ∷ []) ++ v ∷ []) → Between r) → Distinct ((before ++ w ∷ []) ++ v ∷ []) → length routes ≤ length (before ++ w ∷ []) + more
               → ((chain : List RouteNo × RouteNo) → In chain (chains routes more (clearing d routes n e c) (before ++ w ∷ []) v) → In chain (chains routes (length routes) (clearing d routes n e c) [] e.route)) → Enough) → Enough
           go true h s rest = further s rest
-          go false h s rest = stop (exits (route_at routes w)) (nat_lt (chain_length routes (before ++ w ∷ [])) (clearing d routes n e c)) refl refl h
+          go false h s rest = path_node (exits (route_at routes w)) (nat_lt (chain_length routes (before ++ w ∷ [])) (clearing d routes n e c)) refl refl h
 
       given_enough : Enough
       given_enough = enough (length routes) [] e.route only (((λ m. m), tt)) (omega arith) (λ chain m. m)

@@ -10,8 +10,8 @@ use Rattle.rail_base.specs.declared.plan.Command.{Command}
 use Rattle.rail_base.specs.Numbering.{from_first, after_first}
 use Rattle.rail_base.specs.Stations.{trains, train_of, horizon}
 use Rattle.rail_spec.specs.Plans.{has_node, path_routes}
-use Rattle.rail_base.specs.declared.state.Stop.{Stop}
-use Rattle.rail_spec.specs.Visits.{stops, visits_at, visits_on, pass_tick, visits_of_train, makes_visits}
+use Rattle.rail_base.specs.declared.state.PathNode.{PathNode}
+use Rattle.rail_spec.specs.Visits.{path_nodes, visits_at, visits_on, pass_tick, visits_of_train, makes_visits}
 use Rattle.rail_spec.specs.Dispatches.{of_plan}
 use Rattle.rail_spec.specs.Requirements.{is_done, command_numbers, granted_by, visit_numbers, visited_by, keeps_order, meets}
 use Rattle.rail_base.proofs.Members.{In, and_left, and_right, and_both, list_all_at}
@@ -21,11 +21,11 @@ some_all : {X : Type 0} (xs : List (Option X)) → ((j : ℕ) → j < length xs 
 some_all [] h = refl
 some_all (x ∷ xs) h = and_both (is_some x) (list_all is_some xs) (h 0 (omega arith)) (some_all xs (λ j k. h (suc j) (omega arith)))
 
-length-at : (sets : List (List NodeNo)) (ps : List Stop) → length (visits_at sets ps) ≡ length sets
+length-at : (sets : List (List NodeNo)) (ps : List PathNode) → length (visits_at sets ps) ≡ length sets
 length-at [] ps = refl
-length-at (set ∷ sets) ps = ap suc (length-at sets (after_first (from_first (λ (p : Stop). has_node set p.node) ps)))
+length-at (set ∷ sets) ps = ap suc (length-at sets (after_first (from_first (λ (p : PathNode). has_node set p.node) ps)))
 
-length-on : (sets : List (List NodeNo)) (ps : List Stop) → length (visits_on sets ps) ≡ length sets
+length-on : (sets : List (List NodeNo)) (ps : List PathNode) → length (visits_on sets ps) ≡ length sets
 length-on [] ps = refl
 length-on (set ∷ sets) ps = ap suc (length-at sets (after_first ps))
 
@@ -39,7 +39,7 @@ meets_visits d routes plan h t m =
     let done = and_left (is_done d routes plan k) _ (and_left (is_done d routes plan k && list_all (keeps_order d routes plan k) d.orders) _ h) in
     let visited = and_right (list_all (λ u. list_all (granted_by d routes plan k u) (command_numbers d routes plan u)) (trains d)) _ done in
     let all = list_all_at (λ u. list_all (visited_by d routes plan k u) (visit_numbers d u)) (trains d) t visited m in
-    let l = length-on (train_of d t).visits (stops (path_routes routes plan t)) in
+    let l = length-on (train_of d t).visits (path_nodes (path_routes routes plan t)) in
     some_all (visits_of_train d routes (of_plan routes plan) t) (λ j i.
     some_before (pass_tick d routes (of_plan routes plan) k t) (slice_index_or (visits_of_train d routes (of_plan routes plan) t) j None)
     (list_all_at (visited_by d routes plan k t) (visit_numbers d t) (suc j) all (in_count 1 (length (train_of d t).visits) (suc j) (omega arith) (omega arith))))

@@ -37,10 +37,10 @@ within_limit {X} limit sum (c ∷ cs) h = go (nat_lt limit (sum + length c)) ref
         elim (rest k) [ inl z ↦ inr (omega arith) | inr z ↦ inr (omega arith) ]
 
 -- a part in the middle has no more literals than all
-part_literals : {X : Type 0} (front part back : List (List X)) → literals part ≤ literals ((front ++ part) ++ back)
-part_literals {X} front part back =
-    let a = sum_by-append (λ (ls : List X). length ls) (front ++ part) back in
-    let b = sum_by-append (λ (ls : List X). length ls) front part in
+part_literals : {X : Type 0} (prefix part back : List (List X)) → literals part ≤ literals ((prefix ++ part) ++ back)
+part_literals {X} prefix part back =
+    let a = sum_by-append (λ (ls : List X). length ls) (prefix ++ part) back in
+    let b = sum_by-append (λ (ls : List X). length ls) prefix part in
     omega arith
 
 module _ (d : Station) (routes : List Route) (n : ℕ) where

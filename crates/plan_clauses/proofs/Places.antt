@@ -35,9 +35,9 @@ start_sym (start.Signal s) (start.Signal q) h = eq-eqb q.0 s.0 (sym (eqb-true s.
 pub finish_sym : (f g : Finish) → end_at_one_signal f g ≡ true → end_at_one_signal g f ≡ true
 finish_sym (finish.Signal s) (finish.Signal q) h = eq-eqb q.0 s.0 (sym (eqb-true s.0 q.0 h))
 finish_sym (finish.Signal s) (finish.Exit m) h = absurd (true≢false (sym h))
-finish_sym (finish.Signal s) (finish.Dead m) h = absurd (true≢false (sym h))
+finish_sym (finish.Signal s) (finish.DeadEnd m) h = absurd (true≢false (sym h))
 finish_sym (finish.Exit m) g h = absurd (true≢false (sym h))
-finish_sym (finish.Dead m) g h = absurd (true≢false (sym h))
+finish_sym (finish.DeadEnd m) g h = absurd (true≢false (sym h))
 
 -- what goes on from one finish starts at one place
 pub one_start : (f : Finish) (s u : Start) → goes_on f s ≡ true → goes_on f u ≡ true → is_start s u ≡ true
@@ -45,23 +45,23 @@ one_start (finish.Signal q) (start.Signal s) (start.Signal u) h k = eq-eqb s.0 u
 one_start (finish.Signal q) (start.Signal s) (start.Boundary u) h k = absurd (true≢false (sym k))
 one_start (finish.Signal q) (start.Boundary s) u h k = absurd (true≢false (sym h))
 one_start (finish.Exit m) s u h k = absurd (true≢false (sym h))
-one_start (finish.Dead m) s u h k = absurd (true≢false (sym h))
+one_start (finish.DeadEnd m) s u h k = absurd (true≢false (sym h))
 
 -- what leads to one start ends at one signal
 pub one_finish : (f g : Finish) (s : Start) → goes_on f s ≡ true → goes_on g s ≡ true → end_at_one_signal f g ≡ true
 one_finish (finish.Signal a) (finish.Signal b) (start.Signal s) h k = eq-eqb a.0 b.0 (eqb-true a.0 s.0 h ∙ sym (eqb-true b.0 s.0 k))
 one_finish (finish.Signal a) (finish.Signal b) (start.Boundary s) h k = absurd (true≢false (sym h))
 one_finish (finish.Signal a) (finish.Exit m) s h k = absurd (true≢false (sym k))
-one_finish (finish.Signal a) (finish.Dead m) s h k = absurd (true≢false (sym k))
+one_finish (finish.Signal a) (finish.DeadEnd m) s h k = absurd (true≢false (sym k))
 one_finish (finish.Exit m) g s h k = absurd (true≢false (sym h))
-one_finish (finish.Dead m) g s h k = absurd (true≢false (sym h))
+one_finish (finish.DeadEnd m) g s h k = absurd (true≢false (sym h))
 
 -- nothing goes on at a boundary
 pub boundary_first : (f : Finish) (s : Start) → goes_on f s ≡ true → at_boundary s ≡ false
 boundary_first (finish.Signal q) (start.Signal s) h = refl
 boundary_first (finish.Signal q) (start.Boundary s) h = absurd (true≢false (sym h))
 boundary_first (finish.Exit m) s h = absurd (true≢false (sym h))
-boundary_first (finish.Dead m) s h = absurd (true≢false (sym h))
+boundary_first (finish.DeadEnd m) s h = absurd (true≢false (sym h))
 
 -- ---- commands of a design
 

@@ -12,8 +12,8 @@ use Rattle.rail_base.specs.Numbering.{one_to, entry, first_of_list, from_first, 
 use Rattle.rail_base.specs.Stations.{train_of, trains}
 use Rattle.rail_spec.specs.Plans.{route_at, path, path_routes, has_node, length_mm, route_numbers}
 use Rattle.rail_spec.specs.Dispatches.{of_plan}
-use Rattle.rail_base.specs.declared.state.Stop.{Stop}
-use Rattle.rail_spec.specs.Visits.{stops, stops_of, stops_after, visits_at, visits_on}
+use Rattle.rail_base.specs.declared.state.PathNode.{PathNode}
+use Rattle.rail_spec.specs.Visits.{path_nodes, path_nodes_of, path_nodes_after, visits_at, visits_on}
 use Rattle.rail_spec.specs.Visits as visits
 use Rattle.rail_base.proofs.Members.{In, and_left, and_right, list_any_from, in_filter}
 use Rattle.plan_clauses.specs.Variables.{Given, yes}
@@ -53,23 +53,23 @@ first_passing {X} test (y ∷ ys) h = go (test y) refl h (first_passing test ys)
     go false e k rest = later (rest k)
 
 -- a stop at which a visit after the first is made
-pub record Met (set : List NodeNo) (ps : List Stop) : Type 0 where
-  pub stop : Stop
-  pub member : In stop ps
-  pub node : has_node set stop.node ≡ true
+pub record Met (set : List NodeNo) (ps : List PathNode) : Type 0 where
+  pub path_node : PathNode
+  pub member : In path_node ps
+  pub node : has_node set path_node.node ≡ true
 
-met : (sets : List (List NodeNo)) (ps : List Stop) (j : ℕ) → list_all is_some (visits_at sets ps) ≡ true → j < length sets → Met (slice_index_or sets j []) ps
+met : (sets : List (List NodeNo)) (ps : List PathNode) (j : ℕ) → list_all is_some (visits_at sets ps) ≡ true → j < length sets → Met (slice_index_or sets j []) ps
 met [] ps j h k = absurd (omega arith)
 met (set ∷ sets) ps zero h k =
-    let f = first_passing (λ (p : Stop). has_node set p.node) ps (and_left (is_some (first_of_list (from_first (λ (p : Stop). has_node set p.node) ps))) _ h) in
-    record { stop = f.0; member = f.1; node = f.2 }
+    let f = first_passing (λ (p : PathNode). has_node set p.node) ps (and_left (is_some (first_of_list (from_first (λ (p : PathNode). has_node set p.node) ps))) _ h) in
+    record { path_node = f.0; member = f.1; node = f.2 }
 met (set ∷ sets) ps (suc j) h k =
-    let here = from_first (λ (p : Stop). has_node set p.node) ps in
+    let here = from_first (λ (p : PathNode). has_node set p.node) ps in
     let m = met sets (after_first here) j (and_right (is_some (first_of_list here)) _ h) (omega arith) in
-    record { stop = m.stop; member = in_from_first (λ (p : Stop). has_node set p.node) ps m.stop (in_after here m.stop m.member); node = m.node }
+    record { path_node = m.path_node; member = in_from_first (λ (p : PathNode). has_node set p.node) ps m.path_node (in_after here m.path_node m.member); node = m.node }
 
 -- a stop is at the end of an edge of one of the routes
-pub record On (p : Stop) (rs : List Route) : Type 0 where
+pub record On (p : PathNode) (rs : List Route) : Type 0 where
   pub route : Route
   pub member : In route rs
   pub entry : NodeNo × ℤ
@@ -80,25 +80,25 @@ after-map : {X Y : Type 0} (f : X → Y) (xs : List X) → after_first (map f xs
 after-map f [] = refl
 after-map f (x ∷ xs) = refl
 
-on_one : (offset j : ℕ) (r : Route) (rs : List Route) (p : Stop) → In r rs → In p (after_first (stops_of offset j r)) → On p rs
+on_one : (offset j : ℕ) (r : Route) (rs : List Route) (p : PathNode) → In r rs → In p (after_first (path_nodes_of offset j r)) → On p rs
 on_one offset j r rs p m k =
-    let stop : NodeNo × ℤ → Stop = λ q. record { node = q.0; offset = offset + nat_abs q.1; command = j } in
-    let f = in_map_back stop (after_first r.nodes) p (subst (λ xs. In p xs) (after-map stop r.nodes) k) in
-    record { route = r; member = m; entry = f.0; at = f.1; node = ap (λ (q : Stop). q.node) f.2 }
+    let path_node : NodeNo × ℤ → PathNode = λ q. record { node = q.0; offset = offset + nat_abs q.1; command = j } in
+    let f = in_map_back path_node (after_first r.nodes) p (subst (λ xs. In p xs) (after-map path_node r.nodes) k) in
+    record { route = r; member = m; entry = f.0; at = f.1; node = ap (λ (q : PathNode). q.node) f.2 }
 
-on_later : (offset j : ℕ) (rs : List Route) (p : Stop) → In p (stops_after offset j rs) → On p rs
+on_later : (offset j : ℕ) (rs : List Route) (p : PathNode) → In p (path_nodes_after offset j rs) → On p rs
 on_later offset j [] p m = absurd m
-on_later offset j (r ∷ rs) p m = go (in_append p (after_first (stops_of offset j r)) (stops_after (offset + length_mm r) (j + 1) rs) m) (on_later (offset + length_mm r) (j + 1) rs p)
+on_later offset j (r ∷ rs) p m = go (in_append p (after_first (path_nodes_of offset j r)) (path_nodes_after (offset + length_mm r) (j + 1) rs) m) (on_later (offset + length_mm r) (j + 1) rs p)
   where
-    go : In p (after_first (stops_of offset j r)) ⊎ In p (stops_after (offset + length_mm r) (j + 1) rs) → (In p (stops_after (offset + length_mm r) (j + 1) rs) → On p rs) → On p (r ∷ rs)
+    go : In p (after_first (path_nodes_of offset j r)) ⊎ In p (path_nodes_after (offset + length_mm r) (j + 1) rs) → (In p (path_nodes_after (offset + length_mm r) (j + 1) rs) → On p rs) → On p (r ∷ rs)
     go (inl k) rest = on_one offset j r (r ∷ rs) p (inl refl) k
     go (inr k) rest = let o = rest k in record { route = o.route; member = inr o.member; entry = o.entry; at = o.at; node = o.node }
 
-on : (rs : List Route) (p : Stop) → In p (after_first (stops rs)) → On p rs
+on : (rs : List Route) (p : PathNode) → In p (after_first (path_nodes rs)) → On p rs
 on [] p m = absurd m
-on (r ∷ rs) p m = go (in_after_append (stops_of 0 1 r) (stops_after (length_mm r) 2 rs) p m)
+on (r ∷ rs) p m = go (in_after_append (path_nodes_of 0 1 r) (path_nodes_after (length_mm r) 2 rs) p m)
   where
-    go : In p (after_first (stops_of 0 1 r)) ⊎ In p (stops_after (length_mm r) 2 rs) → On p (r ∷ rs)
+    go : In p (after_first (path_nodes_of 0 1 r)) ⊎ In p (path_nodes_after (length_mm r) 2 rs) → On p (r ∷ rs)
     go (inl k) = on_one 0 1 r (r ∷ rs) p (inl refl) k
     go (inr k) = let o = on_later (length_mm r) 2 rs p k in record { route = o.route; member = inr o.member; entry = o.entry; at = o.at; node = o.node }
 
@@ -109,26 +109,26 @@ module _ (d : Station) (routes : List Route) (n : ℕ) (plan : List (List Comman
     member : In route (path plan t)
     may : may_visit d routes n k (entry [] (train_of d t).visits k) route ≡ true
 
-  made_first : (sets : List (List NodeNo)) → (train_of d t).visits ≡ sets → 1 ≤ length sets → list_all is_some (visits_on sets (stops (path_routes routes plan t))) ≡ true → Made 1
+  made_first : (sets : List (List NodeNo)) → (train_of d t).visits ≡ sets → 1 ≤ length sets → list_all is_some (visits_on sets (path_nodes (path_routes routes plan t))) ≡ true → Made 1
   made_first [] e l h = absurd (omega arith)
-  made_first (first ∷ later) e l h = go (path plan t) refl (and_left (is_some (first_of_list (stops (path_routes routes plan t)))) _ h)
+  made_first (first ∷ later) e l h = go (path plan t) refl (and_left (is_some (first_of_list (path_nodes (path_routes routes plan t)))) _ h)
     where
-      go : (rs : List RouteNo) → path plan t ≡ rs → is_some (first_of_list (stops (map (route_at routes) rs))) ≡ true → Made 1
+      go : (rs : List RouteNo) → path plan t ≡ rs → is_some (first_of_list (path_nodes (map (route_at routes) rs))) ≡ true → Made 1
       go [] f k = absurd (true≢false (sym k))
       go (r ∷ rs) f k = record { route = r; member = subst (λ xs. In r xs) (sym f) (inl refl); may = begins_at d routes n plan fit t r known (ap first_of_list f) }
 
-  made_later : (sets : List (List NodeNo)) (k : ℕ) → (train_of d t).visits ≡ sets → suc k < length sets → list_all is_some (visits_on sets (stops (path_routes routes plan t))) ≡ true → Made (suc (suc k))
+  made_later : (sets : List (List NodeNo)) (k : ℕ) → (train_of d t).visits ≡ sets → suc k < length sets → list_all is_some (visits_on sets (path_nodes (path_routes routes plan t))) ≡ true → Made (suc (suc k))
   made_later [] k e l h = absurd (omega arith)
   made_later (first ∷ later) k e l h =
-      let m = met later (after_first (stops (path_routes routes plan t))) k (and_right (is_some (first_of_list (stops (path_routes routes plan t)))) _ h) (omega arith) in
-      let o = on (path_routes routes plan t) m.stop m.member in
+      let m = met later (after_first (path_nodes (path_routes routes plan t))) k (and_right (is_some (first_of_list (path_nodes (path_routes routes plan t)))) _ h) (omega arith) in
+      let o = on (path_routes routes plan t) m.path_node m.member in
       let r = in_map_back (route_at routes) (path plan t) o.route o.member in
       record {
         route = r.0;
         member = r.1;
         may = subst (λ (q : Route). list_any (λ (p : NodeNo × ℤ). has_node (slice_index_or (train_of d t).visits (suc k) []) p.0) (after_first q.nodes) ≡ true) (sym r.2)
             (list_any_from (λ (p : NodeNo × ℤ). has_node (slice_index_or (train_of d t).visits (suc k) []) p.0) (after_first o.route.nodes) o.entry o.at
-            (ap (has_node (slice_index_or (train_of d t).visits (suc k) [])) o.node ∙ (ap (λ (xs : List (List NodeNo)). has_node (slice_index_or xs (suc k) []) m.stop.node) e ∙ m.node)));
+            (ap (has_node (slice_index_or (train_of d t).visits (suc k) [])) o.node ∙ (ap (λ (xs : List (List NodeNo)). has_node (slice_index_or xs (suc k) []) m.path_node.node) e ∙ m.node)));
       }
 
   made : (k : ℕ) → In k (one_to (length (train_of d t).visits)) → Made k

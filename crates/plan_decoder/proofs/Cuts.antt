@@ -10,8 +10,8 @@ cut_empty [] = refl
 cut_empty (x ∷ xs) = ap (with_step x) (cut_empty xs)
 
 -- where the last step is empty, the others tell of all
-pub cut_next : (steps front : List (List Command)) → steps ≡ take (length steps - 1) steps ++ [] ∷ [] → front ≡ take (length steps - 1) steps → cut_off front ≡ cut_off steps
-cut_next steps front e h = ap cut_off h ∙ (sym (cut_empty (take (length steps - 1) steps)) ∙ sym (ap cut_off e))
+pub cut_next : (steps prefix : List (List Command)) → steps ≡ take (length steps - 1) steps ++ [] ∷ [] → prefix ≡ take (length steps - 1) steps → cut_off prefix ≡ cut_off steps
+cut_next steps prefix e h = ap cut_off h ∙ (sym (cut_empty (take (length steps - 1) steps)) ∙ sym (ap cut_off e))
 
 -- a step stays before others
 before_some : (s t : List Command) (ts : List (List Command)) → with_step s (t ∷ ts) ≡ s ∷ t ∷ ts

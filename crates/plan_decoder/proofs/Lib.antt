@@ -1,5 +1,5 @@
 pub mod Cuts
 pub mod Ends
 pub mod Fewest
-pub mod Fronts
+pub mod Prefixes
 pub mod Puts

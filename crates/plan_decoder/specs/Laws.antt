@@ -6,6 +6,6 @@ use Rattle.sat_clause.specs.Clauses.{Store, clause_holds}
 use Rattle.sat_core.specs.Models.{MakesTrue}
 
 -- values that make all live clauses of a store true make those clauses true with which it begins
-abbrev pub FrontIsTrue : Type 0
-FrontIsTrue = (values : ℕ → Bool) (clauses : List (List Lit)) (rest : Store)
+abbrev pub PrefixIsTrue : Type 0
+PrefixIsTrue = (values : ℕ → Bool) (clauses : List (List Lit)) (rest : Store)
     → MakesTrue values (map (λ c. (c, true)) clauses ++ rest) → list_all (clause_holds values) clauses ≡ true

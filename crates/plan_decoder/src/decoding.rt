@@ -22,117 +22,6 @@ use rail_base::station::TrainNo;
 use sat_core::Assignment;
 use std::alloc::{AllocError, Global};
 
-/// Whether a command is given by a step, which none is by step 0.
-fn is_given(base: &Base, values: &Assignment, command: Command, step: u32) -> bool
-    requires command { HasCommand base.now command }
-    requires step { step ≤ base.now.steps }
-    ensures { (d : Station) (routes : List Route) (n : ℕ) → IsBaseOf d routes n base.now
-        → result ≡ given_by (says d routes n values.now) command step }
-{
-    if step == 0 {
-        return false;
-    }
-    values.value(base.given(command.train, command.route, step).var)
-}
-
-/// Whether a command is given by a step and not by the one before.
-fn is_new(base: &Base, values: &Assignment, command: Command, step: u32) -> bool
-    requires command { HasCommand base.now command }
-    requires first { 1 ≤ step }
-    requires last { step ≤ base.now.steps }
-    ensures { (d : Station) (routes : List Route) (n : ℕ) → IsBaseOf d routes n base.now
-        → result ≡ is_new d routes n values.now step command }
-{
-    is_given(base, values, command, step) && !is_given(base, values, command, step - 1)
-}
-
-/// Adds a command, where it is new in a step.
-fn add_if_new(
-    base: &Base,
-    values: &Assignment,
-    command: Command,
-    step: u32,
-    commands: &mut Vec<Command>,
-) -> Result<(), AllocError>
-    requires command { HasCommand base.now command }
-    requires first { 1 ≤ step }
-    requires last { step ≤ base.now.steps }
-    ensures { (d : Station) (routes : List Route) (n : ℕ) → IsBaseOf d routes n base.now
-        → OnOk result (commands.new.items ≡ commands.old.items
-        ++ filter (is_new d routes n values.now step) (command ∷ [])) }
-{
-    if is_new(base, values, command, step) {
-        commands.push(command)?;
-    }
-    Ok(())
-}
-
-/// Adds the commands of a train that are new in a step.
-fn add_new(
-    base: &Base,
-    values: &Assignment,
-    train: TrainNo,
-    step: u32,
-    commands: &mut Vec<Command>,
-) -> Result<(), AllocError>
-    requires first_train { 1 ≤ train.0 }
-    requires last_train { train.0 ≤ base.now.trains }
-    requires first { 1 ≤ step }
-    requires last { step ≤ base.now.steps }
-    ensures { (d : Station) (routes : List Route) (n : ℕ) → IsBaseOf d routes n base.now
-        → OnOk result (commands.new.items ≡ commands.old.items
-        ++ filter (is_new d routes n values.now step) (commands_of routes train)) }
-{
-    for route in 1..=base.counts().routes {
-        let command = Command {
-            train,
-            route: RouteNo(route),
-        };
-        add_if_new(base, values, command, step, commands)?;
-    }
-    Ok(())
-}
-
-/// The commands that are new in a step.
-fn given_in(
-    alloc: Global,
-    base: &Base,
-    values: &Assignment,
-    step: u32,
-) -> Result<List<Command>, AllocError>
-    requires first { 1 ≤ step }
-    requires last { step ≤ base.now.steps }
-    ensures { (d : Station) (routes : List Route) (n : ℕ) → IsBaseOf d routes n base.now
-        → IfOk result (λ commands. commands ≡ given_in d routes n (says d routes n values.now) step) }
-{
-    let mut commands = Vec::new(alloc);
-    for train in 1..=base.counts().trains {
-        add_new(base, values, TrainNo(train), step, &mut commands)?;
-    }
-    Ok(List::from_vec(commands))
-}
-
-/// Whether there is a last step, and it is empty.
-fn ends_empty(steps: &[List<Command>]) -> bool
-    ensures yes { IsTrue result → steps.now ≡ take (length steps.now - 1) steps.now ++ [] ∷ [] }
-    ensures some { IsTrue result → 0 < length steps.now }
-    ensures no { IsFalse result → cut_off steps.now ≡ steps.now }
-{
-    match steps.last() {
-        Some(step) => step.is_empty(),
-        None => false,
-    }
-}
-
-/// Cuts off the empty steps at the end.
-fn cut_off(steps: &mut Vec<List<Command>>)
-    ensures { steps.new.items ≡ cut_off steps.old.items }
-{
-    'cut: while ends_empty(steps.as_slice()) {
-        let _ = steps.pop();
-    }
-}
-
 /// The plan that values of a base's variables tell of: each step holds the commands that are given by it and not by the
 /// one before, by train and then by route, and empty steps at the end are cut off. The time is linear in the trains
 /// times the routes times the steps.
@@ -161,4 +50,115 @@ pub fn decode(alloc: Global, base: &Base, values: &Assignment) -> Result<Plan, A
     Ok(Plan {
         steps: List::from_vec(steps),
     })
+}
+
+/// Whether a command is given by a step, which none is by step 0.
+fn is_given(base: &Base, values: &Assignment, command: Command, step: u32) -> bool
+    requires command { HasCommand base.now command }
+    requires step { step ≤ base.now.steps }
+    ensures { (d : Station) (routes : List Route) (n : ℕ) → IsBaseOf d routes n base.now
+        → result ≡ given_by (says d routes n values.now) command step }
+{
+    if step == 0 {
+        return false;
+    }
+    values.value(base.given(command.train, command.route, step).var)
+}
+
+/// Whether a command is given by a step and not by the one before.
+fn is_new(base: &Base, values: &Assignment, command: Command, step: u32) -> bool
+    requires command { HasCommand base.now command }
+    requires at_least_one { 1 ≤ step }
+    requires within { step ≤ base.now.steps }
+    ensures { (d : Station) (routes : List Route) (n : ℕ) → IsBaseOf d routes n base.now
+        → result ≡ is_new d routes n values.now step command }
+{
+    is_given(base, values, command, step) && !is_given(base, values, command, step - 1)
+}
+
+/// Adds a command, where it is new in a step.
+fn add_if_new(
+    base: &Base,
+    values: &Assignment,
+    command: Command,
+    step: u32,
+    commands: &mut Vec<Command>,
+) -> Result<(), AllocError>
+    requires command { HasCommand base.now command }
+    requires at_least_one { 1 ≤ step }
+    requires within { step ≤ base.now.steps }
+    ensures { (d : Station) (routes : List Route) (n : ℕ) → IsBaseOf d routes n base.now
+        → OnOk result (commands.new.items ≡ commands.old.items
+        ++ filter (is_new d routes n values.now step) (command ∷ [])) }
+{
+    if is_new(base, values, command, step) {
+        commands.push(command)?;
+    }
+    Ok(())
+}
+
+/// Adds the commands of a train that are new in a step.
+fn add_new(
+    base: &Base,
+    values: &Assignment,
+    train: TrainNo,
+    step: u32,
+    commands: &mut Vec<Command>,
+) -> Result<(), AllocError>
+    requires first_train { 1 ≤ train.0 }
+    requires last_train { train.0 ≤ base.now.trains }
+    requires at_least_one { 1 ≤ step }
+    requires within { step ≤ base.now.steps }
+    ensures { (d : Station) (routes : List Route) (n : ℕ) → IsBaseOf d routes n base.now
+        → OnOk result (commands.new.items ≡ commands.old.items
+        ++ filter (is_new d routes n values.now step) (commands_of routes train)) }
+{
+    for route in 1..=base.counts().routes {
+        let command = Command {
+            train,
+            route: RouteNo(route),
+        };
+        add_if_new(base, values, command, step, commands)?;
+    }
+    Ok(())
+}
+
+/// The commands that are new in a step.
+fn given_in(
+    alloc: Global,
+    base: &Base,
+    values: &Assignment,
+    step: u32,
+) -> Result<List<Command>, AllocError>
+    requires at_least_one { 1 ≤ step }
+    requires within { step ≤ base.now.steps }
+    ensures { (d : Station) (routes : List Route) (n : ℕ) → IsBaseOf d routes n base.now
+        → IfOk result (λ commands. commands ≡ given_in d routes n (says d routes n values.now) step) }
+{
+    let mut commands = Vec::new(alloc);
+    for train in 1..=base.counts().trains {
+        add_new(base, values, TrainNo(train), step, &mut commands)?;
+    }
+    Ok(List::from_vec(commands))
+}
+
+/// Whether there is a last step, and it is empty.
+fn ends_empty(steps: &[List<Command>]) -> bool
+    ensures yes { IsTrue result → steps.now ≡ take (length steps.now - 1) steps.now ++ [] ∷ [] }
+    ensures not_empty { IsTrue result → 0 < length steps.now }
+    ensures no { IsFalse result → cut_off steps.now ≡ steps.now }
+{
+    match steps.last() {
+        Some(step) => step.is_empty(),
+        None => false,
+    }
+}
+
+/// Cuts off the empty steps at the end.
+fn cut_off(steps: &mut Vec<List<Command>>)
+    ensures { steps.new.items ≡ cut_off steps.old.items }
+{
+    'cut: while ends_empty(steps.as_slice()) {
+        let _ = steps.pop();
+    }
 }

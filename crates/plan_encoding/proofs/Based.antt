@@ -1,4 +1,4 @@
--- What a base tells of its pairs, and what a draft that was listed tells of a base.
+-- What a base tells of its pairs, and what a sink that was listed tells of a base.
 use Rattle.std.proofs.Common.{◌≡◌, ℕ, ◌+◌, ◌*◌, ◌≤◌, Bool, true, false, if◌then◌else◌, List, [], ◌++◌, map, length, Option, Some, None, refl, sym, ap, ap₂, subst, ◌∙◌}
 use Rattle.std.specs.List.{list_any}
 use Rattle.sat_clause.specs.declared.lit.Lit.{Lit}
@@ -13,11 +13,11 @@ use Rattle.plan_clauses.specs.Variables.{Before, is_pair, numbered, pairs, yes}
 use Rattle.plan_clauses.specs.Clauses.{base_clauses, past_limit}
 use Rattle.plan_clauses.proofs.Places.{command_from, pair_from, pair_of, route_in, train_in}
 use Rattle.plan_clauses.proofs.Steps.{is_command_same, is_command_self}
-use Rattle.plan_encoding.specs.declared.draft.BaseFault.{BaseFault}
-use Rattle.plan_encoding.specs.declared.draft.BaseFault.TheVariants.{TooLarge, Memory}
+use Rattle.plan_encoding.specs.declared.sink.BaseFault.{BaseFault}
+use Rattle.plan_encoding.specs.declared.sink.BaseFault.TheVariants.{TooLarge, Memory}
 use Rattle.plan_encoding.specs.Bases.{Numbered, HasCommand, IsBaseOf, IsRefused}
-use Rattle.plan_encoding.specs.Drafts.{Drafted, Listed, listed, FaultSays}
-use Rattle.plan_encoding.proofs.Listing.{listed_kept, listed_none, listed_past}
+use Rattle.plan_encoding.specs.Sinks.{SinkView, Emitted, emitted, FaultSays}
+use Rattle.plan_encoding.proofs.Emission.{emitted_kept, emitted_none, emitted_past}
 
 module _ (d : Station) (routes : List Route) (n : ℕ) (b : Numbered) (is : IsBaseOf d routes n b) (e c : Command) (he : HasCommand b e) (hc : HasCommand b c) where
   known : (x : Command) → HasCommand b x → In x (all_commands d routes)
@@ -67,16 +67,16 @@ module _ (d : Station) (routes : List Route) (n : ℕ) (b : Numbered) (is : IsBa
       go true f g = absurd (cc)
       go false f g = ap (λ x. if x then Some (numbered d routes n (yes (Before e c))) else None) (sym f ∙ (ap (list_any (is_pair e c)) (fp ∙ is.pairs) ∙ contends))
 
-module _ (d : Station) (routes : List Route) (n : ℕ) (old : Drafted) (empty : old.literals ≡ 0) where
+module _ (d : Station) (routes : List Route) (n : ℕ) (old : SinkView) (empty : old.literals ≡ 0) where
   -- a fault of listing is one of the base
-  pub refused : (e : BaseFault) → FaultSays (listed old (base_clauses d routes n)) e → IsRefused d routes n e
-  refused (TooLarge k) h = ap (λ m. past_limit 16000000 m (base_clauses d routes n)) (sym empty) ∙ listed_past old (base_clauses d routes n) k h
+  pub refused : (e : BaseFault) → FaultSays (emitted old (base_clauses d routes n)) e → IsRefused d routes n e
+  refused (TooLarge k) h = ap (λ m. past_limit 16000000 m (base_clauses d routes n)) (sym empty) ∙ emitted_past old (base_clauses d routes n) k h
   refused Memory h = tt
 
   -- and where all was listed, there are not too many
-  pub not_refused : (new : Drafted) → listed old (base_clauses d routes n) ≡ Listed new → past_limit 16000000 0 (base_clauses d routes n) ≡ None
-  not_refused new h = ap (λ m. past_limit 16000000 m (base_clauses d routes n)) (sym empty) ∙ listed_none old new (base_clauses d routes n) h
+  pub not_refused : (new : SinkView) → emitted old (base_clauses d routes n) ≡ Emitted new → past_limit 16000000 0 (base_clauses d routes n) ≡ None
+  not_refused new h = ap (λ m. past_limit 16000000 m (base_clauses d routes n)) (sym empty) ∙ emitted_none old new (base_clauses d routes n) h
 
 -- all clauses are kept
-pub kept : (d : Station) (routes : List Route) (n : ℕ) (old new : Drafted) → listed old (base_clauses d routes n) ≡ Listed new → old ≡ record { keep = true; literals = 0; clauses = [] } → new.clauses ≡ map (λ c. (c, true)) (base_clauses d routes n)
-kept d routes n old new h e = listed_kept old new (base_clauses d routes n) h (ap (λ (x : Drafted). x.keep) e) ∙ ap (λ (x : Drafted). x.clauses ++ map (λ c. (c, true)) (base_clauses d routes n)) e
+pub kept : (d : Station) (routes : List Route) (n : ℕ) (old new : SinkView) → emitted old (base_clauses d routes n) ≡ Emitted new → old ≡ record { keep = true; literals = 0; clauses = [] } → new.clauses ≡ map (λ c. (c, true)) (base_clauses d routes n)
+kept d routes n old new h e = emitted_kept old new (base_clauses d routes n) h (ap (λ (x : SinkView). x.keep) e) ∙ ap (λ (x : SinkView). x.clauses ++ map (λ c. (c, true)) (base_clauses d routes n)) e

@@ -30,7 +30,7 @@ use Rattle.std.proofs.Common.{Vec, Global, inl}
 use Rattle.std.specs.Prelude.{Result, Ok, Err, IfOk}
 use Rattle.std.specs.declared.alloc.AllocError.{AllocError}
 use Rattle.plan_encoding.proofs.Tabled.{filter_both, route_known}
-use Rattle.plan_encoding.proofs.Listing.{Next}
+use Rattle.plan_encoding.proofs.Emission.{Next}
 
 pub one_longer : (table : List Route) (before : List RouteNo) (w : RouteNo) → chain_length table (before ++ w ∷ []) ≡ chain_length table before + length_mm (route_at table w)
 one_longer table before w = sum_by_push (λ v. length_mm (route_at table v)) before w
@@ -129,7 +129,7 @@ one_start (finish.Signal a) (start.Signal b) (start.Signal c) (start.Boundary q)
 one_start (finish.Signal a) (start.Boundary b) t v h k = absurd (cc)
 one_start (finish.Signal a) (start.Signal b) (start.Boundary c) v h k = absurd (cc)
 one_start (finish.Exit m) s t v h k = absurd (cc)
-one_start (finish.Dead m) s t v h k = absurd (cc)
+one_start (finish.DeadEnd m) s t v h k = absurd (cc)
 
 module _ (table : List Route) (chain : List RouteNo) (last : RouteNo) where
   abbrev goes : RouteNo → Bool

@@ -8,21 +8,21 @@ use Rattle.rail_base.proofs.Lists.{length-map}
 use Rattle.plan_clauses.specs.Clauses.{Clause, in_order, literals}
 use Rattle.plan_clauses.specs.Variables.{numbered}
 use Rattle.plan_clauses.proofs.Few.{literals_told, orders_literals}
-use Rattle.plan_encoding.specs.declared.frame.Frame.{Frame}
-use Rattle.plan_encoding.specs.Drafts.{Drafted, Listed, TooMany, listed, with_clause}
+use Rattle.plan_encoding.specs.declared.encoder.Encoder.{Encoder}
+use Rattle.plan_encoding.specs.Sinks.{SinkView, Emitted, TooMany, emitted, with_clause}
 use Rattle.plan_encoding.specs.Families.{each_with}
-use Rattle.plan_encoding.specs.Frames.{over, told}
+use Rattle.plan_encoding.specs.Encoders.{over, numbered_clauses}
 
--- what is listed is counted, and no more is listed than a draft may have
-pub listed_grows : (d e : Drafted) (cs : List (List Lit)) → listed d cs ≡ Listed e → (e.literals ≡ d.literals + literals cs) × ((literals cs ≡ 0) ⊎ (e.literals ≤ 16000000))
-listed_grows d e [] h = (let same : d.literals ≡ e.literals = start h in omega arith, inl refl)
+-- what is listed is counted, and no more is listed than a sink may have
+pub emitted_grows : (d e : SinkView) (cs : List (List Lit)) → emitted d cs ≡ Emitted e → (e.literals ≡ d.literals + literals cs) × ((literals cs ≡ 0) ⊎ (e.literals ≤ 16000000))
+emitted_grows d e [] h = (let same : d.literals ≡ e.literals = start h in omega arith, inl refl)
   where
-    start : Listed d ≡ Listed e → d.literals ≡ e.literals
+    start : Emitted d ≡ Emitted e → d.literals ≡ e.literals
     start h = cc
-listed_grows d e (c ∷ cs) h = go (nat_lt 16000000 (d.literals + length c)) refl h (listed_grows (with_clause d c) e cs)
+emitted_grows d e (c ∷ cs) h = go (nat_lt 16000000 (d.literals + length c)) refl h (emitted_grows (with_clause d c) e cs)
   where
-    go : (b : Bool) → nat_lt 16000000 (d.literals + length c) ≡ b → (if b then TooMany (d.literals + length c) else listed (with_clause d c) cs) ≡ Listed e
-        → (listed (with_clause d c) cs ≡ Listed e → (e.literals ≡ d.literals + length c + literals cs) × ((literals cs ≡ 0) ⊎ (e.literals ≤ 16000000)))
+    go : (b : Bool) → nat_lt 16000000 (d.literals + length c) ≡ b → (if b then TooMany (d.literals + length c) else emitted (with_clause d c) cs) ≡ Emitted e
+        → (emitted (with_clause d c) cs ≡ Emitted e → (e.literals ≡ d.literals + length c + literals cs) × ((literals cs ≡ 0) ⊎ (e.literals ≤ 16000000)))
         → (e.literals ≡ d.literals + literals (c ∷ cs)) × ((literals (c ∷ cs) ≡ 0) ⊎ (e.literals ≤ 16000000))
     go true is k rest = absurd (cc)
     go false is k rest =
@@ -33,13 +33,13 @@ listed_grows d e (c ∷ cs) h = go (nat_lt 16000000 (d.literals + length c)) ref
         (omega arith, elim more.1 [ inl z ↦ inr (omega arith) | inr z ↦ inr z ])
 
 -- once the pairs of a command are listed too, there are still few
-pub row_few : (f : Frame) (e : Command) (cs : List Command) (old new : Drafted) (before : ℕ) → listed old (told f (each_with f in_order e cs)) ≡ Listed new
+pub row_few : (f : Encoder) (e : Command) (cs : List Command) (old new : SinkView) (before : ℕ) → emitted old (numbered_clauses f (each_with f in_order e cs)) ≡ Emitted new
     → before ≤ 8000000 → 2 * before ≤ old.literals → (before + length cs ≤ 8000000) × (2 * (before + length cs) ≤ new.literals)
 row_few f e cs old new before h few spent =
     let pair : Command → Command × Command = λ c. (e, c) in
-    let grows = listed_grows old new (told f (each_with f in_order e cs)) h in
+    let grows = emitted_grows old new (numbered_clauses f (each_with f in_order e cs)) h in
     let sum = grows.0 in
-    let same : literals (told f (each_with f in_order e cs)) ≡ literals (each_with f in_order e cs) = literals_told (over f numbered) (each_with f in_order e cs) in
+    let same : literals (numbered_clauses f (each_with f in_order e cs)) ≡ literals (each_with f in_order e cs) = literals_told (over f numbered) (each_with f in_order e cs) in
     let orders : 2 * length (map pair cs) ≤ literals (each_with f in_order e cs) = orders_literals f.interlocking.now.design.station f.interlocking.now.routes f.steps.count (map pair cs) in
     let many = length-map pair cs in
     elim grows.1 [ inl z ↦ (omega arith, omega arith) | inr z ↦ (omega arith, omega arith) ]

@@ -1,6 +1,6 @@
 pub mod Visiting
 pub mod Gathering
-pub mod Listing
+pub mod Emission
 pub mod Sizes
 pub mod Tabled
 pub mod Sequences

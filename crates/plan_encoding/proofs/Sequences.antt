@@ -7,13 +7,13 @@ use Rattle.rail_base.specs.declared.route.Route.{Route}
 use Rattle.rail_spec.specs.Plans.{all_commands}
 use Rattle.plan_clauses.specs.Variables.{pairs, pairs_of}
 use Rattle.plan_encoding.specs.Waiting.{apart_once}
-use Rattle.plan_encoding.proofs.Listing.{listed_next, next_fails}
+use Rattle.plan_encoding.proofs.Emission.{emitted_next, next_fails}
 use Rattle.std.specs.Prelude.{Result, Ok, Err, OnOk, IfErr}
-use Rattle.plan_encoding.specs.declared.draft.BaseFault.{BaseFault}
-use Rattle.plan_encoding.specs.declared.frame.Frame.{Frame}
+use Rattle.plan_encoding.specs.declared.sink.BaseFault.{BaseFault}
+use Rattle.plan_encoding.specs.declared.encoder.Encoder.{Encoder}
 use Rattle.plan_clauses.specs.Clauses.{Clause, first_pairs, not_at_once}
-use Rattle.plan_encoding.specs.Drafts.{Drafted, Listing, Listed, listed, FaultSays}
-use Rattle.plan_encoding.specs.Frames.{told}
+use Rattle.plan_encoding.specs.Sinks.{SinkView, Emission, Emitted, emitted, FaultSays}
+use Rattle.plan_encoding.specs.Encoders.{numbered_clauses}
 
 -- what holds where the answer is Ok, if another thing does
 pub on_ok : {A E : Type 0} {P Q : Type 0} (r : Result A E) → (P → Q) → OnOk r P → OnOk r Q
@@ -25,22 +25,22 @@ pub if_err : {A : Type 0} {P Q : BaseFault → Type 0} (r : Result A BaseFault) 
 if_err (Ok x) h p = p
 if_err (Err e) h p = h e p
 
-module _ {A : Type 0} (one other : Listing) (r : Result A BaseFault) (e : other ≡ one) where
+module _ {A : Type 0} (one other : Emission) (r : Result A BaseFault) (e : other ≡ one) where
   -- the last call's answer is that of all
-  pub last_ok : (new : Drafted) → OnOk r (other ≡ Listed new) → OnOk r (one ≡ Listed new)
+  pub last_ok : (new : SinkView) → OnOk r (other ≡ Emitted new) → OnOk r (one ≡ Emitted new)
   last_ok new p = on_ok r (λ q. sym e ∙ q) p
 
   pub last_err : IfErr r (FaultSays other) → IfErr r (FaultSays one)
   last_err p = if_err r (λ x q. subst (λ l. FaultSays l x) e q) p
 
-module _ (f : Frame) (a b : List Clause) (old new : Drafted) where
+module _ (f : Encoder) (a b : List Clause) (old new : SinkView) where
   -- what is listed after a part, of both
-  pub then_rest : listed old (told f a) ≡ Listed new → listed new (told f b) ≡ listed old (told f (a ++ b))
-  then_rest h = listed_next f (a ++ b) a b (record { is = refl }) old new (listed old (told f (a ++ b))) h refl
+  pub then_rest : emitted old (numbered_clauses f a) ≡ Emitted new → emitted new (numbered_clauses f b) ≡ emitted old (numbered_clauses f (a ++ b))
+  then_rest h = emitted_next f (a ++ b) a b (record { is = refl }) old new (emitted old (numbered_clauses f (a ++ b))) h refl
 
 -- a fault in the first part is one of both
-pub then_fails : (f : Frame) (a b : List Clause) (old : Drafted) (e : BaseFault) → FaultSays (listed old (told f a)) e → FaultSays (listed old (told f (a ++ b))) e
-then_fails f a b old e h = next_fails f (a ++ b) a b (record { is = refl }) old e (listed old (told f (a ++ b))) h refl
+pub then_fails : (f : Encoder) (a b : List Clause) (old : SinkView) (e : BaseFault) → FaultSays (emitted old (numbered_clauses f a)) e → FaultSays (emitted old (numbered_clauses f (a ++ b))) e
+then_fails f a b old e h = next_fails f (a ++ b) a b (record { is = refl }) old e (emitted old (numbered_clauses f (a ++ b))) h refl
 
 -- a filter's parts
 parts_kept : {X Y : Type 0} (g : X → List Y) (test : X → Bool) (xs : List X) → flat_map g (filter test xs) ≡ flat_map (λ x. cond (test x) (g x) []) xs

@@ -1,4 +1,4 @@
--- What the tables of a frame have.
+-- What the tables of an encoder have.
 use Rattle.std.proofs.Common.{◌≡◌, ℕ, zero, suc, ◌+◌, ◌-◌, ◌*◌, ◌≤◌, ◌<◌, ◌⊎◌, inl, inr, Bool, true, false, cond, not, ◌&&◌, ◌==◌, List, [], ◌∷◌, ◌++◌, map, filter, flat_map, length, get_or, refl, sym, ap, subst, ◌∙◌, arith, eqb-true, eq-eqb, drop, length-append}
 use Rattle.std.proofs.Math.Nat.{suc-mul}
 use Rattle.std.proofs.lemmas.Nat.{mul-le}
@@ -6,7 +6,7 @@ use Rattle.plan_clauses.specs.Variables.{pairs_of}
 use Rattle.plan_clauses.specs.Clauses.{Clause, exclude, later_pairs}
 use Rattle.std.proofs.lemmas.List.{append_assoc}
 use Rattle.plan_encoding.proofs.Gathering.{drop_next}
-use Rattle.plan_encoding.proofs.Listing.{Next}
+use Rattle.plan_encoding.proofs.Emission.{Next}
 use Rattle.std.specs.Prelude.{All}
 use Rattle.rail_base.specs.declared.station.Station.{Station}
 use Rattle.rail_base.specs.declared.station.TrainNo.{TrainNo}
@@ -21,11 +21,11 @@ use Rattle.rail_base.proofs.Members.{get_or-counted, map-map, filter-append}
 use Rattle.rail_base.proofs.Lists.{in_append, in_map_back, in_flat_map_back, in_filter_back, in_count_back, length-map}
 use Rattle.rail_spec.specs.Plans.{all_commands, commands_of, contend, route_numbers}
 use Rattle.plan_clauses.proofs.Numbers.{length-count}
-use Rattle.plan_encoding.specs.declared.frame.Frame.{Frame}
+use Rattle.plan_encoding.specs.declared.encoder.Encoder.{Encoder}
 use Rattle.plan_encoding.specs.declared.network.Network.{Network}
 use Rattle.plan_encoding.specs.declared.tables.Tables.{Tables}
 use Rattle.plan_encoding.specs.Families.{rivals_of}
-use Rattle.plan_encoding.specs.Frames.{IsCommand, station, table}
+use Rattle.plan_encoding.specs.Encoders.{IsCommand, station, table}
 use Rattle.plan_encoding.specs.Tables.{ArePairs, exclusions, sharing}
 
 -- ---- rows by the numbers of routes
@@ -84,7 +84,7 @@ all_kept routes test = all_by_members (IsRoute routes) (filter test (route_numbe
 pub all_trains : (d : Station) → All (IsTrain d) (trains d)
 all_trains d = all_by_members (IsTrain d) (trains d) (train_known d)
 
-pub command_known : (f : Frame) (c : Command) → In c (all_commands f.interlocking.now.design.station f.interlocking.now.routes) → IsCommand f c
+pub command_known : (f : Encoder) (c : Command) → In c (all_commands f.interlocking.now.design.station f.interlocking.now.routes) → IsCommand f c
 command_known f c m =
     let d = f.interlocking.now.design.station in
     let routes = f.interlocking.now.routes in
@@ -95,10 +95,10 @@ command_known f c m =
     let r : inner.0 ≡ c.route = ap (λ (e : Command). e.route) inner.2 in
     record { train = subst (IsTrain d) t (train_known d outer.0 outer.1); route = subst (IsRoute routes) r (route_known routes inner.0 inner.1) }
 
-pub all_known : (f : Frame) → All (IsCommand f) (all_commands f.interlocking.now.design.station f.interlocking.now.routes)
+pub all_known : (f : Encoder) → All (IsCommand f) (all_commands f.interlocking.now.design.station f.interlocking.now.routes)
 all_known f = all_by_members (IsCommand f) (all_commands f.interlocking.now.design.station f.interlocking.now.routes) (command_known f)
 
-pub all_kept_commands : (f : Frame) (test : Command → Bool) → All (IsCommand f) (filter test (all_commands f.interlocking.now.design.station f.interlocking.now.routes))
+pub all_kept_commands : (f : Encoder) (test : Command → Bool) → All (IsCommand f) (filter test (all_commands f.interlocking.now.design.station f.interlocking.now.routes))
 all_kept_commands f test =
     let all = all_commands f.interlocking.now.design.station f.interlocking.now.routes in
     all_by_members (IsCommand f) (filter test all) (λ c m. command_known f c (in_filter_back test all c m).0)
@@ -226,20 +226,20 @@ all_pairs_known routes = all_by_members (ArePairs routes) (exclusions routes) (�
 
 -- ---- what tables and networks hold
 
-pub known_commands : (t : Tables) (cs : List Command) → cs ≡ t.commands.items → All (IsCommand t.frame) cs
-known_commands t cs e = subst (λ (xs : List Command). All (IsCommand t.frame) xs) (sym (e ∙ t.every_command)) (all_known t.frame)
+pub known_commands : (t : Tables) (cs : List Command) → cs ≡ t.commands.items → All (IsCommand t.encoder) cs
+known_commands t cs e = subst (λ (xs : List Command). All (IsCommand t.encoder) xs) (sym (e ∙ t.every_command)) (all_known t.encoder)
 
-pub known_trains : (t : Tables) (ts : List TrainNo) → ts ≡ t.trains.items → All (IsTrain (station t.frame)) ts
-known_trains t ts e = subst (λ (xs : List TrainNo). All (IsTrain (station t.frame)) xs) (sym (e ∙ t.every_train)) (all_trains (station t.frame))
+pub known_trains : (t : Tables) (ts : List TrainNo) → ts ≡ t.trains.items → All (IsTrain (station t.encoder)) ts
+known_trains t ts e = subst (λ (xs : List TrainNo). All (IsTrain (station t.encoder)) xs) (sym (e ∙ t.every_train)) (all_trains (station t.encoder))
 
-pub known_numbers : (t : Tables) (rs : List RouteNo) → rs ≡ t.numbers.items → All (IsRoute (table t.frame)) rs
-known_numbers t rs e = subst (λ (xs : List RouteNo). All (IsRoute (table t.frame)) xs) (sym (e ∙ t.every_number)) (all_numbers (table t.frame))
+pub known_numbers : (t : Tables) (rs : List RouteNo) → rs ≡ t.numbers.items → All (IsRoute (table t.encoder)) rs
+known_numbers t rs e = subst (λ (xs : List RouteNo). All (IsRoute (table t.encoder)) xs) (sym (e ∙ t.every_number)) (all_numbers (table t.encoder))
 
-pub known_pairs : (t : Tables) (ps : List (RouteNo × RouteNo)) → ps ≡ t.exclusions.items → All (ArePairs (table t.frame)) ps
-known_pairs t ps e = subst (λ (xs : List (RouteNo × RouteNo)). All (ArePairs (table t.frame)) xs) (sym (e ∙ t.excluded)) (all_pairs_known (table t.frame))
+pub known_pairs : (t : Tables) (ps : List (RouteNo × RouteNo)) → ps ≡ t.exclusions.items → All (ArePairs (table t.encoder)) ps
+known_pairs t ps e = subst (λ (xs : List (RouteNo × RouteNo)). All (ArePairs (table t.encoder)) xs) (sym (e ∙ t.excluded)) (all_pairs_known (table t.encoder))
 
-pub known_routes : (n : Network) (rs : List RouteNo) → rs ≡ n.numbers.items → All (IsRoute (table n.frame)) rs
-known_routes n rs e = subst (λ (xs : List RouteNo). All (IsRoute (table n.frame)) xs) (sym (e ∙ n.every_number)) (all_numbers (table n.frame))
+pub known_routes : (n : Network) (rs : List RouteNo) → rs ≡ n.numbers.items → All (IsRoute (table n.encoder)) rs
+known_routes n rs e = subst (λ (xs : List RouteNo). All (IsRoute (table n.encoder)) xs) (sym (e ∙ n.every_number)) (all_numbers (table n.encoder))
 
-pub known_rivals : (f : Frame) (e : Command) (cs : List Command) → cs ≡ rivals_of f e → All (IsCommand f) cs
+pub known_rivals : (f : Encoder) (e : Command) (cs : List Command) → cs ≡ rivals_of f e → All (IsCommand f) cs
 known_rivals f e cs is = subst (λ (xs : List Command). All (IsCommand f) xs) (sym is) (all_kept_commands f _)

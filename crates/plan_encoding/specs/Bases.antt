@@ -6,8 +6,8 @@ use Rattle.rail_base.specs.declared.route.Route.{Route}
 use Rattle.rail_base.specs.declared.plan.Command.{Command}
 use Rattle.plan_clauses.specs.Variables.{pairs}
 use Rattle.plan_clauses.specs.Clauses.{base_clauses, past_limit}
-use Rattle.plan_encoding.specs.declared.draft.BaseFault.{BaseFault}
-use Rattle.plan_encoding.specs.declared.draft.BaseFault.TheVariants.{TooLarge, Memory}
+use Rattle.plan_encoding.specs.declared.sink.BaseFault.{BaseFault}
+use Rattle.plan_encoding.specs.declared.sink.BaseFault.TheVariants.{TooLarge, Memory}
 
 -- how many trains, routes and steps there are, the pairs that contend, and clauses
 pub record Numbered : Type 0 where

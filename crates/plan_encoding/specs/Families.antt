@@ -1,4 +1,4 @@
--- The clauses of a frame as they are listed, family by family.
+-- The clauses of an encoder as they are emitted, family by family.
 use Rattle.std.specs.Prelude.{ℕ, ◌≡◌, ◌<◌, ◌+◌, ◌-◌, ◌*◌, List, [], ◌∷◌, ◌++◌, map, filter, flat_map, length, get_or}
 use Rattle.rail_base.specs.declared.station.Station.{Station}
 use Rattle.rail_base.specs.declared.station.TrainNo.{TrainNo}
@@ -12,14 +12,14 @@ use Rattle.rail_spec.specs.Plans.{all_commands, commands_of, contend, route_numb
 use Rattle.plan_clauses.specs.Variables.{Given, Before, By, yes, no, if_given, number_of, pairs}
 use Rattle.plan_clauses.specs.Clauses.{Clause, all_given, excluded, first_pairs, in_order, makes_visits, may_visit, not_at_once, starts_rightly, stays_given, waits}
 use Rattle.alike_clauses.specs.Turns.{in_turn}
-use Rattle.plan_encoding.specs.declared.frame.Frame.{Frame}
-use Rattle.plan_encoding.specs.Frames.{over, station, table}
+use Rattle.plan_encoding.specs.declared.encoder.Encoder.{Encoder}
+use Rattle.plan_encoding.specs.Encoders.{over, station, table}
 
 -- ---- clauses of commands
 
 -- where a command is given by a step, one of these routes is given to its train by the step before
-abbrev pub led : Command → List RouteNo → ℕ → Clause
-led c leading i = no (Given c i) ∷ flat_map (λ q. if_given (record { train = c.train; route = q }) (i - 1)) leading
+abbrev pub led_clause : Command → List RouteNo → ℕ → Clause
+led_clause c leading i = no (Given c i) ∷ flat_map (λ q. if_given (record { train = c.train; route = q }) (i - 1)) leading
 
 -- of two commands not both are new in a step
 abbrev pub apart : Command → Command → ℕ → Clause
@@ -34,15 +34,15 @@ abbrev pub one_not_given : TrainNo → List RouteNo → ℕ → Clause
 one_not_given t rs i = map (λ w. no (Given (record { train = t; route = w }) i)) rs
 
 -- where a command is given by a step, one of these routes is given to the train by it
-abbrev pub begun : TrainNo → List RouteNo → Command → ℕ → Clause
-begun t rs c i = no (Given c i) ∷ one_given t rs i
+abbrev pub begun_clause : TrainNo → List RouteNo → Command → ℕ → Clause
+begun_clause t rs c i = no (Given c i) ∷ one_given t rs i
 
 -- where the first one's train is given the chain and no route further on, the second is not new in the next step
 abbrev pub waiting : Command → Command → List RouteNo → List RouteNo → ℕ → Clause
 waiting e c chain further i =
     one_not_given e.train chain i ++ no (Given c (i + 1)) ∷ yes (Given c i) ∷ one_given e.train further i
 
-module _ (f : Frame) where
+module _ (f : Encoder) where
   -- ---- commands
 
   -- the commands that contend with this one
@@ -53,7 +53,7 @@ module _ (f : Frame) where
   abbrev pub rivals_in : Command → TrainNo → List Command
   rivals_in e t = filter (contend (table f) e) (commands_of (table f) t)
 
-  -- ---- clauses of the frame
+  -- ---- clauses of the encoder
 
   -- the command is given by no step
   abbrev pub never_given : Command → List Clause
@@ -61,7 +61,7 @@ module _ (f : Frame) where
 
   -- one of the routes is given by the step before, by whichever step the command is given
   abbrev pub led_always : Command → List RouteNo → List Clause
-  led_always c leading = map (led c leading) (one_to f.steps.count)
+  led_always c leading = map (led_clause c leading) (one_to f.steps.count)
 
   -- one of the routes is given on which the visit may be made
   abbrev pub visited_on : TrainNo → ℕ → List NodeNo → Clause
@@ -73,7 +73,7 @@ module _ (f : Frame) where
 
   -- one of these routes is given to the train by whichever step the command is given
   abbrev pub begun_throughout : TrainNo → List RouteNo → Command → List Clause
-  begun_throughout t rs c = map (begun t rs c) (one_to f.steps.count)
+  begun_throughout t rs c = map (begun_clause t rs c) (one_to f.steps.count)
 
   -- ---- numbers of variables
 
@@ -137,5 +137,5 @@ module _ (f : Frame) where
   together = all_apart ++ all_wait
 
   -- that all visits are made, and what the variables of pairs and of steps say
-  abbrev pub told_by : List Clause
-  told_by = all_visits ++ all_in_order ++ all_by_steps
+  abbrev pub defining : List Clause
+  defining = all_visits ++ all_in_order ++ all_by_steps

@@ -1,6 +1,6 @@
--- What becomes of a draft when clauses are listed, and what a base is.
-pub mod Drafts
-pub mod Frames
+-- What becomes of a sink when clauses are listed, and what a base is.
+pub mod Sinks
+pub mod Encoders
 pub mod Tables
 pub mod Waiting
 pub mod Families

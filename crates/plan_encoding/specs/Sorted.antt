@@ -7,8 +7,8 @@ use Rattle.plan_clauses.specs.Clauses.{past_limit}
 use Rattle.alike_clauses.specs.Turns.{turn_clauses}
 use Rattle.alike_clauses.specs.Sorted.{sorted_base}
 use Rattle.plan_encoding.specs.Bases.{IsBaseOf}
-use Rattle.plan_encoding.specs.declared.draft.BaseFault.{BaseFault}
-use Rattle.plan_encoding.specs.declared.draft.BaseFault.TheVariants.{TooLarge, Memory}
+use Rattle.plan_encoding.specs.declared.sink.BaseFault.{BaseFault}
+use Rattle.plan_encoding.specs.declared.sink.BaseFault.TheVariants.{TooLarge, Memory}
 use Rattle.plan_encoding.specs.declared.sorted.SortedBase.{SortedBase}
 
 -- it is the base of a design with these routes, for n steps, and the clauses of neighbors are there in their order, all live

@@ -4,16 +4,16 @@ use Rattle.rail_base.specs.declared.route.RouteNo.{RouteNo}
 use Rattle.rail_base.specs.declared.plan.Command.{Command}
 use Rattle.rail_base.specs.Numbering.{one_to}
 use Rattle.plan_clauses.specs.Clauses.{Clause, chains, waits}
-use Rattle.plan_encoding.specs.declared.frame.Frame.{Frame}
+use Rattle.plan_encoding.specs.declared.encoder.Encoder.{Encoder}
 use Rattle.plan_encoding.specs.declared.wait.Releasing.{Releasing}
 use Rattle.plan_encoding.specs.declared.wait.Wait.{Wait}
 use Rattle.plan_encoding.specs.Families.{waiting}
-use Rattle.plan_encoding.specs.Frames.{over, table}
+use Rattle.plan_encoding.specs.Encoders.{over, table}
 use Rattle.plan_encoding.specs.Waiting.{waits_over}
 
--- the frame that it is about
-abbrev pub frame_of : Wait → Frame
-frame_of w = w.tables.now.frame
+-- the encoder that it is about
+abbrev pub frame_of : Wait → Encoder
+frame_of w = w.tables.now.encoder
 
 -- the clause of a chain at a step, with the routes that go on from it
 abbrev pub waits_in : Wait → List RouteNo → List RouteNo → ℕ → Clause
@@ -30,4 +30,4 @@ waits_on w more before r =
 
 -- a command waits for the one that releases these sections
 abbrev pub waits_for_it : Releasing → Command → List Clause
-waits_for_it r c = over r.tables.now.frame waits (r.first, c)
+waits_for_it r c = over r.tables.now.encoder waits (r.first, c)

@@ -4,21 +4,21 @@ ghost use Rattle.std.specs.Prelude.{OnOk, IfErr};
 ghost use Rattle.rail_base.specs.Stations.{IsTrain};
 ghost use Rattle.plan_clauses.specs.Clauses.{excluded};
 ghost use Rattle.plan_encoding.specs.Families.{none_excluded};
-ghost use Rattle.plan_encoding.specs.Frames.{Lists, Stops, over, station};
+ghost use Rattle.plan_encoding.specs.Encoders.{Emits, Stops, over, station};
 
-use crate::draft::{BaseFault, Draft};
+use crate::sink::{BaseFault, ClauseSink};
 use crate::tables::Tables;
 use rail_base::plan::Command;
 use rail_base::station::TrainNo;
 
 impl Tables<'_> {
-    /// Lists that a train is given no two routes that exclude each other.
-    fn put_excluded_of(&self, draft: &mut Draft, train: TrainNo) -> Result<(), BaseFault>
-        requires train { IsTrain (station self.now.frame) train }
-        ensures ok { OnOk result (Lists self.now.frame (over self.now.frame excluded train) draft.old draft.new) }
-        ensures err { IfErr result (Stops self.now.frame (over self.now.frame excluded train) draft.old) }
+    /// Emits that a train is given no two routes that exclude each other.
+    fn emit_excluded_of(&self, sink: &mut ClauseSink, train: TrainNo) -> Result<(), BaseFault>
+        requires train { IsTrain (station self.now.encoder) train }
+        ensures ok { OnOk result (Emits self.now.encoder (over self.now.encoder excluded train) sink.old sink.new) }
+        ensures err { IfErr result (Stops self.now.encoder (over self.now.encoder excluded train) sink.old) }
     {
-        let last = self.frame.steps.count;
+        let last = self.encoder.steps.count;
         for pair in &self.exclusions {
             let one = Command {
                 train,
@@ -28,21 +28,21 @@ impl Tables<'_> {
                 train,
                 route: pair.1,
             };
-            draft.put(&[
-                self.frame.not_given(one, last),
-                self.frame.not_given(other, last),
+            sink.emit(&[
+                self.encoder.not_given(one, last),
+                self.encoder.not_given(other, last),
             ])?;
         }
         Ok(())
     }
 
-    /// Lists that no train is given two routes that exclude each other.
-    pub fn put_excluded(&self, draft: &mut Draft) -> Result<(), BaseFault>
-        ensures ok { OnOk result (Lists self.now.frame (none_excluded self.now.frame) draft.old draft.new) }
-        ensures err { IfErr result (Stops self.now.frame (none_excluded self.now.frame) draft.old) }
+    /// Emits that no train is given two routes that exclude each other.
+    pub fn emit_excluded(&self, sink: &mut ClauseSink) -> Result<(), BaseFault>
+        ensures ok { OnOk result (Emits self.now.encoder (none_excluded self.now.encoder) sink.old sink.new) }
+        ensures err { IfErr result (Stops self.now.encoder (none_excluded self.now.encoder) sink.old) }
     {
         for train in &self.trains {
-            self.put_excluded_of(draft, *train)?;
+            self.emit_excluded_of(sink, *train)?;
         }
         Ok(())
     }

@@ -1,10 +1,9 @@
-//! The clauses that every plan of a design makes true, listed with the numbers of their variables.
+//! The clauses that every plan of a design makes true, with the numbers of their variables.
 #![tactic(auto)]
 
 mod apart;
-mod draft;
+mod encoder;
 mod excluded;
-mod frame;
 mod links;
 mod literals;
 mod make;
@@ -16,6 +15,7 @@ mod relations;
 mod releases;
 mod rivals;
 mod selectors;
+mod sink;
 mod sorted;
 mod starts;
 mod stays;
@@ -26,7 +26,7 @@ mod visits;
 mod wait;
 mod waits;
 
-pub use draft::BaseFault;
 pub use make::base;
 pub use numbered::{Base, Counts};
+pub use sink::BaseFault;
 pub use sorted::{SortedBase, sorted_base};

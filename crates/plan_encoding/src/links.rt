@@ -41,7 +41,7 @@ pub fn push_if<T: Drop>(list: &mut Vec<T>, item: T, belongs: bool) -> Result<(),
 /// The row of a route.
 pub fn row_of(rows: &[List<RouteNo>], route: RouteNo) -> &[RouteNo]
     requires one { 1 ≤ route.0 }
-    requires last { route.0 ≤ length rows.now }
+    requires within { route.0 ≤ length rows.now }
     ensures { result.now ≡ entry [] rows.now route.0 }
 {
     rows[route.0 as usize - 1].as_slice()

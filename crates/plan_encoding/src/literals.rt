@@ -1,18 +1,18 @@
-//! The literals and the commands of a frame.
+//! The literals and the commands of an encoder.
 
 ghost use Rattle.std.specs.Prelude.{◌≡◌, ◌≤◌, ◌++◌, IfOk, OnOk};
 ghost use Rattle.plan_clauses.specs.Variables.{Given, yes, no, if_given, number_of, numbered};
 ghost use Rattle.rail_spec.specs.Plans.{all_commands, commands_of};
-ghost use Rattle.plan_encoding.specs.Frames.{IsCommand, over, station, table, written};
+ghost use Rattle.plan_encoding.specs.Encoders.{IsCommand, over, station, table, written};
 
-use crate::frame::Frame;
+use crate::encoder::Encoder;
 use rail_base::plan::Command;
 use rail_base::route::RouteNo;
 use rail_base::station::TrainNo;
 use sat_clause::Lit;
 use std::alloc::{AllocError, Global};
 
-impl Frame<'_> {
+impl Encoder<'_> {
     /// The number of the variable that a command is given by a step.
     fn given_number(&self, command: Command, step: u32) -> u32
         requires command { IsCommand self.now command }

@@ -1,60 +1,60 @@
-//! How the base of a design is made: all clauses are listed twice, first to count their literals, then to keep them.
+//! How the base of a design is made: all clauses are emitted twice, first to count their literals, then to keep them.
 
 ghost use Rattle.std.specs.Prelude.{◌≡◌, ◌++◌, IfOk, OnOk, IfErr, None, map};
 ghost use Rattle.plan_clauses.specs.Variables.{pairs};
 ghost use Rattle.plan_clauses.specs.Clauses.{base_clauses, clauses, past_limit};
 ghost use Rattle.plan_encoding.specs.Bases.{IsBaseOf, IsRefused};
-ghost use Rattle.plan_encoding.specs.Families.{alone, together, told_by};
-ghost use Rattle.plan_encoding.specs.Frames.{Lists, Stops, over, station, table};
+ghost use Rattle.plan_encoding.specs.Families.{alone, together, defining};
+ghost use Rattle.plan_encoding.specs.Encoders.{Emits, Stops, over, station, table};
 
-use crate::draft::{BaseFault, Draft};
-use crate::frame::Frame;
+use crate::encoder::Encoder;
 use crate::numbered::{Base, base_of};
 use crate::selectors::Selectors;
+use crate::sink::{BaseFault, ClauseSink};
 use crate::tables::Tables;
 use interlocking::{Interlocking, Steps};
 use rail_base::plan::Command;
 use std::alloc::{AllocError, Global};
 
 impl Tables<'_> {
-    /// Lists that what is given stays given, that routes start rightly, and that none exclude each other.
-    fn put_alone(&self, alloc: Global, draft: &mut Draft) -> Result<(), BaseFault>
-        ensures ok { OnOk result (Lists self.now.frame (alone self.now.frame) draft.old draft.new) }
-        ensures err { IfErr result (Stops self.now.frame (alone self.now.frame) draft.old) }
+    /// Emits that what is given stays given, that routes start rightly, and that none exclude each other.
+    fn emit_alone(&self, alloc: Global, sink: &mut ClauseSink) -> Result<(), BaseFault>
+        ensures ok { OnOk result (Emits self.now.encoder (alone self.now.encoder) sink.old sink.new) }
+        ensures err { IfErr result (Stops self.now.encoder (alone self.now.encoder) sink.old) }
     {
-        self.put_stays(draft)?;
-        self.put_starts(alloc, draft)?;
-        self.put_excluded(draft)
+        self.emit_stays(sink)?;
+        self.emit_starts(alloc, sink)?;
+        self.emit_excluded(sink)
     }
 
-    /// Lists that contending commands stand in different steps, and wait for each other.
-    fn put_together(&self, alloc: Global, draft: &mut Draft) -> Result<(), BaseFault>
-        ensures ok { OnOk result (Lists self.now.frame (together self.now.frame) draft.old draft.new) }
-        ensures err { IfErr result (Stops self.now.frame (together self.now.frame) draft.old) }
+    /// Emits that contending commands stand in different steps, and wait for each other.
+    fn emit_together(&self, alloc: Global, sink: &mut ClauseSink) -> Result<(), BaseFault>
+        ensures ok { OnOk result (Emits self.now.encoder (together self.now.encoder) sink.old sink.new) }
+        ensures err { IfErr result (Stops self.now.encoder (together self.now.encoder) sink.old) }
     {
-        self.put_apart(alloc, draft)?;
-        self.put_waits(alloc, draft)
+        self.emit_apart(alloc, sink)?;
+        self.emit_waits(alloc, sink)
     }
 
-    /// Lists that all visits are made, and what the variables of pairs and of steps say.
-    fn put_told(&self, alloc: Global, draft: &mut Draft) -> Result<(), BaseFault>
-        ensures ok { OnOk result (Lists self.now.frame (told_by self.now.frame) draft.old draft.new) }
-        ensures err { IfErr result (Stops self.now.frame (told_by self.now.frame) draft.old) }
+    /// Emits that all visits are made, and what the variables of pairs and of steps say.
+    fn emit_defining(&self, alloc: Global, sink: &mut ClauseSink) -> Result<(), BaseFault>
+        ensures ok { OnOk result (Emits self.now.encoder (defining self.now.encoder) sink.old sink.new) }
+        ensures err { IfErr result (Stops self.now.encoder (defining self.now.encoder) sink.old) }
     {
-        self.put_visits(alloc, draft)?;
-        let last = self.put_orders(alloc, draft)?;
+        self.emit_visits(alloc, sink)?;
+        let last = self.emit_orders(alloc, sink)?;
         let selectors = Selectors { tables: self, last };
-        selectors.put_by_steps(draft)
+        selectors.emit_by_steps(sink)
     }
 
-    /// Lists all clauses, family by family.
-    pub fn put_all(&self, alloc: Global, draft: &mut Draft) -> Result<(), BaseFault>
-        ensures ok { OnOk result (Lists self.now.frame (over self.now.frame clauses) draft.old draft.new) }
-        ensures err { IfErr result (Stops self.now.frame (over self.now.frame clauses) draft.old) }
+    /// Emits all clauses, family by family.
+    pub fn emit_all(&self, alloc: Global, sink: &mut ClauseSink) -> Result<(), BaseFault>
+        ensures ok { OnOk result (Emits self.now.encoder (over self.now.encoder clauses) sink.old sink.new) }
+        ensures err { IfErr result (Stops self.now.encoder (over self.now.encoder clauses) sink.old) }
     {
-        self.put_alone(alloc, draft)?;
-        self.put_together(alloc, draft)?;
-        self.put_told(alloc, draft)
+        self.emit_alone(alloc, sink)?;
+        self.emit_together(alloc, sink)?;
+        self.emit_defining(alloc, sink)
     }
 
     /// Adds a command with each of its rivals.
@@ -73,7 +73,7 @@ impl Tables<'_> {
 
     /// All contending pairs.
     pub fn pairs(&self, alloc: Global) -> Result<Vec<(Command, Command)>, AllocError>
-        ensures { IfOk result (λ ps. ps.items ≡ pairs (station self.now.frame) (table self.now.frame)) }
+        ensures { IfOk result (λ ps. ps.items ≡ pairs (station self.now.encoder) (table self.now.encoder)) }
     {
         let mut pairs = Vec::new(alloc);
         for command in &self.commands {
@@ -96,15 +96,15 @@ pub fn base(alloc: Global, interlocking: &Interlocking, steps: Steps) -> Result<
         (base_clauses interlocking.now.design.station interlocking.now.routes steps.count) ≡ None) }
     ensures fault { IfErr result (IsRefused interlocking.now.design.station interlocking.now.routes steps.count) }
 {
-    let frame = Frame {
+    let encoder = Encoder {
         interlocking,
         steps,
     };
-    let tables = frame.tables(alloc)?;
-    let mut count = Draft::new(alloc, false);
-    tables.put_all(alloc, &mut count)?;
-    let mut draft = count.kept(alloc)?;
-    tables.put_all(alloc, &mut draft)?;
+    let tables = encoder.tables(alloc)?;
+    let mut count = ClauseSink::new(alloc, false);
+    tables.emit_all(alloc, &mut count)?;
+    let mut sink = count.kept(alloc)?;
+    tables.emit_all(alloc, &mut sink)?;
     let pairs = tables.pairs(alloc)?;
-    Ok(base_of(interlocking, steps, pairs, draft.into_clauses()))
+    Ok(base_of(interlocking, steps, pairs, sink.into_clauses()))
 }

@@ -1,16 +1,16 @@
-//! All routes of a frame.
+//! All routes of an encoder.
 
 ghost use Rattle.std.specs.Prelude.{◌≡◌};
 ghost use Rattle.rail_spec.specs.Plans.{route_numbers};
-ghost use Rattle.plan_encoding.specs.Frames.{table};
+ghost use Rattle.plan_encoding.specs.Encoders.{table};
 
-use crate::frame::Frame;
+use crate::encoder::Encoder;
 use rail_base::route::RouteNo;
 
-/// A frame with the numbers of its routes.
+/// An encoder with the numbers of its routes.
 #[derive(Drop)]
 pub struct Network<'a> {
-    pub frame: Frame<'a>,
+    pub encoder: Encoder<'a>,
     pub numbers: Vec<RouteNo>,
-    pub ghost every_number: { numbers.items ≡ route_numbers (table frame) },
+    pub ghost every_number: { numbers.items ≡ route_numbers (table encoder) },
 }

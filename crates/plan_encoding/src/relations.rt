@@ -1,14 +1,14 @@
-//! How the tables of a frame are found.
+//! How the tables of an encoder are found.
 
 ghost use Rattle.std.specs.Prelude.{◌≡◌, ◌++◌, All, IfOk, OnOk, map, filter};
 ghost use Rattle.rail_base.specs.Routes.{IsRoute};
 ghost use Rattle.rail_base.specs.Stations.{trains};
 ghost use Rattle.rail_spec.specs.Plans.{route_numbers};
 ghost use Rattle.plan_clauses.specs.Clauses.{leading_to};
-ghost use Rattle.plan_encoding.specs.Frames.{station, table};
+ghost use Rattle.plan_encoding.specs.Encoders.{station, table};
 ghost use Rattle.plan_encoding.specs.Tables.{exclude_both, exclusions, going_on, leading, rows_by, sharing};
 
-use crate::frame::Frame;
+use crate::encoder::Encoder;
 use crate::links::{exclude, push_if};
 use crate::network::Network;
 use crate::tables::Tables;
@@ -18,7 +18,7 @@ use rail_base::route::{RouteNo, Start, route_at};
 use rail_base::station::TrainNo;
 use std::alloc::{AllocError, Global};
 
-impl<'a> Frame<'a> {
+impl<'a> Encoder<'a> {
     /// The numbers of all trains.
     fn trains(&self, alloc: Global) -> Result<Vec<TrainNo>, AllocError>
         ensures { IfOk result (λ ts. ts.items ≡ trains (station self.now)) }
@@ -41,19 +41,19 @@ impl<'a> Frame<'a> {
         Ok(numbers)
     }
 
-    /// The frame with the numbers of its routes.
+    /// The encoder with the numbers of its routes.
     fn network(self, alloc: Global) -> Result<Network<'a>, AllocError>
-        ensures { IfOk result (λ network. network.frame ≡ self.entry) }
+        ensures { IfOk result (λ network. network.encoder ≡ self.entry) }
     {
         Ok(Network {
-            frame: self,
+            encoder: self,
             numbers: self.numbers(alloc)?,
         })
     }
 
-    /// The tables of the frame.
+    /// The tables of the encoder.
     pub fn tables(self, alloc: Global) -> Result<Tables<'a>, AllocError>
-        ensures { IfOk result (λ tables. tables.frame ≡ self.entry) }
+        ensures { IfOk result (λ tables. tables.encoder ≡ self.entry) }
     {
         self.network(alloc)?.tables(alloc)
     }
@@ -62,12 +62,12 @@ impl<'a> Frame<'a> {
 impl<'a> Network<'a> {
     /// The routes that end at a start.
     fn leading_to(&self, alloc: Global, start: Start) -> Result<List<RouteNo>, AllocError>
-        ensures { IfOk result (λ rs. rs ≡ leading_to (table self.now.frame) start) }
+        ensures { IfOk result (λ rs. rs ≡ leading_to (table self.now.encoder) start) }
     {
         let mut found = Vec::new(alloc);
         for number in &self.numbers {
             let ends = goes_on(
-                route_at(&self.frame.interlocking.routes, *number).finish,
+                route_at(&self.encoder.interlocking.routes, *number).finish,
                 start,
             );
             push_if(&mut found, *number, ends)?;
@@ -77,15 +77,15 @@ impl<'a> Network<'a> {
 
     /// The routes that go on where a route ends.
     fn going_on(&self, alloc: Global, route: RouteNo) -> Result<List<RouteNo>, AllocError>
-        requires { IsRoute (table self.now.frame) route }
-        ensures { IfOk result (λ rs. rs ≡ going_on (table self.now.frame) route) }
+        requires { IsRoute (table self.now.encoder) route }
+        ensures { IfOk result (λ rs. rs ≡ going_on (table self.now.encoder) route) }
     {
-        let finish = route_at(&self.frame.interlocking.routes, route).finish;
+        let finish = route_at(&self.encoder.interlocking.routes, route).finish;
         let mut found = Vec::new(alloc);
         for number in &self.numbers {
             let starts = goes_on(
                 finish,
-                route_at(&self.frame.interlocking.routes, *number).start,
+                route_at(&self.encoder.interlocking.routes, *number).start,
             );
             push_if(&mut found, *number, starts)?;
         }
@@ -94,10 +94,10 @@ impl<'a> Network<'a> {
 
     /// The routes that share a section with a route.
     fn sharing(&self, alloc: Global, route: RouteNo) -> Result<List<RouteNo>, AllocError>
-        requires { IsRoute (table self.now.frame) route }
-        ensures { IfOk result (λ rs. rs ≡ sharing (table self.now.frame) route) }
+        requires { IsRoute (table self.now.encoder) route }
+        ensures { IfOk result (λ rs. rs ≡ sharing (table self.now.encoder) route) }
     {
-        let interlocking = self.frame.interlocking;
+        let interlocking = self.encoder.interlocking;
         let mut found = Vec::new(alloc);
         for number in &self.numbers {
             let shares = interlocking.share(route, *number);
@@ -108,11 +108,11 @@ impl<'a> Network<'a> {
 
     /// For each route, those that end where it starts.
     fn all_leading(&self, alloc: Global) -> Result<Vec<List<RouteNo>>, AllocError>
-        ensures { IfOk result (λ rows. rows.items ≡ rows_by leading (table self.now.frame)) }
+        ensures { IfOk result (λ rows. rows.items ≡ rows_by leading (table self.now.encoder)) }
     {
         let mut rows = Vec::new(alloc);
         for number in &self.numbers {
-            let start = route_at(&self.frame.interlocking.routes, *number).start;
+            let start = route_at(&self.encoder.interlocking.routes, *number).start;
             rows.push(self.leading_to(alloc, start)?)?;
         }
         Ok(rows)
@@ -120,7 +120,7 @@ impl<'a> Network<'a> {
 
     /// For each route, those that go on where it ends.
     fn all_going_on(&self, alloc: Global) -> Result<Vec<List<RouteNo>>, AllocError>
-        ensures { IfOk result (λ rows. rows.items ≡ rows_by going_on (table self.now.frame)) }
+        ensures { IfOk result (λ rows. rows.items ≡ rows_by going_on (table self.now.encoder)) }
     {
         let mut rows = Vec::new(alloc);
         for number in &self.numbers {
@@ -131,7 +131,7 @@ impl<'a> Network<'a> {
 
     /// For each route, those that share a section with it.
     fn all_sharing(&self, alloc: Global) -> Result<Vec<List<RouteNo>>, AllocError>
-        ensures { IfOk result (λ rows. rows.items ≡ rows_by sharing (table self.now.frame)) }
+        ensures { IfOk result (λ rows. rows.items ≡ rows_by sharing (table self.now.encoder)) }
     {
         let mut rows = Vec::new(alloc);
         for number in &self.numbers {
@@ -147,14 +147,14 @@ impl<'a> Network<'a> {
         route: RouteNo,
         later: &[RouteNo],
     ) -> Result<(), AllocError>
-        requires route { IsRoute (table self.now.frame) route }
-        requires later { All (IsRoute (table self.now.frame)) later.now }
+        requires route { IsRoute (table self.now.encoder) route }
+        requires later { All (IsRoute (table self.now.encoder)) later.now }
         ensures { OnOk result (found.new.items ≡ found.old.items
-            ++ filter (exclude_both (table self.now.frame)) (map (λ q. (route, q)) later.now)) }
+            ++ filter (exclude_both (table self.now.encoder)) (map (λ q. (route, q)) later.now)) }
     {
         for other in later {
-            let one = route_at(&self.frame.interlocking.routes, route);
-            let excludes = exclude(one, route_at(&self.frame.interlocking.routes, *other));
+            let one = route_at(&self.encoder.interlocking.routes, route);
+            let excludes = exclude(one, route_at(&self.encoder.interlocking.routes, *other));
             push_if(found, (route, *other), excludes)?;
         }
         Ok(())
@@ -162,7 +162,7 @@ impl<'a> Network<'a> {
 
     /// Each two routes that exclude each other.
     fn exclusions(&self, alloc: Global) -> Result<Vec<(RouteNo, RouteNo)>, AllocError>
-        ensures { IfOk result (λ ps. ps.items ≡ exclusions (table self.now.frame)) }
+        ensures { IfOk result (λ ps. ps.items ≡ exclusions (table self.now.encoder)) }
     {
         let mut found = Vec::new(alloc);
         let mut left = self.numbers.as_slice();
@@ -173,19 +173,19 @@ impl<'a> Network<'a> {
         Ok(found)
     }
 
-    /// The tables of the frame.
+    /// The tables of the encoder.
     fn tables(self, alloc: Global) -> Result<Tables<'a>, AllocError>
-        ensures { IfOk result (λ tables. tables.frame ≡ self.entry.frame) }
+        ensures { IfOk result (λ tables. tables.encoder ≡ self.entry.encoder) }
     {
-        let trains = self.frame.trains(alloc)?;
-        let commands = self.frame.commands(alloc)?;
+        let trains = self.encoder.trains(alloc)?;
+        let commands = self.encoder.commands(alloc)?;
         let leading = self.all_leading(alloc)?;
         let going_on = self.all_going_on(alloc)?;
         let sharing = self.all_sharing(alloc)?;
         let exclusions = self.exclusions(alloc)?;
-        let Network { frame, numbers } = self;
+        let Network { encoder, numbers } = self;
         Ok(Tables {
-            frame,
+            encoder,
             trains,
             numbers,
             commands,

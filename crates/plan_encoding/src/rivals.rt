@@ -2,7 +2,7 @@
 
 ghost use Rattle.std.specs.Prelude.{◌≡◌, ◌++◌, IfOk, OnOk};
 ghost use Rattle.plan_encoding.specs.Families.{rivals_in, rivals_of};
-ghost use Rattle.plan_encoding.specs.Frames.{IsCommand};
+ghost use Rattle.plan_encoding.specs.Encoders.{IsCommand};
 
 use crate::links::row_of;
 use crate::tables::Tables;
@@ -19,8 +19,8 @@ impl Tables<'_> {
         command: Command,
         train: TrainNo,
     ) -> Result<(), AllocError>
-        requires command { IsCommand self.now.frame command }
-        ensures { OnOk result (rivals.new.items ≡ rivals.old.items ++ rivals_in self.now.frame command train) }
+        requires command { IsCommand self.now.encoder command }
+        ensures { OnOk result (rivals.new.items ≡ rivals.old.items ++ rivals_in self.now.encoder command train) }
     {
         if train.0 == command.train.0 {
             return Ok(());
@@ -36,8 +36,8 @@ impl Tables<'_> {
 
     /// The commands that contend with a command, by train and then by route.
     pub fn rivals(&self, alloc: Global, command: Command) -> Result<Vec<Command>, AllocError>
-        requires command { IsCommand self.now.frame command }
-        ensures { IfOk result (λ cs. cs.items ≡ rivals_of self.now.frame command) }
+        requires command { IsCommand self.now.encoder command }
+        ensures { IfOk result (λ cs. cs.items ≡ rivals_of self.now.encoder command) }
     {
         let mut rivals = Vec::new(alloc);
         for train in &self.trains {

@@ -10,6 +10,6 @@ use crate::tables::Tables;
 pub struct Selectors<'a> {
     pub tables: &'a Tables<'a>,
     pub last: u32,
-    pub ghost number: { last ≡ last_pair tables.now.frame },
+    pub ghost number: { last ≡ last_pair tables.now.encoder },
     pub ghost low: { last ≤ 73536000 },
 }

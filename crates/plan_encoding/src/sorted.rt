@@ -5,9 +5,9 @@ ghost use Rattle.plan_clauses.specs.Clauses.{past_limit};
 ghost use Rattle.alike_clauses.specs.Sorted.{sorted_base};
 ghost use Rattle.plan_encoding.specs.Sorted.{IsSortedBaseOf, IsSortedRefused};
 
-use crate::draft::{BaseFault, Draft};
-use crate::frame::Frame;
+use crate::encoder::Encoder;
 use crate::numbered::{Base, base_of};
+use crate::sink::{BaseFault, ClauseSink};
 use interlocking::{Interlocking, Steps};
 use rail_alike::neighbors;
 use sat_clause::Arena;
@@ -39,21 +39,21 @@ pub fn sorted_base(
     ensures fault { IfErr result
         (IsSortedRefused interlocking.now.design.station interlocking.now.routes steps.count) }
 {
-    let frame = Frame {
+    let encoder = Encoder {
         interlocking,
         steps,
     };
-    let tables = frame.tables(alloc)?;
+    let tables = encoder.tables(alloc)?;
     let neighbors = neighbors(alloc, &interlocking.design)?;
-    let mut count = Draft::new(alloc, false);
-    tables.put_all(alloc, &mut count)?;
-    let mut draft = count.kept(alloc)?;
-    tables.put_all(alloc, &mut draft)?;
-    let mut turns = draft.after(alloc);
-    tables.put_turns(alloc, &mut turns, neighbors.as_slice())?;
+    let mut count = ClauseSink::new(alloc, false);
+    tables.emit_all(alloc, &mut count)?;
+    let mut sink = count.kept(alloc)?;
+    tables.emit_all(alloc, &mut sink)?;
+    let mut turns = sink.after(alloc);
+    tables.emit_turns(alloc, &mut turns, neighbors.as_slice())?;
     let pairs = tables.pairs(alloc)?;
     Ok(SortedBase {
-        base: base_of(interlocking, steps, pairs, draft.into_clauses()),
+        base: base_of(interlocking, steps, pairs, sink.into_clauses()),
         turns: turns.into_clauses(),
     })
 }

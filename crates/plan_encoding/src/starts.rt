@@ -5,13 +5,13 @@ ghost use Rattle.rail_base.specs.Routes.{IsRoute};
 ghost use Rattle.rail_base.specs.Stations.{IsTrain, first_visit, train_of};
 ghost use Rattle.rail_spec.specs.Plans.{has_node};
 ghost use Rattle.plan_clauses.specs.Clauses.{starts_rightly};
-ghost use Rattle.plan_encoding.specs.Families.{all_start_rightly, led, led_always, never_given};
-ghost use Rattle.plan_encoding.specs.Frames.{IsCommand, Lists, Stops, over, station, table, written};
+ghost use Rattle.plan_encoding.specs.Families.{all_start_rightly, led_clause, led_always, never_given};
+ghost use Rattle.plan_encoding.specs.Encoders.{IsCommand, Emits, Stops, over, station, table, written};
 ghost use Rattle.plan_encoding.specs.Tables.{leading};
 
-use crate::draft::{BaseFault, Draft};
-use crate::frame::Frame;
+use crate::encoder::Encoder;
 use crate::links::row_of;
+use crate::sink::{BaseFault, ClauseSink};
 use crate::tables::Tables;
 use interlocking::has_node;
 use rail_base::plan::Command;
@@ -20,21 +20,21 @@ use rail_base::station::{NodeNo, TrainNo};
 use sat_clause::Lit;
 use std::alloc::{AllocError, Global};
 
-impl Frame<'_> {
-    /// Lists that a command is given by no step.
-    fn put_never(&self, draft: &mut Draft, command: Command) -> Result<(), BaseFault>
+impl Encoder<'_> {
+    /// Emits that a command is given by no step.
+    fn emit_never(&self, sink: &mut ClauseSink, command: Command) -> Result<(), BaseFault>
         requires command { IsCommand self.now command }
-        ensures ok { OnOk result (Lists self.now (never_given self.now command) draft.old draft.new) }
-        ensures err { IfErr result (Stops self.now (never_given self.now command) draft.old) }
+        ensures ok { OnOk result (Emits self.now (never_given self.now command) sink.old sink.new) }
+        ensures err { IfErr result (Stops self.now (never_given self.now command) sink.old) }
     {
         for step in 1..self.steps.count + 1 {
-            draft.put(&[self.not_given(command, step)])?;
+            sink.emit(&[self.not_given(command, step)])?;
         }
         Ok(())
     }
 
     /// The clause that, where a command is given by a step, one of these routes is given by the step before.
-    fn led(
+    fn led_clause(
         &self,
         alloc: Global,
         command: Command,
@@ -43,9 +43,9 @@ impl Frame<'_> {
     ) -> Result<Vec<Lit>, AllocError>
         requires command { IsCommand self.now command }
         requires leading { All (IsRoute (table self.now)) leading.now }
-        requires some { 1 ≤ step }
+        requires at_least_one { 1 ≤ step }
         requires step { step ≤ self.now.steps.count }
-        ensures { IfOk result (λ clause. clause.items ≡ written self.now (led command leading.now step)) }
+        ensures { IfOk result (λ clause. clause.items ≡ written self.now (led_clause command leading.now step)) }
     {
         let mut clause = Vec::new(alloc);
         clause.push(self.not_given(command, step))?;
@@ -60,21 +60,21 @@ impl Frame<'_> {
     }
 
     /// Lists that, by whichever step a command is given, one of these routes is given by the step before.
-    fn put_led(
+    fn emit_led(
         &self,
         alloc: Global,
-        draft: &mut Draft,
+        sink: &mut ClauseSink,
         command: Command,
         leading: &[RouteNo],
     ) -> Result<(), BaseFault>
         requires command { IsCommand self.now command }
         requires leading { All (IsRoute (table self.now)) leading.now }
-        ensures ok { OnOk result (Lists self.now (led_always self.now command leading.now) draft.old draft.new) }
-        ensures err { IfErr result (Stops self.now (led_always self.now command leading.now) draft.old) }
+        ensures ok { OnOk result (Emits self.now (led_always self.now command leading.now) sink.old sink.new) }
+        ensures err { IfErr result (Stops self.now (led_always self.now command leading.now) sink.old) }
     {
         for step in 1..self.steps.count + 1 {
-            let clause = self.led(alloc, command, leading, step)?;
-            draft.put(&clause)?;
+            let clause = self.led_clause(alloc, command, leading, step)?;
+            sink.emit(&clause)?;
         }
         Ok(())
     }
@@ -99,39 +99,39 @@ impl Frame<'_> {
 }
 
 impl Tables<'_> {
-    /// Lists that a command's route starts rightly.
-    fn put_starts_of(
+    /// Emits that a command's route starts rightly.
+    fn emit_starts_of(
         &self,
         alloc: Global,
-        draft: &mut Draft,
+        sink: &mut ClauseSink,
         command: Command,
     ) -> Result<(), BaseFault>
-        requires command { IsCommand self.now.frame command }
-        ensures ok { OnOk result (Lists self.now.frame (over self.now.frame starts_rightly command)
-            draft.old draft.new) }
-        ensures err { IfErr result (Stops self.now.frame (over self.now.frame starts_rightly command) draft.old) }
+        requires command { IsCommand self.now.encoder command }
+        ensures ok { OnOk result (Emits self.now.encoder (over self.now.encoder starts_rightly command)
+            sink.old sink.new) }
+        ensures err { IfErr result (Stops self.now.encoder (over self.now.encoder starts_rightly command) sink.old) }
     {
-        match route_at(&self.frame.interlocking.routes, command.route).start {
+        match route_at(&self.encoder.interlocking.routes, command.route).start {
             Start::Boundary(node) => {
-                if self.frame.may_start(command.train, node) {
+                if self.encoder.may_start(command.train, node) {
                     return Ok(());
                 }
-                self.frame.put_never(draft, command)
+                self.encoder.emit_never(sink, command)
             }
             Start::Signal(_) => {
                 let leading = row_of(&self.leading, command.route);
-                self.frame.put_led(alloc, draft, command, leading)
+                self.encoder.emit_led(alloc, sink, command, leading)
             }
         }
     }
 
-    /// Lists that the routes of all commands start rightly.
-    pub fn put_starts(&self, alloc: Global, draft: &mut Draft) -> Result<(), BaseFault>
-        ensures ok { OnOk result (Lists self.now.frame (all_start_rightly self.now.frame) draft.old draft.new) }
-        ensures err { IfErr result (Stops self.now.frame (all_start_rightly self.now.frame) draft.old) }
+    /// Emits that the routes of all commands start rightly.
+    pub fn emit_starts(&self, alloc: Global, sink: &mut ClauseSink) -> Result<(), BaseFault>
+        ensures ok { OnOk result (Emits self.now.encoder (all_start_rightly self.now.encoder) sink.old sink.new) }
+        ensures err { IfErr result (Stops self.now.encoder (all_start_rightly self.now.encoder) sink.old) }
     {
         for command in &self.commands {
-            self.put_starts_of(alloc, draft, *command)?;
+            self.emit_starts_of(alloc, sink, *command)?;
         }
         Ok(())
     }

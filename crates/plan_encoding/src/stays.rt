@@ -3,77 +3,77 @@
 ghost use Rattle.std.specs.Prelude.{◌≤◌, OnOk, IfErr};
 ghost use Rattle.plan_clauses.specs.Clauses.{all_given, stays_given};
 ghost use Rattle.plan_encoding.specs.Families.{all_by_steps, all_stay};
-ghost use Rattle.plan_encoding.specs.Frames.{IsCommand, Lists, Stops, over};
+ghost use Rattle.plan_encoding.specs.Encoders.{IsCommand, Emits, Stops, over};
 
-use crate::draft::{BaseFault, Draft};
-use crate::frame::Frame;
+use crate::encoder::Encoder;
 use crate::selectors::Selectors;
+use crate::sink::{BaseFault, ClauseSink};
 use crate::tables::Tables;
 use rail_base::plan::Command;
 use sat_clause::Lit;
 
-impl Frame<'_> {
-    /// Lists that a command stays given.
-    fn put_stays_of(&self, draft: &mut Draft, command: Command) -> Result<(), BaseFault>
+impl Encoder<'_> {
+    /// Emits that a command stays given.
+    fn emit_stays_of(&self, sink: &mut ClauseSink, command: Command) -> Result<(), BaseFault>
         requires command { IsCommand self.now command }
-        ensures ok { OnOk result (Lists self.now (over self.now stays_given command) draft.old draft.new) }
-        ensures err { IfErr result (Stops self.now (over self.now stays_given command) draft.old) }
+        ensures ok { OnOk result (Emits self.now (over self.now stays_given command) sink.old sink.new) }
+        ensures err { IfErr result (Stops self.now (over self.now stays_given command) sink.old) }
     {
         for step in 1..self.steps.count {
-            draft.put(&[self.not_given(command, step), self.given(command, step + 1)])?;
+            sink.emit(&[self.not_given(command, step), self.given(command, step + 1)])?;
         }
         Ok(())
     }
 }
 
 impl Tables<'_> {
-    /// Lists that all commands stay given.
-    pub fn put_stays(&self, draft: &mut Draft) -> Result<(), BaseFault>
-        ensures ok { OnOk result (Lists self.now.frame (all_stay self.now.frame) draft.old draft.new) }
-        ensures err { IfErr result (Stops self.now.frame (all_stay self.now.frame) draft.old) }
+    /// Emits that all commands stay given.
+    pub fn emit_stays(&self, sink: &mut ClauseSink) -> Result<(), BaseFault>
+        ensures ok { OnOk result (Emits self.now.encoder (all_stay self.now.encoder) sink.old sink.new) }
+        ensures err { IfErr result (Stops self.now.encoder (all_stay self.now.encoder) sink.old) }
     {
         for command in &self.commands {
-            self.frame.put_stays_of(draft, *command)?;
+            self.encoder.emit_stays_of(sink, *command)?;
         }
         Ok(())
     }
 }
 
 impl Selectors<'_> {
-    /// Lists that by a step all commands are given that are given at all.
-    fn put_by_step(&self, draft: &mut Draft, step: u32) -> Result<(), BaseFault>
-        requires some { 1 ≤ step }
-        requires step { step ≤ self.now.tables.now.frame.steps.count }
-        ensures ok { OnOk result (Lists self.now.tables.now.frame
-            (over self.now.tables.now.frame all_given step) draft.old draft.new) }
-        ensures err { IfErr result (Stops self.now.tables.now.frame
-            (over self.now.tables.now.frame all_given step) draft.old) }
+    /// Emits that by a step all commands are given that are given at all.
+    fn emit_by_step(&self, sink: &mut ClauseSink, step: u32) -> Result<(), BaseFault>
+        requires at_least_one { 1 ≤ step }
+        requires step { step ≤ self.now.tables.now.encoder.steps.count }
+        ensures ok { OnOk result (Emits self.now.tables.now.encoder
+            (over self.now.tables.now.encoder all_given step) sink.old sink.new) }
+        ensures err { IfErr result (Stops self.now.tables.now.encoder
+            (over self.now.tables.now.encoder all_given step) sink.old) }
     {
         let tables = self.tables;
-        let frame = tables.frame;
+        let encoder = tables.encoder;
         let by = Lit {
             var: self.last + step,
             negated: true,
         };
         for command in &tables.commands {
-            draft.put(&[
+            sink.emit(&[
                 by,
-                frame.not_given(*command, frame.steps.count),
-                frame.given(*command, step),
+                encoder.not_given(*command, encoder.steps.count),
+                encoder.given(*command, step),
             ])?;
         }
         Ok(())
     }
 
     /// Lists this for each step but the last.
-    pub fn put_by_steps(&self, draft: &mut Draft) -> Result<(), BaseFault>
-        ensures ok { OnOk result (Lists self.now.tables.now.frame
-            (all_by_steps self.now.tables.now.frame) draft.old draft.new) }
-        ensures err { IfErr result (Stops self.now.tables.now.frame
-            (all_by_steps self.now.tables.now.frame) draft.old) }
+    pub fn emit_by_steps(&self, sink: &mut ClauseSink) -> Result<(), BaseFault>
+        ensures ok { OnOk result (Emits self.now.tables.now.encoder
+            (all_by_steps self.now.tables.now.encoder) sink.old sink.new) }
+        ensures err { IfErr result (Stops self.now.tables.now.encoder
+            (all_by_steps self.now.tables.now.encoder) sink.old) }
     {
-        for step in 1..self.tables.frame.steps.count {
-            self.put_by_step(draft, step)?;
+        for step in 1..self.tables.encoder.steps.count {
+            self.emit_by_step(sink, step)?;
         }
         Ok(())
     }

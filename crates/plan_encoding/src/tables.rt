@@ -1,21 +1,21 @@
-//! What is found once of a frame, before clauses are listed.
+//! What is found once of an encoder, before clauses are emitted.
 
 ghost use Rattle.std.specs.Prelude.{◌≡◌};
 ghost use Rattle.rail_base.specs.Stations.{trains as train_numbers};
 ghost use Rattle.rail_spec.specs.Plans.{all_commands, route_numbers};
-ghost use Rattle.plan_encoding.specs.Frames.{station, table};
+ghost use Rattle.plan_encoding.specs.Encoders.{station, table};
 ghost use Rattle.plan_encoding.specs.Tables.{exclusions as exclusions_of, going_on as going_on_of, leading as leading_of, rows_by, sharing as sharing_of};
 
-use crate::frame::Frame;
+use crate::encoder::Encoder;
 use rail_base::list::List;
 use rail_base::plan::Command;
 use rail_base::route::RouteNo;
 use rail_base::station::TrainNo;
 
-/// The trains, routes and commands of a frame in order, and for each route others, in rising order.
+/// The trains, routes and commands of an encoder in order, and for each route others, in rising order.
 #[derive(Drop)]
 pub struct Tables<'a> {
-    pub frame: Frame<'a>,
+    pub encoder: Encoder<'a>,
     pub trains: Vec<TrainNo>,
     pub numbers: Vec<RouteNo>,
     pub commands: Vec<Command>,
@@ -27,11 +27,11 @@ pub struct Tables<'a> {
     pub sharing: Vec<List<RouteNo>>,
     /// Each two routes that exclude each other.
     pub exclusions: Vec<(RouteNo, RouteNo)>,
-    pub ghost every_train: { trains.items ≡ train_numbers (station frame) },
-    pub ghost every_number: { numbers.items ≡ route_numbers (table frame) },
-    pub ghost every_command: { commands.items ≡ all_commands (station frame) (table frame) },
-    pub ghost led: { leading.items ≡ rows_by leading_of (table frame) },
-    pub ghost gone_on: { going_on.items ≡ rows_by going_on_of (table frame) },
-    pub ghost shared: { sharing.items ≡ rows_by sharing_of (table frame) },
-    pub ghost excluded: { exclusions.items ≡ exclusions_of (table frame) },
+    pub ghost every_train: { trains.items ≡ train_numbers (station encoder) },
+    pub ghost every_number: { numbers.items ≡ route_numbers (table encoder) },
+    pub ghost every_command: { commands.items ≡ all_commands (station encoder) (table encoder) },
+    pub ghost led_clause: { leading.items ≡ rows_by leading_of (table encoder) },
+    pub ghost gone_on: { going_on.items ≡ rows_by going_on_of (table encoder) },
+    pub ghost shared: { sharing.items ≡ rows_by sharing_of (table encoder) },
+    pub ghost excluded: { exclusions.items ≡ exclusions_of (table encoder) },
 }

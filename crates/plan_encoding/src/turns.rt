@@ -5,12 +5,12 @@ ghost use Rattle.rail_base.specs.Routes.{IsRoute};
 ghost use Rattle.rail_base.specs.Stations.{IsTrain};
 ghost use Rattle.rail_alike.specs.Turns.{AreNamed};
 ghost use Rattle.alike_clauses.specs.Turns.{beginnings, begins, in_turn};
-ghost use Rattle.plan_encoding.specs.Families.{all_in_turn, begun, begun_throughout};
-ghost use Rattle.plan_encoding.specs.Frames.{IsCommand, Lists, Stops, over, station, table, written};
+ghost use Rattle.plan_encoding.specs.Families.{all_in_turn, begun_clause, begun_throughout};
+ghost use Rattle.plan_encoding.specs.Encoders.{IsCommand, Emits, Stops, over, station, table, written};
 
-use crate::draft::{BaseFault, Draft};
-use crate::frame::Frame;
+use crate::encoder::Encoder;
 use crate::links::push_if;
+use crate::sink::{BaseFault, ClauseSink};
 use crate::tables::Tables;
 use interlocking::starts_in;
 use rail_base::plan::Command;
@@ -19,7 +19,7 @@ use rail_base::station::TrainNo;
 use sat_clause::Lit;
 use std::alloc::{AllocError, Global};
 
-impl Frame<'_> {
+impl Encoder<'_> {
     /// Whether a train may begin with a route.
     fn begins(&self, train: TrainNo, route: RouteNo) -> bool
         requires train { IsTrain (station self.now) train }
@@ -41,7 +41,7 @@ impl Frame<'_> {
     }
 
     /// The clause that, where a command is given by a step, one of these routes is given to an earlier train by it.
-    fn begun(
+    fn begun_clause(
         &self,
         alloc: Global,
         earlier: TrainNo,
@@ -53,7 +53,7 @@ impl Frame<'_> {
         requires routes { All (IsRoute (table self.now)) routes.now }
         requires command { IsCommand self.now command }
         requires step { step ≤ self.now.steps.count }
-        ensures { IfOk result (λ clause. clause.items ≡ written self.now (begun earlier routes.now command step)) }
+        ensures { IfOk result (λ clause. clause.items ≡ written self.now (begun_clause earlier routes.now command step)) }
     {
         let mut clause = Vec::new(alloc);
         clause.push(self.not_given(command, step))?;
@@ -62,10 +62,10 @@ impl Frame<'_> {
     }
 
     /// Lists this for each step.
-    fn put_begun(
+    fn emit_begun(
         &self,
         alloc: Global,
-        draft: &mut Draft,
+        sink: &mut ClauseSink,
         earlier: TrainNo,
         routes: &[RouteNo],
         command: Command,
@@ -73,13 +73,13 @@ impl Frame<'_> {
         requires earlier { IsTrain (station self.now) earlier }
         requires routes { All (IsRoute (table self.now)) routes.now }
         requires command { IsCommand self.now command }
-        ensures ok { OnOk result (Lists self.now (begun_throughout self.now earlier routes.now command)
-            draft.old draft.new) }
-        ensures err { IfErr result (Stops self.now (begun_throughout self.now earlier routes.now command) draft.old) }
+        ensures ok { OnOk result (Emits self.now (begun_throughout self.now earlier routes.now command)
+            sink.old sink.new) }
+        ensures err { IfErr result (Stops self.now (begun_throughout self.now earlier routes.now command) sink.old) }
     {
         for step in 1..self.steps.count + 1 {
-            let clause = self.begun(alloc, earlier, routes, command, step)?;
-            draft.put(&clause)?;
+            let clause = self.begun_clause(alloc, earlier, routes, command, step)?;
+            sink.emit(&clause)?;
         }
         Ok(())
     }
@@ -88,28 +88,28 @@ impl Frame<'_> {
 impl Tables<'_> {
     /// The routes with which a train may begin.
     fn beginnings(&self, alloc: Global, train: TrainNo) -> Result<Vec<RouteNo>, AllocError>
-        requires { IsTrain (station self.now.frame) train }
-        ensures { IfOk result (λ rs. rs.items ≡ over self.now.frame beginnings train) }
+        requires { IsTrain (station self.now.encoder) train }
+        ensures { IfOk result (λ rs. rs.items ≡ over self.now.encoder beginnings train) }
     {
         let mut routes = Vec::new(alloc);
         for route in &self.numbers {
-            let belongs = self.frame.begins(train, *route);
+            let belongs = self.encoder.begins(train, *route);
             push_if(&mut routes, *route, belongs)?;
         }
         Ok(routes)
     }
 
-    /// Lists that two trains come in turn.
-    fn put_turns_of(
+    /// Emits that two trains come in turn.
+    fn emit_turns_of(
         &self,
         alloc: Global,
-        draft: &mut Draft,
+        sink: &mut ClauseSink,
         pair: (TrainNo, TrainNo),
     ) -> Result<(), BaseFault>
-        requires earlier { IsTrain (station self.now.frame) pair.0 }
-        requires later { IsTrain (station self.now.frame) pair.1 }
-        ensures ok { OnOk result (Lists self.now.frame (over self.now.frame in_turn pair) draft.old draft.new) }
-        ensures err { IfErr result (Stops self.now.frame (over self.now.frame in_turn pair) draft.old) }
+        requires earlier { IsTrain (station self.now.encoder) pair.0 }
+        requires later { IsTrain (station self.now.encoder) pair.1 }
+        ensures ok { OnOk result (Emits self.now.encoder (over self.now.encoder in_turn pair) sink.old sink.new) }
+        ensures err { IfErr result (Stops self.now.encoder (over self.now.encoder in_turn pair) sink.old) }
     {
         let first = self.beginnings(alloc, pair.0)?;
         let then = self.beginnings(alloc, pair.1)?;
@@ -118,24 +118,25 @@ impl Tables<'_> {
                 train: pair.1,
                 route: *route,
             };
-            self.frame.put_begun(alloc, draft, pair.0, &first, command)?;
+            self.encoder
+                .emit_begun(alloc, sink, pair.0, &first, command)?;
         }
         Ok(())
     }
 
-    /// Lists that the trains of each pair come in turn.
-    pub fn put_turns(
+    /// Emits that the trains of each pair come in turn.
+    pub fn emit_turns(
         &self,
         alloc: Global,
-        draft: &mut Draft,
+        sink: &mut ClauseSink,
         pairs: &[(TrainNo, TrainNo)],
     ) -> Result<(), BaseFault>
-        requires { AreNamed (station self.now.frame) pairs.now }
-        ensures ok { OnOk result (Lists self.now.frame (all_in_turn self.now.frame pairs.now) draft.old draft.new) }
-        ensures err { IfErr result (Stops self.now.frame (all_in_turn self.now.frame pairs.now) draft.old) }
+        requires { AreNamed (station self.now.encoder) pairs.now }
+        ensures ok { OnOk result (Emits self.now.encoder (all_in_turn self.now.encoder pairs.now) sink.old sink.new) }
+        ensures err { IfErr result (Stops self.now.encoder (all_in_turn self.now.encoder pairs.now) sink.old) }
     {
         for pair in pairs {
-            self.put_turns_of(alloc, draft, *pair)?;
+            self.emit_turns_of(alloc, sink, *pair)?;
         }
         Ok(())
     }

@@ -8,11 +8,11 @@ ghost use Rattle.rail_base.specs.Routes.{IsRoute};
 ghost use Rattle.rail_base.specs.Stations.{IsTrain};
 ghost use Rattle.plan_clauses.specs.Clauses.{makes_visits, may_visit};
 ghost use Rattle.plan_encoding.specs.Families.{all_visits, visited_on};
-ghost use Rattle.plan_encoding.specs.Frames.{Lists, Stops, over, station, table, written};
+ghost use Rattle.plan_encoding.specs.Encoders.{Emits, Stops, over, station, table, written};
 
-use crate::draft::{BaseFault, Draft};
-use crate::frame::Frame;
+use crate::encoder::Encoder;
 use crate::links::push_if;
+use crate::sink::{BaseFault, ClauseSink};
 use crate::tables::Tables;
 use crate::visit::{Visit, nodes_of};
 use interlocking::starts_in;
@@ -24,7 +24,7 @@ use rail_base::station::{NodeNo, TrainNo};
 use sat_clause::Lit;
 use std::alloc::{AllocError, Global};
 
-impl Frame<'_> {
+impl Encoder<'_> {
     /// Whether a visit may be made on a route.
     fn may_visit(&self, visit: &Visit, route: RouteNo) -> bool
         requires route { IsRoute (table self.now) route }
@@ -40,17 +40,17 @@ impl Frame<'_> {
 
 impl Tables<'_> {
     /// The clause that one of the routes is given on which a visit may be made.
-    fn visited(
+    fn visit_clause(
         &self,
         alloc: Global,
         train: TrainNo,
         number: u32,
         set: &List<NodeNo>,
     ) -> Result<Vec<Lit>, AllocError>
-        requires train { IsTrain (station self.now.frame) train }
-        requires first { 1 ≤ number }
+        requires train { IsTrain (station self.now.encoder) train }
+        requires at_least_one { 1 ≤ number }
         ensures { IfOk result (λ clause. clause.items
-            ≡ written self.now.frame (visited_on self.now.frame train number set.now)) }
+            ≡ written self.now.encoder (visited_on self.now.encoder train number set.now)) }
     {
         let visit = Visit {
             number,
@@ -63,41 +63,41 @@ impl Tables<'_> {
                 train,
                 route: *route,
             };
-            let literal = self.frame.given(command, self.frame.steps.count);
-            let visits = self.frame.may_visit(&visit, *route);
+            let literal = self.encoder.given(command, self.encoder.steps.count);
+            let visits = self.encoder.may_visit(&visit, *route);
             push_if(&mut clause, literal, visits)?;
         }
         Ok(clause)
     }
 
-    /// Lists that a train makes its visits.
-    fn put_visits_of(
+    /// Emits that a train makes its visits.
+    fn emit_visits_of(
         &self,
         alloc: Global,
-        draft: &mut Draft,
+        sink: &mut ClauseSink,
         train: TrainNo,
     ) -> Result<(), BaseFault>
-        requires train { IsTrain (station self.now.frame) train }
-        ensures ok { OnOk result (Lists self.now.frame (over self.now.frame makes_visits train) draft.old draft.new) }
-        ensures err { IfErr result (Stops self.now.frame (over self.now.frame makes_visits train) draft.old) }
+        requires train { IsTrain (station self.now.encoder) train }
+        ensures ok { OnOk result (Emits self.now.encoder (over self.now.encoder makes_visits train) sink.old sink.new) }
+        ensures err { IfErr result (Stops self.now.encoder (over self.now.encoder makes_visits train) sink.old) }
     {
-        let design = &self.frame.interlocking.design;
+        let design = &self.encoder.interlocking.design;
         let visits = design.train(train).visits.as_slice();
         for number in 1..visits.len() as u32 + 1 {
             let set = &visits[number as usize - 1];
-            let clause = self.visited(alloc, train, number, set)?;
-            draft.put(&clause)?;
+            let clause = self.visit_clause(alloc, train, number, set)?;
+            sink.emit(&clause)?;
         }
         Ok(())
     }
 
-    /// Lists that all trains make their visits.
-    pub fn put_visits(&self, alloc: Global, draft: &mut Draft) -> Result<(), BaseFault>
-        ensures ok { OnOk result (Lists self.now.frame (all_visits self.now.frame) draft.old draft.new) }
-        ensures err { IfErr result (Stops self.now.frame (all_visits self.now.frame) draft.old) }
+    /// Emits that all trains make their visits.
+    pub fn emit_visits(&self, alloc: Global, sink: &mut ClauseSink) -> Result<(), BaseFault>
+        ensures ok { OnOk result (Emits self.now.encoder (all_visits self.now.encoder) sink.old sink.new) }
+        ensures err { IfErr result (Stops self.now.encoder (all_visits self.now.encoder) sink.old) }
     {
         for train in &self.trains {
-            self.put_visits_of(alloc, draft, *train)?;
+            self.emit_visits_of(alloc, sink, *train)?;
         }
         Ok(())
     }

@@ -2,7 +2,7 @@
 
 ghost use Rattle.std.specs.Prelude.{◌≤◌, ◌^◌};
 ghost use Rattle.rail_base.specs.Routes.{route_at};
-ghost use Rattle.plan_encoding.specs.Frames.{IsCommand, table};
+ghost use Rattle.plan_encoding.specs.Encoders.{IsCommand, table};
 ghost use Rattle.plan_encoding.specs.Releases.{TellReleases};
 
 use crate::tables::Tables;
@@ -15,8 +15,8 @@ pub struct Releasing<'a> {
     pub tables: &'a Tables<'a>,
     pub first: Command,
     pub parts: &'a [(SectionNo, i64)],
-    pub ghost first_known: { IsCommand tables.now.frame first },
-    pub ghost released: { TellReleases parts.now (route_at (table tables.now.frame) first.route) },
+    pub ghost first_known: { IsCommand tables.now.encoder first },
+    pub ghost released: { TellReleases parts.now (route_at (table tables.now.encoder) first.route) },
 }
 
 /// Two commands of which the second waits for the first, until track of so many mm is given to the first one's train.
@@ -26,7 +26,7 @@ pub struct Wait<'a> {
     pub first: Command,
     pub second: Command,
     pub bound: u128,
-    pub ghost first_known: { IsCommand tables.now.frame first },
-    pub ghost second_known: { IsCommand tables.now.frame second },
+    pub ghost first_known: { IsCommand tables.now.encoder first },
+    pub ghost second_known: { IsCommand tables.now.encoder second },
     pub ghost bounded: { bound ≤ 2 ^ 65 },
 }

@@ -7,13 +7,13 @@ ghost use Rattle.rail_base.specs.Stations.{IsTrain};
 ghost use Rattle.rail_spec.specs.Plans.{is_start};
 ghost use Rattle.plan_clauses.specs.Clauses.{chain_length, onward, waits};
 ghost use Rattle.plan_encoding.specs.Families.{all_wait, each_with, one_given, one_not_given};
-ghost use Rattle.plan_encoding.specs.Frames.{IsCommand, Lists, Stops, station, table, written};
+ghost use Rattle.plan_encoding.specs.Encoders.{IsCommand, Emits, Stops, station, table, written};
 ghost use Rattle.plan_encoding.specs.Waits.{frame_of, waits_at, waits_for_it, waits_in, waits_on};
 
-use crate::draft::{BaseFault, Draft};
-use crate::frame::Frame;
+use crate::encoder::Encoder;
 use crate::links::row_of;
 use crate::releases::{last_release, releases};
+use crate::sink::{BaseFault, ClauseSink};
 use crate::tables::Tables;
 use crate::wait::{Releasing, Wait};
 use rail_base::plan::Command;
@@ -22,7 +22,7 @@ use rail_base::station::TrainNo;
 use sat_clause::Lit;
 use std::alloc::{AllocError, Global};
 
-impl Frame<'_> {
+impl Encoder<'_> {
     /// Whether one of the routes starts there.
     fn start_there(&self, chain: &[RouteNo], start: Start) -> bool
         requires { All (IsRoute (table self.now)) chain.now }
@@ -100,41 +100,41 @@ impl Wait<'_> {
         ensures { IfOk result (λ clause. clause.items
             ≡ written (frame_of self.now) (waits_in self.now chain.now further.now step)) }
     {
-        let frame = self.tables.frame;
+        let encoder = self.tables.encoder;
         let mut clause = Vec::new(alloc);
-        frame.push_none_given(&mut clause, self.first.train, chain, step)?;
-        clause.push(frame.not_given(self.second, step + 1))?;
-        clause.push(frame.given(self.second, step))?;
-        frame.push_all_given(&mut clause, self.first.train, further, step)?;
+        encoder.push_none_given(&mut clause, self.first.train, chain, step)?;
+        clause.push(encoder.not_given(self.second, step + 1))?;
+        clause.push(encoder.given(self.second, step))?;
+        encoder.push_all_given(&mut clause, self.first.train, further, step)?;
         Ok(clause)
     }
 
-    /// Lists that a command waits for a chain, at each step.
-    fn put_waiting(
+    /// Emits that a command waits for a chain, at each step.
+    fn emit_waiting(
         &self,
         alloc: Global,
-        draft: &mut Draft,
+        sink: &mut ClauseSink,
         chain: &[RouteNo],
         further: &[RouteNo],
     ) -> Result<(), BaseFault>
         requires chain { All (IsRoute (table (frame_of self.now))) chain.now }
         requires further { All (IsRoute (table (frame_of self.now))) further.now }
-        ensures ok { OnOk result (Lists (frame_of self.now) (waits_at self.now chain.now further.now)
-            draft.old draft.new) }
-        ensures err { IfErr result (Stops (frame_of self.now) (waits_at self.now chain.now further.now) draft.old) }
+        ensures ok { OnOk result (Emits (frame_of self.now) (waits_at self.now chain.now further.now)
+            sink.old sink.new) }
+        ensures err { IfErr result (Stops (frame_of self.now) (waits_at self.now chain.now further.now) sink.old) }
     {
-        for step in 1..self.tables.frame.steps.count {
+        for step in 1..self.tables.encoder.steps.count {
             let clause = self.waiting(alloc, chain, further, step)?;
-            draft.put(&clause)?;
+            sink.emit(&clause)?;
         }
         Ok(())
     }
 
-    /// Lists that a command waits, for each chain that begins with the given routes and then this one.
-    fn put_chains(
+    /// Emits that a command waits, for each chain that begins with the given routes and then this one.
+    fn emit_chains(
         &self,
         alloc: Global,
-        draft: &mut Draft,
+        sink: &mut ClauseSink,
         chain: &mut Vec<RouteNo>,
         covered: u128,
         route: RouteNo,
@@ -145,16 +145,16 @@ impl Wait<'_> {
         requires short { covered ≤ self.now.bound }
         requires route { IsRoute (table (frame_of self.now)) route }
         ensures same { OnOk result (chain.new.items ≡ chain.old.items) }
-        ensures ok { OnOk result (Lists (frame_of self.now)
-            (waits_on self.now more chain.old.items route) draft.old draft.new) }
+        ensures ok { OnOk result (Emits (frame_of self.now)
+            (waits_on self.now more chain.old.items route) sink.old sink.new) }
         ensures err { IfErr result (Stops (frame_of self.now)
-            (waits_on self.now more chain.old.items route) draft.old) }
+            (waits_on self.now more chain.old.items route) sink.old) }
     {
         if more == 0 {
             return Ok(());
         }
-        let frame = self.tables.frame;
-        let last = route_at(&frame.interlocking.routes, route);
+        let encoder = self.tables.encoder;
+        let last = route_at(&encoder.interlocking.routes, route);
         if last.exits() {
             return Ok(());
         }
@@ -164,9 +164,9 @@ impl Wait<'_> {
         }
         chain.push(route)?;
         let further = self.tables.onward(alloc, chain, route)?;
-        self.put_waiting(alloc, draft, chain, &further)?;
+        self.emit_waiting(alloc, sink, chain, &further)?;
         for next in &further {
-            self.put_chains(alloc, draft, chain, total, *next, more - 1)?;
+            self.emit_chains(alloc, sink, chain, total, *next, more - 1)?;
         }
         chain.pop();
         Ok(())
@@ -174,19 +174,19 @@ impl Wait<'_> {
 }
 
 impl Releasing<'_> {
-    /// Lists that a command waits for this one.
-    fn put_waits_of(
+    /// Emits that a command waits for this one.
+    fn emit_waits_of(
         &self,
         alloc: Global,
-        draft: &mut Draft,
+        sink: &mut ClauseSink,
         second: Command,
     ) -> Result<(), BaseFault>
-        requires second { IsCommand self.now.tables.now.frame second }
-        ensures ok { OnOk result (Lists self.now.tables.now.frame (waits_for_it self.now second) draft.old draft.new) }
-        ensures err { IfErr result (Stops self.now.tables.now.frame (waits_for_it self.now second) draft.old) }
+        requires second { IsCommand self.now.tables.now.encoder second }
+        ensures ok { OnOk result (Emits self.now.tables.now.encoder (waits_for_it self.now second) sink.old sink.new) }
+        ensures err { IfErr result (Stops self.now.tables.now.encoder (waits_for_it self.now second) sink.old) }
     {
         let tables = self.tables;
-        let interlocking = tables.frame.interlocking;
+        let interlocking = tables.encoder.interlocking;
         let release = last_release(self.parts, interlocking.sections(second.route));
         let length = interlocking.design.vehicle_of(self.first.train).length_mm;
         let wait = Wait {
@@ -197,7 +197,7 @@ impl Releasing<'_> {
         };
         let more = interlocking.routes.len() as u32;
         let mut chain = Vec::new(alloc);
-        wait.put_chains(alloc, draft, &mut chain, 0, self.first.route, more)
+        wait.emit_chains(alloc, sink, &mut chain, 0, self.first.route, more)
     }
 }
 
@@ -210,39 +210,39 @@ impl Tables<'_> {
         chain: &[RouteNo],
         last: RouteNo,
     ) -> Result<Vec<RouteNo>, AllocError>
-        requires chain { All (IsRoute (table self.now.frame)) chain.now }
-        requires last { IsRoute (table self.now.frame) last }
-        ensures { IfOk result (λ rs. rs.items ≡ onward (table self.now.frame) chain.now last) }
+        requires chain { All (IsRoute (table self.now.encoder)) chain.now }
+        requires last { IsRoute (table self.now.encoder) last }
+        ensures { IfOk result (λ rs. rs.items ≡ onward (table self.now.encoder) chain.now last) }
     {
         let row = row_of(&self.going_on, last);
         let Some(first) = row.first() else {
             return Ok(Vec::new(alloc));
         };
-        let start = route_at(&self.frame.interlocking.routes, *first).start;
-        if self.frame.start_there(chain, start) {
+        let start = route_at(&self.encoder.interlocking.routes, *first).start;
+        if self.encoder.start_there(chain, start) {
             return Ok(Vec::new(alloc));
         }
         Vec::from_slice(alloc, row)
     }
 
-    /// Lists that rivals wait for a command; for one whose route exits no chain is listed.
-    fn put_waits_for(
+    /// Emits that rivals wait for a command; for one whose route exits no chain is emitted.
+    fn emit_waits_for(
         &self,
         alloc: Global,
-        draft: &mut Draft,
+        sink: &mut ClauseSink,
         first: Command,
         rivals: &[Command],
     ) -> Result<(), BaseFault>
-        requires first { IsCommand self.now.frame first }
-        requires rivals { All (IsCommand self.now.frame) rivals.now }
-        ensures ok { OnOk result (Lists self.now.frame (each_with self.now.frame waits first rivals.now)
-            draft.old draft.new) }
-        ensures err { IfErr result (Stops self.now.frame (each_with self.now.frame waits first rivals.now) draft.old) }
+        requires first { IsCommand self.now.encoder first }
+        requires rivals { All (IsCommand self.now.encoder) rivals.now }
+        ensures ok { OnOk result (Emits self.now.encoder (each_with self.now.encoder waits first rivals.now)
+            sink.old sink.new) }
+        ensures err { IfErr result (Stops self.now.encoder (each_with self.now.encoder waits first rivals.now) sink.old) }
     {
         if rivals.is_empty() {
             return Ok(());
         }
-        let route = route_at(&self.frame.interlocking.routes, first.route);
+        let route = route_at(&self.encoder.interlocking.routes, first.route);
         if route.exits() {
             return Ok(());
         }
@@ -253,22 +253,22 @@ impl Tables<'_> {
             parts: &parts,
         };
         for second in rivals {
-            releasing.put_waits_of(alloc, draft, *second)?;
+            releasing.emit_waits_of(alloc, sink, *second)?;
         }
         Ok(())
     }
 
-    /// Lists that all contending commands wait for each other. With one step there is nothing to list.
-    pub fn put_waits(&self, alloc: Global, draft: &mut Draft) -> Result<(), BaseFault>
-        ensures ok { OnOk result (Lists self.now.frame (all_wait self.now.frame) draft.old draft.new) }
-        ensures err { IfErr result (Stops self.now.frame (all_wait self.now.frame) draft.old) }
+    /// Emits that all contending commands wait for each other. With one step there is nothing to list.
+    pub fn emit_waits(&self, alloc: Global, sink: &mut ClauseSink) -> Result<(), BaseFault>
+        ensures ok { OnOk result (Emits self.now.encoder (all_wait self.now.encoder) sink.old sink.new) }
+        ensures err { IfErr result (Stops self.now.encoder (all_wait self.now.encoder) sink.old) }
     {
-        if self.frame.steps.count == 1 {
+        if self.encoder.steps.count == 1 {
             return Ok(());
         }
         for command in &self.commands {
             let rivals = self.rivals(alloc, *command)?;
-            self.put_waits_for(alloc, draft, *command, &rivals)?;
+            self.emit_waits_for(alloc, sink, *command, &rivals)?;
         }
         Ok(())
     }

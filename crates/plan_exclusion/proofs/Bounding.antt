@@ -23,11 +23,11 @@ use Rattle.rail_spec.specs.Feasible.{IsRunnable}
 use Rattle.rail_spec.specs.Track.{routes_of}
 use Rattle.sat_clause.specs.declared.lit.Lit.{Lit}
 use Rattle.sat_clause.specs.Clauses.{clause_holds}
-use Rattle.sat_clause.specs.Hints.{is_held}
+use Rattle.sat_clause.specs.Hints.{is_assigned}
 use Rattle.sat_core.specs.Models.{value_in}
 use Rattle.plan_exclusion.specs.declared.method.Method.TheVariants.{Bounds}
 use Rattle.plan_exclusion.specs.Exclusions.{IsExclusion}
-use Rattle.plan_exclusion.specs.Failures.{FailsSo, TellOf}
+use Rattle.plan_exclusion.specs.Failures.{FailsSo, AreValuesOfPlan}
 use Rattle.plan_exclusion.proofs.Below.{bound-below}
 use Rattle.plan_exclusion.proofs.Modelling.{bound_alike}
 use Rattle.plan_exclusion.proofs.Showing.{shown_valid}
@@ -42,7 +42,7 @@ module _ (d : Station) (n : ℕ) (some : 1 ≤ n) (plan : List (List Command)) (
   bound_says b valid =
       each_alike d (routes_of d) n some plan (short_enough d (routes_of d) n plan runs.well_formed.formed) (clause_of_bound d (routes_of d) b) (all_known d (routes_of d) b (fits_design d (routes_of d) b valid))
 
-  module _ (values : List Bool) (told : TellOf d n values plan) where
+  module _ (values : List Bool) (told : AreValuesOfPlan d n values plan) where
     -- it is false of the plan where the values make it false
     false_so : (b : Bound) → is_valid_bound d (routes_of d) b ≡ true → clause_holds (value_in values) (numbered_bound d (routes_of d) n b) ≡ false → is_false_of plan (clause_of_bound d (routes_of d) b) ≡ true
     false_so b valid denied =
@@ -61,7 +61,7 @@ module _ (d : Station) (n : ℕ) (some : 1 ≤ n) (plan : List (List Command)) (
           shown_by = (record { history = history; tick = tick; violation = violation; fails = fails }, (s.0, false_so b s.0 (ap (clause_holds (value_in values)) s.1 ∙ denied)));
           shows = shows;
           clause_is = sym s.1;
-          below = λ l h. bound-below d (routes_of d) n some b (fits_design d (routes_of d) b s.0) l (subst (λ (c : List Lit). is_held c l ≡ true) (sym s.1) h);
+          below = λ l h. bound-below d (routes_of d) n some b (fits_design d (routes_of d) b s.0) l (subst (λ (c : List Lit). is_assigned c l ≡ true) (sym s.1) h);
           stands = refl;
           written = text.1;
           line_is = sym text.0;

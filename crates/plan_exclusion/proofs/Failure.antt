@@ -23,7 +23,7 @@ use Rattle.rail_spec.specs.Feasible.{IsWellFormed, IsRunnable}
 use Rattle.rail_spec.specs.Histories.{verdict_of}
 use Rattle.rail_spec.specs.Track.{routes_of}
 use Rattle.sat_clause.specs.declared.lit.Lit.{Lit}
-use Rattle.sat_clause.specs.Hints.{is_held}
+use Rattle.sat_clause.specs.Hints.{is_assigned}
 use Rattle.timing_refuter.specs.Small.{IsSmall}
 use Rattle.plan_exclusion.specs.declared.method.Method.{Method}
 use Rattle.plan_exclusion.specs.Exclusions.{IsExclusion}
@@ -65,7 +65,7 @@ module _ (d : Station) (n : ℕ) (routes : List Route) (table : routes ≡ route
           shown_by = (record { history = history; tick = tick; violation = violation; fails = fails }, subst (λ (r : List Route). IsSliceOf d r plan tick violation cone) table is);
           shows = cone_shows d n plan cone own ∙ ap Ok (sym told);
           clause_is = told;
-          below = λ l h. numbered-below d (routes_of d) n some cone (holds_of_valid d (routes_of d) cone own.valid).in_design l (subst (λ (c : List Lit). is_held c l ≡ true) told h);
+          below = λ l h. numbered-below d (routes_of d) n some cone (holds_of_valid d (routes_of d) cone own.valid).in_design l (subst (λ (c : List Lit). is_assigned c l ≡ true) told h);
           stands = refl;
           written = cone-written d good routes n cone plan most refutes_so (small each);
           line_is = text;

@@ -13,10 +13,10 @@ use Rattle.rail_spec.specs.Plans.{is_well_formed, one_each, is_path, path_routes
 formed_within : (d : Station) (routes : List Route) (n m : ℕ) (plan : List (List Command)) → n ≤ m → is_well_formed d routes n plan ≡ true → is_well_formed d routes m plan ≡ true
 formed_within d routes n m plan le h =
     let paths = list_all (λ t. is_path (train_of d t) (path_routes routes plan t)) (trains d) in
-    let front = and_left (nat_le (length plan) n && list_all one_each plan) paths h in
-    let short : length plan ≤ n = leb-true (length plan) n (and_left (nat_le (length plan) n) (list_all one_each plan) front) in
+    let prefix = and_left (nat_le (length plan) n && list_all one_each plan) paths h in
+    let short : length plan ≤ n = leb-true (length plan) n (and_left (nat_le (length plan) n) (list_all one_each plan) prefix) in
     and_both (nat_le (length plan) m && list_all one_each plan) paths
-    (and_both (nat_le (length plan) m) (list_all one_each plan) (le-leb (length plan) m (omega arith)) (and_right (nat_le (length plan) n) (list_all one_each plan) front))
+    (and_both (nat_le (length plan) m) (list_all one_each plan) (le-leb (length plan) m (omega arith)) (and_right (nat_le (length plan) n) (list_all one_each plan) prefix))
     (and_right (nat_le (length plan) n && list_all one_each plan) paths h)
 
 pub well_formed_within : (d : Station) (routes : List Route) (n m : ℕ) (plan : List (List Command)) → n ≤ m → IsWellFormed d routes n plan → IsWellFormed d routes m plan

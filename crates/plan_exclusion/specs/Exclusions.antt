@@ -12,7 +12,7 @@ use Rattle.rail_base.specs.declared.station.Station.{Station}
 use Rattle.rail_bound.specs.declared.Evidence.{Evidence}
 use Rattle.rail_spec.specs.Track.{routes_of}
 use Rattle.sat_clause.specs.declared.lit.Lit.{Lit}
-use Rattle.sat_clause.specs.Hints.{is_held}
+use Rattle.sat_clause.specs.Hints.{is_assigned}
 use Rattle.plan_exclusion.specs.declared.method.Method.{Method}
 use Rattle.plan_exclusion.specs.declared.method.Method.TheVariants.{Cones, Bounds}
 use Rattle.plan_exclusion.specs.Failures.{IsShownBy, clause_shown}
@@ -29,7 +29,7 @@ pub record IsExclusion (m : Method) (d : Station) (n : ℕ) (plan : List (List C
   pub shown_by : IsShownBy d plan evidence
   pub shows : refuted d n evidence ≡ Ok clause
   pub clause_is : clause ≡ clause_shown d n evidence
-  pub below : (l : Lit) → is_held clause l ≡ true → (1 ≤ l.var) × (l.var < variable_count d (routes_of d) n)
+  pub below : (l : Lit) → is_assigned clause l ≡ true → (1 ≤ l.var) × (l.var < variable_count d (routes_of d) n)
   pub stands : may_stand (head_for m d n) evidence ≡ true
   pub written : keeps_grammar (Refute evidence) ≡ true
   pub line_is : line ≡ text_of_line (Refute evidence)

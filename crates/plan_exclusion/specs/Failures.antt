@@ -27,7 +27,7 @@ abbrev pub FailsSo : Station → List (List Command) → List TrainHistory → �
 FailsSo d plan history tick violation = verdict_of d (routes_of d) plan tick ≡ Failed history tick violation
 
 -- values of the variables of n steps tell of the plan
-pub record TellOf (d : Station) (n : ℕ) (values : List Bool) (plan : List (List Command)) : Type 0 where
+pub record AreValuesOfPlan (d : Station) (n : ℕ) (values : List Bool) (plan : List (List Command)) : Type 0 where
   pub holds : list_all (clause_holds (value_in values)) (base_clauses d (routes_of d) n) ≡ true
   pub told : plan ≡ decoded d (routes_of d) n (value_in values)
 

@@ -8,14 +8,14 @@ ghost use Rattle.rail_bound.specs.declared.Evidence.TheVariants as evidence;
 ghost use Rattle.rail_slice.specs.Holders.{GivesEach};
 ghost use Rattle.rail_spec.specs.Feasible.{IsRunnable};
 ghost use Rattle.rail_spec.specs.Track.{routes_of};
-ghost use Rattle.plan_exclusion.specs.Failures.{FailsSo, TellOf};
+ghost use Rattle.plan_exclusion.specs.Failures.{FailsSo, AreValuesOfPlan};
 ghost use Rattle.plan_exclusion.specs.declared.method.Method.TheVariants as by;
 
 use crate::denied::is_denied;
 use crate::method::Method;
 use bound_finder::Finder;
 use cone_clause::clause_of;
-use cone_design::Contention;
+use cone_form::Contention;
 use interlocking::Steps;
 use log_checker::{RefuteFault, Refuter};
 use proof_judge::ByDesign;
@@ -52,7 +52,7 @@ pub struct FailedPlan<'a, 'b> {
         IsRunnable d (routes_of d) steps.count plan.now.steps },
     pub ghost each: { GivesEach contention.interlocking.now.design.station plan.now.steps },
     pub ghost fails: { FailsSo contention.interlocking.now.design.station plan.now.steps history.now tick violation },
-    pub ghost told: { TellOf contention.interlocking.now.design.station steps.count values.now plan.now.steps },
+    pub ghost told: { AreValuesOfPlan contention.interlocking.now.design.station steps.count values.now plan.now.steps },
 }
 
 impl FailedPlan<'_, '_> {

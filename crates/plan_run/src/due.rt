@@ -9,6 +9,17 @@ use rail_base::design::Design;
 use rail_base::station::Within;
 use rail_require::{TrainHistory, visit_tick};
 
+/// The next tick, up to the last, at which a greatest time may end.
+pub(crate) fn next_due(design: &Design, history: &[TrainHistory], now: u64, last: u64) -> u64
+    requires now { now < last }
+    ensures after { now < result }
+    ensures within { result ≤ last }
+    ensures undue { (w : Within) → In w design.now.station.withins
+        → IsNotDue design.now.station history.now now (result - 1 - now) w }
+{
+    now + 1 + all_open_for(design, history, now, last - now - 1)
+}
+
 /// For how many ticks after a tick, up to so many, the greatest time of a within does not end.
 fn open_for(design: &Design, history: &[TrainHistory], within: &Within, tick: u64, most: u64) -> u64
     requires { tick < 18446744073709551615 }
@@ -46,15 +57,4 @@ fn all_open_for(design: &Design, history: &[TrainHistory], tick: u64, most: u64)
         quiet = open_for(design, history, within, tick, quiet);
     }
     quiet
-}
-
-/// The next tick, up to the last, at which a greatest time may end.
-pub(crate) fn next_due(design: &Design, history: &[TrainHistory], now: u64, last: u64) -> u64
-    requires now { now < last }
-    ensures after { now < result }
-    ensures within { result ≤ last }
-    ensures undue { (w : Within) → In w design.now.station.withins
-        → IsNotDue design.now.station history.now now (result - 1 - now) w }
-{
-    now + 1 + all_open_for(design, history, now, last - now - 1)
 }

@@ -18,10 +18,33 @@ use interlocking::Interlocking;
 use rail_base::history::Verdict;
 use rail_base::list::List;
 use rail_base::plan::Plan;
-use rail_course::{Courses, Itineraries, PlannedCourses, paths_of};
+use rail_course::{Itineraries, PlannedCourses, TrainPaths, paths_of};
 use rail_require::{are_done, violation_shown};
 use std::alloc::{AllocError, Global};
 use tick_sim::Run;
+
+/// What so many ticks of a run show of a plan: that it meets the design, that it fails and why, or nothing yet. The
+/// history ends with the deciding tick.
+///
+/// At whatever tick each train is within its authority and its limits. Where the plan is executable too, no two trains
+/// ever hold one section or stand on one, and each command is granted in a bounded time.
+pub fn simulate(
+    alloc: Global,
+    interlocking: &Interlocking,
+    plan: &Plan,
+    ticks: u64,
+) -> Result<Verdict, AllocError>
+    requires formed { IsWellFormed interlocking.now.design.station interlocking.now.routes 256 plan.now.steps }
+    ensures value { IfOk result (λ v. v
+        ≡ verdict_of interlocking.now.design.station interlocking.now.routes plan.now.steps ticks) }
+    ensures keeps { KeepsToTrack interlocking.now.design.station interlocking.now.routes plan.now.steps }
+    ensures granted { is_executable interlocking.now.design.station interlocking.now.routes plan.now.steps ≡ true
+        → IsGrantedInTime interlocking.now.design.station interlocking.now.routes plan.now.steps }
+    ensures apart { is_executable interlocking.now.design.station interlocking.now.routes plan.now.steps ≡ true
+        → (k : ℕ) → Clash interlocking.now.design.station interlocking.now.routes plan.now.steps k → ⊥ }
+{
+    run_plan(alloc, interlocking, plan, ticks)
+}
 
 /// The verdict of a plan whose paths make all visits: it is asked at each tick at which something happens to a train or
 /// a greatest time may end.
@@ -103,12 +126,12 @@ fn run_plan<'a>(
         interlocking,
         paths: paths.as_slice(),
     };
-    let courses = given.courses(alloc)?;
-    let courses = Courses {
+    let train_paths = given.train_paths(alloc)?;
+    let train_paths = TrainPaths {
         given,
-        courses: courses.as_slice(),
+        train_paths: train_paths.as_slice(),
     };
-    let planned = PlannedCourses { courses, plan };
+    let planned = PlannedCourses { train_paths, plan };
     let journeys = journeys(alloc, &planned)?;
     let run = Run {
         interlocking,
@@ -116,27 +139,4 @@ fn run_plan<'a>(
         journeys: journeys.as_slice(),
     };
     verdict(&run, alloc, ticks)
-}
-
-/// What so many ticks of a run show of a plan: that it meets the design, that it fails and why, or nothing yet. The
-/// history ends with the deciding tick.
-///
-/// At whatever tick each train is within its authority and its limits. Where the plan is executable too, no two trains
-/// ever hold one section or stand on one, and each command is granted in a bounded time.
-pub fn simulate(
-    alloc: Global,
-    interlocking: &Interlocking,
-    plan: &Plan,
-    ticks: u64,
-) -> Result<Verdict, AllocError>
-    requires formed { IsWellFormed interlocking.now.design.station interlocking.now.routes 256 plan.now.steps }
-    ensures value { IfOk result (λ v. v
-        ≡ verdict_of interlocking.now.design.station interlocking.now.routes plan.now.steps ticks) }
-    ensures keeps { KeepsToTrack interlocking.now.design.station interlocking.now.routes plan.now.steps }
-    ensures granted { is_executable interlocking.now.design.station interlocking.now.routes plan.now.steps ≡ true
-        → IsGrantedInTime interlocking.now.design.station interlocking.now.routes plan.now.steps }
-    ensures apart { is_executable interlocking.now.design.station interlocking.now.routes plan.now.steps ≡ true
-        → (k : ℕ) → Clash interlocking.now.design.station interlocking.now.routes plan.now.steps k → ⊥ }
-{
-    run_plan(alloc, interlocking, plan, ticks)
 }

@@ -109,10 +109,10 @@ module _ (d : Station) where
 
   -- ---- well formed
 
-  front : (n : ℕ) (plan : List (List Command)) → take n (ordered plan) ≡ ordered (take n plan)
-  front zero plan = refl
-  front (suc n) [] = refl
-  front (suc n) (s ∷ ss) = ap (λ zs. in_file_order d s ∷ zs) (front n ss)
+  prefix : (n : ℕ) (plan : List (List Command)) → take n (ordered plan) ≡ ordered (take n plan)
+  prefix zero plan = refl
+  prefix (suc n) [] = refl
+  prefix (suc n) (s ∷ ss) = ap (λ zs. in_file_order d s ∷ zs) (prefix n ss)
 
   entry_routes : (t : TrainNo) → IsTrain d t → (plan : List (List Command)) (i : ℕ) → routes_given t (entry [] (ordered plan) i) ≡ routes_given t (entry [] plan i)
   entry_routes t k plan zero = refl
@@ -123,7 +123,7 @@ module _ (d : Station) where
   module _ (routes : List Route) where
     same_place : (plan : List (List Command)) (i : ℕ) (t : TrainNo) → IsTrain d t → is_placed d routes (take (i - 1) (ordered plan)) (entry [] (ordered plan) i) t ≡ is_placed d routes (take (i - 1) plan) (entry [] plan i) t
     same_place plan i t k =
-        ap₂ (λ ps rs. may_go_on (train_of d t) (map (route_at routes) ps) (map (route_at routes) rs)) (ap (λ p. path p t) (front (i - 1) plan) ∙ own_path t k (take (i - 1) plan)) (entry_routes t k plan i)
+        ap₂ (λ ps rs. may_go_on (train_of d t) (map (route_at routes) ps) (map (route_at routes) rs)) (ap (λ p. path p t) (prefix (i - 1) plan) ∙ own_path t k (take (i - 1) plan)) (entry_routes t k plan i)
 
     pub same_misplaced : (n : ℕ) (plan : List (List Command)) → misplaced d routes n (ordered plan) ≡ misplaced d routes n plan
     same_misplaced n plan =

@@ -142,7 +142,7 @@ mutual
   texts later (item d ds) h = IsUtf8-append (comma_if later) _ (comma_text later) (IsUtf8-append (compact_text d) (items_text true ds) (text d h.0) (texts true ds h.1))
 
 -- the text of a plain value is that value
-pub spelled : (d : Data) → IsPlain d → tree.depth (outline d) ≤ max_depth → json_of (compact_text d) ≡ Some d
-spelled d h low =
+pub parsed : (d : Data) → IsPlain d → tree.depth (outline d) ≤ max_depth → json_of (compact_text d) ≡ Some d
+parsed d h low =
     ap (λ b. if b then read (compact_text d) else None) (is_utf8-from_IsUtf8 (compact_text d) (text d h))
     ∙ read_back d h low

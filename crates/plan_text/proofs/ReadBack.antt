@@ -37,7 +37,7 @@ use Rattle.rail_plan.proofs.Standing.{free_of_executable}
 use Rattle.plan_text.specs.Text.{in_file_order, command_value, step_value, plan_value, plan_text}
 use Rattle.plan_text.proofs.Names.{name_is_text}
 use Rattle.plan_text.proofs.Ordered.{none_kept, in_step, ordered, train_there, ordered_executable, same_misplaced}
-use Rattle.plan_text.proofs.Plain.{IsPlain, plain_items, shallow, spelled}
+use Rattle.plan_text.proofs.Plain.{IsPlain, plain_items, shallow, parsed}
 
 -- ---- the shape
 
@@ -176,7 +176,7 @@ module _ (d : Station) (good : is_admitted d ≡ true) (routes : List Route) (pl
 
   read_so : length routes < 2 ^ 32 → IsRunnable d routes 256 plan → plan_of d routes (plan_text d plan) ≡ Ok (ordered d plan)
   read_so few run =
-      ap (λ o. plan_of_text d routes (option_and_then text_steps o)) (spelled (plan_value d plan) (plain few) low)
+      ap (λ o. plan_of_text d routes (option_and_then text_steps o)) (parsed (plan_value d plan) (plain few) low)
       ∙ ap (plan_of_text d routes) (steps_spelled d plan)
       ∙ ap (λ ps. unless P2 ps (admitted_plan d routes (planned names many (map (written_step d) plan)))) none_unknown
       ∙ ap (admitted_plan d routes) all_planned

@@ -14,6 +14,14 @@ use serde_json::{Value, json};
 use std::alloc::{AllocError, Global};
 use std::str;
 
+/// The plan: an object with the one key `steps`.
+pub(crate) fn plan_value(alloc: Global, design: &Design, plan: &Plan) -> Result<Value, AllocError>
+    ensures { IfOk result (λ v. view v ≡ plan_value design.now.station plan.now.steps) }
+{
+    let steps = steps_values(alloc, design, plan.steps.as_slice())?;
+    json!(in alloc; {"steps": steps})
+}
+
 /// The name of a train, which is letters, digits, `_` and `-`.
 fn name_of(design: &Design, train: TrainNo) -> &str
     requires { IsTrain design.now.station train }
@@ -79,12 +87,4 @@ fn steps_values(
         values.push(value)?;
     }
     Ok(values)
-}
-
-/// The plan: an object with the one key `steps`.
-pub(crate) fn plan_value(alloc: Global, design: &Design, plan: &Plan) -> Result<Value, AllocError>
-    ensures { IfOk result (λ v. view v ≡ plan_value design.now.station plan.now.steps) }
-{
-    let steps = steps_values(alloc, design, plan.steps.as_slice())?;
-    json!(in alloc; {"steps": steps})
 }

@@ -9,8 +9,8 @@ use Rattle.bound_clause.proofs.Holding.{bound_holds}
 use Rattle.bound_clause.specs.Numbered.{numbered_bound}
 use Rattle.cone_clause.specs.Numbered.{numbered_clause}
 use Rattle.cone_clause.proofs.Agreeing.{holds_of_feasible}
-use Rattle.log_checker.specs.declared.shown.Shown.TheVariants.{Yes, No}
-use Rattle.log_checker.specs.declared.shown.Reason.TheVariants.{HeadDiffers, BaseTooLarge}
+use Rattle.log_checker.specs.declared.check_result.CheckResult.TheVariants.{Yes, No}
+use Rattle.log_checker.specs.declared.check_result.Reason.TheVariants.{HeadDiffers, BaseTooLarge}
 use Rattle.log_checker.specs.Laws.{Denies}
 use Rattle.log_checker.specs.Truth.{clauses_hold}
 use Rattle.log_checker.specs.Verdict.{head_in}
@@ -71,15 +71,15 @@ both : (a b : Bool) → (a && b) ≡ true → (a ≡ true) × (b ≡ true)
 both true b h = (refl, h)
 both false b h = absurd (cc)
 
-front : (values : ℕ → Bool) (xs ys : List (List Lit)) → list_all (clause_holds values) (xs ++ ys) ≡ true → list_all (clause_holds values) xs ≡ true
-front values [] ys h = refl
-front values (x ∷ xs) ys h =
+prefix : (values : ℕ → Bool) (xs ys : List (List Lit)) → list_all (clause_holds values) (xs ++ ys) ≡ true → list_all (clause_holds values) xs ≡ true
+prefix values [] ys h = refl
+prefix values (x ∷ xs) ys h =
     let p = both (clause_holds values x) (list_all (clause_holds values) (xs ++ ys)) h in
-    rw (p.0, front values xs ys p.1) refl
+    rw (p.0, prefix values xs ys p.1) refl
 
 named_hold : (head : Head) (d : Station) (n : ℕ) (values : ℕ → Bool) → list_all (clause_holds values) (sorted_base d (routes_of d) n) ≡ true → list_all (clause_holds values) (clauses_under head d n) ≡ true
-named_hold Plain d n values h = front values (base_clauses d (routes_of d) n) (turn_clauses d (routes_of d) n (neighbors d)) h
-named_hold (Named version steps) d n values h = front values (base_clauses d (routes_of d) n) (turn_clauses d (routes_of d) n (neighbors d)) h
+named_hold Plain d n values h = prefix values (base_clauses d (routes_of d) n) (turn_clauses d (routes_of d) n (neighbors d)) h
+named_hold (Named version steps) d n values h = prefix values (base_clauses d (routes_of d) n) (turn_clauses d (routes_of d) n (neighbors d)) h
 named_hold (Sorted version steps) d n values h = h
 
 pub denied_infeasible : (d : Station) → IsAdmitted d → (head : Head) (n k : ℕ) → 1 ≤ n → Denies (refuted d n) (variable_count d (routes_of d) n) n (all_live (clauses_under head d n)) k → IsInfeasible d k

@@ -2,9 +2,9 @@
 use Rattle.std.proofs.Common.{◌≡◌, ℕ, true, false, not, ◌&&◌, ◌==◌, if◌then◌else◌, is_some, List, ◌++◌, Option, None, Some, Result, IfOk, sym, ap, ◌∙◌, subst}
 use Rattle.std.proofs.lemmas.List.{map-append}
 use Rattle.alike_clauses.specs.Sorted.{sorted_base}
-use Rattle.log_checker.specs.declared.shown.Shown.{Shown}
-use Rattle.log_checker.specs.declared.shown.Shown.TheVariants.{No}
-use Rattle.log_checker.specs.declared.shown.Reason.TheVariants.{HeadDiffers, BaseTooLarge}
+use Rattle.log_checker.specs.declared.check_result.CheckResult.{CheckResult}
+use Rattle.log_checker.specs.declared.check_result.CheckResult.TheVariants.{No}
+use Rattle.log_checker.specs.declared.check_result.Reason.TheVariants.{HeadDiffers, BaseTooLarge}
 use Rattle.log_checker.specs.Verdict.{log_verdict}
 use Rattle.plan_clauses.specs.Clauses.{base_clauses, past_limit}
 use Rattle.plan_clauses.specs.Variables.{variable_count}
@@ -20,7 +20,7 @@ use Rattle.rail_spec.specs.Track.{routes_of}
 use Rattle.sat_clause.specs.Clauses.{Store}
 use Rattle.proof_judge.specs.Judged.{all_live, clauses_under, judged_by, judged_under, refuted}
 
-module _ {E : Type 0} (d : Station) (n : ℕ) (bytes : List ℕ) (r : Result Shown E) where
+module _ {E : Type 0} (d : Station) (n : ℕ) (bytes : List ℕ) (r : Result CheckResult E) where
   -- what was shown over these clauses, variables and steps
   pub under : (head : Head) (steps vars : ℕ) (clauses : Store) → steps ≡ n → vars ≡ variable_count d (routes_of d) n → clauses ≡ all_live (clauses_under head d n)
       → IfOk r (λ shown. shown ≡ log_verdict head (refuted d steps) vars steps clauses bytes) → IfOk r (λ shown. shown ≡ judged_under head d n bytes)

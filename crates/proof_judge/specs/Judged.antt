@@ -5,9 +5,9 @@ use Rattle.rail_text.specs.Pieces.{pieces}
 use Rattle.alike_clauses.specs.Sorted.{sorted_base}
 use Rattle.bound_clause.specs.Numbered.{numbered_bound}
 use Rattle.cone_clause.specs.Numbered.{numbered_clause}
-use Rattle.log_checker.specs.declared.shown.Shown.{Shown}
-use Rattle.log_checker.specs.declared.shown.Shown.TheVariants.{Yes, No}
-use Rattle.log_checker.specs.declared.shown.Reason.TheVariants.{HeadDiffers, BaseTooLarge}
+use Rattle.log_checker.specs.declared.check_result.CheckResult.{CheckResult}
+use Rattle.log_checker.specs.declared.check_result.CheckResult.TheVariants.{Yes, No}
+use Rattle.log_checker.specs.declared.check_result.Reason.TheVariants.{HeadDiffers, BaseTooLarge}
 use Rattle.log_checker.specs.Verdict.{head_in, log_verdict}
 use Rattle.plan_clauses.specs.Clauses.{base_clauses, past_limit}
 use Rattle.plan_clauses.specs.Variables.{variable_count}
@@ -47,14 +47,14 @@ clauses_under (Named version steps) d n = base_clauses d (routes_of d) n
 clauses_under (Sorted version steps) d n = sorted_base d (routes_of d) n
 
 -- what the bytes show of the clauses that a head names, and of those of valid cones and bounds
-abbrev pub judged_under : Head → Station → ℕ → List ℕ → Shown
+abbrev pub judged_under : Head → Station → ℕ → List ℕ → CheckResult
 judged_under head d n bytes =
     let base = all_live (clauses_under head d n) in
     log_verdict head (refuted d n) (variable_count d (routes_of d) n) n base bytes
 
 -- the same, where a head that names a version of designs and a number of steps names these, and where its clauses are more than
 -- those of the base, they are not too many
-abbrev pub judged_by : Station → ℕ → List ℕ → Option Head → Shown
+abbrev pub judged_by : Station → ℕ → List ℕ → Option Head → CheckResult
 judged_by d n bytes (Some (Named version steps)) =
     if not (version == d.version && steps == n) then No 1 HeadDiffers else judged_under (Named version steps) d n bytes
 judged_by d n bytes (Some (Sorted version steps)) =
@@ -65,7 +65,7 @@ judged_by d n bytes (Some Plain) = judged_under Plain d n bytes
 judged_by d n bytes None = judged_under Plain d n bytes
 
 -- what the bytes show
-abbrev pub judged : Station → ℕ → List ℕ → Shown
+abbrev pub judged : Station → ℕ → List ℕ → CheckResult
 judged d n bytes = judged_by d n bytes (head_in (pieces bytes))
 
 -- where a file shows k, no plan of k steps is feasible, whoever wrote the file

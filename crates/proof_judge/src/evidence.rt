@@ -10,7 +10,7 @@ use bound_clause::clause_of as clause_of_bound;
 use bound_design::{is_covered, names_design};
 use bound_ticks::is_shown;
 use cone_clause::clause_of as clause_of_cone;
-use cone_design::Contention;
+use cone_form::Contention;
 use cone_run::fault_of;
 use interlocking::Steps;
 use log_checker::{RefuteFault, Refuter};

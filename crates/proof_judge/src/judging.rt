@@ -4,7 +4,7 @@ ghost use Rattle.std.specs.Prelude.{◌≡◌, ℕ, ◌==◌, ◌&&◌, ◌++◌
 ghost use Rattle.rail_spec.specs.Feasible.{IsInfeasible};
 ghost use Rattle.rail_spec.specs.Track.{routes_of};
 ghost use Rattle.sat_clause.specs.declared.lit.Lit.{Lit};
-ghost use Rattle.log_checker.specs.declared.shown.Shown.TheVariants.{No, Yes};
+ghost use Rattle.log_checker.specs.declared.check_result.CheckResult.TheVariants.{No, Yes};
 ghost use Rattle.log_checker.specs.Verdict.{log_verdict};
 ghost use Rattle.plan_clauses.specs.Clauses.{base_clauses};
 ghost use Rattle.plan_clauses.specs.Variables.{pairs};
@@ -14,9 +14,9 @@ ghost use Rattle.proof_log.specs.declared.head.Head.TheVariants.{Plain, Named, S
 ghost use Rattle.proof_judge.specs.Judged.{all_live, clauses_under, judged, judged_by, judged_under, refuted};
 
 use crate::evidence::ByDesign;
-use cone_design::Contention;
+use cone_form::Contention;
 use interlocking::{Interlocking, Steps};
-use log_checker::{Reason, Shown, head_in, judge_log};
+use log_checker::{CheckResult, Reason, head_in, judge_log};
 use plan_encoding::{Base, BaseFault, SortedBase, sorted_base};
 use proof_log::Head;
 use rail_base::plan::Command;
@@ -35,10 +35,10 @@ fn append(clauses: &mut Arena, more: &Arena) -> Result<(), AllocError>
 }
 
 /// What a head of a file, by itself, is bad for.
-fn bad_head(reason: Reason) -> Shown
+fn bad_head(reason: Reason) -> CheckResult
     ensures { result ≡ No 1 reason }
 {
-    Shown::No { line: 1, reason }
+    CheckResult::No { line: 1, reason }
 }
 
 /// What the bytes of a file that is to have this head show over so many variables and these clauses.
@@ -49,7 +49,7 @@ fn judge_clauses(
     vars: u32,
     clauses: Arena,
     bytes: &[u8],
-) -> Result<Shown, AllocError>
+) -> Result<CheckResult, AllocError>
     ensures { let d = design.now.contention.interlocking.now.design.station in
         IfOk result (λ shown. shown
         ≡ log_verdict head (refuted d design.now.steps.count) vars design.now.steps.count clauses bytes.now) }
@@ -79,7 +79,7 @@ fn judge_base(
     head: Head,
     base: Base,
     bytes: &[u8],
-) -> Result<Shown, AllocError>
+) -> Result<CheckResult, AllocError>
     requires base { let d = interlocking.now.design.station in IsBaseOf d (routes_of d) base.steps base }
     requires plain { let d = interlocking.now.design.station in
         clauses_under head d base.steps ≡ base_clauses d (routes_of d) base.steps }
@@ -112,7 +112,7 @@ fn judge_turns(
     named: u32,
     sorted: SortedBase,
     bytes: &[u8],
-) -> Result<Shown, AllocError>
+) -> Result<CheckResult, AllocError>
     requires base { let d = interlocking.now.design.station in IsSortedBaseOf d (routes_of d) sorted.base.steps sorted }
     ensures { IfOk result (λ shown. shown
         ≡ judged_under (Sorted version named) interlocking.now.design.station sorted.base.steps bytes.now) }
@@ -148,7 +148,7 @@ fn judge_named(
     version: u32,
     named: u32,
     bytes: &[u8],
-) -> Result<Shown, AllocError>
+) -> Result<CheckResult, AllocError>
     requires base { let d = interlocking.now.design.station in IsBaseOf d (routes_of d) base.steps base }
     ensures { IfOk result (λ shown. shown
         ≡ judged_by interlocking.now.design.station base.steps bytes.now (Some (Named version named))) }
@@ -171,7 +171,7 @@ fn judge_sorted(
     version: u32,
     named: u32,
     bytes: &[u8],
-) -> Result<Shown, AllocError>
+) -> Result<CheckResult, AllocError>
     ensures { IfOk result (λ shown. shown
         ≡ judged_by interlocking.now.design.station steps.count bytes.now (Some (Sorted version named))) }
 {
@@ -193,7 +193,7 @@ pub fn judge(
     interlocking: &Interlocking,
     base: Base,
     bytes: &[u8],
-) -> Result<Shown, AllocError>
+) -> Result<CheckResult, AllocError>
     requires base { let d = interlocking.now.design.station in IsBaseOf d (routes_of d) base.steps base }
     ensures value { IfOk result (λ shown. shown ≡ judged interlocking.now.design.station base.steps bytes.now) }
     ensures sound { (k : ℕ) → result ≡ Ok (Yes k) → IsInfeasible interlocking.now.design.station k }

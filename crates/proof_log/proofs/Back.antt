@@ -16,9 +16,9 @@ use Rattle.rail_cone.specs.declared.Cone.{Cone}
 use Rattle.rail_cone.specs.declared.ConeTrain.{ConeTrain}
 use Rattle.sat_clause.specs.declared.lit.Lit.{Lit}
 use Rattle.proof_log.specs.Words.{greatest_variable, greatest_clause_number, is_from_1_to, is_small, is_space, words_of, plain_number_of, if_small, small_number_of, if_from_1_to, variable_of, route_of, clause_number_of, literal_of, is_end, member_before, members_of}
-use Rattle.proof_log.specs.Parts.{Reads, made, with_next, first_of, has_member, if_any, parts_of, all_parts, small_number, two_numbers, command_by, command, violation, is_nothing, holder_of, train_front, train_path, train_by, cone_train, pair, cone}
+use Rattle.proof_log.specs.Parts.{Reads, made, with_next, first_of, has_member, if_any, parts_of, all_parts, small_number, two_numbers, command_by, command, violation, is_nothing, holder_of, train_prefix, train_path, train_by, cone_train, pair, cone}
 use Rattle.proof_log.specs.ConeText.{literal_word, route_word, list_words, command_words, violation_words, holder_words, train_words, pair_words, cone_words, keeps_command, keeps_violation, keeps_holder, keeps_path, keeps_train, keeps_pair, keeps_cone}
-use Rattle.proof_log.proofs.Spelled.{own}
+use Rattle.proof_log.proofs.Parsed.{own}
 use Rattle.proof_log.proofs.Told.{stops, none-back, marked, after_mark, zero-word}
 
 -- ---- numbers and literals
@@ -186,8 +186,8 @@ module _ (back : NumbersReadBack) where
   violation-read (Grant train command) rest h = rw (numbers-read (train.0, command) rest h) refl
   violation-read (Visit train visit) rest h = rw (numbers-read (train.0, visit) rest h) refl
 
-  front-read : Back (λ p. (decimal p.0 ∷ []) ++ ((decimal p.1.0 ∷ []) ++ (decimal p.1.1 ∷ []))) (λ p. is_small p.0 && (nat_le p.1.0 greatest_clause_number && is_small p.1.1)) train_front
-  front-read =
+  prefix-read : Back (λ p. (decimal p.0 ∷ []) ++ ((decimal p.1.0 ∷ []) ++ (decimal p.1.1 ∷ []))) (λ p. is_small p.0 && (nat_le p.1.0 greatest_clause_number && is_small p.1.1)) train_prefix
+  prefix-read =
       next-back (λ n. decimal n ∷ []) is_small small_number (λ p. (decimal p.0 ∷ []) ++ (decimal p.1 ∷ [])) (λ p. nat_le p.0 greatest_clause_number && is_small p.1) (λ w. with_next (first_of plain_number_of w) small_number) small-read
       (next-back (λ n. decimal n ∷ []) (λ n. nat_le n greatest_clause_number) (first_of plain_number_of) (λ n. decimal n ∷ []) is_small small_number (first-back plain_number_of decimal (λ n. nat_le n greatest_clause_number) (number-back back)) small-read)
 
@@ -226,9 +226,9 @@ module _ (back : NumbersReadBack) where
 
   pub train-read : Back after_mark keeps_train cone_train
   train-read =
-      made-back train_by parts_of_train parts_words keeps_parts after_mark keeps_train (λ w. with_next (train_front w) (λ v. with_next (train_path v) command)) train-parts
-      (next-back (λ p. (decimal p.0 ∷ []) ++ ((decimal p.1.0 ∷ []) ++ (decimal p.1.1 ∷ []))) (λ p. is_small p.0 && (nat_le p.1.0 greatest_clause_number && is_small p.1.1)) train_front
-      (λ p. list_words route_word p.0 ++ command_words p.1) (λ p. keeps_path p.0 && keeps_command p.1) (λ v. with_next (train_path v) command) front-read
+      made-back train_by parts_of_train parts_words keeps_parts after_mark keeps_train (λ w. with_next (train_prefix w) (λ v. with_next (train_path v) command)) train-parts
+      (next-back (λ p. (decimal p.0 ∷ []) ++ ((decimal p.1.0 ∷ []) ++ (decimal p.1.1 ∷ []))) (λ p. is_small p.0 && (nat_le p.1.0 greatest_clause_number && is_small p.1.1)) train_prefix
+      (λ p. list_words route_word p.0 ++ command_words p.1) (λ p. keeps_path p.0 && keeps_command p.1) (λ v. with_next (train_path v) command) prefix-read
       (next-back (list_words route_word) keeps_path train_path command_words keeps_command command path-read command-read))
 
   pairs-stop : (ps : List (Command × Command)) → stops (codes "t") (flat_map pair_words ps) ≡ true
@@ -329,8 +329,8 @@ holder-spaceless (Some c) h = numbers-spaceless c.train.0 c.route.0 (both (keeps
 
 pub train-spaceless : (c : ConeTrain) → keeps_train c ≡ true → list_all spaceless (train_words c) ≡ true
 train-spaceless c h =
-    let front : Bool = is_small c.train.0 && (nat_le c.horizon greatest_clause_number && is_small c.free) in
-    let a = both front (keeps_path c.path && keeps_holder c.holder) h in
+    let prefix : Bool = is_small c.train.0 && (nat_le c.horizon greatest_clause_number && is_small c.free) in
+    let a = both prefix (keeps_path c.path && keeps_holder c.holder) h in
     let b = both (keeps_path c.path) (keeps_holder c.holder) a.1 in
     let f = both (is_small c.train.0) (nat_le c.horizon greatest_clause_number && is_small c.free) a.0 in
     let g = both (nat_le c.horizon greatest_clause_number) (is_small c.free) f.1 in

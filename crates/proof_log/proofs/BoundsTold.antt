@@ -16,7 +16,7 @@ use Rattle.rail_bound.specs.Certificates.{violation_of}
 use Rattle.proof_log.specs.Words.{greatest_clause_number, is_small, plain_number_of, route_of, members_of}
 use Rattle.proof_log.specs.Parts.{Reads, made, with_next, first_of, has_member, part_before, small_number, two_numbers, train_path, some_cone_trains, cone_pairs}
 use Rattle.proof_log.specs.ConeText.{route_word, list_words, train_words, pair_words, keeps_path, keeps_train, keeps_pair}
-use Rattle.proof_log.proofs.Spelled.{plain-spelled, route-spelled, members-spelled}
+use Rattle.proof_log.proofs.Parsed.{plain-parsed, route-parsed, members-parsed}
 use Rattle.proof_log.proofs.Told.{Told, some-told, none-told, both, made-told, behind-told, next-told, first-told, any-told, parts-told, small-told, numbers_words, keeps_numbers, numbers-told, choose, named-told, path-told, trains-told, pairs-told}
 use Rattle.proof_log.specs.Bounds.{route, visit_by, grant_by, granted, requirement_of, requirement, cone_by, cone_parts, origin_of, origin, among_by, among, place_of, parts_until, places, some_places, leg_by, leg, legs, some_legs, bound_by, bound_after, bound}
 use Rattle.proof_log.specs.BoundText.{requirement_words, origin_words, place_words, leg_words, bound_words, keeps_route, keeps_requirement, is_of, keeps_origin, keeps_place, keeps_leg, keeps_bound}
@@ -24,7 +24,7 @@ use Rattle.proof_log.specs.BoundText.{requirement_words, origin_words, place_wor
 -- ---- the requirement
 
 route-told : (words : List (List ℕ)) → Told (λ r. route_word r ∷ []) keeps_route words (route words)
-route-told words = first-told route_of route_word keeps_route route-spelled words
+route-told words = first-told route_of route_word keeps_route route-parsed words
 
 -- the words of a train and a route
 abbrev granted_words : ℕ × RouteNo → List (List ℕ)
@@ -79,7 +79,7 @@ keeps_cone p = nat_le p.0 greatest_clause_number && keeps_both p.1
 cone-told : (words : List (List ℕ)) → Told cone_words keeps_cone words (cone_parts words)
 cone-told words =
     next-told (λ n. decimal n ∷ []) (λ n. nat_le n greatest_clause_number) both_words keeps_both (λ w. with_next (some_cone_trains w) cone_pairs) both-told
-    words (first_of plain_number_of words) (first-told plain_number_of decimal (λ n. nat_le n greatest_clause_number) plain-spelled words)
+    words (first_of plain_number_of words) (first-told plain_number_of decimal (λ n. nat_le n greatest_clause_number) plain-parsed words)
 
 -- the violation of a requirement is of it
 is-own : (q : Requirement) → is_of q (violation_of q) ≡ true
@@ -110,7 +110,7 @@ origin-told q (kind ∷ more) = origin_of-told q kind more
 -- ---- legs
 
 routes-told : (words : List (List ℕ)) → Told (list_words route_word) (list_all keeps_route) words (members_of route_of words)
-routes-told words = members-spelled route_of route_word keeps_route route-spelled words
+routes-told words = members-parsed route_of route_word keeps_route route-parsed words
 
 abbrev among_words : List RouteNo × List RouteNo → List (List ℕ)
 among_words p = list_words route_word p.0 ++ list_words route_word p.1

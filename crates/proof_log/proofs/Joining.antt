@@ -67,12 +67,12 @@ leg-parts l = spaced-append (codes "l" ∷ decimal l.train.0 ∷ []) (flat_map p
 -- the text of an origin with a cone, by its parts
 pub origin-parts : (tick : ℕ) (k : Cone) → spaced (origin_words (origins.Cone tick k)) ≡ spaced (codes "cone" ∷ decimal tick ∷ []) ++ flat_map (λ c. spaced (train_words c)) k.trains ++ flat_map (λ p. spaced (pair_words p)) k.pairs
 origin-parts tick k =
-    let front : List (List ℕ) = codes "cone" ∷ decimal tick ∷ [] in
+    let prefix : List (List ℕ) = codes "cone" ∷ decimal tick ∷ [] in
     let trains : List ℕ = flat_map (λ c. spaced (train_words c)) k.trains in
     let pairs : List ℕ = flat_map (λ p. spaced (pair_words p)) k.pairs in
     let after : spaced (flat_map train_words k.trains ++ flat_map pair_words k.pairs) ≡ trains ++ pairs =
     spaced-append (flat_map train_words k.trains) (flat_map pair_words k.pairs) ∙ rw (spaced-parts train_words k.trains, spaced-parts pair_words k.pairs) refl in
-    spaced-append front (flat_map train_words k.trains ++ flat_map pair_words k.pairs) ∙ ap (λ t. spaced front ++ t) after ∙ sym (append_assoc (spaced front) trains pairs)
+    spaced-append prefix (flat_map train_words k.trains ++ flat_map pair_words k.pairs) ∙ ap (λ t. spaced prefix ++ t) after ∙ sym (append_assoc (spaced prefix) trains pairs)
 
 -- the text of a bound, by its parts
 pub bound-parts : (b : Bound) → spaced (bound_words b) ≡ spaced (requirement_words b.requirement) ++ spaced (origin_words b.origin) ++ flat_map (λ l. spaced (leg_words l)) b.legs

@@ -1,5 +1,5 @@
 pub mod Splitting
-pub mod Spelled
+pub mod Parsed
 pub mod Told
 pub mod BoundsTold
 pub mod OneText

@@ -13,7 +13,7 @@ use Rattle.proof_log.specs.Lines.{is_increasing, if_increasing, derivation, clau
 use Rattle.proof_log.specs.ConeText.{literal_word, list_words, cone_words, keeps_cone}
 use Rattle.proof_log.specs.BoundText.{bound_words, keeps_bound}
 use Rattle.proof_log.specs.Text.{words_of_line, text_of_line, keeps_grammar}
-use Rattle.proof_log.proofs.Spelled.{clause_number-spelled, literal-spelled, members-spelled}
+use Rattle.proof_log.proofs.Parsed.{clause_number-parsed, literal-parsed, members-parsed}
 use Rattle.proof_log.proofs.Told.{Told, next-told, tested-told, any-told, choose, named-told, cone-told, all-told}
 use Rattle.proof_log.proofs.BoundsTold.{bound-told}
 
@@ -24,7 +24,7 @@ abbrev good_variables : List Lit → Bool
 good_variables = list_all (λ l. is_from_1_to greatest_variable l.var)
 
 numbers-told : (words : List (List ℕ)) → Told (list_words decimal) good_numbers words (members_of clause_number_of words)
-numbers-told words = members-spelled clause_number_of decimal (is_from_1_to greatest_clause_number) clause_number-spelled words
+numbers-told words = members-parsed clause_number_of decimal (is_from_1_to greatest_clause_number) clause_number-parsed words
 
 ordered : (words : List (List ℕ)) (o : Option (List Lit × List (List ℕ))) → Told (list_words literal_word) good_variables words o → Told (list_words literal_word) (λ c. is_increasing c && good_variables c) words (if_increasing o)
 ordered words None told = λ found e. absurd (cc)
@@ -35,7 +35,7 @@ ordered words (Some f) told =
 derivation-told : (words : List (List ℕ)) → Told (λ d. list_words literal_word d.0 ++ list_words decimal d.1) (λ d. (is_increasing d.0 && good_variables d.0) && good_numbers d.1) words (derivation words)
 derivation-told words =
     next-told (list_words literal_word) (λ c. is_increasing c && good_variables c) (list_words decimal) good_numbers (members_of clause_number_of) numbers-told words (if_increasing (members_of literal_of words))
-    (ordered words (members_of literal_of words) (members-spelled literal_of literal_word (λ l. is_from_1_to greatest_variable l.var) literal-spelled words))
+    (ordered words (members_of literal_of words) (members-parsed literal_of literal_word (λ l. is_from_1_to greatest_variable l.var) literal-parsed words))
 
 forgotten-told : (words : List (List ℕ)) → Told (list_words decimal) (λ c. has_member c && good_numbers c) words (clause_numbers words)
 forgotten-told words = any-told (list_words decimal) good_numbers words (members_of clause_number_of words) (numbers-told words)

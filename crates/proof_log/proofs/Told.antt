@@ -9,10 +9,10 @@ use Rattle.rail_base.specs.declared.plan.Violation.TheVariants.{Within, Order}
 use Rattle.rail_base.specs.declared.route.RouteNo.{RouteNo}
 use Rattle.rail_cone.specs.declared.ConeTrain.{ConeTrain}
 use Rattle.proof_log.specs.Words.{greatest_variable, greatest_clause_number, is_from_1_to, is_small, plain_number_of, small_number_of, route_of, members_of}
-use Rattle.proof_log.specs.Parts.{Reads, made, with_next, first_of, has_member, if_any, part_before, parts_of, all_parts, small_number, two_numbers, command_by, command, path_by, grant_by, visit_by, violation_of, violation, is_nothing, holder_of, train_front, train_path, train_by, cone_train, pair, cone_by, cone}
+use Rattle.proof_log.specs.Parts.{Reads, made, with_next, first_of, has_member, if_any, part_before, parts_of, all_parts, small_number, two_numbers, command_by, command, path_by, grant_by, visit_by, violation_of, violation, is_nothing, holder_of, train_prefix, train_path, train_by, cone_train, pair, cone_by, cone}
 use Rattle.proof_log.specs.Lines.{if_all}
 use Rattle.proof_log.specs.ConeText.{route_word, list_words, command_words, violation_words, holder_words, train_words, pair_words, cone_words, keeps_command, keeps_violation, keeps_holder, keeps_path, keeps_train, keeps_pair, keeps_cone}
-use Rattle.proof_log.proofs.Spelled.{plain-spelled, small-spelled, route-spelled, members-spelled}
+use Rattle.proof_log.proofs.Parsed.{plain-parsed, small-parsed, route-parsed, members-parsed}
 
 -- the words are those of what was found and those after it, and what was found is in range
 abbrev pub IsTold : {X : Type 0} → (X → List (List ℕ)) → (X → Bool) → List (List ℕ) → X × List (List ℕ) → Type 0
@@ -44,12 +44,12 @@ made-told make write good writes goods same words (Some f) told =
     some-told writes goods words (make f.0) f.1 (t.0 ∙ ap (λ w. w ++ f.1) (sym s.0), s.1)
 
 -- what is made of a part after words that are known
-pub behind-told : {X Y : Type 0} (make : X → Y) (front : List (List ℕ)) (write : X → List (List ℕ)) (good : X → Bool) (writes : Y → List (List ℕ)) (goods : Y → Bool) → ((x : X) → writes (make x) ≡ front ++ write x)
-    → ((x : X) → good x ≡ true → goods (make x) ≡ true) → (words left : List (List ℕ)) (o : Option (X × List (List ℕ))) → words ≡ front ++ left → Told write good left o → Told writes goods words (made make o)
-behind-told make front write good writes goods w g words left None e told = none-told writes goods words
-behind-told make front write good writes goods w g words left (Some f) e told =
+pub behind-told : {X Y : Type 0} (make : X → Y) (prefix : List (List ℕ)) (write : X → List (List ℕ)) (good : X → Bool) (writes : Y → List (List ℕ)) (goods : Y → Bool) → ((x : X) → writes (make x) ≡ prefix ++ write x)
+    → ((x : X) → good x ≡ true → goods (make x) ≡ true) → (words left : List (List ℕ)) (o : Option (X × List (List ℕ))) → words ≡ prefix ++ left → Told write good left o → Told writes goods words (made make o)
+behind-told make prefix write good writes goods w g words left None e told = none-told writes goods words
+behind-told make prefix write good writes goods w g words left (Some f) e told =
     let t = told f refl in
-    some-told writes goods words (make f.0) f.1 (e ∙ ap (λ l. front ++ l) t.0 ∙ sym (append_assoc front (write f.0) f.1) ∙ ap (λ l. l ++ f.1) (sym (w f.0)), g f.0 t.1)
+    some-told writes goods words (make f.0) f.1 (e ∙ ap (λ l. prefix ++ l) t.0 ∙ sym (append_assoc prefix (write f.0) f.1) ∙ ap (λ l. l ++ f.1) (sym (w f.0)), g f.0 t.1)
 
 pub next-told : {X Y : Type 0} (write : X → List (List ℕ)) (good : X → Bool) (writes : Y → List (List ℕ)) (goods : Y → Bool) (next : Reads Y) → ((w : List (List ℕ)) → Told writes goods w (next w))
     → (words : List (List ℕ)) (o : Option (X × List (List ℕ))) → Told write good words o → Told (λ p. write p.0 ++ writes p.1) (λ p. good p.0 && goods p.1) words (with_next o next)
@@ -124,7 +124,7 @@ marked mark = (bytes_eq-Decides mark mark).1 refl
 -- ---- parts of a cone
 
 pub small-told : (words : List (List ℕ)) → Told (λ n. decimal n ∷ []) is_small words (small_number words)
-small-told words = first-told small_number_of decimal is_small small-spelled words
+small-told words = first-told small_number_of decimal is_small small-parsed words
 
 abbrev pub numbers_words : ℕ × ℕ → List (List ℕ)
 numbers_words n = decimal n.0 ∷ decimal n.1 ∷ []
@@ -185,7 +185,7 @@ split true b h = (refl, h)
 split false b h = absurd (cc)
 
 pub zero-word : decimal 0 ≡ codes "0"
-zero-word = (plain-spelled (codes "0") 0 refl).0
+zero-word = (plain-parsed (codes "0") 0 refl).0
 
 holder-case : (c : Command) (b : Bool) → b ≡ is_nothing c → keeps_command c ≡ true → (holder_words (cond b None (Some c)) ≡ command_words c) × (keeps_holder (cond b None (Some c)) ≡ true)
 holder-case c true is keeps =
@@ -195,14 +195,14 @@ holder-case c true is keeps =
     (rw (train, route, zero-word) refl, refl)
 holder-case c false is keeps = (refl, rw (keeps, ← is) refl)
 
-front-told : (words : List (List ℕ)) → Told (λ p. (decimal p.0 ∷ []) ++ ((decimal p.1.0 ∷ []) ++ (decimal p.1.1 ∷ []))) (λ p. is_small p.0 && (nat_le p.1.0 greatest_clause_number && is_small p.1.1)) words (train_front words)
-front-told words =
+prefix-told : (words : List (List ℕ)) → Told (λ p. (decimal p.0 ∷ []) ++ ((decimal p.1.0 ∷ []) ++ (decimal p.1.1 ∷ []))) (λ p. is_small p.0 && (nat_le p.1.0 greatest_clause_number && is_small p.1.1)) words (train_prefix words)
+prefix-told words =
     next-told (λ n. decimal n ∷ []) is_small (λ p. (decimal p.0 ∷ []) ++ (decimal p.1 ∷ [])) (λ p. nat_le p.0 greatest_clause_number && is_small p.1) (λ w. with_next (first_of plain_number_of w) small_number)
-    (λ w. next-told (λ n. decimal n ∷ []) (λ n. nat_le n greatest_clause_number) (λ n. decimal n ∷ []) is_small small_number small-told w (first_of plain_number_of w) (first-told plain_number_of decimal (λ n. nat_le n greatest_clause_number) plain-spelled w))
+    (λ w. next-told (λ n. decimal n ∷ []) (λ n. nat_le n greatest_clause_number) (λ n. decimal n ∷ []) is_small small_number small-told w (first_of plain_number_of w) (first-told plain_number_of decimal (λ n. nat_le n greatest_clause_number) plain-parsed w))
     words (small_number words) (small-told words)
 
 pub path-told : (words : List (List ℕ)) → Told (list_words route_word) keeps_path words (train_path words)
-path-told words = any-told (list_words route_word) (λ xs. list_all (λ r. is_from_1_to greatest_variable r.0) xs) words (members_of route_of words) (members-spelled route_of route_word (λ r. is_from_1_to greatest_variable r.0) route-spelled words)
+path-told words = any-told (list_words route_word) (λ xs. list_all (λ r. is_from_1_to greatest_variable r.0) xs) words (members_of route_of words) (members-parsed route_of route_word (λ r. is_from_1_to greatest_variable r.0) route-parsed words)
 
 abbrev Parts : Type 0
 Parts = (ℕ × (ℕ × ℕ)) × (List RouteNo × Command)
@@ -219,20 +219,20 @@ after_mark c = decimal c.train.0 ∷ decimal c.horizon ∷ decimal c.free ∷ (l
 
 train-by : (p : Parts) → keeps_parts p ≡ true → (after_mark (train_by p) ≡ parts_words p) × (keeps_train (train_by p) ≡ true)
 train-by p h =
-    let front : Bool = is_small p.0.0 && (nat_le p.0.1.0 greatest_clause_number && is_small p.0.1.1) in
-    let a = split front (keeps_path p.1.0 && keeps_command p.1.1) h in
+    let prefix : Bool = is_small p.0.0 && (nat_le p.0.1.0 greatest_clause_number && is_small p.0.1.1) in
+    let a = split prefix (keeps_path p.1.0 && keeps_command p.1.1) h in
     let b = split (keeps_path p.1.0) (keeps_command p.1.1) a.1 in
     let holder = holder-case p.1.1 (is_nothing p.1.1) refl b.1 in (
       ap (λ w. decimal p.0.0 ∷ decimal p.0.1.0 ∷ decimal p.0.1.1 ∷ (list_words route_word p.1.0 ++ w)) holder.0,
-      both front (keeps_path p.1.0 && keeps_holder (holder_of p.1.1)) a.0 (both (keeps_path p.1.0) (keeps_holder (holder_of p.1.1)) b.0 holder.1),
+      both prefix (keeps_path p.1.0 && keeps_holder (holder_of p.1.1)) a.0 (both (keeps_path p.1.0) (keeps_holder (holder_of p.1.1)) b.0 holder.1),
     )
 
 pub train-told : (words : List (List ℕ)) → Told after_mark keeps_train words (cone_train words)
 train-told words =
-    made-told train_by parts_words keeps_parts after_mark keeps_train train-by words (with_next (train_front words) (λ w. with_next (train_path w) command))
+    made-told train_by parts_words keeps_parts after_mark keeps_train train-by words (with_next (train_prefix words) (λ w. with_next (train_path w) command))
     (next-told (λ p. (decimal p.0 ∷ []) ++ ((decimal p.1.0 ∷ []) ++ (decimal p.1.1 ∷ []))) (λ p. is_small p.0 && (nat_le p.1.0 greatest_clause_number && is_small p.1.1)) (λ p. list_words route_word p.0 ++ command_words p.1) (λ p. keeps_path p.0 && keeps_command p.1) (λ w. with_next (train_path w) command)
     (λ w. next-told (list_words route_word) keeps_path command_words keeps_command command command-told w (train_path w) (path-told w))
-    words (train_front words) (front-told words))
+    words (train_prefix words) (prefix-told words))
 
 pub trains-told : (words : List (List ℕ)) → Told (flat_map train_words) (λ cs. has_member cs && list_all keeps_train cs) words (if_any (all_parts (codes "t") cone_train words))
 trains-told words = any-told (flat_map train_words) (list_all keeps_train) words (all_parts (codes "t") cone_train words) (parts-told (codes "t") cone_train after_mark keeps_train train-told (length words) words)

@@ -42,12 +42,12 @@ holder_words None = codes "0" ∷ codes "0" ∷ []
 holder_words (Some c) = command_words c
 
 -- `t`, the train, its horizon, and how many commands are free
-abbrev pub train_front_words : ConeTrain → List (List ℕ)
-train_front_words c = codes "t" ∷ decimal c.train.0 ∷ decimal c.horizon ∷ decimal c.free ∷ []
+abbrev pub train_prefix_words : ConeTrain → List (List ℕ)
+train_prefix_words c = codes "t" ∷ decimal c.train.0 ∷ decimal c.horizon ∷ decimal c.free ∷ []
 
 -- and then the routes, `0`, and the holder
 abbrev pub train_words : ConeTrain → List (List ℕ)
-train_words c = train_front_words c ++ (list_words route_word c.path ++ holder_words c.holder)
+train_words c = train_prefix_words c ++ (list_words route_word c.path ++ holder_words c.holder)
 
 -- `p` and the two commands
 abbrev pub pair_words : Command × Command → List (List ℕ)

@@ -107,8 +107,8 @@ abbrev pub holder_of : Command → Option Command
 holder_of c = if is_nothing c then None else Some c
 
 -- a train, its horizon, and how many of its commands are free
-abbrev pub train_front : Reads (ℕ × (ℕ × ℕ))
-train_front words = with_next (small_number words) (λ w. with_next (first_of plain_number_of w) small_number)
+abbrev pub train_prefix : Reads (ℕ × (ℕ × ℕ))
+train_prefix words = with_next (small_number words) (λ w. with_next (first_of plain_number_of w) small_number)
 
 -- the routes up to the word `0`, of which there is one
 abbrev pub train_path : Reads (List RouteNo)
@@ -126,7 +126,7 @@ train_by parts = record {
 
 -- what a cone says of a train, after the word `t`
 abbrev pub cone_train : Reads ConeTrain
-cone_train words = made train_by (with_next (train_front words) (λ w. with_next (train_path w) command))
+cone_train words = made train_by (with_next (train_prefix words) (λ w. with_next (train_path w) command))
 
 -- what a cone says of its trains, each after a word `t`
 abbrev pub cone_trains : Reads (List ConeTrain)

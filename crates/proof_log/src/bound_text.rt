@@ -8,6 +8,15 @@ use crate::cone_text::{put_entry, put_kind, put_pairs, put_path, put_spaced, put
 use rail_bound::{Bound, Leg, Origin, Place, Requirement};
 use std::alloc::AllocError;
 
+/// Appends a bound.
+pub fn put_bound(text: &mut Vec<u8>, bound: &Bound) -> Result<(), AllocError>
+    ensures { OnOk result (text.new.items ≡ text.old.items ++ spaced (bound_words bound.now)) }
+{
+    put_requirement(text, bound.requirement)?;
+    put_origin(text, &bound.origin)?;
+    put_legs(text, bound.legs.as_slice())
+}
+
 /// Appends a requirement.
 fn put_requirement(text: &mut Vec<u8>, requirement: Requirement) -> Result<(), AllocError>
     ensures { OnOk result (text.new.items ≡ text.old.items ++ spaced (requirement_words requirement)) }
@@ -79,13 +88,4 @@ fn put_legs(text: &mut Vec<u8>, legs: &[Leg]) -> Result<(), AllocError>
         put_leg(text, leg)?;
     }
     Ok(())
-}
-
-/// Appends a bound.
-pub fn put_bound(text: &mut Vec<u8>, bound: &Bound) -> Result<(), AllocError>
-    ensures { OnOk result (text.new.items ≡ text.old.items ++ spaced (bound_words bound.now)) }
-{
-    put_requirement(text, bound.requirement)?;
-    put_origin(text, &bound.origin)?;
-    put_legs(text, bound.legs.as_slice())
 }

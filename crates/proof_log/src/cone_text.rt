@@ -2,7 +2,7 @@
 
 ghost use Rattle.std.specs.Prelude.{◌≡◌, ◌∷◌, ◌++◌, [], flat_map, map, decimal, codes, OnOk};
 ghost use Rattle.proof_log.specs.ConeText.{route_word, list_words, command_words, violation_words, holder_words};
-ghost use Rattle.proof_log.specs.ConeText.{train_words, pair_words, train_front_words, cone_words};
+ghost use Rattle.proof_log.specs.ConeText.{train_words, pair_words, train_prefix_words, cone_words};
 ghost use Rattle.proof_log.specs.Writing.{spaced};
 
 use rail_base::plan::{Command, Violation};
@@ -45,6 +45,43 @@ pub fn put_entry(text: &mut Vec<u8>, kind: &[u8], number: u32) -> Result<(), All
     put_spaced(text, u64::from(number))
 }
 
+/// Appends a path, ended by `0`.
+pub fn put_path(text: &mut Vec<u8>, path: &[RouteNo]) -> Result<(), AllocError>
+    ensures { OnOk result (text.new.items ≡ text.old.items ++ spaced (list_words route_word path.now)) }
+{
+    put_routes(text, path)?;
+    text.extend_from_slice(b" 0")
+}
+
+/// Appends the trains of a cone.
+pub fn put_trains(text: &mut Vec<u8>, trains: &[ConeTrain]) -> Result<(), AllocError>
+    ensures { OnOk result (text.new.items ≡ text.old.items ++ flat_map (λ c. spaced (train_words c)) trains.now) }
+{
+    for train in trains {
+        put_train(text, train)?;
+    }
+    Ok(())
+}
+
+/// Appends the listed pairs of a cone.
+pub fn put_pairs(text: &mut Vec<u8>, pairs: &[(Command, Command)]) -> Result<(), AllocError>
+    ensures { OnOk result (text.new.items ≡ text.old.items ++ flat_map (λ p. spaced (pair_words p)) pairs.now) }
+{
+    for pair in pairs {
+        put_pair(text, *pair)?;
+    }
+    Ok(())
+}
+
+/// Appends a cone.
+pub fn put_cone(text: &mut Vec<u8>, cone: &Cone) -> Result<(), AllocError>
+    ensures { OnOk result (text.new.items ≡ text.old.items ++ spaced (cone_words cone.now)) }
+{
+    put_violation(text, cone.violation)?;
+    put_trains(text, cone.trains.as_slice())?;
+    put_pairs(text, cone.pairs.as_slice())
+}
+
 /// Appends a violation.
 fn put_violation(text: &mut Vec<u8>, violation: Violation) -> Result<(), AllocError>
     ensures { OnOk result (text.new.items ≡ text.old.items ++ spaced (violation_words violation)) }
@@ -85,17 +122,9 @@ fn put_routes(text: &mut Vec<u8>, path: &[RouteNo]) -> Result<(), AllocError>
     Ok(())
 }
 
-/// Appends a path, ended by `0`.
-pub fn put_path(text: &mut Vec<u8>, path: &[RouteNo]) -> Result<(), AllocError>
-    ensures { OnOk result (text.new.items ≡ text.old.items ++ spaced (list_words route_word path.now)) }
-{
-    put_routes(text, path)?;
-    text.extend_from_slice(b" 0")
-}
-
 /// Appends the word `t`, a train, its horizon, and how many of its commands are free.
-fn put_front(text: &mut Vec<u8>, train: &ConeTrain) -> Result<(), AllocError>
-    ensures { OnOk result (text.new.items ≡ text.old.items ++ spaced (train_front_words train.now)) }
+fn put_prefix(text: &mut Vec<u8>, train: &ConeTrain) -> Result<(), AllocError>
+    ensures { OnOk result (text.new.items ≡ text.old.items ++ spaced (train_prefix_words train.now)) }
 {
     put_entry(text, b"t", train.train.0)?;
     put_spaced(text, train.horizon)?;
@@ -106,19 +135,9 @@ fn put_front(text: &mut Vec<u8>, train: &ConeTrain) -> Result<(), AllocError>
 fn put_train(text: &mut Vec<u8>, train: &ConeTrain) -> Result<(), AllocError>
     ensures { OnOk result (text.new.items ≡ text.old.items ++ spaced (train_words train.now)) }
 {
-    put_front(text, train)?;
+    put_prefix(text, train)?;
     put_path(text, train.path.as_slice())?;
     put_holder(text, train.holder)
-}
-
-/// Appends the trains of a cone.
-pub fn put_trains(text: &mut Vec<u8>, trains: &[ConeTrain]) -> Result<(), AllocError>
-    ensures { OnOk result (text.new.items ≡ text.old.items ++ flat_map (λ c. spaced (train_words c)) trains.now) }
-{
-    for train in trains {
-        put_train(text, train)?;
-    }
-    Ok(())
 }
 
 /// Appends a listed pair.
@@ -128,23 +147,4 @@ fn put_pair(text: &mut Vec<u8>, pair: (Command, Command)) -> Result<(), AllocErr
     text.extend_from_slice(b" p")?;
     put_command(text, pair.0)?;
     put_command(text, pair.1)
-}
-
-/// Appends the listed pairs of a cone.
-pub fn put_pairs(text: &mut Vec<u8>, pairs: &[(Command, Command)]) -> Result<(), AllocError>
-    ensures { OnOk result (text.new.items ≡ text.old.items ++ flat_map (λ p. spaced (pair_words p)) pairs.now) }
-{
-    for pair in pairs {
-        put_pair(text, *pair)?;
-    }
-    Ok(())
-}
-
-/// Appends a cone.
-pub fn put_cone(text: &mut Vec<u8>, cone: &Cone) -> Result<(), AllocError>
-    ensures { OnOk result (text.new.items ≡ text.old.items ++ spaced (cone_words cone.now)) }
-{
-    put_violation(text, cone.violation)?;
-    put_trains(text, cone.trains.as_slice())?;
-    put_pairs(text, cone.pairs.as_slice())
 }

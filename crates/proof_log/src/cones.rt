@@ -8,7 +8,7 @@ ghost use Rattle.proof_log.specs.declared.line.LineFault.TheVariants.{Text};
 
 use crate::line::LineFault;
 use crate::members::{has_member, read_members};
-use crate::parts::{command, holder, pair, train_front, violation};
+use crate::parts::{command, holder, pair, train_prefix, violation};
 use crate::words::first_word;
 use rail_base::list::List;
 use rail_base::plan::Command;
@@ -30,55 +30,6 @@ pub fn train_path<'a>(
         return Err(LineFault::Text);
     }
     Ok((path, after))
-}
-
-/// What a cone says of a train, after the word `t`.
-fn cone_train<'a>(
-    alloc: Global,
-    words: Option<&'a [u8]>,
-) -> Result<(ConeTrain, Option<&'a [u8]>), LineFault>
-    ensures ok { IfOk result (λ found. cone_train (words_left words.entry) ≡ Some (found.0, words_left found.1)) }
-    ensures text { result ≡ Err Text → cone_train (words_left words.entry) ≡ None }
-{
-    let Some(((train, (horizon, free)), after)) = train_front(words) else {
-        return Err(LineFault::Text);
-    };
-    let (path, after) = train_path(alloc, after)?;
-    let Some((command, after)) = command(after) else {
-        return Err(LineFault::Text);
-    };
-    let train = ConeTrain {
-        train: TrainNo(train),
-        horizon,
-        free,
-        path,
-        holder: holder(command),
-    };
-    Ok((train, after))
-}
-
-/// The trains of a cone, each after a word `t`.
-fn cone_trains<'a>(
-    alloc: Global,
-    words: Option<&'a [u8]>,
-) -> Result<(List<ConeTrain>, Option<&'a [u8]>), LineFault>
-    ensures ok { IfOk result (λ found. cone_trains (words_left words.entry) ≡ Some (found.0, words_left found.1)) }
-    ensures text { result ≡ Err Text → cone_trains (words_left words.entry) ≡ None }
-{
-    let mut trains = List::new(alloc);
-    let mut left = words;
-    'trains: while let Some(text) = left {
-        let (word, after) = first_word(text);
-        if word != b"t".as_slice() {
-            return Ok((trains, left));
-        }
-        let (train, after) = cone_train(alloc, after)?;
-        if trains.push(train).is_err() {
-            return Err(LineFault::Memory);
-        }
-        left = after;
-    }
-    Ok((trains, left))
 }
 
 /// The listed pairs of a cone, each after a word `p`.
@@ -143,4 +94,53 @@ pub fn cone<'a>(
         },
         after,
     ))
+}
+
+/// What a cone says of a train, after the word `t`.
+fn cone_train<'a>(
+    alloc: Global,
+    words: Option<&'a [u8]>,
+) -> Result<(ConeTrain, Option<&'a [u8]>), LineFault>
+    ensures ok { IfOk result (λ found. cone_train (words_left words.entry) ≡ Some (found.0, words_left found.1)) }
+    ensures text { result ≡ Err Text → cone_train (words_left words.entry) ≡ None }
+{
+    let Some(((train, (horizon, free)), after)) = train_prefix(words) else {
+        return Err(LineFault::Text);
+    };
+    let (path, after) = train_path(alloc, after)?;
+    let Some((command, after)) = command(after) else {
+        return Err(LineFault::Text);
+    };
+    let train = ConeTrain {
+        train: TrainNo(train),
+        horizon,
+        free,
+        path,
+        holder: holder(command),
+    };
+    Ok((train, after))
+}
+
+/// The trains of a cone, each after a word `t`.
+fn cone_trains<'a>(
+    alloc: Global,
+    words: Option<&'a [u8]>,
+) -> Result<(List<ConeTrain>, Option<&'a [u8]>), LineFault>
+    ensures ok { IfOk result (λ found. cone_trains (words_left words.entry) ≡ Some (found.0, words_left found.1)) }
+    ensures text { result ≡ Err Text → cone_trains (words_left words.entry) ≡ None }
+{
+    let mut trains = List::new(alloc);
+    let mut left = words;
+    'trains: while let Some(text) = left {
+        let (word, after) = first_word(text);
+        if word != b"t".as_slice() {
+            return Ok((trains, left));
+        }
+        let (train, after) = cone_train(alloc, after)?;
+        if trains.push(train).is_err() {
+            return Err(LineFault::Memory);
+        }
+        left = after;
+    }
+    Ok((trains, left))
 }

@@ -24,6 +24,29 @@ pub enum Head {
     Sorted { version: u32, steps: u32 },
 }
 
+/// The head that is parsed from the first line of a file, without the LF that ends it. None where it is none.
+pub fn read_head(bytes: &[u8]) -> Option<Head>
+    ensures { result ≡ head_of bytes.now }
+{
+    let (name, after) = first_word(bytes);
+    if name == b"rcvlog".as_slice() {
+        head_after(after)
+    } else {
+        None
+    }
+}
+
+/// The text of a head, without an LF.
+pub fn write_head(alloc: Global, head: Head) -> Result<Vec<u8>, AllocError>
+    ensures { IfOk result (λ text. text.items ≡ head_text head) }
+{
+    match head {
+        Head::Plain => Vec::from_slice(alloc, b"rcvlog 1"),
+        Head::Named { version, steps } => write_named(alloc, b"rcvlog 2", version, steps),
+        Head::Sorted { version, steps } => write_named(alloc, b"rcvlog 4", version, steps),
+    }
+}
+
 /// A head, where no word is left after it.
 #[tactic(auto, using(crate::proofs::Gathering::words_are_left))]
 fn whole(head: Head, after: Option<&[u8]>) -> Option<Head>
@@ -36,7 +59,7 @@ fn whole(head: Head, after: Option<&[u8]>) -> Option<Head>
 }
 
 /// The head of a base, by the version of the design and the number of steps.
-fn named(text: Option<&[u8]>) -> Option<Head>
+fn named_head(text: Option<&[u8]>) -> Option<Head>
     ensures { result ≡ if_all (made named_by (two_numbers (words_left text.entry))) }
 {
     let ((version, steps), after) = two_numbers(text)?;
@@ -44,7 +67,7 @@ fn named(text: Option<&[u8]>) -> Option<Head>
 }
 
 /// The head of sorted trains, by the version of the design and the number of steps.
-fn sorted(text: Option<&[u8]>) -> Option<Head>
+fn sorted_head(text: Option<&[u8]>) -> Option<Head>
     ensures { result ≡ if_all (made sorted_by (two_numbers (words_left text.entry))) }
 {
     let ((version, steps), after) = two_numbers(text)?;
@@ -58,9 +81,9 @@ fn head_of_version(version: &[u8], text: Option<&[u8]>) -> Option<Head>
     if version == b"1".as_slice() {
         whole(Head::Plain, text)
     } else if version == b"2".as_slice() {
-        named(text)
+        named_head(text)
     } else if version == b"4".as_slice() {
-        sorted(text)
+        sorted_head(text)
     } else {
         None
     }
@@ -74,18 +97,6 @@ fn head_after(text: Option<&[u8]>) -> Option<Head>
     head_of_version(version, after)
 }
 
-/// The head that the first line of a file spells, without the LF that ends it. None where it is none.
-pub fn read_head(bytes: &[u8]) -> Option<Head>
-    ensures { result ≡ head_of bytes.now }
-{
-    let (name, after) = first_word(bytes);
-    if name == b"rcvlog".as_slice() {
-        head_after(after)
-    } else {
-        None
-    }
-}
-
 /// The text of a head by its first two words, the version of the design and the number of steps.
 fn write_named(alloc: Global, words: &[u8], version: u32, steps: u32) -> Result<Vec<u8>, AllocError>
     ensures { IfOk result (λ text. text.items ≡ words.now ++ spaced (decimal version ∷ decimal steps ∷ [])) }
@@ -93,15 +104,4 @@ fn write_named(alloc: Global, words: &[u8], version: u32, steps: u32) -> Result<
     let mut text = Vec::from_slice(alloc, words)?;
     put_two(&mut text, version, steps)?;
     Ok(text)
-}
-
-/// The text of a head, without an LF.
-pub fn write_head(alloc: Global, head: Head) -> Result<Vec<u8>, AllocError>
-    ensures { IfOk result (λ text. text.items ≡ head_text head) }
-{
-    match head {
-        Head::Plain => Vec::from_slice(alloc, b"rcvlog 1"),
-        Head::Named { version, steps } => write_named(alloc, b"rcvlog 2", version, steps),
-        Head::Sorted { version, steps } => write_named(alloc, b"rcvlog 4", version, steps),
-    }
 }

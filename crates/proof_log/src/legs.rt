@@ -18,6 +18,21 @@ use rail_base::station::TrainNo;
 use rail_bound::{Leg, Place};
 use std::alloc::Global;
 
+/// The legs of a certificate, of which there is one.
+pub fn some_legs<'a>(
+    alloc: Global,
+    words: Option<&'a [u8]>,
+) -> Result<(List<Leg>, Option<&'a [u8]>), LineFault>
+    ensures ok { IfOk result (λ found. some_legs (words_left words.entry) ≡ Some (found.0, words_left found.1)) }
+    ensures text { result ≡ Err Text → some_legs (words_left words.entry) ≡ None }
+{
+    let (legs, after) = legs(alloc, words)?;
+    if !has_member(&legs) {
+        return Err(LineFault::Text);
+    }
+    Ok((legs, after))
+}
+
 /// A place of some routes, after the word `a`.
 fn among<'a>(alloc: Global, words: Option<&'a [u8]>) -> Result<(Place, Option<&'a [u8]>), LineFault>
     ensures ok { IfOk result (λ found.
@@ -125,19 +140,4 @@ fn legs<'a>(
         left = after;
     }
     Ok((legs, left))
-}
-
-/// The legs of a certificate, of which there is one.
-pub fn some_legs<'a>(
-    alloc: Global,
-    words: Option<&'a [u8]>,
-) -> Result<(List<Leg>, Option<&'a [u8]>), LineFault>
-    ensures ok { IfOk result (λ found. some_legs (words_left words.entry) ≡ Some (found.0, words_left found.1)) }
-    ensures text { result ≡ Err Text → some_legs (words_left words.entry) ≡ None }
-{
-    let (legs, after) = legs(alloc, words)?;
-    if !has_member(&legs) {
-        return Err(LineFault::Text);
-    }
-    Ok((legs, after))
 }

@@ -16,6 +16,23 @@ use rail_bound::{Origin, Requirement};
 use rail_cone::Cone;
 use std::alloc::Global;
 
+/// An origin for a requirement, and the words after it.
+pub fn origin<'a>(
+    alloc: Global,
+    requirement: Requirement,
+    words: Option<&'a [u8]>,
+) -> Result<(Origin, Option<&'a [u8]>), LineFault>
+    ensures ok { IfOk result (λ found.
+        origin requirement (words_left words.entry) ≡ Some (found.0, words_left found.1)) }
+    ensures text { result ≡ Err Text → origin requirement (words_left words.entry) ≡ None }
+{
+    let Some(text) = words else {
+        return Err(LineFault::Text);
+    };
+    let (kind, after) = first_word(text);
+    origin_of(alloc, requirement, kind, after)
+}
+
 /// How a plan fails that doesn't meet a requirement: at a command, the first grant of its train.
 fn violation_of(requirement: Requirement) -> Violation
     ensures { result ≡ violation_of requirement }
@@ -76,21 +93,4 @@ fn origin_of<'a>(
     } else {
         Err(LineFault::Text)
     }
-}
-
-/// An origin for a requirement, and the words after it.
-pub fn origin<'a>(
-    alloc: Global,
-    requirement: Requirement,
-    words: Option<&'a [u8]>,
-) -> Result<(Origin, Option<&'a [u8]>), LineFault>
-    ensures ok { IfOk result (λ found.
-        origin requirement (words_left words.entry) ≡ Some (found.0, words_left found.1)) }
-    ensures text { result ≡ Err Text → origin requirement (words_left words.entry) ≡ None }
-{
-    let Some(text) = words else {
-        return Err(LineFault::Text);
-    };
-    let (kind, after) = first_word(text);
-    origin_of(alloc, requirement, kind, after)
 }

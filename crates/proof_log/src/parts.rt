@@ -3,7 +3,7 @@
 ghost use Rattle.std.specs.Prelude.{◌≡◌};
 ghost use Rattle.rail_base.specs.declared.plan.Violation.TheVariants.{Within, Order};
 ghost use Rattle.proof_log.specs.Words.{plain_number_of};
-ghost use Rattle.proof_log.specs.Parts.{first_of, made, small_number, two_numbers, train_front, command, pair, path_by};
+ghost use Rattle.proof_log.specs.Parts.{first_of, made, small_number, two_numbers, train_prefix, command, pair, path_by};
 ghost use Rattle.proof_log.specs.Parts.{grant_by, visit_by, violation, violation_of, holder_of};
 ghost use Rattle.proof_log.specs.Reading.{words_left, with_words};
 
@@ -41,8 +41,8 @@ pub fn two_numbers(text: Option<&[u8]>) -> Option<((u32, u32), Option<&[u8]>)>
 }
 
 /// A train, its horizon, and how many of its commands are free.
-pub fn train_front(text: Option<&[u8]>) -> Option<((u32, (u64, u32)), Option<&[u8]>)>
-    ensures { with_words result ≡ train_front (words_left text.entry) }
+pub fn train_prefix(text: Option<&[u8]>) -> Option<((u32, (u64, u32)), Option<&[u8]>)>
+    ensures { with_words result ≡ train_prefix (words_left text.entry) }
 {
     let (train, after) = small_number(text)?;
     let (last, after) = horizon(after)?;
@@ -80,6 +80,14 @@ pub fn pair(text: Option<&[u8]>) -> Option<((Command, Command), Option<&[u8]>)>
     let (earlier, after) = command(text)?;
     let (later, after) = command(after)?;
     Some(((earlier, later), after))
+}
+
+/// A violation, and the words after it.
+pub fn violation(text: Option<&[u8]>) -> Option<(Violation, Option<&[u8]>)>
+    ensures { with_words result ≡ violation (words_left text.entry) }
+{
+    let (kind, after) = first_word(text?);
+    violation_of(kind, after)
 }
 
 /// A visit that a train's path does not make.
@@ -142,12 +150,4 @@ fn violation_of<'a>(kind: &[u8], text: Option<&'a [u8]>) -> Option<(Violation, O
     } else {
         None
     }
-}
-
-/// A violation, and the words after it.
-pub fn violation(text: Option<&[u8]>) -> Option<(Violation, Option<&[u8]>)>
-    ensures { with_words result ≡ violation (words_left text.entry) }
-{
-    let (kind, after) = first_word(text?);
-    violation_of(kind, after)
 }

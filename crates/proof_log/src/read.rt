@@ -18,6 +18,18 @@ use rail_bound::Evidence;
 use sat_clause::Lit;
 use std::alloc::Global;
 
+/// Reads a line, without the LF that ends it in a file.
+///
+/// Ticks, horizons and numbers of clauses have at most 18 digits, and all other numbers at most 32 bits.
+/// `Text` says that the bytes spell no line, `Memory` that memory ran out; an `Err` leaves nothing.
+pub fn read_line(alloc: Global, bytes: &[u8]) -> Result<Line, LineFault>
+    ensures line { IfOk result (λ line. line_of bytes.now ≡ Some line) }
+    ensures text { result ≡ Err Text → line_of bytes.now ≡ None }
+{
+    let (kind, after) = first_word(bytes);
+    line_of_kind(alloc, kind, after)
+}
+
 /// Whether the variables stand in strictly increasing order.
 fn are_increasing(clause: &[Lit]) -> bool
     ensures { result ≡ is_increasing clause.now }
@@ -101,16 +113,4 @@ fn line_of_kind(alloc: Global, kind: &[u8], text: Option<&[u8]>) -> Result<Line,
     } else {
         Err(LineFault::Text)
     }
-}
-
-/// Reads a line, without the LF that ends it in a file.
-///
-/// Ticks, horizons and numbers of clauses have at most 18 digits, and all other numbers at most 32 bits.
-/// `Text` says that the bytes spell no line, `Memory` that memory ran out; an `Err` leaves nothing.
-pub fn read_line(alloc: Global, bytes: &[u8]) -> Result<Line, LineFault>
-    ensures line { IfOk result (λ line. line_of bytes.now ≡ Some line) }
-    ensures text { result ≡ Err Text → line_of bytes.now ≡ None }
-{
-    let (kind, after) = first_word(bytes);
-    line_of_kind(alloc, kind, after)
 }

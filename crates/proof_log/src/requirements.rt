@@ -23,6 +23,14 @@ pub fn route(text: Option<&[u8]>) -> Option<(RouteNo, Option<&[u8]>)>
     Some((route, after))
 }
 
+/// A requirement, and the words after it.
+pub fn requirement(text: Option<&[u8]>) -> Option<(Requirement, Option<&[u8]>)>
+    ensures { with_words result ≡ requirement (words_left text.entry) }
+{
+    let (kind, after) = first_word(text?);
+    requirement_of(kind, after)
+}
+
 /// A greatest time between two visits.
 fn within(text: Option<&[u8]>) -> Option<(Requirement, Option<&[u8]>)>
     ensures { with_words result ≡ made Within (small_number (words_left text.entry)) }
@@ -79,12 +87,4 @@ fn requirement_of<'a>(
     } else {
         None
     }
-}
-
-/// A requirement, and the words after it.
-pub fn requirement(text: Option<&[u8]>) -> Option<(Requirement, Option<&[u8]>)>
-    ensures { with_words result ≡ requirement (words_left text.entry) }
-{
-    let (kind, after) = first_word(text?);
-    requirement_of(kind, after)
 }

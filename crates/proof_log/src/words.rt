@@ -12,13 +12,6 @@ use sat_clause::Lit;
 /// The greatest number of 18 digits.
 const GREATEST: u64 = 999_999_999_999_999_999;
 
-/// The place of the first space.
-fn word_end(text: &[u8]) -> Option<usize>
-    ensures { result ≡ position is_space text.now }
-{
-    text.iter().position(|byte| *byte == b' ')
-}
-
 /// The first word, and the text after the space that ends it. `None` after the last word.
 pub fn first_word(text: &[u8]) -> (&[u8], Option<&[u8]>)
     ensures { words_of text.now ≡ result.0.now ∷ words_left result.1 }
@@ -29,7 +22,7 @@ pub fn first_word(text: &[u8]) -> (&[u8], Option<&[u8]>)
     }
 }
 
-/// The number that 1 to 18 digits with no zero in front write.
+/// The number that 1 to 18 digits with no leading zero write.
 pub fn plain_number(word: &[u8]) -> Option<u64>
     ensures { result ≡ plain_number_of word.now }
 {
@@ -45,16 +38,6 @@ pub fn small_number(word: &[u8]) -> Option<u32>
 {
     match plain_number(word) {
         Some(number) if number <= 4_294_967_295 => Some(number as u32),
-        _ => None,
-    }
-}
-
-/// The number of a variable.
-fn variable(word: &[u8]) -> Option<u32>
-    ensures { result ≡ variable_of word.now }
-{
-    match plain_number(word) {
-        Some(var) if 1 <= var && var <= 4_294_967_295 => Some(var as u32),
         _ => None,
     }
 }
@@ -87,4 +70,21 @@ pub fn literal(word: &[u8]) -> Option<Lit>
     };
     let var = variable(digits)?;
     Some(Lit { var, negated })
+}
+
+/// The place of the first space.
+fn word_end(text: &[u8]) -> Option<usize>
+    ensures { result ≡ position is_space text.now }
+{
+    text.iter().position(|byte| *byte == b' ')
+}
+
+/// The number of a variable.
+fn variable(word: &[u8]) -> Option<u32>
+    ensures { result ≡ variable_of word.now }
+{
+    match plain_number(word) {
+        Some(var) if 1 <= var && var <= 4_294_967_295 => Some(var as u32),
+        _ => None,
+    }
 }

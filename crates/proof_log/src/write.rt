@@ -16,8 +16,34 @@ use rail_text::put_number;
 use sat_clause::Lit;
 use std::alloc::{AllocError, Global};
 
+/// The text of the line that derives a clause by its hints, without an LF.
+///
+/// It is a line of the grammar where the variables, from 1 on, increase strictly, and the hints are numbers
+/// from 1 on of at most 18 digits.
+pub fn write_derive(alloc: Global, clause: &[Lit], hints: &[u64]) -> Result<Vec<u8>, AllocError>
+    ensures { IfOk result (λ text. text.items ≡ text_of_line (Derive clause.now hints.now)) }
+{
+    let mut text = Vec::from_slice(alloc, b"d")?;
+    put_literals(&mut text, clause)?;
+    text.extend_from_slice(b" 0")?;
+    put_numbers(&mut text, hints)?;
+    text.extend_from_slice(b" 0")?;
+    Ok(text)
+}
+
+/// The text of a line, without an LF.
+pub fn write_line(alloc: Global, line: &Line) -> Result<Vec<u8>, AllocError>
+    ensures { IfOk result (λ text. text.items ≡ text_of_line line.now) }
+{
+    match line {
+        Line::Derive { clause, hints } => write_derive(alloc, clause.as_slice(), hints.as_slice()),
+        Line::Refute { evidence } => write_refute(alloc, evidence),
+        Line::Forget { clauses } => write_forget(alloc, clauses.as_slice()),
+    }
+}
+
 /// What stands before the number of a variable.
-fn front(negated: bool) -> &'static [u8]
+fn prefix(negated: bool) -> &'static [u8]
     ensures { result.now ≡ 32 ∷ (if negated then codes "-" else []) }
 {
     if negated {
@@ -31,7 +57,7 @@ fn front(negated: bool) -> &'static [u8]
 fn put_literal(text: &mut Vec<u8>, literal: Lit) -> Result<(), AllocError>
     ensures { OnOk result (text.new.items ≡ text.old.items ++ (32 ∷ literal_word literal)) }
 {
-    text.extend_from_slice(front(literal.negated))?;
+    text.extend_from_slice(prefix(literal.negated))?;
     put_number(text, u64::from(literal.var))
 }
 
@@ -54,21 +80,6 @@ fn put_numbers(text: &mut Vec<u8>, numbers: &[u64]) -> Result<(), AllocError>
         put_number(text, *number)?;
     }
     Ok(())
-}
-
-/// The text of the line that derives a clause by its hints, without an LF.
-///
-/// It is a line of the grammar where the variables, from 1 on, increase strictly, and the hints are numbers
-/// from 1 on of at most 18 digits.
-pub fn write_derive(alloc: Global, clause: &[Lit], hints: &[u64]) -> Result<Vec<u8>, AllocError>
-    ensures { IfOk result (λ text. text.items ≡ text_of_line (Derive clause.now hints.now)) }
-{
-    let mut text = Vec::from_slice(alloc, b"d")?;
-    put_literals(&mut text, clause)?;
-    text.extend_from_slice(b" 0")?;
-    put_numbers(&mut text, hints)?;
-    text.extend_from_slice(b" 0")?;
-    Ok(text)
 }
 
 /// The text of the line that takes out clauses.
@@ -106,16 +117,5 @@ fn write_refute(alloc: Global, evidence: &Evidence) -> Result<Vec<u8>, AllocErro
     match evidence {
         Evidence::Cone(cone) => write_cone(alloc, cone),
         Evidence::Bound(bound) => write_bound(alloc, bound),
-    }
-}
-
-/// The text of a line, without an LF.
-pub fn write_line(alloc: Global, line: &Line) -> Result<Vec<u8>, AllocError>
-    ensures { IfOk result (λ text. text.items ≡ text_of_line line.now) }
-{
-    match line {
-        Line::Derive { clause, hints } => write_derive(alloc, clause.as_slice(), hints.as_slice()),
-        Line::Refute { evidence } => write_refute(alloc, evidence),
-        Line::Forget { clauses } => write_forget(alloc, clauses.as_slice()),
     }
 }

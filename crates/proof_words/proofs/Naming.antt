@@ -15,10 +15,10 @@ use Rattle.rail_text.specs.Pieces.{Line as Piece}
 use Rattle.sat_clause.specs.declared.lit.Lit.{Lit}
 use Rattle.sat_clause.specs.Clauses.{Store}
 use Rattle.bound_clause.specs.Numbered.{numbered_bound}
-use Rattle.log_checker.specs.declared.shown.Shown.TheVariants.{Yes, No}
-use Rattle.log_checker.specs.declared.shown.Reason.{Reason}
-use Rattle.log_checker.specs.declared.shown.Reason.TheVariants.{HeadDiffers, BaseTooLarge, Text}
-use Rattle.log_checker.specs.Verdict.{SoFar, after_line, at_first, by_evidence, head_in, if_within, is_headed, may_stand, shown_by, shown_from, spelled, taken}
+use Rattle.log_checker.specs.declared.check_result.CheckResult.TheVariants.{Yes, No}
+use Rattle.log_checker.specs.declared.check_result.Reason.{Reason}
+use Rattle.log_checker.specs.declared.check_result.Reason.TheVariants.{HeadDiffers, BaseTooLarge, Text}
+use Rattle.log_checker.specs.Verdict.{SoFar, after_line, at_first, by_evidence, head_in, if_within, is_headed, may_stand, result_of, result_from, parsed, taken}
 use Rattle.plan_clauses.specs.Clauses.{past_limit}
 use Rattle.plan_clauses.specs.Variables.{variable_count}
 use Rattle.proof_log.specs.declared.head.Head.{Head}
@@ -28,7 +28,7 @@ use Rattle.proof_log.specs.declared.line.Line.TheVariants.{Derive, Refute, Forge
 use Rattle.proof_log.specs.Lines.{line_of}
 use Rattle.proof_judge.specs.Judged.{all_live, clauses_under, judged, judged_by, judged_under, refuted, unless}
 use Rattle.evidence_words.specs.Told.{names_what_is_there}
-use Rattle.proof_words.specs.Shown.{IsNamedPiece, names_line}
+use Rattle.proof_words.specs.Named.{IsNamedPiece, names_line}
 
 -- ---- what shows a clause names what is there
 
@@ -51,8 +51,8 @@ names_there d n (evidence.Bound b) clause h =
 
 module _ (head : Head) (refute : Evidence → Result (List Lit) EvidenceFault) (vars steps : ℕ) where
   -- a cone or a bound of a line that is taken shows a clause
-  evidence_taken : (s t : SoFar) (ended : Bool) (line : Option Line) (e : Evidence) → line ≡ Some (Refute e)
-      → taken head refute vars steps s (if ended then if_within head vars line else None) ≡ Ok t → (clause : List Lit) × (refute e ≡ Ok clause)
+  evidence_taken : (s t : SoFar) (ending_of : Bool) (line : Option Line) (e : Evidence) → line ≡ Some (Refute e)
+      → taken head refute vars steps s (if ending_of then if_within head vars line else None) ≡ Ok t → (clause : List Lit) × (refute e ≡ Ok clause)
   evidence_taken s t false line e is ok = absurd (cc)
   evidence_taken s t true line e is ok = stands (may_stand head e) (sym (ap (λ l. taken head refute vars steps s (if_within head vars l)) is) ∙ ok)
     where
@@ -68,27 +68,27 @@ module _ (head : Head) (refute : Evidence → Result (List Lit) EvidenceFault) (
   abbrev pub ShowsClause : Piece → Type 0
   ShowsClause piece = (e : Evidence) → line_of piece.bytes ≡ Some (Refute e) → (clause : List Lit) × (refute e ≡ Ok clause)
 
-  piece_taken : (s t : SoFar) (piece : Piece) → taken head refute vars steps s (spelled head vars piece) ≡ Ok t → ShowsClause piece
+  piece_taken : (s t : SoFar) (piece : Piece) → taken head refute vars steps s (parsed head vars piece) ≡ Ok t → ShowsClause piece
   piece_taken s t piece ok e is = evidence_taken s t piece.ended (line_of piece.bytes) e is ok
 
   all_before : (p : Piece) (ps : List Piece) → ShowsClause p → All ShowsClause ps → All ShowsClause (p ∷ ps)
   all_before p ps first more zero other less = first
   all_before p ps first more (suc i) other less = more i other (omega arith)
 
-  pub all_taken : (here k : ℕ) (s : SoFar) (ps : List Piece) → shown_from head refute vars steps here s ps ≡ Yes k → All ShowsClause ps
+  pub all_taken : (here k : ℕ) (s : SoFar) (ps : List Piece) → result_from head refute vars steps here s ps ≡ Yes k → All ShowsClause ps
   all_taken here k s [] found = λ i other less. absurd (omega arith)
-  all_taken here k s (p ∷ ps) found = next (taken head refute vars steps s (spelled head vars p)) refl found (λ t later. all_taken (here + 1) k t ps later)
+  all_taken here k s (p ∷ ps) found = next (taken head refute vars steps s (parsed head vars p)) refl found (λ t later. all_taken (here + 1) k t ps later)
     where
-      next : (r : Result SoFar Reason) → taken head refute vars steps s (spelled head vars p) ≡ r → after_line here r (λ t. shown_from head refute vars steps (here + 1) t ps) ≡ Yes k
-          → ((t : SoFar) → shown_from head refute vars steps (here + 1) t ps ≡ Yes k → All ShowsClause ps) → All ShowsClause (p ∷ ps)
+      next : (r : Result SoFar Reason) → taken head refute vars steps s (parsed head vars p) ≡ r → after_line here r (λ t. result_from head refute vars steps (here + 1) t ps) ≡ Yes k
+          → ((t : SoFar) → result_from head refute vars steps (here + 1) t ps ≡ Yes k → All ShowsClause ps) → All ShowsClause (p ∷ ps)
       next (Err reason) is found more = absurd (cc)
       next (Ok t) is found more = all_before p ps (piece_taken s t p is) (more t found)
 
-  pub all_shown : (k : ℕ) (base : Store) (ps : List Piece) → shown_by head refute vars steps base ps ≡ Yes k → All ShowsClause (after_first ps)
+  pub all_shown : (k : ℕ) (base : Store) (ps : List Piece) → result_of head refute vars steps base ps ≡ Yes k → All ShowsClause (after_first ps)
   all_shown k base [] found = absurd (cc)
   all_shown k base (p ∷ ps) found = go (is_headed head p) found
     where
-      go : (b : Bool) → (if b then shown_from head refute vars steps 2 (at_first base) ps else No 1 Text) ≡ Yes k → All ShowsClause ps
+      go : (b : Bool) → (if b then result_from head refute vars steps 2 (at_first base) ps else No 1 Text) ≡ Yes k → All ShowsClause ps
       go false found = absurd (cc)
       go true found = all_taken 2 k (at_first base) ps found
 

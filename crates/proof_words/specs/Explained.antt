@@ -1,7 +1,7 @@
 -- What a proof file says where it shows that there is no plan, and else its first bad line.
 use Rattle.std.specs.Prelude.{ℕ, List, Result, Ok, Err}
-use Rattle.log_checker.specs.declared.shown.Shown.{Shown}
-use Rattle.log_checker.specs.declared.shown.Shown.TheVariants.{Yes, No}
+use Rattle.log_checker.specs.declared.check_result.CheckResult.{CheckResult}
+use Rattle.log_checker.specs.declared.check_result.CheckResult.TheVariants.{Yes, No}
 use Rattle.proof_judge.specs.Judged.{judged}
 use Rattle.rail_base.specs.declared.station.Station.{Station}
 use Rattle.rail_outside.specs.Lines.{lines_of}
@@ -10,15 +10,15 @@ use Rattle.proof_words.specs.declared.explaining.Explained.TheVariants as explai
 use Rattle.proof_words.specs.Meanings.{file_told}
 
 -- the sentences, or what is shown in their place
-abbrev pub sentences_or : Explained → Result (List (List ℕ)) Shown
+abbrev pub sentences_or : Explained → Result (List (List ℕ)) CheckResult
 sentences_or (explained.Sentences lines) = Ok (lines_of lines.items)
 sentences_or (explained.Refused shown) = Err shown
 
 -- the sentences about a file that shows that there is no plan, or what another file shows
-abbrev pub told_where_yes : List (List ℕ) → Shown → Result (List (List ℕ)) Shown
+abbrev pub told_where_yes : List (List ℕ) → CheckResult → Result (List (List ℕ)) CheckResult
 told_where_yes lines (Yes k) = Ok lines
 told_where_yes lines (No line reason) = Err (No line reason)
 
 -- what the bytes say of the design for plans of n steps
-abbrev pub explained_of : Station → ℕ → List ℕ → Result (List (List ℕ)) Shown
+abbrev pub explained_of : Station → ℕ → List ℕ → Result (List (List ℕ)) CheckResult
 explained_of d n bytes = told_where_yes (file_told d bytes) (judged d n bytes)

@@ -1,4 +1,4 @@
 -- What a proof file says of a design, in sentences.
 pub mod Meanings
-pub mod Shown
+pub mod Named
 pub mod Explained

@@ -7,7 +7,7 @@ ghost use Rattle.proof_words.specs.Explained.{explained_of, sentences_or};
 
 use crate::meanings::file_told;
 use interlocking::Interlocking;
-use log_checker::Shown;
+use log_checker::CheckResult;
 use plan_encoding::Base;
 use proof_judge::judge;
 use rail_base::design::Design;
@@ -19,7 +19,7 @@ pub enum Explained {
     /// It shows that there is no plan. The sentences about its cones and bounds, in the order of the file, each with its LF.
     Sentences(Vec<Vec<u8>>),
     /// It does not show that: its first bad line, and why it is bad.
-    Refused(Shown),
+    Refused(CheckResult),
 }
 
 /// What the bytes of a proof file say of the design whose clauses these are: where it shows that there is no plan of so many steps,
@@ -36,7 +36,7 @@ pub fn explain(
 {
     let shown = judge(alloc, interlocking, base, bytes)?;
     match shown {
-        Shown::Yes { .. } => Ok(Explained::Sentences(file_told(alloc, interlocking, bytes)?)),
-        Shown::No { .. } => Ok(Explained::Refused(shown)),
+        CheckResult::Yes { .. } => Ok(Explained::Sentences(file_told(alloc, interlocking, bytes)?)),
+        CheckResult::No { .. } => Ok(Explained::Refused(shown)),
     }
 }

@@ -8,13 +8,31 @@ ghost use Rattle.rail_text.specs.Cursors.{lines_left};
 ghost use Rattle.rail_text.specs.Pieces.{pieces};
 ghost use Rattle.proof_log.specs.Lines.{line_of};
 ghost use Rattle.proof_words.specs.Meanings.{file_told, line_told, piece_told};
-ghost use Rattle.proof_words.specs.Shown.{IsNamedPiece, names_line};
+ghost use Rattle.proof_words.specs.Named.{IsNamedPiece, names_line};
 
 use evidence_words::push_evidence;
 use interlocking::Interlocking;
 use proof_log::{Line, LineFault, read_line};
 use rail_text::{Cursor, Piece};
 use std::alloc::{AllocError, Global};
+
+/// The sentences about the lines of a proof file after its head, where each cone and bound names what the design has.
+pub(crate) fn file_told(
+    alloc: Global,
+    interlocking: &Interlocking,
+    bytes: &[u8],
+) -> Result<Vec<Vec<u8>>, AllocError>
+    requires { All (IsNamedPiece interlocking.now.design.station) (after_first (pieces bytes.now)) }
+    ensures { IfOk result (λ lines. lines_of lines.items ≡ file_told interlocking.now.design.station bytes.now) }
+{
+    let mut lines = Vec::new(alloc);
+    let mut cursor = Cursor::new(bytes);
+    let Some(_head) = cursor.next() else {
+        return Ok(lines);
+    };
+    push_pieces(alloc, interlocking, cursor, &mut lines)?;
+    Ok(lines)
+}
 
 /// Appends the sentences about a line of this number.
 fn push_line(
@@ -68,22 +86,4 @@ fn push_pieces(
         push_piece(alloc, interlocking, &piece, lines)?;
     }
     Ok(())
-}
-
-/// The sentences about the lines of a proof file after its head, where each cone and bound names what the design has.
-pub(crate) fn file_told(
-    alloc: Global,
-    interlocking: &Interlocking,
-    bytes: &[u8],
-) -> Result<Vec<Vec<u8>>, AllocError>
-    requires { All (IsNamedPiece interlocking.now.design.station) (after_first (pieces bytes.now)) }
-    ensures { IfOk result (λ lines. lines_of lines.items ≡ file_told interlocking.now.design.station bytes.now) }
-{
-    let mut lines = Vec::new(alloc);
-    let mut cursor = Cursor::new(bytes);
-    let Some(_head) = cursor.next() else {
-        return Ok(lines);
-    };
-    push_pieces(alloc, interlocking, cursor, &mut lines)?;
-    Ok(lines)
 }

@@ -11,6 +11,16 @@ use rail_base::design::Design;
 use rail_base::list::List;
 use rail_base::station::{NodeNo, Order, TrainNo, Within};
 
+/// Whether the two trains are alike: both are trains of the design, they have one vehicle and the same visits, and each
+/// order and within is one of the design with them exchanged. It takes at most a comparison of each two orders, and of
+/// each two withins.
+pub fn are_alike(design: &Design, one: TrainNo, other: TrainNo) -> bool
+    ensures value { result ≡ are_alike design.now.station one other }
+    ensures alike { IsTrue result ↔ AreAlike design.now.station one other }
+{
+    pass(design, one, other)
+}
+
 /// Each of the two for the other, and any other train as it is.
 fn exchange(one: TrainNo, other: TrainNo, train: TrainNo) -> TrainNo
     ensures { result ≡ exchange one other train }
@@ -164,14 +174,4 @@ fn pass(design: &Design, one: TrainNo, other: TrainNo) -> bool
         && same_visits(design, one, other)
         && orders_stay(design, one, other)
         && withins_stay(design, one, other)
-}
-
-/// Whether the two trains are alike: both are trains of the design, they have one vehicle and the same visits, and each
-/// order and within is one of the design with them exchanged. It takes at most a comparison of each two orders, and of
-/// each two withins.
-pub fn are_alike(design: &Design, one: TrainNo, other: TrainNo) -> bool
-    ensures value { result ≡ are_alike design.now.station one other }
-    ensures alike { IsTrue result ↔ AreAlike design.now.station one other }
-{
-    pass(design, one, other)
 }

@@ -9,6 +9,19 @@ use rail_base::list::List;
 use rail_base::station::TrainNo;
 use std::alloc::{AllocError, Global};
 
+/// Each train with the next one that is like it, in file order. `Err` where memory is wanting. Each two trains are
+/// compared at most once, which takes at most a comparison of each two orders, and of each two withins.
+pub fn neighbors(alloc: Global, design: &Design) -> Result<List<(TrainNo, TrainNo)>, AllocError>
+    ensures { IfOk result (λ pairs. pairs ≡ neighbors design.now.station) }
+{
+    let mut pairs = List::new(alloc);
+    for number in 1..design.station.trains.len() as u32 + 1 {
+        let train = TrainNo(number);
+        add_pair(&mut pairs, train, next_alike(design, train))?;
+    }
+    Ok(pairs)
+}
+
 /// Whether the other train comes after this one, and is like it.
 fn is_later_alike(design: &Design, train: TrainNo, other: TrainNo) -> bool
     ensures { result ≡ is_later_alike design.now.station train other }
@@ -41,17 +54,4 @@ fn add_pair(
         pairs.push((train, next))?;
     }
     Ok(())
-}
-
-/// Each train with the next one that is like it, in file order. `Err` where memory is wanting. Each two trains are
-/// compared at most once, which takes at most a comparison of each two orders, and of each two withins.
-pub fn neighbors(alloc: Global, design: &Design) -> Result<List<(TrainNo, TrainNo)>, AllocError>
-    ensures { IfOk result (λ pairs. pairs ≡ neighbors design.now.station) }
-{
-    let mut pairs = List::new(alloc);
-    for number in 1..design.station.trains.len() as u32 + 1 {
-        let train = TrainNo(number);
-        add_pair(&mut pairs, train, next_alike(design, train))?;
-    }
-    Ok(pairs)
 }

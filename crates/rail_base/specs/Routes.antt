@@ -13,7 +13,7 @@ use Rattle.rail_base.specs.Numbering.{entry}
 abbrev pub no_route : Route
 no_route = record {
   start = start.Boundary (record { 0 = 0 });
-  finish = finish.Dead (record { 0 = 0 });
+  finish = finish.DeadEnd (record { 0 = 0 });
   length = pos 0;
   edges = [];
   nodes = [];
@@ -59,4 +59,4 @@ exits r = is_exit r.finish
     is_exit : Finish → Bool
     is_exit (finish.Exit n) = true
     is_exit (finish.Signal s) = false
-    is_exit (finish.Dead n) = false
+    is_exit (finish.DeadEnd n) = false

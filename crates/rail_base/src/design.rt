@@ -53,8 +53,8 @@ impl Design {
     /// The last tick that counts, from 1 to 86,400.
     pub fn horizon(&self) -> u64
         ensures value { result ≡ horizon self.now.station }
-        ensures first { 1 ≤ result }
-        ensures last { result ≤ 86400 }
+        ensures at_least_one { 1 ≤ result }
+        ensures at_most_86400 { result ≤ 86400 }
     {
         u64::from(self.station.horizon_ms / self.station.tick_ms)
     }

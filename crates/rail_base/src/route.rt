@@ -22,7 +22,7 @@ pub enum Start {
 pub enum Finish {
     Exit(NodeNo),
     Signal(SignalNo),
-    Dead(NodeNo),
+    DeadEnd(NodeNo),
 }
 
 /// A way along edges from a start to the first place where a route ends. Offsets are in mm from its start.

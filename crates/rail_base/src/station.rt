@@ -110,7 +110,7 @@ pub struct Within {
     pub max_ms: u32,
 }
 
-/// A station and what is asked of its traffic, as a file spells it. `Design` is one that the reader admits.
+/// A station and what is asked of its traffic, as a file has it. `Design` is one that the reader admits.
 #[derive(Drop)]
 pub struct Station {
     pub version: u32,

@@ -25,13 +25,13 @@ use Rattle.rail_laws.proofs.Standing.{in_path}
 use Rattle.rail_laws.proofs.Admits.{formed_path}
 use Rattle.rail_cone.specs.Cones.{has_route}
 use Rattle.rail_cone.specs.Validity.{from_boundary}
-use Rattle.rail_cone.proofs.Fronts.{not_to_boundary, both_end_there, not_both}
+use Rattle.rail_cone.proofs.Prefixes.{not_to_boundary, both_end_there, not_both}
 use Rattle.rail_cone.proofs.Naming.{has_route_in}
 use Rattle.rail_free.proofs.Following.{neighbors_after, has_train}
 use Rattle.rail_bound.specs.declared.Place.{Place}
 use Rattle.rail_bound.specs.declared.Place.TheVariants as place
 use Rattle.rail_bound.specs.declared.Leg.{Leg}
-use Rattle.rail_bound.specs.Ways.{LieIn}
+use Rattle.rail_bound.specs.Walks.{LieIn}
 use Rattle.rail_bound.specs.Rides.{Rides, first_of}
 use Rattle.rail_bound.specs.Certificates.{routes_of_place, named_at, kept_out, first_of_places, last_of_places, first_of_leg, last_of_leg, ride_of}
 use Rattle.rail_bound.specs.Validity.{covers, comes_before, goes_on_to, is_first_route, ends_at_signal, is_empty}
@@ -170,7 +170,7 @@ module _ (d : Station) (adm : IsAdmitted d) (n : ℕ) (plan : List (List Command
       go : (e : Finish) → goes_on e (f y).start ≡ true → ends_at_signal e ≡ true
       go (finish.Signal s) h = refl
       go (finish.Exit m) h = absurd (true≢false (sym h))
-      go (finish.Dead m) h = absurd (true≢false (sym h))
+      go (finish.DeadEnd m) h = absurd (true≢false (sym h))
 
   -- ---- places
 
@@ -199,32 +199,32 @@ module _ (d : Station) (adm : IsAdmitted d) (n : ℕ) (plan : List (List Command
         among g here (inl i) = i
         among g here (inr o) = absurd (keeps.avoids g o here)
 
-    -- a way through the places to a route of the last
+    -- a walk through the places to a route of the last
     pub record Through (ps : List Place) (a : List RouteNo) (r : RouteNo) : Type 0 where
       pub before : List RouteNo
-      pub front : List RouteNo
-      pub split : a ≡ before ++ front
-      pub lies : LieIn (front ++ r ∷ []) (map routes_of_place ps)
+      pub prefix : List RouteNo
+      pub split : a ≡ before ++ prefix
+      pub lies : LieIn (prefix ++ r ∷ []) (map routes_of_place ps)
 
-    first_lies : (front : List RouteNo) (r : RouteNo) (q : Place) (ps : List Place) → LieIn (front ++ r ∷ []) (map routes_of_place (q ∷ ps)) → In (first_of d (routes_of d) plan front r) (routes_of_place q)
+    first_lies : (prefix : List RouteNo) (r : RouteNo) (q : Place) (ps : List Place) → LieIn (prefix ++ r ∷ []) (map routes_of_place (q ∷ ps)) → In (first_of d (routes_of d) plan prefix r) (routes_of_place q)
     first_lies [] r q ps l = l.0
-    first_lies (p ∷ front) r q ps l = l.0
+    first_lies (p ∷ prefix) r q ps l = l.0
 
-    pub first_splits : (front : List RouteNo) (r : RouteNo) (more : List RouteNo) → (rest : List RouteNo) × (front ++ r ∷ more ≡ first_of d (routes_of d) plan front r ∷ rest)
+    pub first_splits : (prefix : List RouteNo) (r : RouteNo) (more : List RouteNo) → (rest : List RouteNo) × (prefix ++ r ∷ more ≡ first_of d (routes_of d) plan prefix r ∷ rest)
     first_splits [] r more = (more, refl)
-    first_splits (p ∷ front) r more = (front ++ r ∷ more, refl)
+    first_splits (p ∷ prefix) r more = (prefix ++ r ∷ more, refl)
 
     pub through : (p : Place) (ps : List Place) → ((q : Place) → In q (p ∷ ps) → Keeps q) → all_neighbors (comes_before d (routes_of d)) (p ∷ ps) ≡ true → (a : List RouteNo) (r : RouteNo) (more : List RouteNo) → path plan t ≡ a ++ r ∷ more → In r (routes_of_place (last_of_places (p ∷ ps))) → Through (p ∷ ps) a r
-    through p [] keeps next a r more whole m = record { before = a; front = []; split = sym (append-nil a); lies = (m, tt) }
+    through p [] keeps next a r more whole m = record { before = a; prefix = []; split = sym (append-nil a); lies = (m, tt) }
     through p (q ∷ ps) keeps next a r more whole m =
         let later = through q ps (λ x i. keeps x (inr i)) (and_right (comes_before d (routes_of d) p q) _ next) a r more whole m in
-        let s = first_splits later.front r more in
-        let whole_now : path plan t ≡ later.before ++ first_of d (routes_of d) plan later.front r ∷ s.0 = whole ∙ ap (λ zs. zs ++ r ∷ more) later.split ∙ append_assoc later.before later.front (r ∷ more) ∙ ap (λ zs. later.before ++ zs) s.1 in
-        let c = comes_from p q (keeps p (inl refl)) (and_left (comes_before d (routes_of d) p q) _ next) later.before (first_of d (routes_of d) plan later.front r) s.0 whole_now (first_lies later.front r q ps later.lies) in
+        let s = first_splits later.prefix r more in
+        let whole_now : path plan t ≡ later.before ++ first_of d (routes_of d) plan later.prefix r ∷ s.0 = whole ∙ ap (λ zs. zs ++ r ∷ more) later.split ∙ append_assoc later.before later.prefix (r ∷ more) ∙ ap (λ zs. later.before ++ zs) s.1 in
+        let c = comes_from p q (keeps p (inl refl)) (and_left (comes_before d (routes_of d) p q) _ next) later.before (first_of d (routes_of d) plan later.prefix r) s.0 whole_now (first_lies later.prefix r q ps later.lies) in
         record {
           before = c.0.earlier;
-          front = c.0.last ∷ later.front;
-          split = later.split ∙ ap (λ zs. zs ++ later.front) c.0.split ∙ append_assoc c.0.earlier (c.0.last ∷ []) later.front;
+          prefix = c.0.last ∷ later.prefix;
+          split = later.split ∙ ap (λ zs. zs ++ later.prefix) c.0.split ∙ append_assoc c.0.earlier (c.0.last ∷ []) later.prefix;
           lies = (c.1, later.lies);
         }
 
@@ -239,9 +239,9 @@ module _ (d : Station) (adm : IsAdmitted d) (n : ℕ) (plan : List (List Command
   -- the path of a leg's train has the leg's ride, that ends with the route behind these
   pub record Ridden (l : Leg) (a : List RouteNo) (r : RouteNo) : Type 0 where
     pub ride : Rides d (routes_of d) plan (ride_of (routes_of d) l)
-    pub split : a ≡ ride.before ++ ride.front
+    pub split : a ≡ ride.before ++ ride.prefix
     pub ends : ride.last ≡ r
-    pub first : In (first_of d (routes_of d) plan ride.front ride.last) (routes_of_place (first_of_leg l))
+    pub first : In (first_of d (routes_of d) plan ride.prefix ride.last) (routes_of_place (first_of_leg l))
 
   pub ridden : (l : Leg) → is_empty l.places ≡ false → ((p : Place) → In p l.places → Keeps l.train p) → all_neighbors (comes_before d (routes_of d)) l.places ≡ true
       → (a : List RouteNo) (r : RouteNo) (more : List RouteNo) → path plan l.train ≡ a ++ r ∷ more → In r (routes_of_place (last_of_leg l)) → Ridden l a r
@@ -251,10 +251,10 @@ module _ (d : Station) (adm : IsAdmitted d) (n : ℕ) (plan : List (List Command
       go [] e = absurd (true≢false (ap is_empty (sym e) ∙ some))
       go (p ∷ ps) e =
           let w = through l.train p ps (λ q i. keeps q (subst (In q) (sym e) i)) (subst (λ ps. all_neighbors (comes_before d (routes_of d)) ps ≡ true) e next) a r more whole (subst (λ ps. In r (routes_of_place (last_of_places ps))) e m) in
-          let lies : LieIn (map f (w.front ++ r ∷ [])) (map (λ p. map f (routes_of_place p)) l.places) = subst (λ ps. LieIn (map f (w.front ++ r ∷ [])) (map (λ p. map f (routes_of_place p)) ps)) (sym e) (lies_mapped (w.front ++ r ∷ []) (p ∷ ps) w.lies) in
+          let lies : LieIn (map f (w.prefix ++ r ∷ [])) (map (λ p. map f (routes_of_place p)) l.places) = subst (λ ps. LieIn (map f (w.prefix ++ r ∷ [])) (map (λ p. map f (routes_of_place p)) ps)) (sym e) (lies_mapped (w.prefix ++ r ∷ []) (p ∷ ps) w.lies) in
           record {
-            ride = record { before = w.before; front = w.front; last = r; more = more; whole = whole ∙ ap (λ zs. zs ++ r ∷ more) w.split ∙ append_assoc w.before w.front (r ∷ more); lies = lies };
+            ride = record { before = w.before; prefix = w.prefix; last = r; more = more; whole = whole ∙ ap (λ zs. zs ++ r ∷ more) w.split ∙ append_assoc w.before w.prefix (r ∷ more); lies = lies };
             split = w.split;
             ends = refl;
-            first = subst (λ ps. In (first_of d (routes_of d) plan w.front r) (routes_of_place (first_of_places ps))) (sym e) (first_lies l.train w.front r p ps w.lies);
+            first = subst (λ ps. In (first_of d (routes_of d) plan w.prefix r) (routes_of_place (first_of_places ps))) (sym e) (first_lies l.train w.prefix r p ps w.lies);
           }

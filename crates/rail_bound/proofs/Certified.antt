@@ -9,7 +9,7 @@ use Rattle.rail_base.specs.declared.station.TrainNo.{TrainNo}
 use Rattle.rail_base.specs.declared.route.Route.{Route}
 use Rattle.rail_base.specs.declared.route.RouteNo.{RouteNo}
 use Rattle.rail_base.specs.declared.plan.Command.{Command}
-use Rattle.rail_base.specs.declared.state.Stop.{Stop}
+use Rattle.rail_base.specs.declared.state.PathNode.{PathNode}
 use Rattle.rail_base.specs.declared.state.TrainState.{TrainState}
 use Rattle.rail_base.specs.Admitted.{IsAdmitted}
 use Rattle.rail_base.specs.Admission.{is_from, is_visit}
@@ -32,7 +32,7 @@ use Rattle.rail_cone.proofs.Saying.{in_has, is_of_in_all}
 use Rattle.rail_laws.proofs.Deciding.{visit_stays}
 use Rattle.rail_cone.specs.Cones.{named}
 use Rattle.rail_cone.specs.Validity as cone
-use Rattle.rail_cone.specs.Validity.{free_granted, held, cone_visit}
+use Rattle.rail_cone.specs.Validity.{free_granted, holder_fits, cone_visit}
 use Rattle.rail_cone.specs.Clauses.{is_false_of}
 use Rattle.rail_cone.proofs.Running.{idle_at_first}
 use Rattle.rail_cone.proofs.Fitting.{Rests}
@@ -47,18 +47,18 @@ use Rattle.rail_bound.specs.declared.Place.TheVariants as place
 use Rattle.rail_bound.specs.declared.Leg.{Leg}
 use Rattle.rail_bound.specs.declared.Bound.{Bound}
 use Rattle.rail_bound.specs.Events.{Event, has_happened, Takes}
-use Rattle.rail_bound.specs.Ways.{ways}
-use Rattle.rail_bound.specs.Rides.{Ride, Rides, way_of, first_of, reaches, granted_first, passes, first_target, Chained, arrives, waits_out, first_place, release_place}
+use Rattle.rail_bound.specs.Walks.{walks}
+use Rattle.rail_bound.specs.Rides.{Ride, Rides, walk_of, first_of, reaches, granted_first, passes, first_target, Chained, arrives, waits_out, first_place, release_place}
 use Rattle.rail_bound.specs.Certificates.{VisitOf, routes_of_place, first_of_leg, last_of_leg, ride_of, visit_offset, visit_place, visit_from, visit_to, train_to, target, cone_of}
 use Rattle.rail_bound.specs.Clauses.{any_next, may_join, begins_at_once, clause_of_bound}
 use Rattle.rail_bound.specs.Validity.{most_looks, stretches_of, followed, is_empty, first_leg, last_leg, legs_before_last, leg_in_design, place_in_design, most_places, places_of, are_few_choices, contend_where_they_meet, requirement_in_design, can_visit, comes_before, is_used, is_visited, is_just, reaches_target, is_made_at_end, begins_with, is_first_route, is_ahead, are_ahead, ticks_to, ticks_from_visit, passes_between, is_too_long, is_too_late, origin_in_design, is_consistent, in_design, origin_covered, covered, is_made_at, cone_shows, is_shown, shown, first_fault, is_valid_bound}
 use Rattle.rail_bound.proofs.Premises.{Premises, premises, cone_denied}
 use Rattle.rail_bound.proofs.Backwards.{Ridden, in_middle, first_splits, numbered}
-use Rattle.rail_bound.proofs.Visits.{way, MadeOn, made_on, first_made, second_by}
+use Rattle.rail_bound.proofs.Visits.{path_length, MadeOn, made_on, first_made, second_by}
 use Rattle.rail_bound.proofs.Meeting.{Makes, PassedAt, passed_at, met, TwoVisits, two_visits}
 use Rattle.rail_bound.proofs.Chains.{Proper, Arrived, stands_on, arrived, ride_on, waits, meets_in}
 use Rattle.rail_bound.proofs.Rides.{chain_takes, chain_takes_from, waits_take, next_in}
-use Rattle.rail_bound.proofs.Ways.{way_in, path_goes}
+use Rattle.rail_bound.proofs.Walks.{walk_in, path_goes}
 use Rattle.rail_free.proofs.Following.{neighbors_after}
 
 module _ (d : Station) (adm : IsAdmitted d) (n : ℕ) (b : Bound) (plan : List (List Command)) (feasible : IsFeasible d n plan) (p : Premises d (routes_of d) b plan) where
@@ -84,13 +84,13 @@ module _ (d : Station) (adm : IsAdmitted d) (n : ℕ) (b : Bound) (plan : List (
   record Chain (P : (m : Leg) → Ridden_on m → Type 0) (l : Leg) (ls : List Leg) : Type 0 where
     ride : Ridden_on l
     chained : Chained d (routes_of d) plan (ride_of (routes_of d) l) ride (map (ride_of (routes_of d)) ls)
-    first : In (first_of d (routes_of d) plan ride.front ride.last) (routes_of_place (first_of_leg l))
+    first : In (first_of d (routes_of d) plan ride.prefix ride.last) (routes_of_place (first_of_leg l))
     ends : EndsSo P l ls ride chained
 
   -- a ride on a leg, with its first and last route
   record Ride_on (P : (m : Leg) → Ridden_on m → Type 0) (l : Leg) : Type 0 where
     ride : Ridden_on l
-    first : In (first_of d (routes_of d) plan ride.front ride.last) (routes_of_place (first_of_leg l))
+    first : In (first_of d (routes_of d) plan ride.prefix ride.last) (routes_of_place (first_of_leg l))
     ends : P l ride
 
   abbrev proper : Leg → Type 0
@@ -119,19 +119,19 @@ module _ (d : Station) (adm : IsAdmitted d) (n : ℕ) (b : Bound) (plan : List (
 
   -- by tick k the ride has come to its visit
   abbrev Comes : VisitOf → ℕ → (m : Leg) → Ridden_on m → Type 0
-  Comes v k m i = has_happened d (routes_of d) plan (reaches d (routes_of d) plan (ride_of (routes_of d) m) i (target d v (way_of d (routes_of d) plan (ride_of (routes_of d) m) i))) k ≡ true
+  Comes v k m i = has_happened d (routes_of d) plan (reaches d (routes_of d) plan (ride_of (routes_of d) m) i (target d v (walk_of d (routes_of d) plan (ride_of (routes_of d) m) i))) k ≡ true
 
   -- by tick k its first command is granted
   abbrev Goes : ℕ → (m : Leg) → Ridden_on m → Type 0
   Goes k m i = has_happened d (routes_of d) plan (granted_first d (routes_of d) plan (ride_of (routes_of d) m) i) k ≡ true
 
-  target_is : (v : VisitOf) (front : List RouteNo) (r : RouteNo) → target d v (map f (front ++ r ∷ [])) ≡ way d adm front + visit_offset d v.train v.number (f r)
+  target_is : (v : VisitOf) (prefix : List RouteNo) (r : RouteNo) → target d v (map f (prefix ++ r ∷ [])) ≡ path_length d adm prefix + visit_offset d v.train v.number (f r)
   target_is v [] r = omega arith
   target_is v (q ∷ []) r = let s = sum_by-cons length_mm (f q) [] in omega arith
-  target_is v (q ∷ q' ∷ front) r = let k = target_is v (q' ∷ front) r in let s = sum_by-cons length_mm (f q) (map f (q' ∷ front)) in omega arith
+  target_is v (q ∷ q' ∷ prefix) r = let k = target_is v (q' ∷ prefix) r in let s = sum_by-cons length_mm (f q) (map f (q' ∷ prefix)) in omega arith
 
-  way_append : (xs ys : List RouteNo) → way d adm (xs ++ ys) ≡ way d adm xs + way d adm ys
-  way_append xs ys = ap (sum_by length_mm) (map-append f xs ys) ∙ sum_by-append length_mm (map f xs) (map f ys)
+  path_length_append : (xs ys : List RouteNo) → path_length d adm (xs ++ ys) ≡ path_length d adm xs + path_length d adm ys
+  path_length_append xs ys = ap (sum_by length_mm) (map-append f xs ys) ∙ sum_by-append length_mm (map f xs) (map f ys)
 
   comes : (m : Leg) → proper m → (v : VisitOf) (k : ℕ) → v.train ≡ m.train → is_visited d (routes_of d) v.train v.number (last_of_leg m) ≡ true → Makes d adm n plan feasible v k → Ride_on (Comes v k) m
   comes m pm v k same visited makes =
@@ -141,14 +141,14 @@ module _ (d : Station) (adm : IsAdmitted d) (n : ℕ) (b : Bound) (plan : List (
     where
       there : (a : Arrived d adm n b plan feasible p m v.number k) (r : Ridden d adm n plan well m a.stands.before a.stands.route) → Comes v k m r.ride
       there a r =
-          let count = ap length r.split ∙ length-append r.ride.before r.ride.front in
-          let sum = ap (way d adm) r.split ∙ way_append r.ride.before r.ride.front in
-          let t = target_is v r.ride.front r.ride.last in
+          let count = ap length r.split ∙ length-append r.ride.before r.ride.prefix in
+          let sum = ap (path_length d adm) r.split ∙ path_length_append r.ride.before r.ride.prefix in
+          let t = target_is v r.ride.prefix r.ride.last in
           let e : visit_offset d v.train v.number (f r.ride.last) ≡ visit_offset d m.train v.number (f a.stands.route) = ap₂ (λ t x. visit_offset d t v.number (f x)) same r.ends in
           let g = a.granted in
           let h = a.head in
-          and_both _ _ (le-leb (length r.ride.before + length r.ride.front + 1) (at k m.train).granted (omega arith))
-          (le-leb (way d adm r.ride.before + target d v (way_of d (routes_of d) plan (ride_of (routes_of d) m) r.ride)) (at k m.train).x (omega arith))
+          and_both _ _ (le-leb (length r.ride.before + length r.ride.prefix + 1) (at k m.train).granted (omega arith))
+          (le-leb (path_length d adm r.ride.before + target d v (walk_of d (routes_of d) plan (ride_of (routes_of d) m) r.ride)) (at k m.train).x (omega arith))
 
   -- the last leg of a command that is to be granted
   goes : (m : Leg) → proper m → (r : RouteNo) → is_just d (routes_of d) r m.places ≡ true → Ride_on (Goes (horizon d)) m
@@ -156,8 +156,8 @@ module _ (d : Station) (adm : IsAdmitted d) (n : ℕ) (b : Bound) (plan : List (
     where
       granted : (i : Ridden_on m) → Goes (horizon d) m i
       granted i =
-          let count = ap length i.whole ∙ length-append i.before (i.front ++ i.last ∷ i.more) in
-          let count2 = length-append i.front (i.last ∷ i.more) in
+          let count = ap length i.whole ∙ length-append i.before (i.prefix ++ i.last ∷ i.more) in
+          let count2 = length-append i.prefix (i.last ∷ i.more) in
           let train = has_train d adm n plan well m.train (omega arith) in
           and_both _ _ ((met d adm n plan feasible).granted m.train (length i.before + 1) train (omega arith) (omega arith)) (le-leb 0 (at (horizon d) m.train).x (omega arith))
 
@@ -210,17 +210,17 @@ module _ (d : Station) (adm : IsAdmitted d) (n : ℕ) (b : Bound) (plan : List (
   -- the ride's path, split at its first route
   record Begun (l : Leg) (i : Ridden_on l) : Type 0 where
     rest : List RouteNo
-    whole : path plan l.train ≡ i.before ++ first_of d (routes_of d) plan i.front i.last ∷ rest
+    whole : path plan l.train ≡ i.before ++ first_of d (routes_of d) plan i.prefix i.last ∷ rest
 
   begun : (l : Leg) (i : Ridden_on l) → Begun l i
-  begun l i = let s = first_splits d adm n plan well l.train i.front i.last i.more in record { rest = s.0; whole = i.whole ∙ ap (λ zs. i.before ++ zs) s.1 }
+  begun l i = let s = first_splits d adm n plan well l.train i.prefix i.last i.more in record { rest = s.0; whole = i.whole ∙ ap (λ zs. i.before ++ zs) s.1 }
 
-  visit_place_is : (v : VisitOf) (l : Leg) (i : Ridden_on l) → visit_place d v (way_of d (routes_of d) plan (ride_of (routes_of d) l) i) ≡ visit_offset d v.train v.number (f (first_of d (routes_of d) plan i.front i.last))
-  visit_place_is v l i = go i.front
+  visit_place_is : (v : VisitOf) (l : Leg) (i : Ridden_on l) → visit_place d v (walk_of d (routes_of d) plan (ride_of (routes_of d) l) i) ≡ visit_offset d v.train v.number (f (first_of d (routes_of d) plan i.prefix i.last))
+  visit_place_is v l i = go i.prefix
     where
-      go : (front : List RouteNo) → visit_place d v (map f (front ++ i.last ∷ [])) ≡ visit_offset d v.train v.number (f (first_of d (routes_of d) plan front i.last))
+      go : (prefix : List RouteNo) → visit_place d v (map f (prefix ++ i.last ∷ [])) ≡ visit_offset d v.train v.number (f (first_of d (routes_of d) plan prefix i.last))
       go [] = refl
-      go (q ∷ front) = refl
+      go (q ∷ prefix) = refl
 
   -- a path ends with a route that exits
   exit_is_last : (t : TrainNo) (before : List RouteNo) (r : RouteNo) (rest : List RouteNo) → path plan t ≡ before ++ r ∷ rest → exits (f r) ≡ true → length (path plan t) ≤ length before + 1
@@ -230,20 +230,20 @@ module _ (d : Station) (adm : IsAdmitted d) (n : ℕ) (b : Bound) (plan : List (
       let split : path_routes (routes_of d) plan t ≡ (map f before ++ f r ∷ []) ++ map f rest = ap (map f) whole ∙ map-append f before (r ∷ rest) ∙ sym (append_assoc (map f before) (f r ∷ []) (map f rest)) in
       let size = length-append (map f before) (f r ∷ []) in
       let size2 = length-map f before in
-      let front : take (length (map f before ++ f r ∷ [])) (path_routes (routes_of d) plan t) ≡ map f before ++ f r ∷ [] =
+      let prefix : take (length (map f before ++ f r ∷ [])) (path_routes (routes_of d) plan t) ≡ map f before ++ f r ∷ [] =
       ap (take (length (map f before ++ f r ∷ []))) split ∙ take-append-le (length (map f before ++ f r ∷ [])) (map f before ++ f r ∷ []) (map f rest) (le_refl _) ∙ take_all (length (map f before ++ f r ∷ [])) (map f before ++ f r ∷ []) (le_refl _) in
       let some : list_any exits (take (length (map f before ++ f r ∷ [])) (path_routes (routes_of d) plan t)) ≡ true =
-      ap (list_any exits) front ∙ list_any-append exits (map f before) (f r ∷ []) ∙ or_right (list_any exits (map f before)) _ (or_left (exits (f r)) false out) in
+      ap (list_any exits) prefix ∙ list_any-append exits (map f before) (f r ∷ []) ∙ or_right (list_any exits (map f before)) _ (or_left (exits (f r)) false out) in
       let last = (sound d adm n plan well.formed).exit_last t (length (map f before ++ f r ∷ [])) (has_train d adm n plan well t (omega arith)) some in
       omega arith
 
   -- a visit is made no later than on the first route of a ride that begins with a route of it
-  visited_by_then : (v : VisitOf) (x k : ℕ) (l : Leg) (i : Ridden_on l) → v.train ≡ l.train → In (first_of d (routes_of d) plan i.front i.last) (routes_of_place (first_of_leg l)) → begins_with d (routes_of d) v (first_of_leg l) ≡ true → nat_le v.number 1 ≡ false
-      → Makes d adm n plan feasible v x → has_happened d (routes_of d) plan (passes d (routes_of d) plan (ride_of (routes_of d) l) i (visit_place d v (way_of d (routes_of d) plan (ride_of (routes_of d) l) i))) k ≡ true → x ≤ k
+  visited_by_then : (v : VisitOf) (x k : ℕ) (l : Leg) (i : Ridden_on l) → v.train ≡ l.train → In (first_of d (routes_of d) plan i.prefix i.last) (routes_of_place (first_of_leg l)) → begins_with d (routes_of d) v (first_of_leg l) ≡ true → nat_le v.number 1 ≡ false
+      → Makes d adm n plan feasible v x → has_happened d (routes_of d) plan (passes d (routes_of d) plan (ride_of (routes_of d) l) i (visit_place d v (walk_of d (routes_of d) plan (ride_of (routes_of d) l) i))) k ≡ true → x ≤ k
   visited_by_then v x k l i same first begins later makes so = go (v.number == 2) refl (and_right (list_all (can_visit d (routes_of d) v.train v.number) (routes_of_place (first_of_leg l))) _ both)
     where
       r : RouteNo
-      r = first_of d (routes_of d) plan i.front i.last
+      r = first_of d (routes_of d) plan i.prefix i.last
 
       w : PassedAt d adm n plan feasible v x
       w = passed_at d adm n plan feasible v x makes
@@ -263,8 +263,8 @@ module _ (d : Station) (adm : IsAdmitted d) (n : ℕ) (b : Bound) (plan : List (
       granted : length i.before + 1 ≤ (at k l.train).granted
       granted = leb-true _ _ (and_left (nat_le (length i.before + 1) (at k l.train).granted) _ so)
 
-      head : way d adm i.before + visit_offset d v.train v.number (f r) ≤ (at k l.train).x
-      head = let h = leb-true _ _ (and_right (nat_le (length i.before + 1) (at k l.train).granted) (nat_le (way d adm i.before + visit_place d v (way_of d (routes_of d) plan (ride_of (routes_of d) l) i)) (at k l.train).x) so) in let e = visit_place_is v l i in omega arith
+      head : path_length d adm i.before + visit_offset d v.train v.number (f r) ≤ (at k l.train).x
+      head = let h = leb-true _ _ (and_right (nat_le (length i.before + 1) (at k l.train).granted) (nat_le (path_length d adm i.before + visit_place d v (walk_of d (routes_of d) plan (ride_of (routes_of d) l) i)) (at k l.train).x) so) in let e = visit_place_is v l i in omega arith
 
       some : 1 ≤ k
       some = go k granted
@@ -273,12 +273,12 @@ module _ (d : Station) (adm : IsAdmitted d) (n : ℕ) (b : Bound) (plan : List (
           go zero g = let none = ap (λ (s : TrainState). s.granted) (idle_at_first d (routes_of d) (of_plan (routes_of d) plan) l.train) in absurd (omega arith)
           go (suc k) g = omega arith
 
-      passed : w.stop.command ≤ length i.before + 1 → w.stop.offset ≤ way d adm i.before + visit_offset d v.train v.number (f r) → x ≤ k
+      passed : w.path_node.command ≤ length i.before + 1 → w.path_node.offset ≤ path_length d adm i.before + visit_offset d v.train v.number (f r) → x ≤ k
       passed number near =
           let g = granted in let h = head in
           let eg = ap (λ t. (at k t).granted) same in
           let ex = ap (λ t. (at k t).x) same in
-          w.first k some (and_both _ _ (le-leb w.stop.command (at k v.train).granted (omega arith)) (le-leb w.stop.offset (at k v.train).x (omega arith)))
+          w.first k some (and_both _ _ (le-leb w.path_node.command (at k v.train).granted (omega arith)) (le-leb w.path_node.offset (at k v.train).x (omega arith)))
 
       go : (y : Bool) → (v.number == 2) ≡ y → (y || is_made_at_end d (routes_of d) v) ≡ true → x ≤ k
       go true second h = two v.number (eqb-true v.number 2 second) refl
@@ -286,15 +286,15 @@ module _ (d : Station) (adm : IsAdmitted d) (n : ℕ) (b : Bound) (plan : List (
           two : (m : ℕ) → m ≡ 2 → v.number ≡ m → x ≤ k
           two m is e =
               let is2 = e ∙ is in
-              let s = second_by d adm n plan well v.train w.stop i.before r b0.rest whole (subst (λ m. can_visit d (routes_of d) v.train m r ≡ true) is2 may) (subst (λ m. entry_of m ≡ Some w.stop) is2 w.there) in
+              let s = second_by d adm n plan well v.train w.path_node i.before r b0.rest whole (subst (λ m. can_visit d (routes_of d) v.train m r ≡ true) is2 may) (subst (λ m. entry_of m ≡ Some w.path_node) is2 w.there) in
               let off = ap (λ m. visit_offset d v.train m (f r)) is2 in
               let near = s.0 in
               passed s.1 (omega arith)
             where
-              entry_of : ℕ → Option Stop
+              entry_of : ℕ → Option PathNode
               entry_of m = entry None (visits_of_train d (routes_of d) (of_plan (routes_of d) plan) v.train) m
       go false second h =
-          let m = made_on d adm n plan well v.train v.number w.stop w.there in
+          let m = made_on d adm n plan well v.train v.number w.path_node w.there in
           let all = λ (q : RouteNo) (here : In q (path plan v.train)) (can : can_visit d (routes_of d) v.train v.number q ≡ true). at_end q here can h in
           let mine = all r (subst (In r) (sym whole) (in_middle i.before r b0.rest)) may in
           let other = all m.route (subst (In m.route) (sym m.whole) (in_middle m.before m.route m.more)) m.may in
@@ -302,11 +302,11 @@ module _ (d : Station) (adm : IsAdmitted d) (n : ℕ) (b : Bound) (plan : List (
           let last2 = exit_is_last v.train m.before m.route m.more m.whole other.0 in
           let count = ap length whole ∙ length-append i.before (r ∷ b0.rest) in
           let count2 = ap length m.whole ∙ length-append m.before (m.route ∷ m.more) in
-          let sum = ap (way d adm) whole ∙ way_append i.before (r ∷ b0.rest) in
-          let sum2 = ap (way d adm) m.whole ∙ way_append m.before (m.route ∷ m.more) in
+          let sum = ap (path_length d adm) whole ∙ path_length_append i.before (r ∷ b0.rest) in
+          let sum2 = ap (path_length d adm) m.whole ∙ path_length_append m.before (m.route ∷ m.more) in
           let sum3 = sum_by-cons length_mm (f r) (map f b0.rest) in
           let sum4 = sum_by-cons length_mm (f m.route) (map f m.more) in
-          let none = ap (way d adm) (empty b0.rest (omega arith)) in
+          let none = ap (path_length d adm) (empty b0.rest (omega arith)) in
           let off = mine.1 in
           let c = m.command in
           let hi = m.high in
@@ -323,7 +323,7 @@ module _ (d : Station) (adm : IsAdmitted d) (n : ℕ) (b : Bound) (plan : List (
               (and_left (exits (f q)) _ k, eqb-true _ _ (and_right (exits (f q)) _ k))
 
   -- the first visit is made as the first command is granted
-  first_visited_by : (v : VisitOf) (x k : ℕ) (l : Leg) (i : Ridden_on l) → v.train ≡ l.train → In (first_of d (routes_of d) plan i.front i.last) (routes_of_place (first_of_leg l)) → begins_with d (routes_of d) v (first_of_leg l) ≡ true → nat_le v.number 1 ≡ true
+  first_visited_by : (v : VisitOf) (x k : ℕ) (l : Leg) (i : Ridden_on l) → v.train ≡ l.train → In (first_of d (routes_of d) plan i.prefix i.last) (routes_of_place (first_of_leg l)) → begins_with d (routes_of d) v (first_of_leg l) ≡ true → nat_le v.number 1 ≡ true
       → Makes d adm n plan feasible v x → Goes k l i → x ≤ k
   first_visited_by v x k l i same first begins early makes so = go v.number refl (leb-true v.number 1 early)
     where
@@ -333,19 +333,19 @@ module _ (d : Station) (adm : IsAdmitted d) (n : ℕ) (b : Bound) (plan : List (
       granted : length i.before + 1 ≤ (at k l.train).granted
       granted = leb-true _ _ (and_left (nat_le (length i.before + 1) (at k l.train).granted) (nat_le 0 (at k l.train).x) so)
 
-      entry_of : ℕ → Option Stop
+      entry_of : ℕ → Option PathNode
       entry_of m = entry None (visits_of_train d (routes_of d) (of_plan (routes_of d) plan) v.train) m
 
       go : (m : ℕ) → v.number ≡ m → m ≤ 1 → x ≤ k
-      go zero e h = let none : None ≡ Some w.stop = sym (ap entry_of e) ∙ w.there in cc
+      go zero e h = let none : None ≡ Some w.path_node = sym (ap entry_of e) ∙ w.there in cc
       go (suc (suc m)) e h = absurd (omega arith)
       go (suc zero) e h =
-          let s = first_made d adm n plan well v.train w.stop (sym (ap entry_of e) ∙ w.there) in
+          let s = first_made d adm n plan well v.train w.path_node (sym (ap entry_of e) ∙ w.there) in
           let off = s.0 in
           let number = s.1 in
           let g = granted in
           let eg = ap (λ t. (at k t).granted) same in
-          w.first k (granted_later l i k so) (and_both _ _ (le-leb w.stop.command (at k v.train).granted (omega arith)) (le-leb w.stop.offset (at k v.train).x (omega arith)))
+          w.first k (granted_later l i k so) (and_both _ _ (le-leb w.path_node.command (at k v.train).granted (omega arith)) (le-leb w.path_node.offset (at k v.train).x (omega arith)))
 
   -- the ticks from the one visit to the other
   between : (most : ℕ) (from to : VisitOf) (x y : ℕ) (l : Leg) (ls : List Leg) → from.train ≡ l.train → begins_with d (routes_of d) from (first_of_leg l) ≡ true → Makes d adm n plan feasible from x → Chain (Comes to y) l ls
@@ -358,22 +358,22 @@ module _ (d : Station) (adm : IsAdmitted d) (n : ℕ) (b : Bound) (plan : List (
       so : has_happened d (routes_of d) plan (arrives d (routes_of d) plan (ride_of (routes_of d) l) c.ride (map (ride_of (routes_of d)) ls) c.chained (target d to)) y ≡ true
       so = arrives_so to y l ls c.ride c.chained c.ends
 
-      -- the way of the ride is one of those of the leg
-      among : In (way_of d (routes_of d) plan (ride_of (routes_of d) l) c.ride) (ways (ride_of (routes_of d) l).places)
+      -- the walk of the ride is one of those of the leg
+      among : In (walk_of d (routes_of d) plan (ride_of (routes_of d) l) c.ride) (walks (ride_of (routes_of d) l).places)
       among =
           let i = c.ride in
-          let split : path_routes (routes_of d) plan l.train ≡ map f i.before ++ (map f (i.front ++ i.last ∷ []) ++ map f i.more) =
-          ap (map f) (i.whole ∙ ap (λ zs. i.before ++ zs) (sym (append_assoc i.front (i.last ∷ []) i.more)))
-          ∙ map-append f i.before ((i.front ++ i.last ∷ []) ++ i.more) ∙ ap (λ zs. map f i.before ++ zs) (map-append f (i.front ++ i.last ∷ []) i.more) in
-          way_in (map f (i.front ++ i.last ∷ [])) (map f i.more) (ride_of (routes_of d) l).places i.lies (neighbors_after (λ r q. goes_on r.finish q.start) (map f i.before) (map f (i.front ++ i.last ∷ []) ++ map f i.more) (path_goes d adm n plan well l.train _ split))
+          let split : path_routes (routes_of d) plan l.train ≡ map f i.before ++ (map f (i.prefix ++ i.last ∷ []) ++ map f i.more) =
+          ap (map f) (i.whole ∙ ap (λ zs. i.before ++ zs) (sym (append_assoc i.prefix (i.last ∷ []) i.more)))
+          ∙ map-append f i.before ((i.prefix ++ i.last ∷ []) ++ i.more) ∙ ap (λ zs. map f i.before ++ zs) (map-append f (i.prefix ++ i.last ∷ []) i.more) in
+          walk_in (map f (i.prefix ++ i.last ∷ [])) (map f i.more) (ride_of (routes_of d) l).places i.lies (neighbors_after (λ r q. goes_on r.finish q.start) (map f i.before) (map f (i.prefix ++ i.last ∷ []) ++ map f i.more) (path_goes d adm n plan well l.train _ split))
 
-      ahead : are_ahead d (routes_of d) from to (l ∷ ls) ≡ true → visit_place d from (way_of d (routes_of d) plan (ride_of (routes_of d) l) c.ride) ≤ first_target d (routes_of d) plan (ride_of (routes_of d) l) c.ride (map (ride_of (routes_of d)) ls) c.chained (target d to)
-      ahead all = at_legs ls c.chained (list_all_at (is_ahead d (routes_of d) from to l ls) (ways (ride_of (routes_of d) l).places) _ all among)
+      ahead : are_ahead d (routes_of d) from to (l ∷ ls) ≡ true → visit_place d from (walk_of d (routes_of d) plan (ride_of (routes_of d) l) c.ride) ≤ first_target d (routes_of d) plan (ride_of (routes_of d) l) c.ride (map (ride_of (routes_of d)) ls) c.chained (target d to)
+      ahead all = at_legs ls c.chained (list_all_at (is_ahead d (routes_of d) from to l ls) (walks (ride_of (routes_of d) l).places) _ all among)
         where
-          at_legs : (ls : List Leg) (ch : Chained d (routes_of d) plan (ride_of (routes_of d) l) c.ride (map (ride_of (routes_of d)) ls)) → is_ahead d (routes_of d) from to l ls (way_of d (routes_of d) plan (ride_of (routes_of d) l) c.ride) ≡ true
-              → visit_place d from (way_of d (routes_of d) plan (ride_of (routes_of d) l) c.ride) ≤ first_target d (routes_of d) plan (ride_of (routes_of d) l) c.ride (map (ride_of (routes_of d)) ls) ch (target d to)
+          at_legs : (ls : List Leg) (ch : Chained d (routes_of d) plan (ride_of (routes_of d) l) c.ride (map (ride_of (routes_of d)) ls)) → is_ahead d (routes_of d) from to l ls (walk_of d (routes_of d) plan (ride_of (routes_of d) l) c.ride) ≡ true
+              → visit_place d from (walk_of d (routes_of d) plan (ride_of (routes_of d) l) c.ride) ≤ first_target d (routes_of d) plan (ride_of (routes_of d) l) c.ride (map (ride_of (routes_of d)) ls) ch (target d to)
           at_legs [] ch k = leb-true _ _ k
-          at_legs (m ∷ ms) ch k = leb-true _ _ (list_all_at (λ s. nat_le (visit_place d from (way_of d (routes_of d) plan (ride_of (routes_of d) l) c.ride)) (release_place d l.train (way_of d (routes_of d) plan (ride_of (routes_of d) l) c.ride) s)) (first_place (ride_of (routes_of d) m)) _ k
+          at_legs (m ∷ ms) ch k = leb-true _ _ (list_all_at (λ s. nat_le (visit_place d from (walk_of d (routes_of d) plan (ride_of (routes_of d) l) c.ride)) (release_place d l.train (walk_of d (routes_of d) plan (ride_of (routes_of d) l) c.ride) s)) (first_place (ride_of (routes_of d) m)) _ k
               (next_in d adm n plan well most (ride_of (routes_of d) l) c.ride (ride_of (routes_of d) m) ch.0))
 
       go : (z : Bool) → nat_le from.number 1 ≡ z → (if z then test (ticks_to d (routes_of d) most (Some to) (l ∷ ls)) else are_ahead d (routes_of d) from to (l ∷ ls) && test (ticks_from_visit d (routes_of d) most from to (l ∷ ls))) ≡ true → (c : ℕ) × (test c ≡ true) × (x + c ≤ y)
@@ -398,14 +398,14 @@ module _ (d : Station) (adm : IsAdmitted d) (n : ℕ) (b : Bound) (plan : List (
       w : PassedAt d adm n plan feasible v x
       w = passed_at d adm n plan feasible v x makes
 
-      entry_of : ℕ → Option Stop
+      entry_of : ℕ → Option PathNode
       entry_of m = entry None (visits_of_train d (routes_of d) (of_plan (routes_of d) plan) v.train) m
 
-      m : MadeOn d adm n plan well v.train 1 w.stop
-      m = made_on d adm n plan well v.train 1 w.stop (sym (ap entry_of one) ∙ w.there)
+      m : MadeOn d adm n plan well v.train 1 w.path_node
+      m = made_on d adm n plan well v.train 1 w.path_node (sym (ap entry_of one) ∙ w.there)
 
-      start : (w.stop.offset ≡ 0) × (w.stop.command ≡ 1)
-      start = first_made d adm n plan well v.train w.stop (sym (ap entry_of one) ∙ w.there)
+      start : (w.path_node.offset ≡ 0) × (w.path_node.command ≡ 1)
+      start = first_made d adm n plan well v.train w.path_node (sym (ap entry_of one) ∙ w.there)
 
       none_before : m.before ≡ []
       none_before = let c = m.command in let s = start.1 in empty m.before (omega arith)
@@ -455,7 +455,7 @@ module _ (d : Station) (adm : IsAdmitted d) (n : ℕ) (b : Bound) (plan : List (
           let off = start.0 in
           let number = start.1 in
           let g = granted in
-          w.first 1 (omega arith) (and_both _ _ (le-leb w.stop.command (at 1 v.train).granted (omega arith)) (le-leb w.stop.offset (at 1 v.train).x (omega arith)))
+          w.first 1 (omega arith) (and_both _ _ (le-leb w.path_node.command (at 1 v.train).granted (omega arith)) (le-leb w.path_node.offset (at 1 v.train).x (omega arith)))
 
 -- ---- what it is that no reason holds against a certificate
 
@@ -576,8 +576,8 @@ module _ (d : Station) (adm : IsAdmitted d) (n : ℕ) (b : Bound) (plan : List (
   by_cone : (k : ℕ) (from : VisitOf) (x : ℕ) → cone.in_design d (routes_of d) (cone_of b) ≡ true → cone_shows d (routes_of d) b k from ≡ true → Makes d adm n plan feasible from x → x ≡ k
   by_cone k from x fits shows makes =
       let c = cone_of b in
-      let two = and_left (list_all (free_granted d (routes_of d) c) c.trains && list_all (λ t. held d (routes_of d) c t t.holder) c.trains) _ shows in
-      let tick = and_right (list_all (free_granted d (routes_of d) c) c.trains && list_all (λ t. held d (routes_of d) c t t.holder) c.trains) _ shows in
+      let two = and_left (list_all (free_granted d (routes_of d) c) c.trains && list_all (λ t. holder_fits d (routes_of d) c t t.holder) c.trains) _ shows in
+      let tick = and_right (list_all (free_granted d (routes_of d) c) c.trains && list_all (λ t. holder_fits d (routes_of d) c t t.holder) c.trains) _ shows in
       let rests : Rests d (routes_of d) n c plan = record {
         names = feasible.runnable.well_formed.named;
         formed = feasible.runnable.well_formed.formed;

@@ -10,7 +10,7 @@ use Rattle.rail_base.specs.declared.station.TrainNo.{TrainNo}
 use Rattle.rail_base.specs.declared.route.Route.{Route}
 use Rattle.rail_base.specs.declared.route.RouteNo.{RouteNo}
 use Rattle.rail_base.specs.declared.plan.Command.{Command}
-use Rattle.rail_base.specs.declared.state.Stop.{Stop}
+use Rattle.rail_base.specs.declared.state.PathNode.{PathNode}
 use Rattle.rail_base.specs.Admitted.{IsAdmitted}
 use Rattle.rail_base.specs.Admission.{is_visit}
 use Rattle.rail_base.specs.Members.{In, all_neighbors}
@@ -39,7 +39,7 @@ use Rattle.rail_bound.specs.Clauses.{any_next, stands_in, is_at, joins, may_join
 use Rattle.rail_bound.specs.Validity.{place_in_design, is_numbered, is_empty, contend_where_they_meet, covers, can_visit, comes_before, is_used, is_visited, may_be_earlier, ends_at_signal}
 use Rattle.rail_bound.proofs.Premises.{Premises}
 use Rattle.rail_bound.proofs.Backwards.{Keeps, Ridden, ridden, covered_at, in_middle, first_splits, numbered, inner_route, ends_inside}
-use Rattle.rail_bound.proofs.Visits.{way, MadeOn, made_on, visit_in}
+use Rattle.rail_bound.proofs.Visits.{path_length, MadeOn, made_on, visit_in}
 use Rattle.rail_bound.proofs.Meeting.{met, Makes, PassedAt, passed_at}
 
 -- ---- lists
@@ -139,7 +139,7 @@ module _ (d : Station) (adm : IsAdmitted d) (n : ℕ) (b : Bound) (plan : List (
     pub on : In route (routes_of_place (last_of_leg l))
 
   -- a visit that the plan makes is made on a route of a place that covers it
-  visit_on : (l : Leg) → Proper l → (k : ℕ) (s : Stop) → covers d (routes_of d) (can_visit d (routes_of d) l.train k) (last_of_leg l) ≡ true → (w : MadeOn d adm n plan well l.train k s) → In w.route (routes_of_place (last_of_leg l))
+  visit_on : (l : Leg) → Proper l → (k : ℕ) (s : PathNode) → covers d (routes_of d) (can_visit d (routes_of d) l.train k) (last_of_leg l) ≡ true → (w : MadeOn d adm n plan well l.train k s) → In w.route (routes_of_place (last_of_leg l))
   visit_on l proper k s all w = go (covered_at d adm n plan well (can_visit d (routes_of d) l.train k) (last_of_leg l) l.train w.route all here w.may)
     where
       here : In w.route (path plan l.train)
@@ -169,14 +169,14 @@ module _ (d : Station) (adm : IsAdmitted d) (n : ℕ) (b : Bound) (plan : List (
           let there : is_visit d l.train k ≡ true = and_both _ _ (and_both _ _ (le-leb 1 l.train.0 proper.train.0) (le-leb l.train.0 (length d.trains) proper.train.1)) (and_both _ _ (le-leb 1 k number.0) (le-leb k (length (train_of d l.train).visits) (let u = number.1 in omega arith))) in
           let tick = some_gives _ ((met d adm n plan feasible).visited l.train k there) in
           let at = passed_at d adm n plan feasible (record { train = l.train; number = k }) tick.0 tick.1 in
-          let w = made_on d adm n plan well l.train k at.stop at.there in
-          record { before = w.before; route = w.route; more = w.more; whole = w.whole; on = visit_on l proper k at.stop (subst (λ q. covers d (routes_of d) (can_visit d (routes_of d) l.train k) q ≡ true) (sym e) g.2) w }
+          let w = made_on d adm n plan well l.train k at.path_node at.there in
+          record { before = w.before; route = w.route; more = w.more; whole = w.whole; on = visit_on l proper k at.path_node (subst (λ q. covers d (routes_of d) (can_visit d (routes_of d) l.train k) q ≡ true) (sym e) g.2) w }
 
   -- by the tick of a visit the train is so far on the last place of a leg on which it is made
   pub record Arrived (l : Leg) (number k : ℕ) : Type 0 where
     pub stands : Stands l
     pub granted : length stands.before + 1 ≤ (state_of (state_at d (routes_of d) (of_plan (routes_of d) plan) k) l.train).granted
-    pub head : way d adm stands.before + visit_offset d l.train number (f stands.route) ≤ (state_of (state_at d (routes_of d) (of_plan (routes_of d) plan) k) l.train).x
+    pub head : path_length d adm stands.before + visit_offset d l.train number (f stands.route) ≤ (state_of (state_at d (routes_of d) (of_plan (routes_of d) plan) k) l.train).x
 
   pub arrived : (l : Leg) → Proper l → (number k : ℕ) → is_visited d (routes_of d) l.train number (last_of_leg l) ≡ true → Makes d adm n plan feasible (record { train = l.train; number = number }) k → Arrived l number k
   arrived l proper number k visited makes = go (last_of_leg l) refl visited
@@ -184,14 +184,14 @@ module _ (d : Station) (adm : IsAdmitted d) (n : ℕ) (b : Bound) (plan : List (
       at : PassedAt d adm n plan feasible (record { train = l.train; number = number }) k
       at = passed_at d adm n plan feasible (record { train = l.train; number = number }) k makes
 
-      w : MadeOn d adm n plan well l.train number at.stop
-      w = made_on d adm n plan well l.train number at.stop at.there
+      w : MadeOn d adm n plan well l.train number at.path_node
+      w = made_on d adm n plan well l.train number at.path_node at.there
 
-      granted : at.stop.command ≤ (state_of (state_at d (routes_of d) (of_plan (routes_of d) plan) k) l.train).granted
-      granted = leb-true _ _ (and_left (nat_le at.stop.command (state_of (state_at d (routes_of d) (of_plan (routes_of d) plan) k) l.train).granted) _ at.passed)
+      granted : at.path_node.command ≤ (state_of (state_at d (routes_of d) (of_plan (routes_of d) plan) k) l.train).granted
+      granted = leb-true _ _ (and_left (nat_le at.path_node.command (state_of (state_at d (routes_of d) (of_plan (routes_of d) plan) k) l.train).granted) _ at.passed)
 
-      head : at.stop.offset ≤ (state_of (state_at d (routes_of d) (of_plan (routes_of d) plan) k) l.train).x
-      head = leb-true _ _ (and_right (nat_le at.stop.command (state_of (state_at d (routes_of d) (of_plan (routes_of d) plan) k) l.train).granted) (nat_le at.stop.offset (state_of (state_at d (routes_of d) (of_plan (routes_of d) plan) k) l.train).x) at.passed)
+      head : at.path_node.offset ≤ (state_of (state_at d (routes_of d) (of_plan (routes_of d) plan) k) l.train).x
+      head = leb-true _ _ (and_right (nat_le at.path_node.command (state_of (state_at d (routes_of d) (of_plan (routes_of d) plan) k) l.train).granted) (nat_le at.path_node.offset (state_of (state_at d (routes_of d) (of_plan (routes_of d) plan) k) l.train).x) at.passed)
 
       on_it : In w.route (routes_of_place (last_of_leg l)) → Arrived l number k
       on_it m =
@@ -205,7 +205,7 @@ module _ (d : Station) (adm : IsAdmitted d) (n : ℕ) (b : Bound) (plan : List (
           let whole : path plan l.train ≡ s.0 ++ r ∷ (s.1 ++ w.route ∷ w.more) = w.whole ∙ ap (λ zs. zs ++ w.route ∷ w.more) s.2 ∙ append_assoc s.0 (r ∷ s.1) (w.route ∷ w.more) in
           let count = ap length s.2 in
           let count2 = length-append s.0 (r ∷ s.1) in
-          let sum = ap (way d adm) s.2 ∙ ap (sum_by length_mm) (map-append f s.0 (r ∷ s.1)) ∙ sum_by-append length_mm (map f s.0) (f r ∷ map f s.1) in
+          let sum = ap (path_length d adm) s.2 ∙ ap (sum_by length_mm) (map-append f s.0 (r ∷ s.1)) ∙ sum_by-append length_mm (map f s.0) (f r ∷ map f s.1) in
           let sum2 = sum_by-cons length_mm (f r) (map f s.1) in
           let inside = visit_in d adm l.train number r in
           let g = granted in let h = head in let c = w.command in let o = w.low in
@@ -225,7 +225,7 @@ module _ (d : Station) (adm : IsAdmitted d) (n : ℕ) (b : Bound) (plan : List (
           signal (y ∷ ys) zs r e = ends_inside d adm n plan well l.train w.before w.route y (ys ++ r ∷ zs) (w.whole ∙ ap (λ ms. w.before ++ w.route ∷ ms) e)
 
       go : (q : Place) → last_of_leg l ≡ q → is_visited d (routes_of d) l.train number q ≡ true → Arrived l number k
-      go (place.Among rs without) e h = on_it (visit_on l proper number at.stop (subst (λ q. covers d (routes_of d) (can_visit d (routes_of d) l.train number) q ≡ true) (sym e) h) w)
+      go (place.Among rs without) e h = on_it (visit_on l proper number at.path_node (subst (λ q. covers d (routes_of d) (can_visit d (routes_of d) l.train number) q ≡ true) (sym e) h) w)
       go (place.Named r) e h = named (is_route w.route r) refl
         where
           on : In r (routes_of_place (last_of_leg l))
@@ -255,7 +255,7 @@ module _ (d : Station) (adm : IsAdmitted d) (n : ℕ) (b : Bound) (plan : List (
 
   -- ---- from leg to leg
 
-  module _ (l m : Leg) (pl : Proper l) (pm : Proper m) (i : Rides d (routes_of d) plan (ride_of (routes_of d) l)) (j : Rides d (routes_of d) plan (ride_of (routes_of d) m)) (last : In i.last (routes_of_place (last_of_leg l))) (first : In (first_of d (routes_of d) plan j.front j.last) (routes_of_place (first_of_leg m)))
+  module _ (l m : Leg) (pl : Proper l) (pm : Proper m) (i : Rides d (routes_of d) plan (ride_of (routes_of d) l)) (j : Rides d (routes_of d) plan (ride_of (routes_of d) m)) (last : In i.last (routes_of_place (last_of_leg l))) (first : In (first_of d (routes_of d) plan j.prefix j.last) (routes_of_place (first_of_leg m)))
       (meet : contend_where_they_meet d (routes_of d) l m ≡ true) (next : (test : Leg → Leg → Bool) → test l m ≡ true → any_next test b.legs ≡ true) where
     abbrev e : Command
     e = last_command d (routes_of d) plan (ride_of (routes_of d) l) i
@@ -264,18 +264,18 @@ module _ (d : Station) (adm : IsAdmitted d) (n : ℕ) (b : Bound) (plan : List (
     c = first_command d (routes_of d) plan (ride_of (routes_of d) m) j
 
     e_in : In e (commands plan)
-    e_in = given l.train i.last (subst (In i.last) (sym (i.whole ∙ sym (append_assoc i.before i.front (i.last ∷ i.more)))) (in_middle (i.before ++ i.front) i.last i.more))
+    e_in = given l.train i.last (subst (In i.last) (sym (i.whole ∙ sym (append_assoc i.before i.prefix (i.last ∷ i.more)))) (in_middle (i.before ++ i.prefix) i.last i.more))
 
     c_in : In c (commands plan)
-    c_in = let s = first_splits d adm n plan well m.train j.front j.last j.more in
-        given m.train (first_of d (routes_of d) plan j.front j.last) (subst (In (first_of d (routes_of d) plan j.front j.last)) (sym (j.whole ∙ ap (λ zs. j.before ++ zs) s.1)) (in_middle j.before (first_of d (routes_of d) plan j.front j.last) s.0))
+    c_in = let s = first_splits d adm n plan well m.train j.prefix j.last j.more in
+        given m.train (first_of d (routes_of d) plan j.prefix j.last) (subst (In (first_of d (routes_of d) plan j.prefix j.last)) (sym (j.whole ∙ ap (λ zs. j.before ++ zs) s.1)) (in_middle j.before (first_of d (routes_of d) plan j.prefix j.last) s.0))
 
     contending : contend (routes_of d) e c ≡ true
-    contending = list_all_at (λ q. contend (routes_of d) e (record { train = m.train; route = q })) (routes_of_place (first_of_leg m)) (first_of d (routes_of d) plan j.front j.last)
+    contending = list_all_at (λ q. contend (routes_of d) e (record { train = m.train; route = q })) (routes_of_place (first_of_leg m)) (first_of d (routes_of d) plan j.prefix j.last)
         (list_all_at (λ r. list_all (λ q. contend (routes_of d) (record { train = l.train; route = r }) (record { train = m.train; route = q })) (routes_of_place (first_of_leg m))) (routes_of_place (last_of_leg l)) i.last meet last) first
 
     at_both : (is_at l (last_of_leg l) e ≡ true) × (is_at m (first_of_leg m) c ≡ true)
-    at_both = (and_both _ _ (eq-eqb l.train.0 l.train.0 refl) (in_has_route (routes_of_place (last_of_leg l)) i.last last), and_both _ _ (eq-eqb m.train.0 m.train.0 refl) (in_has_route (routes_of_place (first_of_leg m)) (first_of d (routes_of d) plan j.front j.last) first))
+    at_both = (and_both _ _ (eq-eqb l.train.0 l.train.0 refl) (in_has_route (routes_of_place (last_of_leg l)) i.last last), and_both _ _ (eq-eqb m.train.0 m.train.0 refl) (in_has_route (routes_of_place (first_of_leg m)) (first_of d (routes_of d) plan j.prefix j.last) first))
 
     earlier : nat_lt (step_of plan e) (step_of plan c) ≡ true
     earlier = go (is_named_place (last_of_leg l) && is_named_place (first_of_leg m)) refl
@@ -291,5 +291,5 @@ module _ (d : Station) (adm : IsAdmitted d) (n : ℕ) (b : Bound) (plan : List (
     pub waits : In e (preceding (routes_of d) plan c)
     waits = in_filter (λ x. precedes (routes_of d) plan x c) (commands plan) e e_in (and_both _ _ contending earlier)
 
-    pub meets_in : (z : SectionNo) × In z (shared (f i.last) (f (first_of d (routes_of d) plan j.front j.last)))
-    meets_in = some_shared (f i.last) (f (first_of d (routes_of d) plan j.front j.last)) (and_right (not (is_train l.train m.train)) _ contending)
+    pub meets_in : (z : SectionNo) × In z (shared (f i.last) (f (first_of d (routes_of d) plan j.prefix j.last)))
+    meets_in = some_shared (f i.last) (f (first_of d (routes_of d) plan j.prefix j.last)) (and_right (not (is_train l.train m.train)) _ contending)

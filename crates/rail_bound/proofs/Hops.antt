@@ -53,10 +53,10 @@ module _ (d : Station) (adm : IsAdmitted d) (n : ℕ) (plan : List (List Command
           let far = not_past d adm n plan formed e.train e.command k (named (omega arith)) (omega arith) short in
           omega arith
 
-  -- from an event to a later one of the same train, where the way to there takes so many ticks from any tick at which the first has not happened
+  -- from an event to a later one of the same train, where the walk to there takes so many ticks from any tick at which the first has not happened
   pub hop_by : (e f : Event) → e.train ≡ f.train → e.command ≤ f.command → e.place ≤ f.place → (P : ℕ → Type 0) → P 0 → ((i : ℕ) → has_happened d (routes_of d) plan e i ≡ false → P i) → (m : ℕ) → ((i j : ℕ) → P i → f.place ≤ (at (i + j) e.train).x → m ≤ j)
       → (k : ℕ) → has_happened d (routes_of d) plan f k ≡ true → Takes d (routes_of d) plan e f (m - 1) k
-  hop_by e f one number way P start waits m law k so = go (nat_le c k) refl
+  hop_by e f one number walk P start waits m law k so = go (nat_le c k) refl
     where
       c : ℕ
       c = m - 1
@@ -94,13 +94,13 @@ module _ (d : Station) (adm : IsAdmitted d) (n : ℕ) (plan : List (List Command
   -- along a leg
   pub leg_hop : (e f : Event) → e.train ≡ f.train → (1 ≤ e.command → IsTrain d e.train) → e.command ≤ length (path plan e.train) → e.command ≤ f.command → e.place ≤ f.place → (before : List Route) (l : Leg) → HasLeg (routes_of d) plan e.train before l
       → (h x y k : ℕ) → max (end_of e.train e.command) (e.place - 1) ≤ sum_by length_mm before + x → sum_by length_mm before + y ≤ f.place → has_happened d (routes_of d) plan f k ≡ true → Takes d (routes_of d) plan e f (least_ticks d e.train l h x y - 1) k
-  leg_hop e f one named high number way before l has h x y k near far =
-      hop_by e f one number way (λ i. (at i e.train).x ≤ sum_by length_mm before + x) (let s = at_start e.train in let s0 = s.1 in omega arith) (λ i no. let w = not_yet e i named high no in omega arith) (least_ticks d e.train l h x y)
+  leg_hop e f one named high number walk before l has h x y k near far =
+      hop_by e f one number walk (λ i. (at i e.train).x ≤ sum_by length_mm before + x) (let s = at_start e.train in let s0 = s.1 in omega arith) (λ i no. let w = not_yet e i named high no in omega arith) (least_ticks d e.train l h x y)
       (λ i j at_i there. takes d adm n plan formed e.train before l has h i j x y at_i (omega arith)) k
 
   -- from a grant, for which the train has waited
   pub wait_hop : (e f : Event) → e.train ≡ f.train → IsTrain d e.train → 1 ≤ e.command → e.command ≤ length (path plan e.train) → e.place ≡ 0 → e.command ≤ f.command → e.place ≤ f.place → (before : List Route) (l : Leg) → HasLeg (routes_of d) plan e.train before l
       → (h x y k : ℕ) → end_of e.train e.command ≤ sum_by length_mm before + x → sum_by length_mm before + y ≤ f.place → has_happened d (routes_of d) plan f k ≡ true → Takes d (routes_of d) plan e f (least_ticks_waited d e.train l h x y - 1) k
-  wait_hop e f one named some high none number way before l has h x y k near far =
-      hop_by e f one number way (λ i. (at i e.train).granted < e.command) (let s = at_start e.train in let s0 = s.0 in omega arith) (λ i no. not_granted e i none no) (least_ticks_waited d e.train l h x y)
+  wait_hop e f one named some high none number walk before l has h x y k near far =
+      hop_by e f one number walk (λ i. (at i e.train).granted < e.command) (let s = at_start e.train in let s0 = s.0 in omega arith) (λ i no. not_granted e i none no) (least_ticks_waited d e.train l h x y)
       (λ i j short there. waited d adm n plan formed e.train before l has e.command i x y named high short near h j (omega arith)) k

@@ -3,7 +3,7 @@ pub mod Clearing
 pub mod Links
 pub mod Hops
 pub mod Told
-pub mod Ways
+pub mod Walks
 pub mod Rides
 pub mod Visits
 pub mod Premises

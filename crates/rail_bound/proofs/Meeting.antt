@@ -5,7 +5,7 @@ use Rattle.std.specs.List.{list_all}
 use Rattle.rail_base.specs.declared.station.Station.{Station}
 use Rattle.rail_base.specs.declared.station.TrainNo.{TrainNo}
 use Rattle.rail_base.specs.declared.plan.Command.{Command}
-use Rattle.rail_base.specs.declared.state.Stop.{Stop}
+use Rattle.rail_base.specs.declared.state.PathNode.{PathNode}
 use Rattle.rail_base.specs.Admitted.{IsAdmitted}
 use Rattle.rail_base.specs.Admission.{is_from, is_visit}
 use Rattle.rail_base.specs.Members.{In}
@@ -102,22 +102,22 @@ module _ (d : Station) (adm : IsAdmitted d) (n : ℕ) (plan : List (List Command
 
   -- the stop of that visit, and its first pass
   pub record PassedAt (v : VisitOf) (k : ℕ) : Type 0 where
-    pub stop : Stop
-    pub there : entry None (visits_of_train d (routes_of d) (of_plan (routes_of d) plan) v.train) v.number ≡ Some stop
-    pub passed : has_passed d (routes_of d) (of_plan (routes_of d) plan) v.train stop k ≡ true
+    pub path_node : PathNode
+    pub there : entry None (visits_of_train d (routes_of d) (of_plan (routes_of d) plan) v.train) v.number ≡ Some path_node
+    pub passed : has_passed d (routes_of d) (of_plan (routes_of d) plan) v.train path_node k ≡ true
     pub some : 1 ≤ k
     pub soon : k ≤ horizon d
-    pub first : (i : ℕ) → 1 ≤ i → has_passed d (routes_of d) (of_plan (routes_of d) plan) v.train stop i ≡ true → k ≤ i
+    pub first : (i : ℕ) → 1 ≤ i → has_passed d (routes_of d) (of_plan (routes_of d) plan) v.train path_node i ≡ true → k ≤ i
 
   pub passed_at : (v : VisitOf) (k : ℕ) → Makes v k → PassedAt v k
   passed_at v k h = go (entry None (visits_of_train d (routes_of d) (of_plan (routes_of d) plan) v.train) v.number) refl
     where
-      go : (o : Option Stop) → entry None (visits_of_train d (routes_of d) (of_plan (routes_of d) plan) v.train) v.number ≡ o → PassedAt v k
+      go : (o : Option PathNode) → entry None (visits_of_train d (routes_of d) (of_plan (routes_of d) plan) v.train) v.number ≡ o → PassedAt v k
       go None e = let none : None ≡ Some k = sym (ap (λ o. option_and_then (pass_tick d (routes_of d) (of_plan (routes_of d) plan) (horizon d) v.train) o) e) ∙ h in cc
       go (Some s) e =
           let at : least (has_passed d (routes_of d) (of_plan (routes_of d) plan) v.train s) (horizon d) ≡ Some k = sym (ap (λ o. option_and_then (pass_tick d (routes_of d) (of_plan (routes_of d) plan) (horizon d) v.train) o) e) ∙ h in
           let l = least_gives (has_passed d (routes_of d) (of_plan (routes_of d) plan) v.train s) (horizon d) k at in
-          record { stop = s; there = e; passed = l.passes; some = l.first; soon = l.last; first = λ i some so. least_low (has_passed d (routes_of d) (of_plan (routes_of d) plan) v.train s) (horizon d) k i at some so }
+          record { path_node = s; there = e; passed = l.passes; some = l.first; soon = l.last; first = λ i some so. least_low (has_passed d (routes_of d) (of_plan (routes_of d) plan) v.train s) (horizon d) k i at some so }
 
   -- a within or an order has two visits, each made, and not too far apart
   pub record TwoVisits (q : Requirement) (from to : VisitOf) : Type 0 where

@@ -29,12 +29,12 @@ module _ (d : Station) (adm : IsAdmitted d) (n : ℕ) (plan : List (List Command
       has_happened d (routes_of d) plan there k ≡ true → Takes d (routes_of d) plan grant there (least_ticks_waited d t l h 0 y - 1) k
   run t before l has some h y j k later so =
       let number : length before + 1 - 1 ≡ length before = omega arith in
-      let front : take (length before) (path_routes (routes_of d) plan t) ≡ before = ap (take (length before)) has.whole ∙ take-append-le (length before) before (l.routes ++ has.more) (le_refl _) ∙ take_all (length before) before (le_refl _) in
-      let end : sum_by length_mm (take (length before + 1 - 1) (path_routes (routes_of d) plan t)) ≡ sum_by length_mm before = ap (λ i. sum_by length_mm (take i (path_routes (routes_of d) plan t))) number ∙ ap (sum_by length_mm) front in
+      let prefix : take (length before) (path_routes (routes_of d) plan t) ≡ before = ap (take (length before)) has.whole ∙ take-append-le (length before) before (l.routes ++ has.more) (le_refl _) ∙ take_all (length before) before (le_refl _) in
+      let end : sum_by length_mm (take (length before + 1 - 1) (path_routes (routes_of d) plan t)) ≡ sum_by length_mm before = ap (λ i. sum_by length_mm (take i (path_routes (routes_of d) plan t))) number ∙ ap (sum_by length_mm) prefix in
       waited (record { train = t; command = length before + 1; place = 0 }) (record { train = t; command = j; place = sum_by length_mm before + y }) refl (omega arith) (omega arith) refl (omega arith) (omega arith) before l has h 0 y k (omega arith) (omega arith) so
 
   pub on : (t : TrainNo) (before : List Route) (l : Leg) → HasLeg (routes_of d) plan t before l → (h x y k : ℕ) → x ≤ y
       → let first : Event = record { train = t; command = 0; place = sum_by length_mm before + x } in let there : Event = record { train = t; command = 0; place = sum_by length_mm before + y } in
       has_happened d (routes_of d) plan there k ≡ true → Takes d (routes_of d) plan first there (least_ticks d t l h (x - 1) y - 1) k
-  on t before l has h x y k way so =
+  on t before l has h x y k walk so =
       between (record { train = t; command = 0; place = sum_by length_mm before + x }) (record { train = t; command = 0; place = sum_by length_mm before + y }) refl (omega arith) (omega arith) (omega arith) before l has h (x - 1) y k (omega arith) (omega arith) so

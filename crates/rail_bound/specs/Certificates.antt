@@ -119,13 +119,13 @@ train_to d (requirement.Order o) = (order_of d o).first_train
 train_to d (requirement.Visit t k) = t
 train_to d (requirement.Grant c) = c.train
 
--- where on a way's last route a visit can be made at the earliest, in mm from the way's start
+-- where on a walk's last route a visit can be made at the earliest, in mm from the walk's start
 abbrev pub target : Station → VisitOf → List Route → ℕ
 target d v [] = 0
 target d v (r ∷ []) = visit_offset d v.train v.number r
 target d v (r ∷ s ∷ rs) = length_mm r + target d v (s ∷ rs)
 
--- where on a way's first route a visit is made at the latest
+-- where on a walk's first route a visit is made at the latest
 abbrev pub visit_place : Station → VisitOf → List Route → ℕ
 visit_place d v [] = 0
 visit_place d v (r ∷ rs) = visit_offset d v.train v.number r

@@ -1,6 +1,6 @@
 -- Lower bounds on the ticks between what happens in a run, however other trains move.
 pub mod Events
-pub mod Ways
+pub mod Walks
 pub mod Rides
 pub mod Certificates
 pub mod Clauses

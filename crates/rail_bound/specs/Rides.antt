@@ -12,7 +12,7 @@ use Rattle.rail_spec.specs.Plans.{route_at, length_mm, shared, release_offset, p
 use Rattle.rail_cone.specs.Validity.{from_boundary}
 use Rattle.rail_bound.specs.Events.{Event}
 use Rattle.rail_free.specs.Legs.{least_ticks, least_ticks_waited, least_whatever_follows}
-use Rattle.rail_bound.specs.Ways.{ways, least_way, LieIn}
+use Rattle.rail_bound.specs.Walks.{walks, least_walk, LieIn}
 
 -- a train, and what its routes in a row can be
 pub record Ride : Type 0 where
@@ -32,7 +32,7 @@ abbrev pub greatest_of : (SectionNo → ℕ) → List SectionNo → ℕ
 greatest_of f [] = 0
 greatest_of f (z ∷ zs) = max (f z) (greatest_of f zs)
 
--- the place on a way, from its start, at which its last route has released all that it shares with another
+-- the place on a walk, from its start, at which its last route has released all that it shares with another
 abbrev pub release_place : Station → TrainNo → List Route → Route → ℕ
 release_place d t [] q = 0
 release_place d t (r ∷ []) q = greatest_of (release_offset r) (shared r q) + train_length d t
@@ -44,26 +44,26 @@ least_route f n [] = n
 least_route f n (q ∷ qs) = min (f q) (least_route f n qs)
 
 module _ (d : Station) (routes : List Route) (h : ℕ) where
-  -- the least ticks from the grant of a way's first route to a place, or h where it takes more
+  -- the least ticks from the grant of a walk's first route to a place, or h where it takes more
   abbrev pub run_ticks : TrainNo → List Route → ℕ → ℕ
   run_ticks t rs y =
       least_whatever_follows (λ l. least_ticks_waited d t l h 0 y) routes rs (from_boundary rs) - 1
 
-  -- the least ticks from one place of a way to another, or h where it takes more
+  -- the least ticks from one place of a walk to another, or h where it takes more
   abbrev pub on_ticks : TrainNo → List Route → ℕ → ℕ → ℕ
   on_ticks t rs x y = least_whatever_follows (λ l. least_ticks d t l h (x - 1) y) routes rs (from_boundary rs) - 1
 
-  -- the least ticks of a ride over all its ways to a place
+  -- the least ticks of a ride over all its walks to a place
   abbrev pub ride_ticks : Ride → (List Route → ℕ) → ℕ
-  ride_ticks r target = least_way (λ rs. run_ticks r.train rs (target rs)) h (ways r.places)
+  ride_ticks r target = least_walk (λ rs. run_ticks r.train rs (target rs)) h (walks r.places)
 
-  -- the least of what it takes to where a way has released what the next ride waits for, over the routes that can be that one's first
+  -- the least of what it takes to where a walk has released what the next ride waits for, over the routes that can be that one's first
   abbrev pub least_release : TrainNo → List Route → Ride → (ℕ → ℕ) → ℕ
   least_release t rs next ticks = least_route (λ q. ticks (release_place d t rs q)) h (first_place next)
 
-  -- the least ticks to there over all ways of a ride
+  -- the least ticks to there over all walks of a ride
   abbrev pub release_ticks : Ride → Ride → ℕ
-  release_ticks r s = least_way (λ rs. least_release r.train rs s (run_ticks r.train rs)) h (ways r.places)
+  release_ticks r s = least_walk (λ rs. least_release r.train rs s (run_ticks r.train rs)) h (walks r.places)
 
   -- the least ticks from the grant of the first ride's first route to a place on the last ride
   abbrev pub chain_ticks : Ride → List Ride → (List Route → ℕ) → ℕ
@@ -78,24 +78,24 @@ module _ (d : Station) (routes : List Route) (h : ℕ) where
   -- the least ticks from a place on the first ride to a place on the last ride
   abbrev pub chain_ticks_from : (List Route → ℕ) → Ride → List Ride → (List Route → ℕ) → ℕ
   chain_ticks_from origin r [] target =
-      least_way (λ rs. on_ticks r.train rs (origin rs) (target rs)) h (ways r.places)
+      least_walk (λ rs. on_ticks r.train rs (origin rs) (target rs)) h (walks r.places)
   chain_ticks_from origin r (s ∷ ss) target =
-      least_way (λ rs. least_release r.train rs s (on_ticks r.train rs (origin rs))) h (ways r.places)
+      least_walk (λ rs. least_release r.train rs s (on_ticks r.train rs (origin rs))) h (walks r.places)
       + (1 + chain_ticks s ss target)
 
 module _ (d : Station) (routes : List Route) (plan : List (List Command)) where
-  -- the train's path has such a way
+  -- the train's path has such a walk
   pub record Rides (r : Ride) : Type 0 where
     pub before : List RouteNo
-    pub front : List RouteNo
+    pub prefix : List RouteNo
     pub last : RouteNo
     pub more : List RouteNo
-    pub whole : path plan r.train ≡ before ++ (front ++ last ∷ more)
-    pub lies : LieIn (map (route_at routes) (front ++ last ∷ [])) r.places
+    pub whole : path plan r.train ≡ before ++ (prefix ++ last ∷ more)
+    pub lies : LieIn (map (route_at routes) (prefix ++ last ∷ [])) r.places
 
   -- its routes
-  abbrev pub way_of : (r : Ride) → Rides r → List Route
-  way_of r i = map (route_at routes) (i.front ++ i.last ∷ [])
+  abbrev pub walk_of : (r : Ride) → Rides r → List Route
+  walk_of r i = map (route_at routes) (i.prefix ++ i.last ∷ [])
 
   -- the first of these
   abbrev pub first_of : List RouteNo → RouteNo → RouteNo
@@ -103,7 +103,7 @@ module _ (d : Station) (routes : List Route) (plan : List (List Command)) where
   first_of (p ∷ ps) last = p
 
   abbrev pub first_command : (r : Ride) → Rides r → Command
-  first_command r i = record { train = r.train; route = first_of i.front i.last }
+  first_command r i = record { train = r.train; route = first_of i.prefix i.last }
 
   abbrev pub last_command : (r : Ride) → Rides r → Command
   last_command r i = record { train = r.train; route = i.last }
@@ -112,11 +112,11 @@ module _ (d : Station) (routes : List Route) (plan : List (List Command)) where
   abbrev pub granted_first : (r : Ride) → Rides r → Event
   granted_first r i = record { train = r.train; command = length i.before + 1; place = 0 }
 
-  -- that the head is so far on the way, with all its commands granted
+  -- that the head is so far on the walk, with all its commands granted
   abbrev pub reaches : (r : Ride) → Rides r → ℕ → Event
   reaches r i y = record {
     train = r.train;
-    command = length i.before + length i.front + 1;
+    command = length i.before + length i.prefix + 1;
     place = sum_by length_mm (map (route_at routes) i.before) + y;
   }
 
@@ -124,12 +124,12 @@ module _ (d : Station) (routes : List Route) (plan : List (List Command)) where
   abbrev pub Chained : (r : Ride) → Rides r → List Ride → Type 0
   Chained r i [] = Unit {0}
   Chained r i (s ∷ ss) = (j : Rides s) × In (last_command r i) (preceding routes plan (first_command s j))
-      × ((z : SectionNo) × In z (shared (route_at routes i.last) (route_at routes (first_of j.front j.last))))
+      × ((z : SectionNo) × In z (shared (route_at routes i.last) (route_at routes (first_of j.prefix j.last))))
       × Chained s j ss
 
   -- that the head of the last is at the place
   abbrev pub arrives : (r : Ride) (i : Rides r) (ss : List Ride) → Chained r i ss → (List Route → ℕ) → Event
-  arrives r i [] c target = reaches r i (target (way_of r i))
+  arrives r i [] c target = reaches r i (target (walk_of r i))
   arrives r i (s ∷ ss) c target = arrives s c.0 ss c.3 target
 
   -- that the last ride's first command is granted
@@ -137,7 +137,7 @@ module _ (d : Station) (routes : List Route) (plan : List (List Command)) where
   waits_out r i [] c = granted_first r i
   waits_out r i (s ∷ ss) c = waits_out s c.0 ss c.3
 
-  -- that the first command is granted and the head so far on the way
+  -- that the first command is granted and the head so far on the walk
   abbrev pub passes : (r : Ride) → Rides r → ℕ → Event
   passes r i x = record {
     train = r.train;
@@ -147,6 +147,6 @@ module _ (d : Station) (routes : List Route) (plan : List (List Command)) where
 
   -- the place to which the first ride goes: where it has released what the next waits for, or the last place
   abbrev pub first_target : (r : Ride) (i : Rides r) (ss : List Ride) → Chained r i ss → (List Route → ℕ) → ℕ
-  first_target r i [] c target = target (way_of r i)
+  first_target r i [] c target = target (walk_of r i)
   first_target r i (s ∷ ss) c target =
-      release_place d r.train (way_of r i) (route_at routes (first_of c.0.front c.0.last))
+      release_place d r.train (walk_of r i) (route_at routes (first_of c.0.prefix c.0.last))

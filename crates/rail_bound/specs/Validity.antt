@@ -17,7 +17,7 @@ use Rattle.rail_spec.specs.Visits.{may_visit}
 use Rattle.rail_spec.specs.Requirements.{most_ticks, visit_numbers}
 use Rattle.rail_cone.specs.Cones.{has_route, named}
 use Rattle.rail_cone.specs.Validity as cone
-use Rattle.rail_cone.specs.Validity.{from_boundary, free_granted, held, cone_visit}
+use Rattle.rail_cone.specs.Validity.{from_boundary, free_granted, holder_fits, cone_visit}
 use Rattle.rail_bound.specs.declared.Requirement.{Requirement}
 use Rattle.rail_bound.specs.declared.Requirement.TheVariants as requirement
 use Rattle.rail_bound.specs.declared.Origin.{Origin}
@@ -30,7 +30,7 @@ use Rattle.rail_bound.specs.declared.BoundFault.{BoundFault}
 use Rattle.rail_bound.specs.declared.BoundFault.TheVariants as fault
 use Rattle.rail_free.specs.Legs.{following}
 use Rattle.rail_free.specs.Legs.{Leg as Track}
-use Rattle.rail_bound.specs.Ways.{ways}
+use Rattle.rail_bound.specs.Walks.{walks}
 use Rattle.rail_bound.specs.Rides.{release_place, chain_ticks, chain_ticks_from, wait_ticks, first_place}
 use Rattle.rail_bound.specs.Certificates.{VisitOf, routes_of_place, kept_out, first_of_leg, last_of_leg, ride_of, nodes_of_visit, visit_offset, visit_from, visit_to, train_to, target, visit_place, cone_of}
 use Rattle.rail_bound.specs.Clauses.{is_named, is_kept_out, is_before, is_kept_behind}
@@ -94,7 +94,7 @@ legs_before_last (l ∷ m ∷ ls) = l ∷ legs_before_last (m ∷ ls)
 abbrev pub ends_at_signal : Finish → Bool
 ends_at_signal (finish.Signal s) = true
 ends_at_signal (finish.Exit n) = false
-ends_at_signal (finish.Dead n) = false
+ends_at_signal (finish.DeadEnd n) = false
 
 -- the first test that fails, as a reason
 abbrev pub first_fault : Bool → Bool → Bool → Option BoundFault
@@ -210,26 +210,26 @@ module _ (d : Station) (routes : List Route) where
       if nat_le v.number 1 then list_all is_first_route (routes_of_place p)
       else list_all (can_visit v.train v.number) (routes_of_place p) && (v.number == 2 || is_made_at_end v)
 
-  -- on a way of the leg the place of the one visit is not past where the way leads: to what the next leg waits for, or to the other visit
+  -- on a walk of the leg the place of the one visit is not past where the walk leads: to what the next leg waits for, or to the other visit
   abbrev pub is_ahead : VisitOf → VisitOf → Leg → List Leg → List Route → Bool
   is_ahead from to l [] rs = nat_le (visit_place d from rs) (target d to rs)
   is_ahead from to l (m ∷ ls) rs =
       list_all (λ s. nat_le (visit_place d from rs) (release_place d l.train rs s)) (first_place (ride_of routes m))
 
-  -- so on all ways of the first leg
+  -- so on all walks of the first leg
   abbrev pub are_ahead : VisitOf → VisitOf → List Leg → Bool
   are_ahead from to [] = false
-  are_ahead from to (l ∷ ls) = list_all (is_ahead from to l ls) (ways (ride_of routes l).places)
+  are_ahead from to (l ∷ ls) = list_all (is_ahead from to l ls) (walks (ride_of routes l).places)
 
   -- ---- how long the tracks of the legs are followed
 
-  -- how many stretches the tracks of a way have: by itself, and with each route that goes on where it ends
-  abbrev pub stretches_of_way : List Route → ℕ
-  stretches_of_way rs = stretches_in rs + sum_by (λ (l : Track). stretches_in l.routes) (following routes rs true)
+  -- how many stretches the tracks of a walk have: by itself, and with each route that goes on where it ends
+  abbrev pub stretches_of_walk : List Route → ℕ
+  stretches_of_walk rs = stretches_in rs + sum_by (λ (l : Track). stretches_in l.routes) (following routes rs true)
 
-  -- those of all ways of a leg, for each of the places to which they lead
+  -- those of all walks of a leg, for each of the places to which they lead
   abbrev pub stretches_of_leg : Leg → ℕ → ℕ
-  stretches_of_leg l places = sum_by stretches_of_way (ways (ride_of routes l).places) * places
+  stretches_of_leg l places = sum_by stretches_of_walk (walks (ride_of routes l).places) * places
 
   -- those of all legs: each leads to what the routes of the next leg's first place wait for, and the last to one place
   abbrev pub stretches_of : List Leg → ℕ
@@ -333,7 +333,7 @@ module _ (d : Station) (routes : List Route) where
     -- the cone is one by whose run the visit is made at this tick
     abbrev pub cone_shows : ℕ → VisitOf → Bool
     cone_shows k v = list_all (free_granted d routes (cone_of b)) (cone_of b).trains
-        && list_all (λ c. held d routes (cone_of b) c c.holder) (cone_of b).trains
+        && list_all (λ c. holder_fits d routes (cone_of b) c c.holder) (cone_of b).trains
         && is_made_at k (cone_visit d routes (cone_of b) (named (cone_of b) v.train).horizon v.train v.number)
 
     -- by the origin the ticks from the one visit to the other, or from the start of the run, are too many

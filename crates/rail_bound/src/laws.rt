@@ -18,8 +18,8 @@ ghost use Rattle.rail_free.specs.Legs.{Leg, HasLeg, least_ticks, least_ticks_wai
 ghost use Rattle.rail_free.specs.Runs.{InEveryRun};
 ghost use Rattle.rail_bound.specs.declared.Bound.{Bound};
 ghost use Rattle.rail_bound.specs.Events.{Event, has_happened, Takes, granting, heading, reaching, HopTakes};
-ghost use Rattle.rail_bound.specs.Ways.{ways, least_way, LieIn};
-ghost use Rattle.rail_bound.specs.Rides.{Ride, chain_ticks, chain_ticks_from, wait_ticks, Rides, granted_first, way_of, passes};
+ghost use Rattle.rail_bound.specs.Walks.{walks, least_walk, LieIn};
+ghost use Rattle.rail_bound.specs.Rides.{Ride, chain_ticks, chain_ticks_from, wait_ticks, Rides, granted_first, walk_of, passes};
 ghost use Rattle.rail_bound.specs.Rides.{first_target, Chained, arrives, waits_out};
 ghost use Rattle.rail_bound.specs.Clauses.{clause_of_bound};
 ghost use Rattle.rail_bound.specs.Validity.{is_valid_bound};
@@ -53,15 +53,15 @@ pub fn hops_add_up()
         → Takes d (routes_of d) plan e f b k → Takes d (routes_of d) plan e f a k) }
 {}
 
-/// Of a way in a train's path of which each route is one of its place it is enough to know the places: it takes the least
-/// of what all ways through them take.
-pub fn ways_take_the_least_of_their_places()
+/// Of a walk in a train's path of which each route is one of its place it is enough to know the places: it takes the least
+/// of what all walks through them take.
+pub fn walks_take_the_least_of_their_places()
     ensures { InEveryRun (λ d plan. (t : TrainNo) (before rs more : List Route)
         → path_routes (routes_of d) plan t ≡ before ++ (rs ++ more) → (places : List (List Route)) → LieIn rs places
-        → (f : List Route → ℕ) (h c : ℕ) → f rs ≤ c → least_way f h (ways places) ≤ c) }
+        → (f : List Route → ℕ) (h c : ℕ) → f rs ≤ c → least_walk f h (walks places) ≤ c) }
 {}
 
-/// A chain of rides, each of which waits for what the one before releases, takes the sum of their least ticks over all ways
+/// A chain of rides, each of which waits for what the one before releases, takes the sum of their least ticks over all walks
 /// through their places: from the grant of the first ride, or from a place on it, to a place on the last, or to its grant.
 /// Of each ride no more than h ticks are counted.
 pub fn chains_of_rides_take_their_ticks()
@@ -76,8 +76,8 @@ pub fn chains_of_rides_take_their_ticks()
     ensures passed { InEveryRun (λ d plan. let routes = routes_of d in
         (r : Ride) (i : Rides d routes plan r) (ss : List Ride) (c : Chained d routes plan r i ss)
         → (h : ℕ) (from target : List Route → ℕ)
-        → from (way_of d routes plan r i) ≤ first_target d routes plan r i ss c target
-        → let passing = passes d routes plan r i (from (way_of d routes plan r i)) in
+        → from (walk_of d routes plan r i) ≤ first_target d routes plan r i ss c target
+        → let passing = passes d routes plan r i (from (walk_of d routes plan r i)) in
         let arriving = arrives d routes plan r i ss c target in
         HopTakes d routes plan passing arriving (chain_ticks_from d routes h from r ss target)) }
 {}

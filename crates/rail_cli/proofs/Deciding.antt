@@ -5,7 +5,7 @@ use Rattle.rail_base.specs.declared.station.Station.{Station}
 use Rattle.rail_base.specs.declared.plan.Command.{Command}
 use Rattle.rail_outside.specs.Files.{Files}
 use Rattle.rail_outside.specs.Growth.{grown}
-use Rattle.rail_words.specs.Requests.{Asked, simulate, routes, verify, check, trial, request_of}
+use Rattle.rail_words.specs.Requests.{RequestSeen, simulate, routes, verify, check, trial, request_of}
 use Rattle.verify_loop.specs.declared.outcome.Outcome.{Outcome}
 use Rattle.rail_cli.specs.declared.status.Status.{Status}
 use Rattle.rail_cli.specs.declared.reply.Reply.{Reply}
@@ -13,8 +13,8 @@ use Rattle.rail_cli.specs.declared.ending.Ending.{Ending}
 use Rattle.rail_cli.specs.declared.ending.Ending.TheVariants as ending
 use Rattle.rail_cli.specs.declared.input.InputFile.TheVariants as file
 use Rattle.rail_cli.specs.Statuses.{is_refusal, is_answered}
-use Rattle.rail_cli.specs.Answers.{Answer, within_limit, design_in, plan_or_answer, plan_in, verdict_status, unless_refused, planned, shown, simulated, answer_to, answer_of}
-use Rattle.rail_cli.specs.Shows.{shown_by}
+use Rattle.rail_cli.specs.Answers.{ReplySeen, within_limit, design_in, plan_or_answer, plan_in, verdict_status, unless_refused, planned, shown, simulation_reply, answer_to, answer_of}
+use Rattle.rail_cli.specs.Shows.{verdict_at_horizon}
 use Rattle.rail_cli.specs.Replies.{reply_seen, Replies, RefusesFile, OnReply, DecidesPlan, Decides, DecidesRequest}
 use Rattle.rail_cli.specs.Simulations.{Settles, Simulates, TellsFeasible, DoneWhereFeasible}
 use Rattle.rail_cli.specs.Prints.{Prints}
@@ -23,35 +23,35 @@ use Rattle.rail_cli.proofs.Showing.{verdict_refuses_nothing, no_unless_done, met
 
 -- ---- one reading after the other
 
-pub answered_next : {X : Type 0} (r : Result X Answer) (x : X) (next : X → Answer) → r ≡ Ok x → unless_refused r next ≡ next x
+pub answered_next : {X : Type 0} (r : Result X ReplySeen) (x : X) (next : X → ReplySeen) → r ≡ Ok x → unless_refused r next ≡ next x
 answered_next r x next e = ap (λ q. unless_refused q next) e
 
-pub answered_refusal : {X : Type 0} (r : Result X Answer) (a : Answer) (next : X → Answer) → r ≡ Err a → unless_refused r next ≡ a
+pub answered_refusal : {X : Type 0} (r : Result X ReplySeen) (a : ReplySeen) (next : X → ReplySeen) → r ≡ Err a → unless_refused r next ≡ a
 answered_refusal r a next e = ap (λ q. unless_refused q next) e
 
 -- what is left of a simulation when its design is fetched
-abbrev pub with_design : List ℕ → List ℕ → Answer
+abbrev pub with_design : List ℕ → List ℕ → ReplySeen
 with_design plan_bytes design_text = unless_refused (design_in design_text) (λ d. unless_refused (within_limit file.Plan plan_bytes) (planned d))
 
 module _ (design_bytes plan_bytes : List ℕ) where
-  pub too_long_design : (a : Answer) → within_limit file.Design design_bytes ≡ Err a → simulated design_bytes plan_bytes ≡ a
+  pub too_long_design : (a : ReplySeen) → within_limit file.Design design_bytes ≡ Err a → simulation_reply design_bytes plan_bytes ≡ a
   too_long_design a e = answered_refusal (within_limit file.Design design_bytes) a (with_design plan_bytes) e
 
   module _ (design_text : List ℕ) (fits : within_limit file.Design design_bytes ≡ Ok design_text) where
-    fetched_so : simulated design_bytes plan_bytes ≡ with_design plan_bytes design_text
+    fetched_so : simulation_reply design_bytes plan_bytes ≡ with_design plan_bytes design_text
     fetched_so = answered_next (within_limit file.Design design_bytes) design_text (with_design plan_bytes) fits
 
-    pub refused_design : (a : Answer) → design_in design_text ≡ Err a → simulated design_bytes plan_bytes ≡ a
+    pub refused_design : (a : ReplySeen) → design_in design_text ≡ Err a → simulation_reply design_bytes plan_bytes ≡ a
     refused_design a e = fetched_so ∙ answered_refusal (design_in design_text) a (λ d. unless_refused (within_limit file.Plan plan_bytes) (planned d)) e
 
     module _ (d : Station) (reads : design_in design_text ≡ Ok d) where
-      read_so : simulated design_bytes plan_bytes ≡ unless_refused (within_limit file.Plan plan_bytes) (planned d)
+      read_so : simulation_reply design_bytes plan_bytes ≡ unless_refused (within_limit file.Plan plan_bytes) (planned d)
       read_so = fetched_so ∙ answered_next (design_in design_text) d (λ e. unless_refused (within_limit file.Plan plan_bytes) (planned e)) reads
 
-      pub too_long_plan : (a : Answer) → within_limit file.Plan plan_bytes ≡ Err a → simulated design_bytes plan_bytes ≡ a
+      pub too_long_plan : (a : ReplySeen) → within_limit file.Plan plan_bytes ≡ Err a → simulation_reply design_bytes plan_bytes ≡ a
       too_long_plan a e = read_so ∙ answered_refusal (within_limit file.Plan plan_bytes) a (planned d) e
 
-      pub planned_so : (plan_text : List ℕ) → within_limit file.Plan plan_bytes ≡ Ok plan_text → simulated design_bytes plan_bytes ≡ planned d plan_text
+      pub planned_so : (plan_text : List ℕ) → within_limit file.Plan plan_bytes ≡ Ok plan_text → simulation_reply design_bytes plan_bytes ≡ planned d plan_text
       planned_so plan_text e = read_so ∙ answered_next (within_limit file.Plan plan_bytes) plan_text (planned d) e
 
 -- the plan is decided over the design that is spelled
@@ -62,7 +62,7 @@ decides_so design_bytes plan_bytes design_text plan_text d (Ok reply) fits_desig
     let plan = file_is file.Plan plan_bytes plan_text fits_plan in
     record {
       design = d;
-      spelled = ap design_in design ∙ reads;
+      parsed = ap design_in design ∙ reads;
       decided = subst (λ (text : List ℕ). DecidesPlan d text reply.status) (sym plan) decides;
     }
 decides_so design_bytes plan_bytes design_text plan_text d (Err e) fits_design fits_plan reads decides = tt
@@ -76,12 +76,12 @@ module _ (files : Files) (words : List (List ℕ)) (d : Station) (plan : List (L
   pub reads_plan : plan_in d (files s.plan_name) ≡ Ok plan
   reads_plan = ap (plan_or_answer d) s.spells_plan
 
-  pub simulated_so : simulated (files s.design_name) (files s.plan_name) ≡ shown d (shown_by d plan)
+  pub simulated_so : simulation_reply (files s.design_name) (files s.plan_name) ≡ shown d (verdict_at_horizon d plan)
   simulated_so =
       planned_so (files s.design_name) (files s.plan_name) (files s.design_name) (file_fits file.Design (files s.design_name) s.short_design) d reads_design (files s.plan_name) (file_fits file.Plan (files s.plan_name) s.short_plan)
-      ∙ answered_next (plan_in d (files s.plan_name)) plan (λ p. shown d (shown_by d p)) reads_plan
+      ∙ answered_next (plan_in d (files s.plan_name)) plan (λ p. shown d (verdict_at_horizon d p)) reads_plan
 
-  pub answered_so : (found : Outcome) → answer_of files found words ≡ shown d (shown_by d plan)
+  pub answered_so : (found : Outcome) → answer_of files found words ≡ shown d (verdict_at_horizon d plan)
   answered_so found = ap (answer_to files found) s.asked ∙ simulated_so
 
   -- the request names its files
@@ -94,19 +94,19 @@ module _ (files : Files) (words : List (List ℕ)) (d : Station) (plan : List (L
 
     pub done_here : (t : Status) → Decides (files design_name) (files plan_name) t → Settles d plan t
     done_here t dec =
-        let one : Ok dec.design ≡ Ok d = sym dec.spelled ∙ ap (λ n. design_in (files n)) (sym same_design) ∙ reads_design in
+        let one : Ok dec.design ≡ Ok d = sym dec.parsed ∙ ap (λ n. design_in (files n)) (sym same_design) ∙ reads_design in
         let design : dec.design ≡ d = cc in
-        let two : Ok dec.decided.plan ≡ Ok plan = sym dec.decided.spelled ∙ ap (λ e. plan_in e (files plan_name)) design ∙ ap (λ n. plan_in d (files n)) (sym same_plan) ∙ reads_plan in
+        let two : Ok dec.decided.plan ≡ Ok plan = sym dec.decided.parsed ∙ ap (λ e. plan_in e (files plan_name)) design ∙ ap (λ n. plan_in d (files n)) (sym same_plan) ∙ reads_plan in
         let steps : dec.decided.plan ≡ plan = cc in
         let settled : Settles dec.design dec.decided.plan t = record { done = dec.decided.exactly; safe = dec.decided.safe } in
         let at_design : Settles d dec.decided.plan t = subst (λ (e : Station). Settles e dec.decided.plan t) design settled in
         subst (λ (p : List (List Command)). Settles d p t) steps at_design
 
-    pub not_refused : (r : Reply) → simulated (files design_name) (files plan_name) ≡ reply_seen r → is_refusal r.status ≡ true → ⊥
+    pub not_refused : (r : Reply) → simulation_reply (files design_name) (files plan_name) ≡ reply_seen r → is_refusal r.status ≡ true → ⊥
     not_refused r e refuses =
-        let seen : shown d (shown_by d plan) ≡ reply_seen r = sym simulated_so ∙ ap (λ n. simulated (files n) (files s.plan_name)) same_design ∙ ap (λ n. simulated (files design_name) (files n)) same_plan ∙ e in
-        let kind : verdict_status (shown_by d plan) ≡ r.status = ap (λ (a : Answer). a.status) seen in
-        verdict_refuses_nothing (shown_by d plan) (ap is_refusal kind ∙ refuses)
+        let seen : shown d (verdict_at_horizon d plan) ≡ reply_seen r = sym simulated_so ∙ ap (λ n. simulation_reply (files n) (files s.plan_name)) same_design ∙ ap (λ n. simulation_reply (files design_name) (files n)) same_plan ∙ e in
+        let kind : verdict_status (verdict_at_horizon d plan) ≡ r.status = ap (λ (a : ReplySeen). a.status) seen in
+        verdict_refuses_nothing (verdict_at_horizon d plan) (ap is_refusal kind ∙ refuses)
 
 -- words that ask for something else ask for no simulation
 routes_only : (files : Files) (words : List (List ℕ)) (design_name : List ℕ) (reply : Reply) → request_of words ≡ Some (routes design_name) → DoneWhereFeasible files words reply.status
@@ -122,27 +122,27 @@ trial_only : (files : Files) (words : List (List ℕ)) (seed size : ℕ) (reply 
 trial_only files words seed size reply asked = λ d plan s. (let clash = sym s.asked ∙ asked in absurd (cc))
 
 -- the reply to a request says 0 exactly where the plan is feasible
-pub done_where_feasible : (files : Files) (found : Outcome) (words : List (List ℕ)) (asked : Asked) (r : Result Reply Ending) → request_of words ≡ Some asked
+pub done_where_feasible : (files : Files) (found : Outcome) (words : List (List ℕ)) (asked : RequestSeen) (r : Result Reply Ending) → request_of words ≡ Some asked
     → Replies r (answer_to files found (Some asked)) → RefusesFile r → DecidesRequest files asked r
     → OnReply r (λ reply. DoneWhereFeasible files words reply.status)
 done_where_feasible files found words (simulate design_name plan_name) (Ok reply) asked replies refuses decides = λ d plan s. done_here files words d plan s design_name plan_name asked reply.status decides
-done_where_feasible files found words (simulate design_name plan_name) (Err (ending.Told reply)) asked replies refuses decides = λ d plan s. absurd (not_refused files words d plan s design_name plan_name asked reply replies refuses)
+done_where_feasible files found words (simulate design_name plan_name) (Err (ending.RefusedWith reply)) asked replies refuses decides = λ d plan s. absurd (not_refused files words d plan s design_name plan_name asked reply replies refuses)
 done_where_feasible files found words (simulate design_name plan_name) (Err ending.Memory) asked replies refuses decides = tt
 done_where_feasible files found words (simulate design_name plan_name) (Err ending.ShelfFault) asked replies refuses decides = tt
 done_where_feasible files found words (routes design_name) (Ok reply) asked replies refuses decides = routes_only files words design_name reply asked
-done_where_feasible files found words (routes design_name) (Err (ending.Told reply)) asked replies refuses decides = routes_only files words design_name reply asked
+done_where_feasible files found words (routes design_name) (Err (ending.RefusedWith reply)) asked replies refuses decides = routes_only files words design_name reply asked
 done_where_feasible files found words (routes design_name) (Err ending.Memory) asked replies refuses decides = tt
 done_where_feasible files found words (routes design_name) (Err ending.ShelfFault) asked replies refuses decides = tt
 done_where_feasible files found words (verify n conflicts ticks bounds design_name proof_name) (Ok reply) asked replies refuses decides = verify_only files words n conflicts ticks bounds design_name proof_name reply asked
-done_where_feasible files found words (verify n conflicts ticks bounds design_name proof_name) (Err (ending.Told reply)) asked replies refuses decides = verify_only files words n conflicts ticks bounds design_name proof_name reply asked
+done_where_feasible files found words (verify n conflicts ticks bounds design_name proof_name) (Err (ending.RefusedWith reply)) asked replies refuses decides = verify_only files words n conflicts ticks bounds design_name proof_name reply asked
 done_where_feasible files found words (verify n conflicts ticks bounds design_name proof_name) (Err ending.Memory) asked replies refuses decides = tt
 done_where_feasible files found words (verify n conflicts ticks bounds design_name proof_name) (Err ending.ShelfFault) asked replies refuses decides = tt
 done_where_feasible files found words (check n design_name proof_name) (Ok reply) asked replies refuses decides = check_only files words n design_name proof_name reply asked
-done_where_feasible files found words (check n design_name proof_name) (Err (ending.Told reply)) asked replies refuses decides = check_only files words n design_name proof_name reply asked
+done_where_feasible files found words (check n design_name proof_name) (Err (ending.RefusedWith reply)) asked replies refuses decides = check_only files words n design_name proof_name reply asked
 done_where_feasible files found words (check n design_name proof_name) (Err ending.Memory) asked replies refuses decides = tt
 done_where_feasible files found words (check n design_name proof_name) (Err ending.ShelfFault) asked replies refuses decides = tt
 done_where_feasible files found words (trial seed size) (Ok reply) asked replies refuses decides = trial_only files words seed size reply asked
-done_where_feasible files found words (trial seed size) (Err (ending.Told reply)) asked replies refuses decides = trial_only files words seed size reply asked
+done_where_feasible files found words (trial seed size) (Err (ending.RefusedWith reply)) asked replies refuses decides = trial_only files words seed size reply asked
 done_where_feasible files found words (trial seed size) (Err ending.Memory) asked replies refuses decides = tt
 done_where_feasible files found words (trial seed size) (Err ending.ShelfFault) asked replies refuses decides = tt
 
@@ -153,26 +153,26 @@ tells_feasible files found words d plan t text new_text pieces new_pieces prints
     let so = answered_so files words d plan s found in
     let settled = exact d plan s in
     let done = settled.done in
-    let kind : t ≡ verdict_status (shown_by d plan) = prints.status answered ∙ ap (λ (a : Answer). a.status) so in
+    let kind : t ≡ verdict_status (verdict_at_horizon d plan) = prints.status answered ∙ ap (λ (a : ReplySeen). a.status) so in
     record {
       done = done;
-      failed = ((λ e f. let yes = done.1 f in absurd (cc)), (λ no. kind ∙ no_unless_done (shown_by d plan) (λ e. no (done.0 (kind ∙ e)))));
-      met = ((λ line. done.0 (kind ∙ first_done d (shown_by d plan) _ line.0 line.1)), (λ f. met_first d plan (sym kind ∙ done.1 f)));
-      begins = ((λ front. done.0 (kind ∙ met_done d (shown_by d plan) front)), (λ f. done_begins d (shown_by d plan) (sym kind ∙ done.1 f)));
-      text = prints.written answered ∙ ap (λ (a : Answer). grown text (concat a.lines)) so;
+      failed = ((λ e f. let yes = done.1 f in absurd (cc)), (λ no. kind ∙ no_unless_done (verdict_at_horizon d plan) (λ e. no (done.0 (kind ∙ e)))));
+      met = ((λ line. done.0 (kind ∙ first_done d (verdict_at_horizon d plan) _ line.0 line.1)), (λ f. met_first d plan (sym kind ∙ done.1 f)));
+      begins = ((λ prefix. done.0 (kind ∙ met_done d (verdict_at_horizon d plan) prefix)), (λ f. done_begins d (verdict_at_horizon d plan) (sym kind ∙ done.1 f)));
+      text = prints.written answered ∙ ap (λ (a : ReplySeen). grown text (concat a.lines)) so;
       safe = settled.safe;
     }
 
 -- a reply that was made
-pub told_reply : (e : Ending) (reply : Reply) (fact : Reply → Type 0) → e ≡ ending.Told reply → OnReply (Err e) fact → fact reply
-told_reply (ending.Told r) reply fact same h = let this : r ≡ reply = cc in subst fact this h
+pub told_reply : (e : Ending) (reply : Reply) (fact : Reply → Type 0) → e ≡ ending.RefusedWith reply → OnReply (Err e) fact → fact reply
+told_reply (ending.RefusedWith r) reply fact same h = let this : r ≡ reply = cc in subst fact this h
 told_reply ending.Memory reply fact same h = absurd (cc)
 told_reply ending.ShelfFault reply fact same h = absurd (cc)
 
-module _ (answer : Answer) (reply : Reply) (t : Status) (text new_text : Option (List ℕ)) (pieces new_pieces : Option (List (List ℕ))) (replies : answer ≡ reply_seen reply) (prints : Prints (reply_seen reply) t text new_text pieces new_pieces) where
+module _ (answer : ReplySeen) (reply : Reply) (t : Status) (text new_text : Option (List ℕ)) (pieces new_pieces : Option (List (List ℕ))) (replies : answer ≡ reply_seen reply) (prints : Prints (reply_seen reply) t text new_text pieces new_pieces) where
   -- its print is that of the answer
   pub prints_answer : Prints answer t text new_text pieces new_pieces
-  prints_answer = subst (λ (a : Answer). Prints a t text new_text pieces new_pieces) (sym replies) prints
+  prints_answer = subst (λ (a : ReplySeen). Prints a t text new_text pieces new_pieces) (sym replies) prints
 
 -- what is printed of it
 pub tells_of_reply : (files : Files) (found : Outcome) (words : List (List ℕ)) (d : Station) (plan : List (List Command)) (reply : Reply) (t : Status) (text new_text : Option (List ℕ)) (pieces new_pieces : Option (List (List ℕ)))
@@ -181,21 +181,21 @@ tells_of_reply files found words d plan reply t text new_text pieces new_pieces 
     tells_feasible files found words d plan t text new_text pieces new_pieces (prints_answer (answer_of files found words) reply t text new_text pieces new_pieces replies prints) (subst (DoneWhereFeasible files words) (sym (prints.status answered)) done) s answered
 
 -- a request that names these files is decided by them
-pub decides_named : (files : Files) (asked : Asked) (design_name plan_name : List ℕ) (r : Result Reply Ending) → IfOk r (λ reply. Decides (files design_name) (files plan_name) reply.status) → asked ≡ simulate design_name plan_name → DecidesRequest files asked r
-decides_named files asked design_name plan_name r decides is = subst (λ (a : Asked). DecidesRequest files a r) (sym is) decides
+pub decides_named : (files : Files) (asked : RequestSeen) (design_name plan_name : List ℕ) (r : Result Reply Ending) → IfOk r (λ reply. Decides (files design_name) (files plan_name) reply.status) → asked ≡ simulate design_name plan_name → DecidesRequest files asked r
+decides_named files asked design_name plan_name r decides is = subst (λ (a : RequestSeen). DecidesRequest files a r) (sym is) decides
 
 -- a request for routes decides nothing
-pub decides_routes : (files : Files) (asked : Asked) (design_name : List ℕ) (r : Result Reply Ending) → asked ≡ routes design_name → DecidesRequest files asked r
-decides_routes files asked design_name r is = subst (λ (a : Asked). DecidesRequest files a r) (sym is) tt
+pub decides_routes : (files : Files) (asked : RequestSeen) (design_name : List ℕ) (r : Result Reply Ending) → asked ≡ routes design_name → DecidesRequest files asked r
+decides_routes files asked design_name r is = subst (λ (a : RequestSeen). DecidesRequest files a r) (sym is) tt
 
 -- nor does a request for a search
-pub decides_verify : (files : Files) (asked : Asked) (n conflicts ticks : ℕ) (bounds : Bool) (design_name proof_name : List ℕ) (r : Result Reply Ending) → asked ≡ verify n conflicts ticks bounds design_name proof_name → DecidesRequest files asked r
-decides_verify files asked n conflicts ticks bounds design_name proof_name r is = subst (λ (a : Asked). DecidesRequest files a r) (sym is) tt
+pub decides_verify : (files : Files) (asked : RequestSeen) (n conflicts ticks : ℕ) (bounds : Bool) (design_name proof_name : List ℕ) (r : Result Reply Ending) → asked ≡ verify n conflicts ticks bounds design_name proof_name → DecidesRequest files asked r
+decides_verify files asked n conflicts ticks bounds design_name proof_name r is = subst (λ (a : RequestSeen). DecidesRequest files a r) (sym is) tt
 
 -- nor one for a check
-pub decides_check : (files : Files) (asked : Asked) (n : ℕ) (design_name proof_name : List ℕ) (r : Result Reply Ending) → asked ≡ check n design_name proof_name → DecidesRequest files asked r
-decides_check files asked n design_name proof_name r is = subst (λ (a : Asked). DecidesRequest files a r) (sym is) tt
+pub decides_check : (files : Files) (asked : RequestSeen) (n : ℕ) (design_name proof_name : List ℕ) (r : Result Reply Ending) → asked ≡ check n design_name proof_name → DecidesRequest files asked r
+decides_check files asked n design_name proof_name r is = subst (λ (a : RequestSeen). DecidesRequest files a r) (sym is) tt
 
 -- nor one for a trial
-pub decides_trial : (files : Files) (asked : Asked) (seed size : ℕ) (r : Result Reply Ending) → asked ≡ trial seed size → DecidesRequest files asked r
-decides_trial files asked seed size r is = subst (λ (a : Asked). DecidesRequest files a r) (sym is) tt
+pub decides_trial : (files : Files) (asked : RequestSeen) (seed size : ℕ) (r : Result Reply Ending) → asked ≡ trial seed size → DecidesRequest files asked r
+decides_trial files asked seed size r is = subst (λ (a : RequestSeen). DecidesRequest files a r) (sym is) tt

@@ -3,7 +3,7 @@ use Rattle.std.proofs.Common.{◌≡◌, ◌≤◌, ℕ, Bool, true, List, lengt
 use Rattle.std.specs.List.{concat}
 use Rattle.std.proofs.lemmas.List.{append-nil}
 use Rattle.infra_reader.specs.Design.{design_of}
-use Rattle.log_checker.specs.declared.shown.Shown.TheVariants.{Yes}
+use Rattle.log_checker.specs.declared.check_result.CheckResult.TheVariants.{Yes}
 use Rattle.plan_clauses.specs.Clauses.{past_limit}
 use Rattle.plan_exclusion.specs.declared.method.Method.{Method}
 use Rattle.plan_exclusion.specs.declared.method.Method.TheVariants.{Cones}
@@ -20,7 +20,7 @@ use Rattle.rail_base.specs.declared.history.Verdict.{Verdict}
 use Rattle.rail_outside.specs.Files.{Files}
 use Rattle.rail_outside.specs.Growth.{grown}
 use Rattle.rail_spec.specs.Feasible.{IsFeasible}
-use Rattle.rail_words.specs.Requests.{Asked, simulate, routes, verify, check, trial, request_of, IsInRange}
+use Rattle.rail_words.specs.Requests.{RequestSeen, simulate, routes, verify, check, trial, request_of, IsInRange}
 use Rattle.rail_words.proofs.Ranges.{requests_in_range}
 use Rattle.verify_loop.specs.declared.outcome.Budgets.{Budgets}
 use Rattle.verify_loop.specs.declared.outcome.Outcome.{Outcome}
@@ -34,8 +34,8 @@ use Rattle.rail_cli.specs.declared.ending.Ending.{Ending}
 use Rattle.rail_cli.specs.declared.ending.Ending.TheVariants as ending
 use Rattle.rail_cli.specs.Statuses.{is_answered, is_verdict}
 use Rattle.rail_cli.specs.Texts.{limit_of, usage_line, too_large_line, yes_line, infeasible_line}
-use Rattle.rail_cli.specs.Answers.{Answer, one_line, within_limit, with_routes, design_in, and_then, unless_too_large, with_clauses, unless_refused, told, checked_against, with_proof, checked, plan_told, told_outcome, searched_in, method_of, searched, answer_to, answer_of}
-use Rattle.rail_cli.specs.Shows.{shown_by}
+use Rattle.rail_cli.specs.Answers.{ReplySeen, one_line, within_limit, with_routes, design_in, and_then, unless_too_large, with_clauses, unless_refused, reply_for, checked_against, with_proof, check_reply, reply_for_plan, reply_for_outcome, searched_in, method_of, search_reply, answer_to, answer_of}
+use Rattle.rail_cli.specs.Shows.{verdict_at_horizon}
 use Rattle.rail_cli.specs.Replies.{reply_seen, Reads, RefusesFile, OnlyFails, Replies, EndsIn, EndsWith, RepliesSo, RepliesTrial}
 use Rattle.rail_cli.specs.Searches.{budgets_of, Finds, HoldsLog, HoldsProof, SearchLeaves, Leaves, Searches, TellsPlan, TellsNone}
 use Rattle.rail_cli.specs.Checks.{Checks, TellsInfeasible}
@@ -50,7 +50,7 @@ use Rattle.rail_cli.proofs.Showing.{done_exactly, met_first, runs_safely}
 -- ---- what a search ends with
 
 -- want of memory is free
-pub may_want : (files : Files) (asked : Option Asked) → EndsWith files asked outcome.Memory
+pub may_want : (files : Files) (asked : Option RequestSeen) → EndsWith files asked outcome.Memory
 may_want files None = tt
 may_want files (Some (simulate design plan)) = tt
 may_want files (Some (routes design)) = tt
@@ -59,56 +59,56 @@ may_want files (Some (trial seed size)) = (tt, tt)
 may_want files (Some (verify n conflicts ticks bounds design proof)) = inl refl
 
 -- the outcome says what it is to say of the design that the file spells
-pub finds_so : (files : Files) (asked : Option Asked) (found : Outcome) → EndsWith files asked found → Finds files asked found
+pub finds_so : (files : Files) (asked : Option RequestSeen) (found : Outcome) → EndsWith files asked found → Finds files asked found
 finds_so files None found ends = tt
 finds_so files (Some (simulate design plan)) found ends = tt
 finds_so files (Some (routes design)) found ends = tt
 finds_so files (Some (check n design proof)) found ends = tt
 finds_so files (Some (trial seed size)) found ends = ends
-finds_so files (Some (verify n conflicts ticks bounds design proof)) found (inl same) = λ d spelled. subst (λ (o : Outcome). Says (method_of bounds) d n (budgets_of conflicts ticks) o × Fits (method_of bounds) d n o) (sym same) (tt, tt)
-finds_so files (Some (verify n conflicts ticks bounds design proof)) found (inr e) = λ d spelled.
-    (let one : Ok e.design.station ≡ Ok d = sym e.spelled ∙ spelled in
+finds_so files (Some (verify n conflicts ticks bounds design proof)) found (inl same) = λ d parsed. subst (λ (o : Outcome). Says (method_of bounds) d n (budgets_of conflicts ticks) o × Fits (method_of bounds) d n o) (sym same) (tt, tt)
+finds_so files (Some (verify n conflicts ticks bounds design proof)) found (inr e) = λ d parsed.
+    (let one : Ok e.design.station ≡ Ok d = sym e.parsed ∙ parsed in
     let same : e.design.station ≡ d = cc in
     subst (λ (x : Station). Says (method_of bounds) x n (budgets_of conflicts ticks) found × Fits (method_of bounds) x n found) same (e.says, e.fits))
 
 -- ---- what is told of it
 
 -- a reply is no answer for want of memory
-never_memory : (r : Result Reply Ending) (want answer : Answer) → want.status ≡ statuses.Memory → Replies r want → Replies r answer
-never_memory (Ok reply) want answer is h = (let kind : is_answered statuses.Memory ≡ is_answered reply.status = ap is_answered (sym is) ∙ ap (λ (a : Answer). is_answered a.status) h in let yes = reply.answered in absurd (cc))
-never_memory (Err (ending.Told reply)) want answer is h = (let kind : is_answered statuses.Memory ≡ is_answered reply.status = ap is_answered (sym is) ∙ ap (λ (a : Answer). is_answered a.status) h in let yes = reply.answered in absurd (cc))
+never_memory : (r : Result Reply Ending) (want answer : ReplySeen) → want.status ≡ statuses.Memory → Replies r want → Replies r answer
+never_memory (Ok reply) want answer is h = (let kind : is_answered statuses.Memory ≡ is_answered reply.status = ap is_answered (sym is) ∙ ap (λ (a : ReplySeen). is_answered a.status) h in let yes = reply.answered in absurd (cc))
+never_memory (Err (ending.RefusedWith reply)) want answer is h = (let kind : is_answered statuses.Memory ≡ is_answered reply.status = ap is_answered (sym is) ∙ ap (λ (a : ReplySeen). is_answered a.status) h in let yes = reply.answered in absurd (cc))
 never_memory (Err ending.Memory) want answer is h = tt
 never_memory (Err ending.ShelfFault) want answer is h = tt
 
 -- for any way to tell an outcome that tells too many clauses as the refusal
-module _ (m : Method) (d : Station) (n : ℕ) (b : Budgets) (tell : Outcome → Answer) (large : (literals : ℕ) → tell (outcome.TooLarge literals) ≡ one_line statuses.DesignRefused too_large_line) (want : (tell outcome.Memory).status ≡ statuses.Memory) where
+module _ (m : Method) (d : Station) (n : ℕ) (b : Budgets) (make_reply : Outcome → ReplySeen) (large : (literals : ℕ) → make_reply (outcome.TooLarge literals) ≡ one_line statuses.DesignRefused too_large_line) (want : (make_reply outcome.Memory).status ≡ statuses.Memory) where
   -- what is told, unless the clauses are too many
-  abbrev unless_many : Outcome → Answer
-  unless_many found = unless_refused (with_clauses m n d) (λ same. tell found)
+  abbrev unless_many : Outcome → ReplySeen
+  unless_many found = unless_refused (with_clauses m n d) (λ same. make_reply found)
 
-  few_told : (found : Outcome) → past_limit 16000000 0 (first_clauses m d n) ≡ None → unless_many found ≡ tell found
-  few_told found few = answered_next (with_clauses m n d) d (λ same. tell found) (small_passes m n d few)
+  few_told : (found : Outcome) → past_limit 16000000 0 (first_clauses m d n) ≡ None → unless_many found ≡ make_reply found
+  few_told found few = answered_next (with_clauses m n d) d (λ same. make_reply found) (small_passes m n d few)
 
-  many_told : (literals : ℕ) → past_limit 16000000 0 (first_clauses m d n) ≡ Some literals → unless_many (outcome.TooLarge literals) ≡ tell (outcome.TooLarge literals)
-  many_told literals many = answered_refusal (with_clauses m n d) _ (λ same. tell (outcome.TooLarge literals)) (too_large_refused m n d literals many) ∙ sym (large literals)
+  many_told : (literals : ℕ) → past_limit 16000000 0 (first_clauses m d n) ≡ Some literals → unless_many (outcome.TooLarge literals) ≡ make_reply (outcome.TooLarge literals)
+  many_told literals many = answered_refusal (with_clauses m n d) _ (λ same. make_reply (outcome.TooLarge literals)) (too_large_refused m n d literals many) ∙ sym (large literals)
 
   -- the reply to the end of a search is one to the search
-  pub told_unless_many : (r : Result Reply Ending) (found : Outcome) → Says m d n b found → Fits m d n found → Replies r (tell found) → Replies r (unless_many found)
-  told_unless_many r outcome.Memory says fits h = never_memory r _ _ want h
-  told_unless_many r (outcome.TooLarge literals) says fits h = subst (Replies r) (sym (many_told literals says)) h
-  told_unless_many r (outcome.Plan plan verdict) says fits h = subst (Replies r) (sym (few_told (outcome.Plan plan verdict) fits)) h
-  told_unless_many r (outcome.Infeasible log) says fits h = subst (Replies r) (sym (few_told (outcome.Infeasible log) fits)) h
-  told_unless_many r (outcome.ConflictsSpent log clause hints) says fits h = subst (Replies r) (sym (few_told (outcome.ConflictsSpent log clause hints) fits)) h
-  told_unless_many r (outcome.TicksSpent failed sum at_hand) says fits h = subst (Replies r) (sym (few_told (outcome.TicksSpent failed sum at_hand) fits)) h
-  told_unless_many r (outcome.LogSpent log bytes next) says fits h = subst (Replies r) (sym (few_told (outcome.LogSpent log bytes next) fits)) h
+  pub reply_unless_many : (r : Result Reply Ending) (found : Outcome) → Says m d n b found → Fits m d n found → Replies r (make_reply found) → Replies r (unless_many found)
+  reply_unless_many r outcome.Memory says fits h = never_memory r _ _ want h
+  reply_unless_many r (outcome.TooLarge literals) says fits h = subst (Replies r) (sym (many_told literals says)) h
+  reply_unless_many r (outcome.Plan plan verdict) says fits h = subst (Replies r) (sym (few_told (outcome.Plan plan verdict) fits)) h
+  reply_unless_many r (outcome.Infeasible log) says fits h = subst (Replies r) (sym (few_told (outcome.Infeasible log) fits)) h
+  reply_unless_many r (outcome.ConflictsSpent log clause hints) says fits h = subst (Replies r) (sym (few_told (outcome.ConflictsSpent log clause hints) fits)) h
+  reply_unless_many r (outcome.TicksSpent failed sum at_hand) says fits h = subst (Replies r) (sym (few_told (outcome.TicksSpent failed sum at_hand) fits)) h
+  reply_unless_many r (outcome.LogSpent log bytes next) says fits h = subst (Replies r) (sym (few_told (outcome.LogSpent log bytes next) fits)) h
 
 module _ (d : Station) (n : ℕ) (b : Budgets) where
   -- what is told, where the clauses are few
-  abbrev outcome_told : Outcome → Answer
-  outcome_told found = told_outcome d n b.conflicts b.ticks found
+  abbrev outcome_told : Outcome → ReplySeen
+  outcome_told found = reply_for_outcome d n b.conflicts b.ticks found
 
   pub searched_so : (m : Method) (r : Result Reply Ending) (found : Outcome) → Says m d n b found → Fits m d n found → Replies r (outcome_told found) → Replies r (searched_in m d n b.conflicts b.ticks found)
-  searched_so m r found says fits h = told_unless_many m d n b outcome_told (λ literals. refl) refl r found says fits h
+  searched_so m r found says fits h = reply_unless_many m d n b outcome_told (λ literals. refl) refl r found says fits h
 
   -- it is never that the words ask for nothing
   outcome_no_usage : (found : Outcome) → (outcome_told found).status ≡ statuses.Usage → ⊥
@@ -121,20 +121,20 @@ module _ (d : Station) (n : ℕ) (b : Budgets) where
   outcome_no_usage outcome.Memory e = cc
 
   pub told_no_usage : (found : Outcome) (reply : Reply) → reply_seen reply ≡ outcome_told found → reply.status ≡ statuses.Usage → ⊥
-  told_no_usage found reply seen e = outcome_no_usage found (ap (λ (a : Answer). a.status) (sym seen) ∙ e)
+  told_no_usage found reply seen e = outcome_no_usage found (ap (λ (a : ReplySeen). a.status) (sym seen) ∙ e)
 
 -- a plan comes with what its run shows
-pub comes_shown : (d : Station) (n : ℕ) (b : Budgets) (found : Outcome) (plan : Plan) (verdict : Verdict) → found ≡ outcome.Plan plan verdict → (m : Method) × Says m d n b found → verdict ≡ shown_by d plan.steps
+pub comes_shown : (d : Station) (n : ℕ) (b : Budgets) (found : Outcome) (plan : Plan) (verdict : Verdict) → found ≡ outcome.Plan plan verdict → (m : Method) × Says m d n b found → verdict ≡ verdict_at_horizon d plan.steps
 comes_shown d n b found plan verdict is h = (subst (λ (o : Outcome). Says h.0 d n b o) is h.1).2
 
 -- a store that failed tells nothing
-pub failed_so : (e : Ending) (r : Result Reply Ending) (answer : Answer) → r ≡ Err e → OnlyFails {X = Unit {0}} (Err e) → Replies r answer
-failed_so (ending.Told reply) r answer is h = absurd h
+pub failed_so : (e : Ending) (r : Result Reply Ending) (answer : ReplySeen) → r ≡ Err e → OnlyFails {X = Unit {0}} (Err e) → Replies r answer
+failed_so (ending.RefusedWith reply) r answer is h = absurd h
 failed_so ending.Memory r answer is h = subst (λ (x : Result Reply Ending). Replies x answer) (sym is) tt
 failed_so ending.ShelfFault r answer is h = subst (λ (x : Result Reply Ending). Replies x answer) (sym is) tt
 
 pub failed_refuses : (e : Ending) (r : Result Reply Ending) → r ≡ Err e → OnlyFails {X = Unit {0}} (Err e) → RefusesFile r
-failed_refuses (ending.Told reply) r is h = absurd h
+failed_refuses (ending.RefusedWith reply) r is h = absurd h
 failed_refuses ending.Memory r is h = subst (λ (x : Result Reply Ending). RefusesFile x) (sym is) tt
 failed_refuses ending.ShelfFault r is h = subst (λ (x : Result Reply Ending). RefusesFile x) (sym is) tt
 
@@ -142,24 +142,24 @@ failed_refuses ending.ShelfFault r is h = subst (λ (x : Result Reply Ending). R
 
 module _ (m : Method) (n conflicts ticks : ℕ) (design_bytes : List ℕ) (found : Outcome) where
   -- the rest of a search, with the design's text
-  abbrev with_text : List ℕ → Answer
+  abbrev with_text : List ℕ → ReplySeen
   with_text text = unless_refused (design_in text) (λ d. searched_in m d n conflicts ticks found)
 
-  pub unfetched : (view : Vec ℕ Global → List ℕ) (e : Ending) → Reads view (Err e) (within_limit file.Design design_bytes) → Replies (Err e) (searched m n conflicts ticks design_bytes found)
-  unfetched view (ending.Told reply) h = answered_refusal (within_limit file.Design design_bytes) (reply_seen reply) with_text h
+  pub unfetched : (view : Vec ℕ Global → List ℕ) (e : Ending) → Reads view (Err e) (within_limit file.Design design_bytes) → Replies (Err e) (search_reply m n conflicts ticks design_bytes found)
+  unfetched view (ending.RefusedWith reply) h = answered_refusal (within_limit file.Design design_bytes) (reply_seen reply) with_text h
   unfetched view ending.Memory h = tt
   unfetched view ending.ShelfFault h = tt
 
   module _ (text : List ℕ) (fits : within_limit file.Design design_bytes ≡ Ok text) where
-    fetched_so : searched m n conflicts ticks design_bytes found ≡ with_text text
+    fetched_so : search_reply m n conflicts ticks design_bytes found ≡ with_text text
     fetched_so = answered_next (within_limit file.Design design_bytes) text with_text fits
 
-    pub unread : {X : Type 0} (view : X → Station) (e : Ending) → Reads view (Err e) (design_in text) → Replies (Err e) (searched m n conflicts ticks design_bytes found)
-    unread view (ending.Told reply) h = fetched_so ∙ answered_refusal (design_in text) (reply_seen reply) (λ d. searched_in m d n conflicts ticks found) h
+    pub unread : {X : Type 0} (view : X → Station) (e : Ending) → Reads view (Err e) (design_in text) → Replies (Err e) (search_reply m n conflicts ticks design_bytes found)
+    unread view (ending.RefusedWith reply) h = fetched_so ∙ answered_refusal (design_in text) (reply_seen reply) (λ d. searched_in m d n conflicts ticks found) h
     unread view ending.Memory h = tt
     unread view ending.ShelfFault h = tt
 
-    pub read_so : (d : Station) → design_in text ≡ Ok d → searched m n conflicts ticks design_bytes found ≡ searched_in m d n conflicts ticks found
+    pub read_so : (d : Station) → design_in text ≡ Ok d → search_reply m n conflicts ticks design_bytes found ≡ searched_in m d n conflicts ticks found
     read_so d reads = fetched_so ∙ answered_next (design_in text) d (λ d. searched_in m d n conflicts ticks found) reads
 
 -- ---- the replies to a search
@@ -173,7 +173,7 @@ RepliesBy r d n b m = (found : Outcome) × Says m d n b found × Fits m d n foun
 
 module _ (files : Files) (n : ℕ) (bounds : Bool) (b : Budgets) (design proof : List ℕ) where
   -- what is asked
-  abbrev search_asked : Option Asked
+  abbrev search_asked : Option RequestSeen
   search_asked = Some (verify n b.conflicts b.ticks bounds design proof)
 
   -- how plans that fail are excluded
@@ -195,44 +195,44 @@ module _ (files : Files) (n : ℕ) (bounds : Bool) (b : Budgets) (design proof :
         → RepliesBy r d.station n b by → RepliesSo r files search_asked
     ended_so d r room reads h = (
       h.0,
-      inr (record { design = d; spelled = spelled_so d.station reads; says = within_budgets by d.station n b h.0 room h.1; fits = h.2 }),
+      inr (record { design = d; parsed = spelled_so d.station reads; says = within_budgets by d.station n b h.0 room h.1; fits = h.2 }),
       subst (Replies r) (sym (read_so by n b.conflicts b.ticks (files design) h.0 text fits d.station reads)) h.3,
     )
 
 -- ---- the replies to a request
 
-module _ (r : Result Reply Ending) (files : Files) (asked : Asked) where
+module _ (r : Result Reply Ending) (files : Files) (asked : RequestSeen) where
   pub simulate_so : (design plan : List ℕ) → asked ≡ simulate design plan → Replies r (answer_to files outcome.Memory (Some (simulate design plan))) → RepliesSo r files (Some asked)
-  simulate_so design plan is h = subst (λ (a : Asked). RepliesSo r files (Some a)) (sym is) (outcome.Memory, tt, h)
+  simulate_so design plan is h = subst (λ (a : RequestSeen). RepliesSo r files (Some a)) (sym is) (outcome.Memory, tt, h)
 
   pub routes_so : (design : List ℕ) → asked ≡ routes design → Replies r (answer_to files outcome.Memory (Some (routes design))) → RepliesSo r files (Some asked)
-  routes_so design is h = subst (λ (a : Asked). RepliesSo r files (Some a)) (sym is) (outcome.Memory, tt, h)
+  routes_so design is h = subst (λ (a : RequestSeen). RepliesSo r files (Some a)) (sym is) (outcome.Memory, tt, h)
 
   pub check_so : (n : ℕ) (design proof : List ℕ) → asked ≡ check n design proof → Replies r (answer_to files outcome.Memory (Some (check n design proof))) → RepliesSo r files (Some asked)
-  check_so n design proof is h = subst (λ (a : Asked). RepliesSo r files (Some a)) (sym is) (outcome.Memory, tt, h)
+  check_so n design proof is h = subst (λ (a : RequestSeen). RepliesSo r files (Some a)) (sym is) (outcome.Memory, tt, h)
 
   pub trial_so : (seed size : ℕ) → asked ≡ trial seed size → RepliesTrial r seed size → RepliesSo r files (Some asked)
-  trial_so seed size is h = subst (λ (a : Asked). RepliesSo r files (Some a)) (sym is) h
+  trial_so seed size is h = subst (λ (a : RequestSeen). RepliesSo r files (Some a)) (sym is) h
 
   pub verify_so : (n conflicts ticks : ℕ) (bounds : Bool) (b : Budgets) (design proof : List ℕ) → b ≡ budgets_of conflicts ticks → asked ≡ verify n conflicts ticks bounds design proof → RepliesSo r files (Some (verify n b.conflicts b.ticks bounds design proof)) → RepliesSo r files (Some asked)
-  verify_so n conflicts ticks bounds b design proof within is h = subst (λ (a : Asked). RepliesSo r files (Some a)) (sym is) (subst (λ (x : Budgets). RepliesSo r files (Some (verify n x.conflicts x.ticks bounds design proof))) within h)
+  verify_so n conflicts ticks bounds b design proof within is h = subst (λ (a : RequestSeen). RepliesSo r files (Some a)) (sym is) (subst (λ (x : Budgets). RepliesSo r files (Some (verify n x.conflicts x.ticks bounds design proof))) within h)
 
 -- the words ask for nothing
-pub usage_so : (files : Files) (asked : Option Asked) (reply : Reply) → asked ≡ None → reply_seen reply ≡ one_line statuses.Usage usage_line → RepliesSo (Ok reply) files asked
-usage_so files asked reply is seen = subst (λ (a : Option Asked). RepliesSo (Ok reply) files a) (sym is) (outcome.Memory, tt, sym seen)
+pub usage_so : (files : Files) (asked : Option RequestSeen) (reply : Reply) → asked ≡ None → reply_seen reply ≡ one_line statuses.Usage usage_line → RepliesSo (Ok reply) files asked
+usage_so files asked reply is seen = subst (λ (a : Option RequestSeen). RepliesSo (Ok reply) files a) (sym is) (outcome.Memory, tt, sym seen)
 
 -- memory was wanting
-pub want_so : (r : Result Reply Ending) (files : Files) (asked : Option Asked) → r ≡ Err ending.Memory → RepliesSo r files asked
+pub want_so : (r : Result Reply Ending) (files : Files) (asked : Option RequestSeen) → r ≡ Err ending.Memory → RepliesSo r files asked
 want_so r files asked is = subst (λ (x : Result Reply Ending). RepliesSo x files asked) (sym is) (outcome.Memory, may_want files asked, tt)
 
 -- what a search was asked for, from a request that is in range
-pub search_steps : (asked : Asked) (n conflicts ticks : ℕ) (bounds : Bool) (design proof : List ℕ) → asked ≡ verify n conflicts ticks bounds design proof → IsInRange asked → (1 ≤ n) × (n ≤ 256)
+pub search_steps : (asked : RequestSeen) (n conflicts ticks : ℕ) (bounds : Bool) (design proof : List ℕ) → asked ≡ verify n conflicts ticks bounds design proof → IsInRange asked → (1 ≤ n) × (n ≤ 256)
 search_steps asked n conflicts ticks bounds design proof is range = subst IsInRange is range
 
 -- ---- runs
 
 -- the reply of an ending
-pub told_so : (e : Ending) (reply : Reply) (files : Files) (asked : Option Asked) → e ≡ ending.Told reply → RepliesSo (Err e) files asked → RepliesSo (Ok reply) files asked
+pub told_so : (e : Ending) (reply : Reply) (files : Files) (asked : Option RequestSeen) → e ≡ ending.RefusedWith reply → RepliesSo (Err e) files asked → RepliesSo (Ok reply) files asked
 told_so e reply files asked is h = subst (λ (x : Ending). RepliesSo (Err x) files asked) is h
 
 module _ (files : Files) (words : List (List ℕ)) (reply : Reply) (t : Status) (text new_text : Option (List ℕ)) (pieces new_pieces : Option (List (List ℕ))) where
@@ -255,17 +255,17 @@ record Searched (m : Method) (n conflicts ticks : ℕ) (design_bytes : List ℕ)
   fits : within_limit file.Design design_bytes ≡ Ok design_bytes
   reads : design_in design_bytes ≡ Ok d
   clauses : with_clauses m n d ≡ Ok d
-  answer : searched m n conflicts ticks design_bytes found ≡ told_outcome d n conflicts ticks found
+  answer : search_reply m n conflicts ticks design_bytes found ≡ reply_for_outcome d n conflicts ticks found
 
 same_clauses : (d : Station) (many : Option ℕ) (e : Station) → unless_too_large d many ≡ Ok e → unless_too_large d many ≡ Ok d
 same_clauses d None e h = refl
 same_clauses d (Some k) e h = absurd (cc)
 
-was_searched : (m : Method) (n conflicts ticks : ℕ) (design_bytes : List ℕ) (found : Outcome) (d : Station) → design_of design_bytes ≡ Ok d → is_verdict (searched m n conflicts ticks design_bytes found).status ≡ true → Searched m n conflicts ticks design_bytes found d
+was_searched : (m : Method) (n conflicts ticks : ℕ) (design_bytes : List ℕ) (found : Outcome) (d : Station) → design_of design_bytes ≡ Ok d → is_verdict (search_reply m n conflicts ticks design_bytes found).status ≡ true → Searched m n conflicts ticks design_bytes found d
 was_searched m n conflicts ticks design_bytes found d spells verdict =
     let one = passed (within_limit file.Design design_bytes) (with_text m n conflicts ticks design_bytes found) (long_refuses file.Design design_bytes) verdict in
     let two = passed (design_in one.read) (λ e. searched_in m e n conflicts ticks found) (design_refuses (and_then (design_of one.read) with_routes)) one.verdict in
-    let three = passed (with_clauses m n two.read) (λ same. told_outcome two.read n conflicts ticks found) (clauses_refuse two.read (past_limit 16000000 0 (first_clauses m two.read n))) two.verdict in
+    let three = passed (with_clauses m n two.read) (λ same. reply_for_outcome two.read n conflicts ticks found) (clauses_refuse two.read (past_limit 16000000 0 (first_clauses m two.read n))) two.verdict in
     let text : design_bytes ≡ one.read = file_is file.Design design_bytes one.read one.is in
     let same : d ≡ two.read = read-same one.read d two.read (ap design_of (sym text) ∙ spells) two.is in
     let few : with_clauses m n two.read ≡ Ok two.read = same_clauses two.read (past_limit 16000000 0 (first_clauses m two.read n)) three.read three.is in
@@ -273,7 +273,7 @@ was_searched m n conflicts ticks design_bytes found d spells verdict =
       fits = one.is ∙ ap (λ (bytes : List ℕ). Ok bytes) (sym text);
       reads = ap design_in text ∙ (two.is ∙ ap (λ (e : Station). Ok e) (sym same));
       clauses = subst (λ (e : Station). with_clauses m n e ≡ Ok e) (sym same) few;
-      answer = (one.comes ∙ (two.comes ∙ three.comes)) ∙ ap (λ (e : Station). told_outcome e n conflicts ticks found) (sym same);
+      answer = (one.comes ∙ (two.comes ∙ three.comes)) ∙ ap (λ (e : Station). reply_for_outcome e n conflicts ticks found) (sym same);
     }
 
 -- a plan was found
@@ -282,7 +282,7 @@ record PlanFound (found : Outcome) : Type 0 where
   verdict : Verdict
   is : found ≡ outcome.Plan plan verdict
 
-plan_found : (d : Station) (n conflicts ticks : ℕ) (found : Outcome) → (told_outcome d n conflicts ticks found).status ≡ statuses.Done → PlanFound found
+plan_found : (d : Station) (n conflicts ticks : ℕ) (found : Outcome) → (reply_for_outcome d n conflicts ticks found).status ≡ statuses.Done → PlanFound found
 plan_found d n conflicts ticks (outcome.Plan plan verdict) e = record { plan = plan; verdict = verdict; is = refl }
 plan_found d n conflicts ticks (outcome.Infeasible log) e = absurd (cc)
 plan_found d n conflicts ticks (outcome.ConflictsSpent log clause hints) e = absurd (cc)
@@ -292,7 +292,7 @@ plan_found d n conflicts ticks (outcome.TooLarge literals) e = absurd (cc)
 plan_found d n conflicts ticks outcome.Memory e = absurd (cc)
 
 -- there is no plan
-none_told : (d : Station) (n conflicts ticks : ℕ) (found : Outcome) → (told_outcome d n conflicts ticks found).status ≡ statuses.No → told_outcome d n conflicts ticks found ≡ one_line statuses.No (infeasible_line n)
+none_told : (d : Station) (n conflicts ticks : ℕ) (found : Outcome) → (reply_for_outcome d n conflicts ticks found).status ≡ statuses.No → reply_for_outcome d n conflicts ticks found ≡ one_line statuses.No (infeasible_line n)
 none_told d n conflicts ticks (outcome.Infeasible log) e = refl
 none_told d n conflicts ticks (outcome.Plan plan verdict) e = absurd (cc)
 none_told d n conflicts ticks (outcome.ConflictsSpent log clause hints) e = absurd (cc)
@@ -315,17 +315,17 @@ module _ (files : Files) (words : List (List ℕ)) (n : ℕ) (d : Station) (s : 
   abbrev by_here : Method
   by_here = method_of s.bounds
 
-  answer_here : reply_seen reply ≡ searched by_here n s.conflicts s.ticks (files s.design_name) found_here
+  answer_here : reply_seen reply ≡ search_reply by_here n s.conflicts s.ticks (files s.design_name) found_here
   answer_here = sym replies.2 ∙ ap (answer_to files found_here) s.asked
 
   searched_here : is_answered t ≡ true → is_verdict t ≡ true → Searched by_here n s.conflicts s.ticks (files s.design_name) found_here d
-  searched_here answered verdict = was_searched by_here n s.conflicts s.ticks (files s.design_name) found_here d s.spells_design (ap (λ (a : Answer). is_verdict a.status) (sym answer_here) ∙ (ap is_verdict (sym (prints.status answered)) ∙ verdict))
+  searched_here answered verdict = was_searched by_here n s.conflicts s.ticks (files s.design_name) found_here d s.spells_design (ap (λ (a : ReplySeen). is_verdict a.status) (sym answer_here) ∙ (ap is_verdict (sym (prints.status answered)) ∙ verdict))
 
-  told_here : is_answered t ≡ true → is_verdict t ≡ true → reply_seen reply ≡ told_outcome d n s.conflicts s.ticks found_here
+  told_here : is_answered t ≡ true → is_verdict t ≡ true → reply_seen reply ≡ reply_for_outcome d n s.conflicts s.ticks found_here
   told_here answered verdict = answer_here ∙ (searched_here answered verdict).answer
 
   ends_here : EndsWith files (Some (verify n s.conflicts s.ticks s.bounds s.design_name s.proof_name)) found_here
-  ends_here = subst (λ (a : Option Asked). EndsWith files a found_here) s.asked replies.1
+  ends_here = subst (λ (a : Option RequestSeen). EndsWith files a found_here) s.asked replies.1
 
   -- status 0 tells a plan
   pub tells_plan : t ≡ statuses.Done → TellsPlan n d text new_text
@@ -333,18 +333,18 @@ module _ (files : Files) (words : List (List ℕ)) (n : ℕ) (d : Station) (s : 
       let answered : is_answered t ≡ true = rw done refl in
       let verdict : is_verdict t ≡ true = rw done refl in
       let q = searched_here answered verdict in
-      let told = told_here answered verdict in
-      let p = plan_found d n s.conflicts s.ticks found_here (ap (λ (a : Answer). a.status) (sym told) ∙ (sym (prints.status answered) ∙ done)) in
+      let reply_for = told_here answered verdict in
+      let p = plan_found d n s.conflicts s.ticks found_here (ap (λ (a : ReplySeen). a.status) (sym reply_for) ∙ (sym (prints.status answered) ∙ done)) in
       let e = ended_in files n s.conflicts s.ticks s.bounds s.design_name s.proof_name found_here p ends_here in
-      let one : Ok e.design.station ≡ Ok d = sym e.spelled ∙ q.reads in
+      let one : Ok e.design.station ≡ Ok d = sym e.parsed ∙ q.reads in
       let same : e.design.station ≡ d = cc in
       let good = admitted d (subst (λ (x : Station). is_admitted x ≡ true) same e.design.admitted) in
       let says = subst (λ (o : Outcome). Says by_here d n (budgets_of s.conflicts s.ticks) o) p.is (subst (λ (x : Station). Says by_here x n (budgets_of s.conflicts s.ticks) found_here) same e.says) in
       let feasible : IsFeasible d n p.plan.steps = says.0 in
-      let lines : reply_seen reply ≡ plan_told d p.plan.steps = told ∙ ap (told_outcome d n s.conflicts s.ticks) p.is in
+      let lines : reply_seen reply ≡ reply_for_plan d p.plan.steps = reply_for ∙ ap (reply_for_outcome d n s.conflicts s.ticks) p.is in
       record {
         plan = p.plan.steps;
-        text = prints.written answered ∙ ap (λ (a : Answer). grown text (concat a.lines)) lines;
+        text = prints.written answered ∙ ap (λ (a : ReplySeen). grown text (concat a.lines)) lines;
         feasible = feasible;
         fewest = says.1;
         met = met_first d p.plan.steps ((done_exactly d n p.plan.steps good feasible.runnable).1 feasible);
@@ -352,13 +352,13 @@ module _ (files : Files) (words : List (List ℕ)) (n : ℕ) (d : Station) (s : 
       }
 
   -- what a check says of the stored log
-  log_passes : Searched by_here n s.conflicts s.ticks (files s.design_name) found_here d → (log : List ℕ) → length log ≤ limit_of file.Proof → judged d n log ≡ Yes n → checked n (files s.design_name) log ≡ one_line statuses.Done (yes_line n)
+  log_passes : Searched by_here n s.conflicts s.ticks (files s.design_name) found_here d → (log : List ℕ) → length log ≤ limit_of file.Proof → judged d n log ≡ Yes n → check_reply n (files s.design_name) log ≡ one_line statuses.Done (yes_line n)
   log_passes q log short shows =
       answered_next (within_limit file.Design (files s.design_name)) (files s.design_name) (λ bytes. unless_refused (design_in bytes) (λ e. with_proof n e log)) q.fits
       ∙ (answered_next (design_in (files s.design_name)) d (λ e. with_proof n e log) q.reads
       ∙ (answered_next (with_clauses Cones n d) d (λ same. unless_refused (within_limit file.Proof log) (checked_against d n)) (base_passes by_here n d q.clauses)
       ∙ (answered_next (within_limit file.Proof log) log (checked_against d n) (file_fits file.Proof log short)
-      ∙ ap told shows)))
+      ∙ ap reply_for shows)))
 
   -- status 1 tells that there is none, and such a log is stored
   pub tells_none : (old new : Option Files) → old ≡ Some files → Leaves (request_of words) t old new → t ≡ statuses.No → TellsNone files s.design_name s.proof_name n d text new_text new
@@ -366,16 +366,16 @@ module _ (files : Files) (words : List (List ℕ)) (n : ℕ) (d : Station) (s : 
       let answered : is_answered t ≡ true = rw ends refl in
       let verdict : is_verdict t ≡ true = rw ends refl in
       let q = searched_here answered verdict in
-      let told = told_here answered verdict in
-      let line = told ∙ none_told d n s.conflicts s.ticks found_here (ap (λ (a : Answer). a.status) (sym told) ∙ (sym (prints.status answered) ∙ ends)) in
-      let left = subst (λ (a : Option Asked). Leaves a t old new) s.asked leaves in
+      let reply_for = told_here answered verdict in
+      let line = reply_for ∙ none_told d n s.conflicts s.ticks found_here (ap (λ (a : ReplySeen). a.status) (sym reply_for) ∙ (sym (prints.status answered) ∙ ends)) in
+      let left = subst (λ (a : Option RequestSeen). Leaves a t old new) s.asked leaves in
       let proof : HoldsProof files n s.design_name s.proof_name new = subst (λ (u : Status). SearchLeaves files n s.design_name s.proof_name u new) ends (left files told_files) in
       let one : Ok proof.0 ≡ Ok d = sym proof.1 ∙ q.reads in
       let same : proof.0 ≡ d = cc in
       let log : HoldsLog files s.proof_name d n new = subst (λ (x : Station). HoldsLog files s.proof_name x n new) same proof.2 in
       let some : 1 ≤ n = (requests_in_range words (verify n s.conflicts s.ticks s.bounds s.design_name s.proof_name) s.asked).0 in
       record {
-        text = prints.written answered ∙ (ap (λ (a : Answer). grown text (concat a.lines)) line ∙ ap (grown text) (append-nil (infeasible_line n)));
+        text = prints.written answered ∙ (ap (λ (a : ReplySeen). grown text (concat a.lines)) line ∙ ap (grown text) (append-nil (infeasible_line n)));
         none = (yes_infeasible d (spelled_admitted (files s.design_name) d s.spells_design) n n log.log some log.proves.shows).1;
         stored = log;
         passes = log_passes q log.log log.proves.short log.proves.shows;

@@ -3,8 +3,8 @@ use Rattle.std.proofs.Common.{◌≡◌, ℕ, ◌+◌, ◌≤◌, Bool, true, fa
 use Rattle.std.specs.List.{concat}
 use Rattle.std.proofs.lemmas.List.{append-nil}
 use Rattle.infra_reader.specs.Design.{design_of}
-use Rattle.log_checker.specs.declared.shown.Shown.{Shown}
-use Rattle.log_checker.specs.declared.shown.Shown.TheVariants.{Yes, No}
+use Rattle.log_checker.specs.declared.check_result.CheckResult.{CheckResult}
+use Rattle.log_checker.specs.declared.check_result.CheckResult.TheVariants.{Yes, No}
 use Rattle.plan_clauses.specs.Clauses.{base_clauses, past_limit}
 use Rattle.plan_exclusion.specs.declared.method.Method.{Method}
 use Rattle.plan_exclusion.specs.declared.method.Method.TheVariants.{Cones, Bounds}
@@ -17,21 +17,21 @@ use Rattle.rail_outside.specs.Files.{Files}
 use Rattle.rail_outside.specs.Growth.{grown}
 use Rattle.rail_spec.specs.Feasible.{IsInfeasible}
 use Rattle.rail_spec.specs.Track.{routes_of}
-use Rattle.rail_words.specs.Requests.{Asked, check, IsInRange}
+use Rattle.rail_words.specs.Requests.{RequestSeen, check, IsInRange}
 use Rattle.rail_words.proofs.Ranges.{requests_in_range}
 use Rattle.rail_cli.specs.declared.status.Status.{Status}
 use Rattle.rail_cli.specs.declared.status.Status.TheVariants.{Done, DesignRefused}
 use Rattle.rail_cli.specs.declared.input.InputFile.TheVariants as file
 use Rattle.rail_cli.specs.Statuses.{is_answered, is_verdict}
 use Rattle.rail_cli.specs.Texts.{too_large_line, yes_line}
-use Rattle.rail_cli.specs.Answers.{Answer, one_line, within_limit, with_routes, and_then, design_in, unless_too_large, with_clauses, told, checked_against, with_proof, unless_refused, checked, answer_to, answer_of}
+use Rattle.rail_cli.specs.Answers.{ReplySeen, one_line, within_limit, with_routes, and_then, design_in, unless_too_large, with_clauses, reply_for, checked_against, with_proof, unless_refused, check_reply, answer_to, answer_of}
 use Rattle.rail_cli.specs.Checks.{Checks, TellsInfeasible}
 use Rattle.rail_cli.specs.Prints.{Prints}
 use Rattle.rail_cli.specs.Replies.{reply_seen}
 use Rattle.rail_cli.specs.declared.reply.Reply.{Reply}
 use Rattle.plan_encoding.specs.Bases.{IsRefused}
-use Rattle.plan_encoding.specs.declared.draft.BaseFault.{BaseFault}
-use Rattle.plan_encoding.specs.declared.draft.BaseFault.TheVariants.{TooLarge, Memory}
+use Rattle.plan_encoding.specs.declared.sink.BaseFault.{BaseFault}
+use Rattle.plan_encoding.specs.declared.sink.BaseFault.TheVariants.{TooLarge, Memory}
 use Rattle.rail_base.specs.declared.route.Route.{Route}
 use Rattle.verify_loop.specs.declared.outcome.Outcome.{Outcome}
 use Rattle.verify_loop.specs.Outcomes.{first_clauses}
@@ -41,18 +41,18 @@ use Rattle.rail_cli.proofs.Refusing.{file_is}
 -- ---- what the file shows
 
 -- the file shows k
-record Told (v : Shown) : Type 0 where
+record RefusedWith (v : CheckResult) : Type 0 where
   steps : ℕ
   is : v ≡ Yes steps
 
-told_done : (v : Shown) → (told v).status ≡ Done → Told v
+told_done : (v : CheckResult) → (reply_for v).status ≡ Done → RefusedWith v
 told_done (Yes k) done = record { steps = k; is = refl }
 told_done (No line reason) done = absurd (cc)
 
 -- ---- the answer
 
 -- it is `yes steps <k>`, and no plan of k steps is feasible
-pub record Shows (n : ℕ) (d : Station) (a : Answer) : Type 0 where
+pub record Shows (n : ℕ) (d : Station) (a : ReplySeen) : Type 0 where
   pub steps : ℕ
   pub within : steps ≤ n
   pub answer : a ≡ one_line Done (yes_line steps)
@@ -62,9 +62,9 @@ judged_shows : (n : ℕ) (d : Station) (bytes : List ℕ) → IsAdmitted d → 1
 judged_shows n d bytes good some done =
     let t = told_done (judged d n bytes) done in
     let s = yes_infeasible d good n t.steps bytes some t.is in
-    record { steps = t.steps; within = s.0; answer = ap told t.is; none = s.1 }
+    record { steps = t.steps; within = s.0; answer = ap reply_for t.is; none = s.1 }
 
-pub checked_shows : (n : ℕ) (design_bytes proof_bytes : List ℕ) (d : Station) → 1 ≤ n → design_of design_bytes ≡ Ok d → (checked n design_bytes proof_bytes).status ≡ Done → Shows n d (checked n design_bytes proof_bytes)
+pub checked_shows : (n : ℕ) (design_bytes proof_bytes : List ℕ) (d : Station) → 1 ≤ n → design_of design_bytes ≡ Ok d → (check_reply n design_bytes proof_bytes).status ≡ Done → Shows n d (check_reply n design_bytes proof_bytes)
 checked_shows n design_bytes proof_bytes d some spells done =
     let one = passed (within_limit file.Design design_bytes) (λ text. unless_refused (design_in text) (λ e. with_proof n e proof_bytes)) (long_refuses file.Design design_bytes) (ap is_verdict done) in
     let two = passed (design_in one.read) (λ e. with_proof n e proof_bytes) (design_refuses (and_then (design_of one.read) with_routes)) one.verdict in
@@ -72,9 +72,9 @@ checked_shows n design_bytes proof_bytes d some spells done =
     let four = passed (within_limit file.Proof proof_bytes) (checked_against two.read n) (long_refuses file.Proof proof_bytes) three.verdict in
     let text : design_bytes ≡ one.read = file_is file.Design design_bytes one.read one.is in
     let same : d ≡ two.read = read-same one.read d two.read (ap design_of (sym text) ∙ spells) two.is in
-    let all : checked n design_bytes proof_bytes ≡ checked_against two.read n four.read = one.comes ∙ (two.comes ∙ (three.comes ∙ four.comes)) in
+    let all : check_reply n design_bytes proof_bytes ≡ checked_against two.read n four.read = one.comes ∙ (two.comes ∙ (three.comes ∙ four.comes)) in
     let good : IsAdmitted two.read = subst IsAdmitted same (spelled_admitted design_bytes d spells) in
-    let shows = judged_shows n two.read four.read good some (ap (λ (a : Answer). a.status) (sym all) ∙ done) in
+    let shows = judged_shows n two.read four.read good some (ap (λ (a : ReplySeen). a.status) (sym all) ∙ done) in
     record { steps = shows.steps; within = shows.within; answer = all ∙ shows.answer; none = subst (λ (e : Station). IsInfeasible e shows.steps) (sym same) shows.none }
 
 -- what is printed of it
@@ -82,14 +82,14 @@ pub tells_infeasible : (files : Files) (found : Outcome) (words : List (List ℕ
     → Prints (answer_of files found words) t text new_text pieces new_pieces → Checks files words n d → t ≡ Done → TellsInfeasible n d text new_text
 tells_infeasible files found words n d t text new_text pieces new_pieces prints c done =
     let answered : is_answered t ≡ true = rw done refl in
-    let so : answer_of files found words ≡ checked n (files c.design_name) (files c.proof_name) = ap (answer_to files found) c.asked in
+    let so : answer_of files found words ≡ check_reply n (files c.design_name) (files c.proof_name) = ap (answer_to files found) c.asked in
     let some : 1 ≤ n = (requests_in_range words (check n c.design_name c.proof_name) c.asked).0 in
-    let status : (checked n (files c.design_name) (files c.proof_name)).status ≡ Done = ap (λ (a : Answer). a.status) (sym so) ∙ (sym (prints.status answered) ∙ done) in
+    let status : (check_reply n (files c.design_name) (files c.proof_name)).status ≡ Done = ap (λ (a : ReplySeen). a.status) (sym so) ∙ (sym (prints.status answered) ∙ done) in
     let shows = checked_shows n (files c.design_name) (files c.proof_name) d some c.spells_design status in
     record {
       steps = shows.steps;
       within = shows.within;
-      text = prints.written answered ∙ (ap (λ (a : Answer). grown text (concat a.lines)) (so ∙ shows.answer) ∙ ap (grown text) (append-nil (yes_line shows.steps)));
+      text = prints.written answered ∙ (ap (λ (a : ReplySeen). grown text (concat a.lines)) (so ∙ shows.answer) ∙ ap (grown text) (append-nil (yes_line shows.steps)));
       none = shows.none;
     }
 
@@ -102,9 +102,9 @@ pub small_passes : (m : Method) (n : ℕ) (d : Station) → past_limit 16000000 
 small_passes m n d e = ap (unless_too_large d) e
 
 -- the front of clauses that fit fits
-front_fits : {X : Type 0} (limit sum : ℕ) (front more : List (List X)) → past_limit limit sum (front ++ more) ≡ None → past_limit limit sum front ≡ None
-front_fits limit sum [] more h = refl
-front_fits limit sum (c ∷ cs) more h = go (nat_lt limit (sum + length c)) (front_fits limit (sum + length c) cs more) h
+prefix_fits : {X : Type 0} (limit sum : ℕ) (prefix more : List (List X)) → past_limit limit sum (prefix ++ more) ≡ None → past_limit limit sum prefix ≡ None
+prefix_fits limit sum [] more h = refl
+prefix_fits limit sum (c ∷ cs) more h = go (nat_lt limit (sum + length c)) (prefix_fits limit (sum + length c) cs more) h
   where
     go : (past : Bool) → (past_limit limit (sum + length c) (cs ++ more) ≡ None → past_limit limit (sum + length c) cs ≡ None)
         → (if past then Some (sum + length c) else past_limit limit (sum + length c) (cs ++ more)) ≡ None
@@ -115,7 +115,7 @@ front_fits limit sum (c ∷ cs) more h = go (nat_lt limit (sum + length c)) (fro
 -- where the clauses of a search by any method fit, those of a check do
 base_fits : (m : Method) (n : ℕ) (d : Station) → past_limit 16000000 0 (first_clauses m d n) ≡ None → past_limit 16000000 0 (first_clauses Cones d n) ≡ None
 base_fits Cones n d h = h
-base_fits Bounds n d h = front_fits 16000000 0 (base_clauses d (routes_of d) n) _ h
+base_fits Bounds n d h = prefix_fits 16000000 0 (base_clauses d (routes_of d) n) _ h
 
 not_many : (d : Station) (many : Option ℕ) (e : Station) → unless_too_large d many ≡ Ok e → many ≡ None
 not_many d None e h = refl
@@ -130,11 +130,11 @@ refused_so n d routes Memory k table same e = absurd (cc)
 
 -- ---- what is told of the proof
 
-pub proof_shown : (n : ℕ) (d : Station) (proof_bytes text : List ℕ) (shown : Shown) (reply : Reply) → with_clauses Cones n d ≡ Ok d → within_limit file.Proof proof_bytes ≡ Ok text → shown ≡ judged d n text → reply_seen reply ≡ told shown → with_proof n d proof_bytes ≡ reply_seen reply
+pub proof_shown : (n : ℕ) (d : Station) (proof_bytes text : List ℕ) (shown : CheckResult) (reply : Reply) → with_clauses Cones n d ≡ Ok d → within_limit file.Proof proof_bytes ≡ Ok text → shown ≡ judged d n text → reply_seen reply ≡ reply_for shown → with_proof n d proof_bytes ≡ reply_seen reply
 proof_shown n d proof_bytes text shown reply clauses fits is seen =
     ap (λ q. unless_refused q (λ (same : Station). unless_refused (within_limit file.Proof proof_bytes) (checked_against d n))) clauses
-    ∙ (ap (λ q. unless_refused q (checked_against d n)) fits ∙ (ap told (sym is) ∙ sym seen))
+    ∙ (ap (λ q. unless_refused q (checked_against d n)) fits ∙ (ap reply_for (sym is) ∙ sym seen))
 
 -- the steps that are asked for
-pub asked_steps : (a : Asked) (n : ℕ) (design proof : List ℕ) → a ≡ check n design proof → IsInRange a → (1 ≤ n) × (n ≤ 256)
+pub asked_steps : (a : RequestSeen) (n : ℕ) (design proof : List ℕ) → a ≡ check n design proof → IsInRange a → (1 ≤ n) × (n ≤ 256)
 asked_steps a n design proof same range = subst IsInRange same range

@@ -3,7 +3,7 @@ use Rattle.std.proofs.Common.{◌≡◌, ◌⊎◌, ℕ, Bool, true, List, Optio
 use Rattle.plan_exclusion.specs.declared.method.Method.{Method}
 use Rattle.rail_base.specs.declared.station.Station.{Station}
 use Rattle.rail_outside.specs.Files.{Files}
-use Rattle.rail_words.specs.Requests.{Asked, simulate, routes, verify, check, trial}
+use Rattle.rail_words.specs.Requests.{RequestSeen, simulate, routes, verify, check, trial}
 use Rattle.verify_loop.specs.declared.outcome.Budgets.{Budgets}
 use Rattle.verify_loop.specs.declared.outcome.Outcome.{Outcome}
 use Rattle.verify_loop.specs.declared.outcome.Outcome.TheVariants as outcome
@@ -16,19 +16,19 @@ use Rattle.rail_cli.specs.declared.ending.Ending.{Ending}
 use Rattle.rail_cli.specs.declared.ending.Ending.TheVariants as ending
 use Rattle.rail_cli.specs.Statuses.{is_answered, is_refusal}
 use Rattle.rail_cli.specs.Texts.{limit_of}
-use Rattle.rail_cli.specs.Answers.{Answer, design_in, told_outcome}
+use Rattle.rail_cli.specs.Answers.{ReplySeen, design_in, reply_for_outcome}
 use Rattle.rail_cli.specs.Replies.{reply_seen, OnEnd, RefusesFile, StoresFile, KeepsLog}
 use Rattle.rail_cli.specs.Searches.{ShowsNone, HoldsProof, SearchLeaves, Leaves}
 
 -- ---- a search
 
-module _ (files : Files) (n : ℕ) (design proof : List ℕ) (held : Option Files) where
+module _ (files : Files) (n : ℕ) (design proof : List ℕ) (known_files : Option Files) where
   -- this is left with a status
   abbrev left : Status → Type 0
-  left s = SearchLeaves files n design proof s held
+  left s = SearchLeaves files n design proof s known_files
 
   -- after an answer there is a proof, or the files are as they were
-  answered_leaves : (s : Status) → is_answered s ≡ true → left s → HoldsProof files n design proof held ⊎ (held ≡ Some files)
+  answered_leaves : (s : Status) → is_answered s ≡ true → left s → HoldsProof files n design proof known_files ⊎ (known_files ≡ Some files)
   answered_leaves No answered h = inl h
   answered_leaves Done answered h = inr h
   answered_leaves Usage answered h = inr h
@@ -58,7 +58,7 @@ module _ (files : Files) (n : ℕ) (design proof : List ℕ) (held : Option File
   printed_leaves s TooLong answered same no_shelf h = subst left (sym (same refl)) h
 
   -- a refusal leaves the files as they were
-  refusal_leaves : (s : Status) → is_refusal s ≡ true → held ≡ Some files → left s
+  refusal_leaves : (s : Status) → is_refusal s ≡ true → known_files ≡ Some files → left s
   refusal_leaves DesignRefused refusal same = same
   refusal_leaves PlanRefused refusal same = same
   refusal_leaves TooLong refusal same = same
@@ -73,27 +73,27 @@ module _ (files : Files) (n : ℕ) (design proof : List ℕ) (held : Option File
   refusal_leaves SinkFault refusal same = absurd (cc)
 
   -- the work ended early, with the files as they were
-  pub early_leaves : (r : Result Reply Ending) (e : Ending) → r ≡ Err e → RefusesFile r → held ≡ Some files → OnEnd r left
+  pub early_leaves : (r : Result Reply Ending) (e : Ending) → r ≡ Err e → RefusesFile r → known_files ≡ Some files → OnEnd r left
   early_leaves r e is refuses same = subst (λ (x : Result Reply Ending). OnEnd x left) (sym is) (go e (subst (λ (x : Result Reply Ending). RefusesFile x) is refuses))
     where
       go : (e : Ending) → RefusesFile {X = Reply} (Err e) → OnEnd (Err e) left
-      go (ending.Told reply) refuses = refusal_leaves reply.status refuses same
+      go (ending.RefusedWith reply) refuses = refusal_leaves reply.status refuses same
       go ending.Memory refuses = inr same
       go ending.ShelfFault refuses = inr same
 
   -- what a search in the design that the file spells leaves
-  module _ (m : Method) (d : Station) (spelled : design_in (files design) ≡ Ok d) (b : Budgets) (room : b.log_bytes ≡ limit_of file.Proof) where
+  module _ (m : Method) (d : Station) (parsed : design_in (files design) ≡ Ok d) (b : Budgets) (room : b.log_bytes ≡ limit_of file.Proof) where
     -- the log of a search shows that there is no plan
     log_shows : (log : Vec ℕ Global) → Says m d n b (outcome.Infeasible log) → ShowsNone d n log.items
     log_shows log says = record { short = rw (← room) says.2; shows = says.1.accepted }
 
     -- it was not stored
-    unstored_leaves : (e : Ending) (log : List ℕ) → ShowsNone d n log → StoresFile {X = Unit {0}} (Err e) files proof log held → OnEnd (Err e) left
-    unstored_leaves (ending.Told reply) log shows h = absurd h
+    unstored_leaves : (e : Ending) (log : List ℕ) → ShowsNone d n log → StoresFile {X = Unit {0}} (Err e) files proof log known_files → OnEnd (Err e) left
+    unstored_leaves (ending.RefusedWith reply) log shows h = absurd h
     unstored_leaves ending.Memory log shows h = inr h
-    unstored_leaves ending.ShelfFault log shows h = inl (d, spelled, record { log = log; proves = shows; some = h.0; holds = h.1 })
+    unstored_leaves ending.ShelfFault log shows h = inl (d, parsed, record { log = log; proves = shows; some = h.0; holds = h.1 })
 
-    unkept_leaves : (e : Ending) (found : Outcome) → Says m d n b found → KeepsLog {X = Unit {0}} (Err e) files proof found held → OnEnd (Err e) left
+    unkept_leaves : (e : Ending) (found : Outcome) → Says m d n b found → KeepsLog {X = Unit {0}} (Err e) files proof found known_files → OnEnd (Err e) left
     unkept_leaves e (outcome.Infeasible log) says h = unstored_leaves e log.items (log_shows log says) h
     unkept_leaves e (outcome.Plan plan verdict) says h = absurd (let no = h.0 in cc)
     unkept_leaves e (outcome.ConflictsSpent log clause hints) says h = absurd (let no = h.0 in cc)
@@ -102,12 +102,12 @@ module _ (files : Files) (n : ℕ) (design proof : List ℕ) (held : Option File
     unkept_leaves e (outcome.TooLarge literals) says h = absurd (let no = h.0 in cc)
     unkept_leaves e outcome.Memory says h = absurd (let no = h.0 in cc)
 
-    pub failed_leaves : (r : Result Reply Ending) (e : Ending) (found : Outcome) → r ≡ Err e → Says m d n b found → KeepsLog {X = Unit {0}} (Err e) files proof found held → OnEnd r left
+    pub failed_leaves : (r : Result Reply Ending) (e : Ending) (found : Outcome) → r ≡ Err e → Says m d n b found → KeepsLog {X = Unit {0}} (Err e) files proof found known_files → OnEnd r left
     failed_leaves r e found is says h = subst (λ (x : Result Reply Ending). OnEnd x left) (sym is) (unkept_leaves e found says h)
 
     -- what the search ended with is told, and a log that shows that there is no plan is stored
-    told_leaves : (found : Outcome) → Says m d n b found → KeepsLog {X = Unit {0}} (Ok tt) files proof found held → is_answered (told_outcome d n b.conflicts b.ticks found).status ≡ true → left (told_outcome d n b.conflicts b.ticks found).status
-    told_leaves (outcome.Infeasible log) says kept answered = (d, spelled, record { log = log.items; proves = log_shows log says; holds = kept })
+    told_leaves : (found : Outcome) → Says m d n b found → KeepsLog {X = Unit {0}} (Ok tt) files proof found known_files → is_answered (reply_for_outcome d n b.conflicts b.ticks found).status ≡ true → left (reply_for_outcome d n b.conflicts b.ticks found).status
+    told_leaves (outcome.Infeasible log) says kept answered = (d, parsed, record { log = log.items; proves = log_shows log says; holds = kept })
     told_leaves (outcome.Plan plan verdict) says kept answered = kept.1
     told_leaves (outcome.ConflictsSpent log clause hints) says kept answered = kept.1
     told_leaves (outcome.TicksSpent failed sum at_hand) says kept answered = kept.1
@@ -115,9 +115,9 @@ module _ (files : Files) (n : ℕ) (design proof : List ℕ) (held : Option File
     told_leaves (outcome.TooLarge literals) says kept answered = kept.1
     told_leaves outcome.Memory says kept answered = absurd (cc)
 
-    pub settled_leaves : (found : Outcome) (reply : Reply) → Says m d n b found → KeepsLog {X = Unit {0}} (Ok tt) files proof found held → reply_seen reply ≡ told_outcome d n b.conflicts b.ticks found → left reply.status
+    pub settled_leaves : (found : Outcome) (reply : Reply) → Says m d n b found → KeepsLog {X = Unit {0}} (Ok tt) files proof found known_files → reply_seen reply ≡ reply_for_outcome d n b.conflicts b.ticks found → left reply.status
     settled_leaves found reply says kept seen =
-        let status : reply.status ≡ (told_outcome d n b.conflicts b.ticks found).status = ap (λ (a : Answer). a.status) seen in
+        let status : reply.status ≡ (reply_for_outcome d n b.conflicts b.ticks found).status = ap (λ (a : ReplySeen). a.status) seen in
         subst left (sym status) (told_leaves found says kept (ap is_answered (sym status) ∙ reply.answered))
 
 -- ---- a request
@@ -125,20 +125,20 @@ module _ (files : Files) (n : ℕ) (design proof : List ℕ) (held : Option File
 -- the fact holds of every status
 every_status : (r : Result Reply Ending) (fact : Status → Type 0) → ((s : Status) → fact s) → OnEnd r fact
 every_status (Ok reply) fact h = h reply.status
-every_status (Err (ending.Told reply)) fact h = h reply.status
+every_status (Err (ending.RefusedWith reply)) fact h = h reply.status
 every_status (Err ending.Memory) fact h = h Memory
 every_status (Err ending.ShelfFault) fact h = h ShelfFault
 
 -- the facts hold of one status
 one_status : (r : Result Reply Ending) (old : Option Files) (fact : Files → Status → Type 0) → ((files : Files) → old ≡ Some files → OnEnd r (fact files)) → OnEnd r (λ s. (files : Files) → old ≡ Some files → fact files s)
 one_status (Ok reply) old fact h = h
-one_status (Err (ending.Told reply)) old fact h = h
+one_status (Err (ending.RefusedWith reply)) old fact h = h
 one_status (Err ending.Memory) old fact h = h
 one_status (Err ending.ShelfFault) old fact h = h
 
-module _ (r : Result Reply Ending) (old new : Option Files) (asked : Asked) where
+module _ (r : Result Reply Ending) (old new : Option Files) (asked : RequestSeen) where
   -- what is left after this request
-  abbrev leaves : Asked → Type 0
+  abbrev leaves : RequestSeen → Type 0
   leaves a = OnEnd r (λ s. Leaves (Some a) s old new)
 
   pub simulate_leaves : (design plan : List ℕ) → asked ≡ simulate design plan → new ≡ old → leaves asked
@@ -159,24 +159,24 @@ module _ (r : Result Reply Ending) (old new : Option Files) (asked : Asked) wher
 -- ---- a run
 
 -- what is asked for
-pub asked_leaves : (r : Result Reply Ending) (old new : Option Files) (a b : Option Asked) → a ≡ b → OnEnd r (λ s. Leaves b s old new) → OnEnd r (λ s. Leaves a s old new)
-asked_leaves r old new a b is h = subst (λ (x : Option Asked). OnEnd r (λ s. Leaves x s old new)) (sym is) h
+pub asked_leaves : (r : Result Reply Ending) (old new : Option Files) (a b : Option RequestSeen) → a ≡ b → OnEnd r (λ s. Leaves b s old new) → OnEnd r (λ s. Leaves a s old new)
+asked_leaves r old new a b is h = subst (λ (x : Option RequestSeen). OnEnd r (λ s. Leaves x s old new)) (sym is) h
 
 -- nothing is asked for
-pub none_leaves : (r : Result Reply Ending) (old new : Option Files) (asked : Option Asked) → asked ≡ None → new ≡ old → OnEnd r (λ s. Leaves asked s old new)
-none_leaves r old new asked is same = subst (λ (a : Option Asked). OnEnd r (λ s. Leaves a s old new)) (sym is) (every_status r (λ s. new ≡ old) (λ s. same))
+pub none_leaves : (r : Result Reply Ending) (old new : Option Files) (asked : Option RequestSeen) → asked ≡ None → new ≡ old → OnEnd r (λ s. Leaves asked s old new)
+none_leaves r old new asked is same = subst (λ (a : Option RequestSeen). OnEnd r (λ s. Leaves a s old new)) (sym is) (every_status r (λ s. new ≡ old) (λ s. same))
 
 -- the status of a reply that was made
-pub told_status : (e : Ending) (reply : Reply) (fact : Status → Type 0) → e ≡ ending.Told reply → OnEnd (Err e) fact → fact reply.status
-told_status (ending.Told r) reply fact same h = (let this : r ≡ reply = cc in subst (λ (x : Reply). fact x.status) this h)
+pub told_status : (e : Ending) (reply : Reply) (fact : Status → Type 0) → e ≡ ending.RefusedWith reply → OnEnd (Err e) fact → fact reply.status
+told_status (ending.RefusedWith r) reply fact same h = (let this : r ≡ reply = cc in subst (λ (x : Reply). fact x.status) this h)
 told_status ending.Memory reply fact same h = absurd (cc)
 told_status ending.ShelfFault reply fact same h = absurd (cc)
 
 -- a reply was printed
-pub run_leaves : (asked : Option Asked) (s t : Status) (old new : Option Files) → is_answered s ≡ true → (is_answered t ≡ true → t ≡ s) → (t ≡ ShelfFault → ⊥) → Leaves asked s old new → Leaves asked t old new
+pub run_leaves : (asked : Option RequestSeen) (s t : Status) (old new : Option Files) → is_answered s ≡ true → (is_answered t ≡ true → t ≡ s) → (t ≡ ShelfFault → ⊥) → Leaves asked s old new → Leaves asked t old new
 run_leaves None s t old new answered same no_shelf h = h
 run_leaves (Some (simulate design plan)) s t old new answered same no_shelf h = h
 run_leaves (Some (routes design)) s t old new answered same no_shelf h = h
 run_leaves (Some (check n design proof)) s t old new answered same no_shelf h = h
 run_leaves (Some (trial seed size)) s t old new answered same no_shelf h = h
-run_leaves (Some (verify n conflicts ticks bounds design proof)) s t old new answered same no_shelf h = λ files told. printed_leaves files n design proof new s t answered same no_shelf (h files told)
+run_leaves (Some (verify n conflicts ticks bounds design proof)) s t old new answered same no_shelf h = λ files reply_for. printed_leaves files n design proof new s t answered same no_shelf (h files reply_for)

@@ -7,43 +7,43 @@ use Rattle.design_table.specs.declared.place.Place.TheVariants.{Routes}
 use Rattle.design_table.specs.Reads.{at, unless_at}
 use Rattle.infra_reader.specs.Design.{design_of}
 use Rattle.rail_base.specs.declared.station.Station.{Station}
-use Rattle.rail_spec.specs.Track.{all_closings, edges_met_again}
+use Rattle.rail_spec.specs.Track.{all_walks, edges_met_again}
 use Rattle.rail_cli.specs.declared.status.Status.{Status}
 use Rattle.rail_cli.specs.declared.status.Status.TheVariants.{DesignRefused, TooLong}
 use Rattle.rail_cli.specs.declared.input.InputFile.{InputFile}
 use Rattle.rail_cli.specs.Statuses.{is_verdict}
 use Rattle.rail_cli.specs.Texts.{limit_of, too_long_line, design_refused_line, too_large_line}
-use Rattle.rail_cli.specs.Answers.{Answer, one_line, within_limit, with_routes, design_or_answer, and_then, design_in, edge_place, unless_too_large, unless_refused}
+use Rattle.rail_cli.specs.Answers.{ReplySeen, one_line, within_limit, with_routes, design_or_answer, and_then, design_in, edge_place, unless_too_large, unless_refused}
 
 -- ---- what refuses ends with no verdict
 
 -- what was read, and what comes of it
-pub record Passed {X : Type 0} (r : Result X Answer) (next : X → Answer) : Type 0 where
+pub record Passed {X : Type 0} (r : Result X ReplySeen) (next : X → ReplySeen) : Type 0 where
   pub read : X
   pub is : r ≡ Ok read
   pub comes : unless_refused r next ≡ next read
   pub verdict : is_verdict (next read).status ≡ true
 
-pub passed : {X : Type 0} (r : Result X Answer) (next : X → Answer) → ((a : Answer) → r ≡ Err a → is_verdict a.status ≡ true → ⊥) → is_verdict (unless_refused r next).status ≡ true → Passed r next
+pub passed : {X : Type 0} (r : Result X ReplySeen) (next : X → ReplySeen) → ((a : ReplySeen) → r ≡ Err a → is_verdict a.status ≡ true → ⊥) → is_verdict (unless_refused r next).status ≡ true → Passed r next
 passed (Ok x) next never verdict = record { read = x; is = refl; comes = refl; verdict = verdict }
 passed (Err a) next never verdict = absurd (never a refl verdict)
 
 -- an answer of one line ends with its status
-refused : {X : Type 0} (r : Result X Answer) (s : Status) (line : List ℕ) (a : Answer) → r ≡ Err (one_line s line) → r ≡ Err a → is_verdict s ≡ false → is_verdict a.status ≡ true → ⊥
-refused r s line a one other none verdict = let same : one_line s line ≡ a = cc in let kind : is_verdict s ≡ true = ap (λ (b : Answer). is_verdict b.status) same ∙ verdict in cc
+refused : {X : Type 0} (r : Result X ReplySeen) (s : Status) (line : List ℕ) (a : ReplySeen) → r ≡ Err (one_line s line) → r ≡ Err a → is_verdict s ≡ false → is_verdict a.status ≡ true → ⊥
+refused r s line a one other none verdict = let same : one_line s line ≡ a = cc in let kind : is_verdict s ≡ true = ap (λ (b : ReplySeen). is_verdict b.status) same ∙ verdict in cc
 
-pub long_refuses : (f : InputFile) (bytes : List ℕ) (a : Answer) → within_limit f bytes ≡ Err a → is_verdict a.status ≡ true → ⊥
+pub long_refuses : (f : InputFile) (bytes : List ℕ) (a : ReplySeen) → within_limit f bytes ≡ Err a → is_verdict a.status ≡ true → ⊥
 long_refuses f bytes a = go (nat_lt (limit_of f) (length bytes)) a
   where
-    go : (long : Bool) (a : Answer) → (if long then Err (one_line TooLong (too_long_line f)) else Ok bytes) ≡ Err a → is_verdict a.status ≡ true → ⊥
+    go : (long : Bool) (a : ReplySeen) → (if long then Err (one_line TooLong (too_long_line f)) else Ok bytes) ≡ Err a → is_verdict a.status ≡ true → ⊥
     go true a e verdict = refused _ TooLong (too_long_line f) a refl e refl verdict
     go false a e verdict = absurd (cc)
 
-pub design_refuses : (r : Result Station (Code × Place)) (a : Answer) → design_or_answer r ≡ Err a → is_verdict a.status ≡ true → ⊥
+pub design_refuses : (r : Result Station (Code × Place)) (a : ReplySeen) → design_or_answer r ≡ Err a → is_verdict a.status ≡ true → ⊥
 design_refuses (Ok d) a e verdict = absurd (cc)
 design_refuses (Err x) a e verdict = refused (design_or_answer (Err x)) DesignRefused (design_refused_line x.0 x.1) a refl e refl verdict
 
-pub clauses_refuse : (d : Station) (many : Option ℕ) (a : Answer) → unless_too_large d many ≡ Err a → is_verdict a.status ≡ true → ⊥
+pub clauses_refuse : (d : Station) (many : Option ℕ) (a : ReplySeen) → unless_too_large d many ≡ Err a → is_verdict a.status ≡ true → ⊥
 clauses_refuse d None a e verdict = absurd (cc)
 clauses_refuse d (Some k) a e verdict = refused (unless_too_large d (Some k)) DesignRefused too_large_line a refl e refl verdict
 
@@ -55,19 +55,19 @@ not_refused code (p ∷ ps) next e h = absurd (cc)
 
 with_routes-same : (d e : Station) → with_routes d ≡ Ok e → d ≡ e
 with_routes-same d e h =
-    let few : Result Station (Code × Place) = unless_at D13 (at (nat_le 2001 (length (all_closings d))) Routes) (Ok d) in
-    let same = not_refused D13 (at (nat_le 2001 (length (all_closings d))) Routes) (Ok d) e (not_refused D12 (map edge_place (edges_met_again d)) few e h) in
+    let few : Result Station (Code × Place) = unless_at D13 (at (nat_le 2001 (length (all_walks d))) Routes) (Ok d) in
+    let same = not_refused D13 (at (nat_le 2001 (length (all_walks d))) Routes) (Ok d) e (not_refused D12 (map edge_place (edges_met_again d)) few e h) in
     cc
 
 admitted-same : (r : Result Station (Code × Place)) (e : Station) → design_or_answer r ≡ Ok e → r ≡ Ok e
 admitted-same (Ok d) e h = let same : d ≡ e = cc in ap Ok same
 admitted-same (Err x) e h = absurd (cc)
 
-pub listed-same : (d e : Station) → design_or_answer (with_routes d) ≡ Ok e → d ≡ e
-listed-same d e h = with_routes-same d e (admitted-same (with_routes d) e h)
+pub routes_answer-same : (d e : Station) → design_or_answer (with_routes d) ≡ Ok e → d ≡ e
+routes_answer-same d e h = with_routes-same d e (admitted-same (with_routes d) e h)
 
 pub read-same : (bytes : List ℕ) (d e : Station) → design_of bytes ≡ Ok d → design_in bytes ≡ Ok e → d ≡ e
-read-same bytes d e spells read = listed-same d e (ap (λ r. design_or_answer (and_then r with_routes)) (sym spells) ∙ read)
+read-same bytes d e spells read = routes_answer-same d e (ap (λ r. design_or_answer (and_then r with_routes)) (sym spells) ∙ read)
 
 pub clauses-same : (d : Station) (many : Option ℕ) (e : Station) → unless_too_large d many ≡ Ok e → d ≡ e
 clauses-same d None e h = cc

@@ -14,12 +14,12 @@ use Rattle.rail_base.specs.Numbering.{first_of_list}
 use Rattle.rail_routes.specs.declared.fault.RouteFault.{RouteFault}
 use Rattle.rail_routes.specs.declared.fault.RouteFault.TheVariants as fault
 use Rattle.rail_routes.specs.Refusals.{HasFault}
-use Rattle.rail_spec.specs.Track.{all_closings, edges_met_again}
+use Rattle.rail_spec.specs.Track.{all_walks, edges_met_again}
 use Rattle.rail_cli.specs.declared.reply.Reply.{Reply}
 use Rattle.rail_cli.specs.declared.input.InputFile.{InputFile}
 use Rattle.rail_cli.specs.Texts.{limit_of}
-use Rattle.rail_cli.specs.Answers.{Answer, within_limit, with_routes, edge_place, design_or_answer, and_then, design_in}
-use Rattle.rail_cli.specs.Replies.{reply_seen, ended, Reads}
+use Rattle.rail_cli.specs.Answers.{ReplySeen, within_limit, with_routes, edge_place, design_or_answer, and_then, design_in}
+use Rattle.rail_cli.specs.Replies.{reply_seen, ending_of, Reads}
 
 -- ---- routes
 
@@ -31,19 +31,19 @@ met_again d e (x ∷ xs) next h = let same : x ≡ e = cc in ap (λ y. Err (D12,
 pub again_refused : (d : Station) (e : EdgeNo) → first_of_list (edges_met_again d) ≡ Some e → with_routes d ≡ Err (D12, edge_place e)
 again_refused d e h = met_again d e (edges_met_again d) _ h
 
-pub found_again : (d : Station) (x : RouteFault) (e : EdgeNo) → x ≡ fault.Again e → HasFault d x → first_of_list (edges_met_again d) ≡ Some e
-found_again d (fault.Again f) e same h = let this : f ≡ e = cc in h ∙ ap (λ (y : EdgeNo). Some y) this
+pub found_again : (d : Station) (x : RouteFault) (e : EdgeNo) → x ≡ fault.RepeatsEdge e → HasFault d x → first_of_list (edges_met_again d) ≡ Some e
+found_again d (fault.RepeatsEdge f) e same h = let this : f ≡ e = cc in h ∙ ap (λ (y : EdgeNo). Some y) this
 found_again d fault.TooMany e same h = absurd (cc)
 found_again d fault.Memory e same h = absurd (cc)
 
-listed : (d : Station) (es : List EdgeNo) (many : Bool) → es ≡ [] → many ≡ false → unless_at D12 (map edge_place es) (unless_at D13 (at many Routes) (Ok d)) ≡ Ok d
-listed d [] false e f = refl
-listed d [] true e f = absurd (cc)
-listed d (x ∷ xs) many e f = absurd (cc)
+routes_answer : (d : Station) (es : List EdgeNo) (many : Bool) → es ≡ [] → many ≡ false → unless_at D12 (map edge_place es) (unless_at D13 (at many Routes) (Ok d)) ≡ Ok d
+routes_answer d [] false e f = refl
+routes_answer d [] true e f = absurd (cc)
+routes_answer d (x ∷ xs) many e f = absurd (cc)
 
 -- no path does, and few close
-pub routes_listed : (d : Station) → edges_met_again d ≡ [] → length (all_closings d) ≤ 2000 → with_routes d ≡ Ok d
-routes_listed d once few = listed d (edges_met_again d) (nat_le 2001 (length (all_closings d))) once (lt-leb 2001 (length (all_closings d)) (omega arith))
+pub routes_listed : (d : Station) → edges_met_again d ≡ [] → length (all_walks d) ≤ 2000 → with_routes d ≡ Ok d
+routes_listed d once few = routes_answer d (edges_met_again d) (nat_le 2001 (length (all_walks d))) once (lt-leb 2001 (length (all_walks d)) (omega arith))
 
 -- ---- a design and its routes
 
@@ -55,7 +55,7 @@ design_read bytes d reads routes = ap (λ r. design_or_answer (and_then r with_r
 pub file_fits : (f : InputFile) (bytes : List ℕ) → length bytes ≤ limit_of f → within_limit f bytes ≡ Ok bytes
 file_fits f bytes le = rw (le-ltb (limit_of f) (length bytes) le) refl
 
-fitting : (f : InputFile) (long : Bool) (bytes text : List ℕ) (a : Answer) → (if long then Err a else Ok bytes) ≡ Ok text → bytes ≡ text
+fitting : (f : InputFile) (long : Bool) (bytes text : List ℕ) (a : ReplySeen) → (if long then Err a else Ok bytes) ≡ Ok text → bytes ≡ text
 fitting f true bytes text a e = absurd (cc)
 fitting f false bytes text a e = cc
 
@@ -65,6 +65,6 @@ file_is f bytes text e = fitting f (nat_lt (limit_of f) (length bytes)) bytes te
 -- ---- endings
 
 -- the ending with the answer that a reading gives
-pub ended_reads : {X Y : Type 0} (view : X → Y) (r : Result Reply AllocError) (answer : Answer) (reading : Result Y Answer) → IfOk r (λ reply. reply_seen reply ≡ answer) → reading ≡ Err answer → Reads view (Err (ended r)) reading
+pub ended_reads : {X Y : Type 0} (view : X → Y) (r : Result Reply AllocError) (answer : ReplySeen) (reading : Result Y ReplySeen) → IfOk r (λ reply. reply_seen reply ≡ answer) → reading ≡ Err answer → Reads view (Err (ending_of r)) reading
 ended_reads view (Ok reply) answer reading seen e = e ∙ ap (λ a. Err a) (sym seen)
 ended_reads view (Err x) answer reading seen e = tt

@@ -26,7 +26,7 @@ use Rattle.rail_cli.specs.declared.status.Status.{Status}
 use Rattle.rail_cli.specs.declared.status.Status.TheVariants as statuses
 use Rattle.rail_cli.specs.Statuses.{is_verdict, is_refusal, is_answered}
 use Rattle.rail_cli.specs.Answers.{verdict_status, shown}
-use Rattle.rail_cli.specs.Shows.{shown_by}
+use Rattle.rail_cli.specs.Shows.{verdict_at_horizon}
 use Rattle.rail_cli.specs.Simulations.{BeginsWith, RunsSafely}
 
 -- ---- the status of a verdict
@@ -60,15 +60,15 @@ done_told d routes plan None (Some v) = ((λ e. absurd (cc)), (λ e. absurd (cc)
 done_told d routes plan None None = ((λ e. refl), (λ e. refl))
 
 -- by the horizon all is decided
-told_by_horizon : (d : Station) (plan : List (List Command)) → IsAdmitted d → shown_by d plan ≡ decided d (routes_of d) plan (path_violation d (routes_of d) plan) (violation_at d (routes_of d) plan (cost d (routes_of d) plan))
+told_by_horizon : (d : Station) (plan : List (List Command)) → IsAdmitted d → verdict_at_horizon d plan ≡ decided d (routes_of d) plan (path_violation d (routes_of d) plan) (violation_at d (routes_of d) plan (cost d (routes_of d) plan))
 told_by_horizon d plan admitted = rw (le-ltb (horizon d) (cost d (routes_of d) plan) (verdict d (routes_of d) plan admitted).last) refl
 
-pub done_exactly : (d : Station) (n : ℕ) (plan : List (List Command)) → IsAdmitted d → IsRunnable d (routes_of d) n plan → (verdict_status (shown_by d plan) ≡ statuses.Done) ↔ IsFeasible d n plan
+pub done_exactly : (d : Station) (n : ℕ) (plan : List (List Command)) → IsAdmitted d → IsRunnable d (routes_of d) n plan → (verdict_status (verdict_at_horizon d plan) ≡ statuses.Done) ↔ IsFeasible d n plan
 done_exactly d n plan admitted runnable =
     let exact : (meets d (routes_of d) plan ≡ true) ↔ (failure d (routes_of d) plan ≡ None) = met_exactly d (routes_of d) plan admitted in
-    let told = done_told d (routes_of d) plan (path_violation d (routes_of d) plan) (violation_at d (routes_of d) plan (cost d (routes_of d) plan)) in
+    let reply_for = done_told d (routes_of d) plan (path_violation d (routes_of d) plan) (violation_at d (routes_of d) plan (cost d (routes_of d) plan)) in
     let same = ap verdict_status (told_by_horizon d plan admitted) in
-    ((λ e. record { runnable = runnable; met = exact.1 (told.0 (sym same ∙ e)) }), (λ f. same ∙ told.1 (exact.0 f.met)))
+    ((λ e. record { runnable = runnable; met = exact.1 (reply_for.0 (sym same ∙ e)) }), (λ f. same ∙ reply_for.1 (exact.0 f.met)))
 
 -- ---- its run
 
@@ -90,7 +90,7 @@ first_line d routes plan false (Some v) run e = absurd (cc)
 first_line d routes plan false None (Some v) e = absurd (cc)
 first_line d routes plan false None None e = (_, refl)
 
-pub met_first : (d : Station) (plan : List (List Command)) → verdict_status (shown_by d plan) ≡ statuses.Done → (more : List (List ℕ)) × (timetable_of d (shown_by d plan) ≡ met_line (cost d (routes_of d) plan) ∷ more)
+pub met_first : (d : Station) (plan : List (List Command)) → verdict_status (verdict_at_horizon d plan) ≡ statuses.Done → (more : List (List ℕ)) × (timetable_of d (verdict_at_horizon d plan) ≡ met_line (cost d (routes_of d) plan) ∷ more)
 met_first d plan e = first_line d (routes_of d) plan (nat_lt (horizon d) (cost d (routes_of d) plan)) (path_violation d (routes_of d) plan) (violation_at d (routes_of d) plan (cost d (routes_of d) plan)) e
 
 -- ---- the front of its text

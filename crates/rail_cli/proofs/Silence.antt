@@ -1,27 +1,27 @@
 -- Runs that end before anything is printed.
 use Rattle.std.proofs.Common.{ℕ, List, [], Option, refl}
 use Rattle.rail_cli.specs.declared.status.Status.TheVariants.{Memory, ShelfFault}
-use Rattle.rail_cli.specs.Answers.{Answer}
+use Rattle.rail_cli.specs.Answers.{ReplySeen}
 use Rattle.rail_cli.specs.Prints.{Prints}
 use Rattle.rail_cli.proofs.Asking.{grown-nothing, none_of}
 
-pub silent_for_memory : (answer : Answer) (text : Option (List ℕ)) (pieces : Option (List (List ℕ))) → Prints answer Memory text text pieces pieces
+pub silent_for_memory : (answer : ReplySeen) (text : Option (List ℕ)) (pieces : Option (List (List ℕ))) → Prints answer Memory text text pieces pieces
 silent_for_memory answer text pieces = record {
   status = λ e. absurd (cc);
   written = λ e. absurd (cc);
   put = λ e. absurd (cc);
-  put_front = none_of pieces answer.lines;
+  put_prefix = none_of pieces answer.lines;
   memory = λ e. ([], (answer.lines, refl), grown-nothing text);
   sink_fault = λ e. absurd (cc);
   shelf_fault = λ e. absurd (cc);
 }
 
-pub silent_at_shelf : (answer : Answer) (text : Option (List ℕ)) (pieces : Option (List (List ℕ))) → Prints answer ShelfFault text text pieces pieces
+pub silent_at_shelf : (answer : ReplySeen) (text : Option (List ℕ)) (pieces : Option (List (List ℕ))) → Prints answer ShelfFault text text pieces pieces
 silent_at_shelf answer text pieces = record {
   status = λ e. absurd (cc);
   written = λ e. absurd (cc);
   put = λ e. absurd (cc);
-  put_front = none_of pieces answer.lines;
+  put_prefix = none_of pieces answer.lines;
   memory = λ e. absurd (cc);
   sink_fault = λ e. absurd (cc);
   shelf_fault = λ e. (refl, refl);

@@ -7,7 +7,7 @@ use Rattle.rail_outside.specs.Files.{Files, updated}
 use Rattle.rail_words.specs.Laws.{is_plain}
 use Rattle.rail_words.specs.Requests.{check, verify, request_of, steps_of, conflicts_of, ticks_of}
 use Rattle.rail_words.proofs.Taken.{verify_read, bounds_read, check_read}
-use Rattle.rail_cli.specs.Answers.{checked, answer_to}
+use Rattle.rail_cli.specs.Answers.{check_reply, answer_to}
 use Rattle.rail_cli.specs.Passes.{StoredProofsPass, VerifyPassesCheck, verify_words}
 use Rattle.rail_cli.specs.Searches.{Searches}
 
@@ -22,11 +22,11 @@ stored_apart files name bytes other differ = rw (false_from_ne_true (bytes_eq na
 pub passes_asked : StoredProofsPass
 passes_asked files left design proof n d old new tells differ found words asked =
     let log = tells.stored in
-    let held : Some left ≡ Some (updated files proof log.log) = log.holds in
+    let known_files : Some left ≡ Some (updated files proof log.log) = log.holds in
     let now : left ≡ updated files proof log.log = cc in
     ap (answer_to left found) asked
-    ∙ (ap (λ (bytes : List ℕ). checked n bytes (left proof)) (ap (λ (f : Files). f design) now ∙ stored_apart files proof log.log design differ)
-    ∙ (ap (checked n (files design)) (ap (λ (f : Files). f proof) now ∙ stored_there files proof log.log) ∙ tells.passes))
+    ∙ (ap (λ (bytes : List ℕ). check_reply n bytes (left proof)) (ap (λ (f : Files). f design) now ∙ stored_apart files proof log.log design differ)
+    ∙ (ap (check_reply n (files design)) (ap (λ (f : Files). f proof) now ∙ stored_there files proof log.log) ∙ tells.passes))
 
 -- the words of `verify`, without the flag or with it, ask for just what they say
 verify_asked : (bounds : Bool) (program steps conflicts ticks design proof : List ℕ) (n c t : ℕ) → steps_of steps ≡ Some n → conflicts_of conflicts ≡ Some c → ticks_of ticks ≡ Some t

@@ -3,8 +3,8 @@ use Rattle.std.proofs.Common.{◌≡◌, ◌≤◌, ◌⊎◌, ◌+◌, ◌*◌,
 use Rattle.std.proofs.lemmas.Bool.{le-ltb}
 use Rattle.std.proofs.lemmas.List.Sums.{sum_by-cons}
 use Rattle.infra_reader.specs.Design.{design_of}
-use Rattle.log_checker.specs.declared.shown.Shown.{Shown}
-use Rattle.log_checker.specs.declared.shown.Shown.TheVariants.{Yes, No}
+use Rattle.log_checker.specs.declared.check_result.CheckResult.{CheckResult}
+use Rattle.log_checker.specs.declared.check_result.CheckResult.TheVariants.{Yes, No}
 use Rattle.plan_clauses.specs.Clauses.{literals, past_limit}
 use Rattle.plan_exclusion.specs.declared.method.Method.{Method}
 use Rattle.plan_exclusion.specs.declared.method.Method.TheVariants.{Cones}
@@ -13,7 +13,7 @@ use Rattle.rail_base.specs.declared.history.Verdict.{Verdict}
 use Rattle.rail_base.specs.declared.history.Verdict.TheVariants as verdict
 use Rattle.rail_base.specs.declared.station.Station.{Station}
 use Rattle.rail_outside.specs.Files.{Files}
-use Rattle.rail_words.specs.Requests.{Asked, simulate, routes, verify, check, trial, request_of}
+use Rattle.rail_words.specs.Requests.{RequestSeen, simulate, routes, verify, check, trial, request_of}
 use Rattle.verify_loop.specs.declared.outcome.Budgets.{Budgets}
 use Rattle.verify_loop.specs.declared.outcome.Outcome.{Outcome}
 use Rattle.verify_loop.specs.declared.outcome.Outcome.TheVariants as outcome
@@ -24,11 +24,11 @@ use Rattle.rail_cli.specs.declared.status.Status.TheVariants as statuses
 use Rattle.rail_cli.specs.declared.input.InputFile.TheVariants as file
 use Rattle.rail_cli.specs.Statuses.{is_answered}
 use Rattle.rail_cli.specs.Texts.{limit_of}
-use Rattle.rail_cli.specs.Answers.{Answer, within_limit, with_routes, design_or_answer, design_in, plan_or_answer, plan_in, shown, verdict_status, simulated, listed, routes_listed, with_clauses, told, checked_against, with_proof, checked, told_outcome, method_of, searched, trial_conflicts, trial_ticks, told_trial, tried_in, tried, unless_refused, answer_to, answer_of}
-use Rattle.rail_cli.specs.Shows.{shown_by}
+use Rattle.rail_cli.specs.Answers.{ReplySeen, within_limit, with_routes, design_or_answer, design_in, plan_or_answer, plan_in, shown, verdict_status, simulation_reply, routes_answer, routes_listed, with_clauses, reply_for, checked_against, with_proof, check_reply, reply_for_outcome, method_of, search_reply, trial_conflicts, trial_ticks, reply_for_trial, tried_in, tried, unless_refused, answer_to, answer_of}
+use Rattle.rail_cli.specs.Shows.{verdict_at_horizon}
 use Rattle.rail_cli.specs.Searches.{budgets_of, Finds}
 use Rattle.rail_cli.specs.Prints.{Prints}
-use Rattle.rail_cli.specs.Verdicts.{HasRoutes, HasFewClauses, SpellsDesign, SpellsPlan, IsUnrefused, IsVerdict, SpendsBudget, ComesTo}
+use Rattle.rail_cli.specs.Verdicts.{HasRoutes, HasFewClauses, SpellsDesign, SpellsPlan, IsUnrefused, IsVerdict, SpendsBudget, HasVerdict}
 use Rattle.rail_cli.proofs.Deciding.{answered_next, planned_so}
 use Rattle.rail_cli.proofs.Finding.{read_so}
 use Rattle.rail_cli.proofs.Judging.{small_passes}
@@ -60,29 +60,29 @@ module _ (bytes : List ℕ) (d : Station) (s : SpellsDesign bytes d) where
 
   -- ---- the answers to what is not refused
 
-  simulated_so : (plan_bytes : List ℕ) (p : SpellsPlan d plan_bytes) → simulated bytes plan_bytes ≡ shown d (shown_by d p.plan)
+  simulated_so : (plan_bytes : List ℕ) (p : SpellsPlan d plan_bytes) → simulation_reply bytes plan_bytes ≡ shown d (verdict_at_horizon d p.plan)
   simulated_so plan_bytes p =
       planned_so bytes plan_bytes bytes fits d reads plan_bytes (refusing.file_fits file.Plan plan_bytes p.short)
-      ∙ answered_next (plan_in d plan_bytes) p.plan (λ plan. shown d (shown_by d plan)) (ap (plan_or_answer d) p.spells)
+      ∙ answered_next (plan_in d plan_bytes) p.plan (λ plan. shown d (verdict_at_horizon d plan)) (ap (plan_or_answer d) p.spells)
 
-  listed_so : routes_listed bytes ≡ listed d
-  listed_so = answered_next (within_limit file.Design bytes) bytes (λ text. unless_refused (design_in text) listed) fits ∙ answered_next (design_in bytes) d listed reads
+  listed_so : routes_listed bytes ≡ routes_answer d
+  listed_so = answered_next (within_limit file.Design bytes) bytes (λ text. unless_refused (design_in text) routes_answer) fits ∙ answered_next (design_in bytes) d routes_answer reads
 
-  searched_so : (m : Method) (n conflicts ticks : ℕ) (found : Outcome) → HasFewClauses m d n → searched m n conflicts ticks bytes found ≡ told_outcome d n conflicts ticks found
+  searched_so : (m : Method) (n conflicts ticks : ℕ) (found : Outcome) → HasFewClauses m d n → search_reply m n conflicts ticks bytes found ≡ reply_for_outcome d n conflicts ticks found
   searched_so m n conflicts ticks found few =
-      read_so m n conflicts ticks bytes found bytes fits d reads ∙ answered_next (with_clauses m n d) d (λ same. told_outcome d n conflicts ticks found) (few_pass m d n few)
+      read_so m n conflicts ticks bytes found bytes fits d reads ∙ answered_next (with_clauses m n d) d (λ same. reply_for_outcome d n conflicts ticks found) (few_pass m d n few)
 
-  pub checked_so : (n : ℕ) (proof_bytes : List ℕ) → HasFewClauses Cones d n → length proof_bytes ≤ limit_of file.Proof → checked n bytes proof_bytes ≡ told (judged d n proof_bytes)
+  pub checked_so : (n : ℕ) (proof_bytes : List ℕ) → HasFewClauses Cones d n → length proof_bytes ≤ limit_of file.Proof → check_reply n bytes proof_bytes ≡ reply_for (judged d n proof_bytes)
   checked_so n proof_bytes few short =
       answered_next (within_limit file.Design bytes) bytes (λ text. unless_refused (design_in text) (λ e. with_proof n e proof_bytes)) fits
       ∙ (answered_next (design_in bytes) d (λ e. with_proof n e proof_bytes) reads
       ∙ (answered_next (with_clauses Cones n d) d (λ same. unless_refused (within_limit file.Proof proof_bytes) (checked_against d n)) (few_pass Cones d n few)
       ∙ answered_next (within_limit file.Proof proof_bytes) proof_bytes (checked_against d n) (refusing.file_fits file.Proof proof_bytes short)))
 
-tried_so : (seed size : ℕ) (found : Outcome) → HasRoutes (made seed size) → HasFewClauses Cones (made seed size) (2 * size) → tried seed size found ≡ told_trial seed size (made seed size) found
+tried_so : (seed size : ℕ) (found : Outcome) → HasRoutes (made seed size) → HasFewClauses Cones (made seed size) (2 * size) → tried seed size found ≡ reply_for_trial seed size (made seed size) found
 tried_so seed size found has few =
     answered_next (design_or_answer (with_routes (made seed size))) (made seed size) (λ d. tried_in seed size d found) (ap design_or_answer (routes_pass (made seed size) has))
-    ∙ answered_next (with_clauses Cones (2 * size) (made seed size)) (made seed size) (λ same. told_trial seed size (made seed size) found) (few_pass Cones (made seed size) (2 * size) few)
+    ∙ answered_next (with_clauses Cones (2 * size) (made seed size)) (made seed size) (λ same. reply_for_trial seed size (made seed size) found) (few_pass Cones (made seed size) (2 * size) few)
 
 -- ---- their statuses
 
@@ -91,7 +91,7 @@ shown_verdict (verdict.Met history tick) = inl refl
 shown_verdict (verdict.Failed history tick violation) = inr refl
 shown_verdict verdict.Undecided = inr refl
 
-pub told_verdict : (v : Shown) → IsVerdict (told v).status
+pub told_verdict : (v : CheckResult) → IsVerdict (reply_for v).status
 told_verdict (Yes k) = inl refl
 told_verdict (No line reason) = inr refl
 
@@ -105,7 +105,7 @@ status_of (outcome.LogSpent log bytes next) = statuses.LogSpent
 status_of (outcome.TooLarge literals) = statuses.DesignRefused
 status_of outcome.Memory = statuses.Memory
 
-search_status : (d : Station) (n conflicts ticks : ℕ) (found : Outcome) → (told_outcome d n conflicts ticks found).status ≡ status_of found
+search_status : (d : Station) (n conflicts ticks : ℕ) (found : Outcome) → (reply_for_outcome d n conflicts ticks found).status ≡ status_of found
 search_status d n conflicts ticks (outcome.Plan plan verdict) = refl
 search_status d n conflicts ticks (outcome.Infeasible log) = refl
 search_status d n conflicts ticks (outcome.ConflictsSpent log clause hints) = refl
@@ -114,7 +114,7 @@ search_status d n conflicts ticks (outcome.LogSpent log bytes next) = refl
 search_status d n conflicts ticks (outcome.TooLarge literals) = refl
 search_status d n conflicts ticks outcome.Memory = refl
 
-trial_status : (seed size : ℕ) (d : Station) (found : Outcome) → (told_trial seed size d found).status ≡ status_of found
+trial_status : (seed size : ℕ) (d : Station) (found : Outcome) → (reply_for_trial seed size d found).status ≡ status_of found
 trial_status seed size d (outcome.Plan plan verdict) = refl
 trial_status seed size d (outcome.Infeasible log) = refl
 trial_status seed size d (outcome.ConflictsSpent log clause hints) = refl
@@ -141,13 +141,13 @@ spent_in m d bytes n b s spells (inr spent) = inr (d, spells, spent)
 
 -- ---- the run
 
-status_so : (a b : Answer) (s : Status) → s ≡ a.status → a ≡ b → s ≡ b.status
-status_so a b s is same = is ∙ ap (λ (x : Answer). x.status) same
+status_so : (a b : ReplySeen) (s : Status) → s ≡ a.status → a ≡ b → s ≡ b.status
+status_so a b s is same = is ∙ ap (λ (x : ReplySeen). x.status) same
 
-comes_so : (files : Files) (asked : Option Asked) (found : Outcome) (s : Status) → Finds files asked found → s ≡ (answer_to files found asked).status → IsUnrefused files asked → is_answered s ≡ true → ComesTo files asked s
+comes_so : (files : Files) (asked : Option RequestSeen) (found : Outcome) (s : Status) → Finds files asked found → s ≡ (answer_to files found asked).status → IsUnrefused files asked → is_answered s ≡ true → HasVerdict files asked s
 comes_so files None found s finds is u answered = absurd u
 comes_so files (Some (simulate design plan)) found s finds is u answered =
-    subst IsVerdict (sym (status_so _ _ s is (simulated_so (files design) u.0 u.1 (files plan) u.2))) (shown_verdict (shown_by u.0 u.2.plan))
+    subst IsVerdict (sym (status_so _ _ s is (simulated_so (files design) u.0 u.1 (files plan) u.2))) (shown_verdict (verdict_at_horizon u.0 u.2.plan))
 comes_so files (Some (routes design)) found s finds is u answered = status_so _ _ s is (listed_so (files design) u.0 u.1)
 comes_so files (Some (verify n conflicts ticks bounds design proof)) found s finds is u answered =
     spent_in (method_of bounds) u.0 (files design) n (budgets_of conflicts ticks) s u.1.spells
@@ -159,9 +159,9 @@ comes_so files (Some (trial seed size)) found s finds is u answered =
 
 module _ (files : Files) (words : List (List ℕ)) (s : Status) (text new_text : Option (List ℕ)) (pieces new_pieces : Option (List (List ℕ))) where
   -- the answer was printed
-  pub run_comes : (found : Outcome) × Finds files (request_of words) found × Prints (answer_of files found words) s text new_text pieces new_pieces → IsUnrefused files (request_of words) → is_answered s ≡ true → ComesTo files (request_of words) s
-  run_comes told u answered = comes_so files (request_of words) told.0 s told.1 (told.2.status answered) u answered
+  pub run_comes : (found : Outcome) × Finds files (request_of words) found × Prints (answer_of files found words) s text new_text pieces new_pieces → IsUnrefused files (request_of words) → is_answered s ≡ true → HasVerdict files (request_of words) s
+  run_comes reply_for u answered = comes_so files (request_of words) reply_for.0 s reply_for.1 (reply_for.2.status answered) u answered
 
 -- a run without an answer comes to nothing
-pub no_answer : (files : Files) (asked : Option Asked) (s : Status) → is_answered s ≡ false → is_answered s ≡ true → ComesTo files asked s
+pub no_answer : (files : Files) (asked : Option RequestSeen) (s : Status) → is_answered s ≡ false → is_answered s ≡ true → HasVerdict files asked s
 no_answer files asked s none answered = absurd (cc)

@@ -8,8 +8,8 @@ use Rattle.design_table.specs.declared.place.Place.{Place}
 use Rattle.design_table.specs.declared.place.Place.TheVariants as place
 use Rattle.design_table.specs.Reads.{at, unless_at}
 use Rattle.infra_reader.specs.Design.{design_of}
-use Rattle.log_checker.specs.declared.shown.Shown.{Shown}
-use Rattle.log_checker.specs.declared.shown.Shown.TheVariants as shown_
+use Rattle.log_checker.specs.declared.check_result.CheckResult.{CheckResult}
+use Rattle.log_checker.specs.declared.check_result.CheckResult.TheVariants as check_result
 use Rattle.proof_judge.specs.Judged.{judged}
 use Rattle.plan_clauses.specs.Clauses.{past_limit}
 use Rattle.plan_exclusion.specs.declared.method.Method.{Method}
@@ -22,9 +22,9 @@ use Rattle.rail_base.specs.declared.history.Verdict.TheVariants as verdict
 use Rattle.rail_outside.specs.Files.{Files}
 use Rattle.rail_outside.specs.Asks.{Ask, fetched, stored}
 use Rattle.rail_plan.specs.Reading.{Refusal, plan_of}
-use Rattle.rail_spec.specs.Track.{routes_of, all_closings, edges_met_again}
+use Rattle.rail_spec.specs.Track.{routes_of, all_walks, edges_met_again}
 use Rattle.rail_spec.specs.Requirements.{cost}
-use Rattle.rail_words.specs.Requests.{Asked, simulate, routes, verify, check, trial, request_of}
+use Rattle.rail_words.specs.Requests.{RequestSeen, simulate, routes, verify, check, trial, request_of}
 use Rattle.timetable.specs.Timetable.{timetable_of}
 use Rattle.verify_loop.specs.Outcomes.{first_clauses}
 use Rattle.verify_loop.specs.declared.outcome.Outcome.{Outcome}
@@ -35,25 +35,25 @@ use Rattle.rail_cli.specs.declared.status.Status.TheVariants as status
 use Rattle.rail_cli.specs.declared.input.InputFile.{InputFile}
 use Rattle.rail_cli.specs.declared.input.InputFile.TheVariants as file
 use Rattle.rail_cli.specs.Listings.{routes_text}
-use Rattle.rail_cli.specs.Shows.{shown_by}
+use Rattle.rail_cli.specs.Shows.{verdict_at_horizon}
 use Rattle.rail_cli.specs.Texts.{usage_line, limit_of, too_long_line, design_refused_line, too_large_line, yes_line}
 use Rattle.rail_cli.specs.Texts.{no_line, plan_refused_line, plan_steps_line, plan_line, infeasible_line}
 use Rattle.rail_cli.specs.Texts.{conflicts_spent_line, ticks_spent_line, log_spent_line, trial_line, counts_line}
 use Rattle.rail_cli.specs.Texts.{plan_tick_line}
 
 -- what the program answers: the status to end with, and the lines to print
-pub record Answer : Type 0 where
+pub record ReplySeen : Type 0 where
   pub status : Status
   pub lines : List (List ℕ)
 
 -- an answer of one line
-abbrev pub one_line : Status → List ℕ → Answer
+abbrev pub one_line : Status → List ℕ → ReplySeen
 one_line s line = record { status = s; lines = line ∷ [] }
 
 -- ---- what is read, or the answer that refuses it
 
 -- the bytes of a file, where they are within its limit
-abbrev pub within_limit : InputFile → List ℕ → Result (List ℕ) Answer
+abbrev pub within_limit : InputFile → List ℕ → Result (List ℕ) ReplySeen
 within_limit f bytes =
     if nat_lt (limit_of f) (length bytes) then Err (one_line status.TooLong (too_long_line f))
     else Ok bytes
@@ -66,10 +66,10 @@ edge_place e = place.Entry kind.Edge e.0
 abbrev pub with_routes : Station → Result Station (Code × Place)
 with_routes d =
     unless_at D12 (map edge_place (edges_met_again d)) (
-    unless_at D13 (at (nat_le 2001 (length (all_closings d))) place.Routes) (Ok d))
+    unless_at D13 (at (nat_le 2001 (length (all_walks d))) place.Routes) (Ok d))
 
 -- a design or its refusal, as an answer
-abbrev pub design_or_answer : Result Station (Code × Place) → Result Station Answer
+abbrev pub design_or_answer : Result Station (Code × Place) → Result Station ReplySeen
 design_or_answer (Ok d) = Ok d
 design_or_answer (Err refusal) = Err (one_line status.DesignRefused (design_refused_line refusal.0 refusal.1))
 
@@ -79,16 +79,16 @@ and_then (Ok x) next = next x
 and_then (Err r) next = Err r
 
 -- the design that the bytes spell, whose routes can be listed
-abbrev pub design_in : List ℕ → Result Station Answer
+abbrev pub design_in : List ℕ → Result Station ReplySeen
 design_in bytes = design_or_answer (and_then (design_of bytes) with_routes)
 
 -- a plan or its refusal, as an answer
-abbrev pub plan_or_answer : Station → Result (List (List Command)) Refusal → Result (List (List Command)) Answer
+abbrev pub plan_or_answer : Station → Result (List (List Command)) Refusal → Result (List (List Command)) ReplySeen
 plan_or_answer d (Ok plan) = Ok plan
 plan_or_answer d (Err refusal) = Err (one_line status.PlanRefused (plan_refused_line d refusal.0 refusal.1))
 
 -- the plan over a design that the bytes spell
-abbrev pub plan_in : Station → List ℕ → Result (List (List Command)) Answer
+abbrev pub plan_in : Station → List ℕ → Result (List (List Command)) ReplySeen
 plan_in d bytes = plan_or_answer d (plan_of d (routes_of d) bytes)
 
 -- ---- answers
@@ -100,99 +100,99 @@ verdict_status (verdict.Failed history tick violation) = status.No
 verdict_status verdict.Undecided = status.No
 
 -- the timetable of what a run shows
-abbrev pub shown : Station → Verdict → Answer
+abbrev pub shown : Station → Verdict → ReplySeen
 shown d v = record { status = verdict_status v; lines = timetable_of d v }
 
 -- what comes of what is read, or the answer that refuses it
-abbrev pub unless_refused : {X : Type 0} → Result X Answer → (X → Answer) → Answer
+abbrev pub unless_refused : {X : Type 0} → Result X ReplySeen → (X → ReplySeen) → ReplySeen
 unless_refused (Ok x) next = next x
 unless_refused (Err answer) next = answer
 
 -- the answer for a design and the bytes of a plan
-abbrev pub planned : Station → List ℕ → Answer
-planned d plan_text = unless_refused (plan_in d plan_text) (λ plan. shown d (shown_by d plan))
+abbrev pub planned : Station → List ℕ → ReplySeen
+planned d plan_text = unless_refused (plan_in d plan_text) (λ plan. shown d (verdict_at_horizon d plan))
 
 -- the answer to a simulation, for the bytes of the design and of the plan
-abbrev pub simulated : List ℕ → List ℕ → Answer
-simulated design_bytes plan_bytes =
+abbrev pub simulation_reply : List ℕ → List ℕ → ReplySeen
+simulation_reply design_bytes plan_bytes =
     unless_refused (within_limit file.Design design_bytes) (λ design_text.
     unless_refused (design_in design_text) (λ d.
     unless_refused (within_limit file.Plan plan_bytes) (λ plan_text.
     planned d plan_text)))
 
 -- the routes of a design
-abbrev pub listed : Station → Answer
-listed d = record { status = status.Done; lines = routes_text d (routes_of d) }
+abbrev pub routes_answer : Station → ReplySeen
+routes_answer d = record { status = status.Done; lines = routes_text d (routes_of d) }
 
 -- the answer that lists routes, for the bytes of the design
-abbrev pub routes_listed : List ℕ → Answer
+abbrev pub routes_listed : List ℕ → ReplySeen
 routes_listed design_bytes =
     unless_refused (within_limit file.Design design_bytes) (λ design_text.
-    unless_refused (design_in design_text) listed)
+    unless_refused (design_in design_text) routes_answer)
 
 -- the design, unless its clauses have so many literals
-abbrev pub unless_too_large : Station → Option ℕ → Result Station Answer
+abbrev pub unless_too_large : Station → Option ℕ → Result Station ReplySeen
 unless_too_large d None = Ok d
 unless_too_large d (Some literals) = Err (one_line status.DesignRefused too_large_line)
 
 -- a design of which the clauses that a search by the method begins with have at most 16,000,000 literals
-abbrev pub with_clauses : Method → ℕ → Station → Result Station Answer
+abbrev pub with_clauses : Method → ℕ → Station → Result Station ReplySeen
 with_clauses m n d = unless_too_large d (past_limit 16000000 0 (first_clauses m d n))
 
 -- what a proof file shows
-abbrev pub told : Shown → Answer
-told (shown_.Yes k) = one_line status.Done (yes_line k)
-told (shown_.No line reason) = one_line status.No (no_line line reason)
+abbrev pub reply_for : CheckResult → ReplySeen
+reply_for (check_result.Yes k) = one_line status.Done (yes_line k)
+reply_for (check_result.No line reason) = one_line status.No (no_line line reason)
 
 -- what the bytes of a proof show of a design
-abbrev pub checked_against : Station → ℕ → List ℕ → Answer
-checked_against d n bytes = told (judged d n bytes)
+abbrev pub checked_against : Station → ℕ → List ℕ → ReplySeen
+checked_against d n bytes = reply_for (judged d n bytes)
 
 -- the answer to a check of a design, for the bytes of the proof
-abbrev pub with_proof : ℕ → Station → List ℕ → Answer
+abbrev pub with_proof : ℕ → Station → List ℕ → ReplySeen
 with_proof n d proof_bytes =
     unless_refused (with_clauses Cones n d) (λ same.
     unless_refused (within_limit file.Proof proof_bytes) (checked_against d n))
 
 -- the answer to a check, for the bytes of the design and of the proof
-abbrev pub checked : ℕ → List ℕ → List ℕ → Answer
-checked n design_bytes proof_bytes =
+abbrev pub check_reply : ℕ → List ℕ → List ℕ → ReplySeen
+check_reply n design_bytes proof_bytes =
     unless_refused (within_limit file.Design design_bytes) (λ design_text.
     unless_refused (design_in design_text) (λ d.
     with_proof n d proof_bytes))
 
 -- a plan that was found: its number of steps, the plan, and the timetable of its run
-abbrev pub plan_told : Station → List (List Command) → Answer
-plan_told d plan = record {
+abbrev pub reply_for_plan : Station → List (List Command) → ReplySeen
+reply_for_plan d plan = record {
   status = status.Done;
-  lines = plan_steps_line (length plan) ∷ plan_line d plan ∷ timetable_of d (shown_by d plan);
+  lines = plan_steps_line (length plan) ∷ plan_line d plan ∷ timetable_of d (verdict_at_horizon d plan);
 }
 
 -- what a search for a plan of n steps ended with, within so many derived clauses and ticks
-abbrev pub told_outcome : Station → ℕ → ℕ → ℕ → Outcome → Answer
-told_outcome d n conflicts ticks (outcome.Plan plan verdict) = plan_told d plan.steps
-told_outcome d n conflicts ticks (outcome.Infeasible log) = one_line status.No (infeasible_line n)
-told_outcome d n conflicts ticks (outcome.ConflictsSpent log clause hints) =
+abbrev pub reply_for_outcome : Station → ℕ → ℕ → ℕ → Outcome → ReplySeen
+reply_for_outcome d n conflicts ticks (outcome.Plan plan verdict) = reply_for_plan d plan.steps
+reply_for_outcome d n conflicts ticks (outcome.Infeasible log) = one_line status.No (infeasible_line n)
+reply_for_outcome d n conflicts ticks (outcome.ConflictsSpent log clause hints) =
     one_line status.ConflictsSpent (conflicts_spent_line conflicts)
-told_outcome d n conflicts ticks (outcome.TicksSpent failed sum at_hand) =
+reply_for_outcome d n conflicts ticks (outcome.TicksSpent failed sum at_hand) =
     one_line status.TicksSpent (ticks_spent_line sum ticks)
-told_outcome d n conflicts ticks (outcome.LogSpent log bytes next) =
+reply_for_outcome d n conflicts ticks (outcome.LogSpent log bytes next) =
     one_line status.LogSpent (log_spent_line bytes next)
-told_outcome d n conflicts ticks (outcome.TooLarge literals) = one_line status.DesignRefused too_large_line
-told_outcome d n conflicts ticks outcome.Memory = record { status = status.Memory; lines = [] }
+reply_for_outcome d n conflicts ticks (outcome.TooLarge literals) = one_line status.DesignRefused too_large_line
+reply_for_outcome d n conflicts ticks outcome.Memory = record { status = status.Memory; lines = [] }
 
 -- the answer to a search in a design by a method, by what it ended with
-abbrev pub searched_in : Method → Station → ℕ → ℕ → ℕ → Outcome → Answer
+abbrev pub searched_in : Method → Station → ℕ → ℕ → ℕ → Outcome → ReplySeen
 searched_in m d n conflicts ticks found =
-    unless_refused (with_clauses m n d) (λ same. told_outcome d n conflicts ticks found)
+    unless_refused (with_clauses m n d) (λ same. reply_for_outcome d n conflicts ticks found)
 
 -- plans that fail are excluded by bounds where these are asked for
 abbrev pub method_of : Bool → Method
 method_of bounds = if bounds then Bounds else Cones
 
 -- the answer to a search, for the bytes of the design, by what it ended with
-abbrev pub searched : Method → ℕ → ℕ → ℕ → List ℕ → Outcome → Answer
-searched m n conflicts ticks design_bytes found =
+abbrev pub search_reply : Method → ℕ → ℕ → ℕ → List ℕ → Outcome → ReplySeen
+search_reply m n conflicts ticks design_bytes found =
     unless_refused (within_limit file.Design design_bytes) (λ design_text.
     unless_refused (design_in design_text) (λ d.
     searched_in m d n conflicts ticks found))
@@ -206,60 +206,60 @@ abbrev pub trial_ticks : ℕ
 trial_ticks = 1000000000
 
 -- the lines of a trial: what was made, how much it has, and this last line
-abbrev pub three_lines : ℕ → ℕ → Station → Status → List ℕ → Answer
+abbrev pub three_lines : ℕ → ℕ → Station → Status → List ℕ → ReplySeen
 three_lines seed size d s last = record { status = s; lines = trial_line seed size ∷ counts_line d ∷ last ∷ [] }
 
 -- what a trial tells of a station, by what its search ended with; a refusal is told alone
-abbrev pub told_trial : ℕ → ℕ → Station → Outcome → Answer
-told_trial seed size d (outcome.Plan plan verdict) =
+abbrev pub reply_for_trial : ℕ → ℕ → Station → Outcome → ReplySeen
+reply_for_trial seed size d (outcome.Plan plan verdict) =
     three_lines seed size d status.Done (plan_tick_line (length plan.steps) (cost d (routes_of d) plan.steps))
-told_trial seed size d (outcome.Infeasible log) = three_lines seed size d status.No (infeasible_line (2 * size))
-told_trial seed size d (outcome.ConflictsSpent log clause hints) =
+reply_for_trial seed size d (outcome.Infeasible log) = three_lines seed size d status.No (infeasible_line (2 * size))
+reply_for_trial seed size d (outcome.ConflictsSpent log clause hints) =
     three_lines seed size d status.ConflictsSpent (conflicts_spent_line trial_conflicts)
-told_trial seed size d (outcome.TicksSpent failed sum at_hand) =
+reply_for_trial seed size d (outcome.TicksSpent failed sum at_hand) =
     three_lines seed size d status.TicksSpent (ticks_spent_line sum trial_ticks)
-told_trial seed size d (outcome.LogSpent log bytes next) =
+reply_for_trial seed size d (outcome.LogSpent log bytes next) =
     three_lines seed size d status.LogSpent (log_spent_line bytes next)
-told_trial seed size d (outcome.TooLarge literals) = one_line status.DesignRefused too_large_line
-told_trial seed size d outcome.Memory = record { status = status.Memory; lines = [] }
+reply_for_trial seed size d (outcome.TooLarge literals) = one_line status.DesignRefused too_large_line
+reply_for_trial seed size d outcome.Memory = record { status = status.Memory; lines = [] }
 
 -- the answer to a trial of a station with its routes, by what it ended with
-abbrev pub tried_in : ℕ → ℕ → Station → Outcome → Answer
-tried_in seed size d found = unless_refused (with_clauses Cones (2 * size) d) (λ same. told_trial seed size d found)
+abbrev pub tried_in : ℕ → ℕ → Station → Outcome → ReplySeen
+tried_in seed size d found = unless_refused (with_clauses Cones (2 * size) d) (λ same. reply_for_trial seed size d found)
 
 -- the answer to a trial: the station that the seed and the size make is searched for a plan of twice as many steps as its size
-abbrev pub tried : ℕ → ℕ → Outcome → Answer
+abbrev pub tried : ℕ → ℕ → Outcome → ReplySeen
 tried seed size found =
     unless_refused (design_or_answer (with_routes (made seed size))) (λ d. tried_in seed size d found)
 
 -- the answer to a request, which may be none; of a search, by what it ended with
-abbrev pub answer_to : Files → Outcome → Option Asked → Answer
+abbrev pub answer_to : Files → Outcome → Option RequestSeen → ReplySeen
 answer_to files found None = one_line status.Usage usage_line
-answer_to files found (Some (simulate design plan)) = simulated (files design) (files plan)
+answer_to files found (Some (simulate design plan)) = simulation_reply (files design) (files plan)
 answer_to files found (Some (routes design)) = routes_listed (files design)
 answer_to files found (Some (verify n conflicts ticks bounds design proof)) =
-    searched (method_of bounds) n conflicts ticks (files design) found
-answer_to files found (Some (check n design proof)) = checked n (files design) (files proof)
+    search_reply (method_of bounds) n conflicts ticks (files design) found
+answer_to files found (Some (check n design proof)) = check_reply n (files design) (files proof)
 answer_to files found (Some (trial seed size)) = tried seed size found
 
 -- the answer to a request for the bytes of its files, DESIGN and then PLAN or PROOF, as each is fetched; of a search, by what it ended with
-abbrev pub answer_given : List ℕ → List ℕ → Outcome → Option Asked → Answer
+abbrev pub answer_given : List ℕ → List ℕ → Outcome → Option RequestSeen → ReplySeen
 answer_given design_bytes other_bytes found None = one_line status.Usage usage_line
-answer_given design_bytes other_bytes found (Some (simulate design plan)) = simulated design_bytes other_bytes
+answer_given design_bytes other_bytes found (Some (simulate design plan)) = simulation_reply design_bytes other_bytes
 answer_given design_bytes other_bytes found (Some (routes design)) = routes_listed design_bytes
 answer_given design_bytes other_bytes found (Some (verify n conflicts ticks bounds design proof)) =
-    searched (method_of bounds) n conflicts ticks design_bytes found
-answer_given design_bytes other_bytes found (Some (check n design proof)) = checked n design_bytes other_bytes
+    search_reply (method_of bounds) n conflicts ticks design_bytes found
+answer_given design_bytes other_bytes found (Some (check n design proof)) = check_reply n design_bytes other_bytes
 answer_given design_bytes other_bytes found (Some (trial seed size)) = tried seed size found
 
 -- the answer to the words of a command line, the first of which is the program's name
-abbrev pub answer_of : Files → Outcome → List (List ℕ) → Answer
+abbrev pub answer_of : Files → Outcome → List (List ℕ) → ReplySeen
 answer_of files found words = answer_to files found (request_of words)
 
 -- ---- what is asked of the shelf
 
 -- the calls for a request, in order
-abbrev pub asks_to : Option Asked → List Ask
+abbrev pub asks_to : Option RequestSeen → List Ask
 asks_to None = []
 asks_to (Some (simulate design plan)) = fetched design ∷ fetched plan ∷ []
 asks_to (Some (routes design)) = fetched design ∷ []

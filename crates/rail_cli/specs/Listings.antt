@@ -20,7 +20,7 @@ start_text d (start.Signal s) = codes "signal:" ++ signal_name d s
 abbrev pub finish_text : Station → Finish → List ℕ
 finish_text d (finish.Exit n) = codes "boundary:" ++ node_name d n
 finish_text d (finish.Signal s) = codes "signal:" ++ signal_name d s
-finish_text d (finish.Dead n) = codes "dead:" ++ node_name d n
+finish_text d (finish.DeadEnd n) = codes "dead:" ++ node_name d n
 
 -- ` <section>=<offset>`, with the offset at which the section is released
 abbrev pub release_text : Station → SectionNo × ℤ → List ℕ

@@ -15,7 +15,7 @@ use Rattle.rail_cli.specs.Searches.{Searches, TellsNone}
 abbrev pub Passes : Files → Outcome → ℕ → List (List ℕ) → Type 0
 Passes files found n words = answer_of files found words ≡ one_line Done (yes_line n)
 
--- where a search has told that there is no plan of n steps and has left these files, all words that ask for a check of n steps with the same two names pass
+-- where a search has found that there is no plan of n steps and has left these files, all words that ask for a check of n steps with the same two names pass
 abbrev pub StoredProofsPass : Type 0
 StoredProofsPass = (files left : Files) (design proof : List ℕ) (n : ℕ) (d : Station) (old new : Option (List ℕ))
     → TellsNone files design proof n d old new (Some left) → design ≢ proof

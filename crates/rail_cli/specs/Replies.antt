@@ -9,7 +9,7 @@ use Rattle.rail_base.specs.declared.history.Verdict.TheVariants as verdict
 use Rattle.rail_outside.specs.Lines.{lines_of}
 use Rattle.rail_spec.specs.Feasible.{IsFeasible}
 use Rattle.rail_outside.specs.Files.{Files, updated}
-use Rattle.rail_words.specs.Requests.{Asked, simulate, routes, verify, check, trial}
+use Rattle.rail_words.specs.Requests.{RequestSeen, simulate, routes, verify, check, trial}
 use Rattle.plan_exclusion.specs.declared.method.Method.{Method}
 use Rattle.verify_loop.specs.declared.outcome.Outcome.{Outcome}
 use Rattle.verify_loop.specs.declared.outcome.Outcome.TheVariants as outcome
@@ -20,66 +20,66 @@ use Rattle.rail_cli.specs.declared.reply.Reply.{Reply}
 use Rattle.rail_cli.specs.declared.ending.Ending.{Ending}
 use Rattle.rail_cli.specs.declared.ending.Ending.TheVariants as ending
 use Rattle.rail_cli.specs.Statuses.{is_refusal}
-use Rattle.rail_cli.specs.Answers.{Answer, design_in, plan_in, method_of, tried, answer_to, answer_given}
+use Rattle.rail_cli.specs.Answers.{ReplySeen, design_in, plan_in, method_of, tried, answer_to, answer_given}
 use Rattle.rail_cli.specs.Simulations.{RunsSafely}
 use Rattle.rail_cli.specs.Searches.{budgets_of, EndsTrial, FindsGiven}
 
 -- a reply, by its status and the bytes of its lines
-abbrev pub reply_seen : Reply → Answer
+abbrev pub reply_seen : Reply → ReplySeen
 reply_seen reply = record { status = reply.status; lines = lines_of reply.lines.items }
 
 -- the reply is the answer, where there is memory for one
-abbrev pub Tells : Result Reply AllocError → Answer → Type 0
-Tells result answer = IfOk result (λ reply. reply_seen reply ≡ answer)
+abbrev pub RepliesWith : Result Reply AllocError → ReplySeen → Type 0
+RepliesWith result answer = IfOk result (λ reply. reply_seen reply ≡ answer)
 
 -- the ending with a reply that refuses, or for want of memory
-abbrev pub ended : Result Reply AllocError → Ending
-ended (Ok reply) = ending.Told reply
-ended (Err e) = ending.Memory
+abbrev pub ending_of : Result Reply AllocError → Ending
+ending_of (Ok reply) = ending.RefusedWith reply
+ending_of (Err e) = ending.Memory
 
 -- what was read, seen by view, is what reading gives; or reading gives the answer that refuses it; want of memory and a fault of the shelf are free
-abbrev pub Reads : {X Y : Type 0} → (X → Y) → Result X Ending → Result Y Answer → Type 0
+abbrev pub Reads : {X Y : Type 0} → (X → Y) → Result X Ending → Result Y ReplySeen → Type 0
 Reads view (Ok x) reading = reading ≡ Ok (view x)
-Reads view (Err (ending.Told reply)) reading = reading ≡ Err (reply_seen reply)
+Reads view (Err (ending.RefusedWith reply)) reading = reading ≡ Err (reply_seen reply)
 Reads view (Err ending.Memory) reading = Unit {0}
 Reads view (Err ending.ShelfFault) reading = Unit {0}
 
 -- where nothing was read, a file is refused, unless memory was wanting or the shelf failed
 abbrev pub RefusesFile : {X : Type 0} → Result X Ending → Type 0
 RefusesFile (Ok x) = Unit {0}
-RefusesFile (Err (ending.Told reply)) = is_refusal reply.status ≡ true
+RefusesFile (Err (ending.RefusedWith reply)) = is_refusal reply.status ≡ true
 RefusesFile (Err ending.Memory) = Unit {0}
 RefusesFile (Err ending.ShelfFault) = Unit {0}
 
 -- where nothing was read, a file is refused, unless memory was wanting
 abbrev pub OnlyRefuses : {X : Type 0} → Result X Ending → Type 0
 OnlyRefuses (Ok x) = Unit {0}
-OnlyRefuses (Err (ending.Told reply)) = is_refusal reply.status ≡ true
+OnlyRefuses (Err (ending.RefusedWith reply)) = is_refusal reply.status ≡ true
 OnlyRefuses (Err ending.Memory) = Unit {0}
 OnlyRefuses (Err ending.ShelfFault) = ⊥
 
 -- nothing is refused: memory was wanting or the shelf failed
 abbrev pub OnlyFails : {X : Type 0} → Result X Ending → Type 0
 OnlyFails (Ok x) = Unit {0}
-OnlyFails (Err (ending.Told reply)) = ⊥
+OnlyFails (Err (ending.RefusedWith reply)) = ⊥
 OnlyFails (Err ending.Memory) = Unit {0}
 OnlyFails (Err ending.ShelfFault) = Unit {0}
 
 -- this holds of the reply, where one is made
 abbrev pub OnReply : Result Reply Ending → (Reply → Type 0) → Type 0
 OnReply (Ok reply) fact = fact reply
-OnReply (Err (ending.Told reply)) fact = fact reply
+OnReply (Err (ending.RefusedWith reply)) fact = fact reply
 OnReply (Err ending.Memory) fact = Unit {0}
 OnReply (Err ending.ShelfFault) fact = Unit {0}
 
 -- the reply is the answer; want of memory and a fault of the shelf are free
-abbrev pub Replies : Result Reply Ending → Answer → Type 0
+abbrev pub Replies : Result Reply Ending → ReplySeen → Type 0
 Replies result answer = OnReply result (λ reply. answer ≡ reply_seen reply)
 
 -- this holds of the status with which the work ends
 abbrev pub OnEnd : Result Reply Ending → (Status → Type 0) → Type 0
 OnEnd (Ok reply) fact = fact reply.status
-OnEnd (Err (ending.Told reply)) fact = fact reply.status
+OnEnd (Err (ending.RefusedWith reply)) fact = fact reply.status
 OnEnd (Err ending.Memory) fact = fact statuses.Memory
 OnEnd (Err ending.ShelfFault) fact = fact statuses.ShelfFault
 
@@ -94,18 +94,18 @@ deciding_tick verdict.Undecided = 0
 -- the bytes spell a plan over the design whose run is safe, and the status is 0 exactly where it is feasible
 pub record DecidesPlan (d : Station) (bytes : List ℕ) (s : Status) : Type 0 where
   pub plan : List (List Command)
-  pub spelled : plan_in d bytes ≡ Ok plan
+  pub parsed : plan_in d bytes ≡ Ok plan
   pub exactly : (s ≡ statuses.Done) ↔ IsFeasible d 256 plan
   pub safe : RunsSafely d plan
 
 -- the one file spells a design, the other a plan over it, and the status is 0 exactly where that is feasible
 pub record Decides (design_bytes plan_bytes : List ℕ) (s : Status) : Type 0 where
   pub design : Station
-  pub spelled : design_in design_bytes ≡ Ok design
+  pub parsed : design_in design_bytes ≡ Ok design
   pub decided : DecidesPlan design plan_bytes s
 
 -- the reply to a request for a simulation is so decided by the files that it names
-abbrev pub DecidesRequest : Files → Asked → Result Reply Ending → Type 0
+abbrev pub DecidesRequest : Files → RequestSeen → Result Reply Ending → Type 0
 DecidesRequest files (simulate design plan) result =
     IfOk result (λ reply. Decides (files design) (files plan) reply.status)
 DecidesRequest files (routes design) result = Unit {0}
@@ -119,24 +119,24 @@ DecidesRequest files (trial seed size) result = Unit {0}
 pub record EndsIn (files : Files) (m : Method) (n conflicts ticks : ℕ) (design_name : List ℕ) (found : Outcome)
     : Type 0 where
   pub design : Design
-  pub spelled : design_in (files design_name) ≡ Ok design.station
+  pub parsed : design_in (files design_name) ≡ Ok design.station
   pub says : Says m design.station n (budgets_of conflicts ticks) found
   pub fits : Fits m design.station n found
 
 -- where a search is asked for, it ends so, or for want of memory; a trial too
-abbrev pub EndsWith : Files → Option Asked → Outcome → Type 0
+abbrev pub EndsWith : Files → Option RequestSeen → Outcome → Type 0
 EndsWith files (Some (verify n conflicts ticks bounds design proof)) found =
     (found ≡ outcome.Memory) ⊎ EndsIn files (method_of bounds) n conflicts ticks design found
 EndsWith files (Some (trial seed size)) found = EndsTrial seed size found
 EndsWith files _ found = Unit {0}
 
 -- the reply is the answer to what is asked, for an outcome with which a search may end
-abbrev pub RepliesSo : Result Reply Ending → Files → Option Asked → Type 0
+abbrev pub RepliesSo : Result Reply Ending → Files → Option RequestSeen → Type 0
 RepliesSo result files asked =
     (found : Outcome) × EndsWith files asked found × Replies result (answer_to files found asked)
 
 -- the reply is the answer to what is asked for some bytes of its files, and for an outcome with which a search may end
-pub record RepliesSome (result : Result Reply Ending) (asked : Option Asked) : Type 0 where
+pub record RepliesSome (result : Result Reply Ending) (asked : Option RequestSeen) : Type 0 where
   pub design_bytes : List ℕ
   pub other_bytes : List ℕ
   pub found : Outcome
@@ -148,18 +148,18 @@ abbrev pub RepliesTrial : Result Reply Ending → ℕ → ℕ → Type 0
 RepliesTrial result seed size = (found : Outcome) × EndsTrial seed size found × Replies result (tried seed size found)
 
 -- where a trial is asked for, it has such a reply
-abbrev pub Tries : Option Asked → Result Reply Ending → Type 0
+abbrev pub Tries : Option RequestSeen → Result Reply Ending → Type 0
 Tries (Some (trial seed size)) result = RepliesTrial result seed size
 Tries _ result = Unit {0}
 
 -- the bytes are stored under the name; for want of memory nothing is, and after a fault of the shelf it holds some bytes
 abbrev pub StoresFile : {X : Type 0} → Result X Ending → Files → List ℕ → List ℕ → Option Files → Type 0
-StoresFile (Ok x) files name bytes held = held ≡ Some (updated files name bytes)
-StoresFile (Err ending.ShelfFault) files name bytes held = (some : List ℕ) × (held ≡ Some (updated files name some))
-StoresFile (Err ending.Memory) files name bytes held = held ≡ Some files
-StoresFile (Err (ending.Told reply)) files name bytes held = ⊥
+StoresFile (Ok x) files name bytes known_files = known_files ≡ Some (updated files name bytes)
+StoresFile (Err ending.ShelfFault) files name bytes known_files = (some : List ℕ) × (known_files ≡ Some (updated files name some))
+StoresFile (Err ending.Memory) files name bytes known_files = known_files ≡ Some files
+StoresFile (Err (ending.RefusedWith reply)) files name bytes known_files = ⊥
 
 -- a log that shows that there is no plan is so stored; where there is none, nothing is
 abbrev pub KeepsLog : {X : Type 0} → Result X Ending → Files → List ℕ → Outcome → Option Files → Type 0
-KeepsLog result files name (outcome.Infeasible log) held = StoresFile result files name log.items held
-KeepsLog result files name _ held = (is_ok result ≡ true) × (held ≡ Some files)
+KeepsLog result files name (outcome.Infeasible log) known_files = StoresFile result files name log.items known_files
+KeepsLog result files name _ known_files = (is_ok result ≡ true) × (known_files ≡ Some files)

@@ -2,7 +2,7 @@
 use Rattle.std.specs.Prelude.{◌≡◌, ◌≤◌, ◌<◌, ◌⊎◌, ℕ, ◌*◌, Bool, List, ◌∷◌, length, Option, Some, Ok}
 use Rattle.std.specs.List.{concat}
 use Rattle.infra_reader.specs.Design.{design_of}
-use Rattle.log_checker.specs.declared.shown.Shown.TheVariants.{Yes}
+use Rattle.log_checker.specs.declared.check_result.CheckResult.TheVariants.{Yes}
 use Rattle.plan_exclusion.specs.declared.method.Method.{Method}
 use Rattle.plan_exclusion.specs.declared.method.Method.TheVariants.{Cones}
 use Rattle.proof_judge.specs.Judged.{judged}
@@ -13,7 +13,7 @@ use Rattle.rail_outside.specs.Growth.{grown}
 use Rattle.rail_spec.specs.Feasible.{IsFeasible, IsInfeasible}
 use Rattle.rail_spec.specs.Requirements.{cost}
 use Rattle.rail_spec.specs.Track.{routes_of}
-use Rattle.rail_words.specs.Requests.{Asked, verify, trial, request_of}
+use Rattle.rail_words.specs.Requests.{RequestSeen, verify, trial, request_of}
 use Rattle.timetable.specs.Lines.{met_line}
 use Rattle.timetable.specs.Timetable.{timetable_of}
 use Rattle.verify_loop.specs.declared.outcome.Budgets.{Budgets}
@@ -24,8 +24,8 @@ use Rattle.rail_cli.specs.declared.status.Status.{Status}
 use Rattle.rail_cli.specs.declared.status.Status.TheVariants.{Done, No, Memory, ShelfFault, SinkFault}
 use Rattle.rail_cli.specs.declared.input.InputFile.TheVariants as file
 use Rattle.rail_cli.specs.Texts.{limit_of, yes_line, plan_steps_line, plan_line, infeasible_line}
-use Rattle.rail_cli.specs.Answers.{one_line, design_in, checked, method_of, trial_conflicts, trial_ticks, plan_told}
-use Rattle.rail_cli.specs.Shows.{shown_by}
+use Rattle.rail_cli.specs.Answers.{one_line, design_in, check_reply, method_of, trial_conflicts, trial_ticks, reply_for_plan}
+use Rattle.rail_cli.specs.Shows.{verdict_at_horizon}
 use Rattle.rail_cli.specs.Simulations.{RunsSafely}
 
 -- ---- what a search ends with
@@ -46,14 +46,14 @@ EndsSearch m design_bytes n conflicts ticks found = (d : Station) → design_in 
     → Says m d n (budgets_of conflicts ticks) found × Fits m d n found
 
 -- a search that is asked for ends so for the design's file, and a trial for the station that is made
-abbrev pub Finds : Files → Option Asked → Outcome → Type 0
+abbrev pub Finds : Files → Option RequestSeen → Outcome → Type 0
 Finds files (Some (verify n conflicts ticks bounds design proof)) found =
     EndsSearch (method_of bounds) (files design) n conflicts ticks found
 Finds files (Some (trial seed size)) found = EndsTrial seed size found
 Finds files _ found = Unit {0}
 
 -- the same for the bytes of the design's file
-abbrev pub FindsGiven : List ℕ → Option Asked → Outcome → Type 0
+abbrev pub FindsGiven : List ℕ → Option RequestSeen → Outcome → Type 0
 FindsGiven design_bytes (Some (verify n conflicts ticks bounds design proof)) found =
     EndsSearch (method_of bounds) design_bytes n conflicts ticks found
 FindsGiven design_bytes (Some (trial seed size)) found = EndsTrial seed size found
@@ -67,39 +67,39 @@ pub record ShowsNone (d : Station) (n : ℕ) (log : List ℕ) : Type 0 where
   pub shows : judged d n log ≡ Yes n
 
 -- the shelf holds these files with such a log under the proof's name
-pub record HoldsLog (files : Files) (proof : List ℕ) (d : Station) (n : ℕ) (held : Option Files) : Type 0 where
+pub record HoldsLog (files : Files) (proof : List ℕ) (d : Station) (n : ℕ) (known_files : Option Files) : Type 0 where
   pub log : List ℕ
   pub proves : ShowsNone d n log
-  pub holds : held ≡ Some (updated files proof log)
+  pub holds : known_files ≡ Some (updated files proof log)
 
 -- such a log was to be stored, and the shelf holds these files with some bytes under the proof's name
-pub record SpoilsLog (files : Files) (proof : List ℕ) (d : Station) (n : ℕ) (held : Option Files) : Type 0 where
+pub record SpoilsLog (files : Files) (proof : List ℕ) (d : Station) (n : ℕ) (known_files : Option Files) : Type 0 where
   pub log : List ℕ
   pub proves : ShowsNone d n log
   pub some : List ℕ
-  pub holds : held ≡ Some (updated files proof some)
+  pub holds : known_files ≡ Some (updated files proof some)
 
 -- the design that the file spelled has no plan of n steps, and the shelf holds a log that shows it
 abbrev pub HoldsProof : Files → ℕ → List ℕ → List ℕ → Option Files → Type 0
-HoldsProof files n design proof held = (d : Station) × (design_in (files design) ≡ Ok d) × HoldsLog files proof d n held
+HoldsProof files n design proof known_files = (d : Station) × (design_in (files design) ≡ Ok d) × HoldsLog files proof d n known_files
 
 -- the design that the file spelled has no plan of n steps, and the store of a log that shows it has failed
 abbrev pub SpoilsProof : Files → ℕ → List ℕ → List ℕ → Option Files → Type 0
-SpoilsProof files n design proof held =
-    (d : Station) × (design_in (files design) ≡ Ok d) × SpoilsLog files proof d n held
+SpoilsProof files n design proof known_files =
+    (d : Station) × (design_in (files design) ≡ Ok d) × SpoilsLog files proof d n known_files
 
 -- what the shelf holds after a search, by its status: after 1 such a log; for want of memory or after a fault of the sink
 -- that, or the files as they were; after a fault of the shelf the files as they were, or where the store of such a log has
 -- failed some bytes in its place; else all as they were
 abbrev pub SearchLeaves : Files → ℕ → List ℕ → List ℕ → Status → Option Files → Type 0
-SearchLeaves files n design proof No held = HoldsProof files n design proof held
-SearchLeaves files n design proof Memory held = HoldsProof files n design proof held ⊎ (held ≡ Some files)
-SearchLeaves files n design proof SinkFault held = HoldsProof files n design proof held ⊎ (held ≡ Some files)
-SearchLeaves files n design proof ShelfFault held = SpoilsProof files n design proof held ⊎ (held ≡ Some files)
-SearchLeaves files n design proof _ held = held ≡ Some files
+SearchLeaves files n design proof No known_files = HoldsProof files n design proof known_files
+SearchLeaves files n design proof Memory known_files = HoldsProof files n design proof known_files ⊎ (known_files ≡ Some files)
+SearchLeaves files n design proof SinkFault known_files = HoldsProof files n design proof known_files ⊎ (known_files ≡ Some files)
+SearchLeaves files n design proof ShelfFault known_files = SpoilsProof files n design proof known_files ⊎ (known_files ≡ Some files)
+SearchLeaves files n design proof _ known_files = known_files ≡ Some files
 
 -- what the shelf holds after a request with this status: only a search changes it
-abbrev pub Leaves : Option Asked → Status → Option Files → Option Files → Type 0
+abbrev pub Leaves : Option RequestSeen → Status → Option Files → Option Files → Type 0
 Leaves (Some (verify n conflicts ticks bounds design proof)) s old new =
     (files : Files) → old ≡ Some files → SearchLeaves files n design proof s new
 Leaves _ s old new = new ≡ old
@@ -119,16 +119,16 @@ pub record Searches (files : Files) (words : List (List ℕ)) (n : ℕ) (d : Sta
 -- the lines printed are `plan steps <number of steps>`, the plan and its timetable; the plan is feasible for n steps, and none of fewer steps is; and its run is safe
 pub record TellsPlan (n : ℕ) (d : Station) (old new : Option (List ℕ)) : Type 0 where
   pub plan : List (List Command)
-  pub text : new ≡ grown old (concat (plan_told d plan).lines)
+  pub text : new ≡ grown old (concat (reply_for_plan d plan).lines)
   pub feasible : IsFeasible d n plan
   pub fewest : (s : ℕ) → s < length plan → IsInfeasible d s
-  pub met : (more : List (List ℕ)) × (timetable_of d (shown_by d plan) ≡ met_line (cost d (routes_of d) plan) ∷ more)
+  pub met : (more : List (List ℕ)) × (timetable_of d (verdict_at_horizon d plan) ≡ met_line (cost d (routes_of d) plan) ∷ more)
   pub safe : RunsSafely d plan
 
 -- what is printed is `infeasible steps <n>`; no plan of n steps is feasible; and the shelf holds a log under the proof's name, every other name as before, to which with the design's bytes a check answers `yes steps <n>`
 pub record TellsNone (files : Files) (design proof : List ℕ) (n : ℕ) (d : Station) (old new : Option (List ℕ))
-    (held : Option Files) : Type 0 where
+    (known_files : Option Files) : Type 0 where
   pub text : new ≡ grown old (infeasible_line n)
   pub none : IsInfeasible d n
-  pub stored : HoldsLog files proof d n held
-  pub passes : checked n (files design) stored.log ≡ one_line Done (yes_line n)
+  pub stored : HoldsLog files proof d n known_files
+  pub passes : check_reply n (files design) stored.log ≡ one_line Done (yes_line n)

@@ -8,5 +8,5 @@ use Rattle.rail_spec.specs.Histories.{verdict_of}
 use Rattle.rail_spec.specs.Track.{routes_of}
 
 -- what the run of a plan shows by the horizon
-abbrev pub shown_by : Station → List (List Command) → Verdict
-shown_by d plan = verdict_of d (routes_of d) plan (horizon d)
+abbrev pub verdict_at_horizon : Station → List (List Command) → Verdict
+verdict_at_horizon d plan = verdict_of d (routes_of d) plan (horizon d)

@@ -6,7 +6,7 @@ use Rattle.design_table.specs.declared.place.EntryKind.{EntryKind}
 use Rattle.design_table.specs.declared.place.Place.{Place}
 use Rattle.design_table.specs.declared.place.Place.TheVariants as place
 use Rattle.design_table.specs.Keys.{key_text, kind_key}
-use Rattle.log_checker.specs.declared.shown.Reason.{Reason}
+use Rattle.log_checker.specs.declared.check_result.Reason.{Reason}
 use Rattle.log_checker.specs.Words.{words_of}
 use Rattle.plan_text.specs.Text.{plan_text}
 use Rattle.rail_base.specs.declared.plan.Command.{Command}

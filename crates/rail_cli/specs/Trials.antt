@@ -10,10 +10,10 @@ use Rattle.workload.specs.Made.{made}
 use Rattle.rail_cli.specs.declared.status.Status.{Status}
 use Rattle.rail_cli.specs.declared.status.Status.TheVariants.{Done, No}
 use Rattle.rail_cli.specs.Texts.{plan_tick_line, infeasible_line}
-use Rattle.rail_cli.specs.Answers.{three_lines, Answer}
+use Rattle.rail_cli.specs.Answers.{three_lines, ReplySeen}
 
 -- the answer that tells a plan, with its number of steps and its deciding tick
-abbrev pub trial_plan_told : ℕ → ℕ → List (List Command) → Answer
+abbrev pub trial_plan_told : ℕ → ℕ → List (List Command) → ReplySeen
 trial_plan_told seed size plan =
     let d = made seed size in
     three_lines seed size d Done (plan_tick_line (length plan) (cost d (routes_of d) plan))

@@ -8,8 +8,8 @@ use Rattle.rail_base.specs.declared.plan.Command.{Command}
 use Rattle.rail_base.specs.declared.station.Station.{Station}
 use Rattle.rail_outside.specs.Files.{Files}
 use Rattle.rail_plan.specs.Reading.{plan_of}
-use Rattle.rail_spec.specs.Track.{routes_of, all_closings, edges_met_again}
-use Rattle.rail_words.specs.Requests.{Asked, simulate, routes, verify, check, trial}
+use Rattle.rail_spec.specs.Track.{routes_of, all_walks, edges_met_again}
+use Rattle.rail_words.specs.Requests.{RequestSeen, simulate, routes, verify, check, trial}
 use Rattle.verify_loop.specs.declared.outcome.Budgets.{Budgets}
 use Rattle.verify_loop.specs.declared.outcome.Outcome.{Outcome}
 use Rattle.verify_loop.specs.declared.outcome.Outcome.TheVariants as outcome
@@ -27,7 +27,7 @@ use Rattle.rail_cli.specs.Searches.{budgets_of}
 -- the routes of the design can be listed: no path of the first 2,001 meets an edge again, and at most 2,000 paths close
 pub record HasRoutes (d : Station) : Type 0 where
   pub once : edges_met_again d ≡ []
-  pub few : length (all_closings d) ≤ 2000
+  pub few : length (all_walks d) ≤ 2000
 
 -- the clauses that a search by the method for plans of n steps begins with have at most 16,000,000 literals
 abbrev pub HasFewClauses : Method → Station → ℕ → Type 0
@@ -46,7 +46,7 @@ pub record SpellsPlan (d : Station) (bytes : List ℕ) : Type 0 where
   pub spells : plan_of d (routes_of d) bytes ≡ Ok plan
 
 -- something is asked for, and nothing of it is refused: each file that is read is within its limit, they spell a design and a plan, and the clauses of a search, a check or a trial are few; a trial reads no file
-abbrev pub IsUnrefused : Files → Option Asked → Type 0
+abbrev pub IsUnrefused : Files → Option RequestSeen → Type 0
 IsUnrefused files None = ⊥
 IsUnrefused files (Some (simulate design plan)) =
     (d : Station) × SpellsDesign (files design) d × SpellsPlan d (files plan)
@@ -80,14 +80,14 @@ pub record SpendsBudget (m : Method) (d : Station) (n : ℕ) (budgets : Budgets)
   pub fits : Fits m d n found
 
 -- a run comes to a verdict, and one that lists routes to yes; a search or a trial may have spent a budget in its place
-abbrev pub ComesTo : Files → Option Asked → Status → Type 0
-ComesTo files None s = ⊥
-ComesTo files (Some (simulate design plan)) s = IsVerdict s
-ComesTo files (Some (routes design)) s = s ≡ status.Done
-ComesTo files (Some (verify n conflicts ticks bounds design proof)) s =
+abbrev pub HasVerdict : Files → Option RequestSeen → Status → Type 0
+HasVerdict files None s = ⊥
+HasVerdict files (Some (simulate design plan)) s = IsVerdict s
+HasVerdict files (Some (routes design)) s = s ≡ status.Done
+HasVerdict files (Some (verify n conflicts ticks bounds design proof)) s =
     IsVerdict s
     ⊎ ((d : Station) × (design_of (files design) ≡ Ok d)
     × SpendsBudget (method_of bounds) d n (budgets_of conflicts ticks) s)
-ComesTo files (Some (check n design proof)) s = IsVerdict s
-ComesTo files (Some (trial seed size)) s =
+HasVerdict files (Some (check n design proof)) s = IsVerdict s
+HasVerdict files (Some (trial seed size)) s =
     IsVerdict s ⊎ SpendsBudget Cones (made seed size) (2 * size) (budgets_of trial_conflicts trial_ticks) s

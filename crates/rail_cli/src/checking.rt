@@ -3,24 +3,24 @@
 ghost use Rattle.std.specs.Prelude.{◌≡◌, ◌≤◌, [], ◌∷◌, true, IfOk, Some, ℕ, List};
 ghost use Rattle.rail_outside.specs.Asks.{fetched};
 ghost use Rattle.rail_outside.specs.Files.{Files};
-ghost use Rattle.rail_outside.specs.Growth.{Rose, GrowsByFront};
+ghost use Rattle.rail_outside.specs.Growth.{Rose, GrowsByPrefix};
 ghost use Rattle.rail_spec.specs.Track.{routes_of};
 ghost use Rattle.plan_exclusion.specs.declared.method.Method.TheVariants.{Cones};
 ghost use Rattle.plan_encoding.specs.Bases.{IsBaseOf};
 ghost use Rattle.rail_cli.specs.Statuses.{is_verdict};
-ghost use Rattle.rail_cli.specs.Answers.{with_clauses, told, with_proof, checked};
-ghost use Rattle.rail_cli.specs.Replies.{Reads, RefusesFile, OnlyRefuses, Replies, RepliesSome, Tells};
+ghost use Rattle.rail_cli.specs.Answers.{with_clauses, reply_for, with_proof, check_reply};
+ghost use Rattle.rail_cli.specs.Replies.{Reads, RefusesFile, OnlyRefuses, Replies, RepliesSome, RepliesWith};
 ghost use Rattle.rail_words.specs.Requests.{check};
 
 use crate::ending::Ending;
 use crate::input::InputFile;
 use crate::reading::{admit, fetch};
-use crate::refusals::{ended, one_line, too_large};
+use crate::refusals::{ending_of, one_line, too_large};
 use crate::reply::Reply;
 use crate::status::Status;
 use crate::texts::{no_line, yes_line};
 use interlocking::{Interlocking, Steps};
-use log_checker::Shown;
+use log_checker::CheckResult;
 use plan_encoding::{Base, BaseFault, base};
 use proof_judge::judge;
 use rail_base::design::Design;
@@ -36,20 +36,50 @@ pub fn encode(alloc: Global, interlocking: &Interlocking, steps: Steps) -> Resul
 {
     match base(alloc, interlocking, steps) {
         Ok(base) => Ok(base),
-        Err(BaseFault::TooLarge { .. }) => Err(ended(too_large(alloc))),
+        Err(BaseFault::TooLarge { .. }) => Err(ending_of(too_large(alloc))),
         Err(BaseFault::Memory) => Err(Ending::Memory),
     }
 }
 
 /// What a proof file shows, in a line. The error is want of memory.
-pub fn tell(alloc: Global, shown: Shown) -> Result<Reply, AllocError>
-    ensures told { Tells result (told shown) }
+pub fn make_reply(alloc: Global, shown: CheckResult) -> Result<Reply, AllocError>
+    ensures replies { RepliesWith result (reply_for shown) }
     ensures verdict { IfOk result (λ reply. is_verdict reply.status ≡ true) }
 {
     match shown {
-        Shown::Yes { steps } => one_line(alloc, Status::Done, yes_line(alloc, steps)?),
-        Shown::No { line, reason } => one_line(alloc, Status::No, no_line(alloc, line, reason)?),
+        CheckResult::Yes { steps } => one_line(alloc, Status::Done, yes_line(alloc, steps)?),
+        CheckResult::No { line, reason } => one_line(
+            alloc,
+            Status::No,
+            no_line(alloc, line, reason)?,
+        ),
     }
+}
+
+/// The reply to a check, by the names of its files. The steps are 1 to 256.
+pub(crate) fn check_reply<S: Shelf>(
+    alloc: Global,
+    shelf: &mut S,
+    steps: u32,
+    design: &str,
+    proof: &str,
+) -> Result<Reply, Ending>
+    requires at_least_one { 1 ≤ steps }
+    requires at_most_256 { steps ≤ 256 }
+    ensures replies { (files : Files) → S.known_files shelf.old ≡ Some files
+        → Replies result (check_reply steps (files design.now) (files proof.now)) }
+    ensures for_some_files { RepliesSome result (Some (check steps design.now proof.now)) }
+    ensures verdict { IfOk result (λ reply. is_verdict reply.status ≡ true) }
+    ensures refuses { RefusesFile result }
+    ensures cause { result ≡ Err Ending.ShelfFault → Rose (S.fault_count shelf.old) (S.fault_count shelf.new) }
+    ensures never_falls { S.fault_count shelf.old ≤ S.fault_count shelf.new }
+    ensures files_stay { S.known_files shelf.new ≡ S.known_files shelf.old }
+    ensures asks { GrowsByPrefix (S.asked shelf.old) (S.asked shelf.new) (fetched design.now ∷ fetched proof.now ∷ []) }
+{
+    let design_bytes = fetch(alloc, shelf, InputFile::Design, design)?;
+    let interlocking = admit(alloc, design_bytes.as_slice())?;
+    let steps = Steps { count: steps };
+    checked_proof(alloc, shelf, &interlocking, steps, proof)
 }
 
 /// The reply to a check of a design, by the name of the proof's file.
@@ -60,45 +90,19 @@ fn checked_proof<S: Shelf>(
     steps: Steps,
     proof: &str,
 ) -> Result<Reply, Ending>
-    ensures replies { (files : Files) → S.held shelf.old ≡ Some files
+    ensures replies { (files : Files) → S.known_files shelf.old ≡ Some files
         → Replies result (with_proof steps.count interlocking.now.design.station (files proof.now)) }
-    ensures some { (bytes : List ℕ) × Replies result (with_proof steps.count interlocking.now.design.station bytes) }
+    ensures for_some_bytes { (bytes : List ℕ) × Replies result (with_proof steps.count interlocking.now.design.station bytes) }
     ensures verdict { IfOk result (λ reply. is_verdict reply.status ≡ true) }
     ensures refuses { RefusesFile result }
     ensures cause { result ≡ Err Ending.ShelfFault → Rose (S.fault_count shelf.old) (S.fault_count shelf.new) }
     ensures never_falls { S.fault_count shelf.old ≤ S.fault_count shelf.new }
-    ensures files_stay { S.held shelf.new ≡ S.held shelf.old }
-    ensures asks { GrowsByFront (S.asked shelf.old) (S.asked shelf.new) (fetched proof.now ∷ []) }
+    ensures files_stay { S.known_files shelf.new ≡ S.known_files shelf.old }
+    ensures asks { GrowsByPrefix (S.asked shelf.old) (S.asked shelf.new) (fetched proof.now ∷ []) }
 {
     let base = encode(alloc, interlocking, steps)?;
     let bytes = fetch(alloc, shelf, InputFile::Proof, proof)?;
     let shown = judge(alloc, interlocking, base, bytes.as_slice())?;
-    let reply = tell(alloc, shown)?;
+    let reply = make_reply(alloc, shown)?;
     Ok(reply)
-}
-
-/// The reply to a check, by the names of its files. The steps are 1 to 256.
-pub(crate) fn checked<S: Shelf>(
-    alloc: Global,
-    shelf: &mut S,
-    steps: u32,
-    design: &str,
-    proof: &str,
-) -> Result<Reply, Ending>
-    requires some { 1 ≤ steps }
-    requires most { steps ≤ 256 }
-    ensures replies { (files : Files) → S.held shelf.old ≡ Some files
-        → Replies result (checked steps (files design.now) (files proof.now)) }
-    ensures some { RepliesSome result (Some (check steps design.now proof.now)) }
-    ensures verdict { IfOk result (λ reply. is_verdict reply.status ≡ true) }
-    ensures refuses { RefusesFile result }
-    ensures cause { result ≡ Err Ending.ShelfFault → Rose (S.fault_count shelf.old) (S.fault_count shelf.new) }
-    ensures never_falls { S.fault_count shelf.old ≤ S.fault_count shelf.new }
-    ensures files_stay { S.held shelf.new ≡ S.held shelf.old }
-    ensures asks { GrowsByFront (S.asked shelf.old) (S.asked shelf.new) (fetched design.now ∷ fetched proof.now ∷ []) }
-{
-    let design_bytes = fetch(alloc, shelf, InputFile::Design, design)?;
-    let interlocking = admit(alloc, design_bytes.as_slice())?;
-    let steps = Steps { count: steps };
-    checked_proof(alloc, shelf, &interlocking, steps, proof)
 }

@@ -10,7 +10,7 @@ use std::alloc::AllocError;
 #[derive(Drop)]
 pub enum Ending {
     /// The words or a file are refused.
-    Told(Reply),
+    RefusedWith(Reply),
     /// Memory ran out.
     Memory,
     /// The shelf failed.

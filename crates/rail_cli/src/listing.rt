@@ -4,13 +4,13 @@ ghost use Rattle.std.specs.Prelude.{◌≡◌, ◌≤◌, ◌++◌, [], ◌∷�
 ghost use Rattle.std.specs.List.{flat_map};
 ghost use Rattle.rail_outside.specs.Asks.{fetched};
 ghost use Rattle.rail_outside.specs.Files.{Files};
-ghost use Rattle.rail_outside.specs.Growth.{Rose, GrowsByFront};
+ghost use Rattle.rail_outside.specs.Growth.{Rose, GrowsByPrefix};
 ghost use Rattle.rail_outside.specs.Lines.{lines_of};
 ghost use Rattle.rail_words.specs.Requests.{routes};
 ghost use Rattle.rail_cli.specs.Statuses.{is_verdict};
-ghost use Rattle.rail_cli.specs.Answers.{listed, routes_listed};
+ghost use Rattle.rail_cli.specs.Answers.{routes_answer, routes_listed};
 ghost use Rattle.rail_cli.specs.Listings.{start_text, finish_text, release_text, route_line, routes_text};
-ghost use Rattle.rail_cli.specs.Replies.{RefusesFile, Replies, RepliesSome, Tells};
+ghost use Rattle.rail_cli.specs.Replies.{RefusesFile, Replies, RepliesSome, RepliesWith};
 
 use crate::ending::Ending;
 use crate::input::InputFile;
@@ -25,6 +25,27 @@ use rail_base::station::SectionNo;
 use rail_outside::Shelf;
 use rail_text::put_number;
 use std::alloc::{AllocError, Global};
+
+/// The reply that lists routes, by the name of the design's file.
+pub(crate) fn routes_listed<S: Shelf>(
+    alloc: Global,
+    shelf: &mut S,
+    design: &str,
+) -> Result<Reply, Ending>
+    ensures replies { (files : Files) → S.known_files shelf.old ≡ Some files
+        → Replies result (routes_listed (files design.now)) }
+    ensures for_some_files { RepliesSome result (Some (routes design.now)) }
+    ensures verdict { IfOk result (λ reply. is_verdict reply.status ≡ true) }
+    ensures refuses { RefusesFile result }
+    ensures cause { result ≡ Err Ending.ShelfFault → Rose (S.fault_count shelf.old) (S.fault_count shelf.new) }
+    ensures never_falls { S.fault_count shelf.old ≤ S.fault_count shelf.new }
+    ensures files_stay { S.known_files shelf.new ≡ S.known_files shelf.old }
+    ensures asks { GrowsByPrefix (S.asked shelf.old) (S.asked shelf.new) (fetched design.now ∷ []) }
+{
+    let bytes = fetch(alloc, shelf, InputFile::Design, design)?;
+    let interlocking = admit(alloc, bytes.as_slice())?;
+    Ok(list(alloc, &interlocking)?)
+}
 
 /// Appends where a route begins.
 fn put_start(line: &mut Vec<u8>, design: &Design, start: Start) -> Result<(), AllocError>
@@ -55,7 +76,7 @@ fn put_finish(line: &mut Vec<u8>, design: &Design, finish: Finish) -> Result<(),
             line.extend_from_slice(b"signal:")?;
             line.extend_from_slice(signal_name(design, signal))
         }
-        Finish::Dead(node) => {
+        Finish::DeadEnd(node) => {
             line.extend_from_slice(b"dead:")?;
             line.extend_from_slice(node_name(design, node))
         }
@@ -127,32 +148,11 @@ fn route_lines(alloc: Global, design: &Design, routes: &[Route]) -> Result<Vec<V
 
 /// The routes of a design.
 fn list(alloc: Global, interlocking: &Interlocking) -> Result<Reply, AllocError>
-    ensures listed { Tells result (listed interlocking.now.design.station) }
+    ensures routes_answer { RepliesWith result (routes_answer interlocking.now.design.station) }
     ensures verdict { IfOk result (λ reply. is_verdict reply.status ≡ true) }
 {
     Ok(Reply {
         status: Status::Done,
         lines: route_lines(alloc, &interlocking.design, interlocking.routes.as_slice())?,
     })
-}
-
-/// The reply that lists routes, by the name of the design's file.
-pub(crate) fn routes_listed<S: Shelf>(
-    alloc: Global,
-    shelf: &mut S,
-    design: &str,
-) -> Result<Reply, Ending>
-    ensures replies { (files : Files) → S.held shelf.old ≡ Some files
-        → Replies result (routes_listed (files design.now)) }
-    ensures some { RepliesSome result (Some (routes design.now)) }
-    ensures verdict { IfOk result (λ reply. is_verdict reply.status ≡ true) }
-    ensures refuses { RefusesFile result }
-    ensures cause { result ≡ Err Ending.ShelfFault → Rose (S.fault_count shelf.old) (S.fault_count shelf.new) }
-    ensures never_falls { S.fault_count shelf.old ≤ S.fault_count shelf.new }
-    ensures files_stay { S.held shelf.new ≡ S.held shelf.old }
-    ensures asks { GrowsByFront (S.asked shelf.old) (S.asked shelf.new) (fetched design.now ∷ []) }
-{
-    let bytes = fetch(alloc, shelf, InputFile::Design, design)?;
-    let interlocking = admit(alloc, bytes.as_slice())?;
-    Ok(list(alloc, &interlocking)?)
 }

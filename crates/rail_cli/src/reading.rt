@@ -3,14 +3,14 @@
 ghost use Rattle.std.specs.Prelude.{◌≡◌, ◌≤◌, [], ◌∷◌, IfOk, OnOk, Some, ℕ, List};
 ghost use Rattle.rail_outside.specs.Asks.{fetched};
 ghost use Rattle.rail_outside.specs.Files.{Files};
-ghost use Rattle.rail_outside.specs.Growth.{Rose, grown, GrowsByFront};
+ghost use Rattle.rail_outside.specs.Growth.{Rose, grown, GrowsByPrefix};
 ghost use Rattle.rail_cli.specs.Answers.{within_limit, design_in, with_routes, design_or_answer};
 ghost use Rattle.rail_cli.specs.Replies.{Reads, RefusesFile, OnlyRefuses};
 ghost use Rattle.infra_reader.specs.Design.{design_of};
 
 use crate::ending::Ending;
 use crate::input::InputFile;
-use crate::refusals::{design_refused, ended, too_long};
+use crate::refusals::{design_refused, ending_of, too_long};
 use design_table::{Code, DesignFault, EntryKind, Place};
 use infra_reader::read_design;
 use interlocking::Interlocking;
@@ -26,36 +26,30 @@ pub fn fetch<S: Shelf>(
     file: InputFile,
     name: &str,
 ) -> Result<Vec<u8>, Ending>
-    ensures reads { (files : Files) → S.held shelf.old ≡ Some files
+    ensures reads { (files : Files) → S.known_files shelf.old ≡ Some files
         → Reads (λ v. v.items) result (within_limit file (files name.now)) }
-    ensures some { (bytes : List ℕ) × Reads (λ v. v.items) result (within_limit file bytes) }
+    ensures for_some_bytes { (bytes : List ℕ) × Reads (λ v. v.items) result (within_limit file bytes) }
     ensures refuses { RefusesFile result }
     ensures cause { result ≡ Err Ending.ShelfFault → Rose (S.fault_count shelf.old) (S.fault_count shelf.new) }
     ensures never_falls { S.fault_count shelf.old ≤ S.fault_count shelf.new }
-    ensures files_stay { S.held shelf.new ≡ S.held shelf.old }
+    ensures files_stay { S.known_files shelf.new ≡ S.known_files shelf.old }
     ensures asked { OnOk result (S.asked shelf.new ≡ grown (S.asked shelf.old) (fetched name.now ∷ [])) }
-    ensures asks { GrowsByFront (S.asked shelf.old) (S.asked shelf.new) (fetched name.now ∷ []) }
+    ensures asks { GrowsByPrefix (S.asked shelf.old) (S.asked shelf.new) (fetched name.now ∷ []) }
 {
     match shelf.fetch(alloc, name, file.limit()) {
         Ok(bytes) => Ok(bytes),
-        Err(FetchFault::TooLong { .. }) => Err(ended(too_long(alloc, file))),
+        Err(FetchFault::TooLong { .. }) => Err(ending_of(too_long(alloc, file))),
         Err(FetchFault::Failed) => Err(Ending::ShelfFault),
         Err(FetchFault::Memory) => Err(Ending::Memory),
     }
 }
 
-/// The design that the bytes spell, before its routes are listed.
-fn read(alloc: Global, bytes: &[u8]) -> Result<Design, Ending>
-    ensures reads { Reads (λ d. d.station) result (design_or_answer (design_of bytes.now)) }
+/// The design that is parsed from the bytes, with its routes. The ending tells why it is refused, or is want of memory.
+pub fn admit(alloc: Global, bytes: &[u8]) -> Result<Interlocking, Ending>
+    ensures reads { Reads (λ i. i.design.station) result (design_in bytes.now) }
     ensures refuses { OnlyRefuses result }
 {
-    match read_design(alloc, bytes) {
-        Ok(design) => Ok(design),
-        Err(DesignFault::Refused { code, place }) => {
-            Err(ended(design_refused(alloc, code, place)))
-        }
-        Err(DesignFault::Memory) => Err(Ending::Memory),
-    }
+    interlock(alloc, read(alloc, bytes)?)
 }
 
 /// A design with its routes.
@@ -66,19 +60,27 @@ pub(crate) fn interlock(alloc: Global, design: Design) -> Result<Interlocking, E
 {
     match interlocking(alloc, design) {
         Ok(interlocking) => Ok(interlocking),
-        Err(RouteFault::Again { edge }) => {
+        Err(RouteFault::RepeatsEdge { edge }) => {
             let place = Place::Entry(EntryKind::Edge, u64::from(edge.0));
-            Err(ended(design_refused(alloc, Code::D12, place)))
+            Err(ending_of(design_refused(alloc, Code::D12, place)))
         }
-        Err(RouteFault::TooMany) => { Err(ended(design_refused(alloc, Code::D13, Place::Routes))) }
+        Err(RouteFault::TooMany) => {
+            Err(ending_of(design_refused(alloc, Code::D13, Place::Routes)))
+        }
         Err(RouteFault::Memory) => Err(Ending::Memory),
     }
 }
 
-/// The design that the bytes spell, with its routes. The ending tells why it is refused, or is want of memory.
-pub fn admit(alloc: Global, bytes: &[u8]) -> Result<Interlocking, Ending>
-    ensures reads { Reads (λ i. i.design.station) result (design_in bytes.now) }
+/// The design that is parsed from the bytes, before its routes are found.
+fn read(alloc: Global, bytes: &[u8]) -> Result<Design, Ending>
+    ensures reads { Reads (λ d. d.station) result (design_or_answer (design_of bytes.now)) }
     ensures refuses { OnlyRefuses result }
 {
-    interlock(alloc, read(alloc, bytes)?)
+    match read_design(alloc, bytes) {
+        Ok(design) => Ok(design),
+        Err(DesignFault::Refused { code, place }) => {
+            Err(ending_of(design_refused(alloc, code, place)))
+        }
+        Err(DesignFault::Memory) => Err(Ending::Memory),
+    }
 }

@@ -5,7 +5,7 @@ ghost use Rattle.rail_cli.specs.Statuses.{is_answered};
 ghost use Rattle.rail_cli.specs.Texts.{usage_line, too_long_line, design_refused_line, too_large_line};
 ghost use Rattle.rail_cli.specs.Texts.{plan_refused_line};
 ghost use Rattle.rail_cli.specs.Answers.{one_line};
-ghost use Rattle.rail_cli.specs.Replies.{ended, Tells};
+ghost use Rattle.rail_cli.specs.Replies.{ending_of, RepliesWith};
 
 use crate::ending::Ending;
 use crate::input::InputFile;
@@ -23,7 +23,7 @@ use std::alloc::{AllocError, Global};
 /// A reply of one line. The error is want of memory.
 pub fn one_line(alloc: Global, status: Status, line: Vec<u8>) -> Result<Reply, AllocError>
     requires { is_answered status ≡ true }
-    ensures { Tells result (one_line status line.items) }
+    ensures { RepliesWith result (one_line status line.items) }
 {
     let mut lines = Vec::new(alloc);
     lines.push(line)?;
@@ -32,21 +32,21 @@ pub fn one_line(alloc: Global, status: Status, line: Vec<u8>) -> Result<Reply, A
 
 /// The words ask for nothing.
 pub(crate) fn usage(alloc: Global) -> Result<Reply, AllocError>
-    ensures { Tells result (one_line Status.Usage usage_line) }
+    ensures { RepliesWith result (one_line Status.Usage usage_line) }
 {
     one_line(alloc, Status::Usage, usage_line(alloc)?)
 }
 
 /// A file is longer than its limit.
 pub(crate) fn too_long(alloc: Global, file: InputFile) -> Result<Reply, AllocError>
-    ensures { Tells result (one_line Status.TooLong (too_long_line file)) }
+    ensures { RepliesWith result (one_line Status.TooLong (too_long_line file)) }
 {
     one_line(alloc, Status::TooLong, too_long_line(alloc, file)?)
 }
 
 /// The design is refused.
 pub(crate) fn design_refused(alloc: Global, code: Code, place: Place) -> Result<Reply, AllocError>
-    ensures { Tells result (one_line Status.DesignRefused (design_refused_line code place)) }
+    ensures { RepliesWith result (one_line Status.DesignRefused (design_refused_line code place)) }
 {
     one_line(
         alloc,
@@ -57,7 +57,7 @@ pub(crate) fn design_refused(alloc: Global, code: Code, place: Place) -> Result<
 
 /// The clauses of the design are too many.
 pub(crate) fn too_large(alloc: Global) -> Result<Reply, AllocError>
-    ensures { Tells result (one_line Status.DesignRefused too_large_line) }
+    ensures { RepliesWith result (one_line Status.DesignRefused too_large_line) }
 {
     one_line(alloc, Status::DesignRefused, too_large_line(alloc)?)
 }
@@ -69,7 +69,7 @@ pub(crate) fn plan_refused(
     code: PlanCode,
     place: PlanPlace,
 ) -> Result<Reply, AllocError>
-    ensures { Tells result (one_line Status.PlanRefused (plan_refused_line design.now.station code place)) }
+    ensures { RepliesWith result (one_line Status.PlanRefused (plan_refused_line design.now.station code place)) }
 {
     one_line(
         alloc,
@@ -79,11 +79,11 @@ pub(crate) fn plan_refused(
 }
 
 /// The work ends with a reply, or for want of memory.
-pub(crate) fn ended(reply: Result<Reply, AllocError>) -> Ending
-    ensures { result ≡ ended reply }
+pub(crate) fn ending_of(reply: Result<Reply, AllocError>) -> Ending
+    ensures { result ≡ ending_of reply }
 {
     match reply {
-        Ok(reply) => Ending::Told(reply),
+        Ok(reply) => Ending::RefusedWith(reply),
         Err(_) => Ending::Memory,
     }
 }

@@ -4,10 +4,10 @@ ghost use Rattle.std.specs.Prelude.{◌≡◌, ◌≢◌, ◌≤◌, ◌↔◌, 
 ghost use Rattle.rail_base.specs.declared.station.Station.{Station};
 ghost use Rattle.rail_base.specs.declared.plan.Command.{Command};
 ghost use Rattle.rail_outside.specs.Files.{Files};
-ghost use Rattle.rail_outside.specs.Growth.{Rose, GrowsByFront};
+ghost use Rattle.rail_outside.specs.Growth.{Rose, GrowsByPrefix};
 ghost use Rattle.rail_words.specs.Requests.{IsInRange, request_of, trial};
 ghost use Rattle.rail_words.specs.Laws.{AsksForNothing};
-ghost use Rattle.rail_words.specs.Words.{texts_of, asked_of};
+ghost use Rattle.rail_words.specs.Words.{texts_of, request_seen};
 ghost use Rattle.verify_loop.specs.declared.outcome.Outcome.{Outcome};
 ghost use Rattle.rail_cli.specs.Statuses.{is_answered};
 ghost use Rattle.rail_cli.specs.Answers.{answer_of, asks_to, asks_of};
@@ -18,86 +18,20 @@ ghost use Rattle.rail_cli.specs.Replies.{DecidesRequest, Tries};
 ghost use Rattle.rail_cli.specs.Searches.{Finds, Leaves, Searches, TellsNone, TellsPlan};
 ghost use Rattle.rail_cli.specs.Simulations.{Simulates, TellsFeasible, DoneWhereFeasible};
 ghost use Rattle.rail_cli.specs.Trials.{TellsTrial};
-ghost use Rattle.rail_cli.specs.Verdicts.{IsUnrefused, ComesTo};
+ghost use Rattle.rail_cli.specs.Verdicts.{IsUnrefused, HasVerdict};
 
-use crate::checking::checked;
+use crate::checking::check_reply;
 use crate::ending::Ending;
 use crate::listing::routes_listed;
 use crate::refusals::usage;
 use crate::reply::Reply;
-use crate::searching::{budgets, searched};
-use crate::simulation::simulated;
+use crate::searching::{budgets, search_reply};
+use crate::simulation::simulation_reply;
 use crate::status::Status;
-use crate::trial::tried;
+use crate::trial::trial_reply;
 use rail_outside::{Shelf, Sink, SinkFault, put_lines};
 use rail_words::{Request, WordsFault, read_words};
 use std::alloc::Global;
-
-/// The reply to a request.
-fn requested<S: Shelf>(alloc: Global, shelf: &mut S, request: Request<'_>) -> Result<Reply, Ending>
-    requires range { IsInRange (asked_of request) }
-    ensures replies { (files : Files) → S.held shelf.old ≡ Some files
-        → RepliesSo result files (Some (asked_of request.entry)) }
-    ensures some { RepliesSome result (Some (asked_of request.entry)) }
-    ensures no_usage { IfOk result (λ reply. reply.status ≢ Status.Usage) }
-    ensures refuses { RefusesFile result }
-    ensures tries { Tries (Some (asked_of request.entry)) result }
-    ensures decides { (files : Files) → S.held shelf.old ≡ Some files
-        → DecidesRequest files (asked_of request.entry) result }
-    ensures cause { result ≡ Err Ending.ShelfFault → Rose (S.fault_count shelf.old) (S.fault_count shelf.new) }
-    ensures never_falls { S.fault_count shelf.old ≤ S.fault_count shelf.new }
-    ensures held { OnEnd result (λ s. Leaves (Some (asked_of request.entry)) s (S.held shelf.old) (S.held shelf.new)) }
-    ensures asks { GrowsByFront (S.asked shelf.old) (S.asked shelf.new) (asks_to (Some (asked_of request.entry))) }
-{
-    match request {
-        Request::Simulate { design, plan } => simulated(alloc, shelf, design, plan),
-        Request::Routes { design } => routes_listed(alloc, shelf, design),
-        Request::Verify {
-            steps,
-            conflicts,
-            ticks,
-            bounds,
-            design,
-            proof,
-        } => searched(
-            alloc,
-            shelf,
-            steps,
-            bounds,
-            budgets(conflicts, ticks),
-            design,
-            proof,
-        ),
-        Request::Check {
-            steps,
-            design,
-            proof,
-        } => checked(alloc, shelf, steps, design, proof),
-        Request::Trial { seed, size } => tried(alloc, seed, size),
-    }
-}
-
-/// The reply to the words of a command line.
-fn reply<S: Shelf>(alloc: Global, words: &[String], shelf: &mut S) -> Result<Reply, Ending>
-    ensures replies { (files : Files) → S.held shelf.old ≡ Some files
-        → RepliesSo result files (request_of (texts_of words.now)) }
-    ensures some { RepliesSome result (request_of (texts_of words.now)) }
-    ensures tries { Tries (request_of (texts_of words.now)) result }
-    ensures done { (files : Files) → S.held shelf.old ≡ Some files
-        → OnReply result (λ reply. DoneWhereFeasible files (texts_of words.now) reply.status) }
-    ensures usage { OnReply result (λ reply. (reply.status ≡ Status.Usage) ↔ (request_of (texts_of words.now) ≡ None)) }
-    ensures cause { result ≡ Err Ending.ShelfFault → Rose (S.fault_count shelf.old) (S.fault_count shelf.new) }
-    ensures never_falls { S.fault_count shelf.old ≤ S.fault_count shelf.new }
-    ensures held { OnEnd result (λ s.
-        Leaves (request_of (texts_of words.now)) s (S.held shelf.old) (S.held shelf.new)) }
-    ensures asks { GrowsByFront (S.asked shelf.old) (S.asked shelf.new) (asks_of (texts_of words.now)) }
-{
-    match read_words(alloc, words) {
-        Ok(request) => requested(alloc, shelf, request),
-        Err(WordsFault::Usage) => Ok(usage(alloc)?),
-        Err(WordsFault::Memory) => Err(Ending::Memory),
-    }
-}
 
 /// Prints a reply line by line, and tells how the run ends: by the status of the reply, want of memory or a fault of the sink.
 pub fn print<O: Sink>(reply: &Reply, out: &mut O) -> Status
@@ -125,7 +59,7 @@ pub fn run_words<S: Shelf, O: Sink>(
     shelf: &mut S,
     out: &mut O,
 ) -> Status
-    ensures answer { (files : Files) → S.held shelf.old ≡ Some files → (found : Outcome)
+    ensures answer { (files : Files) → S.known_files shelf.old ≡ Some files → (found : Outcome)
         × Finds files (request_of (texts_of words.now)) found
         × Prints (answer_of files found (texts_of words.now)) result
         (O.written out.old) (O.written out.new) (O.puts out.old) (O.puts out.new) }
@@ -135,29 +69,29 @@ pub fn run_words<S: Shelf, O: Sink>(
         (O.written out.old) (O.written out.new) (O.puts out.old) (O.puts out.new) }
 
     // A simulation answers yes exactly where the plan is feasible, and a check only where the design has no plan.
-    ensures met { (files : Files) → S.held shelf.old ≡ Some files → (d : Station) (plan : List (List Command))
+    ensures met { (files : Files) → S.known_files shelf.old ≡ Some files → (d : Station) (plan : List (List Command))
         → Simulates files (texts_of words.now) d plan → is_answered result ≡ true
         → TellsFeasible d plan result (O.written out.old) (O.written out.new) }
-    ensures infeasible { (files : Files) → S.held shelf.old ≡ Some files → (n : ℕ) (d : Station)
+    ensures infeasible { (files : Files) → S.known_files shelf.old ≡ Some files → (n : ℕ) (d : Station)
         → Checks files (texts_of words.now) n d → result ≡ Status.Done
         → TellsInfeasible n d (O.written out.old) (O.written out.new) }
 
     // A search prints a plan only where it is feasible, and that there is none only where there is none.
-    ensures planned { (files : Files) → S.held shelf.old ≡ Some files → (n : ℕ) (d : Station)
+    ensures planned { (files : Files) → S.known_files shelf.old ≡ Some files → (n : ℕ) (d : Station)
         → Searches files (texts_of words.now) n d → result ≡ Status.Done
         → TellsPlan n d (O.written out.old) (O.written out.new) }
-    ensures proven { (files : Files) → S.held shelf.old ≡ Some files → (n : ℕ) (d : Station)
+    ensures proven { (files : Files) → S.known_files shelf.old ≡ Some files → (n : ℕ) (d : Station)
         → (s : Searches files (texts_of words.now) n d) → result ≡ Status.No
-        → TellsNone files s.design_name s.proof_name n d (O.written out.old) (O.written out.new) (S.held shelf.new) }
+        → TellsNone files s.design_name s.proof_name n d (O.written out.old) (O.written out.new) (S.known_files shelf.new) }
 
     // A trial asks nothing of the shelf, so this holds over any.
     ensures tried { (seed size : ℕ) → request_of (texts_of words.now) ≡ Some (trial seed size)
         → TellsTrial seed size result (O.written out.old) (O.written out.new) }
 
     // Where nothing is refused, a run comes to a verdict, unless a search has spent a budget.
-    ensures comes_to { (files : Files) → S.held shelf.old ≡ Some files
+    ensures has_verdict { (files : Files) → S.known_files shelf.old ≡ Some files
         → IsUnrefused files (request_of (texts_of words.now)) → is_answered result ≡ true
-        → ComesTo files (request_of (texts_of words.now)) result }
+        → HasVerdict files (request_of (texts_of words.now)) result }
     ensures usage { is_answered result ≡ true → (result ≡ Status.Usage) ↔ AsksForNothing (texts_of words.now) }
 
     // A fault comes only where its side has counted one.
@@ -167,13 +101,83 @@ pub fn run_words<S: Shelf, O: Sink>(
     ensures sink_count { O.fault_count out.old ≤ O.fault_count out.new }
 
     // Nothing is stored but what a search proves, and nothing is asked for but the named files, in their order.
-    ensures held { Leaves (request_of (texts_of words.now)) result (S.held shelf.old) (S.held shelf.new) }
-    ensures asked { GrowsByFront (S.asked shelf.old) (S.asked shelf.new) (asks_of (texts_of words.now)) }
+    ensures stored { Leaves (request_of (texts_of words.now)) result (S.known_files shelf.old) (S.known_files shelf.new) }
+    ensures asked { GrowsByPrefix (S.asked shelf.old) (S.asked shelf.new) (asks_of (texts_of words.now)) }
 {
     match reply(alloc, words, shelf) {
         Ok(reply) => print(&reply, out),
-        Err(Ending::Told(reply)) => print(&reply, out),
+        Err(Ending::RefusedWith(reply)) => print(&reply, out),
         Err(Ending::Memory) => Status::Memory,
         Err(Ending::ShelfFault) => Status::ShelfFault,
+    }
+}
+
+/// The reply to a request.
+fn request_reply<S: Shelf>(
+    alloc: Global,
+    shelf: &mut S,
+    request: Request<'_>,
+) -> Result<Reply, Ending>
+    requires range { IsInRange (request_seen request) }
+    ensures replies { (files : Files) → S.known_files shelf.old ≡ Some files
+        → RepliesSo result files (Some (request_seen request.entry)) }
+    ensures for_some_files { RepliesSome result (Some (request_seen request.entry)) }
+    ensures no_usage { IfOk result (λ reply. reply.status ≢ Status.Usage) }
+    ensures refuses { RefusesFile result }
+    ensures tries { Tries (Some (request_seen request.entry)) result }
+    ensures decides { (files : Files) → S.known_files shelf.old ≡ Some files
+        → DecidesRequest files (request_seen request.entry) result }
+    ensures cause { result ≡ Err Ending.ShelfFault → Rose (S.fault_count shelf.old) (S.fault_count shelf.new) }
+    ensures never_falls { S.fault_count shelf.old ≤ S.fault_count shelf.new }
+    ensures stored { OnEnd result (λ s. Leaves (Some (request_seen request.entry)) s (S.known_files shelf.old) (S.known_files shelf.new)) }
+    ensures asks { GrowsByPrefix (S.asked shelf.old) (S.asked shelf.new) (asks_to (Some (request_seen request.entry))) }
+{
+    match request {
+        Request::Simulate { design, plan } => simulation_reply(alloc, shelf, design, plan),
+        Request::Routes { design } => routes_listed(alloc, shelf, design),
+        Request::Verify {
+            steps,
+            conflicts,
+            ticks,
+            bounds,
+            design,
+            proof,
+        } => search_reply(
+            alloc,
+            shelf,
+            steps,
+            bounds,
+            budgets(conflicts, ticks),
+            design,
+            proof,
+        ),
+        Request::Check {
+            steps,
+            design,
+            proof,
+        } => check_reply(alloc, shelf, steps, design, proof),
+        Request::Trial { seed, size } => trial_reply(alloc, seed, size),
+    }
+}
+
+/// The reply to the words of a command line.
+fn reply<S: Shelf>(alloc: Global, words: &[String], shelf: &mut S) -> Result<Reply, Ending>
+    ensures replies { (files : Files) → S.known_files shelf.old ≡ Some files
+        → RepliesSo result files (request_of (texts_of words.now)) }
+    ensures for_some_files { RepliesSome result (request_of (texts_of words.now)) }
+    ensures tries { Tries (request_of (texts_of words.now)) result }
+    ensures done { (files : Files) → S.known_files shelf.old ≡ Some files
+        → OnReply result (λ reply. DoneWhereFeasible files (texts_of words.now) reply.status) }
+    ensures usage { OnReply result (λ reply. (reply.status ≡ Status.Usage) ↔ (request_of (texts_of words.now) ≡ None)) }
+    ensures cause { result ≡ Err Ending.ShelfFault → Rose (S.fault_count shelf.old) (S.fault_count shelf.new) }
+    ensures never_falls { S.fault_count shelf.old ≤ S.fault_count shelf.new }
+    ensures stored { OnEnd result (λ s.
+        Leaves (request_of (texts_of words.now)) s (S.known_files shelf.old) (S.known_files shelf.new)) }
+    ensures asks { GrowsByPrefix (S.asked shelf.old) (S.asked shelf.new) (asks_of (texts_of words.now)) }
+{
+    match read_words(alloc, words) {
+        Ok(request) => request_reply(alloc, shelf, request),
+        Err(WordsFault::Usage) => Ok(usage(alloc)?),
+        Err(WordsFault::Memory) => Err(Ending::Memory),
     }
 }

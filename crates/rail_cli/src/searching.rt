@@ -3,16 +3,16 @@
 ghost use Rattle.std.specs.Prelude.{◌≡◌, ◌≢◌, ◌≤◌, [], ◌∷◌, length, ℕ, List, IfOk, Ok, Some};
 ghost use Rattle.rail_outside.specs.Asks.{fetched, stored};
 ghost use Rattle.rail_outside.specs.Files.{Files};
-ghost use Rattle.rail_outside.specs.Growth.{Rose, GrowsByFront};
+ghost use Rattle.rail_outside.specs.Growth.{Rose, GrowsByPrefix};
 ghost use Rattle.rail_outside.specs.Lines.{lines_of};
 ghost use Rattle.rail_words.specs.Requests.{verify};
 ghost use Rattle.plan_exclusion.specs.declared.method.Method.{Method};
 ghost use Rattle.verify_loop.specs.declared.outcome.Outcome.{Outcome};
 ghost use Rattle.verify_loop.specs.Outcomes.{Says, Fits};
-ghost use Rattle.rail_cli.specs.Answers.{design_in, method_of, one_line, plan_told, searched_in, told_outcome};
-ghost use Rattle.rail_cli.specs.Shows.{shown_by};
+ghost use Rattle.rail_cli.specs.Answers.{design_in, method_of, one_line, reply_for_plan, searched_in, reply_for_outcome};
+ghost use Rattle.rail_cli.specs.Shows.{verdict_at_horizon};
 ghost use Rattle.rail_cli.specs.Replies.{KeepsLog, OnEnd, OnlyFails, RefusesFile, Replies, RepliesSo};
-ghost use Rattle.rail_cli.specs.Replies.{RepliesSome, StoresFile, Tells};
+ghost use Rattle.rail_cli.specs.Replies.{RepliesSome, StoresFile, RepliesWith};
 ghost use Rattle.rail_cli.specs.Searches.{budgets_of, SearchLeaves};
 ghost use Rattle.rail_cli.specs.Texts.{limit_of, plan_steps_line, plan_line, infeasible_line, conflicts_spent_line};
 ghost use Rattle.rail_cli.specs.Texts.{ticks_spent_line, log_spent_line};
@@ -48,6 +48,39 @@ pub(crate) fn budgets(conflicts: u64, ticks: u64) -> Budgets
     }
 }
 
+/// The reply to a search for a plan of so many steps, 1 to 256, by the names of its files; plans that fail are excluded
+/// by bounds where these are asked for. Where there is no plan, the log that shows it is stored under the proof's name.
+pub(crate) fn search_reply<S: Shelf>(
+    alloc: Global,
+    shelf: &mut S,
+    steps: u32,
+    bounds: bool,
+    budgets: Budgets,
+    design: &str,
+    proof: &str,
+) -> Result<Reply, Ending>
+    requires at_least_one { 1 ≤ steps }
+    requires at_most_256 { steps ≤ 256 }
+    requires room { budgets.log_bytes ≡ limit_of InputFile.Proof }
+    ensures replies { (files : Files) → S.known_files shelf.old ≡ Some files
+        → RepliesSo result files (Some (verify steps budgets.conflicts budgets.ticks bounds design.now proof.now)) }
+    ensures for_some_files { RepliesSome result
+        (Some (verify steps budgets.conflicts budgets.ticks bounds design.now proof.now)) }
+    ensures no_usage { IfOk result (λ reply. reply.status ≢ Status.Usage) }
+    ensures refuses { RefusesFile result }
+    ensures stored { (files : Files) → S.known_files shelf.old ≡ Some files
+        → OnEnd result (λ s. SearchLeaves files steps design.now proof.now s (S.known_files shelf.new)) }
+    ensures cause { result ≡ Err Ending.ShelfFault → Rose (S.fault_count shelf.old) (S.fault_count shelf.new) }
+    ensures never_falls { S.fault_count shelf.old ≤ S.fault_count shelf.new }
+    ensures asks { GrowsByPrefix (S.asked shelf.old) (S.asked shelf.new) (fetched design.now ∷ stored proof.now ∷ []) }
+{
+    let bytes = fetch(alloc, shelf, InputFile::Design, design)?;
+    let interlocking = admit(alloc, bytes.as_slice())?;
+    let steps = Steps { count: steps };
+    let method = method_of(bounds);
+    searched_in(alloc, shelf, &interlocking, steps, method, budgets, proof)
+}
+
 /// How plans that fail are excluded.
 fn method_of(bounds: bool) -> Method
     ensures { result ≡ method_of bounds }
@@ -77,8 +110,8 @@ fn plan_found(
     plan: &Plan,
     verdict: &Verdict,
 ) -> Result<Reply, AllocError>
-    requires { verdict.now ≡ shown_by design.now.station plan.now.steps }
-    ensures { Tells result (plan_told design.now.station plan.now.steps) }
+    requires { verdict.now ≡ verdict_at_horizon design.now.station plan.now.steps }
+    ensures { RepliesWith result (reply_for_plan design.now.station plan.now.steps) }
 {
     let mut lines = plan_lines(alloc, design, plan)?;
     let mut timetable = timetable_lines(alloc, design, verdict)?;
@@ -91,14 +124,14 @@ fn plan_found(
 
 /// There is no plan of so many steps.
 fn infeasible(alloc: Global, steps: u32) -> Result<Reply, AllocError>
-    ensures { Tells result (one_line Status.No (infeasible_line steps)) }
+    ensures { RepliesWith result (one_line Status.No (infeasible_line steps)) }
 {
     one_line(alloc, Status::No, infeasible_line(alloc, steps)?)
 }
 
 /// As many clauses were derived as were allowed.
 fn conflicts_spent(alloc: Global, conflicts: u64) -> Result<Reply, AllocError>
-    ensures { Tells result (one_line Status.ConflictsSpent (conflicts_spent_line conflicts)) }
+    ensures { RepliesWith result (one_line Status.ConflictsSpent (conflicts_spent_line conflicts)) }
 {
     one_line(
         alloc,
@@ -109,7 +142,7 @@ fn conflicts_spent(alloc: Global, conflicts: u64) -> Result<Reply, AllocError>
 
 /// The next plan takes more ticks than are left.
 fn ticks_spent(alloc: Global, sum: u64, ticks: u64) -> Result<Reply, AllocError>
-    ensures { Tells result (one_line Status.TicksSpent (ticks_spent_line sum ticks)) }
+    ensures { RepliesWith result (one_line Status.TicksSpent (ticks_spent_line sum ticks)) }
 {
     one_line(
         alloc,
@@ -120,13 +153,13 @@ fn ticks_spent(alloc: Global, sum: u64, ticks: u64) -> Result<Reply, AllocError>
 
 /// The next line of the log has no room.
 fn log_spent(alloc: Global, bytes: u64, next: u64) -> Result<Reply, AllocError>
-    ensures { Tells result (one_line Status.LogSpent (log_spent_line bytes next)) }
+    ensures { RepliesWith result (one_line Status.LogSpent (log_spent_line bytes next)) }
 {
     one_line(alloc, Status::LogSpent, log_spent_line(alloc, bytes, next)?)
 }
 
 /// The reply for what a search ended with.
-fn tell(
+fn make_reply(
     alloc: Global,
     design: &Design,
     steps: u32,
@@ -134,7 +167,7 @@ fn tell(
     found: &Outcome,
 ) -> Result<Reply, AllocError>
     requires { (m : Method) × Says m design.now.station steps budgets found.now }
-    ensures { Tells result (told_outcome design.now.station steps budgets.conflicts budgets.ticks found.now) }
+    ensures { RepliesWith result (reply_for_outcome design.now.station steps budgets.conflicts budgets.ticks found.now) }
 {
     match found {
         Outcome::Plan { plan, verdict } => plan_found(alloc, design, plan, verdict),
@@ -149,12 +182,12 @@ fn tell(
 
 /// Puts bytes under a name of the shelf.
 fn store<S: Shelf>(shelf: &mut S, name: &str, bytes: &[u8]) -> Result<(), Ending>
-    ensures held { (files : Files) → S.held shelf.old ≡ Some files
-        → StoresFile result files name.now bytes.now (S.held shelf.new) }
+    ensures stored { (files : Files) → S.known_files shelf.old ≡ Some files
+        → StoresFile result files name.now bytes.now (S.known_files shelf.new) }
     ensures fails { OnlyFails result }
     ensures cause { result ≡ Err Ending.ShelfFault → Rose (S.fault_count shelf.old) (S.fault_count shelf.new) }
     ensures never_falls { S.fault_count shelf.old ≤ S.fault_count shelf.new }
-    ensures asks { GrowsByFront (S.asked shelf.old) (S.asked shelf.new) (stored name.now ∷ []) }
+    ensures asks { GrowsByPrefix (S.asked shelf.old) (S.asked shelf.new) (stored name.now ∷ []) }
 {
     match shelf.store(name, bytes) {
         Ok(()) => Ok(()),
@@ -165,12 +198,12 @@ fn store<S: Shelf>(shelf: &mut S, name: &str, bytes: &[u8]) -> Result<(), Ending
 
 /// Stores the log of a search under a name, where it shows that there is no plan; else nothing.
 fn keep<S: Shelf>(shelf: &mut S, name: &str, found: &Outcome) -> Result<(), Ending>
-    ensures held { (files : Files) → S.held shelf.old ≡ Some files
-        → KeepsLog result files name.now found.now (S.held shelf.new) }
+    ensures stored { (files : Files) → S.known_files shelf.old ≡ Some files
+        → KeepsLog result files name.now found.now (S.known_files shelf.new) }
     ensures fails { OnlyFails result }
     ensures cause { result ≡ Err Ending.ShelfFault → Rose (S.fault_count shelf.old) (S.fault_count shelf.new) }
     ensures never_falls { S.fault_count shelf.old ≤ S.fault_count shelf.new }
-    ensures asks { GrowsByFront (S.asked shelf.old) (S.asked shelf.new) (stored name.now ∷ []) }
+    ensures asks { GrowsByPrefix (S.asked shelf.old) (S.asked shelf.new) (stored name.now ∷ []) }
 {
     match found {
         Outcome::Infeasible { log } => store(shelf, name, log.as_slice()),
@@ -191,17 +224,17 @@ fn settle<S: Shelf>(
 ) -> Result<Reply, Ending>
     requires says { (m : Method) × Says m design.now.station steps budgets found.now }
     requires room { budgets.log_bytes ≡ limit_of InputFile.Proof }
-    ensures replies { Replies result (told_outcome design.now.station steps budgets.conflicts budgets.ticks found.now) }
+    ensures replies { Replies result (reply_for_outcome design.now.station steps budgets.conflicts budgets.ticks found.now) }
     ensures no_usage { IfOk result (λ reply. reply.status ≢ Status.Usage) }
     ensures refuses { RefusesFile result }
-    ensures held { (files : Files) (name : List ℕ) → S.held shelf.old ≡ Some files
+    ensures stored { (files : Files) (name : List ℕ) → S.known_files shelf.old ≡ Some files
         → design_in (files name) ≡ Ok design.now.station
-        → OnEnd result (λ s. SearchLeaves files steps name proof.now s (S.held shelf.new)) }
+        → OnEnd result (λ s. SearchLeaves files steps name proof.now s (S.known_files shelf.new)) }
     ensures cause { result ≡ Err Ending.ShelfFault → Rose (S.fault_count shelf.old) (S.fault_count shelf.new) }
     ensures never_falls { S.fault_count shelf.old ≤ S.fault_count shelf.new }
-    ensures asks { GrowsByFront (S.asked shelf.old) (S.asked shelf.new) (stored proof.now ∷ []) }
+    ensures asks { GrowsByPrefix (S.asked shelf.old) (S.asked shelf.new) (stored proof.now ∷ []) }
 {
-    let reply = tell(alloc, design, steps, budgets, found)?;
+    let reply = make_reply(alloc, design, steps, budgets, found)?;
     keep(shelf, proof, found)?;
     Ok(reply)
 }
@@ -223,12 +256,12 @@ fn searched_in<S: Shelf>(
         (searched_in method interlocking.now.design.station steps.count budgets.conflicts budgets.ticks found) }
     ensures no_usage { IfOk result (λ reply. reply.status ≢ Status.Usage) }
     ensures refuses { RefusesFile result }
-    ensures held { (files : Files) (name : List ℕ) → S.held shelf.old ≡ Some files
+    ensures stored { (files : Files) (name : List ℕ) → S.known_files shelf.old ≡ Some files
         → design_in (files name) ≡ Ok interlocking.now.design.station
-        → OnEnd result (λ s. SearchLeaves files steps.count name proof.now s (S.held shelf.new)) }
+        → OnEnd result (λ s. SearchLeaves files steps.count name proof.now s (S.known_files shelf.new)) }
     ensures cause { result ≡ Err Ending.ShelfFault → Rose (S.fault_count shelf.old) (S.fault_count shelf.new) }
     ensures never_falls { S.fault_count shelf.old ≤ S.fault_count shelf.new }
-    ensures asks { GrowsByFront (S.asked shelf.old) (S.asked shelf.new) (stored proof.now ∷ []) }
+    ensures asks { GrowsByPrefix (S.asked shelf.old) (S.asked shelf.new) (stored proof.now ∷ []) }
 {
     let found = verify(alloc, interlocking, steps, method, budgets);
     settle(
@@ -240,37 +273,4 @@ fn searched_in<S: Shelf>(
         proof,
         &found,
     )
-}
-
-/// The reply to a search for a plan of so many steps, 1 to 256, by the names of its files; plans that fail are excluded
-/// by bounds where these are asked for. Where there is no plan, the log that shows it is stored under the proof's name.
-pub(crate) fn searched<S: Shelf>(
-    alloc: Global,
-    shelf: &mut S,
-    steps: u32,
-    bounds: bool,
-    budgets: Budgets,
-    design: &str,
-    proof: &str,
-) -> Result<Reply, Ending>
-    requires some { 1 ≤ steps }
-    requires most { steps ≤ 256 }
-    requires room { budgets.log_bytes ≡ limit_of InputFile.Proof }
-    ensures replies { (files : Files) → S.held shelf.old ≡ Some files
-        → RepliesSo result files (Some (verify steps budgets.conflicts budgets.ticks bounds design.now proof.now)) }
-    ensures some { RepliesSome result
-        (Some (verify steps budgets.conflicts budgets.ticks bounds design.now proof.now)) }
-    ensures no_usage { IfOk result (λ reply. reply.status ≢ Status.Usage) }
-    ensures refuses { RefusesFile result }
-    ensures held { (files : Files) → S.held shelf.old ≡ Some files
-        → OnEnd result (λ s. SearchLeaves files steps design.now proof.now s (S.held shelf.new)) }
-    ensures cause { result ≡ Err Ending.ShelfFault → Rose (S.fault_count shelf.old) (S.fault_count shelf.new) }
-    ensures never_falls { S.fault_count shelf.old ≤ S.fault_count shelf.new }
-    ensures asks { GrowsByFront (S.asked shelf.old) (S.asked shelf.new) (fetched design.now ∷ stored proof.now ∷ []) }
-{
-    let bytes = fetch(alloc, shelf, InputFile::Design, design)?;
-    let interlocking = admit(alloc, bytes.as_slice())?;
-    let steps = Steps { count: steps };
-    let method = method_of(bounds);
-    searched_in(alloc, shelf, &interlocking, steps, method, budgets, proof)
 }

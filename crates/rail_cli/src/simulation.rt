@@ -3,22 +3,22 @@
 ghost use Rattle.std.specs.Prelude.{◌≡◌, ◌≤◌, ◌↔◌, [], ◌∷◌, true, IfOk, OnOk, Some};
 ghost use Rattle.rail_outside.specs.Asks.{fetched};
 ghost use Rattle.rail_outside.specs.Files.{Files};
-ghost use Rattle.rail_outside.specs.Growth.{Rose, GrowsByFront};
+ghost use Rattle.rail_outside.specs.Growth.{Rose, GrowsByPrefix};
 ghost use Rattle.rail_spec.specs.Feasible.{IsRunnable, IsFeasible};
 ghost use Rattle.rail_spec.specs.Track.{routes_of};
 ghost use Rattle.rail_cli.specs.Statuses.{is_verdict};
 ghost use Rattle.rail_cli.specs.Answers.{plan_in, planned};
-ghost use Rattle.rail_cli.specs.Answers.{shown, verdict_status, simulated};
-ghost use Rattle.rail_cli.specs.Shows.{shown_by};
+ghost use Rattle.rail_cli.specs.Answers.{shown, verdict_status, simulation_reply};
+ghost use Rattle.rail_cli.specs.Shows.{verdict_at_horizon};
 ghost use Rattle.rail_cli.specs.Simulations.{RunsSafely};
 ghost use Rattle.rail_cli.specs.Replies.{Reads, RefusesFile, OnlyRefuses, Replies, RepliesSome};
-ghost use Rattle.rail_cli.specs.Replies.{DecidesPlan, Decides, Tells};
+ghost use Rattle.rail_cli.specs.Replies.{DecidesPlan, Decides, RepliesWith};
 ghost use Rattle.rail_words.specs.Requests.{simulate};
 
 use crate::ending::Ending;
 use crate::input::InputFile;
 use crate::reading::{admit, fetch};
-use crate::refusals::{ended, plan_refused};
+use crate::refusals::{ending_of, plan_refused};
 use crate::reply::Reply;
 use crate::status::Status;
 use interlocking::Interlocking;
@@ -32,7 +32,7 @@ use rail_plan::reading::read_plan;
 use std::alloc::{AllocError, Global};
 use timetable::timetable_lines;
 
-/// The plan over a design that the bytes spell. The ending tells why it is refused, or is want of memory.
+/// The plan over a design that is parsed from the bytes. The ending tells why it is refused, or is want of memory.
 pub fn read_steps(alloc: Global, interlocking: &Interlocking, bytes: &[u8]) -> Result<Plan, Ending>
     ensures reads { Reads (λ p. p.steps) result (plan_in interlocking.now.design.station bytes.now) }
     ensures refuses { OnlyRefuses result }
@@ -42,10 +42,35 @@ pub fn read_steps(alloc: Global, interlocking: &Interlocking, bytes: &[u8]) -> R
     match read_plan(alloc, interlocking, bytes) {
         Ok(plan) => Ok(plan),
         Err(PlanFault::Refused { code, place }) => {
-            Err(ended(plan_refused(alloc, &interlocking.design, code, place)))
+            Err(ending_of(plan_refused(alloc, &interlocking.design, code, place)))
         }
         Err(PlanFault::Memory) => Err(Ending::Memory),
     }
+}
+
+/// The reply to a simulation, by the names of its files.
+pub(crate) fn simulation_reply<S: Shelf>(
+    alloc: Global,
+    shelf: &mut S,
+    design: &str,
+    plan: &str,
+) -> Result<Reply, Ending>
+    ensures replies { (files : Files) → S.known_files shelf.old ≡ Some files
+        → Replies result (simulation_reply (files design.now) (files plan.now)) }
+    ensures for_some_files { RepliesSome result (Some (simulate design.now plan.now)) }
+    ensures verdict { IfOk result (λ reply. is_verdict reply.status ≡ true) }
+    ensures refuses { RefusesFile result }
+    ensures decides { (files : Files) → S.known_files shelf.old ≡ Some files
+        → IfOk result (λ reply. Decides (files design.now) (files plan.now) reply.status) }
+    ensures cause { result ≡ Err Ending.ShelfFault → Rose (S.fault_count shelf.old) (S.fault_count shelf.new) }
+    ensures never_falls { S.fault_count shelf.old ≤ S.fault_count shelf.new }
+    ensures files_stay { S.known_files shelf.new ≡ S.known_files shelf.old }
+    ensures asks { GrowsByPrefix (S.asked shelf.old) (S.asked shelf.new) (fetched design.now ∷ fetched plan.now ∷ []) }
+{
+    let design_bytes = fetch(alloc, shelf, InputFile::Design, design)?;
+    let interlocking = admit(alloc, design_bytes.as_slice())?;
+    let plan_bytes = fetch(alloc, shelf, InputFile::Plan, plan)?;
+    plan_reply(alloc, &interlocking, plan_bytes.as_slice())
 }
 
 /// 0 where the plan meets the design, and else 1.
@@ -61,7 +86,7 @@ fn status_of(verdict: &Verdict) -> Status
 /// The timetable of a plan's run up to the horizon.
 fn show(alloc: Global, interlocking: &Interlocking, plan: &Plan) -> Result<Reply, AllocError>
     requires runnable { let d = interlocking.now.design.station in IsRunnable d (routes_of d) 256 plan.now.steps }
-    ensures shown { let d = interlocking.now.design.station in Tells result (shown d (shown_by d plan.now.steps)) }
+    ensures shown { let d = interlocking.now.design.station in RepliesWith result (shown d (verdict_at_horizon d plan.now.steps)) }
     ensures verdict { IfOk result (λ reply. is_verdict reply.status ≡ true) }
     ensures exactly { IfOk result (λ reply. (reply.status ≡ Status.Done)
         ↔ IsFeasible interlocking.now.design.station 256 plan.now.steps) }
@@ -76,7 +101,7 @@ fn show(alloc: Global, interlocking: &Interlocking, plan: &Plan) -> Result<Reply
 }
 
 /// The reply for a design and the bytes of a plan.
-fn planned(alloc: Global, interlocking: &Interlocking, bytes: &[u8]) -> Result<Reply, Ending>
+fn plan_reply(alloc: Global, interlocking: &Interlocking, bytes: &[u8]) -> Result<Reply, Ending>
     ensures replies { Replies result (planned interlocking.now.design.station bytes.now) }
     ensures verdict { IfOk result (λ reply. is_verdict reply.status ≡ true) }
     ensures refuses { OnlyRefuses result }
@@ -84,29 +109,4 @@ fn planned(alloc: Global, interlocking: &Interlocking, bytes: &[u8]) -> Result<R
 {
     let plan = read_steps(alloc, interlocking, bytes)?;
     Ok(show(alloc, interlocking, &plan)?)
-}
-
-/// The reply to a simulation, by the names of its files.
-pub(crate) fn simulated<S: Shelf>(
-    alloc: Global,
-    shelf: &mut S,
-    design: &str,
-    plan: &str,
-) -> Result<Reply, Ending>
-    ensures replies { (files : Files) → S.held shelf.old ≡ Some files
-        → Replies result (simulated (files design.now) (files plan.now)) }
-    ensures some { RepliesSome result (Some (simulate design.now plan.now)) }
-    ensures verdict { IfOk result (λ reply. is_verdict reply.status ≡ true) }
-    ensures refuses { RefusesFile result }
-    ensures decides { (files : Files) → S.held shelf.old ≡ Some files
-        → IfOk result (λ reply. Decides (files design.now) (files plan.now) reply.status) }
-    ensures cause { result ≡ Err Ending.ShelfFault → Rose (S.fault_count shelf.old) (S.fault_count shelf.new) }
-    ensures never_falls { S.fault_count shelf.old ≤ S.fault_count shelf.new }
-    ensures files_stay { S.held shelf.new ≡ S.held shelf.old }
-    ensures asks { GrowsByFront (S.asked shelf.old) (S.asked shelf.new) (fetched design.now ∷ fetched plan.now ∷ []) }
-{
-    let design_bytes = fetch(alloc, shelf, InputFile::Design, design)?;
-    let interlocking = admit(alloc, design_bytes.as_slice())?;
-    let plan_bytes = fetch(alloc, shelf, InputFile::Plan, plan)?;
-    planned(alloc, &interlocking, plan_bytes.as_slice())
 }

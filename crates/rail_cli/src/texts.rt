@@ -47,60 +47,6 @@ pub(crate) fn too_long_line(alloc: Global, file: InputFile) -> Result<Vec<u8>, A
     Ok(line)
 }
 
-/// The name of a code of a design.
-fn code_text(code: Code) -> &'static str
-    ensures { result.now ≡ code_text code }
-{
-    match code {
-        Code::D01 => "D01",
-        Code::D02 => "D02",
-        Code::D03 => "D03",
-        Code::D04 => "D04",
-        Code::D05 => "D05",
-        Code::D06 => "D06",
-        Code::D07 => "D07",
-        Code::D08 => "D08",
-        Code::D09 => "D09",
-        Code::D10 => "D10",
-        Code::D11 => "D11",
-        Code::D12 => "D12",
-        Code::D13 => "D13",
-    }
-}
-
-/// Appends `<key>[<number>]`.
-fn put_entry(line: &mut Vec<u8>, kind: EntryKind, number: u64) -> Result<(), AllocError>
-    ensures { OnOk result (line.new.items ≡ line.old.items ++ entry_text kind number) }
-{
-    line.extend_from_slice(kind.key().text().as_bytes())?;
-    line.push(b'[')?;
-    put_number(line, number)?;
-    line.push(b']')?;
-    Ok(())
-}
-
-/// Appends a place of a design.
-fn put_place(line: &mut Vec<u8>, place: Place) -> Result<(), AllocError>
-    ensures { OnOk result (line.new.items ≡ line.old.items ++ place_text place) }
-{
-    match place {
-        Place::File => line.extend_from_slice(b"file"),
-        Place::Top(key) => line.extend_from_slice(key.text().as_bytes()),
-        Place::Entry(kind, number) => put_entry(line, kind, number),
-        Place::Field(kind, number, key) => {
-            put_entry(line, kind, number)?;
-            line.push(b'.')?;
-            line.extend_from_slice(key.text().as_bytes())
-        }
-        Place::UnknownField(kind, number) => {
-            put_entry(line, kind, number)?;
-            line.extend_from_slice(b".?")
-        }
-        Place::Unknown => line.extend_from_slice(b"?"),
-        Place::Routes => line.extend_from_slice(b"routes"),
-    }
-}
-
 /// `design refused <code> <place>`
 pub(crate) fn design_refused_line(
     alloc: Global,
@@ -122,16 +68,6 @@ pub(crate) fn too_large_line(alloc: Global) -> Result<Vec<u8>, AllocError>
     ensures { IfOk result (λ line. line.items ≡ too_large_line) }
 {
     Vec::from_slice(alloc, b"design refused D14 base\n")
-}
-
-/// Words, a number, and the end of a line.
-fn counted_line(alloc: Global, words: &[u8], number: u64) -> Result<Vec<u8>, AllocError>
-    ensures { IfOk result (λ line. line.items ≡ words.now ++ decimal number ++ codes "\n") }
-{
-    let mut line = Vec::from_slice(alloc, words)?;
-    put_number(&mut line, number)?;
-    line.push(b'\n')?;
-    Ok(line)
 }
 
 /// `yes steps <k>`
@@ -207,14 +143,6 @@ pub(crate) fn log_spent_line(alloc: Global, bytes: u64, next: u64) -> Result<Vec
     Ok(line)
 }
 
-/// Appends words and a number.
-fn put_counted(line: &mut Vec<u8>, words: &[u8], number: u64) -> Result<(), AllocError>
-    ensures { OnOk result (line.new.items ≡ line.old.items ++ words.now ++ decimal number) }
-{
-    line.extend_from_slice(words)?;
-    put_number(line, number)
-}
-
 /// `trial seed <seed> size <size>`
 pub(crate) fn trial_line(alloc: Global, seed: u64, size: u32) -> Result<Vec<u8>, AllocError>
     ensures { IfOk result (λ line. line.items ≡ trial_line seed size) }
@@ -265,6 +193,95 @@ pub(crate) fn plan_tick_line(alloc: Global, plan: &Plan, tick: u64) -> Result<Ve
     put_counted(&mut line, b" tick ", tick)?;
     line.push(b'\n')?;
     Ok(line)
+}
+
+/// `plan refused <code> <place>`
+pub(crate) fn plan_refused_line(
+    alloc: Global,
+    design: &Design,
+    code: PlanCode,
+    place: PlanPlace,
+) -> Result<Vec<u8>, AllocError>
+    ensures { IfOk result (λ line. line.items ≡ plan_refused_line design.now.station code place) }
+{
+    let mut line = Vec::from_slice(alloc, b"plan refused ")?;
+    line.extend_from_slice(plan_code_text(code).as_bytes())?;
+    line.push(b' ')?;
+    put_plan_place(&mut line, design, place)?;
+    line.push(b'\n')?;
+    Ok(line)
+}
+
+/// The name of a code of a design.
+fn code_text(code: Code) -> &'static str
+    ensures { result.now ≡ code_text code }
+{
+    match code {
+        Code::D01 => "D01",
+        Code::D02 => "D02",
+        Code::D03 => "D03",
+        Code::D04 => "D04",
+        Code::D05 => "D05",
+        Code::D06 => "D06",
+        Code::D07 => "D07",
+        Code::D08 => "D08",
+        Code::D09 => "D09",
+        Code::D10 => "D10",
+        Code::D11 => "D11",
+        Code::D12 => "D12",
+        Code::D13 => "D13",
+    }
+}
+
+/// Appends `<key>[<number>]`.
+fn put_entry(line: &mut Vec<u8>, kind: EntryKind, number: u64) -> Result<(), AllocError>
+    ensures { OnOk result (line.new.items ≡ line.old.items ++ entry_text kind number) }
+{
+    line.extend_from_slice(kind.key().text().as_bytes())?;
+    line.push(b'[')?;
+    put_number(line, number)?;
+    line.push(b']')?;
+    Ok(())
+}
+
+/// Appends a place of a design.
+fn put_place(line: &mut Vec<u8>, place: Place) -> Result<(), AllocError>
+    ensures { OnOk result (line.new.items ≡ line.old.items ++ place_text place) }
+{
+    match place {
+        Place::File => line.extend_from_slice(b"file"),
+        Place::Top(key) => line.extend_from_slice(key.text().as_bytes()),
+        Place::Entry(kind, number) => put_entry(line, kind, number),
+        Place::Field(kind, number, key) => {
+            put_entry(line, kind, number)?;
+            line.push(b'.')?;
+            line.extend_from_slice(key.text().as_bytes())
+        }
+        Place::UnknownField(kind, number) => {
+            put_entry(line, kind, number)?;
+            line.extend_from_slice(b".?")
+        }
+        Place::Unknown => line.extend_from_slice(b"?"),
+        Place::Routes => line.extend_from_slice(b"routes"),
+    }
+}
+
+/// Words, a number, and the end of a line.
+fn counted_line(alloc: Global, words: &[u8], number: u64) -> Result<Vec<u8>, AllocError>
+    ensures { IfOk result (λ line. line.items ≡ words.now ++ decimal number ++ codes "\n") }
+{
+    let mut line = Vec::from_slice(alloc, words)?;
+    put_number(&mut line, number)?;
+    line.push(b'\n')?;
+    Ok(line)
+}
+
+/// Appends words and a number.
+fn put_counted(line: &mut Vec<u8>, words: &[u8], number: u64) -> Result<(), AllocError>
+    ensures { OnOk result (line.new.items ≡ line.old.items ++ words.now ++ decimal number) }
+{
+    line.extend_from_slice(words)?;
+    put_number(line, number)
 }
 
 /// The name of a code of a plan.
@@ -324,21 +341,4 @@ fn put_plan_place(line: &mut Vec<u8>, design: &Design, place: PlanPlace) -> Resu
             line.extend_from_slice(section_name(design, section))
         }
     }
-}
-
-/// `plan refused <code> <place>`
-pub(crate) fn plan_refused_line(
-    alloc: Global,
-    design: &Design,
-    code: PlanCode,
-    place: PlanPlace,
-) -> Result<Vec<u8>, AllocError>
-    ensures { IfOk result (λ line. line.items ≡ plan_refused_line design.now.station code place) }
-{
-    let mut line = Vec::from_slice(alloc, b"plan refused ")?;
-    line.extend_from_slice(plan_code_text(code).as_bytes())?;
-    line.push(b' ')?;
-    put_plan_place(&mut line, design, place)?;
-    line.push(b'\n')?;
-    Ok(line)
 }

@@ -8,9 +8,9 @@ ghost use Rattle.plan_exclusion.specs.declared.method.Method.TheVariants.{Cones}
 ghost use Rattle.verify_loop.specs.declared.outcome.Outcome.{Outcome};
 ghost use Rattle.verify_loop.specs.Outcomes.{Says, Fits};
 ghost use Rattle.rail_cli.specs.Statuses.{is_answered};
-ghost use Rattle.rail_cli.specs.Answers.{trial_conflicts, trial_ticks, three_lines, told_trial};
-ghost use Rattle.rail_cli.specs.Shows.{shown_by};
-ghost use Rattle.rail_cli.specs.Replies.{deciding_tick, OnlyRefuses, RepliesTrial, Tells};
+ghost use Rattle.rail_cli.specs.Answers.{trial_conflicts, trial_ticks, three_lines, reply_for_trial};
+ghost use Rattle.rail_cli.specs.Shows.{verdict_at_horizon};
+ghost use Rattle.rail_cli.specs.Replies.{deciding_tick, OnlyRefuses, RepliesTrial, RepliesWith};
 ghost use Rattle.rail_cli.specs.Searches.{budgets_of};
 ghost use Rattle.rail_cli.specs.Texts.{plan_tick_line};
 
@@ -39,8 +39,22 @@ const CONFLICTS: u64 = 1_000_000;
 /// How many ticks it may simulate.
 const TICKS: u64 = 1_000_000_000;
 
+/// The reply to a trial: the station of the seed and the size, 1 to 6, is searched for a plan of twice as many steps as its
+/// size. Nothing is asked of the shelf.
+pub(crate) fn trial_reply(alloc: Global, seed: u64, size: u32) -> Result<Reply, Ending>
+    requires at_least_one { 1 ≤ size }
+    requires at_most_six { size ≤ 6 }
+    ensures replies { RepliesTrial result seed size }
+    ensures no_usage { IfOk result (λ reply. reply.status ≢ Status.Usage) }
+    ensures refuses { OnlyRefuses result }
+{
+    let design = make(alloc, seed, size)?;
+    let interlocking = interlock(alloc, design)?;
+    Ok(tried_in(alloc, seed, size, &interlocking)?)
+}
+
 /// The lines of a trial, with this last one.
-fn told(
+fn reply_for(
     alloc: Global,
     seed: u64,
     size: u32,
@@ -49,7 +63,7 @@ fn told(
     last: Vec<u8>,
 ) -> Result<Reply, AllocError>
     requires answered { is_answered status ≡ true }
-    ensures { Tells result (three_lines seed size interlocking.now.design.station status last.items) }
+    ensures { RepliesWith result (three_lines seed size interlocking.now.design.station status last.items) }
 {
     let mut lines = Vec::new(alloc);
     lines.push(trial_line(alloc, seed, size)?)?;
@@ -77,7 +91,7 @@ fn found_line(
     verdict: &Verdict,
 ) -> Result<Vec<u8>, AllocError>
     requires feasible { IsFeasible design.now.station steps plan.now.steps }
-    requires shown { verdict.now ≡ shown_by design.now.station plan.now.steps }
+    requires shown { verdict.now ≡ verdict_at_horizon design.now.station plan.now.steps }
     ensures { let d = design.now.station in IfOk result (λ line. line.items
         ≡ plan_tick_line (length plan.now.steps) (cost d (routes_of d) plan.now.steps)) }
 {
@@ -85,31 +99,31 @@ fn found_line(
 }
 
 /// The reply for what the search of a trial ended with.
-fn tell(
+fn make_reply(
     alloc: Global,
     seed: u64,
     size: u32,
     interlocking: &Interlocking,
     found: &Outcome,
 ) -> Result<Reply, AllocError>
-    requires high { size ≤ 6 }
+    requires at_most_six { size ≤ 6 }
     requires says { Says Cones interlocking.now.design.station (2 * size)
         (budgets_of trial_conflicts trial_ticks) found.now }
-    ensures told { Tells result (told_trial seed size interlocking.now.design.station found.now) }
+    ensures replies { RepliesWith result (reply_for_trial seed size interlocking.now.design.station found.now) }
     ensures no_usage { IfOk result (λ reply. reply.status ≢ Status.Usage) }
 {
     match found {
         Outcome::Plan { plan, verdict } => {
             let last = found_line(alloc, &interlocking.design, 2 * size, plan, verdict)?;
-            told(alloc, seed, size, interlocking, Status::Done, last)
+            reply_for(alloc, seed, size, interlocking, Status::Done, last)
         }
         Outcome::Infeasible { .. } => {
             let last = infeasible_line(alloc, 2 * size)?;
-            told(alloc, seed, size, interlocking, Status::No, last)
+            reply_for(alloc, seed, size, interlocking, Status::No, last)
         }
         Outcome::ConflictsSpent { .. } => {
             let last = conflicts_spent_line(alloc, CONFLICTS)?;
-            told(
+            reply_for(
                 alloc,
                 seed,
                 size,
@@ -120,11 +134,11 @@ fn tell(
         }
         Outcome::TicksSpent { sum, .. } => {
             let last = ticks_spent_line(alloc, *sum, TICKS)?;
-            told(alloc, seed, size, interlocking, Status::TicksSpent, last)
+            reply_for(alloc, seed, size, interlocking, Status::TicksSpent, last)
         }
         Outcome::LogSpent { bytes, next, .. } => {
             let last = log_spent_line(alloc, *bytes, *next)?;
-            told(alloc, seed, size, interlocking, Status::LogSpent, last)
+            reply_for(alloc, seed, size, interlocking, Status::LogSpent, last)
         }
         Outcome::TooLarge { .. } => too_large(alloc),
         Outcome::Memory => Err(AllocError),
@@ -138,30 +152,16 @@ fn tried_in(
     size: u32,
     interlocking: &Interlocking,
 ) -> Result<Reply, AllocError>
-    requires low { 1 ≤ size }
-    requires high { size ≤ 6 }
-    ensures told { (found : Outcome)
+    requires at_least_one { 1 ≤ size }
+    requires at_most_six { size ≤ 6 }
+    ensures replies { (found : Outcome)
         × Says Cones interlocking.now.design.station (2 * size) (budgets_of trial_conflicts trial_ticks) found
         × Fits Cones interlocking.now.design.station (2 * size) found
-        × Tells result (told_trial seed size interlocking.now.design.station found) }
+        × RepliesWith result (reply_for_trial seed size interlocking.now.design.station found) }
     ensures no_usage { IfOk result (λ reply. reply.status ≢ Status.Usage) }
 {
     let steps = Steps { count: 2 * size };
     let budgets = budgets(CONFLICTS, TICKS);
     let found = verify(alloc, interlocking, steps, Method::Cones, budgets);
-    tell(alloc, seed, size, interlocking, &found)
-}
-
-/// The reply to a trial: the station of the seed and the size, 1 to 6, is searched for a plan of twice as many steps as its
-/// size. Nothing is asked of the shelf.
-pub(crate) fn tried(alloc: Global, seed: u64, size: u32) -> Result<Reply, Ending>
-    requires low { 1 ≤ size }
-    requires high { size ≤ 6 }
-    ensures replies { RepliesTrial result seed size }
-    ensures no_usage { IfOk result (λ reply. reply.status ≢ Status.Usage) }
-    ensures refuses { OnlyRefuses result }
-{
-    let design = make(alloc, seed, size)?;
-    let interlocking = interlock(alloc, design)?;
-    Ok(tried_in(alloc, seed, size, &interlocking)?)
+    make_reply(alloc, seed, size, interlocking, &found)
 }

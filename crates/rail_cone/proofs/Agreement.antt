@@ -74,7 +74,7 @@ module _ (d : Station) (routes : List Route) (p q : Dispatch) (h : TrainNo → �
     pub always : (k : ℕ) (t : TrainNo) → q.concerns k t ≡ true
     -- a train's path under the first is the front of its path under the second
     pub rest : TrainNo → List RouteNo
-    pub front : (t : TrainNo) → q.path t ≡ p.path t ++ rest t
+    pub prefix : (t : TrainNo) → q.path t ≡ p.path t ++ rest t
     -- the commands of the front wait for the same ones
     pub waits_for : (t : TrainNo) (r : RouteNo) (e : Command) → In r (p.path t) → In e (q.before (record { train = t; route = r })) → In e (p.before (record { train = t; route = r }))
     pub waits_too : (t : TrainNo) (r : RouteNo) (e : Command) → In r (p.path t) → In e (p.before (record { train = t; route = r })) → In e (q.before (record { train = t; route = r }))
@@ -85,7 +85,7 @@ module _ (d : Station) (routes : List Route) (p q : Dispatch) (h : TrainNo → �
     -- they are all granted by the horizon
     pub all_granted : (t : TrainNo) → length (p.path t) ≤ (state_of (state_at d routes p (h t)) t).granted
     -- and what comes after the front is held up
-    pub held : (t : TrainNo) (w : RouteNo) (k : ℕ) → k < h t → slice_get (q.path t) (length (p.path t)) ≡ Some w → (state_of (state_at d routes p k) t).granted ≡ length (p.path t) → Held k t w
+    pub holder_fits : (t : TrainNo) (w : RouteNo) (k : ℕ) → k < h t → slice_get (q.path t) (length (p.path t)) ≡ Some w → (state_of (state_at d routes p k) t).granted ≡ length (p.path t) → Held k t w
 
   -- ---- what follows
 
@@ -118,7 +118,7 @@ module _ (d : Station) (routes : List Route) (p q : Dispatch) (h : TrainNo → �
             let f = a.few in
             absurd (omega arith)
         go (inl i) =
-            let before : routes_before d routes q e ≡ routes_before d routes p e = ap (map (route_at routes)) (ap (before_first (λ x. is_route x e.route)) (fits.front e.train) ∙ i) in
+            let before : routes_before d routes q e ≡ routes_before d routes p e = ap (map (route_at routes)) (ap (before_first (λ x. is_route x e.route)) (fits.prefix e.train) ∙ i) in
             let g = leb-true _ _ (and_left (is_granted d routes p (state_at d routes p k) e) _ r) in
             let x = leb-true _ _ (and_right (is_granted d routes p (state_at d routes p k) e) _ r) in
             let lg = a.later.granted in
@@ -133,13 +133,13 @@ module _ (d : Station) (routes : List Route) (p q : Dispatch) (h : TrainNo → �
       where
         go : (before_first (λ x. is_route x e.route) (p.path e.train ++ fits.rest e.train) ≡ before_first (λ x. is_route x e.route) (p.path e.train)) ⊎ ((length (p.path e.train) ≤ length (before_first (λ x. is_route x e.route) (p.path e.train ++ fits.rest e.train))) × (length (p.path e.train) ≤ length (before_first (λ x. is_route x e.route) (p.path e.train))))
             → has_released d routes q (state_at d routes q k) e z ≡ has_released d routes p (state_at d routes p k) e z
-        go (inl i) = ap₂ (out e z) (ap (map (route_at routes)) (ap (before_first (λ x. is_route x e.route)) (fits.front e.train) ∙ i)) (a.same n)
+        go (inl i) = ap₂ (out e z) (ap (map (route_at routes)) (ap (before_first (λ x. is_route x e.route)) (fits.prefix e.train) ∙ i)) (a.same n)
         go (inr (l, m)) =
             let f = a.few in
             let g : (state_of (state_at d routes q k) e.train).granted ≡ (state_of (state_at d routes p k) e.train).granted = ap (λ (s : TrainState). s.granted) (a.same n) in
             let lp = length-map (route_at routes) (before_first (λ x. is_route x e.route) (p.path e.train)) in
             let lq = length-map (route_at routes) (before_first (λ x. is_route x e.route) (q.path e.train)) in
-            let path : length (before_first (λ x. is_route x e.route) (q.path e.train)) ≡ length (before_first (λ x. is_route x e.route) (p.path e.train ++ fits.rest e.train)) = ap (λ xs. length (before_first (λ x. is_route x e.route) xs)) (fits.front e.train) in
+            let path : length (before_first (λ x. is_route x e.route) (q.path e.train)) ≡ length (before_first (λ x. is_route x e.route) (p.path e.train ++ fits.rest e.train)) = ap (λ xs. length (before_first (λ x. is_route x e.route) xs)) (fits.prefix e.train) in
             and_false (is_granted d routes q (state_at d routes q k) e) _ (not_less _ _ (omega arith)) ∙ sym (and_false (is_granted d routes p (state_at d routes p k) e) _ (not_less _ _ (omega arith)))
 
     -- past its horizon a train stays
@@ -164,7 +164,7 @@ module _ (d : Station) (routes : List Route) (p q : Dispatch) (h : TrainNo → �
     pub given_same : (t : TrainNo) (n : ℕ) → n ≤ length (p.path t) → take n (map (route_at routes) (q.path t)) ≡ take n (map (route_at routes) (p.path t))
     given_same t n l =
         let e = length-map (route_at routes) (p.path t) in
-        ap (λ xs. take n (map (route_at routes) xs)) (fits.front t) ∙ ap (take n) (map-append (route_at routes) (p.path t) (fits.rest t)) ∙ take-append-le n (map (route_at routes) (p.path t)) (map (route_at routes) (fits.rest t)) (omega arith)
+        ap (λ xs. take n (map (route_at routes) xs)) (fits.prefix t) ∙ ap (take n) (map-append (route_at routes) (p.path t) (fits.rest t)) ∙ take-append-le n (map (route_at routes) (p.path t)) (map (route_at routes) (fits.rest t)) (omega arith)
 
     pub moved_same : (t : TrainNo) (s : TrainState) (n : ℕ) → n ≤ length (p.path t) → moved d routes q t s n ≡ moved d routes p t s n
     moved_same t s zero l = refl
@@ -275,9 +275,9 @@ module _ (d : Station) (routes : List Route) (p q : Dispatch) (h : TrainNo → �
           at_end : (o : Option RouteNo) → slice_get (q.path t) (length (p.path t)) ≡ o → (state_of (state_at d routes p k) t).granted ≡ length (p.path t) → granted_with d routes q (state_at d routes q k) t o ≡ (state_of (state_at d routes q k) t).granted
           at_end None e g = refl
           at_end (Some w) e g =
-              let held = fits.held t w k near e g in
-              let out_of : has_released d routes q (state_at d routes q k) held.holder held.section ≡ false = released_same fits.meeting k held.holder held.section (agree held.holder.train) held.near ∙ held.unreleased in
-              ap (λ b. if b then (state_of (state_at d routes q k) t).granted + 1 else (state_of (state_at d routes q k) t).granted) (waiting held out_of (is_ready d routes q (state_at d routes q k) (record { train = t; route = w })) refl)
+              let holder_fits = fits.holder_fits t w k near e g in
+              let out_of : has_released d routes q (state_at d routes q k) holder_fits.holder holder_fits.section ≡ false = released_same fits.meeting k holder_fits.holder holder_fits.section (agree holder_fits.holder.train) holder_fits.near ∙ holder_fits.unreleased in
+              ap (λ b. if b then (state_of (state_at d routes q k) t).granted + 1 else (state_of (state_at d routes q k) t).granted) (waiting holder_fits out_of (is_ready d routes q (state_at d routes q k) (record { train = t; route = w })) refl)
             where
               waiting : (x : Held k t w) → has_released d routes q (state_at d routes q k) x.holder x.section ≡ false → (b : Bool) → is_ready d routes q (state_at d routes q k) (record { train = t; route = w }) ≡ b → is_ready d routes q (state_at d routes q k) (record { train = t; route = w }) ≡ false
               waiting x isnt false r = r
@@ -291,7 +291,7 @@ module _ (d : Station) (routes : List Route) (p q : Dispatch) (h : TrainNo → �
               found (r, e, m) =
                   let in_p : granted_after d routes p (state_at d routes p k) t ≡ granted_with d routes p (state_at d routes p k) t (Some r) = ap (granted_with d routes p (state_at d routes p k) t) e in
                   let in_q : granted_after d routes q (state_at d routes q k) t ≡ granted_with d routes q (state_at d routes q k) t (Some r) =
-                  ap (granted_with d routes q (state_at d routes q k) t) (ap₂ slice_get (fits.front t) granted ∙ slice_get-append (p.path t) (fits.rest t) _ l ∙ e) in
+                  ap (granted_with d routes q (state_at d routes q k) t) (ap₂ slice_get (fits.prefix t) granted ∙ slice_get-append (p.path t) (fits.rest t) _ l ∙ e) in
                   let ready : is_ready d routes q (state_at d routes q k) (record { train = t; route = r }) ≡ is_ready d routes p (state_at d routes p k) (record { train = t; route = r }) =
                   same_bool _ _ (ready_in_first t r (omega arith) m) (ready_in_second fits.meeting k agree t r m) in (
                     in_q ∙ ap₂ (λ (b : Bool) g. if b then g + 1 else g) ready granted ∙ sym in_p,

@@ -13,7 +13,7 @@ use Rattle.rail_base.specs.Numbering.{entry}
 use Rattle.rail_spec.specs.Plans.{route_at, is_train, path}
 use Rattle.rail_base.specs.Stations.{train_of, horizon, within_of, order_of}
 use Rattle.rail_spec.specs.Dispatches.{state_of, state_at, of_plan}
-use Rattle.rail_spec.specs.Visits.{stops, visits_on, visit_tick}
+use Rattle.rail_spec.specs.Visits.{path_nodes, visits_on, visit_tick}
 use Rattle.rail_spec.specs.Requirements.{most_ticks, visited_by, is_certain, is_after}
 use Rattle.rail_base.proofs.Members.{and_left, and_right, and_both}
 use Rattle.rail_laws.proofs.Deciding.{visit_stays, visit_within, visit_at}
@@ -49,7 +49,7 @@ module _ (d : Station) (routes : List Route) (n : ℕ) (k : Cone) (plan : List (
   -- ---- it makes its visits at the same ticks
 
   pub visit_same : (tick : ℕ) (t : TrainNo) (j : ℕ) → tick ≤ (named k t).horizon → visit_tick d routes (of_plan routes plan) tick t j ≡ cone_visit d routes k tick t j
-  visit_same tick t j l = visit_alike d routes k plan tick t ((fits d routes n k plan rests).rest t) ((fits d routes n k plan rests).front t)
+  visit_same tick t j l = visit_alike d routes k plan tick t ((fits d routes n k plan rests).rest t) ((fits d routes n k plan rests).prefix t)
       (λ i m. (follows i t (omega arith)).state) (λ i m. let f = (follows i t (omega arith)).no_waiting in let a = few_free d routes n k plan rests t in omega arith) j
 
   -- ---- so the violation is certain of the plan
@@ -99,7 +99,7 @@ module _ (d : Station) (routes : List Route) (n : ℕ) (k : Cone) (plan : List (
   certain_of timed (violation.Path t j) e h = record {
     at = 1;
     by_horizon = timed.some;
-    certain = ap (λ rs. is_none (entry None (visits_on (train_of d t).visits (stops (map (route_at routes) rs))) j)) (path_is t j e) ∙ h;
+    certain = ap (λ rs. is_none (entry None (visits_on (train_of d t).visits (path_nodes (map (route_at routes) rs))) j)) (path_is t j e) ∙ h;
   }
   certain_of timed (violation.Within w) e h = go (its_tick _ _ h)
     where

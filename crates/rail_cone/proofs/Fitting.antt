@@ -18,11 +18,11 @@ use Rattle.rail_spec.specs.Dispatches.{state_of, state_at, has_released}
 use Rattle.rail_base.proofs.Members.{In, and_left, and_right, and_both, list_all_at, list_any_gives, in_filter, is_false, not_less}
 use Rattle.rail_spec.specs.Dispatches.{of_plan}
 use Rattle.rail_cone.specs.Cones.{unnamed, named, free_path, all_free, has_route, is_named, is_free, is_listed, of_cone}
-use Rattle.rail_cone.specs.Validity.{from_boundary, in_design, granted_at, free_granted, just_granted, holds_up, holder_needed, held}
+use Rattle.rail_cone.specs.Validity.{from_boundary, in_design, granted_at, free_granted, just_granted, holds_up, holder_needed, holder_fits}
 use Rattle.rail_cone.specs.Clauses.{holds_of, Before, is_closed, is_path_violation, goes_further, clause_of_cone, is_false_of}
 use Rattle.rail_cone.proofs.Running.{run_up_to, released_up_to}
 use Rattle.rail_cone.proofs.Agreement.{Held, Meeting, Fits, Agree, agreement, slice_get-end, slice_get-append}
-use Rattle.rail_cone.proofs.Fronts.{front_of, further, not_among, is_start_same, not_both}
+use Rattle.rail_cone.proofs.Prefixes.{prefix_of, further, not_among, is_start_same, not_both}
 use Rattle.rail_cone.proofs.Saying.{has_in, in_has, in_trains, is_of_in_all, Denied, denied}
 use Rattle.rail_cone.proofs.Naming.{has_route_in, in_has_route, IsNamed, named_or_not, OfDesign, of_design, Proper, proper, named_in_all, listed_is, listed_waits, waits_listed}
 use Rattle.rail_base.proofs.Lists.{in_append_right, in_map, in_filter_back}
@@ -42,7 +42,7 @@ module _ (d : Station) (routes : List Route) (n : ℕ) (k : Cone) (plan : List (
     pub formed : is_well_formed d routes n plan ≡ true
     pub in_design : in_design d routes k ≡ true
     pub granted : list_all (free_granted d routes k) k.trains ≡ true
-    pub holders : list_all (λ c. held d routes k c c.holder) k.trains ≡ true
+    pub holders : list_all (λ c. holder_fits d routes k c c.holder) k.trains ≡ true
     pub denies : is_false_of plan (clause_of_cone d routes k) ≡ true
 
   module _ (rests : Rests) where
@@ -94,15 +94,15 @@ module _ (d : Station) (routes : List Route) (n : ℕ) (k : Cone) (plan : List (
 
     -- ---- the path in the cone is the front of the path in the plan
 
-    pub whole_front : (t : TrainNo) → (rest : List RouteNo) × (path plan t ≡ (named k t).path ++ rest)
-    whole_front t = go (named_or_not k.trains t)
+    pub whole_prefix : (t : TrainNo) → (rest : List RouteNo) × (path plan t ≡ (named k t).path ++ rest)
+    whole_prefix t = go (named_or_not k.trains t)
       where
         go : IsNamed k.trains t ⊎ (named k t ≡ unnamed t) → (rest : List RouteNo) × (path plan t ≡ (named k t).path ++ rest)
         go (inr e) = (path plan t, sym (ap (λ (c : ConeTrain). c.path ++ path plan t) e))
         go (inl i) =
             let f = formed_named t i in
             let w = (proper_of t i).way in
-            front_of (route_at routes) (first_visit (train_of d t)) (named k t).path (path plan t) (record {
+            prefix_of (route_at routes) (first_visit (train_of d t)) (named k t).path (path plan t) (record {
               from = from_is t i;
               goes = and_right (from_boundary (map (route_at routes) (named k t).path)) _ (and_left (from_boundary (map (route_at routes) (named k t).path) && all_neighbors (λ r q. goes_on r.finish q.start) (map (route_at routes) (named k t).path)) _ w);
               begins = f.begins;
@@ -113,7 +113,7 @@ module _ (d : Station) (routes : List Route) (n : ℕ) (k : Cone) (plan : List (
 
     -- and the whole of it, where the cone says that the train goes no further
     pub whole_path : (t : TrainNo) → IsNamed k.trains t → is_closed d routes k t ≡ true → path plan t ≡ (named k t).path
-    whole_path t i closed = go (whole_front t).0 (whole_front t).1
+    whole_path t i closed = go (whole_prefix t).0 (whole_prefix t).1
       where
         f : Formed t
         f = formed_named t i
@@ -248,13 +248,13 @@ module _ (d : Station) (routes : List Route) (n : ℕ) (k : Cone) (plan : List (
                 let none : slice_get (path plan t) (length (free_path k t)) ≡ None = ap (λ xs. slice_get xs (length (free_path k t))) whole ∙ slice_get-end (named k t).path (length (free_path k t)) (let f = few in omega arith) in
                 let clash : Some w ≡ None = sym at ∙ none in
                 cc
-            waiting false a = by (named k t).holder (list_all_at (λ c. held d routes k c c.holder) k.trains (named k t) rests.holders i.member)
+            waiting false a = by (named k t).holder (list_all_at (λ c. holder_fits d routes k c c.holder) k.trains (named k t) rests.holders i.member)
               where
                 some : (named k t).free < length (named k t).path
                 some = leb-false (length (named k t).path) (named k t).free a
 
                 place : slice_get (named k t).path (named k t).free ≡ Some w
-                place = sym (ap₂ slice_get (whole_front t).1 few ∙ slice_get-append (named k t).path (whole_front t).0 (named k t).free some) ∙ at
+                place = sym (ap₂ slice_get (whole_prefix t).1 few ∙ slice_get-append (named k t).path (whole_prefix t).0 (named k t).free some) ∙ at
 
                 positive : (n : ℕ) → tick < n → (n == 0) ≡ false
                 positive n h = at_zero (n == 0) refl
@@ -272,7 +272,7 @@ module _ (d : Station) (routes : List Route) (n : ℕ) (k : Cone) (plan : List (
                 needed : holder_needed d routes k (named k t) ≡ true
                 needed = and_both _ _ (and_both _ _ (ap not a) (ap not (positive (named k t).horizon l))) (ap not before_horizon)
 
-                by : (o : Option Command) → held d routes k (named k t) o ≡ true → HeldUp tick t w
+                by : (o : Option Command) → holder_fits d routes k (named k t) o ≡ true → HeldUp tick t w
                 by None h = absurd (not_both _ h needed)
                 by (Some e) h = by_holder t w tick e i.train l (ap (holds_up d routes k (named k t) e) (sym place) ∙ and_right (holder_needed d routes k (named k t)) _ h)
 
@@ -283,8 +283,8 @@ module _ (d : Station) (routes : List Route) (n : ℕ) (k : Cone) (plan : List (
       concerned = λ tick t l. le-leb tick (named k t).horizon l;
       left = λ tick t l. not_up_to tick (named k t).horizon l;
       always = λ tick t. refl;
-      rest = λ t. drop (named k t).free (named k t).path ++ (whole_front t).0;
-      front = λ t. (whole_front t).1 ∙ ap (λ xs. xs ++ (whole_front t).0) (sym (take-append-drop (named k t).free (named k t).path)) ∙ append_assoc (free_path k t) (drop (named k t).free (named k t).path) (whole_front t).0;
+      rest = λ t. drop (named k t).free (named k t).path ++ (whole_prefix t).0;
+      prefix = λ t. (whole_prefix t).1 ∙ ap (λ xs. xs ++ (whole_prefix t).0) (sym (take-append-drop (named k t).free (named k t).path)) ∙ append_assoc (free_path k t) (drop (named k t).free (named k t).path) (whole_prefix t).0;
       waits_for = λ t r e m i. let f = free_is_named t r m in listed_waits d routes k e (record { train = t; route = r }) (precedes_listed e (record { train = t; route = r }) f.0 f.1 i);
       waits_too = λ t r e m i. listed_precedes e (record { train = t; route = r }) (waits_listed d routes k e (record { train = t; route = r }) i);
     }
@@ -297,7 +297,7 @@ module _ (d : Station) (routes : List Route) (n : ℕ) (k : Cone) (plan : List (
             go true e = let m = leb-true a b e in absurd (omega arith)
 
     pub fits : Fits d routes (of_cone k) (of_plan routes plan) (λ t. (named k t).horizon)
-    fits = record { meeting = meeting; all_granted = all_granted; held = held_up }
+    fits = record { meeting = meeting; all_granted = all_granted; holder_fits = held_up }
 
     pub agrees : (tick : ℕ) (t : TrainNo) → Agree d routes (of_cone k) (of_plan routes plan) (λ t. (named k t).horizon) tick t
     agrees = agreement d routes (of_cone k) (of_plan routes plan) (λ t. (named k t).horizon) fits

@@ -1,7 +1,7 @@
 mod Rows
 pub mod Running
 pub mod Agreement
-pub mod Fronts
+pub mod Prefixes
 pub mod Saying
 pub mod Naming
 pub mod Fitting

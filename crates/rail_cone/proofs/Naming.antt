@@ -13,7 +13,7 @@ use Rattle.rail_base.specs.Members.{all_neighbors}
 use Rattle.rail_base.specs.Stations.{horizon}
 use Rattle.rail_base.proofs.Members.{In, and_left, and_right, and_both, list_all_at, list_any_gives, list_any_from, in_filter}
 use Rattle.rail_cone.specs.Cones.{unnamed, first_named, named, has_route, is_named, is_pair, is_listed, of_cone}
-use Rattle.rail_cone.specs.Validity.{is_way, train_in_design, pair_in_design, holder_in_path, violation_in_design, in_design, is_pair_before}
+use Rattle.rail_cone.specs.Validity.{is_walk, train_in_design, pair_in_design, holder_in_path, violation_in_design, in_design, is_pair_before}
 use Rattle.rail_base.specs.Admission.{is_from}
 use Rattle.rail_cone.proofs.Saying.{in_all, is_command_same, is_command_self}
 use Rattle.rail_base.proofs.Lists.{in_map}
@@ -73,7 +73,7 @@ module _ (d : Station) (routes : List Route) (k : Cone) where
     pub routes_in : list_all (λ r. is_from 1 (length routes) r.0) c.path ≡ true
     pub horizon : c.horizon ≤ horizon d
     pub free : c.free ≤ length c.path
-    pub way : is_way (map (route_at routes) c.path) ≡ true
+    pub way : is_walk (map (route_at routes) c.path) ≡ true
 
   pub proper : OfDesign → (c : ConeTrain) → In c k.trains → Proper c
   proper o c m =

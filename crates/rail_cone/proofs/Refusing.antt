@@ -16,7 +16,7 @@ use Rattle.rail_cone.specs.Laws.{Refutes}
 use Rattle.rail_base.specs.Admitted.{IsAdmitted}
 use Rattle.rail_base.specs.Stations.{trains, train_of, horizon, within_of, order_of}
 use Rattle.rail_spec.specs.Feasible.{IsFeasible}
-use Rattle.rail_base.specs.declared.state.Stop.{Stop}
+use Rattle.rail_base.specs.declared.state.PathNode.{PathNode}
 use Rattle.rail_spec.specs.Dispatches.{of_plan}
 use Rattle.rail_spec.specs.Visits.{pass_tick, visits_of_train, visit_tick}
 use Rattle.rail_spec.specs.Requirements.{both, most_ticks, granted_by, visited_by, is_done, keeps_order, keeps_within, is_after, meets, command_numbers, visit_numbers}
@@ -24,12 +24,12 @@ use Rattle.rail_base.proofs.Members.{In, and_left, and_right, list_all_at, below
 use Rattle.rail_laws.proofs.Deciding.{visit_stays, visit_at, visit_once}
 use Rattle.rail_base.specs.Admission.{is_visit}
 use Rattle.rail_cone.specs.Cones.{named}
-use Rattle.rail_cone.specs.Validity.{first_fault, is_valid_cone, in_design, free_granted, held, shown, violation_in_design, only_path}
+use Rattle.rail_cone.specs.Validity.{first_fault, is_valid_cone, in_design, free_granted, holder_fits, shown, violation_in_design, only_path}
 use Rattle.rail_base.specs.Admission.{is_from}
 use Rattle.rail_cone.specs.Clauses.{clause_of_cone, is_false_of}
-use Rattle.rail_cone.proofs.Fronts.{not_both}
+use Rattle.rail_cone.proofs.Prefixes.{not_both}
 use Rattle.rail_cone.proofs.Saying.{in_trains}
-use Rattle.rail_cone.proofs.Fitting.{Rests, ofd, whole_front}
+use Rattle.rail_cone.proofs.Fitting.{Rests, ofd, whole_prefix}
 use Rattle.rail_cone.proofs.Failing.{IsTimed, Certain, certain_of}
 use Rattle.rail_base.proofs.Lists.{in_count}
 
@@ -113,7 +113,7 @@ module _ (d : Station) (routes : List Route) (n : ℕ) (k : Cone) (plan : List (
       let v = met.visited t j (and_left (is_visit d t j) _ (and_left (is_visit d t j && only_path d routes k t k.trains) _ of)) in
       true≢false (sym v ∙ go (entry None (visits_of_train d routes (of_plan routes plan) t) j) none)
     where
-      go : (o : Option Stop) → is_none o ≡ true → is_some (option_and_then (pass_tick d routes (of_plan routes plan) (horizon d) t) o) ≡ false
+      go : (o : Option PathNode) → is_none o ≡ true → is_some (option_and_then (pass_tick d routes (of_plan routes plan) (horizon d) t) o) ≡ false
       go None h = refl
       go (Some s) h = absurd (true≢false (sym h))
   clash (violation.Visit t j) of c met =
@@ -126,8 +126,8 @@ module _ (d : Station) (routes : List Route) (n : ℕ) (k : Cone) (plan : List (
       let t_in = and_left (is_from 1 (length d.trains) t.0) _ of in
       let j_in = and_right (is_from 1 (length d.trains) t.0) _ of in
       let j_high = high (length (named k t).path) j j_in in
-      let longer = further (named k t).path (whole_front d routes n k plan rests t).0 in
-      let path_length : length (path plan t) ≡ length ((named k t).path ++ (whole_front d routes n k plan rests t).0) = ap length (whole_front d routes n k plan rests t).1 in
+      let longer = further (named k t).path (whole_prefix d routes n k plan rests t).0 in
+      let path_length : length (path plan t) ≡ length ((named k t).path ++ (whole_prefix d routes n k plan rests t).0) = ap length (whole_prefix d routes n k plan rests t).1 in
       not_both _ (subst (λ i. not (granted_by d routes plan i t j) ≡ true) at_end none)
       (met.granted t j (low (length d.trains) t.0 t_in) (high (length d.trains) t.0 t_in) (low (length (named k t).path) j j_in) (omega arith))
     where
@@ -170,13 +170,13 @@ module _ (d : Station) (routes : List Route) (k : Cone) where
   pub record Holds : Type 0 where
     pub in_design : in_design d routes k ≡ true
     pub granted : list_all (free_granted d routes k) k.trains ≡ true
-    pub holders : list_all (λ c. held d routes k c c.holder) k.trains ≡ true
+    pub holders : list_all (λ c. holder_fits d routes k c c.holder) k.trains ≡ true
     pub shown : shown d routes k k.violation ≡ true
 
   pub holds_of_valid : is_valid_cone d routes k ≡ true → Holds
-  holds_of_valid = go (in_design d routes k) (list_all (free_granted d routes k) k.trains) (list_all (λ c. held d routes k c c.holder) k.trains) (shown d routes k k.violation) refl refl refl refl
+  holds_of_valid = go (in_design d routes k) (list_all (free_granted d routes k) k.trains) (list_all (λ c. holder_fits d routes k c c.holder) k.trains) (shown d routes k k.violation) refl refl refl refl
     where
-      go : (a b c e : Bool) → in_design d routes k ≡ a → list_all (free_granted d routes k) k.trains ≡ b → list_all (λ c. held d routes k c c.holder) k.trains ≡ c → shown d routes k k.violation ≡ e
+      go : (a b c e : Bool) → in_design d routes k ≡ a → list_all (free_granted d routes k) k.trains ≡ b → list_all (λ c. holder_fits d routes k c c.holder) k.trains ≡ c → shown d routes k k.violation ≡ e
           → is_none (first_fault a b c e) ≡ true → Holds
       go true true true true f g h s v = record { in_design = f; granted = g; holders = h; shown = s }
       go false b c e f g h s v = absurd (true≢false (sym v))

@@ -228,25 +228,25 @@ no_within = refl
 
 -- ---- cones of a path that misses a visit
 
-abbrev stops_short : List ConeTrain → List (Command × Command) → ℕ → Cone
-stops_short trains pairs visit = cone trains pairs (violation.Path (record { 0 = 1 }) visit)
+abbrev path_nodes_short : List ConeTrain → List (Command × Command) → ℕ → Cone
+path_nodes_short trains pairs visit = cone trains pairs (violation.Path (record { 0 = 1 }) visit)
 
-path_valid : fault_in follow_short (stops_short (follows 1 0 0 (route 1 ∷ []) None ∷ []) [] 2) ≡ None
+path_valid : fault_in follow_short (path_nodes_short (follows 1 0 0 (route 1 ∷ []) None ∷ []) [] 2) ≡ None
 path_valid = refl
 
-path_clause : clause_in follow_short (stops_short (follows 1 0 0 (route 1 ∷ []) None ∷ []) [] 2) ≡ neg (Used (command 1 1)) ∷ affirm (Used (command 1 2)) ∷ []
+path_clause : clause_in follow_short (path_nodes_short (follows 1 0 0 (route 1 ∷ []) None ∷ []) [] 2) ≡ neg (Used (command 1 1)) ∷ affirm (Used (command 1 2)) ∷ []
 path_clause = refl
 
-path_makes_it : fault_in follow_short (stops_short (follows 1 0 0 both_routes None ∷ []) [] 2) ≡ Some fault.ViolationNotShown
+path_makes_it : fault_in follow_short (path_nodes_short (follows 1 0 0 both_routes None ∷ []) [] 2) ≡ Some fault.ViolationNotShown
 path_makes_it = refl
 
-path_of_another : fault_in follow_short (stops_short (follows 2 0 0 (route 1 ∷ []) None ∷ []) [] 2) ≡ not_in_design
+path_of_another : fault_in follow_short (path_nodes_short (follows 2 0 0 (route 1 ∷ []) None ∷ []) [] 2) ≡ not_in_design
 path_of_another = refl
 
-path_of_none : fault_in follow_short (stops_short [] [] 2) ≡ not_in_design
+path_of_none : fault_in follow_short (path_nodes_short [] [] 2) ≡ not_in_design
 path_of_none = refl
 
-path_with_a_horizon : fault_in follow_short (stops_short (follows 1 1 0 (route 1 ∷ []) None ∷ []) [] 2) ≡ not_in_design
+path_with_a_horizon : fault_in follow_short (path_nodes_short (follows 1 1 0 (route 1 ∷ []) None ∷ []) [] 2) ≡ not_in_design
 path_with_a_horizon = refl
 
 -- ---- holders

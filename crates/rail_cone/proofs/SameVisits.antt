@@ -11,24 +11,24 @@ use Rattle.rail_base.specs.Numbering.{entry}
 use Rattle.rail_spec.specs.Plans.{route_at, path, path_routes}
 use Rattle.rail_base.specs.Stations.{train_of}
 use Rattle.rail_spec.specs.Dispatches.{state_of, state_at, of_plan}
-use Rattle.rail_base.specs.declared.state.Stop.{Stop}
-use Rattle.rail_spec.specs.Visits.{stops, visits_on, is_passed, has_passed, pass_tick, visits_of_train, visit_tick}
+use Rattle.rail_base.specs.declared.state.PathNode.{PathNode}
+use Rattle.rail_spec.specs.Visits.{path_nodes, visits_on, is_passed, has_passed, pass_tick, visits_of_train, visit_tick}
 use Rattle.rail_cone.specs.Cones.{free_path, of_cone}
 use Rattle.rail_cone.specs.Validity.{cone_visit}
 use Rattle.rail_cone.proofs.Visiting.{Alike, visits_alike, least_same, least_none}
 use Rattle.rail_base.proofs.Lists.{length-map}
 
-module _ (d : Station) (routes : List Route) (k : Cone) (plan : List (List Command)) (tick : ℕ) (t : TrainNo) (rest : List RouteNo) (front : path plan t ≡ free_path k t ++ rest)
+module _ (d : Station) (routes : List Route) (k : Cone) (plan : List (List Command)) (tick : ℕ) (t : TrainNo) (rest : List RouteNo) (prefix : path plan t ≡ free_path k t ++ rest)
     (same : (i : ℕ) → i ≤ tick → state_of (state_at d routes (of_plan routes plan) i) t ≡ state_of (state_at d routes (of_cone k) i) t)
     (few : (i : ℕ) → i ≤ tick → (state_of (state_at d routes (of_plan routes plan) i) t).granted ≤ length (free_path k t)) where
   whole : path_routes routes plan t ≡ map (route_at routes) (free_path k t) ++ map (route_at routes) rest
-  whole = ap (map (route_at routes)) front ∙ map-append (route_at routes) (free_path k t) rest
+  whole = ap (map (route_at routes)) prefix ∙ map-append (route_at routes) (free_path k t) rest
 
-  passed_same : (s : Stop) → pass_tick d routes (of_plan routes plan) tick t s ≡ pass_tick d routes (of_cone k) tick t s
+  passed_same : (s : PathNode) → pass_tick d routes (of_plan routes plan) tick t s ≡ pass_tick d routes (of_cone k) tick t s
   passed_same s = least_same (has_passed d routes (of_plan routes plan) t s) (has_passed d routes (of_cone k) t s) tick (λ i m. ap (λ st. is_passed st s) (same i m))
 
   -- a stop of a command past the front is not passed
-  far_not_passed : (s : Stop) → length (map (route_at routes) (free_path k t)) < s.command → pass_tick d routes (of_plan routes plan) tick t s ≡ None
+  far_not_passed : (s : PathNode) → length (map (route_at routes) (free_path k t)) < s.command → pass_tick d routes (of_plan routes plan) tick t s ≡ None
   far_not_passed s far = least_none (has_passed d routes (of_plan routes plan) t s) tick (λ i m.
       let f = few i m in
       let b = length-map (route_at routes) (free_path k t) in
@@ -46,10 +46,10 @@ module _ (d : Station) (routes : List Route) (k : Cone) (plan : List (List Comma
           at true e = let m = leb-true a b e in absurd (omega arith)
 
   pub visit_alike : (j : ℕ) → visit_tick d routes (of_plan routes plan) tick t j ≡ cone_visit d routes k tick t j
-  visit_alike j = go (subst (λ rs. Alike (length (map (route_at routes) (free_path k t))) (entry None (visits_of_train d routes (of_cone k) t) j) (entry None (visits_on (train_of d t).visits (stops rs)) j)) (sym whole)
+  visit_alike j = go (subst (λ rs. Alike (length (map (route_at routes) (free_path k t))) (entry None (visits_of_train d routes (of_cone k) t) j) (entry None (visits_on (train_of d t).visits (path_nodes rs)) j)) (sym whole)
       (visits_alike (train_of d t).visits (map (route_at routes) (free_path k t)) (map (route_at routes) rest) j))
     where
-      each : (o : Option Stop) → option_and_then (pass_tick d routes (of_plan routes plan) tick t) o ≡ option_and_then (pass_tick d routes (of_cone k) tick t) o
+      each : (o : Option PathNode) → option_and_then (pass_tick d routes (of_plan routes plan) tick t) o ≡ option_and_then (pass_tick d routes (of_cone k) tick t) o
       each None = refl
       each (Some s) = passed_same s
 

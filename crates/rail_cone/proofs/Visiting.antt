@@ -4,65 +4,65 @@ use Rattle.rail_base.specs.declared.station.NodeNo.{NodeNo}
 use Rattle.rail_base.specs.declared.route.Route.{Route}
 use Rattle.rail_base.specs.Numbering.{entry, least, or_this, from_first, first_of_list, after_first}
 use Rattle.rail_spec.specs.Plans.{length_mm, has_node}
-use Rattle.rail_base.specs.declared.state.Stop.{Stop}
-use Rattle.rail_spec.specs.Visits.{stops_of, stops_after, stops, visits_at, visits_on}
+use Rattle.rail_base.specs.declared.state.PathNode.{PathNode}
+use Rattle.rail_spec.specs.Visits.{path_nodes_of, path_nodes_after, path_nodes, visits_at, visits_on}
 use Rattle.rail_base.proofs.Members.{In}
 use Rattle.rail_base.proofs.Lists.{in_append}
 
 -- ---- the stops of a longer path
 
-stop_of : (o j : ℕ) (r : Route) (s : Stop) → In s (stops_of o j r) → s.command ≡ j
-stop_of o j r s m = go r.nodes m
+path_node_of : (o j : ℕ) (r : Route) (s : PathNode) → In s (path_nodes_of o j r) → s.command ≡ j
+path_node_of o j r s m = go r.nodes m
   where
     go : (ps : List (NodeNo × ℤ)) → In s (map (λ p. record { node = p.0; offset = o + nat_abs p.1; command = j }) ps) → s.command ≡ j
     go [] m = absurd m
-    go (p ∷ ps) (inl e) = sym (ap (λ (x : Stop). x.command) e)
+    go (p ∷ ps) (inl e) = sym (ap (λ (x : PathNode). x.command) e)
     go (p ∷ ps) (inr m) = go ps m
 
 pub in_after_first : {X : Type 0} (xs : List X) (x : X) → In x (after_first xs) → In x xs
 in_after_first [] x m = absurd m
 in_after_first (y ∷ ys) x m = inr m
 
-stops_after_far : (o j : ℕ) (rs : List Route) (s : Stop) → In s (stops_after o j rs) → j ≤ s.command
-stops_after_far o j [] s m = absurd m
-stops_after_far o j (r ∷ rs) s m = go (in_append s (after_first (stops_of o j r)) (stops_after (o + length_mm r) (j + 1) rs) m) (stops_after_far (o + length_mm r) (j + 1) rs s)
+path_nodes_after_far : (o j : ℕ) (rs : List Route) (s : PathNode) → In s (path_nodes_after o j rs) → j ≤ s.command
+path_nodes_after_far o j [] s m = absurd m
+path_nodes_after_far o j (r ∷ rs) s m = go (in_append s (after_first (path_nodes_of o j r)) (path_nodes_after (o + length_mm r) (j + 1) rs) m) (path_nodes_after_far (o + length_mm r) (j + 1) rs s)
   where
-    go : In s (after_first (stops_of o j r)) ⊎ In s (stops_after (o + length_mm r) (j + 1) rs) → (In s (stops_after (o + length_mm r) (j + 1) rs) → j + 1 ≤ s.command) → j ≤ s.command
-    go (inl n) later = let e = stop_of o j r s (in_after_first (stops_of o j r) s n) in omega arith
+    go : In s (after_first (path_nodes_of o j r)) ⊎ In s (path_nodes_after (o + length_mm r) (j + 1) rs) → (In s (path_nodes_after (o + length_mm r) (j + 1) rs) → j + 1 ≤ s.command) → j ≤ s.command
+    go (inl n) later = let e = path_node_of o j r s (in_after_first (path_nodes_of o j r) s n) in omega arith
     go (inr n) later = let e = later n in omega arith
 
 -- the stops of a longer path are those of the shorter one and others that belong to later commands
-pub record Longer (n : ℕ) (xs ys : List Stop) : Type 0 where
-  pub more : List Stop
+pub record Longer (n : ℕ) (xs ys : List PathNode) : Type 0 where
+  pub more : List PathNode
   pub all : ys ≡ xs ++ more
-  pub far : (s : Stop) → In s more → n < s.command
+  pub far : (s : PathNode) → In s more → n < s.command
 
-longer_after : (o j : ℕ) (rs more : List Route) → (far : List Stop) × (stops_after o j (rs ++ more) ≡ stops_after o j rs ++ far) × ((s : Stop) → In s far → j + length rs ≤ s.command)
-longer_after o j [] more = (stops_after o j more, refl, λ s m. let l = stops_after_far o j more s m in omega arith)
+longer_after : (o j : ℕ) (rs more : List Route) → (far : List PathNode) × (path_nodes_after o j (rs ++ more) ≡ path_nodes_after o j rs ++ far) × ((s : PathNode) → In s far → j + length rs ≤ s.command)
+longer_after o j [] more = (path_nodes_after o j more, refl, λ s m. let l = path_nodes_after_far o j more s m in omega arith)
 longer_after o j (r ∷ rs) more =
     let k = longer_after (o + length_mm r) (j + 1) rs more in
-    (k.0, ap (λ zs. after_first (stops_of o j r) ++ zs) k.1 ∙ sym (append_assoc (after_first (stops_of o j r)) (stops_after (o + length_mm r) (j + 1) rs) k.0), λ s m. let l = k.2 s m in omega arith)
+    (k.0, ap (λ zs. after_first (path_nodes_of o j r) ++ zs) k.1 ∙ sym (append_assoc (after_first (path_nodes_of o j r)) (path_nodes_after (o + length_mm r) (j + 1) rs) k.0), λ s m. let l = k.2 s m in omega arith)
 
-pub longer : (rs more : List Route) → Longer (length rs) (stops rs) (stops (rs ++ more))
+pub longer : (rs more : List Route) → Longer (length rs) (path_nodes rs) (path_nodes (rs ++ more))
 longer [] [] = record { more = []; all = refl; far = λ s m. absurd m }
-longer [] (q ∷ qs) = record { more = stops (q ∷ qs); all = refl; far = λ s m. far s (in_append s (stops_of 0 1 q) (stops_after (length_mm q) 2 qs) m) }
+longer [] (q ∷ qs) = record { more = path_nodes (q ∷ qs); all = refl; far = λ s m. far s (in_append s (path_nodes_of 0 1 q) (path_nodes_after (length_mm q) 2 qs) m) }
   where
-    far : (s : Stop) → In s (stops_of 0 1 q) ⊎ In s (stops_after (length_mm q) 2 qs) → 0 < s.command
-    far s (inl n) = let e = stop_of 0 1 q s n in omega arith
-    far s (inr n) = let e = stops_after_far (length_mm q) 2 qs s n in omega arith
+    far : (s : PathNode) → In s (path_nodes_of 0 1 q) ⊎ In s (path_nodes_after (length_mm q) 2 qs) → 0 < s.command
+    far s (inl n) = let e = path_node_of 0 1 q s n in omega arith
+    far s (inr n) = let e = path_nodes_after_far (length_mm q) 2 qs s n in omega arith
 longer (r ∷ rs) more =
     let k = longer_after (length_mm r) 2 rs more in
     record {
       more = k.0;
-      all = ap (λ zs. stops_of 0 1 r ++ zs) k.1 ∙ sym (append_assoc (stops_of 0 1 r) (stops_after (length_mm r) 2 rs) k.0);
+      all = ap (λ zs. path_nodes_of 0 1 r ++ zs) k.1 ∙ sym (append_assoc (path_nodes_of 0 1 r) (path_nodes_after (length_mm r) 2 rs) k.0);
       far = λ s m. let l = k.2 s m in omega arith;
     }
 
 -- ---- the visits on it
 
 -- a visit is made at the same stop, or on the longer path alone at a stop of a later command
-abbrev pub Alike : ℕ → Option Stop → Option Stop → Type 0
-Alike n a b = (b ≡ a) ⊎ ((a ≡ None) × (s : Stop) × (b ≡ Some s) × (n < s.command))
+abbrev pub Alike : ℕ → Option PathNode → Option PathNode → Type 0
+Alike n a b = (b ≡ a) ⊎ ((a ≡ None) × (s : PathNode) × (b ≡ Some s) × (n < s.command))
 
 in_from_first : {X : Type 0} (test : X → Bool) (xs : List X) (x : X) → In x (from_first test xs) → In x xs
 in_from_first test [] x m = absurd m
@@ -82,36 +82,36 @@ from_first-append {X} test (x ∷ xs) ys = go (test x) refl (from_first-append t
     go true e k = inl (x, xs, refl, refl)
     go false e k = k
 
-first_alike : (n : ℕ) (ys : List Stop) → ((s : Stop) → In s ys → n < s.command) → Alike n None (first_of_list ys)
+first_alike : (n : ℕ) (ys : List PathNode) → ((s : PathNode) → In s ys → n < s.command) → Alike n None (first_of_list ys)
 first_alike n [] far = inl refl
 first_alike n (y ∷ ys) far = inr (refl, y, refl, far y (inl refl))
 
-visits_at_alike : (n : ℕ) (sets : List (List NodeNo)) (i : ℕ) (xs ys : List Stop) → ((s : Stop) → In s ys → n < s.command) → Alike n (get_or (visits_at sets xs) i None) (get_or (visits_at sets (xs ++ ys)) i None)
+visits_at_alike : (n : ℕ) (sets : List (List NodeNo)) (i : ℕ) (xs ys : List PathNode) → ((s : PathNode) → In s ys → n < s.command) → Alike n (get_or (visits_at sets xs) i None) (get_or (visits_at sets (xs ++ ys)) i None)
 visits_at_alike n [] i xs ys far = inl refl
-visits_at_alike n (set ∷ sets) zero xs ys far = go (from_first-append (λ (p : Stop). has_node set p.node) xs ys)
+visits_at_alike n (set ∷ sets) zero xs ys far = go (from_first-append (λ (p : PathNode). has_node set p.node) xs ys)
   where
-    test : Stop → Bool
+    test : PathNode → Bool
     test p = has_node set p.node
 
-    go : ((z : Stop) × (zs : List Stop) × (from_first (λ (p : Stop). has_node set p.node) xs ≡ z ∷ zs) × (from_first (λ (p : Stop). has_node set p.node) (xs ++ ys) ≡ z ∷ zs ++ ys)) ⊎ ((from_first (λ (p : Stop). has_node set p.node) xs ≡ []) × (from_first (λ (p : Stop). has_node set p.node) (xs ++ ys) ≡ from_first (λ (p : Stop). has_node set p.node) ys))
-        → Alike n (first_of_list (from_first (λ (p : Stop). has_node set p.node) xs)) (first_of_list (from_first (λ (p : Stop). has_node set p.node) (xs ++ ys)))
+    go : ((z : PathNode) × (zs : List PathNode) × (from_first (λ (p : PathNode). has_node set p.node) xs ≡ z ∷ zs) × (from_first (λ (p : PathNode). has_node set p.node) (xs ++ ys) ≡ z ∷ zs ++ ys)) ⊎ ((from_first (λ (p : PathNode). has_node set p.node) xs ≡ []) × (from_first (λ (p : PathNode). has_node set p.node) (xs ++ ys) ≡ from_first (λ (p : PathNode). has_node set p.node) ys))
+        → Alike n (first_of_list (from_first (λ (p : PathNode). has_node set p.node) xs)) (first_of_list (from_first (λ (p : PathNode). has_node set p.node) (xs ++ ys)))
     go (inl (z, zs, e, f)) = inl (ap first_of_list f ∙ sym (ap first_of_list e))
-    go (inr (e, f)) = subst (λ a. Alike n (first_of_list a) (first_of_list (from_first (λ (p : Stop). has_node set p.node) (xs ++ ys)))) (sym e)
-        (subst (λ a. Alike n None (first_of_list a)) (sym f) (first_alike n (from_first (λ (p : Stop). has_node set p.node) ys) (λ s m. far s (in_from_first (λ (p : Stop). has_node set p.node) ys s m))))
-visits_at_alike n (set ∷ sets) (suc i) xs ys far = go (from_first-append (λ (p : Stop). has_node set p.node) xs ys) (λ us vs. visits_at_alike n sets i us vs)
+    go (inr (e, f)) = subst (λ a. Alike n (first_of_list a) (first_of_list (from_first (λ (p : PathNode). has_node set p.node) (xs ++ ys)))) (sym e)
+        (subst (λ a. Alike n None (first_of_list a)) (sym f) (first_alike n (from_first (λ (p : PathNode). has_node set p.node) ys) (λ s m. far s (in_from_first (λ (p : PathNode). has_node set p.node) ys s m))))
+visits_at_alike n (set ∷ sets) (suc i) xs ys far = go (from_first-append (λ (p : PathNode). has_node set p.node) xs ys) (λ us vs. visits_at_alike n sets i us vs)
   where
-    go : ((z : Stop) × (zs : List Stop) × (from_first (λ (p : Stop). has_node set p.node) xs ≡ z ∷ zs) × (from_first (λ (p : Stop). has_node set p.node) (xs ++ ys) ≡ z ∷ zs ++ ys)) ⊎ ((from_first (λ (p : Stop). has_node set p.node) xs ≡ []) × (from_first (λ (p : Stop). has_node set p.node) (xs ++ ys) ≡ from_first (λ (p : Stop). has_node set p.node) ys))
-        → ((us vs : List Stop) → ((s : Stop) → In s vs → n < s.command) → Alike n (get_or (visits_at sets us) i None) (get_or (visits_at sets (us ++ vs)) i None))
-        → Alike n (get_or (visits_at sets (after_first (from_first (λ (p : Stop). has_node set p.node) xs))) i None) (get_or (visits_at sets (after_first (from_first (λ (p : Stop). has_node set p.node) (xs ++ ys)))) i None)
+    go : ((z : PathNode) × (zs : List PathNode) × (from_first (λ (p : PathNode). has_node set p.node) xs ≡ z ∷ zs) × (from_first (λ (p : PathNode). has_node set p.node) (xs ++ ys) ≡ z ∷ zs ++ ys)) ⊎ ((from_first (λ (p : PathNode). has_node set p.node) xs ≡ []) × (from_first (λ (p : PathNode). has_node set p.node) (xs ++ ys) ≡ from_first (λ (p : PathNode). has_node set p.node) ys))
+        → ((us vs : List PathNode) → ((s : PathNode) → In s vs → n < s.command) → Alike n (get_or (visits_at sets us) i None) (get_or (visits_at sets (us ++ vs)) i None))
+        → Alike n (get_or (visits_at sets (after_first (from_first (λ (p : PathNode). has_node set p.node) xs))) i None) (get_or (visits_at sets (after_first (from_first (λ (p : PathNode). has_node set p.node) (xs ++ ys)))) i None)
     go (inl (z, zs, e, f)) again =
-        subst (λ a. Alike n (get_or (visits_at sets (after_first a)) i None) (get_or (visits_at sets (after_first (from_first (λ (p : Stop). has_node set p.node) (xs ++ ys)))) i None)) (sym e)
+        subst (λ a. Alike n (get_or (visits_at sets (after_first a)) i None) (get_or (visits_at sets (after_first (from_first (λ (p : PathNode). has_node set p.node) (xs ++ ys)))) i None)) (sym e)
         (subst (λ a. Alike n (get_or (visits_at sets zs) i None) (get_or (visits_at sets (after_first a)) i None)) (sym f) (again zs ys far))
     go (inr (e, f)) again =
-        subst (λ a. Alike n (get_or (visits_at sets (after_first a)) i None) (get_or (visits_at sets (after_first (from_first (λ (p : Stop). has_node set p.node) (xs ++ ys)))) i None)) (sym e)
+        subst (λ a. Alike n (get_or (visits_at sets (after_first a)) i None) (get_or (visits_at sets (after_first (from_first (λ (p : PathNode). has_node set p.node) (xs ++ ys)))) i None)) (sym e)
         (subst (λ a. Alike n (get_or (visits_at sets []) i None) (get_or (visits_at sets (after_first a)) i None)) (sym f)
-        (again [] (after_first (from_first (λ (p : Stop). has_node set p.node) ys)) (λ s m. far s (in_from_first (λ (p : Stop). has_node set p.node) ys s (in_after_first (from_first (λ (p : Stop). has_node set p.node) ys) s m)))))
+        (again [] (after_first (from_first (λ (p : PathNode). has_node set p.node) ys)) (λ s m. far s (in_from_first (λ (p : PathNode). has_node set p.node) ys s (in_after_first (from_first (λ (p : PathNode). has_node set p.node) ys) s m)))))
 
-visits_on_alike : (n : ℕ) (sets : List (List NodeNo)) (i : ℕ) (xs ys : List Stop) → ((s : Stop) → In s ys → n < s.command) → Alike n (get_or (visits_on sets xs) i None) (get_or (visits_on sets (xs ++ ys)) i None)
+visits_on_alike : (n : ℕ) (sets : List (List NodeNo)) (i : ℕ) (xs ys : List PathNode) → ((s : PathNode) → In s ys → n < s.command) → Alike n (get_or (visits_on sets xs) i None) (get_or (visits_on sets (xs ++ ys)) i None)
 visits_on_alike n [] i xs ys far = inl refl
 visits_on_alike n (set ∷ sets) zero [] ys far = first_alike n ys far
 visits_on_alike n (set ∷ sets) zero (x ∷ xs) ys far = inl refl
@@ -119,11 +119,11 @@ visits_on_alike n (set ∷ sets) (suc i) [] ys far = visits_at_alike n sets i []
 visits_on_alike n (set ∷ sets) (suc i) (x ∷ xs) ys far = visits_at_alike n sets i xs ys far
 
 -- each visit is made alike on a path and on a longer one
-pub visits_alike : (sets : List (List NodeNo)) (rs more : List Route) (j : ℕ) → Alike (length rs) (entry None (visits_on sets (stops rs)) j) (entry None (visits_on sets (stops (rs ++ more))) j)
+pub visits_alike : (sets : List (List NodeNo)) (rs more : List Route) (j : ℕ) → Alike (length rs) (entry None (visits_on sets (path_nodes rs)) j) (entry None (visits_on sets (path_nodes (rs ++ more))) j)
 visits_alike sets rs more zero = inl refl
 visits_alike sets rs more (suc i) =
     let l = longer rs more in
-    subst (λ ss. Alike (length rs) (get_or (visits_on sets (stops rs)) i None) (get_or (visits_on sets ss) i None)) (sym l.all) (visits_on_alike (length rs) sets i (stops rs) l.more l.far)
+    subst (λ ss. Alike (length rs) (get_or (visits_on sets (path_nodes rs)) i None) (get_or (visits_on sets ss) i None)) (sym l.all) (visits_on_alike (length rs) sets i (path_nodes rs) l.more l.far)
 
 -- ---- the least number that passes
 

@@ -20,7 +20,7 @@ use Rattle.rail_spec.specs.Plans.{route_at, is_train, is_command, is_start, goes
 use Rattle.rail_base.specs.Members.{all_pairs, all_neighbors}
 use Rattle.rail_base.specs.Admission.{is_from, is_visit}
 use Rattle.rail_base.specs.Stations.{train_of, horizon, within_of, order_of}
-use Rattle.rail_spec.specs.Visits.{stops, visits_on, visit_tick}
+use Rattle.rail_spec.specs.Visits.{path_nodes, visits_on, visit_tick}
 use Rattle.rail_spec.specs.Dispatches.{state_of, state_at, has_released}
 use Rattle.rail_spec.specs.Requirements.{most_ticks}
 use Rattle.rail_cone.specs.Cones.{named, all_free, is_named, is_listed, of_cone}
@@ -43,8 +43,8 @@ from_boundary (r ∷ rs) = is_boundary r.start
     is_boundary (start.Signal s) = false
 
 -- routes in a row, from a boundary, that use no start twice
-abbrev pub is_way : List Route → Bool
-is_way rs = from_boundary rs && all_neighbors (λ r q. goes_on r.finish q.start) rs
+abbrev pub is_walk : List Route → Bool
+is_walk rs = from_boundary rs && all_neighbors (λ r q. goes_on r.finish q.start) rs
     && all_pairs (λ r q. not (is_start r.start q.start)) rs
 
 -- the first test that fails, as a reason
@@ -62,7 +62,7 @@ module _ (d : Station) (routes : List Route) (k : Cone) where
   abbrev pub train_in_design : ConeTrain → Bool
   train_in_design c = is_from 1 (length d.trains) c.train.0 && list_all (λ r. is_from 1 (length routes) r.0) c.path
       && nat_le c.horizon (horizon d) && nat_le c.free (length c.path)
-      && is_way (map (route_at routes) c.path)
+      && is_walk (map (route_at routes) c.path)
 
   -- the holder, if any, is a command of the cone
   abbrev pub holder_in_path : Option Command → Bool
@@ -129,9 +129,9 @@ module _ (d : Station) (routes : List Route) (k : Cone) where
   holder_needed c = not (all_free c) && not (c.horizon == 0) && not (just_granted c)
 
   -- the holder is there where it is needed, and holds the train up
-  abbrev pub held : ConeTrain → Option Command → Bool
-  held c None = not (holder_needed c)
-  held c (Some h) = holder_needed c && holds_up c h (slice_get c.path c.free)
+  abbrev pub holder_fits : ConeTrain → Option Command → Bool
+  holder_fits c None = not (holder_needed c)
+  holder_fits c (Some h) = holder_needed c && holds_up c h (slice_get c.path c.free)
 
   -- ---- the fourth: violation not shown
 
@@ -148,7 +148,7 @@ module _ (d : Station) (routes : List Route) (k : Cone) where
   abbrev pub shown : Violation → Bool
   shown (violation.Path t j) =
       let way = map (route_at routes) (named k t).path in
-      is_none (entry None (visits_on (train_of d t).visits (stops way)) j)
+      is_none (entry None (visits_on (train_of d t).visits (path_nodes way)) j)
   shown (violation.Within w) = let within = within_of d w in
       at_its_tick (cone_visit (named k within.from_train).horizon within.from_train within.from_visit) (λ a.
       nat_le (a + most_ticks d within) (named k within.to_train).horizon
@@ -164,7 +164,7 @@ module _ (d : Station) (routes : List Route) (k : Cone) where
   abbrev pub fault_of : Option ConeFault
   fault_of =
       let granted = list_all free_granted k.trains in
-      let held_up = list_all (λ c. held c c.holder) k.trains in
+      let held_up = list_all (λ c. holder_fits c c.holder) k.trains in
       first_fault in_design granted held_up (shown k.violation)
 
   -- no reason holds against the cone

@@ -16,7 +16,7 @@ pub struct ConeTrain {
     pub horizon: u64,
     /// How many commands of the path are free, from its first on; the others wait.
     pub free: u32,
-    /// The front of the train's path.
+    /// A prefix of the train's path.
     pub path: List<RouteNo>,
     /// The command that holds up the first waiting one.
     pub holder: Option<Command>,

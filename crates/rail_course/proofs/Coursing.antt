@@ -16,12 +16,12 @@ use Rattle.rail_spec.specs.Dispatches.{Dispatch, routes_before}
 use Rattle.rail_base.specs.Routes.{route_at, length_mm, exits}
 use Rattle.rail_base.proofs.Members.{below_or_not, get_or-counted, get_or-counted_past, map-map}
 use Rattle.rail_base.proofs.Lists.{length-map}
-use Rattle.rail_course.specs.declared.course.Course.{Course}
-use Rattle.rail_course.specs.declared.fronts.Front.{Front}
+use Rattle.rail_course.specs.declared.train_path.TrainPath.{TrainPath}
+use Rattle.rail_course.specs.declared.prefixes.PathPrefix.{PathPrefix}
 use Rattle.rail_course.specs.declared.waits.Wait.{Wait}
-use Rattle.rail_course.specs.Fronts.{front_of, longer, fronts_from, no_front}
-use Rattle.rail_course.specs.Tracks.{routes_at, way}
-use Rattle.rail_course.specs.Courses.{IsCourse, AreCourses}
+use Rattle.rail_course.specs.Prefixes.{prefix_of, longer, prefixes_from, no_prefix}
+use Rattle.rail_course.specs.Tracks.{routes_at, path_length}
+use Rattle.rail_course.specs.TrainPaths.{IsTrainPath, AreTrainPaths}
 
 -- ---- numbers in a row
 
@@ -69,17 +69,17 @@ path_of_number d f paths all none = fun_ext at
 
 -- ---- courses by the numbers of their trains
 
-module _ (d : Station) (routes : List Route) (path : TrainNo → List RouteNo) (cs : List Course) (h : AreCourses d routes path cs) where
+module _ (d : Station) (routes : List Route) (path : TrainNo → List RouteNo) (cs : List TrainPath) (h : AreTrainPaths d routes path cs) where
   pub many_courses : length cs ≡ length d.trains
-  many_courses = sym (length-map (λ (c : Course). c.train) cs) ∙ ap length h.all ∙ many_trains d
+  many_courses = sym (length-map (λ (c : TrainPath). c.train) cs) ∙ ap length h.all ∙ many_trains d
 
-  at_map : (xs : List Course) (k : ℕ) (c : Course) (t : TrainNo) → k < length xs → (get_or xs k c).train ≡ get_or (map (λ (c : Course). c.train) xs) k t
+  at_map : (xs : List TrainPath) (k : ℕ) (c : TrainPath) (t : TrainNo) → k < length xs → (get_or xs k c).train ≡ get_or (map (λ (c : TrainPath). c.train) xs) k t
   at_map [] k c t l = absurd (omega arith)
   at_map (x ∷ xs) zero c t l = refl
   at_map (x ∷ xs) (suc k) c t l = at_map xs k c t (omega arith)
 
   -- the course at a train's place is its course
-  pub train_at : (t : TrainNo) (c : Course) → IsTrain d t → (get_or cs (t.0 - 1) c).train ≡ t
+  pub train_at : (t : TrainNo) (c : TrainPath) → IsTrain d t → (get_or cs (t.0 - 1) c).train ≡ t
   train_at t c there =
       let many = many_courses in
       let low = there.0 in
@@ -87,7 +87,7 @@ module _ (d : Station) (routes : List Route) (path : TrainNo → List RouteNo) (
       let one : 1 + (t.0 - 1) ≡ t.0 = omega arith in
       at_map cs (t.0 - 1) c t (omega arith) ∙ ap (λ ts. get_or ts (t.0 - 1) t) h.all ∙ get_or-counted (λ (n : ℕ). record { 0 = n }) 1 (length d.trains) (t.0 - 1) t (omega arith) ∙ ap (λ (n : ℕ). record { 0 = n }) one
 
-  pub course_at : (t : TrainNo) (c : Course) → IsTrain d t → IsCourse d routes (path (get_or cs (t.0 - 1) c).train) (get_or cs (t.0 - 1) c)
+  pub course_at : (t : TrainNo) (c : TrainPath) → IsTrain d t → IsTrainPath d routes (path (get_or cs (t.0 - 1) c).train) (get_or cs (t.0 - 1) c)
   course_at t c there =
       let many = many_courses in
       let low = there.0 in
@@ -96,22 +96,22 @@ module _ (d : Station) (routes : List Route) (path : TrainNo → List RouteNo) (
 
 -- ---- fronts
 
-length-fronts : (f : Front) (rs : List Route) → length (fronts_from f rs) ≡ length rs + 1
-length-fronts f [] = refl
-length-fronts f (r ∷ rs) = let e = length-fronts (longer f r) rs in omega arith
+length-prefixes : (f : PathPrefix) (rs : List Route) → length (prefixes_from f rs) ≡ length rs + 1
+length-prefixes f [] = refl
+length-prefixes f (r ∷ rs) = let e = length-prefixes (longer f r) rs in omega arith
 
-pub many_fronts : (rs : List Route) → length (fronts_from no_front rs) ≡ length rs + 1
-many_fronts rs = length-fronts no_front rs
+pub many_prefixes : (rs : List Route) → length (prefixes_from no_prefix rs) ≡ length rs + 1
+many_prefixes rs = length-prefixes no_prefix rs
 
 -- two fronts behind one another
-abbrev joined : Front → Front → Front
+abbrev joined : PathPrefix → PathPrefix → PathPrefix
 joined f g = record { spans = f.spans + g.spans; length = f.length + g.length; exits = f.exits || g.exits }
 
-abbrev front : ℕ → ℕ → Bool → Front
-front a m c = record { spans = a; length = m; exits = c }
+abbrev prefix : ℕ → ℕ → Bool → PathPrefix
+prefix a m c = record { spans = a; length = m; exits = c }
 
-front_same : (a b m n : ℕ) (c e : Bool) → a ≡ b → m ≡ n → c ≡ e → front a m c ≡ front b n e
-front_same a b m n c e p q r = cc
+prefix_same : (a b m n : ℕ) (c e : Bool) → a ≡ b → m ≡ n → c ≡ e → prefix a m c ≡ prefix b n e
+prefix_same a b m n c e p q r = cc
 
 or-none : (b : Bool) → b ≡ (b || false)
 or-none true = refl
@@ -121,27 +121,27 @@ or-assoc : (a b c : Bool) → ((a || b) || c) ≡ (a || (b || c))
 or-assoc true b c = refl
 or-assoc false b c = refl
 
-joined-none : (f : Front) → f ≡ joined f (front_of [])
-joined-none f = front_same f.spans (f.spans + 0) f.length (f.length + 0) f.exits (f.exits || false) (omega arith) (omega arith) (or-none f.exits)
+joined-none : (f : PathPrefix) → f ≡ joined f (prefix_of [])
+joined-none f = prefix_same f.spans (f.spans + 0) f.length (f.length + 0) f.exits (f.exits || false) (omega arith) (omega arith) (or-none f.exits)
 
-joined-more : (f : Front) (r : Route) (rs : List Route) → joined (longer f r) (front_of rs) ≡ joined f (front_of (r ∷ rs))
+joined-more : (f : PathPrefix) (r : Route) (rs : List Route) → joined (longer f r) (prefix_of rs) ≡ joined f (prefix_of (r ∷ rs))
 joined-more f r rs =
     let more = length-append r.edges (flat_map (λ (q : Route). q.edges) rs) in
-    let way_more = sum_by-cons length_mm r rs in
-    front_same (f.spans + length r.edges + length (flat_map (λ (q : Route). q.edges) rs)) (f.spans + length (flat_map (λ (q : Route). q.edges) (r ∷ rs))) (f.length + length_mm r + sum_by length_mm rs) (f.length + sum_by length_mm (r ∷ rs)) _ _
-    (omega (arith, more)) (omega (arith, way_more)) (or-assoc f.exits (exits r) (list_any exits rs))
+    let length_more = sum_by-cons length_mm r rs in
+    prefix_same (f.spans + length r.edges + length (flat_map (λ (q : Route). q.edges) rs)) (f.spans + length (flat_map (λ (q : Route). q.edges) (r ∷ rs))) (f.length + length_mm r + sum_by length_mm rs) (f.length + sum_by length_mm (r ∷ rs)) _ _
+    (omega (arith, more)) (omega (arith, length_more)) (or-assoc f.exits (exits r) (list_any exits rs))
 
-front_after : (f : Front) (rs : List Route) (g : ℕ) (other : Front) → g ≤ length rs → get_or (fronts_from f rs) g other ≡ joined f (front_of (take g rs))
-front_after f [] zero other l = joined-none f
-front_after f [] (suc g) other l = absurd (omega arith)
-front_after f (r ∷ rs) zero other l = joined-none f
-front_after f (r ∷ rs) (suc g) other l = front_after (longer f r) rs g other (omega arith) ∙ joined-more f r (take g rs)
+prefix_after : (f : PathPrefix) (rs : List Route) (g : ℕ) (other : PathPrefix) → g ≤ length rs → get_or (prefixes_from f rs) g other ≡ joined f (prefix_of (take g rs))
+prefix_after f [] zero other l = joined-none f
+prefix_after f [] (suc g) other l = absurd (omega arith)
+prefix_after f (r ∷ rs) zero other l = joined-none f
+prefix_after f (r ∷ rs) (suc g) other l = prefix_after (longer f r) rs g other (omega arith) ∙ joined-more f r (take g rs)
 
 -- the front of so many routes
-pub front_at : (rs : List Route) (g : ℕ) (other : Front) → g ≤ length rs → get_or (fronts_from no_front rs) g other ≡ front_of (take g rs)
-front_at rs g other l =
-    let f = front_of (take g rs) in
-    front_after no_front rs g other l ∙ front_same (0 + f.spans) f.spans (0 + f.length) f.length f.exits f.exits (omega arith) (omega arith) refl
+pub prefix_at : (rs : List Route) (g : ℕ) (other : PathPrefix) → g ≤ length rs → get_or (prefixes_from no_prefix rs) g other ≡ prefix_of (take g rs)
+prefix_at rs g other l =
+    let f = prefix_of (take g rs) in
+    prefix_after no_prefix rs g other l ∙ prefix_same (0 + f.spans) f.spans (0 + f.length) f.length f.exits f.exits (omega arith) (omega arith) refl
 
 -- ---- what stands before a route
 
@@ -168,13 +168,13 @@ pub fold_within : {X : Type 0} (off : X → ℕ) (m a : ℕ) (zs : List X) → a
 fold_within off m a [] low h = low
 fold_within off m a (z ∷ zs) low h = let k = h z in fold_within off m (max a (off z)) zs (omega arith) h
 
-pub way_within : (routes : List Route) (g : ℕ) (path : List RouteNo) → sum_by length_mm (take g (routes_at routes path)) ≤ way routes path
-way_within routes zero path = omega arith
-way_within routes (suc g) [] = omega arith
-way_within routes (suc g) (r ∷ rs) =
+pub length_within : (routes : List Route) (g : ℕ) (path : List RouteNo) → sum_by length_mm (take g (routes_at routes path)) ≤ path_length routes path
+length_within routes zero path = omega arith
+length_within routes (suc g) [] = omega arith
+length_within routes (suc g) (r ∷ rs) =
     let a = sum_by-cons length_mm (route_at routes r) (take g (routes_at routes rs)) in
     let b = sum_by-cons length_mm (route_at routes r) (routes_at routes rs) in
-    let l = way_within routes g rs in
+    let l = length_within routes g rs in
     omega arith
 
 -- ---- the course of a command's train
@@ -187,43 +187,43 @@ before_within test (x ∷ xs) = go (test x) (before_within test xs)
     go true l = omega arith
     go false l = omega arith
 
-module _ (d : Station) (routes : List Route) (p : Dispatch) (course : Course) (is : IsCourse d routes (p.path course.train) course) (e : Command) (same : course.train ≡ e.train) where
+module _ (d : Station) (routes : List Route) (p : Dispatch) (train_path : TrainPath) (is : IsTrainPath d routes (p.path train_path.train) train_path) (e : Command) (same : train_path.train ≡ e.train) where
   abbrev test : RouteNo → Bool
   test = λ r. is_route r e.route
 
   abbrev number : ℕ
-  number = length (before_first test course.path.items)
+  number = length (before_first test train_path.path.items)
 
-  path_is : course.path.items ≡ p.path e.train
+  path_is : train_path.path.items ≡ p.path e.train
   path_is = is.given ∙ ap p.path same
 
   pub number_is : number ≡ length (routes_before d routes p e)
   number_is = ap (λ rs. length (before_first test rs)) path_is ∙ sym (length-map (route_at routes) (before_first test (p.path e.train)))
 
-  number_within : number ≤ length (routes_at routes (p.path course.train))
+  number_within : number ≤ length (routes_at routes (p.path train_path.train))
   number_within =
-      let l = before_within test course.path.items in
+      let l = before_within test train_path.path.items in
       let a = ap length is.given in
-      let b = length-map (route_at routes) (p.path course.train) in
+      let b = length-map (route_at routes) (p.path train_path.train) in
       omega arith
 
-  pub number_fits : number < length course.fronts.items
-  number_fits = let l = number_within in let a = ap length is.parts in let b = many_fronts (routes_at routes (p.path course.train)) in omega arith
+  pub number_fits : number < length train_path.prefixes.items
+  number_fits = let l = number_within in let a = ap length is.parts in let b = many_prefixes (routes_at routes (p.path train_path.train)) in omega arith
 
-  routes_before_is : take number (routes_at routes (p.path course.train)) ≡ routes_before d routes p e
+  routes_before_is : take number (routes_at routes (p.path train_path.train)) ≡ routes_before d routes p e
   routes_before_is =
       ap (λ t. take number (routes_at routes (p.path t))) same ∙ take-map (route_at routes) number (p.path e.train)
       ∙ ap (λ rs. map (route_at routes) (take (length (before_first test rs)) (p.path e.train))) path_is
       ∙ ap (map (route_at routes)) (before_take test (p.path e.train))
 
-  pub front_is : (other : Front) → (get_or course.fronts.items number other).length ≡ sum_by length_mm (routes_before d routes p e)
-  front_is other =
-      let there : get_or course.fronts.items number other ≡ front_of (take number (routes_at routes (p.path course.train))) = ap (λ fs. get_or fs number other) is.parts ∙ front_at (routes_at routes (p.path course.train)) number other number_within in
-      ap (λ (g : Front). g.length) there ∙ ap (sum_by length_mm) routes_before_is
+  pub prefix_is : (other : PathPrefix) → (get_or train_path.prefixes.items number other).length ≡ sum_by length_mm (routes_before d routes p e)
+  prefix_is other =
+      let there : get_or train_path.prefixes.items number other ≡ prefix_of (take number (routes_at routes (p.path train_path.train))) = ap (λ fs. get_or fs number other) is.parts ∙ prefix_at (routes_at routes (p.path train_path.train)) number other number_within in
+      ap (λ (g : PathPrefix). g.length) there ∙ ap (sum_by length_mm) routes_before_is
 
   pub before_short : sum_by length_mm (routes_before d routes p e) < 2 ^ 47
   before_short =
-      let l = way_within routes number (p.path course.train) in
+      let l = length_within routes number (p.path train_path.train) in
       let s = ap (sum_by length_mm) routes_before_is in
       let h = is.range.short in
       omega arith

@@ -20,11 +20,11 @@ use Rattle.rail_base.proofs.Contained.{in_at, contains_of_in}
 use Rattle.rail_spec.specs.Track.{routes_of}
 use Rattle.rail_spec.specs.Plans.{commands, path}
 use Rattle.rail_spec.specs.Feasible.{is_of, IsWellFormed}
-use Rattle.rail_laws.proofs.RouteLaws.{way_edges, route_is}
+use Rattle.rail_laws.proofs.RouteLaws.{walk_edges, route_is}
 use Rattle.rail_laws.proofs.Admits.{entry_is, good_route}
 use Rattle.rail_laws.proofs.Standing.{in_path}
 use Rattle.rail_laws.proofs.Small.{short_path, short_route}
-use Rattle.rail_course.specs.Tracks.{HasLimit, AreLaid, ArePaths, IsCommand, IsInRange, routes_at, edges_of, way}
+use Rattle.rail_course.specs.Tracks.{HasLimit, AreLaid, ArePaths, IsCommand, IsInRange, routes_at, edges_of, path_length}
 use Rattle.rail_course.proofs.Coursing.{many_trains}
 use Rattle.rail_course.proofs.Rating.{speed_small}
 
@@ -52,7 +52,7 @@ module _ (d : Station) (adm : IsAdmitted d) where
   edge_has_limit : (q : Route) → In q (routes_of d) → All (HasLimit d) q.edges
   edge_has_limit q k = all_from_in (HasLimit d) q.edges (λ e m.
       let l = (route_is d adm q k).elementary in
-      let there = way_edges d l.end q.edges l.way e m in
+      let there = walk_edges d l.end q.edges l.walk e m in
       let good = adm.edge e there in
       record { there = there; long = good.length_mm.0; moves = good.moves; slow = speed_small (edge_of d e).speed_mm_s d.tick_ms good.speed.1 adm.tick.1 })
 
@@ -69,7 +69,7 @@ module _ (d : Station) (adm : IsAdmitted d) where
   }
 
   -- a path has no more edges than mm
-  pub edges_few : (path : List RouteNo) → length (edges_of (routes_of d) path) ≤ way (routes_of d) path
+  pub edges_few : (path : List RouteNo) → length (edges_of (routes_of d) path) ≤ path_length (routes_of d) path
   edges_few [] = omega arith
   edges_few (r ∷ rs) =
       let here = sum_least (length_of d) (route_at (routes_of d) r).edges (λ e m. (in_from_all (HasLimit d) (route_at (routes_of d) r).edges (laid.each r).edges e m).long) in
@@ -115,8 +115,8 @@ module _ (i : Interlocking) where
   brief r = subst (λ rs. length_mm (route_at rs r) < 2 ^ 47) (sym i.table)
       (entry_is (λ (q : Route). length_mm q < 2 ^ 47) no_route (routes_of station) r.0 (omega arith) (λ q m. let s = short_route station adm q m in omega arith))
 
-  pub few_edges : (path : List RouteNo) → length (edges_of i.routes path) ≤ way i.routes path
-  few_edges path = subst (λ rs. length (edges_of rs path) ≤ way rs path) (sym i.table) (edges_few station adm path)
+  pub few_edges : (path : List RouteNo) → length (edges_of i.routes path) ≤ path_length i.routes path
+  few_edges path = subst (λ rs. length (edges_of rs path) ≤ path_length rs path) (sym i.table) (edges_few station adm path)
 
   -- what a well-formed plan has
   module _ (plan : List (List Command)) (formed : IsWellFormed station i.routes 256 plan) where

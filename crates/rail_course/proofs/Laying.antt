@@ -4,7 +4,7 @@ use Rattle.std.proofs.lemmas.List.{map-append}
 use Rattle.rail_base.specs.declared.station.Station.{Station}
 use Rattle.rail_base.specs.declared.route.Route.{Route}
 use Rattle.rail_base.specs.declared.route.RouteNo.{RouteNo}
-use Rattle.rail_spec.specs.Motion.{Stretch}
+use Rattle.rail_spec.specs.Motion.{SpanSeen}
 use Rattle.rail_spec.specs.Track.{edge_ends}
 use Rattle.rail_base.specs.Stations.{length_of}
 use Rattle.rail_spec.specs.Plans.{route_at, length_mm}
@@ -13,7 +13,7 @@ use Rattle.rail_laws.proofs.UnderWay.{edge_ends-append}
 use Rattle.rail_course.specs.Tracks.{edges_of}
 
 -- the spans of one more route
-pub spans_step : (d : Station) (routes : List Route) (old new all : List Stretch) (o : ℕ) (r : RouteNo) (rest : List RouteNo)
+pub spans_step : (d : Station) (routes : List Route) (old new all : List SpanSeen) (o : ℕ) (r : RouteNo) (rest : List RouteNo)
     → new ≡ old ++ map (stretch d) (edge_ends d o (route_at routes r).edges) → sum_by (length_of d) (route_at routes r).edges ≡ length_mm (route_at routes r)
     → old ++ map (stretch d) (edge_ends d o (edges_of routes (r ∷ rest))) ≡ all
     → new ++ map (stretch d) (edge_ends d (o + length_mm (route_at routes r)) (edges_of routes rest)) ≡ all

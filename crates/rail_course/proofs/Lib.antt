@@ -6,4 +6,4 @@ pub mod Granting
 pub mod Parting
 pub mod Waiting
 pub mod Coursing
-pub mod Fronting
+pub mod Prefixing

@@ -16,7 +16,7 @@ use Rattle.rail_base.proofs.Members.{false_unless}
 use Rattle.rail_base.proofs.Lists.{in_map, in_map_back}
 use Rattle.rail_spec.specs.Track.{first_occurrences, routes_of}
 use Rattle.rail_laws.proofs.Admits.{entry_is}
-use Rattle.rail_laws.proofs.RouteLaws.{route_is, way_edges}
+use Rattle.rail_laws.proofs.RouteLaws.{route_is, walk_edges}
 use Rattle.rail_laws.proofs.Told.{first_in, told}
 use Rattle.interlocking.specs.declared.railway.Interlocking.{Interlocking}
 use Rattle.rail_course.specs.declared.journey.Release.{Release}
@@ -78,7 +78,7 @@ module _ (i : Interlocking) where
           at : ((e : EdgeNo) × In e q.edges × (section_of station e ≡ p.0)) → (1 ≤ p.0.0) × (p.0.0 ≤ length station.sections)
           at (e, n, same) =
               let l = (route_is station adm q m).elementary in
-              subst (λ (z : SectionNo). (1 ≤ z.0) × (z.0 ≤ length station.sections)) same (adm.edge e (way_edges station l.end q.edges l.way e n)).section
+              subst (λ (z : SectionNo). (1 ≤ z.0) × (z.0 ≤ length station.sections)) same (adm.edge e (walk_edges station l.end q.edges l.walk e n)).section
 
   -- what stands beside a section, by its place in the route
   pub part_offset : (r : RouteNo) (parts : List (SectionNo × ℤ)) (k n : ℕ) (other : SectionNo × ℤ) → parts ≡ (route_at i.routes r).sections → k < length parts → n ≡ nat_abs (get_or parts k other).1 → n ≡ release_offset (route_at i.routes r) (get_or parts k other).0

@@ -9,7 +9,7 @@ use Rattle.rail_base.proofs.Lists.{in_map, pairs_map, pairs_more}
 use Rattle.rail_base.proofs.Contained.{all_pairs_of}
 use Rattle.rail_motion.specs.declared.Span.{Span}
 use Rattle.rail_motion.specs.Track.{stretch_of, stretches_of, IsRising}
-use Rattle.rail_spec.specs.Motion.{Stretch}
+use Rattle.rail_spec.specs.Motion.{SpanSeen}
 use Rattle.rail_spec.specs.Track.{edge_ends}
 use Rattle.rail_spec.specs.Dispatches.{stretch}
 
@@ -38,6 +38,6 @@ below s t h = let a = s.end_range.at_least in let b = t.end_range.at_least in om
 
 pub spans_rise : (d : Station) (spans : List Span) (es : List EdgeNo) → ((e : EdgeNo) → In e es → 1 ≤ length_of d e) → stretches_of spans ≡ map (stretch d) (edge_ends d 0 es) → IsRising spans
 spans_rise d spans es long made =
-    let rising : Pairs (λ (s t : Stretch). s.end < t.end) (map (stretch d) (edge_ends d 0 es)) = pairs_map (λ (s t : Stretch). s.end < t.end) (λ (m n : EdgeNo × ℕ). m.1 < n.1) (stretch d) (edge_ends d 0 es) (λ a b h. h) (ends_rise d 0 es long).pairs in
-    let here : Pairs (λ (s t : Stretch). s.end < t.end) (stretches_of spans) = subst (Pairs (λ (s t : Stretch). s.end < t.end)) (sym made) rising in
-    all_pairs_of (λ (s t : Span). s.end <ℤ t.end) spans (pairs_more (λ (s t : Span). nat_abs s.end < nat_abs t.end) (λ (s t : Span). s.end <ℤ t.end) spans (λ a b m n h. below a b h) (pairs_map_back (λ (s t : Stretch). s.end < t.end) stretch_of spans here))
+    let rising : Pairs (λ (s t : SpanSeen). s.end < t.end) (map (stretch d) (edge_ends d 0 es)) = pairs_map (λ (s t : SpanSeen). s.end < t.end) (λ (m n : EdgeNo × ℕ). m.1 < n.1) (stretch d) (edge_ends d 0 es) (λ a b h. h) (ends_rise d 0 es long).pairs in
+    let here : Pairs (λ (s t : SpanSeen). s.end < t.end) (stretches_of spans) = subst (Pairs (λ (s t : SpanSeen). s.end < t.end)) (sym made) rising in
+    all_pairs_of (λ (s t : Span). s.end <ℤ t.end) spans (pairs_more (λ (s t : Span). nat_abs s.end < nat_abs t.end) (λ (s t : Span). s.end <ℤ t.end) spans (λ a b m n h. below a b h) (pairs_map_back (λ (s t : SpanSeen). s.end < t.end) stretch_of spans here))

@@ -7,12 +7,12 @@ use Rattle.rail_base.specs.declared.route.RouteNo.{RouteNo}
 use Rattle.rail_base.specs.declared.plan.Command.{Command}
 use Rattle.rail_base.specs.Numbering.{entry}
 use Rattle.rail_spec.specs.Dispatches.{Dispatch, routes_before}
-use Rattle.rail_course.specs.declared.course.Course.{Course}
+use Rattle.rail_course.specs.declared.train_path.TrainPath.{TrainPath}
 use Rattle.rail_course.specs.declared.itineraries.Itineraries.{Itineraries}
 use Rattle.rail_course.specs.declared.journey.Journey.{Journey}
 use Rattle.rail_course.specs.declared.journey.Release.{Release}
 use Rattle.rail_course.specs.declared.waits.Wait.{Wait}
-use Rattle.rail_course.specs.Courses.{AreCourses, IsCourse}
+use Rattle.rail_course.specs.TrainPaths.{AreTrainPaths, IsTrainPath}
 use Rattle.rail_course.specs.Journeys.{IsJourney}
 use Rattle.rail_course.specs.Releases.{release_for, releases_of_route, releases_of_train}
 use Rattle.rail_course.specs.Telling.{TellWhatIsReady}
@@ -33,12 +33,12 @@ module _ (i : Itineraries) where
   IsCommandIn = IsCommand i.interlocking.now.design.station i.interlocking.now.routes
 
   -- the course is that of its train
-  abbrev pub IsCourseIn : Course → Type 0
-  IsCourseIn c = IsCourse i.interlocking.now.design.station i.interlocking.now.routes (path_in c.train) c
+  abbrev pub IsTrainPathIn : TrainPath → Type 0
+  IsTrainPathIn c = IsTrainPath i.interlocking.now.design.station i.interlocking.now.routes (path_in c.train) c
 
   -- these are the courses of all trains, in file order
-  abbrev pub AreCoursesIn : List Course → Type 0
-  AreCoursesIn = AreCourses i.interlocking.now.design.station i.interlocking.now.routes path_in
+  abbrev pub AreTrainPathsIn : List TrainPath → Type 0
+  AreTrainPathsIn = AreTrainPaths i.interlocking.now.design.station i.interlocking.now.routes path_in
 
   -- the routes before a command on its train's path
   abbrev pub before_in : Command → List Route
@@ -66,7 +66,7 @@ module _ (i : Itineraries) where
   releases_in = releases_of_train i.interlocking.now.design.station i.interlocking.now.routes going_in
 
   -- the journey is that of its train in each dispatch with these paths in which these waits tell what is ready
-  abbrev pub IsJourneyIn : Course → List (List Wait) → Journey → Type 0
+  abbrev pub IsJourneyIn : TrainPath → List (List Wait) → Journey → Type 0
   IsJourneyIn c waits j = (p : Dispatch) → path_in ≡ p.path
       → TellWhatIsReady i.interlocking.now.design.station i.interlocking.now.routes p c.train waits
       → IsJourney i.interlocking.now.design.station i.interlocking.now.routes p j

@@ -5,17 +5,17 @@ use Rattle.rail_base.specs.declared.route.Route.{Route}
 use Rattle.rail_base.specs.Stations.{trains}
 use Rattle.rail_spec.specs.Dispatches.{Dispatch}
 use Rattle.rail_course.specs.declared.journey.Journey.{Journey}
-use Rattle.rail_course.specs.Courses.{IsCourse}
+use Rattle.rail_course.specs.TrainPaths.{IsTrainPath}
 use Rattle.rail_course.specs.Telling.{TellWhatIsReady}
 use Rattle.rail_course.specs.Releases.{releases_of_train}
 
 -- the journey is that of its train
 pub record IsJourney (d : Station) (routes : List Route) (p : Dispatch) (j : Journey) : Type 0 where
-  pub course : IsCourse d routes (p.path j.course.now.train) j.course.now
-  pub telling : TellWhatIsReady d routes p j.course.now.train (map (λ v. v.items) j.waits.items)
-  pub releasing : j.releases.items ≡ releases_of_train d routes p j.course.now.train
+  pub train_path : IsTrainPath d routes (p.path j.train_path.now.train) j.train_path.now
+  pub telling : TellWhatIsReady d routes p j.train_path.now.train (map (λ v. v.items) j.waits.items)
+  pub releasing : j.releases.items ≡ releases_of_train d routes p j.train_path.now.train
 
 -- these are the journeys of all trains, in file order
 pub record AreJourneys (d : Station) (routes : List Route) (p : Dispatch) (js : List Journey) : Type 0 where
-  pub all : map (λ (j : Journey). j.course.now.train) js ≡ trains d
+  pub all : map (λ (j : Journey). j.train_path.now.train) js ≡ trains d
   pub each : All (IsJourney d routes p) js

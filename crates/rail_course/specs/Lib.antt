@@ -1,8 +1,8 @@
 -- What the simulator works out once of each train, and what it takes for granted.
 pub mod Tracks
-pub mod Fronts
-pub mod Stops
-pub mod Courses
+pub mod Prefixes
+pub mod PathNodes
+pub mod TrainPaths
 pub mod Waits
 pub mod Granting
 pub mod Telling

@@ -8,5 +8,5 @@ use Rattle.rail_course.specs.Journeys.{AreJourneys}
 module _ (p : PlannedCourses) where
   -- these are the journeys of all trains in the plan, in file order
   abbrev pub ArePlannedJourneys : List Journey → Type 0
-  ArePlannedJourneys = let i = p.courses.given.interlocking.now in
+  ArePlannedJourneys = let i = p.train_paths.given.interlocking.now in
       AreJourneys i.design.station i.routes (of_plan i.routes p.plan.now.steps)

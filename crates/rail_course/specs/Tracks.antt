@@ -41,13 +41,13 @@ abbrev pub edges_of : List Route → List RouteNo → List EdgeNo
 edges_of routes path = flat_map (λ r. r.edges) (routes_at routes path)
 
 -- how long they are together
-abbrev pub way : List Route → List RouteNo → ℕ
-way routes path = sum_by length_mm (routes_at routes path)
+abbrev pub path_length : List Route → List RouteNo → ℕ
+path_length routes path = sum_by length_mm (routes_at routes path)
 
 -- what a run takes for granted of a path: its routes are there, and it is short enough
 pub record IsInRange (routes : List Route) (path : List RouteNo) : Type 0 where
   pub named : All (IsRoute routes) path
-  pub short : way routes path < 2 ^ 47
+  pub short : path_length routes path < 2 ^ 47
 
 -- these are the paths of all trains, in file order
 pub record ArePaths (d : Station) (routes : List Route) (path : TrainNo → List RouteNo)

@@ -27,6 +27,20 @@ pub fn state_of(states: &[TrainState], train: TrainNo) -> TrainState
     states[train.0 as usize - 1]
 }
 
+/// How many commands are granted after the tick, where so many are before it and these are the waits of each.
+pub fn granted_on(states: &[TrainState], granted: usize, waits: &[Vec<Wait>]) -> usize
+    ensures { result ≡ granted_on states.now granted (slice_get (map (λ v. v.items) waits.now) granted) }
+{
+    if waits.len() <= granted {
+        return granted;
+    }
+    if are_over(states, waits[granted].as_slice()) {
+        granted + 1
+    } else {
+        granted
+    }
+}
+
 /// Whether a wait is over.
 fn is_over(states: &[TrainState], wait: &Wait) -> bool
     ensures { result ≡ is_over states.now wait.now }
@@ -40,18 +54,4 @@ fn are_over(states: &[TrainState], waits: &[Wait]) -> bool
     ensures { result ≡ list_all (is_over states.now) waits.now }
 {
     waits.iter().all(|wait| is_over(states, wait))
-}
-
-/// How many commands are granted after the tick, where so many are before it and these are the waits of each.
-pub fn granted_on(states: &[TrainState], granted: usize, waits: &[Vec<Wait>]) -> usize
-    ensures { result ≡ granted_on states.now granted (slice_get (map (λ v. v.items) waits.now) granted) }
-{
-    if waits.len() <= granted {
-        return granted;
-    }
-    if are_over(states, waits[granted].as_slice()) {
-        granted + 1
-    } else {
-        granted
-    }
 }

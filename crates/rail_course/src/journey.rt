@@ -3,11 +3,11 @@
 ghost use Rattle.std.specs.Prelude.{◌≡◌, ◌++◌, IfOk, OnOk, map, nat_abs};
 ghost use Rattle.rail_base.specs.Routes.{IsRoute};
 ghost use Rattle.rail_base.specs.Stations.{IsTrain};
-ghost use Rattle.rail_course.specs.Itineraries.{IsCommandIn, IsCourseIn, IsJourneyIn, releases_in};
+ghost use Rattle.rail_course.specs.Itineraries.{IsCommandIn, IsTrainPathIn, IsJourneyIn, releases_in};
 ghost use Rattle.rail_course.specs.Itineraries.{route_releases_in};
 
-use crate::course::Course;
-use crate::courses::Courses;
+use crate::train_path::TrainPath;
+use crate::train_paths::TrainPaths;
 use crate::waits::Wait;
 use rail_base::plan::Command;
 use rail_base::route::{RouteNo, route_at};
@@ -25,24 +25,46 @@ pub struct Release {
     pub place: u64,
 }
 
-/// A course with what its commands wait for and when its sections are released.
+/// A train path with what its commands wait for and when its sections are released.
 #[derive(Drop)]
 pub struct Journey<'a> {
-    pub course: &'a Course,
+    pub train_path: &'a TrainPath,
     /// For each command of the path, what it waits for.
     pub waits: Vec<Vec<Wait>>,
     /// The sections of each route of the path.
     pub releases: Vec<Release>,
 }
 
-/// Where a section of a route is released, in mm from the start of the route.
-fn offset_of(part: &(SectionNo, i64)) -> u64
-    ensures { result ≡ nat_abs part.now.1 }
-{
-    part.1.unsigned_abs()
-}
+impl<'a> TrainPaths<'a> {
+    /// The releases of a command.
+    pub fn releases_of(&self, alloc: Global, command: Command) -> Result<Vec<Release>, AllocError>
+        requires { IsCommandIn self.now.given command }
+        ensures { IfOk result (λ r. r.items ≡ route_releases_in self.now.given command.train command.route) }
+    {
+        let mut releases = Vec::new(alloc);
+        self.push_releases(&mut releases, command.train, command.route)?;
+        Ok(releases)
+    }
 
-impl<'a> Courses<'a> {
+    /// The journey of a train on its path, where its commands wait so.
+    pub fn journey(
+        &self,
+        alloc: Global,
+        train_path: &'a TrainPath,
+        waits: Vec<Vec<Wait>>,
+    ) -> Result<Journey<'a>, AllocError>
+        requires { IsTrainPathIn self.now.given train_path.now }
+        ensures train_path { IfOk result (λ j. j.train_path.now ≡ train_path.now) }
+        ensures journey { IfOk result (IsJourneyIn self.now.given train_path.now (map (λ w. w.items) waits.items)) }
+    {
+        let releases = self.releases_of_train(alloc, train_path.train)?;
+        Ok(Journey {
+            train_path,
+            waits,
+            releases,
+        })
+    }
+
     /// Adds the releases of one route of a train's path.
     fn push_releases(
         &self,
@@ -59,7 +81,7 @@ impl<'a> Courses<'a> {
             train,
             route: number,
         };
-        let course = self.course(train);
+        let train_path = self.train_path(train);
         let before = self.place_of(command);
         let route = route_at(&self.given.interlocking.routes, number);
         for part in route.sections.as_slice() {
@@ -67,20 +89,10 @@ impl<'a> Courses<'a> {
                 route: number,
                 section: part.0,
                 number: before.number,
-                place: before.length + offset_of(part) + course.length,
+                place: before.length + offset_of(part) + train_path.length,
             })?;
         }
         Ok(())
-    }
-
-    /// The releases of a command.
-    pub fn releases_of(&self, alloc: Global, command: Command) -> Result<Vec<Release>, AllocError>
-        requires { IsCommandIn self.now.given command }
-        ensures { IfOk result (λ r. r.items ≡ route_releases_in self.now.given command.train command.route) }
-    {
-        let mut releases = Vec::new(alloc);
-        self.push_releases(&mut releases, command.train, command.route)?;
-        Ok(releases)
     }
 
     /// The releases of a train's path.
@@ -89,29 +101,17 @@ impl<'a> Courses<'a> {
         ensures { IfOk result (λ r. r.items ≡ releases_in self.now.given train) }
     {
         let mut releases = Vec::new(alloc);
-        let course = self.course(train);
-        for number in &course.path {
+        let train_path = self.train_path(train);
+        for number in &train_path.path {
             self.push_releases(&mut releases, train, *number)?;
         }
         Ok(releases)
     }
+}
 
-    /// The journey of a train on its course, where its commands wait so.
-    pub fn journey(
-        &self,
-        alloc: Global,
-        course: &'a Course,
-        waits: Vec<Vec<Wait>>,
-    ) -> Result<Journey<'a>, AllocError>
-        requires { IsCourseIn self.now.given course.now }
-        ensures course { IfOk result (λ j. j.course.now ≡ course.now) }
-        ensures journey { IfOk result (IsJourneyIn self.now.given course.now (map (λ w. w.items) waits.items)) }
-    {
-        let releases = self.releases_of_train(alloc, course.train)?;
-        Ok(Journey {
-            course,
-            waits,
-            releases,
-        })
-    }
+/// Where a section of a route is released, in mm from the start of the route.
+fn offset_of(part: &(SectionNo, i64)) -> u64
+    ensures { result ≡ nat_abs part.now.1 }
+{
+    part.1.unsigned_abs()
 }

@@ -1,27 +1,27 @@
 //! What runs need of each train, worked out once.
 #![tactic(auto)]
 
-mod course;
-mod courses;
-mod fronts;
 mod grants;
 mod itineraries;
 mod journey;
 pub mod laws;
 mod motor;
+mod path_nodes;
 mod planned;
+mod prefixes;
 mod spans;
-mod stops;
+mod train_path;
+mod train_paths;
 mod waits;
 
-pub use course::Course;
-pub use courses::Courses;
-pub use fronts::Front;
 pub use grants::{IDLE, granted_on, state_of};
 pub use itineraries::Itineraries;
 pub use journey::{Journey, Release};
 pub use motor::motor_of;
+pub use path_nodes::{path_nodes_of, visits_of};
 pub use planned::{PlannedCourses, paths_of};
+pub use prefixes::PathPrefix;
 pub use spans::spans_of;
-pub use stops::{stops_of, visits_of};
+pub use train_path::TrainPath;
+pub use train_paths::TrainPaths;
 pub use waits::Wait;

@@ -10,6 +10,21 @@ use rail_base::design::Design;
 use rail_base::station::TrainNo;
 use rail_motion::Motor;
 
+/// What a train's vehicle can do in a tick, and how far behind its head limits bind it.
+pub fn motor_of(design: &Design, train: TrainNo) -> Motor
+    requires { IsTrain design.now.station train }
+    ensures { rates_of result ≡ rates design.now.station train }
+{
+    let vehicle = design.vehicle_of(train);
+    let tick_ms = design.station.tick_ms;
+    Motor {
+        accel: accel_per_tick(vehicle.accel_mm_s2, tick_ms),
+        brake: accel_per_tick(vehicle.brake_mm_s2, tick_ms),
+        top: speed_per_tick(vehicle.speed_mm_s, tick_ms),
+        tail: binding_length(design, train),
+    }
+}
+
 /// The mm per tick of a speed in mm/s.
 fn speed_per_tick(speed: u32, tick_ms: u32) -> i64
     requires speed { speed ≤ 100000 }
@@ -43,19 +58,4 @@ fn binding_length(design: &Design, train: TrainNo) -> i64
         return 0;
     }
     i64::from(design.vehicle_of(train).length_mm)
-}
-
-/// What a train's vehicle can do in a tick, and how far behind its head limits bind it.
-pub fn motor_of(design: &Design, train: TrainNo) -> Motor
-    requires { IsTrain design.now.station train }
-    ensures { rates_of result ≡ rates design.now.station train }
-{
-    let vehicle = design.vehicle_of(train);
-    let tick_ms = design.station.tick_ms;
-    Motor {
-        accel: accel_per_tick(vehicle.accel_mm_s2, tick_ms),
-        brake: accel_per_tick(vehicle.brake_mm_s2, tick_ms),
-        top: speed_per_tick(vehicle.speed_mm_s, tick_ms),
-        tail: binding_length(design, train),
-    }
 }

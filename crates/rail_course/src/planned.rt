@@ -6,7 +6,7 @@ ghost use Rattle.rail_spec.specs.Feasible.{IsWellFormed};
 ghost use Rattle.rail_spec.specs.Plans.{path};
 ghost use Rattle.rail_course.specs.Tracks.{ArePaths};
 
-use crate::courses::Courses;
+use crate::train_paths::TrainPaths;
 use interlocking::Interlocking;
 use rail_base::list::List;
 use rail_base::plan::Plan;
@@ -36,10 +36,10 @@ pub fn paths_of(
 /// A well-formed plan, and the courses that it gives the trains.
 #[derive(Clone, Copy)]
 pub struct PlannedCourses<'a> {
-    pub courses: Courses<'a>,
+    pub train_paths: TrainPaths<'a>,
     pub plan: &'a Plan,
-    pub ghost formed: { IsWellFormed courses.given.interlocking.now.design.station courses.given.interlocking.now.routes
+    pub ghost formed: { IsWellFormed train_paths.given.interlocking.now.design.station train_paths.given.interlocking.now.routes
         256 plan.now.steps },
-    pub ghost paths: { courses.given.paths.now
-        ≡ map (path plan.now.steps) (trains courses.given.interlocking.now.design.station) },
+    pub ghost paths: { train_paths.given.paths.now
+        ≡ map (path plan.now.steps) (trains train_paths.given.interlocking.now.design.station) },
 }

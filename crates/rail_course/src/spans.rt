@@ -6,7 +6,7 @@ ghost use Rattle.rail_base.specs.Stations.{IsEdge, edge_of, length_of, per_tick_
 ghost use Rattle.rail_base.specs.Routes.{IsRoute};
 ghost use Rattle.rail_spec.specs.Track.{edge_ends};
 ghost use Rattle.rail_spec.specs.Dispatches.{stretch, stretches};
-ghost use Rattle.rail_course.specs.Tracks.{HasLimit, routes_at, way};
+ghost use Rattle.rail_course.specs.Tracks.{HasLimit, routes_at, path_length};
 
 use interlocking::Interlocking;
 use rail_base::design::Design;
@@ -15,6 +15,28 @@ use rail_base::route::{RouteNo, route_at};
 use rail_base::station::EdgeNo;
 use rail_motion::Span;
 use std::alloc::{AllocError, Global};
+
+/// The spans of routes in a row.
+pub fn spans_of(
+    alloc: Global,
+    interlocking: &Interlocking,
+    path: &[RouteNo],
+) -> Result<Vec<Span>, AllocError>
+    requires named { All (IsRoute interlocking.now.routes) path.now }
+    requires short { path_length interlocking.now.routes path.now < 2 ^ 47 }
+    ensures track { IfOk result (λ spans. stretches_of spans.items
+        ≡ stretches interlocking.now.design.station (routes_at interlocking.now.routes path.now)) }
+    ensures rising { IfOk result (λ spans. IsRising spans.items) }
+{
+    let mut spans = Vec::new(alloc);
+    let mut offset: u64 = 0;
+    for number in path {
+        let route = route_at(&interlocking.routes, *number);
+        push_spans(&mut spans, &interlocking.design, &route.edges, offset)?;
+        offset += route.length_mm();
+    }
+    Ok(spans)
+}
 
 /// The limit of an edge, in mm per tick.
 fn limit_of(design: &Design, edge: EdgeNo) -> u64
@@ -45,26 +67,4 @@ fn push_spans(
         })?;
     }
     Ok(())
-}
-
-/// The spans of routes in a row.
-pub fn spans_of(
-    alloc: Global,
-    interlocking: &Interlocking,
-    path: &[RouteNo],
-) -> Result<Vec<Span>, AllocError>
-    requires named { All (IsRoute interlocking.now.routes) path.now }
-    requires short { way interlocking.now.routes path.now < 2 ^ 47 }
-    ensures track { IfOk result (λ spans. stretches_of spans.items
-        ≡ stretches interlocking.now.design.station (routes_at interlocking.now.routes path.now)) }
-    ensures rising { IfOk result (λ spans. IsRising spans.items) }
-{
-    let mut spans = Vec::new(alloc);
-    let mut offset: u64 = 0;
-    for number in path {
-        let route = route_at(&interlocking.routes, *number);
-        push_spans(&mut spans, &interlocking.design, &route.edges, offset)?;
-        offset += route.length_mm();
-    }
-    Ok(spans)
 }

@@ -7,7 +7,7 @@ ghost use Rattle.rail_base.specs.Numbering.{before_first};
 ghost use Rattle.rail_spec.specs.Plans.{is_route};
 ghost use Rattle.rail_course.specs.Itineraries.{IsCommandIn, before_in, wait_in};
 
-use crate::courses::Courses;
+use crate::train_paths::TrainPaths;
 use rail_base::plan::Command;
 use rail_base::route::RouteNo;
 use rail_base::station::TrainNo;
@@ -23,6 +23,52 @@ pub struct Wait {
     pub place: u64,
 }
 
+impl TrainPaths<'_> {
+    /// The wait of a command with a route for another command.
+    pub fn wait_for(&self, command: Command, other: Command) -> Wait
+        requires command { IsRoute self.now.given.interlocking.now.routes command.route }
+        requires other { IsCommandIn self.now.given other }
+        ensures { result ≡ wait_in self.now.given command other }
+    {
+        let train_path = self.train_path(other.train);
+        let before = self.place_of(other);
+        let release = self
+            .given
+            .interlocking
+            .last_release(other.route, command.route);
+        Wait {
+            train: other.train,
+            number: before.number,
+            place: before.length + release + train_path.length,
+        }
+    }
+
+    /// The routes before a command on its train's path.
+    pub(crate) fn place_of(&self, command: Command) -> Before
+        requires { IsTrain self.now.given.interlocking.now.design.station command.train }
+        ensures number { result.number ≡ length (before_in self.now.given command) }
+        ensures length { result.length ≡ sum_by length_mm (before_in self.now.given command) }
+        ensures short { result.length < 2 ^ 47 }
+    {
+        let train_path = self.train_path(command.train);
+        let number = number_of(train_path.path.as_slice(), command.route);
+        let prefixes = train_path.prefixes.as_slice();
+        Before {
+            number,
+            length: prefixes[number].length,
+        }
+    }
+}
+
+/// The routes of a path before one of its commands.
+#[derive(Clone, Copy, Debug)]
+pub(crate) struct Before {
+    /// How many they are.
+    pub number: usize,
+    /// Their length, in mm.
+    pub length: u64,
+}
+
 /// How many routes stand before one in a path.
 fn number_of(path: &[RouteNo], route: RouteNo) -> usize
     ensures value { result ≡ length (before_first (λ r. is_route r route) path.now) }
@@ -36,50 +82,4 @@ fn number_of(path: &[RouteNo], route: RouteNo) -> usize
         number += 1;
     }
     number
-}
-
-/// The routes of a path before one of its commands.
-#[derive(Clone, Copy, Debug)]
-pub(crate) struct Before {
-    /// How many they are.
-    pub number: usize,
-    /// Their length, in mm.
-    pub length: u64,
-}
-
-impl Courses<'_> {
-    /// The routes before a command on its train's path.
-    pub(crate) fn place_of(&self, command: Command) -> Before
-        requires { IsTrain self.now.given.interlocking.now.design.station command.train }
-        ensures number { result.number ≡ length (before_in self.now.given command) }
-        ensures length { result.length ≡ sum_by length_mm (before_in self.now.given command) }
-        ensures short { result.length < 2 ^ 47 }
-    {
-        let course = self.course(command.train);
-        let number = number_of(course.path.as_slice(), command.route);
-        let fronts = course.fronts.as_slice();
-        Before {
-            number,
-            length: fronts[number].length,
-        }
-    }
-
-    /// The wait of a command with a route for another command.
-    pub fn wait_for(&self, command: Command, other: Command) -> Wait
-        requires command { IsRoute self.now.given.interlocking.now.routes command.route }
-        requires other { IsCommandIn self.now.given other }
-        ensures { result ≡ wait_in self.now.given command other }
-    {
-        let course = self.course(other.train);
-        let before = self.place_of(other);
-        let release = self
-            .given
-            .interlocking
-            .last_release(other.route, command.route);
-        Wait {
-            train: other.train,
-            number: before.number,
-            place: before.length + release + course.length,
-        }
-    }
 }

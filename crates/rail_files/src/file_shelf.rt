@@ -27,6 +27,19 @@ pub struct FileShelf<R: Files + Drop> {
     faults: u64,
 }
 
+impl<R: Files + Drop> FileShelf<R> {
+    /// A shelf that has not failed yet.
+    pub fn new(alloc: Global, files: R) -> Self
+        ensures { ⟦<FileShelf<R> as Shelf>⟧.fault_count result ≡ 0 }
+    {
+        FileShelf {
+            alloc,
+            files,
+            faults: 0,
+        }
+    }
+}
+
 /// The bytes of a file, where they are at most `limit`. A file that can't be opened or read is a fault.
 fn read_file(
     alloc: Global,
@@ -55,6 +68,14 @@ fn write_part(file: &mut (impl Write + OpenFile), bytes: &[u8]) -> io::Result<()
     file.sync_all()
 }
 
+/// How it went to write a file by way of a part.
+enum Attempt {
+    Written,
+    /// The part's name is taken; nothing was written.
+    Taken,
+    Failed,
+}
+
 /// The name of a part: `.rcv-part` after the name, and from the second part on its number.
 fn part_name(alloc: Global, name: &str, number: u32) -> Result<String, AllocError> {
     if number == 1 {
@@ -62,14 +83,6 @@ fn part_name(alloc: Global, name: &str, number: u32) -> Result<String, AllocErro
     } else {
         format!(in alloc; "{name}.rcv-part{number}")
     }
-}
-
-/// How it went to write a file by way of a part.
-enum Attempt {
-    Written,
-    /// The part's name is taken; nothing was written.
-    Taken,
-    Failed,
 }
 
 /// Writes the bytes to a new file `part`, which then takes the name.
@@ -112,21 +125,8 @@ fn write_file(
     Ok(false)
 }
 
-impl<R: Files + Drop> FileShelf<R> {
-    /// A shelf that has not failed yet.
-    pub fn new(alloc: Global, files: R) -> Self
-        ensures { ⟦<FileShelf<R> as Shelf>⟧.fault_count result ≡ 0 }
-    {
-        FileShelf {
-            alloc,
-            files,
-            faults: 0,
-        }
-    }
-}
-
 impl<R: Files + Drop> Shelf for FileShelf<R> {
-    ghost held = { λ _. None };
+    ghost known_files = { λ _. None };
 
     ghost asked = { λ _. None };
 

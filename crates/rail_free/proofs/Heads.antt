@@ -13,7 +13,7 @@ use Rattle.rail_base.specs.Admitted.{IsAdmitted}
 use Rattle.rail_base.specs.Stations.{length_of, IsTrain}
 use Rattle.rail_spec.specs.Track.{edge_ends, routes_of}
 use Rattle.rail_spec.specs.Plans.{path_routes, length_mm, exits, is_well_formed}
-use Rattle.rail_spec.specs.Motion.{Stretch, may_stop}
+use Rattle.rail_spec.specs.Motion.{SpanSeen, may_stop}
 use Rattle.rail_spec.specs.Dispatches.{state_of, stretch, stretches, of_plan, granted_after, state_at}
 use Rattle.rail_laws.proofs.UnderWay.{IsSound, edge_ends-append, authority_some, next_grants, travels, within_authority}
 use Rattle.rail_laws.proofs.Admits.{sound}
@@ -22,7 +22,7 @@ use Rattle.rail_cone.proofs.Running.{run_up_to, granted_at_most}
 -- ---- stretches
 
 -- the stretches of further routes
-abbrev further : Station → List Route → List Route → List Stretch
+abbrev further : Station → List Route → List Route → List SpanSeen
 further d rs more = map (stretch d) (edge_ends d (0 + sum_by (length_of d) (flat_map (λ r. r.edges) rs)) (flat_map (λ r. r.edges) more))
 
 pub stretches_append : (d : Station) (rs more : List Route) → stretches d (rs ++ more) ≡ stretches d rs ++ further d rs more
@@ -31,14 +31,14 @@ stretches_append d rs more =
     ∙ ap (map (stretch d)) (edge_ends-append d 0 (flat_map (λ r. r.edges) rs) (flat_map (λ r. r.edges) more))
     ∙ map-append (stretch d) (edge_ends d 0 (flat_map (λ r. r.edges) rs)) (edge_ends d (0 + sum_by (length_of d) (flat_map (λ r. r.edges) rs)) (flat_map (λ r. r.edges) more))
 
-pub sum_front : {X : Type 0} (f : X → ℕ) (m n : ℕ) (xs : List X) → m ≤ n → sum_by f (take m xs) ≤ sum_by f (take n xs)
-sum_front f zero n xs h = omega arith
-sum_front f (suc m) zero xs h = absurd (omega arith)
-sum_front f (suc m) (suc n) [] h = omega arith
-sum_front f (suc m) (suc n) (x ∷ xs) h =
+pub sum_prefix : {X : Type 0} (f : X → ℕ) (m n : ℕ) (xs : List X) → m ≤ n → sum_by f (take m xs) ≤ sum_by f (take n xs)
+sum_prefix f zero n xs h = omega arith
+sum_prefix f (suc m) zero xs h = absurd (omega arith)
+sum_prefix f (suc m) (suc n) [] h = omega arith
+sum_prefix f (suc m) (suc n) (x ∷ xs) h =
     let a = sum_by-cons f x (take m xs) in
     let b = sum_by-cons f x (take n xs) in
-    let k = sum_front f m n xs (omega arith) in
+    let k = sum_prefix f m n xs (omega arith) in
     omega arith
 
 module _ (d : Station) (adm : IsAdmitted d) (n : ℕ) (plan : List (List Command)) (formed : is_well_formed d (routes_of d) n plan ≡ true) where
@@ -71,7 +71,7 @@ module _ (d : Station) (adm : IsAdmitted d) (n : ℕ) (plan : List (List Command
       on true e some = let all = is_sound.exit_last t (at k t).granted named e in absurd (omega arith)
       on false e some =
           let near = leb-true _ _ (subst (λ end. may_stop end (at k t).x ≡ true) (authority_some (given t (at k t).granted) e) (within_authority d (routes_of d) plan is_sound k t some)) in
-          let more = sum_front length_mm (at k t).granted (j - 1) (routes_of_train t) (omega arith) in
+          let more = sum_prefix length_mm (at k t).granted (j - 1) (routes_of_train t) (omega arith) in
           omega arith
 
       go : ((at k t).granted ≡ 0) ⊎ (1 ≤ (at k t).granted) → (at k t).x ≤ sum_by length_mm (take (j - 1) (routes_of_train t))

@@ -13,7 +13,7 @@ use Rattle.rail_base.specs.Admitted.{IsAdmitted}
 use Rattle.rail_base.specs.Stations.{length_of, IsTrain}
 use Rattle.rail_spec.specs.Track.{edge_ends, routes_of}
 use Rattle.rail_spec.specs.Plans.{path_routes, length_mm, exits, is_well_formed}
-use Rattle.rail_spec.specs.Motion.{Rates, Stretch, limit_at, KeepsLimits, keeps_limits, may_stop, can_brake, permitted, next_speed}
+use Rattle.rail_spec.specs.Motion.{MotorSeen, SpanSeen, limit_at, KeepsLimits, keeps_limits, may_stop, can_brake, permitted, next_speed}
 use Rattle.rail_spec.specs.Dispatches.{state_of, rates, stretch, stretches, authority, of_plan, granted_after, moved}
 use Rattle.rail_spec.specs.Dispatches.{state_at}
 use Rattle.rail_base.proofs.Members.{and_left, and_right, and_both}
@@ -34,11 +34,11 @@ use Rattle.rail_free.specs.Legs.{Leg, HasLeg, free_on, least_ticks}
 -- ---- stretches
 
 -- the stretches of edges that begin there
-abbrev from : Station → ℕ → List EdgeNo → List Stretch
+abbrev from : Station → ℕ → List EdgeNo → List SpanSeen
 from d o es = map (stretch d) (edge_ends d o es)
 
 -- past some edges the limit is that of the rest
-skips : (d : Station) (top o : ℕ) (es : List EdgeNo) (ts : List Stretch) (p : ℕ) → o + sum_by (length_of d) es < p → limit_at top (from d o es ++ ts) p ≡ limit_at top ts p
+skips : (d : Station) (top o : ℕ) (es : List EdgeNo) (ts : List SpanSeen) (p : ℕ) → o + sum_by (length_of d) es < p → limit_at top (from d o es ++ ts) p ≡ limit_at top ts p
 skips d top o [] ts p past = refl
 skips d top o (e ∷ es) ts p past = go (nat_le p (o + length_of d e)) refl (let s = sum_by-cons (length_of d) e es in skips d top (o + length_of d e) es ts p (omega arith))
   where
@@ -46,8 +46,8 @@ skips d top o (e ∷ es) ts p past = go (nat_le p (o + length_of d e)) refl (let
     go true q later = let l = leb-true p (o + length_of d e) q in let s = sum_by-cons (length_of d) e es in absurd (omega arith)
     go false q later = later
 
--- what the limit allows at a place of a longer way it allows at the same place of the edges alone
-shifted : (d : Station) (top o i j : ℕ) (es : List EdgeNo) (ts : List Stretch) (p q u : ℕ) → j ≡ o + i → q ≡ o + p → u ≤ top → u ≤ limit_at top (from d j es ++ ts) q → u ≤ limit_at top (from d i es) p
+-- what the limit allows at a place of a longer walk it allows at the same place of the edges alone
+shifted : (d : Station) (top o i j : ℕ) (es : List EdgeNo) (ts : List SpanSeen) (p q u : ℕ) → j ≡ o + i → q ≡ o + p → u ≤ top → u ≤ limit_at top (from d j es ++ ts) q → u ≤ limit_at top (from d i es) p
 shifted d top o i j [] ts p q u ej eq fast h = fast
 shifted d top o i j (e ∷ es) ts p q u ej eq fast h = go (nat_le p (i + length_of d e)) refl (nat_le q (j + length_of d e)) refl h (shifted d top o (i + length_of d e) (j + length_of d e) es ts p q u (omega arith) eq fast)
   where
@@ -71,7 +71,7 @@ authority_farther rs more = go (list_any exits (rs ++ more))
 -- ---- F1
 
 -- who comes as far in a move from farther ahead can brake too
-pub lands : (m b tail top : ℕ) (ss : List Stretch) (end : Option ℕ) (x u y w : ℕ) → 1 ≤ b → u ≤ top → x ≤ y → y + w ≡ x + u → can_brake m b tail ss end x u ≡ true → can_brake w b tail ss end y w ≡ true
+pub lands : (m b tail top : ℕ) (ss : List SpanSeen) (end : Option ℕ) (x u y w : ℕ) → 1 ≤ b → u ≤ top → x ≤ y → y + w ≡ x + u → can_brake m b tail ss end x u ≡ true → can_brake w b tail ss end y w ≡ true
 lands m b tail top ss end x u y zero slows fast ahead same h = can_brake-stop m b tail ss end x u y (omega arith) h
 lands m b tail top ss end x zero y (suc w) slows fast ahead same h = absurd (omega arith)
 lands zero b tail top ss end x (suc u) y (suc w) slows fast ahead same h = cc
@@ -85,7 +85,7 @@ lands (suc m) b tail top ss end x (suc u) y (suc w) slows fast ahead same h =
     on v slow p l k = let t = can_brake_keeps (suc m) b tail top ss end x (suc u) fast h p l k in omega arith
 
 -- who can brake on one way can on another whose places allow as much, so far from there
-brakes_on : (m b tail top o : ℕ) (ss ts : List Stretch) (end other : Option ℕ) → ((p u : ℕ) → 0 < p → u ≤ top → u ≤ limit_at top ss (o + p) → u ≤ limit_at top ts p) → ((y : ℕ) → may_stop end (o + y) ≡ true → may_stop other y ≡ true)
+brakes_on : (m b tail top o : ℕ) (ss ts : List SpanSeen) (end other : Option ℕ) → ((p u : ℕ) → 0 < p → u ≤ top → u ≤ limit_at top ss (o + p) → u ≤ limit_at top ts p) → ((y : ℕ) → may_stop end (o + y) ≡ true → may_stop other y ≡ true)
     → (x z u : ℕ) → z ≡ o + x → u ≤ top → can_brake m b tail ss end z u ≡ true → can_brake m b tail ts other x u ≡ true
 brakes_on m b tail top o ss ts end other limits ends x z zero at fast h = ends x (subst (λ y. may_stop end y ≡ true) at h)
 brakes_on zero b tail top o ss ts end other limits ends x z (suc u) at fast h = cc
@@ -94,7 +94,7 @@ brakes_on (suc m) b tail top o ss ts end other limits ends x z (suc u) at fast h
     (λ p l k. limits p (suc u) (omega arith) fast (can_brake_keeps (suc m) b tail top ss end z (suc u) fast h (o + p) (omega arith) (omega arith))))
     (brakes_on m b tail top o ss ts end other limits ends (x + suc u) (z + suc u) (suc u - b) (omega arith) (omega arith) (and_right (keeps_limits ss (z - tail) (z + suc u) (suc u)) _ h))
 
-move_keeps : (m : Rates) (ss : List Stretch) (end : Option ℕ) (x v u : ℕ) → permitted m ss end x v u ≡ true → KeepsLimits m.top ss x (x + u) u
+move_keeps : (m : MotorSeen) (ss : List SpanSeen) (end : Option ℕ) (x v u : ℕ) → permitted m ss end x v u ≡ true → KeepsLimits m.top ss x (x + u) u
 move_keeps m ss end x v u h p l k =
     let r = permitted_reach m ss end x v u h in
     can_brake_keeps u m.brake m.tail m.top ss end x u (omega arith) (permitted_brakes m ss end x v u h) p (omega arith) k
@@ -122,7 +122,7 @@ climb_none (suc n) a u l h = go (nat_lt l (u - a)) refl
     go true e = let i = leb-true (suc l) (u - a) e in absurd (omega arith)
     go false e = omega arith
 
--- the way since a place, where the speed v was within l or gained on the way
+-- the distance since a place, where the speed v was within l or gained on the way
 held : (a l v u gap : ℕ) → u ≤ v + a → (v ≤ l) ⊎ ((n : ℕ) → v + climb n a v l ≤ gap) → (n : ℕ) → climb n a u l ≤ gap
 held a l v u gap gain h zero = omega arith
 held a l v u gap gain h (suc n) = go (nat_lt l (u - a)) refl h
@@ -133,7 +133,7 @@ held a l v u gap gain h (suc n) = go (nat_lt l (u - a)) refl h
     go false e k = omega arith
 
 -- what holds at each place holds at the ends of the stretches
-behind_from : (top a first : ℕ) (ss : List Stretch) (x u : ℕ) → ((p : ℕ) → first < p → p ≤ x → rise a u (limit_at top ss p) ≤ x - p) → behind a first ss x u ≡ true
+behind_from : (top a first : ℕ) (ss : List SpanSeen) (x u : ℕ) → ((p : ℕ) → first < p → p ≤ x → rise a u (limit_at top ss p) ≤ x - p) → behind a first ss x u ≡ true
 behind_from top a first [] x u h = refl
 behind_from top a first (s ∷ rest) x u h = and_both _ _ (here (nat_lt first s.end) refl (nat_le s.end x) refl) (behind_from top a (max first s.end) rest x u (λ p l k. past p l k (nat_le p s.end) refl (h p (omega arith) k)))
   where
@@ -201,7 +201,7 @@ module _ (d : Station) (adm : IsAdmitted d) (n : ℕ) (plan : List (List Command
           let may = next_speed_permitted (rates d t) (stretches d (given t (suc g))) (authority (given t (suc g))) old.x old.v _ now in
           inr (record { move = refl; may = on_path t named (suc g) old.x old.v u may; slows = (adm.vehicle _ (adm.train t named).vehicle).slows; gains = (adm.vehicle _ (adm.train t named).vehicle).gains })
 
-  -- ---- the way since a place
+  -- ---- the distance since a place
 
   -- a train past a place came over it at l at the most, or has gained its speed since
   abbrev Since : ℕ → ℕ → TrainNo → TrainState → Type 0
@@ -238,7 +238,7 @@ module _ (d : Station) (adm : IsAdmitted d) (n : ℕ) (plan : List (List Command
     abbrev top : ℕ
     top = (rates d t).top
 
-    abbrev leg : List Stretch
+    abbrev leg : List SpanSeen
     leg = stretches d l.routes
 
     abbrev path_end : Option ℕ
@@ -249,9 +249,9 @@ module _ (d : Station) (adm : IsAdmitted d) (n : ℕ) (plan : List (List Command
 
     edges_before : o ≡ sum_by (length_of d) (flat_map (λ r. r.edges) before)
     edges_before =
-        let front : take (length before) (routes_of_train t) ≡ before = ap (take (length before)) has.whole ∙ take-append-le (length before) before (l.routes ++ has.more) (le_refl _) ∙ take_all (length before) before (le_refl _) in
+        let prefix : take (length before) (routes_of_train t) ≡ before = ap (take (length before)) has.whole ∙ take-append-le (length before) before (l.routes ++ has.more) (le_refl _) ∙ take_all (length before) before (le_refl _) in
         let w = is_sound.whole t (length before) in
-        sym (ap (sum_by length_mm) front) ∙ sym w ∙ ap (λ rs. sum_by (length_of d) (flat_map (λ r. r.edges) rs)) front
+        sym (ap (sum_by length_mm) prefix) ∙ sym w ∙ ap (λ rs. sum_by (length_of d) (flat_map (λ r. r.edges) rs)) prefix
 
     -- what the path allows at a place of the leg the leg allows there
     limits : (p u : ℕ) → 0 < p → u ≤ top → u ≤ limit_at top (stretches d (routes_of_train t)) (o + p) → u ≤ limit_at top leg p

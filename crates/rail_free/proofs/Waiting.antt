@@ -11,7 +11,7 @@ use Rattle.rail_base.specs.Admitted.{IsAdmitted}
 use Rattle.rail_base.specs.Stations.{IsTrain}
 use Rattle.rail_spec.specs.Track.{routes_of}
 use Rattle.rail_spec.specs.Plans.{path, path_routes, length_mm, exits, is_well_formed}
-use Rattle.rail_spec.specs.Motion.{Stretch, keeps_limits, may_stop, can_brake, braking_way}
+use Rattle.rail_spec.specs.Motion.{SpanSeen, keeps_limits, may_stop, can_brake, braking_distance}
 use Rattle.rail_spec.specs.Dispatches.{state_of, rates, stretches, authority, of_plan, state_at}
 use Rattle.rail_base.proofs.Members.{and_right}
 use Rattle.rail_base.proofs.Lists.{length-map}
@@ -19,34 +19,34 @@ use Rattle.rail_spec.specs.Plans.{route_at}
 use Rattle.rail_laws.proofs.MotionLaws.{permitted_brakes}
 use Rattle.rail_laws.proofs.UnderWay.{IsSound, authority_some, travels}
 use Rattle.rail_laws.proofs.Admits.{sound}
-use Rattle.rail_free.proofs.Heads.{sum_front, not_past}
+use Rattle.rail_free.proofs.Heads.{sum_prefix, not_past}
 use Rattle.rail_free.proofs.Gains.{gained_by}
 use Rattle.rail_free.specs.Free.{steps_from_stop}
 use Rattle.rail_free.specs.Legs.{Leg, HasLeg, free_on, least_ticks_waited}
 use Rattle.rail_free.proofs.Moves.{one_tick}
 
 -- one move more
-one_more : (b j v w way : ℕ) → v ≤ w + b → 2 * (j * w) ≤ 2 * way + b * (j * (j + 1)) → 2 * (suc j * v) ≤ 2 * (w + way) + b * (suc j * (suc j + 1))
-one_more b j v w way h k =
+one_more : (b j v w distance : ℕ) → v ≤ w + b → 2 * (j * w) ≤ 2 * distance + b * (j * (j + 1)) → 2 * (suc j * v) ≤ 2 * (w + distance) + b * (suc j * (suc j + 1))
+one_more b j v w distance h k =
     let l : suc j * v ≤ suc j * (w + b) = mul-le-mul (le_refl (suc j)) h in
     let e : suc j * (w + b) ≡ j * w + w + j * b + b = omega arith in
     let f : b * (suc j * (suc j + 1)) ≡ b * (j * (j + 1)) + 2 * (j * b) + 2 * b = omega arith in
     omega (arith, l, e, f, k)
 
--- what j ticks at a speed add, less the way of braking
-slows_by : (m b j u : ℕ) → 1 ≤ b → u ≤ m → 2 * (j * u) ≤ 2 * braking_way m b u + b * (j * (j + 1))
+-- what j ticks at a speed add, less the distance of braking
+slows_by : (m b j u : ℕ) → 1 ≤ b → u ≤ m → 2 * (j * u) ≤ 2 * braking_distance m b u + b * (j * (j + 1))
 slows_by m b zero u slows h = omega arith
 slows_by m b (suc j) zero slows h = omega arith
 slows_by zero b (suc j) (suc u) slows h = absurd (omega arith)
-slows_by (suc m) b (suc j) (suc u) slows h = one_more b j (suc u) (suc u - b) (braking_way m b (suc u - b)) (omega arith) (slows_by m b j (suc u - b) slows (omega arith))
+slows_by (suc m) b (suc j) (suc u) slows h = one_more b j (suc u) (suc u - b) (braking_distance m b (suc u - b)) (omega arith) (slows_by m b j (suc u - b) slows (omega arith))
 
-slows_before : (b j v : ℕ) → 1 ≤ b → 2 * (j * v) ≤ 2 * ((v - b) + braking_way (v - b) b (v - b)) + b * (j * (j + 1))
+slows_before : (b j v : ℕ) → 1 ≤ b → 2 * (j * v) ≤ 2 * ((v - b) + braking_distance (v - b) b (v - b)) + b * (j * (j + 1))
 slows_before b zero v slows = omega arith
-slows_before b (suc j) v slows = one_more b j v (v - b) (braking_way (v - b) b (v - b)) (omega arith) (slows_by (v - b) b j (v - b) slows (le_refl _))
+slows_before b (suc j) v slows = one_more b j v (v - b) (braking_distance (v - b) b (v - b)) (omega arith) (slows_by (v - b) b j (v - b) slows (le_refl _))
 
 -- so many ticks after who can stop before the end at a speed
-gets : (a b c x v way end y : ℕ) → x + way ≤ end → 2 * (c * v) ≤ 2 * way + b * (c * (c + 1)) → 2 * y ≤ 2 * x + 2 * (c * v) + a * c * (c + 1) → 2 * y ≤ 2 * end + (a + b) * (c * (c + 1))
-gets a b c x v way end y near slow fast =
+gets : (a b c x v distance end y : ℕ) → x + distance ≤ end → 2 * (c * v) ≤ 2 * distance + b * (c * (c + 1)) → 2 * y ≤ 2 * x + 2 * (c * v) + a * c * (c + 1) → 2 * y ≤ 2 * end + (a + b) * (c * (c + 1))
+gets a b c x v distance end y near slow fast =
     let e : (a + b) * (c * (c + 1)) ≡ a * (c * (c + 1)) + b * (c * (c + 1)) = omega arith in
     let f : a * c * (c + 1) ≡ a * (c * (c + 1)) = omega arith in
     omega (arith, e, f, near, slow, fast)
@@ -55,16 +55,16 @@ half : (end k y : ℕ) → 2 * y ≤ 2 * end + k → y ≤ end + k / 2
 half end k y h = let l = le-div (y - end) k 2 (omega arith) (omega arith) in omega arith
 
 -- who can brake stops where it may
-stops_there : (m b tail : ℕ) (ss : List Stretch) (end : Option ℕ) (x u : ℕ) → can_brake m b tail ss end x u ≡ true → may_stop end (x + u + braking_way m b u) ≡ true
+stops_there : (m b tail : ℕ) (ss : List SpanSeen) (end : Option ℕ) (x u : ℕ) → can_brake m b tail ss end x u ≡ true → may_stop end (x + u + braking_distance m b u) ≡ true
 stops_there m b tail ss end x zero h = subst (λ y. may_stop end y ≡ true) (none m) h
   where
-    none : (m : ℕ) → x ≡ x + 0 + braking_way m b 0
+    none : (m : ℕ) → x ≡ x + 0 + braking_distance m b 0
     none zero = omega arith
     none (suc m) = omega arith
 stops_there zero b tail ss end x (suc u) h = cc
 stops_there (suc m) b tail ss end x (suc u) h =
     let later = stops_there m b tail ss end (x + suc u) (suc u - b) (and_right (keeps_limits ss (x - tail) (x + suc u) (suc u)) _ h) in
-    let same : x + suc u + (suc u - b) + braking_way m b (suc u - b) ≡ x + suc u + ((suc u - b) + braking_way m b (suc u - b)) = omega arith in
+    let same : x + suc u + (suc u - b) + braking_distance m b (suc u - b) ≡ x + suc u + ((suc u - b) + braking_distance m b (suc u - b)) = omega arith in
     subst (λ y. may_stop end y ≡ true) same later
 
 module _ (d : Station) (adm : IsAdmitted d) (n : ℕ) (plan : List (List Command)) (formed : is_well_formed d (routes_of d) n plan ≡ true) where
@@ -82,7 +82,7 @@ module _ (d : Station) (adm : IsAdmitted d) (n : ℕ) (plan : List (List Command
 
   -- before its command of this number is granted a train stops before the end of the routes before
   can_stop : (t : TrainNo) (j k : ℕ) → IsTrain d t → j ≤ length (path_routes (routes_of d) plan t) → (at k t).granted < j
-      → (at k t).x + (((at k t).v - (rates d t).brake) + braking_way ((at k t).v - (rates d t).brake) (rates d t).brake ((at k t).v - (rates d t).brake)) ≤ end_of t j
+      → (at k t).x + (((at k t).v - (rates d t).brake) + braking_distance ((at k t).v - (rates d t).brake) (rates d t).brake ((at k t).v - (rates d t).brake)) ≤ end_of t j
   can_stop t j k named there short = go (zero_or (at k t).granted)
     where
       zero_or : (n : ℕ) → (n ≡ 0) ⊎ (1 ≤ n)
@@ -90,24 +90,24 @@ module _ (d : Station) (adm : IsAdmitted d) (n : ℕ) (plan : List (List Command
       zero_or (suc n) = inr (omega arith)
 
       on : (b : Bool) → list_any exits (given t (at k t).granted) ≡ b → 1 ≤ (at k t).granted
-          → (at k t).x + (((at k t).v - (rates d t).brake) + braking_way ((at k t).v - (rates d t).brake) (rates d t).brake ((at k t).v - (rates d t).brake)) ≤ end_of t j
+          → (at k t).x + (((at k t).v - (rates d t).brake) + braking_distance ((at k t).v - (rates d t).brake) (rates d t).brake ((at k t).v - (rates d t).brake)) ≤ end_of t j
       on true e some = let all = is_sound.exit_last t (at k t).granted named e in absurd (omega arith)
       on false e some =
           let b = (rates d t).brake in
           let v = (at k t).v in
           let x = (at k t).x in
           let w = v - b in
-          let way = braking_way w b w in
+          let distance = braking_distance w b w in
           let brakes = permitted_brakes (rates d t) (stretches d (given t (at k t).granted)) (authority (given t (at k t).granted)) x v w ((travels d (routes_of d) plan is_sound k t).braking some) in
           let stop = stops_there w b (rates d t).tail (stretches d (given t (at k t).granted)) (authority (given t (at k t).granted)) x w brakes in
-          let near : x + w + way ≤ sum_by length_mm (given t (at k t).granted) = leb-true _ _ (subst (λ end. may_stop end (x + w + way) ≡ true) (authority_some (given t (at k t).granted) e) stop) in
-          let more = sum_front length_mm (at k t).granted (j - 1) (path_routes (routes_of d) plan t) (omega arith) in
+          let near : x + w + distance ≤ sum_by length_mm (given t (at k t).granted) = leb-true _ _ (subst (λ end. may_stop end (x + w + distance) ≡ true) (authority_some (given t (at k t).granted) e) stop) in
+          let more = sum_prefix length_mm (at k t).granted (j - 1) (path_routes (routes_of d) plan t) (omega arith) in
           omega arith
 
-      still : (x v b : ℕ) → x ≡ 0 → v ≡ 0 → x + ((v - b) + braking_way (v - b) b (v - b)) ≤ end_of t j
-      still x v b ex ev = let w : v - b ≡ 0 = omega arith in let f = ap (λ m. braking_way m b m) w in omega arith
+      still : (x v b : ℕ) → x ≡ 0 → v ≡ 0 → x + ((v - b) + braking_distance (v - b) b (v - b)) ≤ end_of t j
+      still x v b ex ev = let w : v - b ≡ 0 = omega arith in let f = ap (λ m. braking_distance m b m) w in omega arith
 
-      go : ((at k t).granted ≡ 0) ⊎ (1 ≤ (at k t).granted) → (at k t).x + (((at k t).v - (rates d t).brake) + braking_way ((at k t).v - (rates d t).brake) (rates d t).brake ((at k t).v - (rates d t).brake)) ≤ end_of t j
+      go : ((at k t).granted ≡ 0) ⊎ (1 ≤ (at k t).granted) → (at k t).x + (((at k t).v - (rates d t).brake) + braking_distance ((at k t).v - (rates d t).brake) (rates d t).brake ((at k t).v - (rates d t).brake)) ≤ end_of t j
       go (inl none) = let w = (travels d (routes_of d) plan is_sound k t).waits none in still (at k t).x (at k t).v (rates d t).brake w.0 w.1
       go (inr some) = on (list_any exits (given t (at k t).granted)) refl some
 

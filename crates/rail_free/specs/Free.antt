@@ -1,7 +1,7 @@
 -- How far a head can come in a tick on a leg: routes in a row, of which nothing is known before them. Places are in mm from the start of the leg.
 use Rattle.std.specs.Prelude.{ℕ, zero, suc, ◌+◌, ◌-◌, ◌*◌, ◌/◌, min, max, Bool, true, not, ◌&&◌, ◌||◌, if◌then◌else◌, List, [], ◌∷◌, nat_le, nat_lt, Option}
 use Rattle.rail_base.specs.Numbering.{greatest}
-use Rattle.rail_spec.specs.Motion.{Rates, Stretch, can_brake}
+use Rattle.rail_spec.specs.Motion.{MotorSeen, SpanSeen, can_brake}
 
 -- the sum of those of u - a, u - 2a and so on that are above l, so many of them at the most
 abbrev pub climb : ℕ → ℕ → ℕ → ℕ → ℕ
@@ -12,14 +12,14 @@ climb (suc n) a u l = let further = climb n a (u - a) l in if nat_lt l (u - a) t
 abbrev pub rise : ℕ → ℕ → ℕ → ℕ
 rise a u l = climb u a u l
 
--- for each stretch that ends up to x the way since its end is enough to gain u, from its limit at the most. The first begins there.
-abbrev pub behind : ℕ → ℕ → List Stretch → ℕ → ℕ → Bool
+-- for each stretch that ends up to x the walk since its end is enough to gain u, from its limit at the most. The first begins there.
+abbrev pub behind : ℕ → ℕ → List SpanSeen → ℕ → ℕ → Bool
 behind a from [] x u = true
 behind a from (s ∷ rest) x u =
     (not (nat_lt from s.end && nat_le s.end x) || nat_le (rise a u s.limit) (x - s.end))
     && behind a (max from s.end) rest x u
 
-module _ (m : Rates) (ss : List Stretch) (end : Option ℕ) (rest : Bool) where
+module _ (m : MotorSeen) (ss : List SpanSeen) (end : Option ℕ) (rest : Bool) where
   -- a move by u and then full braking keeps the limits ahead and stops where it may; the limits behind allow u; and so does the start, where the train starts there from rest
   abbrev pub is_free : ℕ → ℕ → Bool
   is_free x u = can_brake u m.brake m.tail ss end x u && behind m.accel 0 ss x u && (not rest || nat_le (rise m.accel u 0) x)

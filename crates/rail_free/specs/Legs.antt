@@ -44,7 +44,7 @@ least_ticks_waited d t l h x y = steps_from_stop (free_on d t l) ((rates d t).ac
 
 -- the track ends there
 abbrev pub is_dead : Finish → Bool
-is_dead (finish.Dead n) = true
+is_dead (finish.DeadEnd n) = true
 is_dead (finish.Exit n) = false
 is_dead (finish.Signal s) = false
 

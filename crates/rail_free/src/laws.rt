@@ -6,7 +6,7 @@ ghost use Rattle.rail_base.specs.declared.route.Route.{Route};
 ghost use Rattle.rail_base.specs.Stations.{IsTrain};
 ghost use Rattle.rail_spec.specs.Track.{routes_of};
 ghost use Rattle.rail_spec.specs.Plans.{length_mm, path, path_routes};
-ghost use Rattle.rail_spec.specs.Motion.{Rates, Stretch};
+ghost use Rattle.rail_spec.specs.Motion.{MotorSeen, SpanSeen};
 ghost use Rattle.rail_free.specs.Free.{rise, is_free, steps};
 ghost use Rattle.rail_free.specs.Legs.{Leg, HasLeg, free_on, least_ticks, least_ticks_waited, least_whatever_follows};
 ghost use Rattle.rail_free.specs.Runs.{InEveryRun, head_of, granted_of};
@@ -20,7 +20,7 @@ pub fn moves_are_free()
 
 /// So to come from a place of a leg to another takes the steps of free moves at the least, whatever the horizon up to
 /// which they are counted.
-pub fn ways_take_their_least_ticks()
+pub fn walks_take_their_least_ticks()
     ensures { InEveryRun (λ d plan. (t : TrainNo) (before : List Route) (l : Leg) → HasLeg (routes_of d) plan t before l
         → let start = sum_by length_mm before in
         (h k c x y : ℕ) → head_of d plan t k ≤ start + x → start + y ≤ head_of d plan t (k + c)
@@ -39,7 +39,7 @@ pub fn waiting_trains_take_their_least_ticks()
 {}
 
 /// On routes in its path a train takes the least of what holds on each leg that they can be in it, whatever follows them.
-pub fn ways_take_the_least_of_what_follows()
+pub fn walks_take_the_least_of_what_follows()
     ensures { InEveryRun (λ d plan. (t : TrainNo) (before rs : List Route) (rest : Bool)
         → HasLeg (routes_of d) plan t before (record { routes = rs; closed = false; rest = rest })
         → (f : Leg → ℕ) (c : ℕ) → ((l : Leg) → HasLeg (routes_of d) plan t before l → f l ≤ c)
@@ -48,7 +48,7 @@ pub fn ways_take_the_least_of_what_follows()
 
 /// A lower move than a free one is free, and so is none. So the greatest can be found by halving.
 pub fn lower_moves_are_free()
-    ensures { (m : Rates) (ss : List Stretch) (end : Option ℕ) (rest : Bool) (x u w : ℕ)
+    ensures { (m : MotorSeen) (ss : List SpanSeen) (end : Option ℕ) (rest : Bool) (x u w : ℕ)
         → 1 ≤ m.brake → u ≤ m.top → w ≤ u
         → is_free m ss end rest x u ≡ true → is_free m ss end rest x w ≡ true }
 {}

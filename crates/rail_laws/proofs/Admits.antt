@@ -63,7 +63,7 @@ exit_ends (r ∷ q ∷ rs) (suc g) h e =
     stays : (f : Finish) → goes_on f q.start ≡ true → exits (record r { finish = f }) ≡ false
     stays (finish.Exit n) k = absurd (true≢false (sym k))
     stays (finish.Signal s) k = refl
-    stays (finish.Dead n) k = refl
+    stays (finish.DeadEnd n) k = refl
 
 is_start_refl : (s : Start) → is_start s s ≡ true
 is_start_refl (start.Boundary n) = eq-eqb n.0 n.0 refl

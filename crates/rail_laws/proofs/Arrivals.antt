@@ -16,9 +16,9 @@ use Rattle.rail_spec.specs.Track.{routes_of}
 use Rattle.rail_spec.specs.Plans.{route_at, length_mm, exits, path, path_routes, has_node}
 use Rattle.rail_base.specs.Stations.{trains, train_of, train_length, horizon, IsTrain}
 use Rattle.rail_spec.specs.Dispatches.{state_of, of_plan, state_at}
-use Rattle.rail_base.specs.declared.state.Stop.{Stop}
-use Rattle.rail_spec.specs.Visits.{stops_of, stops_after, stops, visits_at, visits_on, has_passed, pass_tick}
-use Rattle.rail_spec.specs.Visits.{stops_of_train, visits_of_train}
+use Rattle.rail_base.specs.declared.state.PathNode.{PathNode}
+use Rattle.rail_spec.specs.Visits.{path_nodes_of, path_nodes_after, path_nodes, visits_at, visits_on, has_passed, pass_tick}
+use Rattle.rail_spec.specs.Visits.{path_nodes_of_train, visits_of_train}
 use Rattle.rail_spec.specs.Requirements.{visit_numbers, command_numbers, granted_by, visited_by, is_done, is_certain, path_failures, path_violation, violation_at, ways_to_fail, cost}
 use Rattle.rail_base.specs.Admitted.{IsAdmitted}
 use Rattle.rail_spec.specs.Feasible.{IsRunnable}
@@ -48,45 +48,45 @@ in_from {X} test (y ∷ ys) x m = go (test y) m (in_from test ys x)
     go true k later = k
     go false k later = inr (later k)
 
-in_stops_of : (o j : ℕ) (r : Route) → ((p : NodeNo × ℤ) → In p r.nodes → nat_abs p.1 ≤ length_mm r) → (s : Stop) → In s (stops_of o j r) → (s.offset ≤ o + length_mm r) × (s.command ≡ j)
-in_stops_of o j r good s m = go (in_map_back (λ (p : NodeNo × ℤ). let t : Stop = record { node = p.0; offset = o + nat_abs p.1; command = j } in t) r.nodes s m)
+in_path_nodes_of : (o j : ℕ) (r : Route) → ((p : NodeNo × ℤ) → In p r.nodes → nat_abs p.1 ≤ length_mm r) → (s : PathNode) → In s (path_nodes_of o j r) → (s.offset ≤ o + length_mm r) × (s.command ≡ j)
+in_path_nodes_of o j r good s m = go (in_map_back (λ (p : NodeNo × ℤ). let t : PathNode = record { node = p.0; offset = o + nat_abs p.1; command = j } in t) r.nodes s m)
   where
     go : ((p : NodeNo × ℤ) × In p r.nodes × (record { node = p.0; offset = o + nat_abs p.1; command = j } ≡ s)) → (s.offset ≤ o + length_mm r) × (s.command ≡ j)
-    go (p, k, e) = let l = good p k in let n : o + nat_abs p.1 ≡ s.offset = ap (λ (t : Stop). t.offset) e in (omega arith, sym (ap (λ (t : Stop). t.command) e))
+    go (p, k, e) = let l = good p k in let n : o + nat_abs p.1 ≡ s.offset = ap (λ (t : PathNode). t.offset) e in (omega arith, sym (ap (λ (t : PathNode). t.command) e))
 
-in_stops_after : (rs : List Route) (o j : ℕ) → NodesIn rs → (s : Stop) → In s (stops_after o j rs) → (s.offset ≤ o + sum_by length_mm rs) × (s.command < j + length rs)
-in_stops_after [] o j good s m = absurd m
-in_stops_after (r ∷ rs) o j good s m = go (in_append s (after_first (stops_of o j r)) (stops_after (o + length_mm r) (j + 1) rs) m) (in_stops_after rs (o + length_mm r) (j + 1) (λ q k. good q (inr k)) s)
+in_path_nodes_after : (rs : List Route) (o j : ℕ) → NodesIn rs → (s : PathNode) → In s (path_nodes_after o j rs) → (s.offset ≤ o + sum_by length_mm rs) × (s.command < j + length rs)
+in_path_nodes_after [] o j good s m = absurd m
+in_path_nodes_after (r ∷ rs) o j good s m = go (in_append s (after_first (path_nodes_of o j r)) (path_nodes_after (o + length_mm r) (j + 1) rs) m) (in_path_nodes_after rs (o + length_mm r) (j + 1) (λ q k. good q (inr k)) s)
   where
-    go : In s (after_first (stops_of o j r)) ⊎ In s (stops_after (o + length_mm r) (j + 1) rs) → (In s (stops_after (o + length_mm r) (j + 1) rs) → (s.offset ≤ o + length_mm r + sum_by length_mm rs) × (s.command < j + 1 + length rs)) → (s.offset ≤ o + sum_by length_mm (r ∷ rs)) × (s.command < j + length (r ∷ rs))
-    go (inl k) later = let l = in_stops_of o j r (good r (inl refl)) s (in_after _ s k) in let a = l.0 in let b = l.1 in let w = sum_by-cons length_mm r rs in (omega arith, omega arith)
+    go : In s (after_first (path_nodes_of o j r)) ⊎ In s (path_nodes_after (o + length_mm r) (j + 1) rs) → (In s (path_nodes_after (o + length_mm r) (j + 1) rs) → (s.offset ≤ o + length_mm r + sum_by length_mm rs) × (s.command < j + 1 + length rs)) → (s.offset ≤ o + sum_by length_mm (r ∷ rs)) × (s.command < j + length (r ∷ rs))
+    go (inl k) later = let l = in_path_nodes_of o j r (good r (inl refl)) s (in_after _ s k) in let a = l.0 in let b = l.1 in let w = sum_by-cons length_mm r rs in (omega arith, omega arith)
     go (inr k) later = let l = later k in let a = l.0 in let b = l.1 in let w = sum_by-cons length_mm r rs in (omega arith, omega arith)
 
-in_stops : (rs : List Route) → NodesIn rs → (s : Stop) → In s (stops rs) → (s.offset ≤ sum_by length_mm rs) × (s.command ≤ length rs)
-in_stops [] good s m = absurd m
-in_stops (r ∷ rs) good s m = go (in_append s (stops_of 0 1 r) (stops_after (length_mm r) 2 rs) m)
+in_path_nodes : (rs : List Route) → NodesIn rs → (s : PathNode) → In s (path_nodes rs) → (s.offset ≤ sum_by length_mm rs) × (s.command ≤ length rs)
+in_path_nodes [] good s m = absurd m
+in_path_nodes (r ∷ rs) good s m = go (in_append s (path_nodes_of 0 1 r) (path_nodes_after (length_mm r) 2 rs) m)
   where
-    go : In s (stops_of 0 1 r) ⊎ In s (stops_after (length_mm r) 2 rs) → (s.offset ≤ sum_by length_mm (r ∷ rs)) × (s.command ≤ length (r ∷ rs))
-    go (inl k) = let l = in_stops_of 0 1 r (good r (inl refl)) s k in let a = l.0 in let b = l.1 in let w = sum_by-cons length_mm r rs in (omega arith, omega arith)
-    go (inr k) = let l = in_stops_after rs (length_mm r) 2 (λ q i. good q (inr i)) s k in let a = l.0 in let b = l.1 in let w = sum_by-cons length_mm r rs in (omega arith, omega arith)
+    go : In s (path_nodes_of 0 1 r) ⊎ In s (path_nodes_after (length_mm r) 2 rs) → (s.offset ≤ sum_by length_mm (r ∷ rs)) × (s.command ≤ length (r ∷ rs))
+    go (inl k) = let l = in_path_nodes_of 0 1 r (good r (inl refl)) s k in let a = l.0 in let b = l.1 in let w = sum_by-cons length_mm r rs in (omega arith, omega arith)
+    go (inr k) = let l = in_path_nodes_after rs (length_mm r) 2 (λ q i. good q (inr i)) s k in let a = l.0 in let b = l.1 in let w = sum_by-cons length_mm r rs in (omega arith, omega arith)
 
 -- ---- visits are made at stops
 
-in_visits_at : (sets : List (List NodeNo)) (ps : List Stop) (s : Stop) → In (Some s) (visits_at sets ps) → In s ps
+in_visits_at : (sets : List (List NodeNo)) (ps : List PathNode) (s : PathNode) → In (Some s) (visits_at sets ps) → In s ps
 in_visits_at [] ps s m = absurd m
 in_visits_at (set ∷ sets) ps s (inl e) = in_from (λ p. has_node set p.node) ps s (first (from_first (λ p. has_node set p.node) ps) e)
   where
-    first : (xs : List Stop) → first_of_list xs ≡ Some s → In s xs
+    first : (xs : List PathNode) → first_of_list xs ≡ Some s → In s xs
     first [] h = cc
     first (x ∷ xs) h = inl cc
 in_visits_at (set ∷ sets) ps s (inr m) = in_from (λ p. has_node set p.node) ps s (in_after (from_first (λ p. has_node set p.node) ps) s (in_visits_at sets (after_first (from_first (λ p. has_node set p.node) ps)) s m))
 
-in_visits_on : (sets : List (List NodeNo)) (ps : List Stop) (s : Stop) → In (Some s) (visits_on sets ps) → In s ps
+in_visits_on : (sets : List (List NodeNo)) (ps : List PathNode) (s : PathNode) → In (Some s) (visits_on sets ps) → In s ps
 in_visits_on [] ps s m = absurd m
 in_visits_on (set ∷ sets) ps s (inr m) = in_after ps s (in_visits_at sets (after_first ps) s m)
 in_visits_on (set ∷ sets) ps s (inl e) = first ps e
   where
-    first : (xs : List Stop) → first_of_list xs ≡ Some s → In s xs
+    first : (xs : List PathNode) → first_of_list xs ≡ Some s → In s xs
     first [] h = cc
     first (x ∷ xs) h = inl cc
 
@@ -114,9 +114,9 @@ module _ (d : Station) (adm : IsAdmitted d) (n : ℕ) (plan : List (List Command
       at : ((q : RouteNo) × In q (path plan t) × (route_at (routes_of d) q ≡ r)) → nat_abs p.1 ≤ length_mm r
       at (q, i, e) = subst (λ (w : Route). nat_abs p.1 ≤ length_mm w) e ((good_route d adm q).nodes_in p (subst (λ (w : Route). In p w.nodes) (sym e) k))
 
-  stop_passed : (t : TrainNo) (k : ℕ) (s : Stop) → IsTrain d t → last_grant d (routes_of d) plan ≤ k → In s (stops_of_train d (routes_of d) (of_plan (routes_of d) plan) t) → has_passed d (routes_of d) (of_plan (routes_of d) plan) t s k ≡ true
-  stop_passed t k s h late m =
-      let on = in_stops (path_routes (routes_of d) plan t) (nodes_in_path t) s m in
+  path_node_passed : (t : TrainNo) (k : ℕ) (s : PathNode) → IsTrain d t → last_grant d (routes_of d) plan ≤ k → In s (path_nodes_of_train d (routes_of d) (of_plan (routes_of d) plan) t) → has_passed d (routes_of d) (of_plan (routes_of d) plan) t s k ≡ true
+  path_node_passed t k s h late m =
+      let on = in_path_nodes (path_routes (routes_of d) plan t) (nodes_in_path t) s m in
       let far = (come_through t k h late).0 in
       let off = on.0 in
       let number = on.1 in
@@ -128,12 +128,12 @@ module _ (d : Station) (adm : IsAdmitted d) (n : ℕ) (plan : List (List Command
   pub visit_made : (t : TrainNo) (j k : ℕ) → IsTrain d t → 1 ≤ k → last_grant d (routes_of d) plan ≤ k → is_none (entry None (visits_of_train d (routes_of d) (of_plan (routes_of d) plan) t) j) ≡ false → visited_by d (routes_of d) plan k t j ≡ true
   visit_made t j k h low late there = go (entry None (visits_of_train d (routes_of d) (of_plan (routes_of d) plan) t) j) there on_path
     where
-      on_path : (s : Stop) → entry None (visits_of_train d (routes_of d) (of_plan (routes_of d) plan) t) j ≡ Some s → In s (stops_of_train d (routes_of d) (of_plan (routes_of d) plan) t)
-      on_path = entry_is (λ (o : Option Stop). (s : Stop) → o ≡ Some s → In s (stops_of_train d (routes_of d) (of_plan (routes_of d) plan) t)) None (visits_of_train d (routes_of d) (of_plan (routes_of d) plan) t) j (λ s e. cc) (λ o m s e. in_visits_on (train_of d t).visits (stops_of_train d (routes_of d) (of_plan (routes_of d) plan) t) s (subst (λ w. In w (visits_of_train d (routes_of d) (of_plan (routes_of d) plan) t)) e m))
+      on_path : (s : PathNode) → entry None (visits_of_train d (routes_of d) (of_plan (routes_of d) plan) t) j ≡ Some s → In s (path_nodes_of_train d (routes_of d) (of_plan (routes_of d) plan) t)
+      on_path = entry_is (λ (o : Option PathNode). (s : PathNode) → o ≡ Some s → In s (path_nodes_of_train d (routes_of d) (of_plan (routes_of d) plan) t)) None (visits_of_train d (routes_of d) (of_plan (routes_of d) plan) t) j (λ s e. cc) (λ o m s e. in_visits_on (train_of d t).visits (path_nodes_of_train d (routes_of d) (of_plan (routes_of d) plan) t) s (subst (λ w. In w (visits_of_train d (routes_of d) (of_plan (routes_of d) plan) t)) e m))
 
-      go : (o : Option Stop) → is_none o ≡ false → ((s : Stop) → o ≡ Some s → In s (stops_of_train d (routes_of d) (of_plan (routes_of d) plan) t)) → is_some (option_and_then (pass_tick d (routes_of d) (of_plan (routes_of d) plan) k t) o) ≡ true
+      go : (o : Option PathNode) → is_none o ≡ false → ((s : PathNode) → o ≡ Some s → In s (path_nodes_of_train d (routes_of d) (of_plan (routes_of d) plan) t)) → is_some (option_and_then (pass_tick d (routes_of d) (of_plan (routes_of d) plan) k t) o) ≡ true
       go None e on = absurd (true≢false e)
-      go (Some s) e on = least_some (has_passed d (routes_of d) (of_plan (routes_of d) plan) t s) k low (stop_passed t k s h late (on s refl))
+      go (Some s) e on = least_some (has_passed d (routes_of d) (of_plan (routes_of d) plan) t s) k low (path_node_passed t k s h late (on s refl))
 
   train_in : (t : TrainNo) → In t (trains d) → IsTrain d t
   train_in t m = go (in_map_back (λ (i : ℕ). let u : TrainNo = record { 0 = i } in u) (one_to (length d.trains)) t m)
@@ -155,8 +155,8 @@ module _ (d : Station) (adm : IsAdmitted d) (n : ℕ) (plan : List (List Command
       path_at : (t : TrainNo) → ((j : ℕ) × In j (visit_numbers d t) × (violation.Path t j ≡ v)) → ⊥
       path_at t (j, i, e) = subst IsForTime (sym e) time
 
-      path_way : ((t : TrainNo) × In t (trains d) × In v (map (violation.Path t) (visit_numbers d t))) → ⊥
-      path_way (t, m, i) = path_at t (in_map_back (violation.Path t) (visit_numbers d t) v i)
+      path_fails : ((t : TrainNo) × In t (trains d) × In v (map (violation.Path t) (visit_numbers d t))) → ⊥
+      path_fails (t, m, i) = path_at t (in_map_back (violation.Path t) (visit_numbers d t) v i)
 
       no_time : last_grant d (routes_of d) plan ≤ horizon d → path_violation d (routes_of d) plan ≡ None → (k : ℕ) (w : Violation) → In w (ways_to_fail d (routes_of d) plan) → IsForTime w → is_certain d (routes_of d) plan k w ≡ true → ⊥
       no_time late none k = each_way d (routes_of d) plan adm (λ w. IsForTime w → is_certain d (routes_of d) plan k w ≡ true → ⊥) (λ w m f c. f) (λ o m f c. f)
@@ -174,7 +174,7 @@ module _ (d : Station) (adm : IsAdmitted d) (n : ℕ) (plan : List (List Command
 
       at : last_grant d (routes_of d) plan ≤ horizon d → (o : Option Violation) → path_violation d (routes_of d) plan ≡ o → or_else o (violation_at d (routes_of d) plan (cost d (routes_of d) plan)) ≡ Some v → ⊥
       at late None e k = no_time late e (cost d (routes_of d) plan) v (found_in (is_certain d (routes_of d) plan (cost d (routes_of d) plan)) (ways_to_fail d (routes_of d) plan) v k) time (found_passes (is_certain d (routes_of d) plan (cost d (routes_of d) plan)) (ways_to_fail d (routes_of d) plan) v k)
-      at late (Some w) e k = path_way (in_flat_map_back (λ t. map (violation.Path t) (visit_numbers d t)) (trains d) v (found_in (is_certain d (routes_of d) plan 1) (path_failures d (routes_of d) plan) v (e ∙ k)))
+      at late (Some w) e k = path_fails (in_flat_map_back (λ t. map (violation.Path t) (visit_numbers d t)) (trains d) v (found_in (is_certain d (routes_of d) plan 1) (path_failures d (routes_of d) plan) v (e ∙ k)))
 
       go : (b : Bool) → nat_le (last_grant d (routes_of d) plan) (horizon d) ≡ b → horizon d < last_grant d (routes_of d) plan
       go false e = leb-false _ _ e

@@ -5,7 +5,7 @@ use Rattle.rail_base.specs.declared.station.TrainNo.{TrainNo}
 use Rattle.rail_base.specs.declared.route.Route.{Route}
 use Rattle.rail_base.specs.declared.plan.Command.{Command}
 use Rattle.rail_base.specs.Numbering.{entry, least, or_this}
-use Rattle.rail_base.specs.declared.state.Stop.{Stop}
+use Rattle.rail_base.specs.declared.state.PathNode.{PathNode}
 use Rattle.rail_spec.specs.Dispatches.{of_plan}
 use Rattle.rail_spec.specs.Visits.{has_passed, pass_tick, visits_of_train, visit_tick}
 use Rattle.rail_base.specs.declared.plan.Violation.TheVariants as violation
@@ -61,21 +61,21 @@ module _ (d : Station) (routes : List Route) (plan : List (List Command)) where
   pub visit_stays : (k m : ℕ) (t : TrainNo) (j a : ℕ) → visit_tick d routes (of_plan routes plan) k t j ≡ Some a → visit_tick d routes (of_plan routes plan) (k + m) t j ≡ Some a
   visit_stays k m t j a e = go (entry None (visits_of_train d routes (of_plan routes plan) t) j) e
     where
-      go : (p : Option Stop) → option_and_then (pass_tick d routes (of_plan routes plan) k t) p ≡ Some a → option_and_then (pass_tick d routes (of_plan routes plan) (k + m) t) p ≡ Some a
+      go : (p : Option PathNode) → option_and_then (pass_tick d routes (of_plan routes plan) k t) p ≡ Some a → option_and_then (pass_tick d routes (of_plan routes plan) (k + m) t) p ≡ Some a
       go None h = cc
       go (Some p) h = least_stays (has_passed d routes (of_plan routes plan) t p) k m a h
 
   pub visit_within : (k : ℕ) (t : TrainNo) (j a : ℕ) → visit_tick d routes (of_plan routes plan) k t j ≡ Some a → (1 ≤ a) × (a ≤ k)
   visit_within k t j a e = go (entry None (visits_of_train d routes (of_plan routes plan) t) j) e
     where
-      go : (p : Option Stop) → option_and_then (pass_tick d routes (of_plan routes plan) k t) p ≡ Some a → (1 ≤ a) × (a ≤ k)
+      go : (p : Option PathNode) → option_and_then (pass_tick d routes (of_plan routes plan) k t) p ≡ Some a → (1 ≤ a) × (a ≤ k)
       go None h = cc
       go (Some p) h = let l = least_gives (has_passed d routes (of_plan routes plan) t p) k a h in (l.first, l.last)
 
   pub visit_at : (k : ℕ) (t : TrainNo) (j a : ℕ) → visit_tick d routes (of_plan routes plan) k t j ≡ Some a → visit_tick d routes (of_plan routes plan) a t j ≡ Some a
   visit_at k t j a e = go (entry None (visits_of_train d routes (of_plan routes plan) t) j) e
     where
-      go : (p : Option Stop) → option_and_then (pass_tick d routes (of_plan routes plan) k t) p ≡ Some a → option_and_then (pass_tick d routes (of_plan routes plan) a t) p ≡ Some a
+      go : (p : Option PathNode) → option_and_then (pass_tick d routes (of_plan routes plan) k t) p ≡ Some a → option_and_then (pass_tick d routes (of_plan routes plan) a t) p ≡ Some a
       go None h = cc
       go (Some p) h = least_at (has_passed d routes (of_plan routes plan) t p) k a h
 

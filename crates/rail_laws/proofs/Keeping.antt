@@ -7,7 +7,7 @@ use Rattle.rail_base.specs.declared.plan.Command.{Command}
 use Rattle.rail_base.specs.declared.state.TrainState.{TrainState}
 use Rattle.rail_spec.specs.Track.{routes_of}
 use Rattle.rail_spec.specs.Plans.{path_routes, is_well_formed}
-use Rattle.rail_spec.specs.Motion.{Rates, Stretch, KeepsLimits, keeps_limits, may_stop, can_brake, permitted, next_speed}
+use Rattle.rail_spec.specs.Motion.{MotorSeen, SpanSeen, KeepsLimits, keeps_limits, may_stop, can_brake, permitted, next_speed}
 use Rattle.rail_spec.specs.Dispatches.{state_of, rates, binding_length, stretches, authority, of_plan, granted_after, moved}
 use Rattle.rail_spec.specs.Dispatches.{state_at}
 use Rattle.rail_base.specs.Admitted.{IsAdmitted}
@@ -19,7 +19,7 @@ use Rattle.rail_laws.proofs.UnderWay.{Travels, still, next_grants, travels, with
 use Rattle.rail_laws.proofs.Admits.{sound}
 
 -- a permitted move keeps the limits
-move_keeps : (m : Rates) (ss : List Stretch) (end : Option ℕ) (x v u : ℕ) → permitted m ss end x v u ≡ true → KeepsLimits m.top ss (x - m.tail) (x + u) u
+move_keeps : (m : MotorSeen) (ss : List SpanSeen) (end : Option ℕ) (x v u : ℕ) → permitted m ss end x v u ≡ true → KeepsLimits m.top ss (x - m.tail) (x + u) u
 move_keeps m ss end x v u h =
     let r = permitted_reach m ss end x v u h in
     can_brake_keeps u m.brake m.tail m.top ss end x u (omega arith) (permitted_brakes m ss end x v u h)

@@ -1,8 +1,8 @@
 pub mod Stations
 pub mod Counting
-pub mod Closing
+pub mod Walk
 pub mod RouteLaws
-pub mod BadClosing
+pub mod BadWalk
 pub mod Told
 pub mod Exclusion
 pub mod UnderWay

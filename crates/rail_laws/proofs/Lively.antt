@@ -18,7 +18,7 @@ use Rattle.rail_base.specs.Admitted.{IsAdmitted}
 use Rattle.rail_spec.specs.Feasible.{IsRunnable}
 use Rattle.rail_laws.specs.Progress.{last_grant}
 use Rattle.rail_base.proofs.Members.{and_left, and_right}
-use Rattle.rail_laws.proofs.RouteLaws.{way_edges, route_is}
+use Rattle.rail_laws.proofs.RouteLaws.{walk_edges, route_is}
 use Rattle.rail_laws.proofs.Standing.{in_path}
 use Rattle.rail_laws.proofs.Sums.{get_below, get_in, one_place}
 use Rattle.rail_laws.proofs.Given.{command_in_path}
@@ -30,7 +30,7 @@ module _ (d : Station) (adm : IsAdmitted d) where
   limits r = entry_is (λ (q : Route). (e : EdgeNo) → In e q.edges → 1 ≤ per_tick_speed d (edge_of d e).speed_mm_s) no_route (routes_of d) r.0 (λ e m. absurd m) each
     where
       each : (q : Route) → In q (routes_of d) → (e : EdgeNo) → In e q.edges → 1 ≤ per_tick_speed d (edge_of d e).speed_mm_s
-      each q k e m = let l = (route_is d adm q k).elementary in (adm.edge e (way_edges d l.end q.edges l.way e m)).moves
+      each q k e m = let l = (route_is d adm q k).elementary in (adm.edge e (walk_edges d l.end q.edges l.walk e m)).moves
 
   module _ (n : ℕ) (plan : List (List Command)) (able : IsRunnable d (routes_of d) n plan) where
     pub lively : IsLively d (routes_of d) plan

@@ -16,7 +16,7 @@ use Rattle.rail_base.specs.Members.{In, Differ}
 use Rattle.rail_base.specs.Stations.{edge_of, trains, train_length, per_tick_speed, IsTrain}
 use Rattle.rail_spec.specs.Track.{edge_ends}
 use Rattle.rail_spec.specs.Plans.{route_at, length_mm, share, shared, release_offset, exits, is_train, is_route, commands, routes_given, path, path_routes, step_of, precedes, preceding, one_each, given_between, can_clear, may_stand, is_executable}
-use Rattle.rail_spec.specs.Motion.{Stretch}
+use Rattle.rail_spec.specs.Motion.{SpanSeen}
 use Rattle.rail_spec.specs.Dispatches.{state_of, rates, stretch, stretches, authority, of_plan, routes_before}
 use Rattle.rail_spec.specs.Dispatches.{is_granted, has_released, has_cleared, is_ready, granted_with, granted_after}
 use Rattle.rail_spec.specs.Dispatches.{speed_with, moved, state_at}
@@ -189,7 +189,7 @@ module _ (d : Station) (routes : List Route) (plan : List (List Command)) where
       pub number : ℕ
       pub there : slice_get (path plan c.train) number ≡ Some c.route
       pub before : length (routes_before d routes (of_plan routes plan) c) ≡ number
-      pub way_before : sum_by length_mm (routes_before d routes (of_plan routes plan) c) ≡ sum_by length_mm (take number (rs_of c.train))
+      pub length_before : sum_by length_mm (routes_before d routes (of_plan routes plan) c) ≡ sum_by length_mm (take number (rs_of c.train))
 
     pub place : (c : Command) → In c (commands plan) → Place c
     place c m = go (in_get (path plan c.train) c.route (command_in_path plan c m))
@@ -202,7 +202,7 @@ module _ (d : Station) (routes : List Route) (plan : List (List Command)) where
               number = i;
               there = e;
               before = length-map (route_at routes) (before_first (λ r. is_route r c.route) (path plan c.train)) ∙ ap length first ∙ (let l = length-take i (path plan c.train) in omega arith);
-              way_before = ap (λ ps. sum_by length_mm (map (route_at routes) ps)) first ∙ ap (sum_by length_mm) (sym (take_map (route_at routes) i (path plan c.train)));
+              length_before = ap (λ ps. sum_by length_mm (map (route_at routes) ps)) first ∙ ap (sum_by length_mm) (sym (take_map (route_at routes) i (path plan c.train)));
             }
 
     pub granted_from : (s : List TrainState) (c : Command) (p : Place c) → is_granted d routes (of_plan routes plan) s c ≡ true → p.number < (state_of s c.train).granted
@@ -385,8 +385,8 @@ module _ (d : Station) (routes : List Route) (plan : List (List Command)) where
       given_is : given_between plan e w.command ≡ filter from_to (filter own (commands plan))
       given_is = filter-after own from_to (commands plan) (λ g t. and_left (is_train g.train e.train) (nat_le (step_of plan e) (step_of plan g)) (and_left _ (nat_lt (step_of plan g) (step_of plan w.command)) t))
 
-      way_of : (g : ℕ) → sum_by length_mm (take g (rs_of e.train)) ≡ sum_by long (take g (filter own (commands plan)))
-      way_of g =
+      length_of_taken : (g : ℕ) → sum_by length_mm (take g (rs_of e.train)) ≡ sum_by long (take g (filter own (commands plan)))
+      length_of_taken g =
           ap (λ ps. sum_by length_mm (take g (map (route_at routes) ps))) (path_is e.train plan)
           ∙ ap (sum_by length_mm) (take_map (route_at routes) g (map (λ (c : Command). c.route) (filter own (commands plan))) ∙ ap (map (route_at routes)) (take_map (λ (c : Command). c.route) g (filter own (commands plan))))
           ∙ sum_by-map length_mm (route_at routes) (map (λ (c : Command). c.route) (take g (filter own (commands plan))))
@@ -399,8 +399,8 @@ module _ (d : Station) (routes : List Route) (plan : List (List Command)) where
       given_length : sum_by length_mm (map (λ (g : Command). route_at routes g.route) (given_between plan e w.command)) + sum_by length_mm (take (place e m).number (rs_of e.train)) ≤ sum_by length_mm (take (state_of s e.train).granted (rs_of e.train))
       given_length =
           let a : sum_by length_mm (map (λ (g : Command). route_at routes g.route) (given_between plan e w.command)) ≡ sum_by long (filter from_to (filter own (commands plan))) = sum_by-map length_mm (λ (g : Command). route_at routes g.route) (given_between plan e w.command) ∙ ap (sum_by long) given_is in
-          let b = way_of (place e m).number in
-          let c = way_of (state_of s e.train).granted in
+          let b = length_of_taken (place e m).number in
+          let c = length_of_taken (state_of s e.train).granted in
           let l = e_granted in
           let k = between long from_to (filter own (commands plan)) (place e m).number (state_of s e.train).granted (omega arith) placed in
           omega arith
@@ -431,7 +431,7 @@ module _ (d : Station) (routes : List Route) (plan : List (List Command)) where
           x = (state_of s e.train).x
 
           tail : (state_of s e.train).x < sum_by length_mm (take (place e m).number (rs_of e.train)) + release_offset (route_at routes e.route) z + train_length d e.train
-          tail = let k = leb-false _ _ (and_second_false _ _ (w.before e m sooner) un) in let b = (place e m).way_before in omega arith
+          tail = let k = leb-false _ _ (and_second_false _ _ (w.before e m sooner) un) in let b = (place e m).length_before in omega arith
 
           by_length : nat_le (release_offset (route_at routes e.route) z + train_length d e.train) (sum_by length_mm (map (λ (g : Command). route_at routes g.route) (given_between plan e w.command))) ≡ true → (state_of s e.train).x < sum_by length_mm (take (state_of s e.train).granted (rs_of e.train))
           by_length h = let l = leb-true _ _ h in let g = given_length in let t = tail in omega arith
@@ -458,7 +458,7 @@ module _ (d : Station) (routes : List Route) (plan : List (List Command)) where
 
     -- ---- and moves
 
-    stretch_limit : (t : TrainNo) (g : ℕ) (s : Stretch) → In s (stretches d (take g (rs_of t))) → 1 ≤ s.limit
+    stretch_limit : (t : TrainNo) (g : ℕ) (s : SpanSeen) → In s (stretches d (take g (rs_of t))) → 1 ≤ s.limit
     stretch_limit t g s m = go (in_map_back (stretch d) (edge_ends d 0 (flat_map (λ r. r.edges) (take g (rs_of t)))) s m)
       where
         at_edge : (e : EdgeNo × ℕ) → ((r : Route) × In r (take g (rs_of t)) × In e.0 r.edges) → 1 ≤ per_tick_speed d (edge_of d e.0).speed_mm_s
@@ -468,7 +468,7 @@ module _ (d : Station) (routes : List Route) (plan : List (List Command)) where
             at_route r i (p, l, same) = lively.limits p e.0 (subst (λ (q : Route). In e.0 q.edges) (sym same) i)
 
         go : ((e : EdgeNo × ℕ) × In e (edge_ends d 0 (flat_map (λ r. r.edges) (take g (rs_of t)))) × (stretch d e ≡ s)) → 1 ≤ s.limit
-        go (e, k, same) = subst (λ (z : Stretch). 1 ≤ z.limit) same (at_edge e (in_flat_map_back (λ (r : Route). r.edges) (take g (rs_of t)) e.0 (edge_of_end d 0 (flat_map (λ r. r.edges) (take g (rs_of t))) e.0 e.1 k)))
+        go (e, k, same) = subst (λ (z : SpanSeen). 1 ≤ z.limit) same (at_edge e (in_flat_map_back (λ (r : Route). r.edges) (take g (rs_of t)) e.0 (edge_of_end d 0 (flat_map (λ r. r.edges) (take g (rs_of t))) e.0 e.1 k)))
 
     moves_one : (k : ℕ) (t : TrainNo) → IsTrain d t → 1 ≤ (now k t).granted → (list_any exits (take (now k t).granted (rs_of t)) ≡ true) ⊎ ((now k t).x < sum_by length_mm (take (now k t).granted (rs_of t))) → (now k t).x + 1 ≤ (now (suc k) t).x
     moves_one k t h some track =

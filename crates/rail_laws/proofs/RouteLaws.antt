@@ -14,12 +14,12 @@ use Rattle.rail_base.specs.declared.route.Finish.{Finish}
 use Rattle.rail_base.specs.Numbering.{one_to}
 use Rattle.rail_base.specs.Members.{In, Pairs, Differ}
 use Rattle.rail_base.specs.Stations.{through, edge_of, node_of, signal_of, leave, far_end, IsEdge, IsNode}
-use Rattle.rail_spec.specs.Track.{signals_at, is_empty, starts_at, starts, start_end, Closing, Whole, Again, closings, closings_from, route_of, route_from, routes_of}
-use Rattle.rail_laws.specs.Elementary.{IsAt, Governs, IsStart, LeavesBy, IsWay, reached, EndsFirst, IsElementary, IsRouteOf, start_node, StartsBefore, RouteBefore}
+use Rattle.rail_spec.specs.Track.{signals_at, is_empty, starts_at, starts, start_end, Walk, Whole, RepeatsEdge, walks, walks_from, route_of, route_from, routes_of}
+use Rattle.rail_laws.specs.Elementary.{IsAt, Governs, IsStart, LeavesBy, IsWalk, reached, EndsFirst, IsElementary, IsRouteOf, start_node, StartsBefore, RouteBefore}
 use Rattle.rail_base.specs.Admitted.{IsAdmitted, ends_a, ends_b}
 use Rattle.rail_base.proofs.Lists.{in_append, in_append_left, in_append_right, in_map, in_map_back, in_flat_map, in_flat_map_back, in_count, in_count_back, pairs_append, pairs_flat_map, pairs_map, pairs_count, pairs_more}
 use Rattle.rail_laws.proofs.Counting.{at_most}
-use Rattle.rail_laws.proofs.Closing.{leave_from_at, governs_from, signals_from, signals_rise, Found, found, listed, ClosesBefore, closings_rise, is_empty_some, length_empty, length_some, before_not_self}
+use Rattle.rail_laws.proofs.Walk.{leave_from_at, governs_from, signals_from, signals_rise, Found, found, listed, ClosesBefore, walks_rise, is_empty_some, length_empty, length_some, before_not_self}
 
 module _ (d : Station) where
   abbrev starts_of : ℕ → List Start
@@ -125,28 +125,28 @@ module _ (d : Station) where
 
   -- ---- how many edges
 
-  pub way_edges : (end : End) (es : List EdgeNo) → IsWay d end es → (e : EdgeNo) → In e es → IsEdge d e
-  way_edges end [] w e m = absurd m
-  way_edges end (g ∷ gs) w e (inl s) = subst (IsEdge d) s w.0.0
-  way_edges end (g ∷ gs) w e (inr m) = way_edges (through (far_end (edge_of d g) end)) gs w.1 e m
+  pub walk_edges : (end : End) (es : List EdgeNo) → IsWalk d end es → (e : EdgeNo) → In e es → IsEdge d e
+  walk_edges end [] w e m = absurd m
+  walk_edges end (g ∷ gs) w e (inl s) = subst (IsEdge d) s w.0.0
+  walk_edges end (g ∷ gs) w e (inr m) = walk_edges (through (far_end (edge_of d g) end)) gs w.1 e m
 
   pub few_edges : (es : List EdgeNo) → Differ es → ((e : EdgeNo) → In e es → IsEdge d e) → length es ≤ length d.edges
   few_edges es dif good = at_most (λ (e : EdgeNo). e.0) (λ x y s. ap (λ n. record { 0 = n }) s) (length d.edges) es dif good
 
   -- ---- routes are elementary
 
-  elementary : IsAdmitted d → (s : Start) (p : List EdgeNo) (f : Finish) → In (Whole p f) (closings_from d s) → IsElementary d s p f
+  elementary : IsAdmitted d → (s : Start) (p : List EdgeNo) (f : Finish) → In (Whole p f) (walks_from d s) → IsElementary d s p f
   elementary adm s p f m = go (found d adm (length d.edges + 1) [] (start_end d s) p f tt m)
     where
       go : Found d [] (start_end d s) p f → IsElementary d s p f
-      go w = record { end = start_end d s; leaves = start_leaves s; way = subst (IsWay d (start_end d s)) w.is w.way; once = w.once; ends = subst (λ es. EndsFirst d (reached d (start_end d s) es) f) w.is w.ends }
+      go w = record { end = start_end d s; leaves = start_leaves s; walk = subst (IsWalk d (start_end d s)) w.is w.walk; once = w.once; ends = subst (λ es. EndsFirst d (reached d (start_end d s) es) f) w.is w.ends }
 
-  closes : IsAdmitted d → (s : Start) (p : List EdgeNo) (f : Finish) → IsStart d s → IsElementary d s p f → In (Whole p f) (closings_from d s)
+  closes : IsAdmitted d → (s : Start) (p : List EdgeNo) (f : Finish) → IsStart d s → IsElementary d s p f → In (Whole p f) (walks_from d s)
   closes adm s [] f h el = absurd el.ends
   closes adm s (e ∷ es) f h el =
-      let from : start_end d s ≡ el.end = start_end_is adm s el.end e h el.leaves el.way.0 in
-      subst (λ end. In (Whole (e ∷ es) f) (closings (length d.edges + 1) d [] end)) (sym from)
-      (listed d adm (length d.edges + 1) [] el.end (e ∷ es) f (let few = few_edges (e ∷ es) el.once (way_edges el.end (e ∷ es) el.way) in omega arith) el.way el.once el.ends)
+      let from : start_end d s ≡ el.end = start_end_is adm s el.end e h el.leaves el.walk.0 in
+      subst (λ end. In (Whole (e ∷ es) f) (walks (length d.edges + 1) d [] end)) (sym from)
+      (listed d adm (length d.edges + 1) [] el.end (e ∷ es) f (let few = few_edges (e ∷ es) el.once (walk_edges el.end (e ∷ es) el.walk) in omega arith) el.walk el.once el.ends)
 
   -- where a route stands in the search
   pub record Listed (r : Route) : Type 0 where
@@ -154,17 +154,17 @@ module _ (d : Station) where
     pub path : List EdgeNo
     pub finish : Finish
     pub starts_there : In start (starts d)
-    pub closed : In (Whole path finish) (closings_from d start)
+    pub closed : In (Whole path finish) (walks_from d start)
     pub is : route_of d start path finish ≡ r
 
   abbrev routes_from : Start → List Route
-  routes_from s = flat_map (route_from d s) (closings_from d s)
+  routes_from s = flat_map (route_from d s) (walks_from d s)
 
-  in_from : (s : Start) (r : Route) → In r (routes_from s) → (p : List EdgeNo) × (f : Finish) × In (Whole p f) (closings_from d s) × (route_of d s p f ≡ r)
-  in_from s r m = go (in_flat_map_back (route_from d s) (closings_from d s) r m)
+  in_from : (s : Start) (r : Route) → In r (routes_from s) → (p : List EdgeNo) × (f : Finish) × In (Whole p f) (walks_from d s) × (route_of d s p f ≡ r)
+  in_from s r m = go (in_flat_map_back (route_from d s) (walks_from d s) r m)
     where
-      go : ((c : Closing) × In c (closings_from d s) × In r (route_from d s c)) → (p : List EdgeNo) × (f : Finish) × In (Whole p f) (closings_from d s) × (route_of d s p f ≡ r)
-      go (Again e, k, i) = absurd i
+      go : ((c : Walk) × In c (walks_from d s) × In r (route_from d s c)) → (p : List EdgeNo) × (f : Finish) × In (Whole p f) (walks_from d s) × (route_of d s p f ≡ r)
+      go (RepeatsEdge e, k, i) = absurd i
       go (Whole p f, k, inr i) = absurd i
       go (Whole p f, k, inl e) = (p, f, k, e)
 
@@ -181,7 +181,7 @@ module _ (d : Station) where
   is_route adm r h =
       subst (λ q. In q (routes_of d)) h.told
       (in_flat_map routes_from (starts d) r.start (route_of d r.start r.edges r.finish) (starts_from adm r.start h.start)
-      (in_flat_map (route_from d r.start) (closings_from d r.start) (Whole r.edges r.finish) (route_of d r.start r.edges r.finish) (closes adm r.start r.edges r.finish h.start h.elementary) (inl refl)))
+      (in_flat_map (route_from d r.start) (walks_from d r.start) (Whole r.edges r.finish) (route_of d r.start r.edges r.finish) (closes adm r.start r.edges r.finish h.start h.elementary) (inl refl)))
 
   -- ---- in their order
 
@@ -195,15 +195,15 @@ module _ (d : Station) where
           subst (λ w. RouteBefore d w z) one.3 (subst (λ w. RouteBefore d (route_of d a one.0 one.1) w) two.3 (inl before))
 
       each : (s : Start) → In s (starts d) → Pairs (RouteBefore d) (routes_from s)
-      each s m = pairs_flat_map (ClosesBefore d) (RouteBefore d) (route_from d s) (closings_from d s) (closings_rise d (length d.edges + 1) [] (start_end d s)) (λ c k. one c) over
+      each s m = pairs_flat_map (ClosesBefore d) (RouteBefore d) (route_from d s) (walks_from d s) (walks_rise d (length d.edges + 1) [] (start_end d s)) (λ c k. one c) over
         where
-          one : (c : Closing) → Pairs (RouteBefore d) (route_from d s c)
-          one (Again e) = tt
+          one : (c : Walk) → Pairs (RouteBefore d) (route_from d s c)
+          one (RepeatsEdge e) = tt
           one (Whole p f) = (λ y k. absurd k, tt)
 
-          over : (a b : Closing) (y z : Route) → In a (closings_from d s) → In b (closings_from d s) → ClosesBefore d a b → In y (route_from d s a) → In z (route_from d s b) → RouteBefore d y z
-          over (Again e) b y z k l before i j = absurd i
-          over (Whole p f) (Again e) y z k l before i j = absurd j
+          over : (a b : Walk) (y z : Route) → In a (walks_from d s) → In b (walks_from d s) → ClosesBefore d a b → In y (route_from d s a) → In z (route_from d s b) → RouteBefore d y z
+          over (RepeatsEdge e) b y z k l before i j = absurd i
+          over (Whole p f) (RepeatsEdge e) y z k l before i j = absurd j
           over (Whole p f) (Whole q g) y z k l before (inr i) j = absurd i
           over (Whole p f) (Whole q g) y z k l before (inl i) (inr j) = absurd j
           over (Whole p f) (Whole q g) y z k l before (inl i) (inl j) = subst (λ w. RouteBefore d w z) i (subst (λ w. RouteBefore d (route_of d s p f) w) j (inr (refl, before)))

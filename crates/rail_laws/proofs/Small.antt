@@ -19,7 +19,7 @@ use Rattle.rail_base.specs.Admitted.{IsAdmitted}
 use Rattle.rail_spec.specs.Feasible.{is_of, IsWellFormed}
 use Rattle.rail_base.proofs.Members.{and_left, and_right, list_all_at}
 use Rattle.rail_base.proofs.Lists.{in_map_back, length-map}
-use Rattle.rail_laws.proofs.RouteLaws.{way_edges, few_edges, route_is}
+use Rattle.rail_laws.proofs.RouteLaws.{walk_edges, few_edges, route_is}
 use Rattle.rail_laws.proofs.Counting.{at_most}
 use Rattle.rail_laws.proofs.Told.{told}
 use Rattle.rail_laws.proofs.Exclusion.{by_tick, idle_at_first}
@@ -54,7 +54,7 @@ module _ (d : Station) (adm : IsAdmitted d) where
   pub short_route : (r : Route) → In r (routes_of d) → length_mm r ≤ 40000000000
   short_route r m =
       let e = (route_is d adm r m).elementary in
-      let edges = way_edges d e.end r.edges e.way in
+      let edges = walk_edges d e.end r.edges e.walk in
       let few = few_edges d r.edges e.once edges in
       let most = adm.many_edges in
       let sum = sum_at_most (length_of d) 10000000 r.edges (λ g k. (adm.edge g (edges g k)).length_mm.1) in

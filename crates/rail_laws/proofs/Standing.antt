@@ -23,8 +23,8 @@ use Rattle.rail_laws.proofs.UnderWay.{edge_ends-append, IsSound, within_authorit
 use Rattle.rail_spec.specs.Motion.{may_stop}
 
 -- the length of routes in a row
-abbrev pub way : List Route → List RouteNo → ℕ
-way routes ps = sum_by length_mm (map (route_at routes) ps)
+abbrev pub path_length : List Route → List RouteNo → ℕ
+path_length routes ps = sum_by length_mm (map (route_at routes) ps)
 
 -- ---- an edge of a path is one of a route of it
 
@@ -47,7 +47,7 @@ pub record OnRoute (d : Station) (routes : List Route) (o : ℕ) (ps : List Rout
   pub offset : ℕ
   pub stands_there : slice_get ps place ≡ Some route
   pub member : In (e.0, offset) (edge_ends d 0 (route_at routes route).edges)
-  pub ends : e.1 ≡ o + way routes (take place ps) + offset
+  pub ends : e.1 ≡ o + path_length routes (take place ps) + offset
 
 on_route : (d : Station) (routes : List Route) → ((r : RouteNo) → sum_by (length_of d) (route_at routes r).edges ≡ length_mm (route_at routes r)) → (o : ℕ) (ps : List RouteNo) (e : EdgeNo × ℕ)
     → In e (edge_ends d o (flat_map (λ r. r.edges) (map (route_at routes) ps))) → OnRoute d routes o ps e
@@ -99,14 +99,14 @@ ends_after d o [] e m = absurd m
 ends_after d o (f ∷ fs) e (inl s) = subst (λ (p : EdgeNo × ℕ). o + length_of d p.0 ≤ p.1) s (omega arith)
 ends_after d o (f ∷ fs) e (inr m) = let k = ends_after d (o + length_of d f) fs e m in omega arith
 
-pub way_take : (routes : List Route) (g p : ℕ) (ps : List RouteNo) → g ≤ p → sum_by length_mm (take g (map (route_at routes) ps)) ≤ way routes (take p ps)
-way_take routes zero p ps h = omega arith
-way_take routes (suc g) zero ps h = absurd (omega arith)
-way_take routes (suc g) (suc p) [] h = omega arith
-way_take routes (suc g) (suc p) (r ∷ ps) h =
+pub path_length_take : (routes : List Route) (g p : ℕ) (ps : List RouteNo) → g ≤ p → sum_by length_mm (take g (map (route_at routes) ps)) ≤ path_length routes (take p ps)
+path_length_take routes zero p ps h = omega arith
+path_length_take routes (suc g) zero ps h = absurd (omega arith)
+path_length_take routes (suc g) (suc p) [] h = omega arith
+path_length_take routes (suc g) (suc p) (r ∷ ps) h =
     let a = sum_by-cons length_mm (route_at routes r) (take g (map (route_at routes) ps)) in
     let b = sum_by-cons length_mm (route_at routes r) (map (route_at routes) (take p ps)) in
-    let k = way_take routes g p ps (omega arith) in
+    let k = path_length_take routes g p ps (omega arith) in
     omega arith
 
 and_not : (a b : Bool) → b ≡ false → (a && b) ≡ false
@@ -132,7 +132,7 @@ module _ (d : Station) (routes : List Route) (plan : List (List Command)) where
     pub once : (t : TrainNo) (i : ℕ) (r : RouteNo) → IsTrain d t → slice_get (path plan t) i ≡ Some r → before_first (λ q. is_route q r) (path plan t) ≡ take i (path plan t)
 
   -- a head past the routes before one has been granted it
-  far_granted : IsSound d routes plan → (k : ℕ) (t : TrainNo) (i : ℕ) → IsTrain d t → i < length (path plan t) → way routes (take i (path plan t)) < (state_of (state_at d routes (of_plan routes plan) k) t).x → i < (state_of (state_at d routes (of_plan routes plan) k) t).granted
+  far_granted : IsSound d routes plan → (k : ℕ) (t : TrainNo) (i : ℕ) → IsTrain d t → i < length (path plan t) → path_length routes (take i (path plan t)) < (state_of (state_at d routes (of_plan routes plan) k) t).x → i < (state_of (state_at d routes (of_plan routes plan) k) t).granted
   far_granted sound k t i named there far = go (below_or_not i (state_of (state_at d routes (of_plan routes plan) k) t).granted)
     where
       in_authority : (b : Bool) → list_any exits (given d routes plan t (state_of (state_at d routes (of_plan routes plan) k) t).granted) ≡ b → (state_of (state_at d routes (of_plan routes plan) k) t).granted ≤ i → 1 ≤ (state_of (state_at d routes (of_plan routes plan) k) t).granted → ⊥
@@ -142,7 +142,7 @@ module _ (d : Station) (routes : List Route) (plan : List (List Command)) where
       in_authority false e short some =
           let stop = subst (λ end. may_stop end (state_of (state_at d routes (of_plan routes plan) k) t).x ≡ true) (authority_some (given d routes plan t (state_of (state_at d routes (of_plan routes plan) k) t).granted) e) (within_authority d routes plan sound k t some) in
           let near = leb-true _ _ stop in
-          let w = way_take routes (state_of (state_at d routes (of_plan routes plan) k) t).granted i (path plan t) short in omega arith
+          let w = path_length_take routes (state_of (state_at d routes (of_plan routes plan) k) t).granted i (path plan t) short in omega arith
 
       waiting : (state_of (state_at d routes (of_plan routes plan) k) t).granted ≤ i → ((state_of (state_at d routes (of_plan routes plan) k) t).granted ≡ 0) ⊎ (1 ≤ (state_of (state_at d routes (of_plan routes plan) k) t).granted) → ⊥
       waiting short (inl none) = let w = (travels d routes plan sound k t).waits none in let x0 = w.0 in omega arith
@@ -177,7 +177,7 @@ module _ (d : Station) (routes : List Route) (plan : List (List Command)) where
               let released_after : f.offset ≤ release_offset (route_at routes f.route) z = subst (λ y. f.offset ≤ release_offset (route_at routes f.route) y) same (has.released_after f.route (e.0, f.offset) f.member) in
               let is_far : f.place < s.granted = far_granted sound k t f.place named found.1 (let n = f.ends in omega arith) in
               let granted : is_granted d routes (of_plan routes plan) (state_at d routes (of_plan routes plan) k) command ≡ true = le-leb _ _ (let l = length-map (route_at routes) (before_first (λ q. is_route q f.route) (path plan t)) in let n = ap length before in let m = length-take f.place (path plan t) in omega arith) in
-              let unreleased : has_released d routes (of_plan routes plan) (state_at d routes (of_plan routes plan) k) command z ≡ false = and_not _ _ (not_le _ s.x (let w = ap (way routes) before in let r = released_after in let n = f.ends in omega arith)) in
+              let unreleased : has_released d routes (of_plan routes plan) (state_at d routes (of_plan routes plan) k) command z ≡ false = and_not _ _ (not_le _ s.x (let w = ap (path_length routes) before in let r = released_after in let n = f.ends in omega arith)) in
               list_any_from _ (commands plan) command (in_path t plan f.route found.0)
               (and_both _ _ (and_both _ _ (and_both _ _ (eq-eqb t.0 t.0 refl) on_section) granted) (ap not unreleased))
 

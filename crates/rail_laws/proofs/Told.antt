@@ -12,11 +12,11 @@ use Rattle.rail_base.specs.declared.route.Finish.{Finish}
 use Rattle.rail_base.specs.Members.{In, Pairs, Differ}
 use Rattle.rail_base.specs.Stations.{through, edge_of, far_end, length_of, section_of}
 use Rattle.rail_spec.specs.Track.{start_end, edge_ends, nodes_along, with_offsets, first_occurrences, last_end, route_of, routes_of}
-use Rattle.rail_laws.specs.Elementary.{IsStart, LeavesBy, IsWay, reached, EndsFirst, IsElementary, EndsLast, IsTold}
+use Rattle.rail_laws.specs.Elementary.{IsStart, LeavesBy, IsWalk, reached, EndsFirst, IsElementary, EndsLast, IsTold}
 use Rattle.rail_base.specs.Admitted.{IsAdmitted}
 use Rattle.rail_base.proofs.Members.{in_filter}
 use Rattle.rail_base.proofs.Lists.{in_filter_back, in_map, in_map_back, pairs_filter, pairs_map}
-use Rattle.rail_laws.proofs.RouteLaws.{way_edges, start_end_is, route_is}
+use Rattle.rail_laws.proofs.RouteLaws.{walk_edges, start_end_is, route_is}
 
 -- ---- the greatest of some numbers
 
@@ -167,7 +167,7 @@ module _ (d : Station) where
   some_long [] end f h long = absurd h
   some_long (e ∷ es) end f h long = let l = long e (inl refl) in let w = sum_by-cons (length_of d) e es in omega arith
 
-  start_is : IsAdmitted d → (s : Start) (p : List EdgeNo) (f : Finish) (at end : End) → IsStart d s → EndsFirst d (reached d at p) f → LeavesBy d s end → IsWay d end p → start_end d s ≡ end
+  start_is : IsAdmitted d → (s : Start) (p : List EdgeNo) (f : Finish) (at end : End) → IsStart d s → EndsFirst d (reached d at p) f → LeavesBy d s end → IsWalk d end p → start_end d s ≡ end
   start_is adm s [] f at end h ends l w = absurd ends
   start_is adm s (e ∷ es) f at end h ends l w = start_end_is d adm s end e h l w.0
 
@@ -182,20 +182,20 @@ module _ (d : Station) where
     nodes_at = ap (λ ns. pos 0 ∷ ns) (offsets_of 0 (start_end d s) p);
     rising = ends_rise 0 p long;
     sections_are = firsts_of firsts;
-    whole = whole_way p el.ends;
+    whole = whole_walk p el.ends;
     inside = λ e n m. let k = ends_in 0 p e n long m in (k.0, let b = k.1 in omega arith);
   }
     where
       long : (g : EdgeNo) → In g p → 1 ≤ length_of d g
-      long g m = (adm.edge g (way_edges d el.end p el.way g m)).length_mm.0
+      long g m = (adm.edge g (walk_edges d el.end p el.walk g m)).length_mm.0
 
       firsts_of : (zs : List SectionNo) → map (λ (z : SectionNo × ℤ). z.0) (map (with_end p) zs) ≡ zs
       firsts_of [] = refl
       firsts_of (z ∷ zs) = ap (λ ys. z ∷ ys) (firsts_of zs)
 
-      whole_way : (es : List EdgeNo) → EndsFirst d (reached d el.end es) f → (e : EdgeNo) × In (e, sum_by (length_of d) es) (edge_ends d 0 es)
-      whole_way [] h = absurd h
-      whole_way (e ∷ es) h = let l = ends_whole 0 e es in let same : 0 + sum_by (length_of d) (e ∷ es) ≡ sum_by (length_of d) (e ∷ es) = omega arith in (l.0, subst (λ n. In (l.0, n) (edge_ends d 0 (e ∷ es))) same l.1)
+      whole_walk : (es : List EdgeNo) → EndsFirst d (reached d el.end es) f → (e : EdgeNo) × In (e, sum_by (length_of d) es) (edge_ends d 0 es)
+      whole_walk [] h = absurd h
+      whole_walk (e ∷ es) h = let l = ends_whole 0 e es in let same : 0 + sum_by (length_of d) (e ∷ es) ≡ sum_by (length_of d) (e ∷ es) = omega arith in (l.0, subst (λ n. In (l.0, n) (edge_ends d 0 (e ∷ es))) same l.1)
 
       firsts : List SectionNo
       firsts = first_occurrences (map (section_of d) p)

@@ -14,7 +14,7 @@ use Rattle.rail_base.specs.declared.state.TrainState.{TrainState}
 use Rattle.rail_spec.specs.Track.{edge_ends}
 use Rattle.rail_base.specs.Stations.{length_of, IsTrain}
 use Rattle.rail_spec.specs.Plans.{path, path_routes, length_mm, exits}
-use Rattle.rail_spec.specs.Motion.{Stretch, permitted, next_speed, may_stop, reach}
+use Rattle.rail_spec.specs.Motion.{SpanSeen, permitted, next_speed, may_stop, reach}
 use Rattle.rail_spec.specs.Dispatches.{state_of, rates, stretch, stretches, authority, of_plan, is_ready}
 use Rattle.rail_spec.specs.Dispatches.{granted_with, granted_after, moved, state_at}
 use Rattle.rail_laws.proofs.MotionLaws.{farthest, IsFarther, permitted_further, permitted_after, next_speed_permitted, permitted_stop}
@@ -29,7 +29,7 @@ edge_ends-append d o (e ∷ es) fs =
     ap (λ zs. (e, o + length_of d e) ∷ zs) (edge_ends-append d (o + length_of d e) es fs ∙ ap (λ n. edge_ends d (o + length_of d e) es ++ edge_ends d n fs) (let s = sum_by-cons (length_of d) e es in omega arith))
 
 -- longer routes have the stretches of the shorter ones first
-abbrev further : Station → List Route → List Route → List Stretch
+abbrev further : Station → List Route → List Route → List SpanSeen
 further d rs more = map (stretch d) (edge_ends d (0 + sum_by (length_of d) (flat_map (λ r. r.edges) rs)) (flat_map (λ r. r.edges) more))
 
 stretches-append : (d : Station) (rs more : List Route) → stretches d (rs ++ more) ≡ stretches d rs ++ further d rs more

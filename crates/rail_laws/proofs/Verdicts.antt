@@ -15,7 +15,7 @@ use Rattle.rail_base.specs.Numbering.{entry, one_to, least, or_this}
 use Rattle.rail_base.specs.Stations.{train_of, trains, horizon, order_of, within_of, IsTrain, HasVisit}
 use Rattle.rail_spec.specs.Dispatches.{state_of, of_plan, state_at}
 use Rattle.rail_spec.specs.Visits.{pass_tick, visits_of_train, visit_tick}
-use Rattle.rail_base.specs.declared.state.Stop.{Stop}
+use Rattle.rail_base.specs.declared.state.PathNode.{PathNode}
 use Rattle.rail_spec.specs.Requirements.{both, visit_numbers, most_ticks, is_after, command_numbers, granted_by, visited_by, is_done, keeps_order, keeps_within, meets, is_certain, ways_to_fail, path_failures, violation_at, path_violation, is_decided, cost}
 use Rattle.rail_base.specs.Admitted.{IsAdmitted}
 use Rattle.rail_spec.specs.Verdict.{or_else, failure, IsVerdict}
@@ -299,7 +299,7 @@ module _ (d : Station) (routes : List Route) (plan : List (List Command)) (adm :
     paths_good : path_violation d routes plan ≡ None
     paths_good = find_none (is_certain d routes plan 1) (path_failures d routes plan) (λ v m. at v (in_flat_map_back (λ t. map (violation.Path t) (visit_numbers d t)) (trains d) v m))
       where
-        some_entry : (o : Option Stop) (t : TrainNo) → is_some (option_and_then (pass_tick d routes (of_plan routes plan) (horizon d) t) o) ≡ true → is_none o ≡ false
+        some_entry : (o : Option PathNode) (t : TrainNo) → is_some (option_and_then (pass_tick d routes (of_plan routes plan) (horizon d) t) o) ≡ true → is_none o ≡ false
         some_entry None t h = cc
         some_entry (Some p) t h = refl
 

@@ -44,15 +44,15 @@ LeavesBy d (start.Signal s) end = ((signal_of d s).node ≡ end.node) × ((signa
 abbrev pub EndsAt : Station → End → Finish → Type 0
 EndsAt d end (finish.Exit n) = (n ≡ end.node) × ((node_of d end.node).boundary ≡ true)
 EndsAt d end (finish.Signal s) = Governs d s (through end) × ((node_of d end.node).boundary ≡ false)
-EndsAt d end (finish.Dead n) = (n ≡ end.node) × ((node_of d end.node).boundary ≡ false)
+EndsAt d end (finish.DeadEnd n) = (n ≡ end.node) × ((node_of d end.node).boundary ≡ false)
     × ((s : SignalNo) → Governs d s (through end) → ⊥) × ((e : EdgeNo) → IsAt d e (through end) → ⊥)
 
--- ---- ways
+-- ---- walks
 
 -- the first edge is at this end, and each further one at the other side of the node that is reached
-abbrev pub IsWay : Station → End → List EdgeNo → Type 0
-IsWay d end [] = Unit {0}
-IsWay d end (e ∷ es) = IsAt d e end × IsWay d (through (far_end (edge_of d e) end)) es
+abbrev pub IsWalk : Station → End → List EdgeNo → Type 0
+IsWalk d end [] = Unit {0}
+IsWalk d end (e ∷ es) = IsAt d e end × IsWalk d (through (far_end (edge_of d e) end)) es
 
 -- the ends by which it reaches nodes
 abbrev pub reached : Station → End → List EdgeNo → List End
@@ -69,7 +69,7 @@ EndsFirst d (end ∷ next ∷ ends) f = ((g : Finish) → EndsAt d end g → ⊥
 pub record IsElementary (d : Station) (s : Start) (edges : List EdgeNo) (f : Finish) : Type 0 where
   pub end : End
   pub leaves : LeavesBy d s end
-  pub way : IsWay d end edges
+  pub walk : IsWalk d end edges
   pub once : Differ edges
   pub ends : EndsFirst d (reached d end edges) f
 
@@ -83,7 +83,7 @@ pub record IsRouteOf (d : Station) (r : Route) : Type 0 where
 pub record ClosesBadly (d : Station) (s : Start) (edges : List EdgeNo) (e : EdgeNo) : Type 0 where
   pub end : End
   pub leaves : LeavesBy d s end
-  pub way : IsWay d end (edges ++ e ∷ [])
+  pub walk : IsWalk d end (edges ++ e ∷ [])
   pub once : Differ edges
   pub open_so_far : (there : End) → In there (reached d end edges) → (f : Finish) → EndsAt d there f → ⊥
   pub again : In e edges
@@ -135,7 +135,7 @@ pub record IsTold (d : Station) (r : Route) : Type 0 where
       → (n : ℕ) × (o ≡ pos n) × EndsLast d r.edges z n × (1 ≤ n) × (n ≤ sum_by (length_of d) r.edges)
   pub sections_are : map (λ z. z.0) r.sections ≡ first_occurrences (map (section_of d) r.edges)
   -- its nodes are the start's at 0 and that at the end of each edge, ever farther
-  pub nodes_are : (end : End) → LeavesBy d r.start end → IsWay d end r.edges
+  pub nodes_are : (end : End) → LeavesBy d r.start end → IsWalk d end r.edges
       → map (λ n. n.0) r.nodes ≡ end.node ∷ map (λ e. e.node) (reached d end r.edges)
   pub nodes_at : map (λ n. n.1) r.nodes ≡ pos 0 ∷ map (λ e. pos e.1) (edge_ends d 0 r.edges)
   pub rising : Pairs (λ (m n : EdgeNo × ℕ). m.1 < n.1) (edge_ends d 0 r.edges)

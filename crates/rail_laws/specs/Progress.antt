@@ -30,6 +30,6 @@ IsGrantedInTime d routes plan =
 -- by tick k the train is at the end of its path, and has left where that exits
 abbrev pub HasComeThrough : Station → List Route → List (List Command) → TrainNo → ℕ → Type 0
 HasComeThrough d routes plan t k =
-    let way = sum_by length_mm (path_routes routes plan t) in
+    let whole = sum_by length_mm (path_routes routes plan t) in
     let place = (state_of (state_at d routes (of_plan routes plan) k) t).x in
-    (way ≤ place) × (list_any exits (path_routes routes plan t) ≡ true → way + train_length d t ≤ place)
+    (whole ≤ place) × (list_any exits (path_routes routes plan t) ≡ true → whole + train_length d t ≤ place)

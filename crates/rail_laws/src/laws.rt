@@ -2,7 +2,7 @@
 
 ghost use Rattle.std.specs.Prelude.{◌≡◌, ◌↔◌, ℕ, ◌+◌, ◌-◌, ◌*◌, ◌≤◌, ◌<◌, true, false, List, Option, None, Some};
 ghost use Rattle.std.specs.Prelude.{length, sum_by};
-ghost use Rattle.rail_spec.specs.Motion.{Rates, Stretch, KeepsLimits, keeps_limits, permitted, next_speed, IsPermitted};
+ghost use Rattle.rail_spec.specs.Motion.{MotorSeen, SpanSeen, KeepsLimits, keeps_limits, permitted, next_speed, IsPermitted};
 ghost use Rattle.rail_spec.specs.Motion.{IsGreatestPermitted};
 ghost use Rattle.rail_base.specs.declared.station.Station.{Station};
 ghost use Rattle.rail_base.specs.declared.station.TrainNo.{TrainNo};
@@ -15,7 +15,7 @@ ghost use Rattle.rail_spec.specs.Plans.{is_well_formed, is_executable, is_train,
 ghost use Rattle.rail_base.specs.Stations.{IsTrain, horizon};
 ghost use Rattle.rail_spec.specs.Safety.{holds, Clash, KeepsToTrack};
 ghost use Rattle.rail_base.specs.Members.{In, Pairs, Differ};
-ghost use Rattle.rail_spec.specs.Track.{routes_of, all_closings, Again};
+ghost use Rattle.rail_spec.specs.Track.{routes_of, all_walks, RepeatsEdge};
 ghost use Rattle.rail_laws.specs.Tails.{KeepsUnderTrain};
 ghost use Rattle.rail_laws.specs.Elementary.{IsRouteOf, IsStart, ClosesBadly, RouteBefore, IsTold};
 ghost use Rattle.rail_base.specs.Admitted.{IsAdmitted};
@@ -29,40 +29,40 @@ ghost use Rattle.rail_base.specs.declared.plan.Violation.TheVariants as violatio
 
 /// A move keeps the limits exactly where each point that it covers has a limit of at least its speed.
 pub fn limits_are_those_of_points()
-    ensures { (top : ℕ) (ss : List Stretch) (x y u : ℕ) → u ≤ top
+    ensures { (top : ℕ) (ss : List SpanSeen) (x y u : ℕ) → u ≤ top
         → (keeps_limits ss x y u ≡ true) ↔ KeepsLimits top ss x y u }
 {}
 
 /// A move keeps the limits from so far behind its head exactly where each point of the move has, from itself back over that
 /// length, no limit below its speed.
 pub fn limits_bind_until_the_tail_has_left()
-    ensures { (top : ℕ) (ss : List Stretch) (tail x y u : ℕ) → x < y
+    ensures { (top : ℕ) (ss : List SpanSeen) (tail x y u : ℕ) → x < y
         → KeepsLimits top ss (x - tail) y u ↔ KeepsUnderTrain top ss tail x y u }
 {}
 
 /// A speed is permitted exactly where the train may reach it and can brake from there, point by point.
 pub fn permitted_speeds_are_those_of_points()
-    ensures { (m : Rates) (ss : List Stretch) (end : Option ℕ) (x v u : ℕ) → 1 ≤ m.brake
+    ensures { (m : MotorSeen) (ss : List SpanSeen) (end : Option ℕ) (x v u : ℕ) → 1 ≤ m.brake
         → (permitted m ss end x v u ≡ true) ↔ IsPermitted m ss end x v u }
 {}
 
 /// The next speed is the greatest permitted one where any is permitted, and else 0.
 pub fn next_speeds_are_greatest()
-    ensures greatest { (m : Rates) (ss : List Stretch) (end : Option ℕ) (x v w u : ℕ) → 1 ≤ m.brake
+    ensures greatest { (m : MotorSeen) (ss : List SpanSeen) (end : Option ℕ) (x v w u : ℕ) → 1 ≤ m.brake
         → IsPermitted m ss end x v w → (next_speed m ss end x v ≡ u) ↔ IsGreatestPermitted m ss end x v u }
-    ensures none { (m : Rates) (ss : List Stretch) (end : Option ℕ) (x v : ℕ) → 1 ≤ m.brake
+    ensures none { (m : MotorSeen) (ss : List SpanSeen) (end : Option ℕ) (x v : ℕ) → 1 ≤ m.brake
         → ((w : ℕ) → IsPermitted m ss end x v w → ⊥) → next_speed m ss end x v ≡ 0 }
 {}
 
 /// A speed below a permitted one is permitted.
 pub fn permitted_speeds_go_down()
-    ensures { (m : Rates) (ss : List Stretch) (end : Option ℕ) (x v u w : ℕ) → 1 ≤ m.brake → u ≤ w
+    ensures { (m : MotorSeen) (ss : List SpanSeen) (end : Option ℕ) (x v u w : ℕ) → 1 ≤ m.brake → u ≤ w
         → permitted m ss end x v w ≡ true → permitted m ss end x v u ≡ true }
 {}
 
 /// After a permitted move full braking is permitted.
 pub fn braking_stays_permitted()
-    ensures { (m : Rates) (ss : List Stretch) (end : Option ℕ) (x v u : ℕ) → 1 ≤ m.brake
+    ensures { (m : MotorSeen) (ss : List SpanSeen) (end : Option ℕ) (x v u : ℕ) → 1 ≤ m.brake
         → permitted m ss end x v u ≡ true → permitted m ss end (x + u) u (u - m.brake) ≡ true }
 {}
 
@@ -87,10 +87,10 @@ pub fn routes_stand_in_order()
 /// The search meets an edge again exactly where a path closes badly there; where none does each closed path is a route.
 pub fn paths_close_badly_where_an_edge_is_met_again()
     ensures again { (d : Station) → IsAdmitted d → (e : EdgeNo)
-        → In (Again e) (all_closings d)
+        → In (RepeatsEdge e) (all_walks d)
         ↔ ((s : Start) × (edges : List EdgeNo) × IsStart d s × ClosesBadly d s edges e) }
-    ensures routes { (d : Station) → ((e : EdgeNo) → In (Again e) (all_closings d) → ⊥)
-        → length (routes_of d) ≡ length (all_closings d) }
+    ensures routes { (d : Station) → ((e : EdgeNo) → In (RepeatsEdge e) (all_walks d) → ⊥)
+        → length (routes_of d) ≡ length (all_walks d) }
 {}
 
 /// A route's length, nodes and sections are those of its edges.
@@ -107,8 +107,8 @@ pub fn trains_never_clash()
 
 /// Where the end of authority is ahead, or there is none, at least 1 is permitted.
 pub fn trains_move_where_they_may()
-    ensures { (m : Rates) (ss : List Stretch) (end : Option ℕ) (x v : ℕ) → 1 ≤ m.accel → 1 ≤ m.brake → 1 ≤ m.top
-        → ((s : Stretch) → In s ss → 1 ≤ s.limit) → MayMove end x → permitted m ss end x v 1 ≡ true }
+    ensures { (m : MotorSeen) (ss : List SpanSeen) (end : Option ℕ) (x v : ℕ) → 1 ≤ m.accel → 1 ≤ m.brake → 1 ≤ m.top
+        → ((s : SpanSeen) → In s ss → 1 ≤ s.limit) → MayMove end x → permitted m ss end x v 1 ≡ true }
 {}
 
 /// In every runnable plan of an admitted design each command is granted in time.

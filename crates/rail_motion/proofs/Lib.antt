@@ -1,4 +1,4 @@
-pub mod Ways
+pub mod Distances
 pub mod Points
 pub mod Rising
 pub mod Moves

@@ -3,13 +3,13 @@ use Rattle.std.proofs.Common.{◌≡◌, ℕ, zero, suc, ◌+◌, ◌-◌, ◌�
 use Rattle.std.specs.Option.{ForSome}
 use Rattle.std.proofs.lemmas.Int.{ints}
 use Rattle.std.proofs.lemmas.Bool.{and_parts, and_from, both_ways}
-use Rattle.rail_spec.specs.Motion.{Rates, Stretch, limit_at, KeepsLimits, keeps_limits, may_stop, reach, permitted}
+use Rattle.rail_spec.specs.Motion.{MotorSeen, SpanSeen, limit_at, KeepsLimits, keeps_limits, may_stop, reach, permitted}
 use Rattle.rail_laws.proofs.MotionLaws.{keeps_limits_from, can_brake_keeps, permitted_reach, permitted_brakes}
 use Rattle.rail_motion.specs.declared.Span.{Span}
 use Rattle.rail_motion.specs.Track.{stretches_of, end_of}
 
 -- a permitted move keeps the limits
-pub permitted_keeps : (m : Rates) (ss : List Stretch) (end : Option ℕ) (x v u : ℕ) → permitted m ss end x v u ≡ true → KeepsLimits m.top ss (x - m.tail) (x + u) u
+pub permitted_keeps : (m : MotorSeen) (ss : List SpanSeen) (end : Option ℕ) (x v u : ℕ) → permitted m ss end x v u ≡ true → KeepsLimits m.top ss (x - m.tail) (x + u) u
 permitted_keeps m ss end x v u h =
     let reached = permitted_reach m ss end x v u h in
     can_brake_keeps u m.brake m.tail m.top ss end x u (omega arith) (permitted_brakes m ss end x v u h)
@@ -24,7 +24,7 @@ limit_at_least top (s ∷ rest) p fast = go (nat_le p (nat_abs s.end)) (limit_at
     go false later = later
 
 -- where authority is left the speed 1 is permitted
-pub permitted_one : (m : Rates) (spans : List Span) (end : Option ℕ) (x v : ℕ) → 1 ≤ m.accel → 1 ≤ m.brake → 1 ≤ m.top → ForSome end (λ e. x < e) → permitted m (stretches_of spans) end x v 1 ≡ true
+pub permitted_one : (m : MotorSeen) (spans : List Span) (end : Option ℕ) (x v : ℕ) → 1 ≤ m.accel → 1 ≤ m.brake → 1 ≤ m.top → ForSome end (λ e. x < e) → permitted m (stretches_of spans) end x v 1 ≡ true
 permitted_one m spans end x v gains slows fast left =
     and_from _ _ (le-leb 1 (reach m v) (omega arith))
     (and_from _ _ (keeps_limits_from m.top (stretches_of spans) (x - m.tail) (x + 1) 1 (λ p past near. limit_at_least m.top spans p fast))
@@ -35,7 +35,7 @@ permitted_one m spans end x v gains slows fast left =
     stops (Some e) left = let before : x < e = left e refl in le-leb (x + 1) e (omega arith)
 
 -- so the greatest is at least 1
-pub moves_on : (m : Rates) (spans : List Span) (end : Option ℕ) (x v low high : ℕ) → 1 ≤ m.accel → 1 ≤ m.brake → 1 ≤ m.top → low < high → high ≤ low + 1
+pub moves_on : (m : MotorSeen) (spans : List Span) (end : Option ℕ) (x v low high : ℕ) → 1 ≤ m.accel → 1 ≤ m.brake → 1 ≤ m.top → low < high → high ≤ low + 1
     → permitted m (stretches_of spans) end x v high ≡ false → ForSome end (λ e. x < e) → 1 ≤ low
 moves_on m spans end x v zero high gains slows fast above next not_permitted left =
     let one : high ≡ 1 = omega arith in

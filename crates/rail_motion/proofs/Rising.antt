@@ -5,10 +5,10 @@ use Rattle.std.specs.List.Sorted.{IsNonDecreasingBy}
 use Rattle.std.proofs.lemmas.Int.{ints}
 use Rattle.std.proofs.lemmas.Bool.{le-leb}
 use Rattle.std.proofs.lemmas.Grind.{common_steps}
-use Rattle.rail_spec.specs.Motion.{can_brake, may_stop, braking_way}
+use Rattle.rail_spec.specs.Motion.{can_brake, may_stop, braking_distance}
 use Rattle.rail_motion.specs.declared.Span.{Span}
 use Rattle.rail_motion.specs.Track.{stretch_of, stretches_of, IsRising}
-use Rattle.rail_motion.specs.Braking.{faster_way}
+use Rattle.rail_motion.specs.Braking.{faster_distance}
 use Rattle.rail_motion.proofs.Points.{keeps_span, keeps_spans, can_brake_by_spans, can_brake_and_stop}
 
 -- the ends of rising spans do not fall
@@ -55,14 +55,14 @@ can_brake_past n b tail spans x u slows bound =
         go false e here next =
             let before = ltb-false (x - tail) (nat_abs s.end) e in
             let same : max start (nat_abs s.end) ≡ start = omega arith in
-            let kept : keeps_span n b (stretch_of s) start x u ≡ true = or_last _ _ (le-leb (min (x + faster_way n b (nat_abs s.limit) u) (nat_abs s.end)) start (omega arith)) in
+            let kept : keeps_span n b (stretch_of s) start x u ≡ true = or_last _ _ (le-leb (min (x + faster_distance n b (nat_abs s.limit) u) (nat_abs s.end)) start (omega arith)) in
             rw (kept, same) here
 
 -- so full braking is decided by those past it, and by where it stops
-pub can_brake_is : (n b tail : ℕ) (spans past : List Span) (end : Option ℕ) (x u way : ℕ) (stops keeps : Bool) → 1 ≤ b → u ≤ n → past ≡ filter (λ s. nat_lt (x - tail) (nat_abs s.end)) spans → way ≡ braking_way n b u
+pub can_brake_is : (n b tail : ℕ) (spans past : List Span) (end : Option ℕ) (x u way : ℕ) (stops keeps : Bool) → 1 ≤ b → u ≤ n → past ≡ filter (λ s. nat_lt (x - tail) (nat_abs s.end)) spans → way ≡ braking_distance n b u
     → stops ≡ may_stop end (x + u + way) → keeps ≡ can_brake n b tail (stretches_of past) None x u → can_brake n b tail (stretches_of spans) end x u ≡ (stops && keeps)
 can_brake_is n b tail spans past end x u way stops keeps slows bound ahead braked stopped kept =
-    can_brake_and_stop n b tail (stretches_of spans) end x u ∙ turned stops keeps (can_brake n b tail (stretches_of spans) None x u) (may_stop end (x + u + braking_way n b u))
+    can_brake_and_stop n b tail (stretches_of spans) end x u ∙ turned stops keeps (can_brake n b tail (stretches_of spans) None x u) (may_stop end (x + u + braking_distance n b u))
     (kept ∙ ap (λ ss. can_brake n b tail (stretches_of ss) None x u) ahead ∙ can_brake_past n b tail spans x u slows bound)
     (stopped ∙ ap (λ w. may_stop end (x + u + w)) braked)
   where

@@ -1,4 +1,4 @@
--- What a motor and the track ahead mean, in natural numbers, and the way of full braking.
+-- What a motor and the track ahead mean, in natural numbers, and the distance of full braking.
 pub mod Ranges
 pub mod Motor
 pub mod Track

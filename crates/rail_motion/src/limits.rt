@@ -6,43 +6,7 @@ ghost use Rattle.rail_spec.specs.Motion.{can_brake, may_stop};
 
 use crate::Span;
 use crate::ahead::spans_past;
-use crate::braking::{braking_way, faster_way};
-
-/// Whether a move by `speed` from `place`, and then full braking, keeps the limits of the spans, by a train that they bind so
-/// far behind its head.
-///
-/// A span is offended where the moves that are faster than its limit cover one of its points, or find the tail on one. So each
-/// span takes a few sums, however many moves there are, and those from the stop on take none.
-fn keeps_limits(spans: &[Span], brake: u64, tail: u64, place: u64, speed: u64) -> bool
-    requires brake { 1 ≤ brake }
-    requires place { place < 2 ^ 47 }
-    requires speed { speed ≤ 100000 }
-    ensures { result ≡ can_brake speed brake tail (stretches_of spans.now) None place speed }
-{
-    let stop = place + speed + braking_way(speed, brake);
-    let mut start = place.saturating_sub(tail);
-    for span in spans {
-        if start >= stop {
-            return true;
-        }
-        let covered = place + faster_way(speed, brake, span.limit());
-        if span.limit() < speed && start < covered.min(span.end()) {
-            return false;
-        }
-        start = start.max(span.end());
-    }
-    true
-}
-
-/// Whether a stop at a place is allowed by the end of authority, if there is one.
-fn may_stop(end: Option<u64>, place: u64) -> bool
-    ensures { result ≡ may_stop end place }
-{
-    match end {
-        None => true,
-        Some(end) => place <= end,
-    }
-}
+use crate::braking::{braking_distance, faster_distance};
 
 /// Whether a move by `speed` from `place`, and then full braking, keeps the limits and stops at or before the end.
 pub(crate) fn can_brake(
@@ -59,7 +23,7 @@ pub(crate) fn can_brake(
     requires speed { speed ≤ 100000 }
     ensures { result ≡ can_brake speed brake tail (stretches_of spans.now) end place speed }
 {
-    may_stop(end, place + speed + braking_way(speed, brake))
+    may_stop(end, place + speed + braking_distance(speed, brake))
         && keeps_limits(
             spans_past(spans, place.saturating_sub(tail)),
             brake,
@@ -67,4 +31,40 @@ pub(crate) fn can_brake(
             place,
             speed,
         )
+}
+
+/// Whether a move by `speed` from `place`, and then full braking, keeps the limits of the spans, by a train that they bind so
+/// far behind its head.
+///
+/// A span is offended where the moves that are faster than its limit cover one of its points, or find the tail on one. So each
+/// span takes a few sums, however many moves there are, and those from the stop on take none.
+fn keeps_limits(spans: &[Span], brake: u64, tail: u64, place: u64, speed: u64) -> bool
+    requires brake { 1 ≤ brake }
+    requires place { place < 2 ^ 47 }
+    requires speed { speed ≤ 100000 }
+    ensures { result ≡ can_brake speed brake tail (stretches_of spans.now) None place speed }
+{
+    let stop = place + speed + braking_distance(speed, brake);
+    let mut start = place.saturating_sub(tail);
+    for span in spans {
+        if start >= stop {
+            return true;
+        }
+        let covered = place + faster_distance(speed, brake, span.limit());
+        if span.limit() < speed && start < covered.min(span.end()) {
+            return false;
+        }
+        start = start.max(span.end());
+    }
+    true
+}
+
+/// Whether a stop at a place is allowed by the end of authority, if there is one.
+fn may_stop(end: Option<u64>, place: u64) -> bool
+    ensures { result ≡ may_stop end place }
+{
+    match end {
+        None => true,
+        Some(end) => place <= end,
+    }
 }

@@ -12,33 +12,6 @@ ghost use Rattle.rail_motion.specs.Permitted.{KeepsLimitsOn};
 use crate::limits::can_brake;
 use crate::{Ahead, Motor};
 
-impl Motor {
-    /// The speed that may be reached in a tick.
-    fn reach(&self, speed: u64) -> u64
-        requires { speed ≤ 100000 }
-        ensures reach { result ≡ reach (rates_of self.now) speed }
-        ensures bound { result ≤ 100000 }
-    {
-        (speed + self.accel as u64).min(self.top as u64)
-    }
-}
-
-fn is_permitted(motor: &Motor, ahead: &Ahead, place: u64, speed: u64, next: u64) -> bool
-    requires place { place < 2 ^ 47 }
-    requires speed { speed ≤ 100000 }
-    ensures { result ≡ permitted_on motor.now ahead.now place speed next }
-{
-    next <= motor.reach(speed)
-        && can_brake(
-            ahead.spans,
-            ahead.limit_of_authority(),
-            motor.brake as u64,
-            motor.tail as u64,
-            place,
-            next,
-        )
-}
-
 /// Whether the speed `u` is permitted at the place `x` and the speed `v`: it can be reached, and a move by it and then
 /// full braking keep the limits and stop within the authority. `x` is in mm, `v` and `u` in mm per tick.
 pub fn permitted(motor: &Motor, ahead: &Ahead, x: i64, v: i64, u: i64) -> bool
@@ -49,29 +22,6 @@ pub fn permitted(motor: &Motor, ahead: &Ahead, x: i64, v: i64, u: i64) -> bool
     ensures points { (result ≡ true) ↔ IsPermittedOn motor.now ahead.now (nat_abs x) (nat_abs v) (nat_abs u) }
 {
     is_permitted(motor, ahead, x as u64, v as u64, u as u64)
-}
-
-/// The greatest permitted speed, by halving what lies between full braking and the speed in reach.
-fn greatest_permitted(motor: &Motor, ahead: &Ahead, place: u64, speed: u64) -> u64
-    requires place { place < 2 ^ 47 }
-    requires speed { speed ≤ 100000 }
-    requires braking { MayBrake motor.now ahead.now place speed }
-    ensures speed { result ≡ next_speed_on motor.now ahead.now place speed }
-    ensures permitted { permitted_on motor.now ahead.now place speed result ≡ true }
-    ensures bound { result ≤ 100000 }
-    ensures moves { ForSome (end_of ahead.now.end) (λ end. place < end) → 1 ≤ result }
-{
-    let mut low = speed.saturating_sub(motor.brake as u64);
-    let mut high = motor.reach(speed) + 1;
-    while low + 1 < high {
-        let middle = low + (high - low) / 2;
-        if is_permitted(motor, ahead, place, speed, middle) {
-            low = middle;
-        } else {
-            high = middle;
-        }
-    }
-    low
 }
 
 /// The greatest permitted speed at the place `x` (mm) and the speed `v` (mm per tick), at which full braking is permitted.
@@ -125,4 +75,54 @@ pub fn step(motor: &Motor, ahead: &Ahead, x: i64, v: i64) -> (i64, i64)
 {
     let (place, speed) = advance(motor, ahead, x as u64, v as u64);
     (place as i64, speed as i64)
+}
+
+impl Motor {
+    /// The speed that may be reached in a tick.
+    fn reach(&self, speed: u64) -> u64
+        requires { speed ≤ 100000 }
+        ensures reach { result ≡ reach (rates_of self.now) speed }
+        ensures bound { result ≤ 100000 }
+    {
+        (speed + self.accel as u64).min(self.top as u64)
+    }
+}
+
+fn is_permitted(motor: &Motor, ahead: &Ahead, place: u64, speed: u64, next: u64) -> bool
+    requires place { place < 2 ^ 47 }
+    requires speed { speed ≤ 100000 }
+    ensures { result ≡ permitted_on motor.now ahead.now place speed next }
+{
+    next <= motor.reach(speed)
+        && can_brake(
+            ahead.spans,
+            ahead.limit_of_authority(),
+            motor.brake as u64,
+            motor.tail as u64,
+            place,
+            next,
+        )
+}
+
+/// The greatest permitted speed, by halving what lies between full braking and the speed in reach.
+fn greatest_permitted(motor: &Motor, ahead: &Ahead, place: u64, speed: u64) -> u64
+    requires place { place < 2 ^ 47 }
+    requires speed { speed ≤ 100000 }
+    requires braking { MayBrake motor.now ahead.now place speed }
+    ensures speed { result ≡ next_speed_on motor.now ahead.now place speed }
+    ensures permitted { permitted_on motor.now ahead.now place speed result ≡ true }
+    ensures bound { result ≤ 100000 }
+    ensures moves { ForSome (end_of ahead.now.end) (λ end. place < end) → 1 ≤ result }
+{
+    let mut low = speed.saturating_sub(motor.brake as u64);
+    let mut high = motor.reach(speed) + 1;
+    while low + 1 < high {
+        let middle = low + (high - low) / 2;
+        if is_permitted(motor, ahead, place, speed, middle) {
+            low = middle;
+        } else {
+            high = middle;
+        }
+    }
+    low
 }

@@ -8,4 +8,4 @@ pub mod Folders
 pub mod MemoryShelves
 pub mod MemorySinks
 pub mod Lines
-pub mod Sure
+pub mod Reliable

@@ -13,8 +13,8 @@ abbrev pub ask_of : Call → Ask
 ask_of (Fetch name) = fetched (string_bytes name)
 ask_of (Store name) = stored (string_bytes name)
 
-abbrev pub held_by : MemoryShelf → Files
-held_by shelf = contents_of shelf.folder
+abbrev pub known_files_by : MemoryShelf → Files
+known_files_by shelf = contents_of shelf.folder
 
 -- no file has this name
 abbrev pub misses : MemoryShelf → List ℕ → Bool

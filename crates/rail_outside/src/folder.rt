@@ -23,13 +23,6 @@ pub(crate) struct Folder {
     files: Vec<File>,
 }
 
-/// The first file of a name.
-fn first_named<'a>(files: &'a [File], name: &str) -> Option<&'a File>
-    ensures { option_copied result ≡ first_named files.now name.now }
-{
-    files.iter().find(|file| file.name.as_str() == name)
-}
-
 impl Folder {
     /// A folder with no file.
     pub(crate) fn new(alloc: Global) -> Self
@@ -80,7 +73,7 @@ impl Folder {
 }
 
 /// A copy of the bytes, where they are at most `limit`.
-pub(crate) fn copied(alloc: Global, bytes: &[u8], limit: u64) -> Result<Vec<u8>, FetchFault>
+pub(crate) fn copy_bytes(alloc: Global, bytes: &[u8], limit: u64) -> Result<Vec<u8>, FetchFault>
     ensures gives { FetchGives result bytes.now limit }
     ensures fits { FetchFits result limit }
     ensures never_fails { FetchFailsWhere result false }
@@ -89,4 +82,11 @@ pub(crate) fn copied(alloc: Global, bytes: &[u8], limit: u64) -> Result<Vec<u8>,
         return Err(FetchFault::TooLong { read: limit + 1 });
     }
     Ok(Vec::from_slice(alloc, bytes)?)
+}
+
+/// The first file of a name.
+fn first_named<'a>(files: &'a [File], name: &str) -> Option<&'a File>
+    ensures { option_copied result ≡ first_named files.now name.now }
+{
+    files.iter().find(|file| file.name.as_str() == name)
 }

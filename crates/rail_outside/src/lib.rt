@@ -1,20 +1,20 @@
 //! The outside of a program: a shelf of files by their names, and a sink for printed text.
 //!
-//! `MemoryShelf` and `MemorySink` keep what was asked of them and can be told to fail; `SureShelf` and
-//! `SureSink` never fail.
+//! `MemoryShelf` and `MemorySink` keep what was asked of them and can be made to fail; `ReliableShelf` and
+//! `ReliableSink` never fail.
 #![tactic(auto)]
 
 mod folder;
 mod memory_shelf;
 mod memory_sink;
 mod print;
+mod reliable;
 mod shelf;
 mod sink;
-mod sure;
 
 pub use memory_shelf::{Call, MemoryShelf};
 pub use memory_sink::{Failure, MemorySink};
 pub use print::put_lines;
+pub use reliable::{ReliableShelf, ReliableSink};
 pub use shelf::{FetchFault, Shelf, StoreFault};
 pub use sink::{Sink, SinkFault};
-pub use sure::{SureShelf, SureSink};

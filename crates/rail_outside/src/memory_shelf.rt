@@ -1,4 +1,4 @@
-//! A shelf in memory, which keeps its calls and can be told to fail.
+//! A shelf in memory, which keeps its calls and can be made to fail.
 
 ghost use Rattle.std.specs.Prelude.{◌≡◌, ◌≤◌, ◌++◌, ◌∷◌, ◌||◌, [], Some, OnOk, OnErr, Err, MatchOption, true, false};
 ghost use Rattle.std.specs.Prelude.{map};
@@ -9,10 +9,10 @@ ghost use Rattle.rail_outside.specs.Storing.{StoreLeaves, StoreHasCause, StoreFa
 ghost use Rattle.rail_outside.specs.Folders.{all_but, no_name};
 ghost use Rattle.rail_outside.specs.declared.shelf.FetchFault.TheVariants as fetch;
 ghost use Rattle.rail_outside.specs.declared.shelf.StoreFault.TheVariants as store;
-ghost use Rattle.rail_outside.specs.MemoryShelves.{ask_of, held_by, asked_of, failing_calls, faults_of, fails_next};
+ghost use Rattle.rail_outside.specs.MemoryShelves.{ask_of, known_files_by, asked_of, failing_calls, faults_of, fails_next};
 ghost use Rattle.rail_outside.specs.MemoryShelves.{misses};
 
-use crate::folder::{Folder, copied};
+use crate::folder::{Folder, copy_bytes};
 use crate::shelf::{FetchFault, Shelf, StoreFault};
 use std::alloc::{AllocError, Global};
 
@@ -23,7 +23,7 @@ pub enum Call {
     Store(String),
 }
 
-/// A shelf in memory. A missing name is a fault, and so is each call that it was told to fail.
+/// A shelf in memory. A missing name is a fault, and so is each call that it was made to fail.
 #[derive(Drop)]
 pub struct MemoryShelf {
     alloc: Global,
@@ -36,7 +36,7 @@ pub struct MemoryShelf {
 impl MemoryShelf {
     /// A shelf with no file, of which nothing was asked and no call is to fail.
     pub fn new(alloc: Global) -> Self
-        ensures held { held_by result ≡ no_files }
+        ensures known_files { known_files_by result ≡ no_files }
         ensures misses { misses result ≡ no_name }
         ensures asked { asked_of result ≡ [] }
         ensures failing { failing_calls result ≡ [] }
@@ -53,8 +53,8 @@ impl MemoryShelf {
 
     /// Puts a file on the shelf, which is no call. `Err` leaves the shelf as it was.
     pub fn add_file(&mut self, name: &str, bytes: &[u8]) -> Result<(), AllocError>
-        ensures ok { OnOk result (held_by self.new ≡ updated (held_by self.old) name.now bytes.now) }
-        ensures err { OnErr result (held_by self.new ≡ held_by self.old) }
+        ensures ok { OnOk result (known_files_by self.new ≡ updated (known_files_by self.old) name.now bytes.now) }
+        ensures err { OnErr result (known_files_by self.new ≡ known_files_by self.old) }
         ensures there { OnOk result (misses self.new ≡ all_but (misses self.old) name.now) }
         ensures not_there { OnErr result (misses self.new ≡ misses self.old) }
         ensures asked { asked_of self.new ≡ asked_of self.old }
@@ -68,7 +68,7 @@ impl MemoryShelf {
     pub fn fail_at(&mut self, call: u64) -> Result<(), AllocError>
         ensures ok { OnOk result (failing_calls self.new ≡ failing_calls self.old ++ call ∷ []) }
         ensures err { OnErr result (failing_calls self.new ≡ failing_calls self.old) }
-        ensures held { held_by self.new ≡ held_by self.old }
+        ensures known_files { known_files_by self.new ≡ known_files_by self.old }
         ensures misses { misses self.new ≡ misses self.old }
         ensures asked { asked_of self.new ≡ asked_of self.old }
         ensures faults { faults_of self.new ≡ faults_of self.old }
@@ -80,7 +80,7 @@ impl MemoryShelf {
     /// The bytes under a name, where a file has it. This is no call.
     pub fn file(&self, name: &str) -> Option<&[u8]>
         ensures { MatchOption result (misses self.now name.now ≡ true) (λ bytes.
-            (misses self.now name.now ≡ false) × (bytes.now ≡ held_by self.now name.now)) }
+            (misses self.now name.now ≡ false) × (bytes.now ≡ known_files_by self.now name.now)) }
     {
         self.folder.find(name)
     }
@@ -102,7 +102,7 @@ impl MemoryShelf {
 
     /// What a fetch answers, before it is kept.
     fn answer(&self, alloc: Global, name: &str, limit: u64) -> Result<Vec<u8>, FetchFault>
-        ensures gives { FetchGives result (held_by self.now name.now) limit }
+        ensures gives { FetchGives result (known_files_by self.now name.now) limit }
         ensures fits { FetchFits result limit }
         ensures fails { FetchFailsWhere result (fails_next self.now || misses self.now name.now) }
     {
@@ -110,27 +110,27 @@ impl MemoryShelf {
             return Err(FetchFault::Failed);
         }
         match self.folder.find(name) {
-            Some(bytes) => copied(alloc, bytes, limit),
+            Some(bytes) => copy_bytes(alloc, bytes, limit),
             None => Err(FetchFault::Failed),
         }
     }
 }
 
 impl Shelf for MemoryShelf {
-    ghost held = { λ shelf. Some (held_by shelf) };
+    ghost known_files = { λ shelf. Some (known_files_by shelf) };
 
     ghost asked = { λ shelf. Some (asked_of shelf) };
 
     ghost fault_count = { λ shelf. faults_of shelf };
 
     fn fetch(&mut self, alloc: Global, name: &str, limit: u64) -> Result<Vec<u8>, FetchFault>
-        ensures gives { FetchGives result (held_by self.old name.now) limit }
+        ensures gives { FetchGives result (known_files_by self.old name.now) limit }
         ensures fits { FetchFits result limit }
         ensures fails { FetchFailsWhere result (fails_next self.old || misses self.old name.now) }
         ensures cause { FetchHasCause result (faults_of self.old) (faults_of self.new) }
         ensures never_falls { faults_of self.old ≤ faults_of self.new }
         ensures memory { result ≡ Err fetch.Memory → faults_of self.new ≡ faults_of self.old }
-        ensures files_stay { held_by self.new ≡ held_by self.old }
+        ensures files_stay { known_files_by self.new ≡ known_files_by self.old }
         ensures names_stay { misses self.new ≡ misses self.old }
         ensures failing_stay { failing_calls self.new ≡ failing_calls self.old }
         ensures asks { asked_of self.new ≡ asked_of self.old ++ fetch_asks result name.now }
@@ -149,8 +149,8 @@ impl Shelf for MemoryShelf {
     }
 
     fn store(&mut self, name: &str, bytes: &[u8]) -> Result<(), StoreFault>
-        ensures leaves { StoreLeaves result (Some (held_by self.old)) (Some (held_by self.new)) name.now bytes.now }
-        ensures err { OnErr result (held_by self.new ≡ held_by self.old) }
+        ensures leaves { StoreLeaves result (Some (known_files_by self.old)) (Some (known_files_by self.new)) name.now bytes.now }
+        ensures err { OnErr result (known_files_by self.new ≡ known_files_by self.old) }
         ensures there { OnOk result (misses self.new ≡ all_but (misses self.old) name.now) }
         ensures not_there { OnErr result (misses self.new ≡ misses self.old) }
         ensures memory { result ≡ Err store.Memory → faults_of self.new ≡ faults_of self.old }

@@ -1,4 +1,4 @@
-//! A sink in memory, which keeps its pieces and can be told to fail.
+//! A sink in memory, which keeps its pieces and can be made to fail.
 
 ghost use Rattle.std.specs.Prelude.{◌≡◌, ◌≤◌, ◌++◌, ◌∷◌, [], Some, OnOk, OnErr, Err, is_some};
 ghost use Rattle.rail_outside.specs.Lines.{lines_of};
@@ -17,32 +17,13 @@ pub struct Failure {
     pub first: u64,
 }
 
-/// A sink in memory. Each call that it was told to fail is a fault.
+/// A sink in memory. Each call that it was made to fail is a fault.
 #[derive(Drop)]
 pub struct MemorySink {
     bytes: Vec<u8>,
     pieces: Vec<Vec<u8>>,
     failures: Vec<Failure>,
     faults: u64,
-}
-
-/// Appends bytes, and a copy of a piece. `Err` leaves both as they were.
-fn append(
-    bytes: &mut Vec<u8>,
-    pieces: &mut Vec<Vec<u8>>,
-    out: &[u8],
-    piece: &[u8],
-) -> Result<(), AllocError>
-    ensures bytes_ok { OnOk result (bytes.new.items ≡ bytes.old.items ++ out.now) }
-    ensures pieces_ok { OnOk result (lines_of pieces.new.items ≡ lines_of pieces.old.items ++ piece.now ∷ []) }
-    ensures bytes_err { OnErr result (bytes.new.items ≡ bytes.old.items) }
-    ensures pieces_err { OnErr result (pieces.new.items ≡ pieces.old.items) }
-{
-    let copy = Vec::from_slice(*bytes.allocator(), piece)?;
-    pieces.reserve(1)?;
-    bytes.extend_from_slice(out)?;
-    pieces.push(copy).unwrap();
-    Ok(())
 }
 
 impl MemorySink {
@@ -100,6 +81,25 @@ impl MemorySink {
             .copied()
             .find(|failure| failure.call == next)
     }
+}
+
+/// Appends bytes, and a copy of a piece. `Err` leaves both as they were.
+fn append(
+    bytes: &mut Vec<u8>,
+    pieces: &mut Vec<Vec<u8>>,
+    out: &[u8],
+    piece: &[u8],
+) -> Result<(), AllocError>
+    ensures bytes_ok { OnOk result (bytes.new.items ≡ bytes.old.items ++ out.now) }
+    ensures pieces_ok { OnOk result (lines_of pieces.new.items ≡ lines_of pieces.old.items ++ piece.now ∷ []) }
+    ensures bytes_err { OnErr result (bytes.new.items ≡ bytes.old.items) }
+    ensures pieces_err { OnErr result (pieces.new.items ≡ pieces.old.items) }
+{
+    let copy = Vec::from_slice(*bytes.allocator(), piece)?;
+    pieces.reserve(1)?;
+    bytes.extend_from_slice(out)?;
+    pieces.push(copy).unwrap();
+    Ok(())
 }
 
 impl Sink for MemorySink {

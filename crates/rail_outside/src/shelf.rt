@@ -55,10 +55,10 @@ impl From<AllocError> for StoreFault {
 
 /// A place that holds files under names.
 pub trait Shelf {
-    /// The bytes under each name, where they are told. A name that is not there has no bytes.
-    ghost held: { Self → Option Files };
+    /// The bytes under each name, where they are known. A name that is not there has no bytes.
+    ghost known_files: { Self → Option Files };
 
-    /// The calls so far in order, where they are told.
+    /// The calls so far in order, where they are known.
     ghost asked: { Self → Option (List Ask) };
 
     /// How often the shelf has failed.
@@ -68,18 +68,18 @@ pub trait Shelf {
     ///
     /// `Err` leaves the files as they were, as `Ok` does.
     fn fetch(&mut self, alloc: Global, name: &str, limit: u64) -> Result<Vec<u8>, FetchFault>
-        ensures gives { IfSome (held self.old) (λ files. FetchGives result (files name.now) limit) }
+        ensures gives { IfSome (known_files self.old) (λ files. FetchGives result (files name.now) limit) }
         ensures fits { FetchFits result limit }
         ensures cause { FetchHasCause result (fault_count self.old) (fault_count self.new) }
         ensures never_falls { fault_count self.old ≤ fault_count self.new }
-        ensures files_stay { held self.new ≡ held self.old }
+        ensures files_stay { known_files self.new ≡ known_files self.old }
         ensures asks { asked self.new ≡ grown (asked self.old) (fetch_asks result name.now) };
 
     /// Puts these bytes under a name, in place of what was there.
     ///
     /// `Failed` says nothing of that name, and leaves all others as they were. `Memory` leaves all as it was.
     fn store(&mut self, name: &str, bytes: &[u8]) -> Result<(), StoreFault>
-        ensures leaves { StoreLeaves result (held self.old) (held self.new) name.now bytes.now }
+        ensures leaves { StoreLeaves result (known_files self.old) (known_files self.new) name.now bytes.now }
         ensures cause { StoreHasCause result (fault_count self.old) (fault_count self.new) }
         ensures never_falls { fault_count self.old ≤ fault_count self.new }
         ensures asks { asked self.new ≡ grown (asked self.old) (store_asks result name.now) };

@@ -29,10 +29,10 @@ impl From<AllocError> for SinkFault {
 
 /// A place that takes bytes in order.
 pub trait Sink {
-    /// The bytes so far, where they are told.
+    /// The bytes so far, where they are known.
     ghost written: { Self → Option (List ℕ) };
 
-    /// The pieces of the calls so far in order, where they are told.
+    /// The pieces of the calls so far in order, where they are known.
     ghost puts: { Self → Option (List (List ℕ)) };
 
     /// How often the sink has failed.
@@ -40,7 +40,7 @@ pub trait Sink {
 
     /// Appends a piece.
     ///
-    /// `Failed` may have appended a front of it. `Memory` has appended nothing.
+    /// `Failed` may have appended a prefix of it. `Memory` has appended nothing.
     fn put(&mut self, bytes: &[u8]) -> Result<(), SinkFault>
         ensures leaves { PutLeaves result (written self.old) (written self.new) bytes.now }
         ensures cause { PutHasCause result (fault_count self.old) (fault_count self.new) }

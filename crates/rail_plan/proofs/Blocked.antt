@@ -56,14 +56,14 @@ not_eq a b h = false_unless (a == b) (λ e. let l : a ≡ b = eqb-true a b e in 
 module _ (d : Station) (routes : List Route) (plan : List (List Command)) (named : names_only d routes plan ≡ true) (paths : list_all (λ t. is_path (train_of d t) (path_routes routes plan t)) (trains d) ≡ true) where
   -- ---- one earlier step
 
-  module _ (front mid : List (List Command)) (s : List Command) (step : List Command) (after : List (List Command)) (split : plan ≡ front ++ ((s ∷ mid) ++ step ∷ after)) (e c : Command) (m : In e s) (n : In c step) where
-    first_step : step_of plan e ≡ length front + 1
-    first_step = step_is d routes plan named paths front s (mid ++ step ∷ after) e split m
+  module _ (prefix mid : List (List Command)) (s : List Command) (step : List Command) (after : List (List Command)) (split : plan ≡ prefix ++ ((s ∷ mid) ++ step ∷ after)) (e c : Command) (m : In e s) (n : In c step) where
+    first_step : step_of plan e ≡ length prefix + 1
+    first_step = step_is d routes plan named paths prefix s (mid ++ step ∷ after) e split m
 
-    last_step : step_of plan c ≡ length front + suc (length mid) + 1
+    last_step : step_of plan c ≡ length prefix + suc (length mid) + 1
     last_step =
-        step_is d routes plan named paths (front ++ s ∷ mid) step after c (split ∙ sym (append_assoc front (s ∷ mid) (step ∷ after))) n
-        ∙ ap (λ k. k + 1) (length-append front (s ∷ mid))
+        step_is d routes plan named paths (prefix ++ s ∷ mid) step after c (split ∙ sym (append_assoc prefix (s ∷ mid) (step ∷ after))) n
+        ∙ ap (λ k. k + 1) (length-append prefix (s ∷ mid))
 
     abbrev own : Command → Bool
     own g = is_train g.train e.train
@@ -75,9 +75,9 @@ module _ (d : Station) (routes : List Route) (plan : List (List Command)) (named
     given_there : given_between plan e c ≡ filter own (commands (s ∷ mid))
     given_there =
         ap (λ p. filter test (commands p)) split
-        ∙ ap (filter test) (flat_map-append (λ (z : List Command). z) front ((s ∷ mid) ++ step ∷ after))
-        ∙ filter-append test (commands front) (commands ((s ∷ mid) ++ step ∷ after))
-        ∙ ap (λ xs. xs ++ filter test (commands ((s ∷ mid) ++ step ∷ after))) (kept_none test (commands front) too_early)
+        ∙ ap (filter test) (flat_map-append (λ (z : List Command). z) prefix ((s ∷ mid) ++ step ∷ after))
+        ∙ filter-append test (commands prefix) (commands ((s ∷ mid) ++ step ∷ after))
+        ∙ ap (λ xs. xs ++ filter test (commands ((s ∷ mid) ++ step ∷ after))) (kept_none test (commands prefix) too_early)
         ∙ ap (filter test) (flat_map-append (λ (z : List Command). z) (s ∷ mid) (step ∷ after))
         ∙ filter-append test (commands (s ∷ mid)) (commands (step ∷ after))
         ∙ ap (λ xs. filter test (commands (s ∷ mid)) ++ xs) (kept_none test (commands (step ∷ after)) too_late)
@@ -92,19 +92,19 @@ module _ (d : Station) (routes : List Route) (plan : List (List Command)) (named
         last true f e = e
         last false f e = refl
 
-        too_early : (g : Command) → In g (commands front) → test g ≡ false
+        too_early : (g : Command) → In g (commands prefix) → test g ≡ false
         too_early g k =
-            let w = step_within d routes plan named paths [] front ((s ∷ mid) ++ step ∷ after) g split k in
+            let w = step_within d routes plan named paths [] prefix ((s ∷ mid) ++ step ∷ after) g split k in
             let high = w.1 in
             let here = first_step in
             part (own g) (nat_le (step_of plan e) (step_of plan g)) (nat_lt (step_of plan g) (step_of plan c)) (not_le (step_of plan e) (step_of plan g) (omega arith))
 
         too_late : (g : Command) → In g (commands (step ∷ after)) → test g ≡ false
         too_late g k =
-            let whole : plan ≡ (front ++ s ∷ mid) ++ ((step ∷ after) ++ []) = split ∙ sym (append_assoc front (s ∷ mid) (step ∷ after)) ∙ ap (λ p. (front ++ s ∷ mid) ++ p) (sym (append-nil (step ∷ after))) in
-            let w = step_within d routes plan named paths (front ++ s ∷ mid) (step ∷ after) [] g whole k in
+            let whole : plan ≡ (prefix ++ s ∷ mid) ++ ((step ∷ after) ++ []) = split ∙ sym (append_assoc prefix (s ∷ mid) (step ∷ after)) ∙ ap (λ p. (prefix ++ s ∷ mid) ++ p) (sym (append-nil (step ∷ after))) in
+            let w = step_within d routes plan named paths (prefix ++ s ∷ mid) (step ∷ after) [] g whole k in
             let low = w.0 in
-            let size = length-append front (s ∷ mid) in
+            let size = length-append prefix (s ∷ mid) in
             let there = last_step in
             last (own g && nat_le (step_of plan e) (step_of plan g)) (nat_lt (step_of plan g) (step_of plan c)) (not_less (step_of plan g) (step_of plan c) (omega arith))
 
@@ -114,7 +114,7 @@ module _ (d : Station) (routes : List Route) (plan : List (List Command)) (named
 
         between : (g : Command) → In g (commands (s ∷ mid)) → test g ≡ own g
         between g k =
-            let w = step_within d routes plan named paths front (s ∷ mid) (step ∷ after) g split k in
+            let w = step_within d routes plan named paths prefix (s ∷ mid) (step ∷ after) g split k in
             let low = w.0 in
             let high = w.1 in
             let here = first_step in
@@ -138,21 +138,21 @@ module _ (d : Station) (routes : List Route) (plan : List (List Command)) (named
 
   -- ---- the step itself, and those behind it
 
-  same_keeps : (front : List (List Command)) (step : List Command) (after : List (List Command)) → plan ≡ front ++ step ∷ after → (e c : Command) (z : SectionNo) → In e step → In c step → 1 ≤ train_length d e.train → keeps_from d routes plan c z e ≡ stops d routes [] c.train z e
-  same_keeps front step after split e c z m n long =
-      let here = step_is d routes plan named paths front step after e split m in
-      let there = step_is d routes plan named paths front step after c split n in
+  same_keeps : (prefix : List (List Command)) (step : List Command) (after : List (List Command)) → plan ≡ prefix ++ step ∷ after → (e c : Command) (z : SectionNo) → In e step → In c step → 1 ≤ train_length d e.train → keeps_from d routes plan c z e ≡ stops d routes [] c.train z e
+  same_keeps prefix step after split e c z m n long =
+      let here = step_is d routes plan named paths prefix step after e split m in
+      let there = step_is d routes plan named paths prefix step after c split n in
       let needs : nat_le (release_offset (route_at routes e.route) z + train_length d e.train) 0 ≡ false = not_le (release_offset (route_at routes e.route) z + train_length d e.train) 0 (omega arith) in
       ap (λ b. not (is_train e.train c.train) && has_section (route_at routes e.route) z && (b || (nat_lt (step_of plan e) (step_of plan c) && not (can_clear d routes plan e c z)))) (eq-eqb (step_of plan e) (step_of plan c) (here ∙ sym there))
       ∙ ap (λ b. not (is_train e.train c.train) && has_section (route_at routes e.route) z && not (b || false)) (sym needs)
 
-  later_keeps : (front : List (List Command)) (step : List Command) (after : List (List Command)) → plan ≡ front ++ step ∷ after → (e c : Command) (z : SectionNo) → In e (commands after) → In c step → keeps_from d routes plan c z e ≡ false
-  later_keeps front step after split e c z m n =
-      let whole : plan ≡ (front ++ step ∷ []) ++ (after ++ []) = split ∙ sym (append_assoc front (step ∷ []) after) ∙ ap (λ p. (front ++ step ∷ []) ++ p) (sym (append-nil after)) in
-      let w = step_within d routes plan named paths (front ++ step ∷ []) after [] e whole m in
+  later_keeps : (prefix : List (List Command)) (step : List Command) (after : List (List Command)) → plan ≡ prefix ++ step ∷ after → (e c : Command) (z : SectionNo) → In e (commands after) → In c step → keeps_from d routes plan c z e ≡ false
+  later_keeps prefix step after split e c z m n =
+      let whole : plan ≡ (prefix ++ step ∷ []) ++ (after ++ []) = split ∙ sym (append_assoc prefix (step ∷ []) after) ∙ ap (λ p. (prefix ++ step ∷ []) ++ p) (sym (append-nil after)) in
+      let w = step_within d routes plan named paths (prefix ++ step ∷ []) after [] e whole m in
       let low = w.0 in
-      let size = length-append front (step ∷ []) in
-      let there = step_is d routes plan named paths front step after c split n in
+      let size = length-append prefix (step ∷ []) in
+      let there = step_is d routes plan named paths prefix step after c split n in
       let apart : (step_of plan e == step_of plan c) ≡ false = false_unless (step_of plan e == step_of plan c) (λ h. let l : step_of plan e ≡ step_of plan c = eqb-true (step_of plan e) (step_of plan c) h in absurd (omega arith)) in
       ap (λ b. not (is_train e.train c.train) && has_section (route_at routes e.route) z && (b || (nat_lt (step_of plan e) (step_of plan c) && not (can_clear d routes plan e c z)))) apart
       ∙ ap (λ b. not (is_train e.train c.train) && has_section (route_at routes e.route) z && (b && not (can_clear d routes plan e c z))) (not_less (step_of plan e) (step_of plan c) (omega arith))
@@ -165,24 +165,24 @@ module _ (d : Station) (routes : List Route) (plan : List (List Command)) (named
   -- ---- all that keep a command from a section
 
   module _ (long : (t : TrainNo) → IsTrain d t → 1 ≤ train_length d t) where
-    kept_is : (front before : List (List Command)) (step : List Command) (after : List (List Command)) → plan ≡ front ++ (before ++ step ∷ after) → (c : Command) (z : SectionNo) → In c step
+    kept_is : (prefix before : List (List Command)) (step : List Command) (after : List (List Command)) → plan ≡ prefix ++ (before ++ step ∷ after) → (c : Command) (z : SectionNo) → In c step
         → list_any (keeps_from d routes plan c z) (commands (before ++ step ∷ after)) ≡ is_stopped d routes c.train z before step
-    kept_is front [] step after split c z n =
+    kept_is prefix [] step after split c z n =
         list_any-append (keeps_from d routes plan c z) step (commands after)
-        ∙ ap (λ b. list_any (keeps_from d routes plan c z) step || b) (any_none (keeps_from d routes plan c z) (commands after) (λ e m. later_keeps front step after split e c z m n))
+        ∙ ap (λ b. list_any (keeps_from d routes plan c z) step || b) (any_none (keeps_from d routes plan c z) (commands after) (λ e m. later_keeps prefix step after split e c z m n))
         ∙ right (list_any (keeps_from d routes plan c z) step)
-        ∙ any_same (keeps_from d routes plan c z) (stops d routes [] c.train z) step (λ e m. same_keeps front step after split e c z m n (long e.train (train_there e m)))
+        ∙ any_same (keeps_from d routes plan c z) (stops d routes [] c.train z) step (λ e m. same_keeps prefix step after split e c z m n (long e.train (train_there e m)))
       where
         right : (a : Bool) → (a || false) ≡ a
         right true = refl
         right false = refl
 
         train_there : (e : Command) → In e step → IsTrain d e.train
-        train_there e m = its_train d routes e (list_all_at (is_of d routes) (commands plan) e named (subst (λ p. In e (commands p)) (sym split) (in_flat_map (λ s. s) (front ++ step ∷ after) step e (in_append_right step front (step ∷ after) (inl refl)) m)))
-    kept_is front (s ∷ ss) step after split c z n =
+        train_there e m = its_train d routes e (list_all_at (is_of d routes) (commands plan) e named (subst (λ p. In e (commands p)) (sym split) (in_flat_map (λ s. s) (prefix ++ step ∷ after) step e (in_append_right step prefix (step ∷ after) (inl refl)) m)))
+    kept_is prefix (s ∷ ss) step after split c z n =
         list_any-append (keeps_from d routes plan c z) s (commands (ss ++ step ∷ after))
-        ∙ ap (λ b. b || list_any (keeps_from d routes plan c z) (commands (ss ++ step ∷ after))) (any_same (keeps_from d routes plan c z) (stops d routes (s ∷ ss) c.train z) s (λ e m. earlier_keeps front ss s step after split e c m n z))
-        ∙ ap (λ b. list_any (stops d routes (s ∷ ss) c.train z) s || b) (kept_is (front ++ s ∷ []) ss step after (split ∙ sym (append_assoc front (s ∷ []) (ss ++ step ∷ after))) c z n)
+        ∙ ap (λ b. b || list_any (keeps_from d routes plan c z) (commands (ss ++ step ∷ after))) (any_same (keeps_from d routes plan c z) (stops d routes (s ∷ ss) c.train z) s (λ e m. earlier_keeps prefix ss s step after split e c m n z))
+        ∙ ap (λ b. list_any (stops d routes (s ∷ ss) c.train z) s || b) (kept_is (prefix ++ s ∷ []) ss step after (split ∙ sym (append_assoc prefix (s ∷ []) (ss ++ step ∷ after))) c z n)
 
     -- the places of a step are those found from the steps up to it
     pub blocked_step : (i : ℕ) (step : List Command) → i < length plan → step ≡ get_or plan i step → flat_map (blocked_in d routes plan (i + 1)) (trains d) ≡ stopped d routes (take i plan) step

@@ -13,7 +13,7 @@ use Rattle.rail_base.specs.Stations.{train_length, IsTrain}
 use Rattle.rail_spec.specs.Plans.{is_train, route_at, sections, has_section, release_offset, path, path_routes, routes_given}
 use Rattle.rail_plan.specs.declared.holds.Hold.{Hold}
 use Rattle.rail_plan.specs.Ahead.{clears, stops, is_stopped, stopped_sections}
-use Rattle.rail_plan.specs.Holds.{rest_after, hold_at, keeps_out, lacks, takes, is_held, held_sections, lack_of, lack_in, lack, AreHolds}
+use Rattle.rail_plan.specs.Holds.{rest_after, hold_at, keeps_out, lacks, takes, is_kept_from, kept_sections, lack_of, lack_in, lack, AreHolds}
 use Rattle.rail_plan.specs.Named.{HaveTrains}
 use Rattle.rail_base.proofs.Members.{and_left, and_right, and_both, below_or_not, either, false_unless, is_false, list_any_gives, or_left, or_right, same_bool}
 use Rattle.rail_laws.proofs.Given.{same_train}
@@ -104,14 +104,14 @@ module _ (d : Station) (routes : List Route) (t : TrainNo) (z : SectionNo) where
   lack_there : (between : List (List Command)) (e : Command) → stops d routes between t z e ≡ true → (is_train e.train t ≡ false) × (0 < lack_of d routes z e.train (path_routes routes between e.train) e)
   lack_there between e h =
       let r = route_at routes e.route in
-      let front = and_left (not (is_train e.train t) && has_section r z) (not (clears d routes between e z)) h in
-      let has = and_right (not (is_train e.train t)) (has_section r z) front in
+      let prefix = and_left (not (is_train e.train t) && has_section r z) (not (clears d routes between e z)) h in
+      let has = and_right (not (is_train e.train t)) (has_section r z) prefix in
       let kept : clears d routes between e z ≡ false = is_false (clears d routes between e z) (and_right (not (is_train e.train t) && has_section r z) (not (clears d routes between e z)) h) in
       let need = release_offset r z + train_length d e.train in
       let given = path_routes routes between e.train in
       let left : 0 < rest_after need given = some (rest_after need given) (rest_is need given ∙ kept) in
       let both : (is_train e.train e.train && has_section r z) ≡ true = and_both (is_train e.train e.train) (has_section r z) (is_own e.train) has in
-      (is_false (is_train e.train t) (and_left (not (is_train e.train t)) (has_section r z) front), subst (λ n. 0 < n) (sym (ap (λ b. if b then rest_after need given else 0) both)) left)
+      (is_false (is_train e.train t) (and_left (not (is_train e.train t)) (has_section r z) prefix), subst (λ n. 0 < n) (sym (ap (λ b. if b then rest_after need given else 0) both)) left)
 
   lack_at : (u : TrainNo) (given : List Route) (es : List Command) (e : Command) → In e es → lack_of d routes z u given e ≤ lack_in d routes z u given es
   lack_at u given [] e m = absurd m
@@ -216,11 +216,11 @@ module _ (d : Station) (routes : List Route) where
     takes_is t z = any_same (stops d routes [] t z) (takes routes t z) step (λ e m. here_is t z e (long e.train (all_in (λ (c : Command). IsTrain d c.train) step e named m)))
 
     -- the holds and the step tell what stops a train
-    held_is : (before : List (List Command)) (holds : List Hold) → AreHolds d routes before holds → (t : TrainNo) (z : SectionNo) → is_held routes holds step t z ≡ is_stopped d routes t z before step
+    held_is : (before : List (List Command)) (holds : List Hold) → AreHolds d routes before holds → (t : TrainNo) (z : SectionNo) → is_kept_from routes holds step t z ≡ is_stopped d routes t z before step
     held_is before holds are t z =
         sym (stopped_apart d routes t z before step
         ∙ ap (λ b. b || list_any (stops d routes [] t z) step) (kept_out_is d routes t z before (hold_at holds z) (are.each z))
         ∙ ap (λ b. keeps_out (hold_at holds z) t || b) (takes_is t z))
 
-    pub held_sections_are : (before : List (List Command)) (holds : List Hold) → AreHolds d routes before holds → (c : Command) → held_sections routes holds step c ≡ stopped_sections d routes before step c
-    held_sections_are before holds are c = kept_same (is_held routes holds step c.train) (λ z. is_stopped d routes c.train z before step) (sections (route_at routes c.route)) (λ z m. held_is before holds are c.train z)
+    pub held_sections_are : (before : List (List Command)) (holds : List Hold) → AreHolds d routes before holds → (c : Command) → kept_sections routes holds step c ≡ stopped_sections d routes before step c
+    held_sections_are before holds are c = kept_same (is_kept_from routes holds step c.train) (λ z. is_stopped d routes c.train z before step) (sections (route_at routes c.route)) (λ z m. held_is before holds are c.train z)

@@ -12,7 +12,7 @@ pub mod Shapes
 pub mod TrainNames
 pub mod Seen
 pub mod Json
-pub mod Spelled
+pub mod Parsed
 pub mod Holding
 pub mod Taking
 pub mod Within

@@ -75,8 +75,8 @@ pub trains_are_long : (d : Station) → is_admitted d ≡ true → (t : TrainNo)
 trains_are_long d h t k = ((admitted d h).vehicle (train_of d t).vehicle ((admitted d h).train t k).vehicle).length_mm.0
 
 -- what holds of all holds of those in front
-pub all_front : {X : Type 0} (P : X → Type 0) (xs : List X) (n : ℕ) → All P xs → All P (take n xs)
-all_front P xs n h = λ k e l. let size = length-take n xs in subst P (sym (get_or-take n xs k e (omega arith))) (h k e (omega arith))
+pub all_prefix : {X : Type 0} (P : X → Type 0) (xs : List X) (n : ℕ) → All P xs → All P (take n xs)
+all_prefix P xs n h = λ k e l. let size = length-take n xs in subst P (sym (get_or-take n xs k e (omega arith))) (h k e (omega arith))
 
 pub all_here : {X : Type 0} (P : X → Type 0) (xs : List X) (i : ℕ) (x : X) → i < length xs → x ≡ get_or xs i x → All P xs → P x
 all_here P xs i x l e h = subst P (sym e) (h i x l)

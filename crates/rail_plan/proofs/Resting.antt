@@ -47,10 +47,10 @@ rest_max n m (r ∷ rs) = go (exits r) (rest_max (n - length_mm r) (m - length_m
 
 -- ---- nothing is left exactly where the routes are as long, or one exits
 
-less_left : (need front rest : ℕ) → nat_le (need - front) rest ≡ nat_le need (front + rest)
-less_left need front rest = same_bool (nat_le (need - front) rest) (nat_le need (front + rest))
-    (λ h. let l = leb-true (need - front) rest h in le-leb need (front + rest) (omega arith))
-    (λ h. let l = leb-true need (front + rest) h in le-leb (need - front) rest (omega arith))
+less_left : (need prefix rest : ℕ) → nat_le (need - prefix) rest ≡ nat_le need (prefix + rest)
+less_left need prefix rest = same_bool (nat_le (need - prefix) rest) (nat_le need (prefix + rest))
+    (λ h. let l = leb-true (need - prefix) rest h in le-leb need (prefix + rest) (omega arith))
+    (λ h. let l = leb-true need (prefix + rest) h in le-leb (need - prefix) rest (omega arith))
 
 pub rest_is : (need : ℕ) (given : List Route) → (rest_after need given == 0) ≡ (nat_le need (sum_by length_mm given) || list_any exits given)
 rest_is need [] = same_bool (need == 0) (nat_le need 0 || false)

@@ -62,14 +62,14 @@ module _ (d : Station) (routes : List Route) (plan : List (List Command)) where
   stands_free e c z may m keeps =
       let r = route_at routes e.route in
       let q = route_at routes c.route in
-      let front = not (is_train e.train c.train) && has_section r z in
+      let prefix = not (is_train e.train c.train) && has_section r z in
       let sooner = nat_lt (step_of plan e) (step_of plan c) in
       let late = (step_of plan e == step_of plan c) || (sooner && not (can_clear d routes plan e c z)) in
-      let both = and_left front late keeps in
+      let both = and_left prefix late keeps in
       let has = and_right (not (is_train e.train c.train)) (has_section r z) both in
       let other = is_false (is_train e.train c.train) (and_left (not (is_train e.train c.train)) (has_section r z) both) in
       go (is_train e.train c.train) (share r q) (nat_lt (step_of plan c) (step_of plan e)) sooner (can_clear d routes plan e c z) (list_all (can_clear d routes plan e c) (shared r q)) (step_of plan e == step_of plan c)
-      other (shares_it r q z has m) refl refl refl (λ h. list_all_at (can_clear d routes plan e c) (shared r q) z h (in_shared r q z has m)) refl may (and_right front late keeps)
+      other (shares_it r q z has m) refl refl refl (λ h. list_all_at (can_clear d routes plan e c) (shared r q) z h (in_shared r q z has m)) refl may (and_right prefix late keeps)
     where
       go : (t s l f k a i : Bool) → t ≡ false → s ≡ true → nat_lt (step_of plan c) (step_of plan e) ≡ l → nat_lt (step_of plan e) (step_of plan c) ≡ f → can_clear d routes plan e c z ≡ k
           → (a ≡ true → can_clear d routes plan e c z ≡ true) → (step_of plan e == step_of plan c) ≡ i → (t || not s || l || (f && a)) ≡ true → (i || (f && not k)) ≡ true → ⊥

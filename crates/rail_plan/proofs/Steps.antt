@@ -20,7 +20,7 @@ use Rattle.rail_plan.proofs.Named.{its_train}
 use Rattle.rail_plan.proofs.Empties.{in_trains}
 
 -- a list about one of its members
-pub split_at : {X : Type 0} (xs : List X) (x : X) → In x xs → (front : List X) × (back : List X) × (xs ≡ front ++ x ∷ back)
+pub split_at : {X : Type 0} (xs : List X) (x : X) → In x xs → (prefix : List X) × (back : List X) × (xs ≡ prefix ++ x ∷ back)
 split_at [] x m = absurd m
 split_at (y ∷ ys) x (inl e) = ([], ys, ap (λ z. z ∷ ys) e)
 split_at (y ∷ ys) x (inr m) = let l = split_at ys x m in (y ∷ l.0, l.1, ap (λ zs. y ∷ zs) l.2)
@@ -93,5 +93,5 @@ module _ (d : Station) (routes : List Route) (plan : List (List Command)) (named
           split ∙ ap (λ p. xs ++ (p ++ zs)) parts.2 ∙ ap (λ p. xs ++ p) (append_assoc parts.0 (s ∷ parts.1) zs) ∙ sym (append_assoc xs parts.0 (s ∷ (parts.1 ++ zs))) in
           let number = step_is (xs ++ parts.0) s (parts.1 ++ zs) e whole n in
           let all : length ys ≡ length parts.0 + suc (length parts.1) = ap length parts.2 ∙ length-append parts.0 (s ∷ parts.1) in
-          let front = length-append xs parts.0 in
+          let prefix = length-append xs parts.0 in
           (omega arith, omega arith)

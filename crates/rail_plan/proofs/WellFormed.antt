@@ -104,11 +104,11 @@ go_on_from t rs (g ∷ []) p n = and_right (is_path t rs) (may_follow t rs g) (s
 go_on_from t rs (g ∷ k ∷ gs) p n = absurd (omega arith)
 
 -- the front of a path is a path
-path_front : (t : Train) (rs gs : List Route) → is_path t (rs ++ gs) ≡ true → is_path t rs ≡ true
-path_front t rs [] p = subst (λ qs. is_path t qs ≡ true) (append-nil rs) p
-path_front t rs (g ∷ gs) p =
-    let front = path_front t (rs ++ g ∷ []) gs (subst (λ qs. is_path t qs ≡ true) (sym (append_assoc rs (g ∷ []) gs)) p) in
-    and_left (is_path t rs) (may_follow t rs g) (sym (path_more t rs g) ∙ front)
+path_prefix : (t : Train) (rs gs : List Route) → is_path t (rs ++ gs) ≡ true → is_path t rs ≡ true
+path_prefix t rs [] p = subst (λ qs. is_path t qs ≡ true) (append-nil rs) p
+path_prefix t rs (g ∷ gs) p =
+    let prefix = path_prefix t (rs ++ g ∷ []) gs (subst (λ qs. is_path t qs ≡ true) (sym (append_assoc rs (g ∷ []) gs)) p) in
+    and_left (is_path t rs) (may_follow t rs g) (sym (path_more t rs g) ∙ prefix)
 
 -- ---- one step
 
@@ -191,8 +191,8 @@ module _ (d : Station) (routes : List Route) (plan : List (List Command)) where
   right_of_path t p i h few =
       let whole = path_joined t (take (i + 1) plan) (drop (i + 1) plan) in
       let split = subst (λ xs. is_path (train_of d t) (path_routes routes xs t) ≡ true) (sym (take-append-drop (i + 1) plan)) p in
-      let front = path_front (train_of d t) (path_routes routes (take (i + 1) plan) t) (path_routes routes (drop (i + 1) plan) t) (subst (λ rs. is_path (train_of d t) rs ≡ true) whole split) in
-      go_on_from (train_of d t) (path_routes routes (take i plan) t) (map (route_at routes) (routes_given t (get_or plan i []))) (subst (λ rs. is_path (train_of d t) rs ≡ true) (path_step t i h) front) (subst (λ n. n ≤ 1) (sym (length-map (route_at routes) (routes_given t (get_or plan i [])))) few)
+      let prefix = path_prefix (train_of d t) (path_routes routes (take (i + 1) plan) t) (path_routes routes (drop (i + 1) plan) t) (subst (λ rs. is_path (train_of d t) rs ≡ true) whole split) in
+      go_on_from (train_of d t) (path_routes routes (take i plan) t) (map (route_at routes) (routes_given t (get_or plan i []))) (subst (λ rs. is_path (train_of d t) rs ≡ true) (path_step t i h) prefix) (subst (λ n. n ≤ 1) (sym (length-map (route_at routes) (routes_given t (get_or plan i [])))) few)
 
   -- ---- the places
 
@@ -252,10 +252,10 @@ module _ (d : Station) (routes : List Route) (plan : List (List Command)) where
       where
         from : is_well_formed d routes n plan ≡ true → misplaced d routes n plan ≡ []
         from h =
-            let front = and_left (nat_le (length plan) n && list_all one_each plan) (list_all (λ t. is_path (train_of d t) (path_routes routes plan t)) (trains d)) h in
-            let short = and_left (nat_le (length plan) n) (list_all one_each plan) front in
+            let prefix = and_left (nat_le (length plan) n && list_all one_each plan) (list_all (λ t. is_path (train_of d t) (path_routes routes plan t)) (trains d)) h in
+            let short = and_left (nat_le (length plan) n) (list_all one_each plan) prefix in
             ap (λ b. (if b then [] else place.Step (n + 1) ∷ []) ++ placed_badly d routes plan) short
-            ∙ none_of_steps (and_right (nat_le (length plan) n) (list_all one_each plan) front) (and_right (nat_le (length plan) n && list_all one_each plan) (list_all (λ t. is_path (train_of d t) (path_routes routes plan t)) (trains d)) h)
+            ∙ none_of_steps (and_right (nat_le (length plan) n) (list_all one_each plan) prefix) (and_right (nat_le (length plan) n && list_all one_each plan) (list_all (λ t. is_path (train_of d t) (path_routes routes plan t)) (trains d)) h)
 
         to : (b : Bool) → nat_le (length plan) n ≡ b → (if b then [] else place.Step (n + 1) ∷ []) ++ placed_badly d routes plan ≡ [] → is_well_formed d routes n plan ≡ true
         to true e h =

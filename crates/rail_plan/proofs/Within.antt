@@ -19,7 +19,7 @@ use Rattle.rail_base.proofs.Lists.{in_map, in_map_back}
 use Rattle.rail_base.proofs.Members.{and_left, and_right, either}
 use Rattle.rail_spec.specs.Track.{first_occurrences, routes_of}
 use Rattle.rail_laws.proofs.Admits.{entry_is}
-use Rattle.rail_laws.proofs.RouteLaws.{route_is, way_edges}
+use Rattle.rail_laws.proofs.RouteLaws.{route_is, walk_edges}
 use Rattle.rail_laws.proofs.Told.{first_in, told}
 use Rattle.interlocking.specs.declared.railway.Interlocking.{Interlocking}
 
@@ -42,7 +42,7 @@ module _ (i : Interlocking) where
           at : ((e : EdgeNo) × In e q.edges × (section_of station e ≡ p.0)) → (1 ≤ p.0.0) × (p.0.0 ≤ length station.sections)
           at (e, n, same) =
               let l = (route_is station adm q m).elementary in
-              subst (λ (z : SectionNo). (1 ≤ z.0) × (z.0 ≤ length station.sections)) same (adm.edge e (way_edges station l.end q.edges l.way e n)).section
+              subst (λ (z : SectionNo). (1 ≤ z.0) × (z.0 ≤ length station.sections)) same (adm.edge e (walk_edges station l.end q.edges l.walk e n)).section
 
   -- a part by its place in the route
   pub part_within : (r : RouteNo) (parts : List (SectionNo × ℤ)) (k : ℕ) (other : SectionNo × ℤ) → parts ≡ (route_at i.routes r).sections → k < length parts → (n : ℕ) → length station.sections ≤ n
@@ -65,8 +65,8 @@ numbered_few total known (e ∷ es) h = go (either (nat_le e.section.0 known && 
 pub few_sections : (d : Station) → is_admitted d ≡ true → length d.sections ≤ 4000
 few_sections d h =
     let sound = and_right (are_few d && is_timed d && are_named d) (is_sound_track d) (and_left (are_few d && is_timed d && are_named d && is_sound_track d) (is_sound_traffic d) h) in
-    let front = and_left (nodes_pass && edges_pass && are_numbered (length d.sections) 0 d.edges) signals_pass (and_left (nodes_pass && edges_pass && are_numbered (length d.sections) 0 d.edges && signals_pass) (all_pairs are_apart d.signals) sound) in
-    let few = numbered_few (length d.sections) 0 d.edges (and_right (nodes_pass && edges_pass) (are_numbered (length d.sections) 0 d.edges) front) in
+    let prefix = and_left (nodes_pass && edges_pass && are_numbered (length d.sections) 0 d.edges) signals_pass (and_left (nodes_pass && edges_pass && are_numbered (length d.sections) 0 d.edges && signals_pass) (all_pairs are_apart d.signals) sound) in
+    let few = numbered_few (length d.sections) 0 d.edges (and_right (nodes_pass && edges_pass) (are_numbered (length d.sections) 0 d.edges) prefix) in
     let most = (admitted d h).many_edges in
     omega arith
   where

@@ -55,12 +55,12 @@ module _ (routes : List Route) where
   takes t z e = not (is_train e.train t) && has_section (route_at routes e.route) z
 
   -- the holds or the commands of the step keep the train from the section
-  abbrev pub is_held : List Hold → List Command → TrainNo → SectionNo → Bool
-  is_held holds step t z = keeps_out (hold_at holds z) t || list_any (takes t z) step
+  abbrev pub is_kept_from : List Hold → List Command → TrainNo → SectionNo → Bool
+  is_kept_from holds step t z = keeps_out (hold_at holds z) t || list_any (takes t z) step
 
   -- the sections of a command's route from which they keep it
-  abbrev pub held_sections : List Hold → List Command → Command → List SectionNo
-  held_sections holds step c = filter (is_held holds step c.train) (sections (route_at routes c.route))
+  abbrev pub kept_sections : List Hold → List Command → Command → List SectionNo
+  kept_sections holds step c = filter (is_kept_from holds step c.train) (sections (route_at routes c.route))
 
 -- ---- steps
 

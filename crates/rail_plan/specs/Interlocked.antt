@@ -78,12 +78,12 @@ module _ (i : Interlocking) where
   turned = held.turned i.design.station i.routes
 
   -- the holds or the commands of the step keep the train from the section
-  abbrev pub is_held : List Hold → List Command → TrainNo → SectionNo → Bool
-  is_held = held.is_held i.routes
+  abbrev pub is_kept_from : List Hold → List Command → TrainNo → SectionNo → Bool
+  is_kept_from = held.is_kept_from i.routes
 
   -- the sections of a command's route from which they keep it
-  abbrev pub held_sections : List Hold → List Command → Command → List SectionNo
-  held_sections = held.held_sections i.routes
+  abbrev pub kept_sections : List Hold → List Command → Command → List SectionNo
+  kept_sections = held.kept_sections i.routes
 
   -- the holds tell for each section the one train that can't leave it after these steps
   abbrev pub AreHolds : List (List Command) → List Hold → Type 0

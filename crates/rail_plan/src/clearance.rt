@@ -7,7 +7,7 @@ ghost use Rattle.rail_base.specs.Routes.{IsRoute};
 ghost use Rattle.rail_spec.specs.Plans.{contend, one_each};
 ghost use Rattle.rail_plan.specs.Named.{HaveRoutes, HaveTrains};
 ghost use Rattle.interlocking.specs.Plans.{is_executable, IsWellFormed};
-ghost use Rattle.rail_plan.specs.Interlocked.{AreHolds, blocked, held_sections, is_held, stopped, stopped_in, takes};
+ghost use Rattle.rail_plan.specs.Interlocked.{AreHolds, blocked, kept_sections, is_kept_from, stopped, stopped_in, takes};
 
 use crate::formed::first_given;
 use crate::holds::{Hold, is_kept_out, no_holds, turn};
@@ -17,6 +17,16 @@ use rail_base::list::List;
 use rail_base::plan::{Command, Plan};
 use rail_base::route::route_at;
 use rail_base::station::{SectionNo, TrainNo};
+
+/// Where a well-formed plan can't be carried out, or None where it can: by step, by train in file order and by
+/// section in the order of the route.
+pub fn executable(interlocking: &Interlocking, plan: &Plan) -> Option<PlanPlace>
+    requires { (n : ℕ) × IsWellFormed interlocking.now n plan.now.steps }
+    ensures executable { IsNone result ↔ (is_executable interlocking.now plan.now.steps ≡ true) }
+    ensures place { result ≡ first_of_list (blocked interlocking.now plan.now.steps) }
+{
+    first_blocked(interlocking, plan.steps.as_slice())
+}
 
 /// Whether a step gives another train a route that has a section in common with a command's.
 fn is_contended(interlocking: &Interlocking, step: &List<Command>, command: Command) -> bool
@@ -52,7 +62,7 @@ fn is_taken(
 
 /// Whether the holds or the commands of its step keep a command from a section. Those of the step are looked at only where
 /// the command is contended.
-fn is_held(
+fn is_kept_from(
     interlocking: &Interlocking,
     holds: &[Hold],
     step: &List<Command>,
@@ -60,11 +70,11 @@ fn is_held(
     train: TrainNo,
     section: SectionNo,
 ) -> bool
-    requires first { 1 ≤ section.0 }
-    requires last { section.0 ≤ length holds.now }
+    requires at_least_one { 1 ≤ section.0 }
+    requires within { section.0 ≤ length holds.now }
     requires step { HaveRoutes interlocking.now.routes step.now }
     requires contended { contended ≡ false → list_any (takes interlocking.now train section) step.now ≡ false }
-    ensures { result ≡ is_held interlocking.now holds.now step.now train section }
+    ensures { result ≡ is_kept_from interlocking.now holds.now step.now train section }
 {
     if is_kept_out(holds, train, section) {
         return true;
@@ -76,23 +86,23 @@ fn is_held(
 }
 
 /// The first section, in the order of its route, from which the holds or the commands of its step keep a command.
-fn held_section(
+fn kept_section(
     interlocking: &Interlocking,
     holds: &[Hold],
     step: &List<Command>,
     command: Command,
 ) -> Option<SectionNo>
-    requires many { length interlocking.now.design.station.sections ≤ length holds.now }
+    requires every_section { length interlocking.now.design.station.sections ≤ length holds.now }
     requires step { HaveRoutes interlocking.now.routes step.now }
     requires route { IsRoute interlocking.now.routes command.route }
-    ensures { result ≡ first_of_list (held_sections interlocking.now holds.now step.now command) }
+    ensures { result ≡ first_of_list (kept_sections interlocking.now holds.now step.now command) }
 {
     let contended = is_contended(interlocking, step, command);
     for part in route_at(&interlocking.routes, command.route)
         .sections
         .as_slice()
     {
-        if is_held(interlocking, holds, step, contended, command.train, part.0) {
+        if is_kept_from(interlocking, holds, step, contended, command.train, part.0) {
             return Some(part.0);
         }
     }
@@ -114,7 +124,7 @@ fn stopped_train(
     ensures { result ≡ first_of_list (stopped_in interlocking.now before.now step.now train) }
 {
     let route = first_given(step, train)?;
-    let section = held_section(interlocking, holds, step, Command { train, route })?;
+    let section = kept_section(interlocking, holds, step, Command { train, route })?;
     Some(PlanPlace::Section {
         step: before.len() + 1,
         train,
@@ -158,14 +168,4 @@ fn first_blocked(interlocking: &Interlocking, steps: &[List<Command>]) -> Option
         turn(interlocking, step, &mut holds);
     }
     None
-}
-
-/// Where a well-formed plan can't be carried out, or None where it can: by step, by train in file order and by
-/// section in the order of the route.
-pub fn executable(interlocking: &Interlocking, plan: &Plan) -> Option<PlanPlace>
-    requires { (n : ℕ) × IsWellFormed interlocking.now n plan.now.steps }
-    ensures executable { IsNone result ↔ (is_executable interlocking.now plan.now.steps ≡ true) }
-    ensures place { result ≡ first_of_list (blocked interlocking.now plan.now.steps) }
-{
-    first_blocked(interlocking, plan.steps.as_slice())
 }

@@ -20,6 +20,28 @@ use rail_base::plan::{Command, Plan};
 use rail_base::route::{Route, RouteNo, RouteTable, Start, route_at};
 use rail_base::station::TrainNo;
 
+/// Where a plan isn't well formed for `n`, or None where it is: first that it has more than `n` steps, then by step
+/// and by train in file order.
+pub fn well_formed(interlocking: &Interlocking, plan: &Plan, n: u32) -> Option<PlanPlace>
+    requires { names_only interlocking.now plan.now.steps ≡ true }
+    ensures formed { IsNone result ↔ (is_well_formed interlocking.now n plan.now.steps ≡ true) }
+    ensures place { result ≡ first_of_list (misplaced interlocking.now n plan.now.steps) }
+{
+    first_place(interlocking, plan.steps.as_slice(), n as usize)
+}
+
+/// The first route that a step gives to a train.
+pub(crate) fn first_given(step: &List<Command>, train: TrainNo) -> Option<RouteNo>
+    ensures { result ≡ first_of_list (routes_given train step.now) }
+{
+    for command in step.as_slice() {
+        if command.train == train {
+            return Some(command.route);
+        }
+    }
+    None
+}
+
 /// Whether two routes start at different places, and don't end at one signal.
 fn are_apart(one: &Route, other: &Route) -> bool
     ensures { result ≡ are_apart one.now other.now }
@@ -49,18 +71,6 @@ fn count_given(step: &List<Command>, train: TrainNo) -> usize
         }
     }
     count
-}
-
-/// The first route that a step gives to a train.
-pub(crate) fn first_given(step: &List<Command>, train: TrainNo) -> Option<RouteNo>
-    ensures { result ≡ first_of_list (routes_given train step.now) }
-{
-    for command in step.as_slice() {
-        if command.train == train {
-            return Some(command.route);
-        }
-    }
-    None
 }
 
 #[tactic(auto, using(crate::proofs::Firsts::lasts))]
@@ -238,14 +248,4 @@ fn first_place(interlocking: &Interlocking, steps: &[List<Command>], n: usize) -
         return Some(PlanPlace::Step { step: n + 1 });
     }
     first_misplaced(interlocking, steps)
-}
-
-/// Where a plan isn't well formed for `n`, or None where it is: first that it has more than `n` steps, then by step
-/// and by train in file order.
-pub fn well_formed(interlocking: &Interlocking, plan: &Plan, n: u32) -> Option<PlanPlace>
-    requires { names_only interlocking.now plan.now.steps ≡ true }
-    ensures formed { IsNone result ↔ (is_well_formed interlocking.now n plan.now.steps ≡ true) }
-    ensures place { result ≡ first_of_list (misplaced interlocking.now n plan.now.steps) }
-{
-    first_place(interlocking, plan.steps.as_slice(), n as usize)
 }

@@ -28,7 +28,7 @@ pub struct Hold {
 
 /// The holds before any step.
 pub(crate) fn no_holds() -> [Hold; MOST_SECTIONS]
-    ensures many { length result ≡ 4000 }
+    ensures count { length result ≡ 4000 }
     ensures none { (z : SectionNo) → hold_at result z ≡ no_hold }
 {
     [Hold {
@@ -39,12 +39,25 @@ pub(crate) fn no_holds() -> [Hold; MOST_SECTIONS]
 
 /// Whether another train stands on a section that can't leave it.
 pub(crate) fn is_kept_out(holds: &[Hold], train: TrainNo, section: SectionNo) -> bool
-    requires first { 1 ≤ section.0 }
-    requires last { section.0 ≤ length holds.now }
+    requires at_least_one { 1 ≤ section.0 }
+    requires within { section.0 ≤ length holds.now }
     ensures { result ≡ keeps_out (hold_at holds.now section) train }
 {
     let hold = holds[section.0 as usize - 1];
     hold.train != train && hold.left != 0
+}
+
+/// Turns holds into those after one step more.
+pub(crate) fn turn(interlocking: &Interlocking, step: &List<Command>, holds: &mut [Hold])
+    requires every_section { length interlocking.now.design.station.sections ≤ length holds.old }
+    requires trains { HaveTrains interlocking.now.design.station step.now }
+    requires routes { HaveRoutes interlocking.now.routes step.now }
+    ensures same_length { length holds.new ≡ length holds.old }
+    ensures turned { (z : SectionNo) → hold_at holds.new z
+        ≡ turned interlocking.now z step.now (hold_at holds.old z) }
+{
+    give_step(&interlocking.routes, step, holds);
+    take_step(interlocking, holds, step);
 }
 
 #[tactic(auto, using(crate::proofs::Resting::rest_none))]
@@ -82,7 +95,7 @@ fn given_step(routes: &RouteTable, step: &List<Command>, hold: Hold) -> Hold
 /// Gives the trains of holds the routes that a step has for them.
 fn give_step(routes: &RouteTable, step: &List<Command>, holds: &mut [Hold])
     requires { HaveRoutes routes.now step.now }
-    ensures many { length holds.new ≡ length holds.old }
+    ensures same_length { length holds.new ≡ length holds.old }
     ensures given { (z : SectionNo) → hold_at holds.new z ≡ given_step routes.now step.now (hold_at holds.old z) }
 {
     for index in 0..holds.len() {
@@ -92,7 +105,7 @@ fn give_step(routes: &RouteTable, step: &List<Command>, holds: &mut [Hold])
 }
 
 /// A hold after a train that lacks so much track took the section.
-fn taken(hold: Hold, train: TrainNo, left: u128) -> Hold
+fn hold_after(hold: Hold, train: TrainNo, left: u128) -> Hold
     ensures { result ≡ taken hold train left }
 {
     if hold.train == train {
@@ -107,15 +120,15 @@ fn taken(hold: Hold, train: TrainNo, left: u128) -> Hold
 
 /// A train that lacks so much track takes a section.
 fn take(holds: &mut [Hold], section: SectionNo, train: TrainNo, left: u128)
-    requires first { 1 ≤ section.0 }
-    requires last { section.0 ≤ length holds.old }
-    ensures many { length holds.new ≡ length holds.old }
+    requires at_least_one { 1 ≤ section.0 }
+    requires within { section.0 ≤ length holds.old }
+    ensures same_length { length holds.new ≡ length holds.old }
     ensures taken { (z : SectionNo) → hold_at holds.new z
         ≡ (if section.0 == z.0 then taken (hold_at holds.old z) train left else hold_at holds.old z) }
 {
     let place = section.0 as usize - 1;
     let hold = holds[place];
-    holds[place] = taken(hold, train, left);
+    holds[place] = hold_after(hold, train, left);
 }
 
 /// How much track the train of a command lacks after the command's route, for a release at this offset of the route.
@@ -142,10 +155,10 @@ fn offset_of(part: &(SectionNo, i64)) -> u64
 
 /// The train of a command takes the sections of the command's route.
 fn take_route(interlocking: &Interlocking, holds: &mut [Hold], command: Command)
-    requires many { length interlocking.now.design.station.sections ≤ length holds.old }
+    requires every_section { length interlocking.now.design.station.sections ≤ length holds.old }
     requires train { IsTrain interlocking.now.design.station command.train }
     requires route { IsRoute interlocking.now.routes command.route }
-    ensures many { length holds.new ≡ length holds.old }
+    ensures same_length { length holds.new ≡ length holds.old }
     ensures taken { (z : SectionNo) → hold_at holds.new z
         ≡ taken_by interlocking.now z command (hold_at holds.old z) }
 {
@@ -160,27 +173,14 @@ fn take_route(interlocking: &Interlocking, holds: &mut [Hold], command: Command)
 
 /// The trains of a step's commands take the sections of the commands' routes.
 fn take_step(interlocking: &Interlocking, holds: &mut [Hold], step: &List<Command>)
-    requires many { length interlocking.now.design.station.sections ≤ length holds.old }
+    requires every_section { length interlocking.now.design.station.sections ≤ length holds.old }
     requires trains { HaveTrains interlocking.now.design.station step.now }
     requires routes { HaveRoutes interlocking.now.routes step.now }
-    ensures many { length holds.new ≡ length holds.old }
+    ensures same_length { length holds.new ≡ length holds.old }
     ensures taken { (z : SectionNo) → hold_at holds.new z
         ≡ taken_by_step interlocking.now z step.now (hold_at holds.old z) }
 {
     for command in step.as_slice() {
         take_route(interlocking, holds, *command);
     }
-}
-
-/// Turns holds into those after one step more.
-pub(crate) fn turn(interlocking: &Interlocking, step: &List<Command>, holds: &mut [Hold])
-    requires many { length interlocking.now.design.station.sections ≤ length holds.old }
-    requires trains { HaveTrains interlocking.now.design.station step.now }
-    requires routes { HaveRoutes interlocking.now.routes step.now }
-    ensures many { length holds.new ≡ length holds.old }
-    ensures turned { (z : SectionNo) → hold_at holds.new z
-        ≡ turned interlocking.now z step.now (hold_at holds.old z) }
-{
-    give_step(&interlocking.routes, step, holds);
-    take_step(interlocking, holds, step);
 }

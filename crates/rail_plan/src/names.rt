@@ -27,6 +27,18 @@ pub(crate) fn train_names<'a>(
     Ok(names)
 }
 
+/// The command that is parsed from a value, where its train and its route are there.
+pub(crate) fn command_at(names: &IndexSet<&[u8]>, many: usize, value: &Value) -> Option<Command>
+    requires names { length names.now.keys ≤ 128 }
+    requires below_2_32 { many < 2 ^ 32 }
+    ensures { result ≡ seen (map (λ k. k.now) names.now.keys) many (view value.now) }
+{
+    let (train, route) = command_of(value)?;
+    let train = train_named(names, train)?;
+    let route = route_numbered(many, route)?;
+    Some(Command { train, route })
+}
+
 /// The train of a name.
 fn train_named(names: &IndexSet<&[u8]>, name: &str) -> Option<TrainNo>
     requires { length names.now.keys ≤ 128 }
@@ -46,16 +58,4 @@ fn route_numbered(many: usize, number: u64) -> Option<RouteNo>
     } else {
         None
     }
-}
-
-/// The command that a value spells, where its train and its route are there.
-pub(crate) fn command_at(names: &IndexSet<&[u8]>, many: usize, value: &Value) -> Option<Command>
-    requires names { length names.now.keys ≤ 128 }
-    requires many { many < 2 ^ 32 }
-    ensures { result ≡ seen (map (λ k. k.now) names.now.keys) many (view value.now) }
-{
-    let (train, route) = command_of(value)?;
-    let train = train_named(names, train)?;
-    let route = route_numbered(many, route)?;
-    Some(Command { train, route })
 }

@@ -12,22 +12,6 @@ use rail_base::route::RouteNo;
 use rail_base::station::TrainNo;
 use std::alloc::{AllocError, Global};
 
-/// Adds the routes that a step gives to a train.
-fn push_given(
-    routes: &mut Vec<RouteNo>,
-    step: &List<Command>,
-    train: TrainNo,
-) -> Result<(), AllocError>
-    ensures { OnOk result (routes.new.items ≡ routes.old.items ++ routes_given train step.now) }
-{
-    for command in step.as_slice() {
-        if command.train == train {
-            routes.push(command.route)?;
-        }
-    }
-    Ok(())
-}
-
 /// The routes given to a train, in step order.
 pub fn path_of(alloc: Global, plan: &Plan, train: TrainNo) -> Result<Vec<RouteNo>, AllocError>
     ensures { IfOk result (λ routes. routes.items ≡ path plan.now.steps train) }
@@ -37,13 +21,6 @@ pub fn path_of(alloc: Global, plan: &Plan, train: TrainNo) -> Result<Vec<RouteNo
         push_given(&mut routes, step, train)?;
     }
     Ok(routes)
-}
-
-/// Whether a step has a command.
-fn has_command(step: &List<Command>, command: Command) -> bool
-    ensures { result ≡ list_any (is_command command) step.now }
-{
-    step.as_slice().iter().any(|other| command == *other)
 }
 
 /// The step in which a command stands, counted from 1; one past the last where it stands in none.
@@ -76,4 +53,27 @@ pub fn precedes(interlocking: &Interlocking, plan: &Plan, first: Command, second
     ensures { result ≡ precedes interlocking.now.routes plan.now.steps first second }
 {
     contend(interlocking, first, second) && step_of(plan, first) < step_of(plan, second)
+}
+
+/// Adds the routes that a step gives to a train.
+fn push_given(
+    routes: &mut Vec<RouteNo>,
+    step: &List<Command>,
+    train: TrainNo,
+) -> Result<(), AllocError>
+    ensures { OnOk result (routes.new.items ≡ routes.old.items ++ routes_given train step.now) }
+{
+    for command in step.as_slice() {
+        if command.train == train {
+            routes.push(command.route)?;
+        }
+    }
+    Ok(())
+}
+
+/// Whether a step has a command.
+fn has_command(step: &List<Command>, command: Command) -> bool
+    ensures { result ≡ list_any (is_command command) step.now }
+{
+    step.as_slice().iter().any(|other| command == *other)
 }

@@ -23,6 +23,20 @@ use std::alloc::Global;
 /// How many steps a plan may have.
 const MOST_STEPS: u32 = 256;
 
+/// Reads a plan over a design and its routes, or answers the first refusal: P1 before P2, P2 before P3, P3 before P4, and
+/// of each the first place. A plan that is read is well formed for 256 and executable.
+pub fn read_plan(
+    alloc: Global,
+    interlocking: &Interlocking,
+    bytes: &[u8],
+) -> Result<Plan, PlanFault>
+    ensures given { Gives (λ p. p.steps) result (plan_of interlocking.now bytes.now) }
+    ensures runnable { IfOk result (λ p. IsRunnable interlocking.now 256 p.steps) }
+{
+    let value = value_of(alloc, bytes)?;
+    plan_at(alloc, interlocking, &value)
+}
+
 /// The value that the bytes are, by the reading of `serde_json`.
 fn value_of(alloc: Global, bytes: &[u8]) -> Result<Value, PlanFault>
     ensures { Gives view result (ok_or (json_of bytes.now) (PlanCode.P1, PlanPlace.File)) }
@@ -51,7 +65,7 @@ fn read_step(
     values: &[Value],
 ) -> Result<List<Command>, PlanFault>
     requires names { length names.now.keys ≤ 128 }
-    requires many { many < 2 ^ 32 }
+    requires below_2_32 { many < 2 ^ 32 }
     ensures { Gives (λ s. s) result (step_read (map (λ k. k.now) names.now.keys) many number (map view values.now)) }
 {
     let mut commands = List::new(alloc);
@@ -91,7 +105,7 @@ fn read_steps(
     values: &[Value],
 ) -> Result<List<List<Command>>, PlanFault>
     requires names { length names.now.keys ≤ 128 }
-    requires many { many < 2 ^ 32 }
+    requires below_2_32 { many < 2 ^ 32 }
     ensures { Gives (λ s. s) result (steps_read (map (λ k. k.now) names.now.keys) many (map view values.now)) }
 {
     let mut steps = List::new(alloc);
@@ -142,7 +156,7 @@ fn admit(interlocking: &Interlocking, plan: Plan) -> Result<Plan, PlanFault>
     }
 }
 
-/// The plan that a value spells, or the first refusal.
+/// The plan that is parsed from a value, or the first refusal.
 fn plan_at(alloc: Global, interlocking: &Interlocking, value: &Value) -> Result<Plan, PlanFault>
     ensures { Gives (λ p. p.steps) result (plan_of_text interlocking.now (text_steps (view value.now))) }
 {
@@ -156,18 +170,4 @@ fn plan_at(alloc: Global, interlocking: &Interlocking, value: &Value) -> Result<
             place: PlanPlace::File,
         }),
     }
-}
-
-/// Reads a plan over a design and its routes, or tells the first refusal: P1 before P2, P2 before P3, P3 before P4, and
-/// of each the first place. A plan that is read is well formed for 256 and executable.
-pub fn read_plan(
-    alloc: Global,
-    interlocking: &Interlocking,
-    bytes: &[u8],
-) -> Result<Plan, PlanFault>
-    ensures given { Gives (λ p. p.steps) result (plan_of interlocking.now bytes.now) }
-    ensures runnable { IfOk result (λ p. IsRunnable interlocking.now 256 p.steps) }
-{
-    let value = value_of(alloc, bytes)?;
-    plan_at(alloc, interlocking, &value)
 }

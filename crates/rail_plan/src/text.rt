@@ -18,6 +18,30 @@ pub(crate) fn array_of(value: &Value) -> Option<&[Value]>
     }
 }
 
+/// A command as it is written: the name of a train and the number of a route.
+pub(crate) fn command_of(value: &Value) -> Option<(&str, u64)>
+    ensures { option_map (λ p. (p.0.now, p.1)) result ≡ command_of (view value.now) }
+{
+    two_of(array_of(value)?)
+}
+
+/// The value at the one key of an object.
+pub(crate) fn steps_at(value: &Value) -> Option<&Value>
+    ensures { option_map (λ v. view v.now) result ≡ steps_at (view value.now) }
+{
+    match value {
+        Value::Object(map) => only_steps(map),
+        _ => None,
+    }
+}
+
+/// Whether values are steps of a plan.
+pub(crate) fn are_steps(values: &[Value]) -> bool
+    ensures { result ≡ list_all (λ v. is_some (step_of (view v))) values.now }
+{
+    values.iter().all(|value| is_step(value))
+}
+
 /// A text.
 fn text_of(value: &Value) -> Option<&str>
     ensures { option_map (λ s. s.now) result ≡ text_of (view value.now) }
@@ -51,13 +75,6 @@ fn two_of(values: &[Value]) -> Option<(&str, u64)>
     Some((train, route))
 }
 
-/// A command as it is written: the name of a train and the number of a route.
-pub(crate) fn command_of(value: &Value) -> Option<(&str, u64)>
-    ensures { option_map (λ p. (p.0.now, p.1)) result ≡ command_of (view value.now) }
-{
-    two_of(array_of(value)?)
-}
-
 /// The value at a plan's key.
 fn value_of_steps(map: &Map<String, Value>) -> Option<&Value>
     ensures { option_map (λ v. view v.now) result ≡ get_member (codes "steps") (members_view map.now.entries) }
@@ -74,16 +91,6 @@ fn only_steps(map: &Map<String, Value>) -> Option<&Value>
         value_of_steps(map)
     } else {
         None
-    }
-}
-
-/// The value at the one key of an object.
-pub(crate) fn steps_at(value: &Value) -> Option<&Value>
-    ensures { option_map (λ v. view v.now) result ≡ steps_at (view value.now) }
-{
-    match value {
-        Value::Object(map) => only_steps(map),
-        _ => None,
     }
 }
 
@@ -108,11 +115,4 @@ fn are_commands(values: &[Value]) -> bool
         }
     }
     true
-}
-
-/// Whether values are steps of a plan.
-pub(crate) fn are_steps(values: &[Value]) -> bool
-    ensures { result ≡ list_all (λ v. is_some (step_of (view v))) values.now }
-{
-    values.iter().all(|value| is_step(value))
 }

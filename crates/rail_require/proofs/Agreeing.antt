@@ -18,7 +18,7 @@ use Rattle.rail_spec.specs.Requirements as requirements
 use Rattle.rail_spec.specs.Histories.{history_at}
 use Rattle.rail_laws.proofs.Verdicts.{one_to_in}
 use Rattle.rail_require.specs.Ticks.{trains, command_numbers, visit_numbers, is_by, is_before}
-use Rattle.rail_require.specs.Violations.{is_certain, within_ways, order_ways, grant_ways, visit_ways, ways_to_fail, violation_in}
+use Rattle.rail_require.specs.Violations.{is_certain, within_violations, order_violations, grant_violations, visit_violations, ways_to_fail, violation_in}
 use Rattle.rail_require.proofs.Finding.{find-same}
 use Rattle.rail_require.proofs.Telling.{by_grant, by_visit, before_visit, trains_told, commands_told, visits_told, grant_told, visit_told}
 
@@ -38,20 +38,20 @@ module _ (d : Station) (routes : List Route) (plan : List (List Command)) (adm :
 
   -- ---- the same ways
 
-  grants_same : grant_ways (history_at d routes plan k) ≡ flat_map (λ t. map (violation.Grant t) (requirements.command_numbers d routes plan t)) (station.trains d)
+  grants_same : grant_violations (history_at d routes plan k) ≡ flat_map (λ t. map (violation.Grant t) (requirements.command_numbers d routes plan t)) (station.trains d)
   grants_same =
       ap (flat_map (λ t. map (violation.Grant t) (command_numbers (history_at d routes plan k) t))) (trains_told d routes plan k)
       ∙ flat_map-same (λ t. map (violation.Grant t) (command_numbers (history_at d routes plan k) t)) (λ t. map (violation.Grant t) (requirements.command_numbers d routes plan t)) (station.trains d)
       (λ t m. ap (map (violation.Grant t)) (commands_told d routes plan k t (is_a_train d t m)))
 
-  visits_same : visit_ways (history_at d routes plan k) ≡ flat_map (λ t. map (violation.Visit t) (requirements.visit_numbers d t)) (station.trains d)
+  visits_same : visit_violations (history_at d routes plan k) ≡ flat_map (λ t. map (violation.Visit t) (requirements.visit_numbers d t)) (station.trains d)
   visits_same =
       ap (flat_map (λ t. map (violation.Visit t) (visit_numbers (history_at d routes plan k) t))) (trains_told d routes plan k)
       ∙ flat_map-same (λ t. map (violation.Visit t) (visit_numbers (history_at d routes plan k) t)) (λ t. map (violation.Visit t) (requirements.visit_numbers d t)) (station.trains d)
       (λ t m. ap (map (violation.Visit t)) (visits_told d routes plan k t (is_a_train d t m)))
 
   ways_same : ways_to_fail d (history_at d routes plan k) ≡ requirements.ways_to_fail d routes plan
-  ways_same = ap₂ (λ grants visits. within_ways d ++ order_ways d ++ grants ++ visits) grants_same visits_same
+  ways_same = ap₂ (λ grants visits. within_violations d ++ order_violations d ++ grants ++ visits) grants_same visits_same
 
   -- ---- and each is certain as in the run
 
@@ -85,7 +85,7 @@ module _ (d : Station) (routes : List Route) (plan : List (List Command)) (adm :
   Same v = is_certain d (history_at d routes plan k) k v ≡ requirements.is_certain d routes plan k v
 
   certain_same : (v : Violation) → In v (ways_to_fail d (history_at d routes plan k)) → Same v
-  certain_same v m = which (in_append v (within_ways d ++ order_ways d ++ grant_ways (history_at d routes plan k)) (visit_ways (history_at d routes plan k)) m)
+  certain_same v m = which (in_append v (within_violations d ++ order_violations d ++ grant_violations (history_at d routes plan k)) (visit_violations (history_at d routes plan k)) m)
     where
       within : ((w : ℕ) × In w (one_to (length d.withins)) × (violation.Within w ≡ v)) → Same v
       within (w, i, e) = subst Same e (within_same w i)
@@ -105,16 +105,16 @@ module _ (d : Station) (routes : List Route) (plan : List (List Command)) (adm :
       visit : ((t : TrainNo) × In t (trains (history_at d routes plan k)) × In v (map (violation.Visit t) (visit_numbers (history_at d routes plan k) t))) → Same v
       visit (t, i, n) = visit_of t i (in_map_back (violation.Visit t) (visit_numbers (history_at d routes plan k) t) v n)
 
-      first : In v (within_ways d) ⊎ In v (order_ways d) → Same v
+      first : In v (within_violations d) ⊎ In v (order_violations d) → Same v
       first (inl i) = within (in_map_back violation.Within (one_to (length d.withins)) v i)
       first (inr i) = order (in_map_back violation.Order (one_to (length d.orders)) v i)
 
-      second : In v (within_ways d ++ order_ways d) ⊎ In v (grant_ways (history_at d routes plan k)) → Same v
-      second (inl i) = first (in_append v (within_ways d) (order_ways d) i)
+      second : In v (within_violations d ++ order_violations d) ⊎ In v (grant_violations (history_at d routes plan k)) → Same v
+      second (inl i) = first (in_append v (within_violations d) (order_violations d) i)
       second (inr i) = grant (in_flat_map_back (λ t. map (violation.Grant t) (command_numbers (history_at d routes plan k) t)) (trains (history_at d routes plan k)) v i)
 
-      which : In v (within_ways d ++ order_ways d ++ grant_ways (history_at d routes plan k)) ⊎ In v (visit_ways (history_at d routes plan k)) → Same v
-      which (inl i) = second (in_append v (within_ways d ++ order_ways d) (grant_ways (history_at d routes plan k)) i)
+      which : In v (within_violations d ++ order_violations d ++ grant_violations (history_at d routes plan k)) ⊎ In v (visit_violations (history_at d routes plan k)) → Same v
+      which (inl i) = second (in_append v (within_violations d ++ order_violations d) (grant_violations (history_at d routes plan k)) i)
       which (inr i) = visit (in_flat_map_back (λ t. map (violation.Visit t) (visit_numbers (history_at d routes plan k) t)) (trains (history_at d routes plan k)) v i)
 
   pub violation_told : violation_in d (history_at d routes plan k) k ≡ requirements.violation_at d routes plan k

@@ -13,25 +13,25 @@ use Rattle.rail_base.specs.Members.{In}
 use Rattle.rail_base.proofs.Members.{false_unless}
 use Rattle.rail_base.proofs.Lists.{in_append, in_map_back, in_flat_map_back}
 use Rattle.rail_require.specs.Ticks.{trains, history_of, command_numbers, visit_numbers, grant_tick, visit_tick, is_by}
-use Rattle.rail_require.specs.Violations.{is_certain, grant_ways, visit_ways}
+use Rattle.rail_require.specs.Violations.{is_certain, grant_violations, visit_violations}
 use Rattle.rail_require.proofs.Finding.{find-numbered, find-append_none, find-append_some, find-none, entry-get}
 
 -- the ways of the trains from a place on
-abbrev pub ways_from : (TrainNo → List Violation) → ℕ → ℕ → List Violation
-ways_from ways trains place = flat_map ways (map (λ n. record { 0 = n }) (count_from (place + 1) (trains - place)))
+abbrev pub violations_from : (TrainNo → List Violation) → ℕ → ℕ → List Violation
+violations_from failures trains place = flat_map failures (map (λ n. record { 0 = n }) (count_from (place + 1) (trains - place)))
 
-module _ (test : Violation → Bool) (ways : TrainNo → List Violation) (trains place : ℕ) where
-  next : place < trains → ways_from ways trains place ≡ ways (record { 0 = place + 1 }) ++ ways_from ways trains (place + 1)
-  next less = ap (λ n. flat_map ways (map (λ m. record { 0 = m }) (count_from (place + 1) n))) (let e : trains - place ≡ suc (trains - (place + 1)) = omega arith in e)
+module _ (test : Violation → Bool) (failures : TrainNo → List Violation) (trains place : ℕ) where
+  next : place < trains → violations_from failures trains place ≡ failures (record { 0 = place + 1 }) ++ violations_from failures trains (place + 1)
+  next less = ap (λ n. flat_map failures (map (λ m. record { 0 = m }) (count_from (place + 1) n))) (let e : trains - place ≡ suc (trains - (place + 1)) = omega arith in e)
 
-  pub find-next : place < trains → find test (ways (record { 0 = place + 1 })) ≡ None → find test (ways_from ways trains place) ≡ find test (ways_from ways trains (place + 1))
-  find-next less none = ap (find test) (next less) ∙ find-append_none test (ways (record { 0 = place + 1 })) (ways_from ways trains (place + 1)) none
+  pub find-next : place < trains → find test (failures (record { 0 = place + 1 })) ≡ None → find test (violations_from failures trains place) ≡ find test (violations_from failures trains (place + 1))
+  find-next less none = ap (find test) (next less) ∙ find-append_none test (failures (record { 0 = place + 1 })) (violations_from failures trains (place + 1)) none
 
-  pub find-here : (v : Violation) → place < trains → find test (ways (record { 0 = place + 1 })) ≡ Some v → find test (ways_from ways trains place) ≡ Some v
-  find-here v less some = ap (find test) (next less) ∙ find-append_some test (ways (record { 0 = place + 1 })) (ways_from ways trains (place + 1)) v some
+  pub find-here : (v : Violation) → place < trains → find test (failures (record { 0 = place + 1 })) ≡ Some v → find test (violations_from failures trains place) ≡ Some v
+  find-here v less some = ap (find test) (next less) ∙ find-append_some test (failures (record { 0 = place + 1 })) (violations_from failures trains (place + 1)) v some
 
-  pub find-past : trains ≤ place → find test (ways_from ways trains place) ≡ None
-  find-past less = ap (λ n. find test (flat_map ways (map (λ m. record { 0 = m }) (count_from (place + 1) n)))) (let e : trains - place ≡ 0 = omega arith in e)
+  pub find-past : trains ≤ place → find test (violations_from failures trains place) ≡ None
+  find-past less = ap (λ n. find test (flat_map failures (map (λ m. record { 0 = m }) (count_from (place + 1) n)))) (let e : trains - place ≡ 0 = omega arith in e)
 
 module _ (d : Station) (history : List TrainHistory) (k : ℕ) (due : k ≡ horizon d) (place : ℕ) (train : TrainHistory) (less : place < length history) (here : train ≡ get_or history place train) where
   abbrev pub number : TrainNo
@@ -59,8 +59,8 @@ module _ (d : Station) (history : List TrainHistory) (k : ℕ) (due : k ≡ hori
       ∙ ap (λ (t : TrainHistory). option_map (violation.Visit number) (position_from (λ v. not (is_by k (option_map (λ m. m.1) v))) 1 t.visits)) that
 
 -- at another tick none of them is certain
-pub find-not_due : (d : Station) (history : List TrainHistory) (k : ℕ) → (k ≡ horizon d → ⊥) → find (is_certain d history k) (grant_ways history ++ visit_ways history) ≡ None
-find-not_due d history k other = find-none (is_certain d history k) (grant_ways history ++ visit_ways history) (λ v m. which v (in_append v (grant_ways history) (visit_ways history) m))
+pub find-not_due : (d : Station) (history : List TrainHistory) (k : ℕ) → (k ≡ horizon d → ⊥) → find (is_certain d history k) (grant_violations history ++ visit_violations history) ≡ None
+find-not_due d history k other = find-none (is_certain d history k) (grant_violations history ++ visit_violations history) (λ v m. which v (in_append v (grant_violations history) (visit_violations history) m))
   where
     not_due : (tick : Option ℕ) → ((k == horizon d) && not (is_by k tick)) ≡ false
     not_due tick = ap (λ b. b && not (is_by k tick)) (false_unless (k == horizon d) (λ e. other (eqb-true k (horizon d) e)))
@@ -77,6 +77,6 @@ find-not_due d history k other = find-none (is_certain d history k) (grant_ways 
     visits : (v : Violation) → ((t : TrainNo) × In t (trains history) × In v (map (violation.Visit t) (visit_numbers history t))) → is_certain d history k v ≡ false
     visits v (t, i, n) = visit v t (in_map_back (violation.Visit t) (visit_numbers history t) v n)
 
-    which : (v : Violation) → In v (grant_ways history) ⊎ In v (visit_ways history) → is_certain d history k v ≡ false
+    which : (v : Violation) → In v (grant_violations history) ⊎ In v (visit_violations history) → is_certain d history k v ≡ false
     which v (inl m) = grants v (in_flat_map_back (λ t. map (violation.Grant t) (command_numbers history t)) (trains history) v m)
     which v (inr m) = visits v (in_flat_map_back (λ t. map (violation.Visit t) (visit_numbers history t)) (trains history) v m)

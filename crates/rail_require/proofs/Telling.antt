@@ -6,7 +6,7 @@ use Rattle.rail_base.specs.declared.station.NodeNo.{NodeNo}
 use Rattle.rail_base.specs.declared.station.TrainNo.{TrainNo}
 use Rattle.rail_base.specs.declared.route.Route.{Route}
 use Rattle.rail_base.specs.declared.plan.Command.{Command}
-use Rattle.rail_base.specs.declared.state.Stop.{Stop}
+use Rattle.rail_base.specs.declared.state.PathNode.{PathNode}
 use Rattle.rail_base.specs.declared.history.TrainHistory.{TrainHistory}
 use Rattle.rail_base.specs.Numbering.{count_from, entry, one_to, least, or_this, from_first, after_first}
 use Rattle.rail_base.specs.Stations.{IsTrain, train_of}
@@ -15,7 +15,7 @@ use Rattle.rail_base.proofs.Members.{get_or-counted, map-map, false_unless}
 use Rattle.rail_base.proofs.Lists.{length-map}
 use Rattle.rail_spec.specs.Plans.{path, has_node}
 use Rattle.rail_spec.specs.Dispatches.{state_of, of_plan, state_at}
-use Rattle.rail_spec.specs.Visits.{visits_at, visits_on, pass_tick, stops_of_train, visits_of_train}
+use Rattle.rail_spec.specs.Visits.{visits_at, visits_on, pass_tick, path_nodes_of_train, visits_of_train}
 use Rattle.rail_spec.specs.Visits as visits
 use Rattle.rail_spec.specs.Requirements.{granted_by, visited_by}
 use Rattle.rail_spec.specs.Requirements as requirements
@@ -49,11 +49,11 @@ entry-enumerated f other a [] j h = absurd (omega arith)
 entry-enumerated f other a (x ∷ xs) zero h = ap f (omega arith)
 entry-enumerated f other a (x ∷ xs) (suc j) h = entry-enumerated f other (a + 1) xs j (omega arith) ∙ ap f (omega arith)
 
-length-visits_at : (sets : List (List NodeNo)) (ps : List Stop) → length (visits_at sets ps) ≡ length sets
+length-visits_at : (sets : List (List NodeNo)) (ps : List PathNode) → length (visits_at sets ps) ≡ length sets
 length-visits_at [] ps = refl
 length-visits_at (set ∷ sets) ps = ap suc (length-visits_at sets (after_first (from_first (λ p. has_node set p.node) ps)))
 
-length-visits_on : (sets : List (List NodeNo)) (ps : List Stop) → length (visits_on sets ps) ≡ length sets
+length-visits_on : (sets : List (List NodeNo)) (ps : List PathNode) → length (visits_on sets ps) ≡ length sets
 length-visits_on [] ps = refl
 length-visits_on (set ∷ sets) ps = ap suc (length-visits_at sets (after_first ps))
 
@@ -158,7 +158,7 @@ module _ (d : Station) (routes : List Route) (plan : List (List Command)) where
     commands_told t is = ap (λ (h : TrainHistory). one_to (length h.grants)) (train_told t is) ∙ ap one_to (length-granted t)
 
     pub visits_there : (t : TrainNo) → length (visits_of_train d routes (of_plan routes plan) t) ≡ length (train_of d t).visits
-    visits_there t = length-visits_on (train_of d t).visits (stops_of_train d routes (of_plan routes plan) t)
+    visits_there t = length-visits_on (train_of d t).visits (path_nodes_of_train d routes (of_plan routes plan) t)
 
     pub length-visits : (t : TrainNo) → length (train_history d routes plan k t).visits ≡ length (train_of d t).visits
     length-visits t = length-map (visit_made d routes plan k t) (visits_of_train d routes (of_plan routes plan) t) ∙ visits_there t
@@ -173,19 +173,19 @@ module _ (d : Station) (routes : List Route) (plan : List (List Command)) where
         ∙ entry-enumerated (histories.grant_tick d routes plan k t) (record { 0 = 0 }, None) 1 (path plan t) j (omega arith)
         ∙ ap (histories.grant_tick d routes plan k t) (let e : 1 + j ≡ suc j = omega arith in e)
 
-    tick_made : (t : TrainNo) (place : Option Stop) → option_map (λ v. v.1) (visit_made d routes plan k t place) ≡ option_and_then (pass_tick d routes (of_plan routes plan) k t) place
+    tick_made : (t : TrainNo) (place : Option PathNode) → option_map (λ v. v.1) (visit_made d routes plan k t place) ≡ option_and_then (pass_tick d routes (of_plan routes plan) k t) place
     tick_made t None = refl
-    tick_made t (Some stop) = go (pass_tick d routes (of_plan routes plan) k t stop)
+    tick_made t (Some path_node) = go (pass_tick d routes (of_plan routes plan) k t path_node)
       where
-        go : (o : Option ℕ) → option_map (λ (v : NodeNo × ℕ). v.1) (option_map (λ i. (stop.node, i)) o) ≡ o
+        go : (o : Option ℕ) → option_map (λ (v : NodeNo × ℕ). v.1) (option_map (λ i. (path_node.node, i)) o) ≡ o
         go None = refl
         go (Some i) = refl
 
-    pub some_made : (t : TrainNo) (place : Option Stop) → is_some (visit_made d routes plan k t place) ≡ is_some (option_and_then (pass_tick d routes (of_plan routes plan) k t) place)
+    pub some_made : (t : TrainNo) (place : Option PathNode) → is_some (visit_made d routes plan k t place) ≡ is_some (option_and_then (pass_tick d routes (of_plan routes plan) k t) place)
     some_made t None = refl
-    some_made t (Some stop) = go (pass_tick d routes (of_plan routes plan) k t stop)
+    some_made t (Some path_node) = go (pass_tick d routes (of_plan routes plan) k t path_node)
       where
-        go : (o : Option ℕ) → is_some {T = NodeNo × ℕ} (option_map (λ i. (stop.node, i)) o) ≡ is_some o
+        go : (o : Option ℕ) → is_some {T = NodeNo × ℕ} (option_map (λ i. (path_node.node, i)) o) ≡ is_some o
         go None = refl
         go (Some i) = refl
 

@@ -39,24 +39,24 @@ is_certain d history k (violation.Grant t j) = is_missing d k (grant_tick histor
 is_certain d history k (violation.Visit t j) = is_missing d k (visit_tick history t j)
 
 -- the withins, in file order
-abbrev pub within_ways : Station → List Violation
-within_ways d = map violation.Within (one_to (length d.withins))
+abbrev pub within_violations : Station → List Violation
+within_violations d = map violation.Within (one_to (length d.withins))
 
 -- the orders, in file order
-abbrev pub order_ways : Station → List Violation
-order_ways d = map violation.Order (one_to (length d.orders))
+abbrev pub order_violations : Station → List Violation
+order_violations d = map violation.Order (one_to (length d.orders))
 
 -- the grants, by train and command
-abbrev pub grant_ways : List TrainHistory → List Violation
-grant_ways history = flat_map (λ t. map (violation.Grant t) (command_numbers history t)) (trains history)
+abbrev pub grant_violations : List TrainHistory → List Violation
+grant_violations history = flat_map (λ t. map (violation.Grant t) (command_numbers history t)) (trains history)
 
 -- the visits, by train and visit
-abbrev pub visit_ways : List TrainHistory → List Violation
-visit_ways history = flat_map (λ t. map (violation.Visit t) (visit_numbers history t)) (trains history)
+abbrev pub visit_violations : List TrainHistory → List Violation
+visit_violations history = flat_map (λ t. map (violation.Visit t) (visit_numbers history t)) (trains history)
 
 -- the violations that may be certain, in the order in which they are looked for
 abbrev pub ways_to_fail : Station → List TrainHistory → List Violation
-ways_to_fail d history = within_ways d ++ order_ways d ++ grant_ways history ++ visit_ways history
+ways_to_fail d history = within_violations d ++ order_violations d ++ grant_violations history ++ visit_violations history
 
 -- the first that is certain at tick k
 abbrev pub violation_in : Station → List TrainHistory → ℕ → Option Violation

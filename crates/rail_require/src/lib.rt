@@ -10,29 +10,17 @@ ghost use Rattle.rail_base.specs.declared.plan.Command.{Command};
 ghost use Rattle.rail_spec.specs.Histories.{history_at};
 ghost use Rattle.rail_spec.specs.Requirements.{is_done, violation_at};
 ghost use Rattle.rail_require.specs.Ticks.{HasNumbers};
-ghost use Rattle.rail_require.specs.Violations.{violation_in, is_done_in, is_certain, grant_ways, visit_ways};
+ghost use Rattle.rail_require.specs.Violations.{violation_in, is_done_in, is_certain, grant_violations, visit_violations};
 
+mod failures;
 pub mod laws;
 mod ticks;
-mod ways;
 
-use crate::ways::{broken_order, late_within, missing_grant, missing_visit};
+use crate::failures::{broken_order, late_within, missing_grant, missing_visit};
 use rail_base::design::Design;
 pub use rail_base::history::{History, TrainHistory, Verdict};
 pub use rail_base::plan::Violation;
 pub use ticks::visit_tick;
-
-/// At the horizon, the first command that isn't granted, or else the first visit that isn't made.
-fn first_missing(design: &Design, history: &[TrainHistory], tick: u64) -> Option<Violation>
-    requires { HasNumbers history.now }
-    ensures { result
-        ≡ find (is_certain design.now.station history.now tick) (grant_ways history.now ++ visit_ways history.now) }
-{
-    if tick != design.horizon() {
-        return None;
-    }
-    missing_grant(history, tick).or_else(|| missing_visit(history, tick))
-}
 
 /// The first violation that is certain at the tick: withins in file order, orders in file order, and at the horizon
 /// grants by train and command, then visits by train and visit. A path's is not looked for here.
@@ -59,24 +47,6 @@ pub fn violation_shown(design: &Design, history: &[TrainHistory], tick: u64) -> 
         .or_else(|| first_missing(design, history, tick))
 }
 
-/// Whether each command of the train is granted.
-fn is_granted(train: &TrainHistory) -> bool
-    ensures { result ≡ list_all (λ g. is_some g.1) train.now.grants }
-{
-    train
-        .grants
-        .as_slice()
-        .iter()
-        .all(|grant| grant.1.is_some())
-}
-
-/// Whether each visit of the train is made.
-fn is_visited(train: &TrainHistory) -> bool
-    ensures { result ≡ list_all is_some train.now.visits }
-{
-    train.visits.as_slice().iter().all(|visit| visit.is_some())
-}
-
 /// Whether each command of each train is granted, and each visit made.
 pub fn is_done(history: &History) -> bool
     ensures value { result ≡ is_done_in history.now }
@@ -95,4 +65,34 @@ pub fn are_done(history: &[TrainHistory]) -> bool
     history
         .iter()
         .all(|train| is_granted(train) && is_visited(train))
+}
+
+/// At the horizon, the first command that isn't granted, or else the first visit that isn't made.
+fn first_missing(design: &Design, history: &[TrainHistory], tick: u64) -> Option<Violation>
+    requires { HasNumbers history.now }
+    ensures { result
+        ≡ find (is_certain design.now.station history.now tick) (grant_violations history.now ++ visit_violations history.now) }
+{
+    if tick != design.horizon() {
+        return None;
+    }
+    missing_grant(history, tick).or_else(|| missing_visit(history, tick))
+}
+
+/// Whether each command of the train is granted.
+fn is_granted(train: &TrainHistory) -> bool
+    ensures { result ≡ list_all (λ g. is_some g.1) train.now.grants }
+{
+    train
+        .grants
+        .as_slice()
+        .iter()
+        .all(|grant| grant.1.is_some())
+}
+
+/// Whether each visit of the train is made.
+fn is_visited(train: &TrainHistory) -> bool
+    ensures { result ≡ list_all is_some train.now.visits }
+{
+    train.visits.as_slice().iter().all(|visit| visit.is_some())
 }

@@ -15,8 +15,8 @@ use Rattle.rail_base.specs.Stations.{is_end, through, edge_of, node_of, leave, f
 use Rattle.rail_base.specs.Admitted.{IsAdmitted}
 use Rattle.rail_base.proofs.Contained.{in_at}
 use Rattle.rail_base.proofs.Lists.{in_append, in_append_left, in_append_right, pairs_append, pairs_across, pairs_left}
-use Rattle.rail_spec.specs.Track.{signals_at, is_empty, ends_by_signal, finish_at, has_edge, Closing, Whole, Again, closed_or, closings}
-use Rattle.rail_laws.proofs.Closing.{at_from_leave}
+use Rattle.rail_spec.specs.Track.{signals_at, is_empty, ends_by_signal, finish_at, has_edge, Walk, Whole, RepeatsEdge, walk_or, walks}
+use Rattle.rail_laws.proofs.Walk.{at_from_leave}
 use Rattle.rail_laws.proofs.RouteLaws.{few_edges}
 use Rattle.rail_routes.specs.declared.search.Level.{Level}
 use Rattle.rail_routes.specs.declared.search.Search.{Search}
@@ -73,7 +73,7 @@ module _ (d : Station) where
   -- how a route ends at a node with these signals and edges for trains that go on
   abbrev ends_with : End → List SignalNo → List EdgeNo → Option Finish
   ends_with there (s ∷ ss) es = Some (finish.Signal s)
-  ends_with there [] es = if is_empty es then Some (finish.Dead there.node) else None
+  ends_with there [] es = if is_empty es then Some (finish.DeadEnd there.node) else None
 
   ends-with-is : (there : End) (ss : List SignalNo) → ends_by_signal d there ss ≡ ends_with there ss (leave d (through there))
   ends-with-is there [] = refl
@@ -96,43 +96,43 @@ module _ (d : Station) where
 
   -- ---- what is over an edge
 
-  abbrev over_with : Bool → Option Finish → EdgeNo → List EdgeNo → List Closing → List Closing
-  over_with b o e longer further = if b then Again e ∷ [] else closed_or o longer further
+  abbrev over_with : Bool → Option Finish → EdgeNo → List EdgeNo → List Walk → List Walk
+  over_with b o e longer further = if b then RepeatsEdge e ∷ [] else walk_or o longer further
 
   pub over_open : (n : ℕ) (path : List EdgeNo) (end : End) (e : EdgeNo) (o : Option Finish) → has_edge path e ≡ false → finish_at d (far_end (edge_of d e) end) ≡ o
-      → over d n path end e ≡ closed_or o (path ++ e ∷ []) (closings n d (path ++ e ∷ []) (through (far_end (edge_of d e) end)))
-  over_open n path end e o h f = ap₂ (λ b p. over_with b p e (path ++ e ∷ []) (closings n d (path ++ e ∷ []) (through (far_end (edge_of d e) end)))) h f
+      → over d n path end e ≡ walk_or o (path ++ e ∷ []) (walks n d (path ++ e ∷ []) (through (far_end (edge_of d e) end)))
+  over_open n path end e o h f = ap₂ (λ b p. over_with b p e (path ++ e ∷ []) (walks n d (path ++ e ∷ []) (through (far_end (edge_of d e) end)))) h f
 
   -- ---- levels
 
   pub open_longer : (m n : ℕ) (l : Level) → m ≤ n → IsOpen d m l → IsOpen d n l
   open_longer m n l h o = record { on_path = let k = o.on_path in omega arith; node = o.node; some = o.some }
 
-  same_front : (path other : List EdgeNo) (l : Level) → take l.after path ≡ take l.after other → at_level d path l ≡ at_level d other l
-  same_front path other l h = ap (λ front. flat_map (over d (length d.edges - l.after) front l.from) (drop l.tried (leave d l.from))) h
+  same_prefix : (path other : List EdgeNo) (l : Level) → take l.after path ≡ take l.after other → at_level d path l ≡ at_level d other l
+  same_prefix path other l h = ap (λ prefix. flat_map (over d (length d.edges - l.after) prefix l.from) (drop l.tried (leave d l.from))) h
 
   pub pending_longer : (path more : List EdgeNo) (levels : List Level) → ((l : Level) → In l levels → l.after ≤ length path) → pending d (path ++ more) levels ≡ pending d path levels
-  pending_longer path more levels h = same-backward (at_level d (path ++ more)) (at_level d path) levels (λ l m. same_front (path ++ more) path l (take-append-le l.after path more (h l m)))
+  pending_longer path more levels h = same-backward (at_level d (path ++ more)) (at_level d path) levels (λ l m. same_prefix (path ++ more) path l (take-append-le l.after path more (h l m)))
 
   pub pending_shorter : (path : List EdgeNo) (k : ℕ) (levels : List Level) → ((l : Level) → In l levels → l.after ≤ k) → pending d (take k path) levels ≡ pending d path levels
-  pending_shorter path k levels h = same-backward (at_level d (take k path)) (at_level d path) levels (λ l m. same_front (take k path) path l (take-shorter l.after k path (h l m)))
+  pending_shorter path k levels h = same-backward (at_level d (take k path)) (at_level d path) levels (λ l m. same_prefix (take k path) path l (take-shorter l.after k path (h l m)))
 
   pub pending_push : (path : List EdgeNo) (levels : List Level) (l : Level) → pending d path (levels ++ l ∷ []) ≡ at_level d path l ++ pending d path levels
   pending_push path levels l = ap (flat_map (at_level d path)) (reverse-append levels (l ∷ []))
 
   -- a level at which nothing was tried has all closed paths from there
-  pub level_closings : (path : List EdgeNo) (end : End) → length path ≤ length d.edges → at_level d path (record { after = length path; from = end; tried = 0 }) ≡ closings (length d.edges + 1 - length path) d path end
-  level_closings path end h =
+  pub level_walks : (path : List EdgeNo) (end : End) → length path ≤ length d.edges → at_level d path (record { after = length path; from = end; tried = 0 }) ≡ walks (length d.edges + 1 - length path) d path end
+  level_walks path end h =
       let fuel : length d.edges + 1 - length path ≡ suc (length d.edges - length path) = omega arith in
-      ap (λ front. flat_map (over d (length d.edges - length path) front end) (leave d end)) (take-length path) ∙ ap (λ n. closings n d path end) (sym fuel)
+      ap (λ prefix. flat_map (over d (length d.edges - length path) prefix end) (leave d end)) (take-length path) ∙ ap (λ n. walks n d path end) (sym fuel)
 
   -- a level without its next edge
   pub level_next : (path : List EdgeNo) (l : Level) (e : EdgeNo) → l.after ≡ length path → l.tried < length (leave d l.from) → e ≡ get_or (leave d l.from) l.tried e
       → at_level d path l ≡ over d (length d.edges - length path) path l.from e ++ at_level d path (record l { tried = l.tried + 1 })
   level_next path l e here some is =
-      let front : take l.after path ≡ path = ap (λ n. take n path) here ∙ take-length path in
+      let prefix : take l.after path ≡ path = ap (λ n. take n path) here ∙ take-length path in
       ap (flat_map (over d (length d.edges - l.after) (take l.after path) l.from)) (some-rest (leave d l.from) l.tried e some is)
-      ∙ ap₂ (λ n p. over d (length d.edges - n) p l.from e ++ at_level d path (record l { tried = l.tried + 1 })) here front
+      ∙ ap₂ (λ n p. over d (length d.edges - n) p l.from e ++ at_level d path (record l { tried = l.tried + 1 })) here prefix
 
   -- a level whose edges were all tried
   pub level_done : (path : List EdgeNo) (l : Level) → length (leave d l.from) ≤ l.tried → at_level d path l ≡ []
@@ -140,15 +140,15 @@ module _ (d : Station) where
 
   -- ---- a search begins
 
-  pub started : (path : List EdgeNo) (levels : List Level) (from : End) → path ≡ [] → levels ≡ record { after = 0; from = from; tried = 0 } ∷ [] → pending d path levels ≡ closings (length d.edges + 1) d [] from
+  pub started : (path : List EdgeNo) (levels : List Level) (from : End) → path ≡ [] → levels ≡ record { after = 0; from = from; tried = 0 } ∷ [] → pending d path levels ≡ walks (length d.edges + 1) d [] from
   started path levels from p l =
       let fuel : length d.edges + 1 - 0 ≡ length d.edges + 1 = omega arith in
-      ap₂ (pending d) p l ∙ append-nil (at_level d [] (record { after = 0; from = from; tried = 0 })) ∙ level_closings [] from (omega arith) ∙ ap (λ n. closings n d [] from) fuel
+      ap₂ (pending d) p l ∙ append-nil (at_level d [] (record { after = 0; from = from; tried = 0 })) ∙ level_walks [] from (omega arith) ∙ ap (λ n. walks n d [] from) fuel
 
-  pub started_nowhere : (path : List EdgeNo) (levels : List Level) (from : End) → path ≡ [] → levels ≡ [] → leave d from ≡ [] → pending d path levels ≡ closings (length d.edges + 1) d [] from
+  pub started_nowhere : (path : List EdgeNo) (levels : List Level) (from : End) → path ≡ [] → levels ≡ [] → leave d from ≡ [] → pending d path levels ≡ walks (length d.edges + 1) d [] from
   started_nowhere path levels from p l none =
       let nothing : [] ≡ flat_map (over d (length d.edges) [] from) (leave d from) = ap (flat_map (over d (length d.edges) [] from)) (sym none) in
-      ap₂ (pending d) p l ∙ nothing ∙ ap (λ n. closings n d [] from) (sym (add-one (length d.edges)))
+      ap₂ (pending d) p l ∙ nothing ∙ ap (λ n. walks n d [] from) (sym (add-one (length d.edges)))
 
   -- ---- an edge of a level is taken
 
@@ -205,13 +205,13 @@ module _ (d : Station) where
       ∙ ap (λ cs. cs ++ pending d path levels) (sym (over_open n path end e (Some f) h fin))
 
   pub further_over : (path longer : List EdgeNo) (levels : List Level) (end on : End) (e : EdgeNo) → has_edge path e ≡ false → finish_at d (far_end (edge_of d e) end) ≡ None → longer ≡ path ++ e ∷ [] → on ≡ through (far_end (edge_of d e) end) → ((l : Level) → In l levels → IsOpen d (length path) l)
-      → closings (length d.edges + 1 - length longer) d longer on ++ pending d longer levels ≡ over d (length d.edges - length path) path end e ++ pending d path levels
+      → walks (length d.edges + 1 - length longer) d longer on ++ pending d longer levels ≡ over d (length d.edges - length path) path end e ++ pending d path levels
   further_over path longer levels end on e h fin is there open_ =
       let k = ap length is in
       let a = length-append path (e ∷ []) in
       let fuel : length d.edges + 1 - length longer ≡ length d.edges - length path = omega arith in
       ap₂ (λ cs ds. cs ++ ds)
-      (ap₂ (λ n p. closings n d p on) fuel is ∙ ap (closings (length d.edges - length path) d (path ++ e ∷ [])) there)
+      (ap₂ (λ n p. walks n d p on) fuel is ∙ ap (walks (length d.edges - length path) d (path ++ e ∷ [])) there)
       (ap (λ p. pending d p levels) is ∙ pending_longer path (e ∷ []) levels (λ l m. (open_ l m).on_path))
       ∙ ap (λ cs. cs ++ pending d path levels) (sym (over_open (length d.edges - length path) path end e None h fin))
 
@@ -251,7 +251,7 @@ module _ (d : Station) where
       → at_level d short l ++ pending d short rest ≡ pending d path ls
   popped_same path short ls rest l is e cut =
       ap (λ p. at_level d p l ++ pending d p rest) cut
-      ∙ ap₂ (λ a b. a ++ b) (same_front (take l.after path) path l (take-shorter l.after l.after path (le_refl l.after))) (pending_shorter path l.after rest (rest_before path ls rest l is e))
+      ∙ ap₂ (λ a b. a ++ b) (same_prefix (take l.after path) path l (take-shorter l.after l.after path (le_refl l.after))) (pending_shorter path l.after rest (rest_before path ls rest l is e))
       ∙ sym (pending_push path rest l) ∙ ap (pending d path) (sym e)
 
 -- ---- the edges of the path

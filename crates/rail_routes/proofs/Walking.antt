@@ -38,8 +38,8 @@ numbered-few total known (e ∷ es) h = go (either (nat_le e.section.0 known && 
 pub few_sections : (d : Station) → is_admitted d ≡ true → length d.sections ≤ 4000
 few_sections d h =
     let sound = and_right (are_few d && is_timed d && are_named d) (is_sound_track d) (and_left (are_few d && is_timed d && are_named d && is_sound_track d) (is_sound_traffic d) h) in
-    let front = and_left (nodes_pass && edges_pass && are_numbered (length d.sections) 0 d.edges) signals_pass (and_left (nodes_pass && edges_pass && are_numbered (length d.sections) 0 d.edges && signals_pass) (all_pairs are_apart d.signals) sound) in
-    let few = numbered-few (length d.sections) 0 d.edges (and_right (nodes_pass && edges_pass) (are_numbered (length d.sections) 0 d.edges) front) in
+    let prefix = and_left (nodes_pass && edges_pass && are_numbered (length d.sections) 0 d.edges) signals_pass (and_left (nodes_pass && edges_pass && are_numbered (length d.sections) 0 d.edges && signals_pass) (all_pairs are_apart d.signals) sound) in
+    let few = numbered-few (length d.sections) 0 d.edges (and_right (nodes_pass && edges_pass) (are_numbered (length d.sections) 0 d.edges) prefix) in
     let most = (admitted d h).many_edges in
     omega arith
   where

@@ -12,7 +12,7 @@ use thiserror::Error;
 pub enum RouteFault {
     /// Of the first 2,001 closed paths the first that meets an edge again meets this one.
     #[error("a path meets an edge again")]
-    Again { edge: EdgeNo },
+    RepeatsEdge { edge: EdgeNo },
     /// There are more than 2,000 routes.
     #[error("more than 2,000 routes")]
     TooMany,

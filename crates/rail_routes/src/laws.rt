@@ -8,7 +8,7 @@ ghost use Rattle.rail_base.specs.Admitted.{IsAdmitted};
 ghost use Rattle.rail_base.specs.Members.{In};
 ghost use Rattle.rail_base.specs.Routes.{length_mm};
 ghost use Rattle.rail_base.specs.Stations.{IsEdge};
-ghost use Rattle.rail_spec.specs.Track.{all_closings, routes_of};
+ghost use Rattle.rail_spec.specs.Track.{all_walks, routes_of};
 ghost use Rattle.rail_routes.specs.declared.fault.RouteFault.{RouteFault};
 ghost use Rattle.rail_routes.specs.declared.fault.RouteFault.TheVariants as fault;
 ghost use Rattle.rail_routes.specs.Refusals.{HasFault, IsListed};
@@ -16,7 +16,7 @@ ghost use Rattle.rail_routes.specs.Refusals.{HasFault, IsListed};
 /// A design's routes are listed, or they are refused for one reason: never both, and never for two reasons.
 pub fn designs_have_one_answer()
     ensures listed_or_refused { (d : Station) →
-        IsListed d ⊎ ((e : EdgeNo) × HasFault d (fault.Again e)) ⊎ HasFault d fault.TooMany }
+        IsListed d ⊎ ((e : EdgeNo) × HasFault d (fault.RepeatsEdge e)) ⊎ HasFault d fault.TooMany }
     ensures not_both { (d : Station) → IsListed d → (x : RouteFault) → x ≢ fault.Memory → HasFault d x → ⊥ }
     ensures one_reason { (d : Station) (x y : RouteFault) →
         x ≢ fault.Memory → y ≢ fault.Memory → HasFault d x → HasFault d y → x ≡ y }
@@ -24,8 +24,8 @@ pub fn designs_have_one_answer()
 
 /// Listed routes are as many as the closed paths, so 2,000 at most.
 pub fn listed_routes_are_few()
-    ensures all { (d : Station) → IsListed d → length (routes_of d) ≡ length (all_closings d) }
-    ensures few { (d : Station) → IsListed d → length (routes_of d) ≤ 2000 }
+    ensures all { (d : Station) → IsListed d → length (routes_of d) ≡ length (all_walks d) }
+    ensures at_most_2000 { (d : Station) → IsListed d → length (routes_of d) ≤ 2000 }
 {}
 
 /// Routes go over edges of the design, and are at most 40,000 km long.

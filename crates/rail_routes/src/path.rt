@@ -63,16 +63,6 @@ impl Path {
         Ok(())
     }
 
-    /// Goes back over its last edge.
-    fn pop(&mut self)
-        ensures shorter { self.new.edges.items ≡ take (length self.old.edges.items - 1) self.old.edges.items }
-        ensures marks { length self.new.marks.items ≡ length self.old.marks.items }
-    {
-        if let Some(edge) = self.edges.pop() {
-            self.marks[edge.0 as usize - 1] = false;
-        }
-    }
-
     /// Goes back until it has so many edges.
     pub(crate) fn shorten(&mut self, edges: usize)
         requires { edges ≤ length self.old.edges.items }
@@ -81,6 +71,16 @@ impl Path {
     {
         while edges < self.len() {
             self.pop();
+        }
+    }
+
+    /// Goes back over its last edge.
+    fn pop(&mut self)
+        ensures shorter { self.new.edges.items ≡ take (length self.old.edges.items - 1) self.old.edges.items }
+        ensures marks { length self.new.marks.items ≡ length self.old.marks.items }
+    {
+        if let Some(edge) = self.edges.pop() {
+            self.marks[edge.0 as usize - 1] = false;
         }
     }
 }

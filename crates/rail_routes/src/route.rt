@@ -16,6 +16,30 @@ use rail_base::route::{Finish, Route, Start};
 use rail_base::station::{EdgeNo, End, NodeNo, SectionNo};
 use std::alloc::{AllocError, Global};
 
+/// The route from a start with the edges of a path.
+pub(crate) fn route_of(
+    alloc: Global,
+    track: &Track<'_>,
+    path: &[EdgeNo],
+    start: Start,
+    finish: Finish,
+) -> Result<Route, AllocError>
+    requires edges { AreEdges track.now.design.now.station path.now }
+    requires start { IsStart track.now.design.now.station start }
+    ensures { IfOk result (λ route. route ≡ route_of track.now.design.now.station start path.now finish) }
+{
+    let design = track.design;
+    let from = start_end(track, start);
+    Ok(Route {
+        start,
+        finish,
+        length: length(design, path) as i64,
+        edges: List::from_vec(Vec::from_slice(alloc, path)?),
+        nodes: nodes(alloc, design, path, from)?,
+        sections: sections(alloc, design, path)?,
+    })
+}
+
 /// How long an edge is, in mm.
 fn length_of(design: &Design, edge: EdgeNo) -> u64
     requires { IsEdge design.now.station edge }
@@ -73,7 +97,7 @@ fn nodes(
 /// For each section of the design, by its number, where its last edge on a path ends, in mm, or 0.
 fn last_ends(alloc: Global, design: &Design, path: &[EdgeNo]) -> Result<Vec<u64>, AllocError>
     requires { AreEdges design.now.station path.now }
-    ensures many { IfOk result (λ ends. length ends.items ≡ length design.now.station.sections + 1) }
+    ensures every_section { IfOk result (λ ends. length ends.items ≡ length design.now.station.sections + 1) }
     ensures value { IfOk result (λ ends. AreLastEnds design.now.station path.now ends.items) }
     ensures bound { IfOk result (λ ends. (k : ℕ) → slice_index ends.items k ≤ 40000000000) }
 {
@@ -139,28 +163,4 @@ fn sections(
     let order = first_sections(alloc, design, path)?;
     let ends = last_ends(alloc, design, path)?;
     with_ends(alloc, order.as_slice(), ends.as_slice())
-}
-
-/// The route from a start with the edges of a path.
-pub(crate) fn route_of(
-    alloc: Global,
-    track: &Track<'_>,
-    path: &[EdgeNo],
-    start: Start,
-    finish: Finish,
-) -> Result<Route, AllocError>
-    requires edges { AreEdges track.now.design.now.station path.now }
-    requires start { IsStart track.now.design.now.station start }
-    ensures { IfOk result (λ route. route ≡ route_of track.now.design.now.station start path.now finish) }
-{
-    let design = track.design;
-    let from = start_end(track, start);
-    Ok(Route {
-        start,
-        finish,
-        length: length(design, path) as i64,
-        edges: List::from_vec(Vec::from_slice(alloc, path)?),
-        nodes: nodes(alloc, design, path, from)?,
-        sections: sections(alloc, design, path)?,
-    })
 }

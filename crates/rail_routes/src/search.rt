@@ -26,7 +26,7 @@ pub(crate) enum Closed {
     /// It is a whole route.
     Whole(Finish),
     /// It meets this edge again.
-    Again(EdgeNo),
+    RepeatsEdge(EdgeNo),
 }
 
 /// What comes of one more edge.
@@ -49,7 +49,7 @@ pub(crate) struct Search<'a> {
 }
 
 impl<'a> Search<'a> {
-    ghost use Rattle.rail_routes.specs.Pending.{closings_by, to_come};
+    ghost use Rattle.rail_routes.specs.Pending.{walks_by, to_come};
 
     /// The search of all paths that leave by an end.
     pub(crate) fn new(
@@ -59,7 +59,7 @@ impl<'a> Search<'a> {
     ) -> Result<Search<'a>, AllocError>
         requires { IsNode track.now.design.now.station from.node }
         ensures track { IfOk result (λ search. search.track.now ≡ track.now) }
-        ensures all { IfOk result (λ search. to_come search ≡ closings_by track.now.design.now.station from) }
+        ensures all { IfOk result (λ search. to_come search ≡ walks_by track.now.design.now.station from) }
     {
         let mut levels = Vec::new(alloc);
         if !track.at(from).edges.is_empty() {
@@ -80,6 +80,20 @@ impl<'a> Search<'a> {
 impl Search<'_> {
     ghost use Rattle.rail_routes.specs.Pending.{closed_then, going_on, going_over, station_of, stepping, to_come};
     ghost use Rattle.rail_routes.specs.Pending.{GoesOn, IsInnermost, IsLonger};
+
+    /// The next closed path, if one is still to come. Where it is a whole route, its edges are then the search's path.
+    pub(crate) fn next(&mut self) -> Result<Option<Closed>, AllocError>
+        ensures track { OnOk result (self.new.track ≡ self.old.track) }
+        ensures next { IfOk result (λ closed.
+            closed_then closed self.new.path.edges.items (to_come self.new) ≡ to_come self.old) }
+        ensures done { IfOk result (λ closed. closed ≡ None → self.new.levels.items ≡ []) }
+    {
+        let Some(level) = self.levels.pop() else {
+            return Ok(None);
+        };
+        self.path.shorten(level.after);
+        Ok(Some(self.close(level)?))
+    }
 
     /// Takes the next edge of the innermost level. The edges after it stay to be tried.
     fn take_edge(&mut self, level: Level) -> Result<EdgeNo, AllocError>
@@ -109,7 +123,7 @@ impl Search<'_> {
             stepping self.new step ++ to_come self.new ≡ going_over self.old from edge ++ to_come self.old) }
     {
         if self.path.has(edge) {
-            return Ok(Step::Closed(Closed::Again(edge)));
+            return Ok(Step::Closed(Closed::RepeatsEdge(edge)));
         }
         self.path.push(edge)?;
         let track = self.track;
@@ -142,19 +156,5 @@ impl Search<'_> {
                 }
             }
         }
-    }
-
-    /// The next closed path, if one is still to come. Where it is a whole route, its edges are then the search's path.
-    pub(crate) fn next(&mut self) -> Result<Option<Closed>, AllocError>
-        ensures track { OnOk result (self.new.track ≡ self.old.track) }
-        ensures next { IfOk result (λ closed.
-            closed_then closed self.new.path.edges.items (to_come self.new) ≡ to_come self.old) }
-        ensures done { IfOk result (λ closed. closed ≡ None → self.new.levels.items ≡ []) }
-    {
-        let Some(level) = self.levels.pop() else {
-            return Ok(None);
-        };
-        self.path.shorten(level.after);
-        Ok(Some(self.close(level)?))
     }
 }

@@ -24,7 +24,7 @@ pub(crate) fn finish_at(track: &Track<'_>, end: End) -> Option<Finish>
         Some(signal) => Some(Finish::Signal(*signal)),
         None => {
             if onward.edges.is_empty() {
-                Some(Finish::Dead(end.node))
+                Some(Finish::DeadEnd(end.node))
             } else {
                 None
             }
@@ -51,6 +51,17 @@ pub(crate) fn start_end(track: &Track<'_>, start: Start) -> End
         }
         Start::Signal(signal) => signal_end(track.design, signal),
     }
+}
+
+/// All starts, in the order of their nodes.
+pub(crate) fn starts(alloc: Global, track: &Track<'_>) -> Result<Vec<Start>, AllocError>
+    ensures { IfOk result (λ all. all.items ≡ starts track.now.design.now.station) }
+{
+    let mut all = Vec::new(alloc);
+    for index in 0..track.design.station.nodes.len() {
+        add_starts_at(&mut all, track, NodeNo(index as u32 + 1))?;
+    }
+    Ok(all)
 }
 
 /// Adds the signals to the starts.
@@ -80,15 +91,4 @@ fn add_starts_at(starts: &mut Vec<Start>, track: &Track<'_>, node: NodeNo) -> Re
     let toward_b = &track.at(through(at_a)).signals;
     add_signals(starts, toward_a.as_slice())?;
     add_signals(starts, toward_b.as_slice())
-}
-
-/// All starts, in the order of their nodes.
-pub(crate) fn starts(alloc: Global, track: &Track<'_>) -> Result<Vec<Start>, AllocError>
-    ensures { IfOk result (λ all. all.items ≡ starts track.now.design.now.station) }
-{
-    let mut all = Vec::new(alloc);
-    for index in 0..track.design.station.nodes.len() {
-        add_starts_at(&mut all, track, NodeNo(index as u32 + 1))?;
-    }
-    Ok(all)
 }

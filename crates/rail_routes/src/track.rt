@@ -31,21 +31,6 @@ pub(crate) struct Track<'a> {
     ghost on_b: { side_b ≡ at_side design.now.station B },
 }
 
-fn is_side(one: Side, other: Side) -> bool
-    ensures { result ≡ is_side one other }
-{
-    match (one, other) {
-        (Side::A, Side::A) | (Side::B, Side::B) => true,
-        (Side::A, Side::B) | (Side::B, Side::A) => false,
-    }
-}
-
-fn is_end(one: End, other: End) -> bool
-    ensures { result ≡ is_end one other }
-{
-    one.node.0 == other.node.0 && is_side(one.side, other.side)
-}
-
 /// The end by which one leaves a node that was entered by this end.
 pub(crate) fn through(end: End) -> End
     ensures { result ≡ through end }
@@ -71,23 +56,6 @@ pub(crate) fn far_end(edge: &Edge, end: End) -> End
     }
 }
 
-/// Whether an edge has one of its ends there.
-fn ends_at(design: &Design, edge: EdgeNo, end: End) -> bool
-    requires { IsEdge design.now.station edge }
-    ensures { result ≡ meets design.now.station edge end }
-{
-    let edge = design.edge(edge);
-    is_end(edge.from, end) || is_end(edge.to, end)
-}
-
-/// Whether a signal is for trains that leave by the end.
-fn stands_at(design: &Design, signal: SignalNo, end: End) -> bool
-    requires { IsSignal design.now.station signal }
-    ensures { result ≡ is_end (leave_by design.now.station signal) end }
-{
-    is_end(signal_end(design, signal), end)
-}
-
 /// The end by which the trains leave for whom a signal stands.
 pub(crate) fn signal_end(design: &Design, signal: SignalNo) -> End
     requires { IsSignal design.now.station signal }
@@ -106,6 +74,67 @@ pub(crate) fn is_boundary(design: &Design, node: NodeNo) -> bool
     ensures { result ≡ (node_of design.now.station node).boundary }
 {
     design.station.nodes.as_slice()[node.0 as usize - 1].boundary
+}
+
+impl<'a> Track<'a> {
+    /// What stands at each end of a design's station.
+    pub(crate) fn new(alloc: Global, design: &'a Design) -> Result<Track<'a>, AllocError>
+        ensures { IfOk result (λ track. track.design.now ≡ design.now) }
+    {
+        Ok(Track {
+            design,
+            side_a: at_side(alloc, design, Side::A)?,
+            side_b: at_side(alloc, design, Side::B)?,
+        })
+    }
+}
+
+impl Track<'_> {
+    ghost use Rattle.std.specs.Prelude.{ℕ};
+
+    /// What stands at an end.
+    pub(crate) fn at(&self, end: End) -> &AtEnd
+        requires { IsNode self.now.design.now.station end.node }
+        ensures { result.now ≡ at_end self.now.design.now.station end }
+    {
+        let index = end.node.0 as usize - 1;
+        match end.side {
+            Side::A => &self.side_a.as_slice()[index],
+            Side::B => &self.side_b.as_slice()[index],
+        }
+    }
+}
+
+fn is_side(one: Side, other: Side) -> bool
+    ensures { result ≡ is_side one other }
+{
+    match (one, other) {
+        (Side::A, Side::A) | (Side::B, Side::B) => true,
+        (Side::A, Side::B) | (Side::B, Side::A) => false,
+    }
+}
+
+fn is_end(one: End, other: End) -> bool
+    ensures { result ≡ is_end one other }
+{
+    one.node.0 == other.node.0 && is_side(one.side, other.side)
+}
+
+/// Whether an edge has one of its ends there.
+fn ends_at(design: &Design, edge: EdgeNo, end: End) -> bool
+    requires { IsEdge design.now.station edge }
+    ensures { result ≡ meets design.now.station edge end }
+{
+    let edge = design.edge(edge);
+    is_end(edge.from, end) || is_end(edge.to, end)
+}
+
+/// Whether a signal is for trains that leave by the end.
+fn stands_at(design: &Design, signal: SignalNo, end: End) -> bool
+    requires { IsSignal design.now.station signal }
+    ensures { result ≡ is_end (leave_by design.now.station signal) end }
+{
+    is_end(signal_end(design, signal), end)
 }
 
 /// The edges at an end, in file order.
@@ -159,33 +188,4 @@ fn at_side(alloc: Global, design: &Design, side: Side) -> Result<List<AtEnd>, Al
         all.push(at_end(alloc, design, end)?)?;
     }
     Ok(all)
-}
-
-impl<'a> Track<'a> {
-    /// What stands at each end of a design's station.
-    pub(crate) fn new(alloc: Global, design: &'a Design) -> Result<Track<'a>, AllocError>
-        ensures { IfOk result (λ track. track.design.now ≡ design.now) }
-    {
-        Ok(Track {
-            design,
-            side_a: at_side(alloc, design, Side::A)?,
-            side_b: at_side(alloc, design, Side::B)?,
-        })
-    }
-}
-
-impl Track<'_> {
-    ghost use Rattle.std.specs.Prelude.{ℕ};
-
-    /// What stands at an end.
-    pub(crate) fn at(&self, end: End) -> &AtEnd
-        requires { IsNode self.now.design.now.station end.node }
-        ensures { result.now ≡ at_end self.now.design.now.station end }
-    {
-        let index = end.node.0 as usize - 1;
-        match end.side {
-            Side::A => &self.side_a.as_slice()[index],
-            Side::B => &self.side_b.as_slice()[index],
-        }
-    }
 }

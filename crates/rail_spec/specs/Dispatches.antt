@@ -14,7 +14,7 @@ use Rattle.rail_base.specs.Numbering.{entry, before_first}
 use Rattle.rail_base.specs.Stations.{edge_of, train_length, vehicle_of, trains, per_tick_speed, per_tick_accel}
 use Rattle.rail_spec.specs.Track.{edge_ends}
 use Rattle.rail_spec.specs.Plans.{path, preceding, route_at, shared, release_offset, length_mm, exits, is_route}
-use Rattle.rail_spec.specs.Motion.{Rates, Stretch, next_speed}
+use Rattle.rail_spec.specs.Motion.{MotorSeen, SpanSeen, next_speed}
 
 -- how a train begins: nothing is granted, and it stands at the start of its path
 abbrev pub idle : TrainState
@@ -30,7 +30,7 @@ abbrev pub binding_length : Station → TrainNo → ℕ
 binding_length d t = if nat_le 2 d.version then train_length d t else 0
 
 -- what a train's vehicle can do in a tick
-abbrev pub rates : Station → TrainNo → Rates
+abbrev pub rates : Station → TrainNo → MotorSeen
 rates d t = record {
   accel = per_tick_accel d (vehicle_of d t).accel_mm_s2;
   brake = per_tick_accel d (vehicle_of d t).brake_mm_s2;
@@ -39,11 +39,11 @@ rates d t = record {
 }
 
 -- an edge that ends there, with its limit
-abbrev pub stretch : Station → EdgeNo × ℕ → Stretch
+abbrev pub stretch : Station → EdgeNo × ℕ → SpanSeen
 stretch d e = record { end = e.1; limit = per_tick_speed d (edge_of d e.0).speed_mm_s }
 
 -- the edges of routes in a row, each with its end and its limit
-abbrev pub stretches : Station → List Route → List Stretch
+abbrev pub stretches : Station → List Route → List SpanSeen
 stretches d rs = map (stretch d) (edge_ends d 0 (flat_map (λ r. r.edges) rs))
 
 -- how far routes in a row let a train go: their length, or no end where one exits

@@ -17,7 +17,7 @@ use Rattle.rail_base.specs.Numbering.{least}
 use Rattle.rail_base.specs.Stations.{trains}
 use Rattle.rail_base.specs.Routes.{route_at, sections}
 use Rattle.rail_spec.specs.Plans.{path}
-use Rattle.rail_base.specs.declared.state.Stop.{Stop}
+use Rattle.rail_base.specs.declared.state.PathNode.{PathNode}
 use Rattle.rail_spec.specs.Dispatches.{of_plan, has_released, state_at}
 use Rattle.rail_spec.specs.Visits.{pass_tick, visits_of_train, passed}
 use Rattle.rail_spec.specs.Requirements.{granted_by, violation_at, path_violation, cost}
@@ -47,10 +47,10 @@ module _ (d : Station) (routes : List Route) (plan : List (List Command)) where
   released k t = flat_map (released_of k t) (path plan t)
 
   -- where a visit is made, with the tick, up to k
-  abbrev pub visit_made : ℕ → TrainNo → Option Stop → Option (NodeNo × ℕ)
+  abbrev pub visit_made : ℕ → TrainNo → Option PathNode → Option (NodeNo × ℕ)
   visit_made k t place =
       let tick = pass_tick d routes (of_plan routes plan) k t in
-      option_and_then (λ stop. option_map (λ i. (stop.node, i)) (tick stop)) place
+      option_and_then (λ path_node. option_map (λ i. (path_node.node, i)) (tick path_node)) place
 
   -- what has happened to the train by tick k
   abbrev pub train_history : ℕ → TrainNo → TrainHistory

@@ -96,15 +96,15 @@ abbrev pub goes_on : Finish → Start → Bool
 goes_on (finish.Signal s) (start.Signal q) = s.0 == q.0
 goes_on (finish.Signal s) (start.Boundary n) = false
 goes_on (finish.Exit m) _ = false
-goes_on (finish.Dead m) _ = false
+goes_on (finish.DeadEnd m) _ = false
 
 -- both routes end at one signal
 abbrev pub end_at_one_signal : Finish → Finish → Bool
 end_at_one_signal (finish.Signal s) (finish.Signal q) = s.0 == q.0
 end_at_one_signal (finish.Signal s) (finish.Exit n) = false
-end_at_one_signal (finish.Signal s) (finish.Dead n) = false
+end_at_one_signal (finish.Signal s) (finish.DeadEnd n) = false
 end_at_one_signal (finish.Exit m) _ = false
-end_at_one_signal (finish.Dead m) _ = false
+end_at_one_signal (finish.DeadEnd m) _ = false
 
 -- the node is one of these
 abbrev pub has_node : List NodeNo → NodeNo → Bool

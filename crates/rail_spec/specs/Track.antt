@@ -55,7 +55,7 @@ start_end d (start.Signal s) = signal_end d s
 -- how a route ends that reaches a node by this end, if it ends there
 abbrev pub ends_by_signal : Station → End → List SignalNo → Option Finish
 ends_by_signal d end (s ∷ ss) = Some (finish.Signal s)
-ends_by_signal d end [] = if is_empty (leave d (through end)) then Some (finish.Dead end.node) else None
+ends_by_signal d end [] = if is_empty (leave d (through end)) then Some (finish.DeadEnd end.node) else None
 
 -- how a route ends that reaches a node by this end, if it ends there
 abbrev pub finish_at : Station → End → Option Finish
@@ -68,27 +68,27 @@ abbrev pub has_edge : List EdgeNo → EdgeNo → Bool
 has_edge es e = list_any (λ f. f.0 == e.0) es
 
 -- how a path closes: as a whole route, or badly, at an edge that is met again
-pub data Closing : Type 0 where
-  Whole : List EdgeNo → Finish → Closing
-  Again : EdgeNo → Closing
+pub data Walk : Type 0 where
+  Whole : List EdgeNo → Finish → Walk
+  RepeatsEdge : EdgeNo → Walk
 
 -- the path that ends, or else those that go on
-abbrev pub closed_or : Option Finish → List EdgeNo → List Closing → List Closing
-closed_or (Some finish) path further = Whole path finish ∷ []
-closed_or None path further = further
+abbrev pub walk_or : Option Finish → List EdgeNo → List Walk → List Walk
+walk_or (Some finish) path further = Whole path finish ∷ []
+walk_or None path further = further
 
 -- all closed paths that go on over further edges from an end, those over an earlier edge first
-abbrev pub closings : ℕ → Station → List EdgeNo → End → List Closing
-closings zero d path end = []
-closings (suc edges) d path end = flat_map (λ e.
+abbrev pub walks : ℕ → Station → List EdgeNo → End → List Walk
+walks zero d path end = []
+walks (suc edges) d path end = flat_map (λ e.
     let there = far_end (edge_of d e) end in
     let longer = path ++ e ∷ [] in
-    let further = closings edges d longer (through there) in
-    if has_edge path e then Again e ∷ [] else closed_or (finish_at d there) longer further) (leave d end)
+    let further = walks edges d longer (through there) in
+    if has_edge path e then RepeatsEdge e ∷ [] else walk_or (finish_at d there) longer further) (leave d end)
 
 -- all closed paths from a start
-abbrev pub closings_from : Station → Start → List Closing
-closings_from d s = closings (length d.edges + 1) d [] (start_end d s)
+abbrev pub walks_from : Station → Start → List Walk
+walks_from d s = walks (length d.edges + 1) d [] (start_end d s)
 
 -- the edges of a path, each with the offset of its end
 abbrev pub edge_ends : Station → ℕ → List EdgeNo → List (EdgeNo × ℕ)
@@ -129,23 +129,23 @@ route_of d s path f =
     }
 
 -- the route of a closed path, if it closes well
-abbrev pub route_from : Station → Start → Closing → List Route
+abbrev pub route_from : Station → Start → Walk → List Route
 route_from d s (Whole path finish) = route_of d s path finish ∷ []
-route_from d s (Again e) = []
+route_from d s (RepeatsEdge e) = []
 
 -- the edge that is met again, if one is
-abbrev pub bad_edge : Closing → List EdgeNo
+abbrev pub bad_edge : Walk → List EdgeNo
 bad_edge (Whole path finish) = []
-bad_edge (Again e) = e ∷ []
+bad_edge (RepeatsEdge e) = e ∷ []
 
 -- all closed paths, in order
-abbrev pub all_closings : Station → List Closing
-all_closings d = flat_map (closings_from d) (starts d)
+abbrev pub all_walks : Station → List Walk
+all_walks d = flat_map (walks_from d) (starts d)
 
 -- the edges met again by the first 2,001 closed paths
 abbrev pub edges_met_again : Station → List EdgeNo
-edges_met_again d = flat_map bad_edge (take 2001 (all_closings d))
+edges_met_again d = flat_map bad_edge (take 2001 (all_walks d))
 
 -- the elementary routes
 abbrev pub routes_of : Station → List Route
-routes_of d = flat_map (λ s. flat_map (route_from d s) (closings_from d s)) (starts d)
+routes_of d = flat_map (λ s. flat_map (route_from d s) (walks_from d s)) (starts d)

@@ -23,6 +23,20 @@ pub struct Cursor<'a> {
     ghost line_fits: { line + length rest.now < 2 ^ 64 },
 }
 
+impl<'a> Cursor<'a> {
+    ghost use Rattle.rail_text.specs.Cursors.{lines_left};
+
+    /// A cursor before the first line.
+    pub fn new(bytes: &'a [u8]) -> Cursor<'a>
+        ensures { lines_left result ≡ pieces bytes.entry.now }
+    {
+        Cursor {
+            rest: bytes,
+            line: 1,
+        }
+    }
+}
+
 /// The place of the first LF.
 fn line_end(text: &[u8]) -> Option<usize>
     ensures { result ≡ position is_lf text.now }
@@ -56,20 +70,6 @@ fn first_piece(line: u64, text: &[u8]) -> (Piece<'_>, &[u8])
             },
             &[],
         ),
-    }
-}
-
-impl<'a> Cursor<'a> {
-    ghost use Rattle.rail_text.specs.Cursors.{lines_left};
-
-    /// A cursor before the first line.
-    pub fn new(bytes: &'a [u8]) -> Cursor<'a>
-        ensures { lines_left result ≡ pieces bytes.entry.now }
-    {
-        Cursor {
-            rest: bytes,
-            line: 1,
-        }
     }
 }
 

@@ -17,16 +17,9 @@ pub fn put_number(text: &mut Vec<u8>, number: u64) -> Result<(), AllocError>
     text.extend_from_slice(buffer.format(number).as_bytes())
 }
 
-/// Whether each byte is a decimal digit.
-fn are_digits(bytes: &[u8]) -> bool
-    ensures { result ≡ list_all is_ascii_digit bytes.now }
-{
-    bytes.iter().all(|byte| byte.is_ascii_digit())
-}
-
 /// The number that 1 to 20 decimal digits write, where it fits 64 bits.
 ///
-/// A sign, a space or a 21st digit is no number, a zero in front is one.
+/// A sign, a space or a 21st digit is no number, a leading zero is allowed.
 pub fn number(digits: &[u8]) -> Option<u64>
     ensures { result ≡ number_of digits.now }
 {
@@ -37,4 +30,11 @@ pub fn number(digits: &[u8]) -> Option<u64>
         Ok(text) => text.parse().ok(),
         Err(_) => None,
     }
+}
+
+/// Whether each byte is a decimal digit.
+fn are_digits(bytes: &[u8]) -> bool
+    ensures { result ≡ list_all is_ascii_digit bytes.now }
+{
+    bytes.iter().all(|byte| byte.is_ascii_digit())
 }

@@ -32,49 +32,49 @@ abbrev pub size_of : Text → Option ℕ
 size_of = number_to 6
 
 -- a request, by the texts of its values
-pub data Asked : Type 0 where
-  simulate : Text → Text → Asked
-  routes : Text → Asked
-  verify : ℕ → ℕ → ℕ → Bool → Text → Text → Asked
-  check : ℕ → Text → Text → Asked
-  trial : ℕ → ℕ → Asked
+pub data RequestSeen : Type 0 where
+  simulate : Text → Text → RequestSeen
+  routes : Text → RequestSeen
+  verify : ℕ → ℕ → ℕ → Bool → Text → Text → RequestSeen
+  check : ℕ → Text → Text → RequestSeen
+  trial : ℕ → ℕ → RequestSeen
 
 -- its number of steps, where it has one, is from 1 to 256; its seed fits 64 bits, and its size is from 1 to 6
-abbrev pub IsInRange : Asked → Type 0
+abbrev pub IsInRange : RequestSeen → Type 0
 IsInRange (simulate design plan) = Unit {0}
 IsInRange (routes design) = Unit {0}
 IsInRange (verify n conflicts ticks bounds design proof) = (1 ≤ n) × (n ≤ 256)
 IsInRange (check n design proof) = (1 ≤ n) × (n ≤ 256)
 IsInRange (trial seed size) = (seed ≤ 18446744073709551615) × (1 ≤ size) × (size ≤ 6)
 
-abbrev pub simulate_with : Option Text → Option Text → Option Asked
+abbrev pub simulate_with : Option Text → Option Text → Option RequestSeen
 simulate_with (Some design) (Some plan) = Some (simulate design plan)
 simulate_with _ _ = None
 
-abbrev pub routes_with : Option Text → Option Asked
+abbrev pub routes_with : Option Text → Option RequestSeen
 routes_with design = option_map routes design
 
 -- a search with these numbers, if all of them are there
-abbrev pub verify_within : Option ℕ → Option ℕ → Option ℕ → Bool → Text → Text → Option Asked
+abbrev pub verify_within : Option ℕ → Option ℕ → Option ℕ → Bool → Text → Text → Option RequestSeen
 verify_within (Some n) (Some conflicts) (Some ticks) bounds design proof =
     Some (verify n conflicts ticks bounds design proof)
 verify_within _ _ _ bounds design proof = None
 
-abbrev pub verify_with : Option Text → Option Text → Option Text → Bool → Option Text → Option Text → Option Asked
+abbrev pub verify_with : Option Text → Option Text → Option Text → Bool → Option Text → Option Text → Option RequestSeen
 verify_with (Some steps) (Some conflicts) (Some ticks) bounds (Some design) (Some proof) =
     verify_within (steps_of steps) (conflicts_of conflicts) (ticks_of ticks) bounds design proof
 verify_with _ _ _ bounds _ _ = None
 
-abbrev pub check_with : Option Text → Option Text → Option Text → Option Asked
+abbrev pub check_with : Option Text → Option Text → Option Text → Option RequestSeen
 check_with (Some steps) (Some design) (Some proof) = option_map (λ n. check n design proof) (steps_of steps)
 check_with _ _ _ = None
 
 -- a trial with these numbers, if both are there
-abbrev pub trial_within : Option ℕ → Option ℕ → Option Asked
+abbrev pub trial_within : Option ℕ → Option ℕ → Option RequestSeen
 trial_within (Some seed) (Some size) = Some (trial seed size)
 trial_within _ _ = None
 
-abbrev pub trial_with : Option Text → Option Text → Option Asked
+abbrev pub trial_with : Option Text → Option Text → Option RequestSeen
 trial_with (Some seed) (Some size) = trial_within (seed_of seed) (size_of size)
 trial_with _ _ = None
 
@@ -84,13 +84,13 @@ is_given flag rows = option_map_or (λ text. bytes_eq text (codes "true")) (one_
 
 -- ---- what the values of the arguments of each subcommand ask for
 
-abbrev pub simulate_by : List Row → Option Asked
+abbrev pub simulate_by : List Row → Option RequestSeen
 simulate_by rows = simulate_with (first_of (codes "DESIGN") rows) (first_of (codes "PLAN") rows)
 
-abbrev pub routes_by : List Row → Option Asked
+abbrev pub routes_by : List Row → Option RequestSeen
 routes_by rows = routes_with (first_of (codes "DESIGN") rows)
 
-abbrev pub verify_by : List Row → Option Asked
+abbrev pub verify_by : List Row → Option RequestSeen
 verify_by rows =
     verify_with
     (first_of (codes "steps") rows)
@@ -100,15 +100,15 @@ verify_by rows =
     (first_of (codes "DESIGN") rows)
     (first_of (codes "PROOF") rows)
 
-abbrev pub check_by : List Row → Option Asked
+abbrev pub check_by : List Row → Option RequestSeen
 check_by rows =
     check_with (first_of (codes "steps") rows) (first_of (codes "DESIGN") rows) (first_of (codes "PROOF") rows)
 
-abbrev pub trial_by : List Row → Option Asked
+abbrev pub trial_by : List Row → Option RequestSeen
 trial_by rows = trial_with (first_of (codes "SEED") rows) (first_of (codes "SIZE") rows)
 
 -- what a subcommand asks for, by its name and the values of its arguments
-abbrev pub asked_by : Text × List Row → Option Asked
+abbrev pub asked_by : Text × List Row → Option RequestSeen
 asked_by entered =
     if bytes_eq entered.0 (codes "simulate") then simulate_by entered.1
     else if bytes_eq entered.0 (codes "routes") then routes_by entered.1
@@ -118,5 +118,5 @@ asked_by entered =
     else None
 
 -- what the words ask for, where the fixed command takes them
-unfoldable pub request_of : List Text → Option Asked
+unfoldable pub request_of : List Text → Option RequestSeen
 request_of words = if is_taken words then option_and_then asked_by (subcommand_of rcv_app words) else None

@@ -11,6 +11,13 @@ ghost use Rattle.rail_words.specs.FixedCommand.{rcv_app};
 use clap::{Arg, ArgAction, Command};
 use std::alloc::{AllocError, Global};
 
+/// The fixed command.
+pub(crate) fn command<'a>(alloc: Global) -> Result<Command<'a>, AllocError>
+    ensures shape { IfOk result (λ command. app_of command ≡ rcv_app) }
+{
+    with_files(alloc)?.subcommand(trial_command(alloc)?)
+}
+
 /// A required value, by its place.
 fn positional<'a>(alloc: Global, name: &'a str) -> Arg<'a>
     ensures rule { rule_of result ≡ positional_rule name.entry.now }
@@ -108,11 +115,4 @@ fn with_files<'a>(alloc: Global) -> Result<Command<'a>, AllocError>
     numberless(alloc)?
         .subcommand(verify_command(alloc)?)?
         .subcommand(check_command(alloc)?)
-}
-
-/// The fixed command.
-pub(crate) fn command<'a>(alloc: Global) -> Result<Command<'a>, AllocError>
-    ensures shape { IfOk result (λ command. app_of command ≡ rcv_app) }
-{
-    with_files(alloc)?.subcommand(trial_command(alloc)?)
 }

@@ -9,7 +9,7 @@ ghost use Rattle.rail_words.specs.Requests.{request_of};
 ghost use Rattle.rail_words.specs.Requests.{simulate_by, routes_by, verify_by, check_by, trial_by};
 ghost use Rattle.rail_words.specs.Requests.{simulate_with, steps_of, ticks_of, routes_with, seed_of, size_of};
 ghost use Rattle.rail_words.specs.Requests.{trial_with, trial_within, verify_with, verify_within};
-ghost use Rattle.rail_words.specs.Words.{asked_of, texts_of};
+ghost use Rattle.rail_words.specs.Words.{request_seen, texts_of};
 ghost use Rattle.rail_words.specs.declared.request.WordsFault.TheVariants as fault;
 
 use crate::command::command;
@@ -74,6 +74,18 @@ impl From<AllocError> for WordsFault {
     }
 }
 
+/// What the words ask for, the first of which is the program's name.
+pub fn read_words<'a>(alloc: Global, words: &'a [String]) -> Result<Request<'a>, WordsFault>
+    ensures ok { IfOk result (λ request. request_of (texts_of words.entry.now) ≡ Some (request_seen request)) }
+    ensures usage { result ≡ Err WordsFault.Usage → request_of (texts_of words.entry.now) ≡ None }
+    ensures range { IfOk result (λ request. IsInRange (request_seen request)) }
+{
+    match matches_of(alloc, words) {
+        Ok(matches) => request_in(&matches).ok_or(WordsFault::Usage),
+        Err(fault) => Err(fault),
+    }
+}
+
 fn fault_of_kind(kind: ErrorKind) -> WordsFault
     ensures { result ≡ WordsFault.Usage → kind ≢ ErrorKind.OutOfMemory }
 {
@@ -97,7 +109,7 @@ fn matches_of<'a>(alloc: Global, words: &'a [String]) -> Result<ArgMatches<'a>, 
 }
 
 /// The subcommand that the words name, and its matches.
-fn entered<'a, 'm>(matches: &'m ArgMatches<'a>) -> Option<(&'a str, &'m ArgMatches<'a>)>
+fn subcommand_of<'a, 'm>(matches: &'m ArgMatches<'a>) -> Option<(&'a str, &'m ArgMatches<'a>)>
     ensures { option_map (λ found. (found.0.now, rows_of (found_of found.1.now))) result
         ≡ subcommand_rows_of matches.now }
 {
@@ -120,7 +132,7 @@ fn is_given(values: &ArgMatches, flag: &str) -> bool
 
 /// What the values of `simulate` ask for.
 fn simulate<'a>(values: &ArgMatches<'a>) -> Option<Request<'a>>
-    ensures { option_map asked_of result ≡ simulate_by (rows_of (found_of values.now)) }
+    ensures { option_map request_seen result ≡ simulate_by (rows_of (found_of values.now)) }
 {
     let Some(design) = value(values, "DESIGN") else {
         return None;
@@ -133,7 +145,7 @@ fn simulate<'a>(values: &ArgMatches<'a>) -> Option<Request<'a>>
 
 /// What the value of `routes` asks for.
 fn routes<'a>(values: &ArgMatches<'a>) -> Option<Request<'a>>
-    ensures { option_map asked_of result ≡ routes_by (rows_of (found_of values.now)) }
+    ensures { option_map request_seen result ≡ routes_by (rows_of (found_of values.now)) }
 {
     let Some(design) = value(values, "DESIGN") else {
         return None;
@@ -170,7 +182,7 @@ fn verify_within<'a>(
     design: &'a str,
     proof: &'a str,
 ) -> Option<Request<'a>>
-    ensures { option_map asked_of result
+    ensures { option_map request_seen result
         ≡ verify_within (steps_of steps.now) (conflicts_of conflicts.now) (ticks_of ticks.now)
         bounds design.now proof.now }
 {
@@ -195,7 +207,7 @@ fn verify_within<'a>(
 
 /// What the values of `verify` ask for.
 fn verify<'a>(values: &ArgMatches<'a>) -> Option<Request<'a>>
-    ensures { option_map asked_of result ≡ verify_by (rows_of (found_of values.now)) }
+    ensures { option_map request_seen result ≡ verify_by (rows_of (found_of values.now)) }
 {
     let Some(steps) = value(values, "steps") else {
         return None;
@@ -218,7 +230,7 @@ fn verify<'a>(values: &ArgMatches<'a>) -> Option<Request<'a>>
 
 /// What the values of `check` ask for.
 fn check<'a>(values: &ArgMatches<'a>) -> Option<Request<'a>>
-    ensures { option_map asked_of result ≡ check_by (rows_of (found_of values.now)) }
+    ensures { option_map request_seen result ≡ check_by (rows_of (found_of values.now)) }
 {
     let Some(text) = value(values, "steps") else {
         return None;
@@ -258,7 +270,7 @@ fn size_of(text: &str) -> Option<u32>
 
 /// What the numbers of `trial` ask for.
 fn trial_within<'a>(seed: &str, size: &str) -> Option<Request<'a>>
-    ensures { option_map asked_of result ≡ trial_within (seed_of seed.now) (size_of size.now) }
+    ensures { option_map request_seen result ≡ trial_within (seed_of seed.now) (size_of size.now) }
 {
     let Some(seed) = seed_of(seed) else {
         return None;
@@ -271,7 +283,7 @@ fn trial_within<'a>(seed: &str, size: &str) -> Option<Request<'a>>
 
 /// What the values of `trial` ask for.
 fn trial<'a>(values: &ArgMatches<'a>) -> Option<Request<'a>>
-    ensures { option_map asked_of result ≡ trial_by (rows_of (found_of values.now)) }
+    ensures { option_map request_seen result ≡ trial_by (rows_of (found_of values.now)) }
 {
     let Some(seed) = value(values, "SEED") else {
         return None;
@@ -284,9 +296,9 @@ fn trial<'a>(values: &ArgMatches<'a>) -> Option<Request<'a>>
 
 /// What the matches ask for.
 fn request_in<'a>(matches: &ArgMatches<'a>) -> Option<Request<'a>>
-    ensures { option_map asked_of result ≡ option_and_then asked_by (subcommand_rows_of matches.now) }
+    ensures { option_map request_seen result ≡ option_and_then asked_by (subcommand_rows_of matches.now) }
 {
-    let Some((name, values)) = entered(matches) else {
+    let Some((name, values)) = subcommand_of(matches) else {
         return None;
     };
     if name == "simulate" {
@@ -305,16 +317,4 @@ fn request_in<'a>(matches: &ArgMatches<'a>) -> Option<Request<'a>>
         return trial(values);
     }
     None
-}
-
-/// What the words ask for, the first of which is the program's name.
-pub fn read_words<'a>(alloc: Global, words: &'a [String]) -> Result<Request<'a>, WordsFault>
-    ensures ok { IfOk result (λ request. request_of (texts_of words.entry.now) ≡ Some (asked_of request)) }
-    ensures usage { result ≡ Err WordsFault.Usage → request_of (texts_of words.entry.now) ≡ None }
-    ensures range { IfOk result (λ request. IsInRange (asked_of request)) }
-{
-    match matches_of(alloc, words) {
-        Ok(matches) => request_in(&matches).ok_or(WordsFault::Usage),
-        Err(fault) => Err(fault),
-    }
 }

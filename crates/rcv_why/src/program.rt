@@ -9,16 +9,6 @@ use rail_files::{FileShelf, OutSink, command_words};
 use std::alloc::AllocError;
 use why_cli::run_why;
 
-/// The number of the status with which these words are done, over real files and standard output.
-fn run_over_files(rt: HostRuntime, words: &[String]) -> u8
-    ensures { EndsWith (texts_of words.now) result }
-{
-    let alloc = rt.alloc();
-    let mut out = OutSink::new(rt.stdout());
-    let mut shelf = FileShelf::new(alloc, rt);
-    run_why(alloc, words, &mut shelf, &mut out).code()
-}
-
 /// Does what the words of the command line ask for, and gives the number to end with.
 pub(crate) fn run(rt: HostRuntime) -> u8
     ensures { (words : List (List ℕ)) × EndsWith words result }
@@ -27,4 +17,14 @@ pub(crate) fn run(rt: HostRuntime) -> u8
         Ok(words) => run_over_files(rt, words.as_slice()),
         Err(AllocError) => Status::Memory.code(),
     }
+}
+
+/// The number of the status with which these words are done, over real files and standard output.
+fn run_over_files(rt: HostRuntime, words: &[String]) -> u8
+    ensures { EndsWith (texts_of words.now) result }
+{
+    let alloc = rt.alloc();
+    let mut out = OutSink::new(rt.stdout());
+    let mut shelf = FileShelf::new(alloc, rt);
+    run_why(alloc, words, &mut shelf, &mut out).code()
 }

@@ -3,7 +3,7 @@ use Rattle.std.proofs.Common.{◌≡◌, ℕ, ◌≤◌, Bool, true, false, ◌&
 use Rattle.std.specs.List.{list_all}
 use Rattle.std.proofs.lemmas.Bool.Decides.{nat_tests}
 use Rattle.sat_clause.specs.declared.lit.Lit.{Lit}
-use Rattle.sat_clause.specs.Hints.{same_lit, is_held}
+use Rattle.sat_clause.specs.Hints.{same_lit, is_assigned}
 use Rattle.sat_trail.specs.Trails.{IsIn, AllIn}
 use Rattle.sat_trail.proofs.Members.{either, same-equal}
 use Rattle.refused_lines.specs.Variables.{is_in}
@@ -20,7 +20,7 @@ pub all_in : (vars : ℕ) (clause : List Lit) → list_all (is_in vars) clause �
 all_in vars [] a l h = absurd (cc)
 all_in vars (k ∷ ks) a l h =
     let p = both (is_in vars k) (list_all (is_in vars) ks) a in
-    elim (either (same_lit l k) (is_held ks l) h) [
+    elim (either (same_lit l k) (is_assigned ks l) h) [
       | inl s ↦ subst (IsIn vars) (sym (same-equal l k s)) (in_range vars k.var p.0)
       | inr r ↦ all_in vars ks p.1 l r
     ]

@@ -8,7 +8,7 @@ ghost use Rattle.sat_trail.specs.Trails.{AllIn};
 
 use anyhow::{Result, ensure};
 use halting::Halting;
-use run_log::Text;
+use log_recorder::Text;
 use sat_clause::Lit;
 use sat_core::{Answer, Recorder, Solver};
 
@@ -64,7 +64,7 @@ fn is_added(solver: &mut HaltingSolver, vars: u32, line: &[u8], clause: &[Lit]) 
 
 /// A search that goes on.
 #[derive(Drop)]
-pub(crate) struct Search {
+pub(crate) struct SearchState {
     pub(crate) solver: HaltingSolver,
     /// How many variables there are.
     pub(crate) vars: u32,
@@ -75,7 +75,7 @@ pub(crate) struct Search {
     pub(crate) ghost same: { solver.vars ≡ vars },
 }
 
-impl Search {
+impl SearchState {
     /// Gives the solver a clause with its line, once more where memory was wanting the first time.
     pub(crate) fn add(&mut self, line: &[u8], clause: &[Lit]) -> Result<()> {
         let vars = self.vars;
@@ -91,7 +91,7 @@ impl Search {
     }
 
     /// Asks the solver for values that make a literal true.
-    pub(crate) fn ask(&mut self, assumed: Lit) -> Result<Answer> {
+    pub(crate) fn solve_under(&mut self, assumed: Lit) -> Result<Answer> {
         let vars = self.vars;
         ensure!(are_in(vars, &[assumed]), "the literal is of no variable");
         Ok(self.solver.solve(&[assumed], MOST_LINES))

@@ -8,7 +8,7 @@ mod rounds;
 use anyhow::Result;
 use infra_reader::read_design;
 use interlocking::{Interlocking, Steps};
-use log_checker::Shown;
+use log_checker::CheckResult;
 use plan_encoding::base;
 use proof_judge::judge;
 use rail_files::FileShelf;
@@ -35,13 +35,13 @@ fn ends_well(
     refused: u64,
 ) -> Result<bool> {
     let steps = Steps { count: STEPS };
-    let ended = refute(alloc, interlocking, steps, stops)?;
-    if ended.refused != refused {
+    let ending = refute(alloc, interlocking, steps, stops)?;
+    if ending.refused != refused {
         return Ok(false);
     }
     let base = base(alloc, interlocking, steps)?;
-    let shown = judge(alloc, interlocking, base, ended.log.as_slice())?;
-    Ok(matches!(shown, Shown::Yes { steps: STEPS }))
+    let shown = judge(alloc, interlocking, base, ending.log.as_slice())?;
+    Ok(matches!(shown, CheckResult::Yes { steps: STEPS }))
 }
 
 fn main(rt: HostRuntime) -> Result<ExitCode> {

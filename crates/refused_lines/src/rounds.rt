@@ -5,12 +5,13 @@ ghost use Rattle.interlocking.specs.Plans.{IsRunnable};
 ghost use Rattle.rail_spec.specs.Track.{routes_of};
 ghost use Rattle.plan_encoding.specs.Bases.{IsBaseOf};
 
-use crate::adding::Search;
+use crate::adding::SearchState;
 use anyhow::{Result, bail, ensure};
-use cone_design::Contention;
+use cone_form::Contention;
 use halting::Halting;
 use interlocking::{Interlocking, Steps};
 use log_checker::Refuter;
+use log_recorder::Text;
 use plan_decoder::decode;
 use plan_encoding::{Base, base};
 use plan_run::simulate;
@@ -21,7 +22,6 @@ use rail_base::history::Verdict;
 use rail_base::plan::Plan;
 use rail_bound::Evidence;
 use rail_plan::reading::read_plan;
-use run_log::Text;
 use sat_clause::Lit;
 use sat_core::{Answer, Assignment, Recorder, Solver};
 use std::alloc::Global;
@@ -46,20 +46,20 @@ pub(crate) struct Ended {
 
 /// What is searched.
 #[derive(Clone, Copy)]
-struct Question<'a> {
+struct PlanSearch<'a> {
     alloc: Global,
     interlocking: &'a Interlocking,
     base: &'a Base,
     ghost numbers: { let d = interlocking.now.design.station in IsBaseOf d (routes_of d) base.now.steps base.now },
 }
 
-impl Question<'_> {
+impl PlanSearch<'_> {
     /// The plan of which these values tell, as its text reads back.
     fn plan_of(&self, values: &Assignment) -> Result<Plan>
         ensures { IfOk result (λ p. IsRunnable self.now.interlocking.now 256 p.steps) }
     {
-        let told = decode(self.alloc, self.base, values)?;
-        let text = write_plan(self.alloc, &self.interlocking.design, &told)?;
+        let plan = decode(self.alloc, self.base, values)?;
+        let text = write_plan(self.alloc, &self.interlocking.design, &plan)?;
         Ok(read_plan(self.alloc, self.interlocking, text.as_slice())?)
     }
 
@@ -104,7 +104,7 @@ impl Question<'_> {
     }
 
     /// Excludes the plan of which these values tell.
-    fn exclude(&self, search: &mut Search, values: &Assignment) -> Result<()> {
+    fn exclude(&self, search: &mut SearchState, values: &Assignment) -> Result<()> {
         let plan = self.plan_of(values)?;
         let evidence = self.evidence(&plan)?;
         let clause = self.clause_of(&evidence)?;
@@ -113,12 +113,12 @@ impl Question<'_> {
     }
 
     /// One round, and whether it shows that there is no plan.
-    fn round(&self, search: &mut Search) -> Result<bool> {
+    fn refine(&self, search: &mut SearchState) -> Result<bool> {
         let most = self.base.steps().count;
         let step = search.step;
         ensure!(step <= most, "too many steps");
         let selector = self.base.selector(step);
-        match search.ask(selector)? {
+        match search.solve_under(selector)? {
             Answer::Sat(values) => {
                 self.exclude(search, &values)?;
                 Ok(false)
@@ -139,7 +139,7 @@ impl Question<'_> {
     }
 
     /// The clauses of the base, given to a solver whose recorder stops at these calls.
-    fn start(&self, stops: &[u64]) -> Result<Search> {
+    fn start(&self, stops: &[u64]) -> Result<SearchState> {
         let head = Head::Named {
             version: self.interlocking.design.station.version,
             steps: self.base.steps().count,
@@ -150,7 +150,7 @@ impl Question<'_> {
         };
         let vars = self.base.counts().vars;
         let solver = Solver::new(self.alloc, Halting::new(self.alloc, text, stops)?, vars)?;
-        let mut search = Search {
+        let mut search = SearchState {
             solver,
             vars,
             step: 1,
@@ -178,14 +178,14 @@ pub(crate) fn refute(
     stops: &[u64],
 ) -> Result<Ended> {
     let base = base(alloc, interlocking, steps)?;
-    let question = Question {
+    let plan_search = PlanSearch {
         alloc,
         interlocking,
         base: &base,
     };
-    let mut search = question.start(stops)?;
+    let mut search = plan_search.start(stops)?;
     for _ in 0..ROUNDS {
-        if question.round(&mut search)? {
+        if plan_search.refine(&mut search)? {
             let refused = search.refused;
             let recorder = search.solver.into_recorder();
             let calls = recorder.calls();

@@ -30,6 +30,45 @@ pub(crate) fn put_rule(
     put_line(picture, points, Color::Gray, 1)
 }
 
+/// Appends the times, with lines down to a height.
+pub(crate) fn put_times(
+    alloc: Global,
+    picture: &mut Picture,
+    scale: &Scale,
+    bottom: u64,
+) -> Result<(), AllocError>
+    ensures words { OnOk result (words_in picture.new ≡ words_in picture.old) }
+    ensures size { OnOk result (length picture.new ≤ length picture.old + 26) }
+{
+    let all = scale.ticks.saturating_mul(scale.tick_ms);
+    let step = step_of(all);
+    for index in 0..13 {
+        let ms = step.saturating_mul(index);
+        if ms <= all {
+            put_time(alloc, picture, scale, ms, bottom)?;
+        }
+    }
+    Ok(())
+}
+
+/// Appends each level once.
+pub(crate) fn put_levels(
+    alloc: Global,
+    picture: &mut Picture,
+    scale: &Scale,
+    nodes: &[Node],
+) -> Result<(), AllocError>
+    ensures words { OnOk result (words_in picture.new ≡ words_in picture.old) }
+    ensures size { OnOk result (length picture.new ≤ length picture.old + 2 * length nodes.now) }
+{
+    for index in 0..nodes.len() {
+        if scale.is_first_there(index) {
+            put_level(alloc, picture, scale, nodes, index)?;
+        }
+    }
+    Ok(())
+}
+
 /// The step of times of which there are 12 at most, in ms.
 fn step_of(all: u64) -> u64 {
     for step in STEPS {
@@ -70,27 +109,6 @@ fn put_time(
     put_note(picture, place, Anchor::Middle, Color::Black, text)
 }
 
-/// Appends the times, with lines down to a height.
-pub(crate) fn put_times(
-    alloc: Global,
-    picture: &mut Picture,
-    scale: &Scale,
-    bottom: u64,
-) -> Result<(), AllocError>
-    ensures words { OnOk result (words_in picture.new ≡ words_in picture.old) }
-    ensures size { OnOk result (length picture.new ≤ length picture.old + 26) }
-{
-    let all = scale.ticks.saturating_mul(scale.tick_ms);
-    let step = step_of(all);
-    for index in 0..13 {
-        let ms = step.saturating_mul(index);
-        if ms <= all {
-            put_time(alloc, picture, scale, ms, bottom)?;
-        }
-    }
-    Ok(())
-}
-
 /// Appends the level of a node of an index: a line across, and the names of the nodes there.
 fn put_level(
     alloc: Global,
@@ -118,22 +136,4 @@ fn put_level(
         y: y.saturating_add(4),
     };
     put_note(picture, place, Anchor::End, Color::Black, text)
-}
-
-/// Appends each level once.
-pub(crate) fn put_levels(
-    alloc: Global,
-    picture: &mut Picture,
-    scale: &Scale,
-    nodes: &[Node],
-) -> Result<(), AllocError>
-    ensures words { OnOk result (words_in picture.new ≡ words_in picture.old) }
-    ensures size { OnOk result (length picture.new ≤ length picture.old + 2 * length nodes.now) }
-{
-    for index in 0..nodes.len() {
-        if scale.is_first_there(index) {
-            put_level(alloc, picture, scale, nodes, index)?;
-        }
-    }
-    Ok(())
 }

@@ -21,6 +21,49 @@ pub(crate) fn row_of(scale: &Scale, index: usize) -> u64 {
         .saturating_add(3 * LINE)
 }
 
+/// Appends a row for each section.
+pub(crate) fn put_rows(
+    alloc: Global,
+    picture: &mut Picture,
+    scale: &Scale,
+    sections: &[Name],
+) -> Result<(), AllocError>
+    ensures words { OnOk result (words_in picture.new ≡ words_in picture.old ++ sections.now) }
+    ensures size { OnOk result (length picture.new ≡ length picture.old + 2 * length sections.now) }
+{
+    for (index, name) in sections.iter().enumerate() {
+        put_row(alloc, picture, scale, index, name.as_bytes())?;
+    }
+    Ok(())
+}
+
+/// Appends a bar for each section that the train of a number is given, from the grant to the release, or to the last
+/// tick.
+pub(crate) fn put_holdings(
+    alloc: Global,
+    picture: &mut Picture,
+    scale: &Scale,
+    train: usize,
+    name: &[u8],
+    history: &TrainHistory,
+) -> Result<(), AllocError>
+    ensures words { OnOk result (words_in picture.new ≡ words_in picture.old) }
+    ensures size { OnOk result (length picture.new ≤ length picture.old + 2 * length history.now.releases) }
+{
+    for (route, section, tick) in history.releases.as_slice() {
+        if let Some(from) = grant_of(history.grants.as_slice(), *route) {
+            let holding = Holding {
+                train,
+                section: *section,
+                from,
+                to: tick.unwrap_or(scale.ticks),
+            };
+            put_holding(alloc, picture, scale, holding, name)?;
+        }
+    }
+    Ok(())
+}
+
 /// Appends the row of a section of an index: a line across, and its name.
 fn put_row(
     alloc: Global,
@@ -50,20 +93,14 @@ fn put_row(
     put_words(picture, place, Anchor::End, Color::Black, text)
 }
 
-/// Appends a row for each section.
-pub(crate) fn put_rows(
-    alloc: Global,
-    picture: &mut Picture,
-    scale: &Scale,
-    sections: &[Name],
-) -> Result<(), AllocError>
-    ensures words { OnOk result (words_in picture.new ≡ words_in picture.old ++ sections.now) }
-    ensures size { OnOk result (length picture.new ≡ length picture.old + 2 * length sections.now) }
-{
-    for (index, name) in sections.iter().enumerate() {
-        put_row(alloc, picture, scale, index, name.as_bytes())?;
-    }
-    Ok(())
+/// A train that holds a section from a tick to another one.
+#[derive(Clone, Copy, Debug)]
+struct Holding {
+    /// The train's number, counted from 1.
+    train: usize,
+    section: SectionNo,
+    from: u64,
+    to: u64,
 }
 
 /// The tick at which a route is granted, if it is.
@@ -74,16 +111,6 @@ fn grant_of(grants: &[(RouteNo, Option<u64>)], route: RouteNo) -> Option<u64> {
         }
     }
     None
-}
-
-/// A train that holds a section from a tick to another one.
-#[derive(Clone, Copy, Debug)]
-struct Holding {
-    /// The train's number, counted from 1.
-    train: usize,
-    section: SectionNo,
-    from: u64,
-    to: u64,
 }
 
 /// Appends the bar of a train that holds a section, with the train's name where there is room.
@@ -113,33 +140,6 @@ fn put_holding(
         };
         let text = Vec::from_slice(alloc, name)?;
         put_note(picture, place, Anchor::Middle, Color::White, text)?;
-    }
-    Ok(())
-}
-
-/// Appends a bar for each section that the train of a number is given, from the grant to the release, or to the last
-/// tick.
-pub(crate) fn put_holdings(
-    alloc: Global,
-    picture: &mut Picture,
-    scale: &Scale,
-    train: usize,
-    name: &[u8],
-    history: &TrainHistory,
-) -> Result<(), AllocError>
-    ensures words { OnOk result (words_in picture.new ≡ words_in picture.old) }
-    ensures size { OnOk result (length picture.new ≤ length picture.old + 2 * length history.now.releases) }
-{
-    for (route, section, tick) in history.releases.as_slice() {
-        if let Some(from) = grant_of(history.grants.as_slice(), *route) {
-            let holding = Holding {
-                train,
-                section: *section,
-                from,
-                to: tick.unwrap_or(scale.ticks),
-            };
-            put_holding(alloc, picture, scale, holding, name)?;
-        }
     }
     Ok(())
 }

@@ -12,13 +12,30 @@ use rail_base::history::Verdict;
 use std::alloc::{AllocError, Global};
 use timetable::timetable_lines;
 
+/// Appends how a run ends.
+pub(crate) fn put_outcome(
+    alloc: Global,
+    picture: &mut Picture,
+    design: &Design,
+    verdict: &Verdict,
+    left: u64,
+) -> Result<(), AllocError>
+    ensures words { OnOk result (words_in picture.new
+        ≡ words_in picture.old ++ outcome_text design.now.station verdict.now ∷ []) }
+    ensures size { OnOk result (length picture.new ≡ length picture.old + 1) }
+{
+    let text = outcome_text(alloc, design, verdict)?;
+    let place = Point { x: left, y: LINE };
+    put_words(picture, place, Anchor::Start, outcome_color(verdict), text)
+}
+
 /// All bytes but the last.
 fn without_last(bytes: &[u8]) -> &[u8]
     ensures { result.now ≡ take (length bytes.now - 1) bytes.now }
 {
     match bytes {
         [] => bytes,
-        [front @ .., _] => front,
+        [prefix @ .., _] => prefix,
     }
 }
 
@@ -46,21 +63,4 @@ fn outcome_color(verdict: &Verdict) -> Color {
         Verdict::Met { .. } => Color::Green,
         Verdict::Failed { .. } | Verdict::Undecided => Color::Red,
     }
-}
-
-/// Appends how a run ends.
-pub(crate) fn put_outcome(
-    alloc: Global,
-    picture: &mut Picture,
-    design: &Design,
-    verdict: &Verdict,
-    left: u64,
-) -> Result<(), AllocError>
-    ensures words { OnOk result (words_in picture.new
-        ≡ words_in picture.old ++ outcome_text design.now.station verdict.now ∷ []) }
-    ensures size { OnOk result (length picture.new ≡ length picture.old + 1) }
-{
-    let text = outcome_text(alloc, design, verdict)?;
-    let place = Point { x: left, y: LINE };
-    put_words(picture, place, Anchor::Start, outcome_color(verdict), text)
 }

@@ -22,6 +22,47 @@ use rail_base::route::Route;
 use rail_base::station::Station;
 use std::alloc::{AllocError, Global};
 
+/// The picture of what a run of a plan shows, by the routes of the design. Its words are how the run ends, the names of
+/// all trains and of all sections, each in the order of their numbers, and `<train> visit <j>` for each visit that is
+/// made, in the order of trains and of their visits.
+///
+/// Across runs the time, in s; down lie the nodes, by their levels along the track. A train's line leads through the
+/// nodes that it passes, and stays at one where a route from there is granted later. Below there is a row for each
+/// section with a bar from the grant to the release, or to the deciding tick, and below that a text for each
+/// requirement.
+///
+/// `Err` is want of memory.
+pub fn run_picture(
+    alloc: Global,
+    design: &Design,
+    routes: &[Route],
+    verdict: &Verdict,
+) -> Result<Picture, AllocError>
+    ensures words { IfOk result (λ picture.
+        words_in picture ≡ run_words design.now.station verdict.now) }
+    ensures size { IfOk result (λ picture.
+        length picture ≤ run_size design.now.station verdict.now) }
+{
+    let station = &design.station;
+    let history = history_in(verdict);
+    let last = last_tick(verdict);
+    let scale = Scale::new(alloc, station, last)?;
+    let below = row_of(&scale, station.sections.len()).saturating_add(LINE);
+    let mut picture: Picture = List::new(alloc);
+    put_frame(alloc, &mut picture, &scale, design, verdict)?;
+    put_history(alloc, &mut picture, &scale, design, routes, history)?;
+    put_requirements(
+        alloc,
+        &mut picture,
+        station,
+        history,
+        last,
+        scale.left,
+        below,
+    )?;
+    Ok(picture)
+}
+
 /// What happened to the trains.
 fn history_in(verdict: &Verdict) -> &[TrainHistory]
     ensures { result.now ≡ history_in verdict.now }
@@ -129,45 +170,4 @@ fn put_frame(
     put_outcome(alloc, picture, design, verdict, scale.left)?;
     put_train_names(alloc, picture, scale, station.trains.as_slice())?;
     put_rows(alloc, picture, scale, sections)
-}
-
-/// The picture of what a run of a plan shows, by the routes of the design. Its words are how the run ends, the names of
-/// all trains and of all sections, each in the order of their numbers, and `<train> visit <j>` for each visit that is
-/// made, in the order of trains and of their visits.
-///
-/// Across runs the time, in s; down lie the nodes, by their levels along the track. A train's line leads through the
-/// nodes that it passes, and stays at one where a route from there is granted later. Below there is a row for each
-/// section with a bar from the grant to the release, or to the deciding tick, and below that a text for each
-/// requirement.
-///
-/// `Err` is want of memory.
-pub fn run_picture(
-    alloc: Global,
-    design: &Design,
-    routes: &[Route],
-    verdict: &Verdict,
-) -> Result<Picture, AllocError>
-    ensures words { IfOk result (λ picture.
-        words_in picture ≡ run_words design.now.station verdict.now) }
-    ensures size { IfOk result (λ picture.
-        length picture ≤ run_size design.now.station verdict.now) }
-{
-    let station = &design.station;
-    let history = history_in(verdict);
-    let last = last_tick(verdict);
-    let scale = Scale::new(alloc, station, last)?;
-    let below = row_of(&scale, station.sections.len()).saturating_add(LINE);
-    let mut picture: Picture = List::new(alloc);
-    put_frame(alloc, &mut picture, &scale, design, verdict)?;
-    put_history(alloc, &mut picture, &scale, design, routes, history)?;
-    put_requirements(
-        alloc,
-        &mut picture,
-        station,
-        history,
-        last,
-        scale.left,
-        below,
-    )?;
-    Ok(picture)
 }

@@ -19,6 +19,47 @@ enum Ending {
     Open,
 }
 
+/// Appends all orders.
+pub(crate) fn put_orders(
+    alloc: Global,
+    picture: &mut Picture,
+    station: &Station,
+    history: &[TrainHistory],
+    left: u64,
+    top: u64,
+) -> Result<(), AllocError>
+    ensures words { OnOk result (words_in picture.new ≡ words_in picture.old) }
+    ensures size { OnOk result (length picture.new ≡ length picture.old + length station.now.orders) }
+{
+    for (index, order) in station.orders.as_slice().iter().enumerate() {
+        let place = place_of(left, top, index);
+        put_order(alloc, picture, station, history, index, *order, place)?;
+    }
+    Ok(())
+}
+
+/// Appends all withins, at a last tick.
+pub(crate) fn put_withins(
+    alloc: Global,
+    picture: &mut Picture,
+    station: &Station,
+    history: &[TrainHistory],
+    last: u64,
+    left: u64,
+    top: u64,
+) -> Result<(), AllocError>
+    ensures words { OnOk result (words_in picture.new ≡ words_in picture.old) }
+    ensures size { OnOk result (length picture.new ≡ length picture.old + length station.now.withins) }
+{
+    for (index, within) in station.withins.as_slice().iter().enumerate() {
+        let place = place_of(left, top, index);
+        put_within(
+            alloc, picture, station, history, index, *within, last, place,
+        )?;
+    }
+    Ok(())
+}
+
 impl Ending {
     /// The word for it.
     fn text(self) -> &'static [u8] {
@@ -195,25 +236,6 @@ fn put_order(
     put_note(picture, place, Anchor::Start, ending.color(), text)
 }
 
-/// Appends all orders.
-pub(crate) fn put_orders(
-    alloc: Global,
-    picture: &mut Picture,
-    station: &Station,
-    history: &[TrainHistory],
-    left: u64,
-    top: u64,
-) -> Result<(), AllocError>
-    ensures words { OnOk result (words_in picture.new ≡ words_in picture.old) }
-    ensures size { OnOk result (length picture.new ≡ length picture.old + length station.now.orders) }
-{
-    for (index, order) in station.orders.as_slice().iter().enumerate() {
-        let place = place_of(left, top, index);
-        put_order(alloc, picture, station, history, index, *order, place)?;
-    }
-    Ok(())
-}
-
 /// Appends a within of an index, counted from 0.
 fn put_within(
     alloc: Global,
@@ -236,26 +258,4 @@ fn put_within(
     let time = time_between(from, to, tick_ms);
     let text = within_text(alloc, station, number, within, time, ending)?;
     put_note(picture, place, Anchor::Start, ending.color(), text)
-}
-
-/// Appends all withins, at a last tick.
-pub(crate) fn put_withins(
-    alloc: Global,
-    picture: &mut Picture,
-    station: &Station,
-    history: &[TrainHistory],
-    last: u64,
-    left: u64,
-    top: u64,
-) -> Result<(), AllocError>
-    ensures words { OnOk result (words_in picture.new ≡ words_in picture.old) }
-    ensures size { OnOk result (length picture.new ≡ length picture.old + length station.now.withins) }
-{
-    for (index, within) in station.withins.as_slice().iter().enumerate() {
-        let place = place_of(left, top, index);
-        put_within(
-            alloc, picture, station, history, index, *within, last, place,
-        )?;
-    }
-    Ok(())
 }

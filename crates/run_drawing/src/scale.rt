@@ -38,47 +38,6 @@ pub(crate) struct Scale {
     levels: Vec<u64>,
 }
 
-/// The longer of a length and that of a name.
-fn longer(length: usize, name: &Name) -> usize {
-    length.max(name.as_bytes().len())
-}
-
-/// The length of the longest name of a section, in characters.
-fn longest_section(station: &Station) -> usize {
-    let mut length = 0;
-    for name in station.sections.as_slice() {
-        length = longer(length, name);
-    }
-    length
-}
-
-/// The length of the longest name of a train, in characters.
-fn longest_train(station: &Station) -> usize {
-    let mut length = 0;
-    for train in station.trains.as_slice() {
-        length = longer(length, &train.name);
-    }
-    length
-}
-
-/// The width of so many characters, in px.
-fn width_of(characters: usize) -> u64 {
-    (characters as u64).saturating_mul(CHARACTER)
-}
-
-/// The last of some places; another one where there are none.
-fn last_of(places: &[u64], other: u64) -> u64 {
-    match places {
-        [.., last] => *last,
-        [] => other,
-    }
-}
-
-/// How wide so many ticks are drawn, in px.
-fn drawn_width(ticks: u64) -> u64 {
-    ticks.max(800).min(3000)
-}
-
 impl Scale {
     /// For the ticks up to the last that is drawn. The error is want of memory.
     pub(crate) fn new(alloc: Global, station: &Station, ticks: u64) -> Result<Scale, AllocError> {
@@ -112,17 +71,6 @@ impl Scale {
         Ok(scale)
     }
 
-    /// The length of the longest label of a level, in characters. The error is want of memory.
-    fn longest_label(&self, alloc: Global, nodes: &[Node]) -> Result<usize, AllocError> {
-        let mut length: usize = 0;
-        for index in 0..nodes.len() {
-            if self.is_first_there(index) {
-                length = length.max(self.label(alloc, nodes, index)?.len());
-            }
-        }
-        Ok(length)
-    }
-
     /// Where a tick lies, in px from the left.
     pub(crate) fn tick(&self, tick: u64) -> u64 {
         let right = tick.saturating_mul(self.width) / self.ticks.max(1);
@@ -144,14 +92,6 @@ impl Scale {
     /// Where all ticks end, in px from the left.
     pub(crate) fn right(&self) -> u64 {
         self.left.saturating_add(self.width)
-    }
-
-    /// The level of a node of an index, counted from 0.
-    fn level(&self, index: usize) -> usize {
-        match self.layout.nodes.get(index) {
-            Some(place) => place.level,
-            None => 0,
-        }
     }
 
     /// How far a node of an index lies below the top, counted from 0.
@@ -211,6 +151,66 @@ impl Scale {
                 .saturating_add(3 * LINE),
         }
     }
+
+    /// The length of the longest label of a level, in characters. The error is want of memory.
+    fn longest_label(&self, alloc: Global, nodes: &[Node]) -> Result<usize, AllocError> {
+        let mut length: usize = 0;
+        for index in 0..nodes.len() {
+            if self.is_first_there(index) {
+                length = length.max(self.label(alloc, nodes, index)?.len());
+            }
+        }
+        Ok(length)
+    }
+
+    /// The level of a node of an index, counted from 0.
+    fn level(&self, index: usize) -> usize {
+        match self.layout.nodes.get(index) {
+            Some(place) => place.level,
+            None => 0,
+        }
+    }
+}
+
+/// The longer of a length and that of a name.
+fn longer(length: usize, name: &Name) -> usize {
+    length.max(name.as_bytes().len())
+}
+
+/// The length of the longest name of a section, in characters.
+fn longest_section(station: &Station) -> usize {
+    let mut length = 0;
+    for name in station.sections.as_slice() {
+        length = longer(length, name);
+    }
+    length
+}
+
+/// The length of the longest name of a train, in characters.
+fn longest_train(station: &Station) -> usize {
+    let mut length = 0;
+    for train in station.trains.as_slice() {
+        length = longer(length, &train.name);
+    }
+    length
+}
+
+/// The width of so many characters, in px.
+fn width_of(characters: usize) -> u64 {
+    (characters as u64).saturating_mul(CHARACTER)
+}
+
+/// The last of some places; another one where there are none.
+fn last_of(places: &[u64], other: u64) -> u64 {
+    match places {
+        [.., last] => *last,
+        [] => other,
+    }
+}
+
+/// How wide so many ticks are drawn, in px.
+fn drawn_width(ticks: u64) -> u64 {
+    ticks.max(800).min(3000)
 }
 
 /// Appends a name to a label, with a space before it, where there is room.

@@ -39,6 +39,30 @@ pub(crate) fn put_train_names(
     Ok(())
 }
 
+/// Whether a train goes up, from the first node of its path to the last.
+pub(crate) fn goes_up(scale: &Scale, history: &TrainHistory) -> bool {
+    match history.passes.as_slice() {
+        [(first, _), .., (last, _)] => scale.point(*last, 0).y < scale.point(*first, 0).y,
+        _ => false,
+    }
+}
+
+/// Appends the line of the train of a number, counted from 1.
+pub(crate) fn put_train_line(
+    alloc: Global,
+    picture: &mut Picture,
+    scale: &Scale,
+    routes: &[Route],
+    number: usize,
+    history: &TrainHistory,
+) -> Result<(), AllocError>
+    ensures words { OnOk result (words_in picture.new ≡ words_in picture.old) }
+    ensures size { OnOk result (length picture.new ≡ length picture.old + 1) }
+{
+    let points = points_of(alloc, scale, routes, history)?;
+    put_line(picture, points, train_color(number), 2)
+}
+
 /// For how many nodes of a path a route of a number leads; 0 where there is no such route.
 fn edge_count(routes: &[Route], number: RouteNo) -> usize {
     match routes.get((number.0 as usize).saturating_sub(1)) {
@@ -83,14 +107,6 @@ fn put_pass(
     Ok(())
 }
 
-/// Whether a train goes up, from the first node of its path to the last.
-pub(crate) fn goes_up(scale: &Scale, history: &TrainHistory) -> bool {
-    match history.passes.as_slice() {
-        [(first, _), .., (last, _)] => scale.point(*last, 0).y < scale.point(*first, 0).y,
-        _ => false,
-    }
-}
-
 /// The points of a train's line. The error is want of memory.
 fn points_of(
     alloc: Global,
@@ -107,20 +123,4 @@ fn points_of(
         }
     }
     Ok(points)
-}
-
-/// Appends the line of the train of a number, counted from 1.
-pub(crate) fn put_train_line(
-    alloc: Global,
-    picture: &mut Picture,
-    scale: &Scale,
-    routes: &[Route],
-    number: usize,
-    history: &TrainHistory,
-) -> Result<(), AllocError>
-    ensures words { OnOk result (words_in picture.new ≡ words_in picture.old) }
-    ensures size { OnOk result (length picture.new ≡ length picture.old + 1) }
-{
-    let points = points_of(alloc, scale, routes, history)?;
-    put_line(picture, points, train_color(number), 2)
 }

@@ -12,6 +12,28 @@ use rail_base::station::{NodeNo, Station};
 use rail_text::put_number;
 use std::alloc::{AllocError, Global};
 
+/// Appends the visits that the train of a number has made, counted from 1, which goes up or down.
+pub(crate) fn put_visits(
+    alloc: Global,
+    picture: &mut Picture,
+    scale: &Scale,
+    train: usize,
+    name: &[u8],
+    visits: &[Option<(NodeNo, u64)>],
+    upward: bool,
+) -> Result<(), AllocError>
+    ensures words { OnOk result (words_in picture.new ≡ words_in picture.old ++ visit_texts name.now visits.now) }
+    ensures size { OnOk result (length picture.new ≤ length picture.old + 2 * length visits.now) }
+{
+    for (index, visit) in visits.iter().enumerate() {
+        if let Some((node, tick)) = visit {
+            let point = scale.point(*node, *tick);
+            put_visit(alloc, picture, point, train, name, index as u64 + 1, upward)?;
+        }
+    }
+    Ok(())
+}
+
 /// `<train> visit <j>`
 fn visit_text(alloc: Global, name: &[u8], number: u64) -> Result<Vec<u8>, AllocError>
     ensures { IfOk result (λ text. text.items ≡ visit_text name.now number) }
@@ -56,26 +78,4 @@ fn put_visit(
         train_color(train),
         text,
     )
-}
-
-/// Appends the visits that the train of a number has made, counted from 1, which goes up or down.
-pub(crate) fn put_visits(
-    alloc: Global,
-    picture: &mut Picture,
-    scale: &Scale,
-    train: usize,
-    name: &[u8],
-    visits: &[Option<(NodeNo, u64)>],
-    upward: bool,
-) -> Result<(), AllocError>
-    ensures words { OnOk result (words_in picture.new ≡ words_in picture.old ++ visit_texts name.now visits.now) }
-    ensures size { OnOk result (length picture.new ≤ length picture.old + 2 * length visits.now) }
-{
-    for (index, visit) in visits.iter().enumerate() {
-        if let Some((node, tick)) = visit {
-            let point = scale.point(*node, *tick);
-            put_visit(alloc, picture, point, train, name, index as u64 + 1, upward)?;
-        }
-    }
-    Ok(())
 }

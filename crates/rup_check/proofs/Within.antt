@@ -4,7 +4,7 @@ use Rattle.std.proofs.lemmas.Bool.{eq-eqb}
 use Rattle.std.proofs.lemmas.List.{get_or_past}
 use Rattle.std.proofs.lemmas.List.Folds.{list_any_at}
 use Rattle.sat_clause.specs.declared.lit.Lit.{Lit}
-use Rattle.sat_clause.specs.Hints.{same_lit, is_held}
+use Rattle.sat_clause.specs.Hints.{same_lit, is_assigned}
 use Rattle.rup_check.specs.declared.marks.Mark.{Mark}
 use Rattle.rup_check.specs.Marks.{marked, no_mark, Agrees}
 
@@ -23,9 +23,9 @@ marked-past : (table : List Mark) (l : Lit) → length table ≤ l.var → marke
 marked-past table l h = rw (get_or_past table l.var no_mark h) (no_mark-says l.negated)
 
 -- each held literal has its place
-pub held-within : (table : List Mark) (held : List Lit) (i : ℕ) (d : Lit) → Agrees table held → i < length held → (get_or held i d).var < length table
-held-within table held i d agrees h =
-    let l : Lit = get_or held i d in
-    let is : is_held held l ≡ true = list_any_at (same_lit l) held i d h (same_lit-self l) in
+pub assigned-within : (table : List Mark) (assigned : List Lit) (i : ℕ) (d : Lit) → Agrees table assigned → i < length assigned → (get_or assigned i d).var < length table
+assigned-within table assigned i d agrees h =
+    let l : Lit = get_or assigned i d in
+    let is : is_assigned assigned l ≡ true = list_any_at (same_lit l) assigned i d h (same_lit-self l) in
     let yes : marked table l ≡ true = agrees l ∙ is in
     grind (arith, marked-past, yes)

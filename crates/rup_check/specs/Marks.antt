@@ -1,7 +1,7 @@
 -- Marks on literals, two for each variable, and when they tell which literals are held.
 use Rattle.std.specs.Prelude.{◌≡◌, Bool, false, not, cond, ◌||◌, List, get_or}
 use Rattle.sat_clause.specs.declared.lit.Lit.{Lit}
-use Rattle.sat_clause.specs.Hints.{is_held}
+use Rattle.sat_clause.specs.Hints.{is_assigned}
 use Rattle.rup_check.specs.declared.marks.Mark.{Mark}
 
 -- no literal of the variable is marked
@@ -22,4 +22,4 @@ marked table l = says (get_or table l.var no_mark) l
 
 -- the literals that are marked are those that are held
 abbrev pub Agrees : List Mark → List Lit → Type 0
-Agrees table held = (l : Lit) → marked table l ≡ is_held held l
+Agrees table assigned = (l : Lit) → marked table l ≡ is_assigned assigned l

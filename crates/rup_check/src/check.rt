@@ -5,7 +5,7 @@ ghost use Rattle.sat_clause.specs.Clauses.{clause_holds, opposite};
 ghost use Rattle.sat_clause.specs.Hints.{same_lit, open_lits, unit_of, at_last, follow_of, hints_hold};
 ghost use Rattle.sat_clause.specs.declared.follow.Follow.TheVariants.{Yes};
 
-use crate::held::Held;
+use crate::assigned::Assigned;
 use sat_clause::{Arena, Follow, Lit};
 use std::alloc::{AllocError, Global};
 use std::marker::Model;
@@ -14,7 +14,7 @@ use std::marker::Model;
 /// that was met. Nothing is marked between two calls.
 #[derive(Drop)]
 pub struct Marks {
-    held: Held,
+    assigned: Assigned,
 }
 
 impl Model for Marks {
@@ -24,106 +24,16 @@ impl Model for Marks {
 
     ghost view = { λ _. tt };
 
-    ghost invariant = { λ a. a.held ≡ [] };
+    ghost invariant = { λ a. a.assigned ≡ [] };
 }
 
 impl Marks {
     /// No room yet. It grows with the variables that are met, and takes its memory from `alloc`.
     pub fn new(alloc: Global) -> Marks {
         Marks {
-            held: Held::new(alloc),
+            assigned: Assigned::new(alloc),
         }
     }
-}
-
-fn is_same(a: Lit, b: Lit) -> bool
-    ensures { result ≡ same_lit a b }
-{
-    a.var == b.var && a.negated == b.negated
-}
-
-/// The literal that is true where this one is false.
-fn opposite(literal: Lit) -> Lit
-    ensures { result ≡ opposite literal }
-{
-    Lit {
-        var: literal.var,
-        negated: !literal.negated,
-    }
-}
-
-/// The literal that isn't held while the opposites of all others of the clause are.
-fn unit(held: &Held, clause: &[Lit]) -> Option<Lit>
-    ensures { result ≡ unit_of held.now clause.now }
-{
-    let mut found = None;
-    for literal in clause {
-        if !held.has(opposite(*literal)) {
-            match found {
-                None => {
-                    if held.has(*literal) {
-                        return None;
-                    }
-                    found = Some(*literal);
-                }
-                Some(first) => {
-                    if !is_same(first, *literal) {
-                        return None;
-                    }
-                }
-            }
-        }
-    }
-    found
-}
-
-/// The answer at the last hint: whether the opposites of all literals of its clause are held.
-fn last(held: &Held, clause: &[Lit]) -> Follow
-    ensures { result ≡ at_last (open_lits held.now clause.now) }
-{
-    for literal in clause {
-        if !held.has(opposite(*literal)) {
-            return Follow::NoConflict;
-        }
-    }
-    Follow::Yes
-}
-
-/// Holds the opposites of a clause's literals.
-fn suppose_false(held: &mut Held, clause: &[Lit]) -> Result<(), AllocError>
-    ensures { OnOk result (held.new ≡ held.old ++ map opposite clause.now) }
-{
-    for literal in clause {
-        held.hold(opposite(*literal))?;
-    }
-    Ok(())
-}
-
-/// The answer of the hints in turn, where nothing is held yet. What was held by then stays.
-fn answer(
-    held: &mut Held,
-    arena: &Arena,
-    clause: &[Lit],
-    hints: &[u64],
-) -> Result<Follow, AllocError>
-    requires nothing { held.old ≡ [] }
-    ensures { IfOk result (λ answer. answer ≡ follow_of arena.now clause.now hints.now) }
-{
-    suppose_false(held, clause)?;
-    for (i, hint) in hints.iter().enumerate() {
-        if !arena.live(*hint) {
-            return Ok(Follow::UnknownClause);
-        }
-        let named = arena.clause(*hint);
-        if i + 1 == hints.len() {
-            return Ok(last(held, named));
-        }
-        match unit(held, named) {
-            None => return Ok(Follow::NotUnit),
-            Some(literal) => held.hold(literal)?,
-        }
-    }
-    Ok(Follow::NoConflict)
 }
 
 /// Whether a clause follows from the live clauses that are hinted at, or why the hints don't show it.
@@ -146,7 +56,97 @@ pub fn follows(
         → IsTrue (hints_hold values arena.now hints.now)
         → IsTrue (clause_holds values clause.now) }
 {
-    let answer = answer(&mut marks.held, arena, clause, hints);
-    marks.held.clear();
+    let answer = answer(&mut marks.assigned, arena, clause, hints);
+    marks.assigned.clear();
     answer
+}
+
+fn is_same(a: Lit, b: Lit) -> bool
+    ensures { result ≡ same_lit a b }
+{
+    a.var == b.var && a.negated == b.negated
+}
+
+/// The literal that is true where this one is false.
+fn opposite(literal: Lit) -> Lit
+    ensures { result ≡ opposite literal }
+{
+    Lit {
+        var: literal.var,
+        negated: !literal.negated,
+    }
+}
+
+/// The literal that isn't assigned while the opposites of all others of the clause are.
+fn unit(assigned: &Assigned, clause: &[Lit]) -> Option<Lit>
+    ensures { result ≡ unit_of assigned.now clause.now }
+{
+    let mut found = None;
+    for literal in clause {
+        if !assigned.has(opposite(*literal)) {
+            match found {
+                None => {
+                    if assigned.has(*literal) {
+                        return None;
+                    }
+                    found = Some(*literal);
+                }
+                Some(first) => {
+                    if !is_same(first, *literal) {
+                        return None;
+                    }
+                }
+            }
+        }
+    }
+    found
+}
+
+/// The answer at the last hint: whether the opposites of all literals of its clause are assigned.
+fn last(assigned: &Assigned, clause: &[Lit]) -> Follow
+    ensures { result ≡ at_last (open_lits assigned.now clause.now) }
+{
+    for literal in clause {
+        if !assigned.has(opposite(*literal)) {
+            return Follow::NoConflict;
+        }
+    }
+    Follow::Yes
+}
+
+/// Holds the opposites of a clause's literals.
+fn suppose_false(assigned: &mut Assigned, clause: &[Lit]) -> Result<(), AllocError>
+    ensures { OnOk result (assigned.new ≡ assigned.old ++ map opposite clause.now) }
+{
+    for literal in clause {
+        assigned.hold(opposite(*literal))?;
+    }
+    Ok(())
+}
+
+/// The answer of the hints in turn, where nothing is assigned yet. What was assigned by then stays.
+fn answer(
+    assigned: &mut Assigned,
+    arena: &Arena,
+    clause: &[Lit],
+    hints: &[u64],
+) -> Result<Follow, AllocError>
+    requires nothing { assigned.old ≡ [] }
+    ensures { IfOk result (λ answer. answer ≡ follow_of arena.now clause.now hints.now) }
+{
+    suppose_false(assigned, clause)?;
+    for (i, hint) in hints.iter().enumerate() {
+        if !arena.live(*hint) {
+            return Ok(Follow::UnknownClause);
+        }
+        let named = arena.clause(*hint);
+        if i + 1 == hints.len() {
+            return Ok(last(assigned, named));
+        }
+        match unit(assigned, named) {
+            None => return Ok(Follow::NotUnit),
+            Some(literal) => assigned.hold(literal)?,
+        }
+    }
+    Ok(Follow::NoConflict)
 }

@@ -1,8 +1,8 @@
 //! Whether a clause follows from live ones by its hints.
 #![tactic(auto)]
 
+mod assigned;
 mod check;
-mod held;
 mod marks;
 
 pub use check::{Marks, follows};

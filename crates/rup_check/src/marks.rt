@@ -21,29 +21,6 @@ const NONE: Mark = Mark {
     negated: false,
 };
 
-impl Mark {
-    /// Whether the literal, one of this variable, is marked.
-    fn says(self, literal: Lit) -> bool
-        ensures { result ≡ says self literal }
-    {
-        if literal.negated {
-            self.negated
-        } else {
-            self.plain
-        }
-    }
-
-    /// The same with the literal marked too.
-    fn with(self, literal: Lit) -> Mark
-        ensures { result ≡ with_mark self literal }
-    {
-        Mark {
-            plain: self.plain || !literal.negated,
-            negated: self.negated || literal.negated,
-        }
-    }
-}
-
 /// Whether the literal is marked.
 pub fn is_marked(table: &[Mark], literal: Lit) -> bool
     ensures { result ≡ marked table.now literal }
@@ -74,11 +51,34 @@ pub fn add_mark(table: &mut [Mark], literal: Lit)
 }
 
 /// Takes all marks away, where these literals are the ones that are marked.
-pub fn unmark(table: &mut [Mark], held: &[Lit])
-    requires agrees { Agrees table.old held.now }
+pub fn unmark(table: &mut [Mark], assigned: &[Lit])
+    requires agrees { Agrees table.old assigned.now }
     ensures { (k : Lit) → marked table.new k ≡ false }
 {
-    for literal in held {
+    for literal in assigned {
         table[literal.var as usize] = NONE;
+    }
+}
+
+impl Mark {
+    /// Whether the literal, one of this variable, is marked.
+    fn says(self, literal: Lit) -> bool
+        ensures { result ≡ says self literal }
+    {
+        if literal.negated {
+            self.negated
+        } else {
+            self.plain
+        }
+    }
+
+    /// The same with the literal marked too.
+    fn with(self, literal: Lit) -> Mark
+        ensures { result ≡ with_mark self literal }
+    {
+        Mark {
+            plain: self.plain || !literal.negated,
+            negated: self.negated || literal.negated,
+        }
     }
 }

@@ -7,7 +7,7 @@ use Rattle.std.proofs.Common.{length-append}
 use Rattle.std.proofs.lemmas.List.{length-take, length-set}
 use Rattle.sat_clause.specs.declared.lit.Lit.{Lit}
 use Rattle.sat_clause.specs.Clauses.{Store, live_clause, if_live, without, unmarked_at}
-use Rattle.sat_clause.specs.Layout.{Head, LaidOut, IsLaidOut, begin_at, clauses_of, heads_of, told_by}
+use Rattle.sat_clause.specs.Layout.{Head, LaidOut, IsLaidOut, begin_at, clauses_of, heads_of, clause_at}
 
 pub laid-le : (from : ℕ) (hs : List Head) (end : ℕ) → LaidOut from hs end → from ≤ end
 laid-le from [] end l = l
@@ -54,12 +54,12 @@ clauses-agree from (h ∷ hs) end xs ys l e =
     cc
 
 -- the live clause at a head's number
-pub live_clause-at : (lits : List Lit) (hs : List Head) (id k : ℕ) (d : Head) → id ≡ suc k → k < length hs → live_clause (clauses_of lits hs) id ≡ if_live (Some (told_by lits (get_or hs k d)))
-live_clause-at lits hs id k d e b = rw (e, slice_get-map (told_by lits) hs k, slice_get-get_or hs k d b) refl
+pub live_clause-at : (lits : List Lit) (hs : List Head) (id k : ℕ) (d : Head) → id ≡ suc k → k < length hs → live_clause (clauses_of lits hs) id ≡ if_live (Some (clause_at lits (get_or hs k d)))
+live_clause-at lits hs id k d e b = rw (e, slice_get-map (clause_at lits) hs k, slice_get-get_or hs k d b) refl
 
 -- a number that no head has is not live
 pub live_clause-past : (lits : List Lit) (hs : List Head) (id k : ℕ) → id ≡ suc k → length hs ≤ k → live_clause (clauses_of lits hs) id ≡ None
-live_clause-past lits hs id k e b = rw (e, slice_get-map (told_by lits) hs k, slice_get_past hs k b) refl
+live_clause-past lits hs id k e b = rw (e, slice_get-map (clause_at lits) hs k, slice_get_past hs k b) refl
 
 -- a number that is live is one of the list
 pub live_clause-within : (store : Store) (id : ℕ) → IsSome (live_clause store id) → (1 ≤ id) × (id ≤ length store)
@@ -68,7 +68,7 @@ live_clause-within store (suc i) h = elim ((slice_get_cases store i).1) [ inl p 
 
 unmarked-map : (lits : List Lit) (hs : List Head) (i : ℕ) (d h : Head) → i < length hs → h.start ≡ (get_or hs i d).start → h.end ≡ (get_or hs i d).end → h.live ≡ false → clauses_of lits (set hs i h) ≡ unmarked_at (clauses_of lits hs) i
 unmarked-map lits [] i d h k a b e = absurd (omega arith)
-unmarked-map lits (g ∷ gs) zero d h k a b e = let f : told_by lits h ≡ (take (g.end - g.start) (drop g.start lits), false) = cc in cc
+unmarked-map lits (g ∷ gs) zero d h k a b e = let f : clause_at lits h ≡ (take (g.end - g.start) (drop g.start lits), false) = cc in cc
 unmarked-map lits (g ∷ gs) (suc i) d h k a b e = let r = unmarked-map lits gs i d h (omega arith) a b e in cc
 
 pub clauses-without : (lits : List Lit) (hs : List Head) (id k : ℕ) (d h : Head) → id ≡ suc k → k < length hs → h.start ≡ (get_or hs k d).start → h.end ≡ (get_or hs k d).end → h.live ≡ false → clauses_of lits (set hs k h) ≡ without (clauses_of lits hs) id
@@ -78,7 +78,7 @@ clauses-without lits hs id k d h s q a b e = rw s (unmarked-map lits hs k d h q 
 pub head-within : (lits : List Lit) (hs : List Head) (store : Store) (id : ℕ) → clauses_of lits hs ≡ store → IsSome (live_clause store id) → (1 ≤ id) × (id ≤ length hs)
 head-within lits hs store id e h =
     let w = live_clause-within store id h in
-    let n : length store ≡ length hs = ap length (sym e) ∙ length-map hs (told_by lits) in
+    let n : length store ≡ length hs = ap length (sym e) ∙ length-map hs (clause_at lits) in
     (w.0, omega arith)
 
 if_live-some : (x : List Lit) (b : Bool) → IsSome (if_live (Some (x, b))) → if_live (Some (x, b)) ≡ Some x
@@ -89,7 +89,7 @@ if_live-some x false h = absurd (cc)
 pub lent-at : (lits : List Lit) (hs : List Head) (store : Store) (id k : ℕ) (d : Head) (piece : List Lit) → clauses_of lits hs ≡ store → IsSome (live_clause store id) → id ≡ suc k → k < length hs → d ≡ get_or hs k d → piece ≡ take (d.end - d.start) (drop d.start lits) → live_clause store id ≡ Some piece
 lent-at lits hs store id k d piece e h s l g p =
     let at = live_clause-at lits hs id k d s l in
-    let at' : live_clause store id ≡ if_live (Some (told_by lits d)) = rw (← e) (at ∙ ap (λ z. if_live (Some (told_by lits z))) (sym g)) in
+    let at' : live_clause store id ≡ if_live (Some (clause_at lits d)) = rw (← e) (at ∙ ap (λ z. if_live (Some (clause_at lits z))) (sym g)) in
     let h' : IsSome (if_live (Some (take (d.end - d.start) (drop d.start lits), d.live))) = rw at' at h in
     at' ∙ if_live-some (take (d.end - d.start) (drop d.start lits)) d.live h' ∙ ap Some (sym p)
 
@@ -99,7 +99,7 @@ if_live-iff x false = (λ h. absurd (cc), λ h. absurd (cc))
 
 pub live-at : (lits : List Lit) (hs : List Head) (store : Store) (id k : ℕ) (d : Head) → clauses_of lits hs ≡ store → id ≡ suc k → k < length hs → d ≡ get_or hs k d → (IsTrue d.live ↔ IsSome (live_clause store id))
 live-at lits hs store id k d e s l g =
-    let at' : live_clause store id ≡ if_live (Some (told_by lits d)) = rw (← e) (live_clause-at lits hs id k d s l ∙ ap (λ z. if_live (Some (told_by lits z))) (sym g)) in
+    let at' : live_clause store id ≡ if_live (Some (clause_at lits d)) = rw (← e) (live_clause-at lits hs id k d s l ∙ ap (λ z. if_live (Some (clause_at lits z))) (sym g)) in
     rw at' (if_live-iff (take (d.end - d.start) (drop d.start lits)) d.live)
 
 pub clauses-push : (lits more : List Lit) (hs : List Head) (h : Head) → LaidOut 0 hs (length lits) → h.start ≡ length lits → h.end ≡ length lits + length more → h.live ≡ true → clauses_of (lits ++ more) (hs ++ h ∷ []) ≡ clauses_of lits hs ++ (more, true) ∷ []
@@ -107,8 +107,8 @@ clauses-push lits more hs h l a b e =
     let same = clauses-agree 0 hs (length lits) (lits ++ more) lits l (take-append_seam lits more ∙ sym (take-length lits)) in
     let n : h.end - h.start ≡ length more = omega arith in
     let cut : take (h.end - h.start) (drop h.start (lits ++ more)) ≡ more = rw (n, a, drop-append_seam lits more) (take-length more) in
-    let last : told_by (lits ++ more) h ≡ (more, true) = cc in
-    map-append (told_by (lits ++ more)) hs (h ∷ []) ∙ cc
+    let last : clause_at (lits ++ more) h ≡ (more, true) = cc in
+    map-append (clause_at (lits ++ more)) hs (h ∷ []) ∙ cc
 
 map-taken : {X Y : Type 0} (f : X → Y) (n : ℕ) (xs : List X) → map f (take n xs) ≡ take n (map f xs)
 map-taken f zero xs = refl
@@ -119,7 +119,7 @@ map-taken f (suc n) (x ∷ xs) = ap (λ ys. f x ∷ ys) (map-taken f n xs)
 pub clauses-take : (lits : List Lit) (hs : List Head) (n start : ℕ) → LaidOut 0 (take n hs) start → clauses_of (take start lits) (take n hs) ≡ take n (clauses_of lits hs)
 clauses-take lits hs n start l =
     let same = clauses-agree 0 (take n hs) start (take start lits) lits l (take-take start start lits (omega arith)) in
-    same ∙ map-taken (told_by lits) n hs
+    same ∙ map-taken (clause_at lits) n hs
 
 pub part-at : (hs : List Head) (end k : ℕ) (d : Head) → LaidOut 0 hs end → k < length hs → d ≡ get_or hs k d → (d.start ≤ d.end) × (d.end ≤ end)
 part-at hs end k d l a e = let P : Head → Type 0 = λ h. (h.start ≤ h.end) × (h.end ≤ end) in subst P (sym e) (laid-at 0 hs end k d l a)
@@ -132,7 +132,7 @@ push-fact lits more now hs heads h store l v n e a b t =
     let size : length now ≡ length lits + length more = ap length n ∙ length-append lits more in
     let laid = laid-push 0 hs (length lits) h l (omega arith) (omega arith) in
     let P : ℕ → Type 0 = λ m. LaidOut 0 heads m in
-    (subst P b (rw e laid), rw (n, e, ← v) (clauses-push lits more hs h l a (b ∙ size) t), length-map heads (told_by now))
+    (subst P b (rw e laid), rw (n, e, ← v) (clauses-push lits more hs h l a (b ∙ size) t), length-map heads (clause_at now))
 
 -- ---- heads by where clauses end
 
@@ -221,7 +221,7 @@ module _ (lits : List Lit) (es : List ℕ) (ms : List Bool) (is : IsLaidOut lits
   count-heads = heads-length 0 es ms is.marked
 
   pub count-store : length (clauses_of lits (heads_of 0 es ms)) ≡ length es
-  count-store = length-map (heads_of 0 es ms) (told_by lits) ∙ count-heads
+  count-store = length-map (heads_of 0 es ms) (clause_at lits) ∙ count-heads
 
   -- a number that is live is one of a clause
   pub number-within : (store : Store) (id : ℕ) → clauses_of lits (heads_of 0 es ms) ≡ store → IsSome (live_clause store id) → (1 ≤ id) × (id ≤ length es)

@@ -7,7 +7,7 @@ use Rattle.sat_clause.specs.declared.lit.Lit.{Lit}
 use Rattle.sat_clause.specs.Clauses.{Store, live_clause, opposite, clause_holds, lit_holds}
 use Rattle.sat_clause.specs.declared.follow.Follow.{Follow}
 use Rattle.sat_clause.specs.declared.follow.Follow.TheVariants.{Yes}
-use Rattle.sat_clause.specs.Hints.{same_lit, is_held, open_lits, only_one, unit_of, at_last, at_unit, at_clause, where_last, follow_from, follow_of, holds_at, hints_hold}
+use Rattle.sat_clause.specs.Hints.{same_lit, is_assigned, open_lits, only_one, unit_of, at_last, at_unit, at_clause, where_last, follow_from, follow_of, holds_at, hints_hold}
 
 both : (a b : Bool) → (a && b) ≡ true → (a ≡ true) × (b ≡ true)
 both true b h = (refl, h)
@@ -21,7 +21,7 @@ same_bool false false h = refl
 
 -- whether all the held literals are true
 abbrev pub all_hold : (ℕ → Bool) → List Lit → Bool
-all_hold values held = list_all (lit_holds values) held
+all_hold values assigned = list_all (lit_holds values) assigned
 
 lit_holds-same : (values : ℕ → Bool) (a b : Lit) → same_lit a b ≡ true → lit_holds values a ≡ lit_holds values b
 lit_holds-same values a b h =
@@ -30,16 +30,16 @@ lit_holds-same values a b h =
     let n : a.negated ≡ b.negated = same_bool a.negated b.negated p.1 in
     cc
 
-held-step : (values : ℕ → Bool) (k l : Lit) (s r : Bool) → s ≡ same_lit l k → lit_holds values k ≡ true → (r ≡ true → lit_holds values l ≡ true) → (s || r) ≡ true → lit_holds values l ≡ true
-held-step values k l true r e a rest h = lit_holds-same values l k (sym e) ∙ a
-held-step values k l false r e a rest h = rest h
+assigned-step : (values : ℕ → Bool) (k l : Lit) (s r : Bool) → s ≡ same_lit l k → lit_holds values k ≡ true → (r ≡ true → lit_holds values l ≡ true) → (s || r) ≡ true → lit_holds values l ≡ true
+assigned-step values k l true r e a rest h = lit_holds-same values l k (sym e) ∙ a
+assigned-step values k l false r e a rest h = rest h
 
 -- a held literal is true
-held-holds : (values : ℕ → Bool) (held : List Lit) (l : Lit) → all_hold values held ≡ true → is_held held l ≡ true → lit_holds values l ≡ true
-held-holds values [] l a h = absurd (cc)
-held-holds values (k ∷ ks) l a h =
+assigned-holds : (values : ℕ → Bool) (assigned : List Lit) (l : Lit) → all_hold values assigned ≡ true → is_assigned assigned l ≡ true → lit_holds values l ≡ true
+assigned-holds values [] l a h = absurd (cc)
+assigned-holds values (k ∷ ks) l a h =
     let p = both (lit_holds values k) (all_hold values ks) a in
-    held-step values k l (same_lit l k) (is_held ks l) refl p.0 (held-holds values ks l p.1) h
+    assigned-step values k l (same_lit l k) (is_assigned ks l) refl p.0 (assigned-holds values ks l p.1) h
 
 flipped : (n v : Bool) → cond (not n) (not v) v ≡ not (cond n (not v) v)
 flipped true true = refl
@@ -59,10 +59,10 @@ open-step values l true f c h e = rw (h refl) e
 open-step values l false f c h e = ap (λ z. lit_holds values l || z) e
 
 -- a clause is true where one of its open literals is
-open-holds : (values : ℕ → Bool) (held clause : List Lit) → all_hold values held ≡ true → clause_holds values clause ≡ clause_holds values (open_lits held clause)
-open-holds values held [] a = refl
-open-holds values held (l ∷ ls) a =
-    open-step values l (is_held held (opposite l)) (open_lits held ls) (clause_holds values ls) (λ h. not-true (lit_holds values l) (sym (lit_holds-opposite values l) ∙ held-holds values held (opposite l) a h)) (open-holds values held ls a)
+open-holds : (values : ℕ → Bool) (assigned clause : List Lit) → all_hold values assigned ≡ true → clause_holds values clause ≡ clause_holds values (open_lits assigned clause)
+open-holds values assigned [] a = refl
+open-holds values assigned (l ∷ ls) a =
+    open-step values l (is_assigned assigned (opposite l)) (open_lits assigned ls) (clause_holds values ls) (λ h. not-true (lit_holds values l) (sym (lit_holds-opposite values l) ∙ assigned-holds values assigned (opposite l) a h)) (open-holds values assigned ls a)
 
 or_same : (v c : Bool) → (v || c) ≡ v → (v || (v || c)) ≡ v
 or_same true c h = refl
@@ -85,11 +85,11 @@ only_one-step values l u ls true false e h = absurd (cc)
 only_one-step values l u ls false t e h = absurd (cc)
 
 -- where one literal is left, it is true where the clause is
-only_one-holds : (values : ℕ → Bool) (held ls : List Lit) (u : Lit) → only_one held ls ≡ Some u → clause_holds values ls ≡ lit_holds values u
-only_one-holds values held [] u e = absurd (cc)
-only_one-holds values held (l ∷ ls) u e = only_one-step values l u ls (not (is_held held l)) (list_all (same_lit l) ls) refl e
+only_one-holds : (values : ℕ → Bool) (assigned ls : List Lit) (u : Lit) → only_one assigned ls ≡ Some u → clause_holds values ls ≡ lit_holds values u
+only_one-holds values assigned [] u e = absurd (cc)
+only_one-holds values assigned (l ∷ ls) u e = only_one-step values l u ls (not (is_assigned assigned l)) (list_all (same_lit l) ls) refl e
 
-all_hold-push : (values : ℕ → Bool) (held : List Lit) (u : Lit) → all_hold values held ≡ true → lit_holds values u ≡ true → all_hold values (held ++ u ∷ []) ≡ true
+all_hold-push : (values : ℕ → Bool) (assigned : List Lit) (u : Lit) → all_hold values assigned ≡ true → lit_holds values u ≡ true → all_hold values (assigned ++ u ∷ []) ≡ true
 all_hold-push values [] u a h = rw h refl
 all_hold-push values (k ∷ ks) u a h = let p = both (lit_holds values k) (all_hold values ks) a in rw (p.0, all_hold-push values ks u p.1 h) refl
 
@@ -97,24 +97,24 @@ last-false : (values : ℕ → Bool) (ls : List Lit) → at_last ls ≡ Yes → 
 last-false values [] h = refl
 last-false values (l ∷ ls) h = absurd (cc)
 
-unit-step : (values : ℕ → Bool) (held c : List Lit) (o : Option Lit) (next : Lit → Follow) → unit_of held c ≡ o → all_hold values held ≡ true → clause_holds values c ≡ true → at_unit o next ≡ Yes → ((u : Lit) → all_hold values (held ++ u ∷ []) ≡ true → next u ≡ Yes → ⊥) → ⊥
-unit-step values held c None next e a h y rec = cc
-unit-step values held c (Some u) next e a h y rec = rec u (all_hold-push values held u a (sym (only_one-holds values held (open_lits held c) u e) ∙ sym (open-holds values held c a) ∙ h)) y
+unit-step : (values : ℕ → Bool) (assigned c : List Lit) (o : Option Lit) (next : Lit → Follow) → unit_of assigned c ≡ o → all_hold values assigned ≡ true → clause_holds values c ≡ true → at_unit o next ≡ Yes → ((u : Lit) → all_hold values (assigned ++ u ∷ []) ≡ true → next u ≡ Yes → ⊥) → ⊥
+unit-step values assigned c None next e a h y rec = cc
+unit-step values assigned c (Some u) next e a h y rec = rec u (all_hold-push values assigned u a (sym (only_one-holds values assigned (open_lits assigned c) u e) ∙ sym (open-holds values assigned c a) ∙ h)) y
 
-clause-step : (values : ℕ → Bool) (held c : List Lit) (hs : List ℕ) (next : Lit → Follow) → all_hold values held ≡ true → clause_holds values c ≡ true → where_last hs (at_last (open_lits held c)) (at_unit (unit_of held c) next) ≡ Yes → ((u : Lit) → all_hold values (held ++ u ∷ []) ≡ true → next u ≡ Yes → ⊥) → ⊥
-clause-step values held c [] next a h y rec = let f = last-false values (open_lits held c) y in let g = open-holds values held c a in cc
-clause-step values held c (i ∷ is) next a h y rec = unit-step values held c (unit_of held c) next refl a h y rec
+clause-step : (values : ℕ → Bool) (assigned c : List Lit) (hs : List ℕ) (next : Lit → Follow) → all_hold values assigned ≡ true → clause_holds values c ≡ true → where_last hs (at_last (open_lits assigned c)) (at_unit (unit_of assigned c) next) ≡ Yes → ((u : Lit) → all_hold values (assigned ++ u ∷ []) ≡ true → next u ≡ Yes → ⊥) → ⊥
+clause-step values assigned c [] next a h y rec = let f = last-false values (open_lits assigned c) y in let g = open-holds values assigned c a in cc
+clause-step values assigned c (i ∷ is) next a h y rec = unit-step values assigned c (unit_of assigned c) next refl a h y rec
 
-hint-step : (values : ℕ → Bool) (held : List Lit) (o : Option (List Lit)) (hs : List ℕ) (next : List Lit → Lit → Follow) → all_hold values held ≡ true → holds_at values o ≡ true → at_clause o (λ c. where_last hs (at_last (open_lits held c)) (at_unit (unit_of held c) (next c))) ≡ Yes → ((c : List Lit) (u : Lit) → all_hold values (held ++ u ∷ []) ≡ true → next c u ≡ Yes → ⊥) → ⊥
-hint-step values held None hs next a h y rec = cc
-hint-step values held (Some c) hs next a h y rec = clause-step values held c hs (next c) a h y (rec c)
+hint-step : (values : ℕ → Bool) (assigned : List Lit) (o : Option (List Lit)) (hs : List ℕ) (next : List Lit → Lit → Follow) → all_hold values assigned ≡ true → holds_at values o ≡ true → at_clause o (λ c. where_last hs (at_last (open_lits assigned c)) (at_unit (unit_of assigned c) (next c))) ≡ Yes → ((c : List Lit) (u : Lit) → all_hold values (assigned ++ u ∷ []) ≡ true → next c u ≡ Yes → ⊥) → ⊥
+hint-step values assigned None hs next a h y rec = cc
+hint-step values assigned (Some c) hs next a h y rec = clause-step values assigned c hs (next c) a h y (rec c)
 
 -- true literals and true hinted clauses meet no conflict
-no_conflict : (values : ℕ → Bool) (store : Store) (held : List Lit) (hints : List ℕ) → all_hold values held ≡ true → hints_hold values store hints ≡ true → follow_from store held hints ≡ Yes → ⊥
-no_conflict values store held [] a h y = cc
-no_conflict values store held (i ∷ is) a h y =
+no_conflict : (values : ℕ → Bool) (store : Store) (assigned : List Lit) (hints : List ℕ) → all_hold values assigned ≡ true → hints_hold values store hints ≡ true → follow_from store assigned hints ≡ Yes → ⊥
+no_conflict values store assigned [] a h y = cc
+no_conflict values store assigned (i ∷ is) a h y =
     let p = both (holds_at values (live_clause store i)) (hints_hold values store is) h in
-    hint-step values held (live_clause store i) is (λ c u. follow_from store (held ++ u ∷ []) is) a p.0 y (λ c u b z. no_conflict values store (held ++ u ∷ []) is b p.1 z)
+    hint-step values assigned (live_clause store i) is (λ c u. follow_from store (assigned ++ u ∷ []) is) a p.0 y (λ c u b z. no_conflict values store (assigned ++ u ∷ []) is b p.1 z)
 
 neither : (a b : Bool) → (a || b) ≡ false → (a ≡ false) × (b ≡ false)
 neither true b h = absurd (cc)

@@ -12,21 +12,21 @@ abbrev pub same_lit : Lit → Lit → Bool
 same_lit a b = nat_eq a.var b.var && cond a.negated b.negated (not b.negated)
 
 -- whether a literal is one of those held true
-abbrev pub is_held : List Lit → Lit → Bool
-is_held held l = list_any (same_lit l) held
+abbrev pub is_assigned : List Lit → Lit → Bool
+is_assigned assigned l = list_any (same_lit l) assigned
 
 -- the literals of a clause that the held ones don't make false
 abbrev pub open_lits : List Lit → List Lit → List Lit
-open_lits held clause = filter (λ l. not (is_held held (opposite l))) clause
+open_lits assigned clause = filter (λ l. not (is_assigned assigned (opposite l))) clause
 
 -- of literals that aren't false, the one that they all are, where it isn't held
 abbrev pub only_one : List Lit → List Lit → Option Lit
-only_one held [] = None
-only_one held (l ∷ ls) = cond (not (is_held held l) && list_all (same_lit l) ls) (Some l) None
+only_one assigned [] = None
+only_one assigned (l ∷ ls) = cond (not (is_assigned assigned l) && list_all (same_lit l) ls) (Some l) None
 
 -- the literal of a clause that has no value while all others are false
 abbrev pub unit_of : List Lit → List Lit → Option Lit
-unit_of held clause = only_one held (open_lits held clause)
+unit_of assigned clause = only_one assigned (open_lits assigned clause)
 
 -- the answer at the last hint, by the literals of its clause that aren't false
 abbrev pub at_last : List Lit → Follow
@@ -50,10 +50,10 @@ where_last (h ∷ hs) last more = more
 
 -- the answer of the hints in turn, while these literals are held
 abbrev pub follow_from : Store → List Lit → List ℕ → Follow
-follow_from store held [] = NoConflict
-follow_from store held (h ∷ hs) =
+follow_from store assigned [] = NoConflict
+follow_from store assigned (h ∷ hs) =
     at_clause (live_clause store h) (λ c.
-    where_last hs (at_last (open_lits held c)) (at_unit (unit_of held c) (λ l. follow_from store (held ++ l ∷ []) hs)))
+    where_last hs (at_last (open_lits assigned c)) (at_unit (unit_of assigned c) (λ l. follow_from store (assigned ++ l ∷ []) hs)))
 
 -- whether a clause follows by these hints, its literals being made false first
 abbrev pub follow_of : Store → List Lit → List ℕ → Follow

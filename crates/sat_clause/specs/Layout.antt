@@ -10,12 +10,12 @@ pub record Head : Type 0 where
   pub live : Bool
 
 -- the clause that a head tells of
-abbrev pub told_by : List Lit → Head → (List Lit × Bool)
-told_by lits h = (slice_range lits h.start h.end, h.live)
+abbrev pub clause_at : List Lit → Head → (List Lit × Bool)
+clause_at lits h = (slice_range lits h.start h.end, h.live)
 
 -- the clauses that the heads tell of, in order, each with its mark
 abbrev pub clauses_of : List Lit → List Head → Store
-clauses_of lits heads = map (told_by lits) heads
+clauses_of lits heads = map (clause_at lits) heads
 
 -- the heads of clauses that lie one after another from a place on, by where they end and by their marks
 abbrev pub heads_of : ℕ → List ℕ → List Bool → List Head

@@ -11,8 +11,8 @@ use std::marker::Model;
 #[derive(Drop)]
 pub struct Arena {
     lits: Vec<Lit>,
-    /// Where each clause ends among all literals. It begins where the one before ends.
-    ends: Vec<usize>,
+    /// Where each clause ends among all literals, which are fewer than 2^32. It begins where the one before ends.
+    ends: Vec<u32>,
     /// Whether it is live.
     marks: Vec<bool>,
 }
@@ -27,26 +27,6 @@ impl Model for Arena {
     ghost view = { λ a. clauses_of a.lits.items (heads_of 0 a.ends.items a.marks.items) };
 
     ghost invariant = { λ a. IsLaidOut a.lits.items a.ends.items a.marks.items };
-}
-
-/// The literals from one place up to another.
-fn part(lits: &[Lit], start: usize, end: usize) -> &[Lit]
-    requires ordered { start ≤ end }
-    requires within { end ≤ length lits.now }
-    ensures { result.now ≡ slice_range lits.now start end }
-{
-    &lits[start..end]
-}
-
-/// Where the clause at a place begins, by where the clauses end.
-fn begin(ends: &[usize], place: usize) -> usize
-    requires { place ≤ length ends.now }
-    ensures { result ≡ begin_at 0 ends.now place }
-{
-    if place == 0 {
-        return 0;
-    }
-    ends[place - 1]
 }
 
 impl Arena {
@@ -84,6 +64,10 @@ impl Arena {
     }
 
     /// Puts a clause at the end, live, and gives its number. Where there is no memory nothing changes.
+    ///
+    /// # Errors
+    ///
+    /// Want of memory alone, of which there is never enough for 2^32 literals or more in all.
     pub fn push(&mut self, clause: &[Lit]) -> Result<u64, AllocError>
         ensures ok { IfOk result (λ id.
             (id ≡ length self.new) × (self.new ≡ self.old ++ (clause.now, true) ∷ [])) }
@@ -91,8 +75,8 @@ impl Arena {
     {
         let start = self.lits.len();
         let place = self.ends.len();
+        let end = end_after(start, clause.len())?;
         self.lits.extend_from_slice(clause)?;
-        let end = self.lits.len();
         if self.ends.push(end).is_err() {
             self.lits.truncate(start);
             return Err(AllocError);
@@ -122,7 +106,7 @@ impl Arena {
     {
         let place = id as usize - 1;
         let start = begin(&self.ends, place);
-        let end = self.ends[place];
+        let end = self.ends[place] as usize;
         part(&self.lits, start, end)
     }
 
@@ -144,5 +128,35 @@ impl Arena {
         self.marks.truncate(place);
         self.ends.truncate(place);
         self.lits.truncate(start);
+    }
+}
+
+/// The literals from one place up to another.
+fn part(lits: &[Lit], start: usize, end: usize) -> &[Lit]
+    requires ordered { start ≤ end }
+    requires within { end ≤ length lits.now }
+    ensures { result.now ≡ slice_range lits.now start end }
+{
+    &lits[start..end]
+}
+
+/// Where the clause at a place begins, by where the clauses end.
+fn begin(ends: &[u32], place: usize) -> usize
+    requires { place ≤ length ends.now }
+    ensures { result ≡ begin_at 0 ends.now place }
+{
+    if place == 0 {
+        return 0;
+    }
+    ends[place - 1] as usize
+}
+
+/// Where a clause of so many literals ends that begins at a place, if that is below 2^32.
+fn end_after(start: usize, literals: usize) -> Result<u32, AllocError>
+    ensures { IfOk result (λ end. end ≡ start + literals) }
+{
+    match start.checked_add(literals).map(u32::try_from) {
+        Some(Ok(end)) => Ok(end),
+        _ => Err(AllocError),
     }
 }

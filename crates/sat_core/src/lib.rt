@@ -2,19 +2,19 @@
 #![tactic(auto)]
 
 mod assignment;
-mod found;
 mod keep;
-mod listed;
+mod list_recorder;
 mod order;
 mod recorder;
 mod restarts;
 mod round;
+mod round_end;
 mod solver;
 mod spans;
 mod targets;
 mod units;
 
 pub use assignment::Assignment;
-pub use listed::{Line, Listed};
+pub use list_recorder::{Line, ListRecorder};
 pub use recorder::{RecordFault, Recorder};
 pub use solver::{Answer, Core, Solver};

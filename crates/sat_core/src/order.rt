@@ -51,6 +51,53 @@ impl Order {
         Ok(order)
     }
 
+    /// Raises the variables of the clauses with these numbers, and lets later ones count for more.
+    pub fn raise_all(&mut self, arena: &Arena, hints: &[u64]) {
+        for id in hints {
+            if arena.live(*id) {
+                for l in arena.clause(*id) {
+                    self.raise(l.var);
+                }
+            }
+        }
+        self.targets.count_line(&mut self.phases);
+        self.weight = self.weight.saturating_add(self.weight / 16);
+        if self.weight > GREATEST || self.waiting.len() / 8 > self.ranks.len() {
+            self.shrink();
+        }
+    }
+
+    /// The variables of steps above a level, which are taken off, wait again, and are decided next as they were.
+    pub fn free(&mut self, steps: &[Step], level: u32) {
+        self.targets.remember(steps);
+        let mut i = steps.len();
+        while i > 0 {
+            i -= 1;
+            let step = steps[i];
+            if step.level <= level {
+                return;
+            }
+            let place = step.lit.var as usize;
+            if place < self.phases.len() && place < self.waits.len() {
+                self.phases[place] = !step.lit.negated;
+                if !self.waits[place] {
+                    self.wait(step.lit.var);
+                }
+            }
+        }
+    }
+
+    /// A literal of a variable that has no value. There is none where each variable has one.
+    pub fn next(&mut self, trail: &Trail) -> Option<Lit>
+        ensures some { IfSome result (λ l. IsFresh (lits trail.now.steps) l × IsIn trail.now.vars l) }
+        ensures none { IfNone result (IsTotal trail.now.vars (lits trail.now.steps)) }
+    {
+        if let Some(l) = self.first(trail) {
+            return Some(l);
+        }
+        trail.unassigned_literal()
+    }
+
     /// Each variable waits from now on with its rank.
     fn wait_all(&mut self) {
         self.waiting.clear();
@@ -83,22 +130,6 @@ impl Order {
         }
     }
 
-    /// Raises the variables of the clauses with these numbers, and lets later ones count for more.
-    pub fn raise_all(&mut self, arena: &Arena, hints: &[u64]) {
-        for id in hints {
-            if arena.live(*id) {
-                for l in arena.clause(*id) {
-                    self.raise(l.var);
-                }
-            }
-        }
-        self.targets.count_line(&mut self.phases);
-        self.weight = self.weight.saturating_add(self.weight / 16);
-        if self.weight > GREATEST || self.waiting.len() / 8 > self.ranks.len() {
-            self.shrink();
-        }
-    }
-
     /// Makes all ranks smaller where they have become great, and leaves out what waits no longer.
     fn shrink(&mut self) {
         if self.weight > GREATEST {
@@ -108,26 +139,6 @@ impl Order {
             }
         }
         self.wait_all();
-    }
-
-    /// The variables of steps above a level, which are taken off, wait again, and are decided next as they were.
-    pub fn free(&mut self, steps: &[Step], level: u32) {
-        self.targets.remember(steps);
-        let mut i = steps.len();
-        while i > 0 {
-            i -= 1;
-            let step = steps[i];
-            if step.level <= level {
-                return;
-            }
-            let place = step.lit.var as usize;
-            if place < self.phases.len() && place < self.waits.len() {
-                self.phases[place] = !step.lit.negated;
-                if !self.waits[place] {
-                    self.wait(step.lit.var);
-                }
-            }
-        }
     }
 
     /// The literal that is decided for a variable.
@@ -158,16 +169,5 @@ impl Order {
             }
         }
         None
-    }
-
-    /// A literal of a variable that has no value. There is none where each variable has one.
-    pub fn next(&mut self, trail: &Trail) -> Option<Lit>
-        ensures some { IfSome result (λ l. IsFresh (lits trail.now.steps) l × IsIn trail.now.vars l) }
-        ensures none { IfNone result (IsTotal trail.now.vars (lits trail.now.steps)) }
-    {
-        if let Some(l) = self.first(trail) {
-            return Some(l);
-        }
-        trail.unassigned()
     }
 }

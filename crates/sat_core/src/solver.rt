@@ -13,12 +13,12 @@ ghost use Rattle.sat_core.specs.Lines.{ascends, live_among};
 ghost use Rattle.sat_clause.specs.Clauses.{opposite};
 
 use crate::assignment::Assignment;
-use crate::found::Found;
 use crate::keep::keep;
 use crate::order::Order;
 use crate::recorder::{RecordFault, Recorder};
 use crate::restarts::Restarts;
-use crate::round::{look, resume};
+use crate::round::{resume, run_round};
+use crate::round_end::RoundEnd;
 use crate::spans::Spans;
 use crate::units::{has_unit, is_idle};
 use sat_clause::{Arena, Lit};
@@ -136,7 +136,7 @@ impl<R: Recorder> Solver<R> {
     }
 
     /// Whether a live clause is the one literal that negates this one. Then no model makes the literal true.
-    pub fn refuted(&self, lit: Lit) -> bool
+    pub fn is_refuted(&self, lit: Lit) -> bool
         ensures yes { IsTrue result → HasUnit (R.clauses self.now.recorder) (opposite lit) }
         ensures no { IsFalse result → HasUnit (R.clauses self.now.recorder) (opposite lit) → ⊥ }
     {
@@ -181,11 +181,25 @@ impl<R: Recorder> Solver<R> {
 }
 
 impl<R: Recorder> Solver<R> {
-    ghost use Rattle.sat_core.specs.Runs.{IsFound, Ends, IsEnd, IsStep, IsRecorded, IsForgot, Forgot};
+    ghost use Rattle.sat_core.specs.Runs.{IsRoundEnd, Ends, IsEnd, IsStep, IsRecorded, IsForgot, Forgot};
     ghost use Rattle.sat_core.specs.Solvers.{state_in};
     ghost use Rattle.sat_core.specs.Lines.{MayForget};
     ghost use Rattle.sat_trail.specs.Attached.{is_among, IsBehindNone};
     ghost use Rattle.sat_core.specs.Answers.{IsFinal, IsLearntBeyond};
+
+    /// Looks for values under which all clauses and assumptions are true, recording at most `left` lines.
+    /// No two assumptions may be opposites. After each answer the solver stands at no assumption, and may be asked again.
+    pub fn solve(&mut self, assumptions: &[Lit], left: u64) -> Answer
+        requires assumed { AllIn self.old.vars assumptions.now }
+        requires consistent { IsConsistent assumptions.now }
+        ensures run { Ends (state_in self.old) (state_in self.new) assumptions.now self.old.vars left result }
+        ensures vars { self.new.vars ≡ self.old.vars }
+        ensures level { depth self.new.trail.steps ≡ 0 }
+    {
+        let answer = self.search(assumptions, left);
+        self.go_back(0);
+        answer
+    }
 
     /// Takes off the levels above the one given.
     fn go_back(&mut self, level: u32)
@@ -315,20 +329,6 @@ impl<R: Recorder> Solver<R> {
         self.room = self.live.saturating_add(self.live / 8 + FEWEST);
     }
 
-    /// Looks for values under which all clauses and assumptions are true, recording at most `left` lines.
-    /// No two assumptions may be opposites. After each answer the solver stands at no assumption, and may be asked again.
-    pub fn solve(&mut self, assumptions: &[Lit], left: u64) -> Answer
-        requires assumed { AllIn self.old.vars assumptions.now }
-        requires consistent { IsConsistent assumptions.now }
-        ensures run { Ends (state_in self.old) (state_in self.new) assumptions.now self.old.vars left result }
-        ensures vars { self.new.vars ≡ self.old.vars }
-        ensures level { depth self.new.trail.steps ≡ 0 }
-    {
-        let answer = self.search(assumptions, left);
-        self.go_back(0);
-        answer
-    }
-
     /// Step after step, each of which but the last ends with a line.
     fn search(&mut self, assumptions: &[Lit], left: u64) -> Answer
         requires assumed { AllIn self.old.vars assumptions.now }
@@ -353,9 +353,9 @@ impl<R: Recorder> Solver<R> {
     {
         match self.round(assumptions) {
             Err(AllocError) => Some(Answer::Memory),
-            Ok(Found::Model(values)) => Some(Answer::Sat(values)),
-            Ok(Found::Final(why)) => Some(self.finish(why, assumptions, last)),
-            Ok(Found::New(why)) => self.learn(why, assumptions, last),
+            Ok(RoundEnd::Model(values)) => Some(Answer::Sat(values)),
+            Ok(RoundEnd::Final(why)) => Some(self.finish(why, assumptions, last)),
+            Ok(RoundEnd::New(why)) => self.learn(why, assumptions, last),
         }
     }
 
@@ -414,12 +414,12 @@ impl<R: Recorder> Solver<R> {
     }
 
     /// One round, up to values for all variables or to a clause that follows.
-    fn round(&mut self, assumptions: &[Lit]) -> Result<Found, AllocError>
+    fn round(&mut self, assumptions: &[Lit]) -> Result<RoundEnd, AllocError>
         requires assumed { AllIn self.old.vars assumptions.now }
         requires consistent { IsConsistent assumptions.now }
         ensures state { state_in self.new ≡ state_in self.old }
         ensures vars { self.new.vars ≡ self.old.vars }
-        ensures found { IfOk result (λ f. IsFound (R.clauses self.old.recorder) assumptions.now self.old.vars f) }
+        ensures found { IfOk result (λ f. IsRoundEnd (R.clauses self.old.recorder) assumptions.now self.old.vars f) }
     {
         if let Some(found) = resume(
             self.alloc,
@@ -432,7 +432,7 @@ impl<R: Recorder> Solver<R> {
             return Ok(found);
         }
         self.go_back(0);
-        look(
+        run_round(
             self.alloc,
             &self.arena,
             &mut self.trail,

@@ -32,14 +32,6 @@ impl Spans {
         }
     }
 
-    /// The levels of the derived clause at a place, or 0 where they are not known.
-    fn levels(&self, place: usize) -> u32 {
-        match self.levels.get(place) {
-            Some(levels) => *levels,
-            None => 0,
-        }
-    }
-
     /// The places of those of these clauses that are live. Those of most levels come first, of these the longest, and of these the
     /// oldest.
     pub fn least_worth(
@@ -65,5 +57,13 @@ impl Spans {
             places.push(candidate.place)?;
         }
         Ok(places)
+    }
+
+    /// The levels of the derived clause at a place, or 0 where they are not known.
+    fn levels(&self, place: usize) -> u32 {
+        match self.levels.get(place) {
+            Some(levels) => *levels,
+            None => 0,
+        }
     }
 }

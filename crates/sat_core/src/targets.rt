@@ -34,14 +34,6 @@ impl Targets {
         self.longest_value(place)
     }
 
-    /// The value of a variable in the longest row of steps, where it has one.
-    fn longest_value(&self, place: usize) -> Option<bool> {
-        match self.values.get(place) {
-            Some(value) => *value,
-            None => None,
-        }
-    }
-
     /// Takes over the values of the steps below the last level, where there are more than ever.
     pub fn remember(&mut self, steps: &[Step]) {
         let Some(last) = steps.last() else {
@@ -54,20 +46,6 @@ impl Targets {
                 return;
             }
             count -= 1;
-        }
-    }
-
-    /// Takes over the values of these steps, where there are more than ever.
-    fn take(&mut self, steps: &[Step]) {
-        if steps.len() <= self.longest {
-            return;
-        }
-        self.longest = steps.len();
-        for step in steps {
-            let place = step.lit.var as usize;
-            if place < self.values.len() {
-                self.values[place] = Some(!step.lit.negated);
-            }
         }
     }
 
@@ -90,6 +68,28 @@ impl Targets {
         self.longest = 0;
         for value in self.values.iter_mut() {
             *value = None;
+        }
+    }
+
+    /// The value of a variable in the longest row of steps, where it has one.
+    fn longest_value(&self, place: usize) -> Option<bool> {
+        match self.values.get(place) {
+            Some(value) => *value,
+            None => None,
+        }
+    }
+
+    /// Takes over the values of these steps, where there are more than ever.
+    fn take(&mut self, steps: &[Step]) {
+        if steps.len() <= self.longest {
+            return;
+        }
+        self.longest = steps.len();
+        for step in steps {
+            let place = step.lit.var as usize;
+            if place < self.values.len() {
+                self.values[place] = Some(!step.lit.negated);
+            }
         }
     }
 }

@@ -5,15 +5,15 @@ use Rattle.std.specs.List.{filter}
 use Rattle.std.proofs.lemmas.Bool.Decides.{eqb_tells, leb_tells}
 use Rattle.sat_clause.specs.declared.lit.Lit.{Lit}
 use Rattle.sat_clause.specs.Clauses.{Store, live_clause, opposite}
-use Rattle.sat_clause.specs.Hints.{same_lit, is_held, unit_of}
-use Rattle.sat_clause.specs.Closed.{IsQuiet, IsClosed, IsConsistent}
+use Rattle.sat_clause.specs.Hints.{same_lit, is_assigned, unit_of}
+use Rattle.sat_clause.specs.Closed.{IsInactive, IsClosed, IsConsistent}
 use Rattle.sat_trail.specs.declared.step.Step.{Step}
 use Rattle.sat_trail.specs.declared.pair.Pair.{Pair}
-use Rattle.sat_trail.specs.declared.found.Next.{Next}
-use Rattle.sat_trail.specs.declared.found.Next.TheVariants as next
+use Rattle.sat_trail.specs.declared.status.Propagation.{Propagation}
+use Rattle.sat_trail.specs.declared.status.Propagation.TheVariants as propagation
 use Rattle.sat_trail.specs.Trails.{lits, depth, IsTrail}
 use Rattle.sat_trail.specs.Attached.{is_among, attached_clause, with_attached, without_attached, AreLive}
-use Rattle.sat_trail.specs.Scans.{QuietAmong, Says, SaysAmong}
+use Rattle.sat_trail.specs.Scans.{InactiveAmong, Says, SaysAmong}
 use Rattle.sat_trail.specs.View.{View}
 use Rattle.sat_trail.specs.Watches.{code_of, row_at, edit, stands_by, Satisfied, IsGuarded, IsWatched, IsWatching, IsOpenPair, IsLooseOrWatched}
 use Rattle.sat_trail.proofs.Members.{told, same-self}
@@ -21,9 +21,9 @@ use Rattle.sat_trail.proofs.Closes.{none-open, unit-others, unit-new}
 use Rattle.sat_trail.proofs.Levels.{up_to}
 use Rattle.sat_trail.proofs.Places.{trail-consistent}
 use Rattle.sat_trail.proofs.Rows.{edit-length, among-put, among-before}
-use Rattle.sat_trail.proofs.Standby.{stands-held, stands-higher, stands-shorter, stands-low, stands-kept, low-filter, AllLow}
+use Rattle.sat_trail.proofs.Standby.{stands-assigned, stands-higher, stands-shorter, stands-low, stands-kept, low-filter, AllLow}
 use Rattle.sat_trail.proofs.Stores.{attached-same, attached-other, detached-same, detached-other}
-use Rattle.sat_trail.proofs.Watched.{listed-more, listed-there, not-done}
+use Rattle.sat_trail.proofs.Watched.{entry_at-more, entry_at-there, not-done}
 
 pub on-either : {A E : Type 0} (r : Result A E) (P Q R : Type 0) → OnOk r P → OnErr r Q → (P → R) → (Q → R) → R
 on-either (Ok x) P Q R p q f g = f p
@@ -67,40 +67,40 @@ watching-back v new loose rows pairs level h k e f b n x =
       ];
     }
 
-pub quiet-held : (held c : List Lit) (b : Lit) → IsConsistent held → is_held c b ≡ true → is_held held b ≡ true → IsQuiet held c
-quiet-held held c b con m h = record {
-  not_false = λ e. (let y = none-open held c b e m in let z = con b h in cc);
-  not_unit = by (unit_of held c) refl;
+pub quiet-assigned : (assigned c : List Lit) (b : Lit) → IsConsistent assigned → is_assigned c b ≡ true → is_assigned assigned b ≡ true → IsInactive assigned c
+quiet-assigned assigned c b con m h = record {
+  not_false = λ e. (let y = none-open assigned c b e m in let z = con b h in cc);
+  not_unit = by (unit_of assigned c) refl;
 }
   where
-    by : (o : Option Lit) → unit_of held c ≡ o → unit_of held c ≡ None
+    by : (o : Option Lit) → unit_of assigned c ≡ o → unit_of assigned c ≡ None
     by None e = e
-    by (Some t) e = elim (unit-others held c t b e m) [
-      | inl s ↦ (let y = unit-new held c t e in let z : is_held held t ≡ true = subst (λ x. is_held held x ≡ true) s h in absurd (cc))
+    by (Some t) e = elim (unit-others assigned c t b e m) [
+      | inl s ↦ (let y = unit-new assigned c t e in let z : is_assigned assigned t ≡ true = subst (λ x. is_assigned assigned x ≡ true) s h in absurd (cc))
       | inr s ↦ (let z = con b h in absurd (cc))
     ]
 
-quiet-two : (held c : List Lit) (a b : Lit) → is_held c a ≡ true → is_held c b ≡ true → same_lit a b ≡ false → is_held held (opposite a) ≡ false → is_held held (opposite b) ≡ false → IsQuiet held c
-quiet-two held c a b m n ne f g = record {
-  not_false = λ e. (let y = none-open held c a e m in cc);
-  not_unit = by (unit_of held c) refl;
+quiet-two : (assigned c : List Lit) (a b : Lit) → is_assigned c a ≡ true → is_assigned c b ≡ true → same_lit a b ≡ false → is_assigned assigned (opposite a) ≡ false → is_assigned assigned (opposite b) ≡ false → IsInactive assigned c
+quiet-two assigned c a b m n ne f g = record {
+  not_false = λ e. (let y = none-open assigned c a e m in cc);
+  not_unit = by (unit_of assigned c) refl;
 }
   where
-    by : (o : Option Lit) → unit_of held c ≡ o → unit_of held c ≡ None
+    by : (o : Option Lit) → unit_of assigned c ≡ o → unit_of assigned c ≡ None
     by None e = e
-    by (Some t) e = elim (unit-others held c t a e m) [
+    by (Some t) e = elim (unit-others assigned c t a e m) [
       | inr s ↦ absurd (cc)
-      | inl s ↦ elim (unit-others held c t b e n) [
+      | inl s ↦ elim (unit-others assigned c t b e n) [
         | inr r ↦ absurd (cc)
         | inl r ↦ (let z : same_lit a b ≡ true = subst (λ x. same_lit a x ≡ true) (s ∙ sym r) (same-self a) in absurd (cc))
       ]
     ]
 
-quiet-watched : (c : List Lit) (id : ℕ) (rows : List (List ℕ)) (pairs : List Pair) (steps : List Step) → IsConsistent (lits steps) → IsWatched c id rows pairs steps steps → depth steps ≤ depth steps → ((l : Lit) → is_held (lits steps) l ≡ true → stands_by (depth steps) steps l ≡ true) → IsQuiet (lits steps) c
-quiet-watched c id rows pairs steps con x le stands = elim (told (is_held (lits steps) (opposite x.pair.first))) [
-  | inl y ↦ (let s = x.by.first_guarded (depth steps) (stands (opposite x.pair.first) y) in quiet-held (lits steps) c s.by con s.member (stands-held (depth steps) steps s.by s.stands))
-  | inr n ↦ elim (told (is_held (lits steps) (opposite x.pair.second))) [
-    | inl y ↦ (let s = x.by.second_guarded (depth steps) (stands (opposite x.pair.second) y) in quiet-held (lits steps) c s.by con s.member (stands-held (depth steps) steps s.by s.stands))
+quiet-watched : (c : List Lit) (id : ℕ) (rows : List (List ℕ)) (pairs : List Pair) (steps : List Step) → IsConsistent (lits steps) → IsWatched c id rows pairs steps steps → depth steps ≤ depth steps → ((l : Lit) → is_assigned (lits steps) l ≡ true → stands_by (depth steps) steps l ≡ true) → IsInactive (lits steps) c
+quiet-watched c id rows pairs steps con x le stands = elim (told (is_assigned (lits steps) (opposite x.pair.first))) [
+  | inl y ↦ (let s = x.by.first_guarded (depth steps) (stands (opposite x.pair.first) y) in quiet-assigned (lits steps) c s.by con s.member (stands-assigned (depth steps) steps s.by s.stands))
+  | inr n ↦ elim (told (is_assigned (lits steps) (opposite x.pair.second))) [
+    | inl y ↦ (let s = x.by.second_guarded (depth steps) (stands (opposite x.pair.second) y) in quiet-assigned (lits steps) c s.by con s.member (stands-assigned (depth steps) steps s.by s.stands))
     | inr m ↦ quiet-two (lits steps) c x.pair.first x.pair.second x.by.first_in x.by.second_in x.by.apart n m
   ]
 ]
@@ -125,17 +125,17 @@ consistent-all store steps t =
     subst P (ap (λ z. take z (lits steps)) (sym (lits-length steps)) ∙ take-lits (lits steps)) (trail-consistent store steps (length steps) t (omega arith))
 
 -- where all steps were looked at and the loose clauses are quiet, the trail is closed
-pub watching-closed : (store : Store) (v : View) (loose : List ℕ) (rows : List (List ℕ)) (pairs : List Pair) (h : ℕ) → AreLive store v.attached → IsTrail store v.steps → ((l : Lit) → is_held (lits v.steps) l ≡ true → stands_by (depth v.steps) v.steps l ≡ true) → IsWatching v loose rows pairs h → length v.steps ≤ h → QuietAmong store (lits v.steps) loose → IsClosed store (lits v.steps)
+pub watching-closed : (store : Store) (v : View) (loose : List ℕ) (rows : List (List ℕ)) (pairs : List Pair) (h : ℕ) → AreLive store v.attached → IsTrail store v.steps → ((l : Lit) → is_assigned (lits v.steps) l ≡ true → stands_by (depth v.steps) v.steps l ≡ true) → IsWatching v loose rows pairs h → length v.steps ≤ h → InactiveAmong store (lits v.steps) loose → IsClosed store (lits v.steps)
 watching-closed store v loose rows pairs h live t stands x n quiet id c e = elim (x.all id c (live id ∙ e)) [
   | inl q ↦ quiet id c q e
   | inr q ↦ (let P : List Step → Type 0 = λ z. IsWatched c id rows pairs z v.steps in quiet-watched c id rows pairs v.steps (consistent-all store v.steps t) (subst P (take-whole h v.steps n) q) (omega arith) stands)
 ]
 
 -- what was found among the loose clauses was found
-pub says-all : (store : Store) (held : List Lit) (ids : List ℕ) (r : Next) → (QuietAmong store held ids → IsClosed store held) → SaysAmong store held ids r → Says store held r
-says-all store held ids next.Closed f s = f s
-says-all store held ids (next.False id) f s = s
-says-all store held ids (next.Unit l id) f s = s
+pub says-all : (store : Store) (assigned : List Lit) (ids : List ℕ) (r : Propagation) → (InactiveAmong store assigned ids → IsClosed store assigned) → SaysAmong store assigned ids r → Says store assigned r
+says-all store assigned ids propagation.Closed f s = f s
+says-all store assigned ids (propagation.Conflict id) f s = s
+says-all store assigned ids (propagation.Unit l id) f s = s
 
 pub watching-reach : (v : View) (loose : List ℕ) (rows : List (List ℕ)) (pairs after : List Pair) (h : ℕ) → ((k : ℕ) (p : Pair) → slice_get pairs k ≡ Some p → slice_get after k ≡ Some p) → IsWatching v loose rows pairs h → IsWatching v loose rows after h
 watching-reach v loose rows pairs after h same x = record {
@@ -185,8 +185,8 @@ watching-put v loose old new pairs h k id n e x = record {
         first_in = q.by.first_in;
         second_in = q.by.second_in;
         apart = q.by.apart;
-        first_listed = ap (λ z. is_among (row_at z (code_of q.pair.first)) j) e ∙ listed-more old k (code_of q.pair.first) id j n q.by.first_listed;
-        second_listed = ap (λ z. is_among (row_at z (code_of q.pair.second)) j) e ∙ listed-more old k (code_of q.pair.second) id j n q.by.second_listed;
+        first_listed = ap (λ z. is_among (row_at z (code_of q.pair.first)) j) e ∙ entry_at-more old k (code_of q.pair.first) id j n q.by.first_listed;
+        second_listed = ap (λ z. is_among (row_at z (code_of q.pair.second)) j) e ∙ entry_at-more old k (code_of q.pair.second) id j n q.by.second_listed;
         first_guarded = q.by.first_guarded;
         second_guarded = q.by.second_guarded;
       };
@@ -230,8 +230,8 @@ watched-open c id h old rows new pairs steps p o k a b e f = record {
     first_in = o.first_in;
     second_in = o.second_in;
     apart = o.apart;
-    first_listed = ap (λ z. is_among (row_at z (code_of p.first)) id) f ∙ listed-more rows (code_of p.second) (code_of p.first) id id b (ap (λ z. is_among (row_at z (code_of p.first)) id) e ∙ listed-there old (code_of p.first) id a);
-    second_listed = ap (λ z. is_among (row_at z (code_of p.second)) id) f ∙ listed-there rows (code_of p.second) id b;
+    first_listed = ap (λ z. is_among (row_at z (code_of p.first)) id) f ∙ entry_at-more rows (code_of p.second) (code_of p.first) id id b (ap (λ z. is_among (row_at z (code_of p.first)) id) e ∙ entry_at-there old (code_of p.first) id a);
+    second_listed = ap (λ z. is_among (row_at z (code_of p.second)) id) f ∙ entry_at-there rows (code_of p.second) id b;
     first_guarded = not-done c h steps p.first o.first_open;
     second_guarded = not-done c h steps p.second o.second_open;
   };

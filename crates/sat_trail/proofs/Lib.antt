@@ -3,7 +3,7 @@ pub mod Explains
 pub mod Closes
 pub mod Choice
 pub mod Grows
-pub mod Looks
+pub mod Statuses
 pub mod Places
 pub mod Table
 pub mod Levels

@@ -4,19 +4,19 @@ use Rattle.std.specs.List.{filter}
 use Rattle.std.proofs.lemmas.Bool.Decides.{eqb_tells, leb_tells}
 use Rattle.sat_clause.specs.declared.lit.Lit.{Lit}
 use Rattle.sat_clause.specs.Clauses.{Store}
-use Rattle.sat_clause.specs.Hints.{is_held}
+use Rattle.sat_clause.specs.Hints.{is_assigned}
 use Rattle.sat_trail.specs.declared.step.Step.{Step}
 use Rattle.sat_trail.specs.Trails.{lits, depth, IsTrail, IsLevelled}
 use Rattle.sat_trail.specs.Attached.{is_among, attached_clause, with_attached, without_attached, AreLive}
 use Rattle.sat_trail.specs.Forced.{IsForced}
-use Rattle.sat_trail.specs.Scans.{QuietAmong}
+use Rattle.sat_trail.specs.Scans.{InactiveAmong}
 use Rattle.sat_trail.specs.Settled.{IsTrueFirst, IsSettled}
 use Rattle.sat_trail.specs.View.{View}
 use Rattle.sat_trail.specs.Watches.{Satisfied, stands_by}
-use Rattle.sat_trail.proofs.Attaching.{quiet-held, consistent-all}
+use Rattle.sat_trail.proofs.Attaching.{quiet-assigned, consistent-all}
 use Rattle.sat_trail.proofs.Levels.{up_to}
 use Rattle.sat_trail.proofs.Rows.{among-index, index-among}
-use Rattle.sat_trail.proofs.Standby.{stands-held, held-stands, stands-kept}
+use Rattle.sat_trail.proofs.Standby.{stands-assigned, assigned-stands, stands-kept}
 use Rattle.sat_trail.proofs.Stores.{attached-other, detached-same, detached-other}
 use Rattle.sat_trail.proofs.Watched.{satisfied-more}
 
@@ -127,7 +127,7 @@ drop-none [] = refl
 drop-none (x ∷ xs) = refl
 
 -- where the clauses behind the front are quiet, all are
-pub settled-quiet : (store : Store) (v : View) (ids : List ℕ) (n top : ℕ) → AreLive store v.attached → IsTrail store v.steps → IsSettled v ids n top → QuietAmong store (lits v.steps) (drop n ids) → QuietAmong store (lits v.steps) ids
+pub settled-quiet : (store : Store) (v : View) (ids : List ℕ) (n top : ℕ) → AreLive store v.attached → IsTrail store v.steps → IsSettled v ids n top → InactiveAmong store (lits v.steps) (drop n ids) → InactiveAmong store (lits v.steps) ids
 settled-quiet store v ids n top live t s quiet id c m e =
     let r = among-index ids 0 id (subst (λ z. is_among z id ≡ true) (sym (drop-none ids)) m) in
     let a = r.1 in
@@ -137,12 +137,12 @@ settled-quiet store v ids n top live t s quiet id c m e =
       | inr p ↦ (
           let far = p.1 in
           let q = s.first r.0 (omega arith) c (ap (λ z. attached_clause v.attached z) r.3 ∙ live id ∙ e) in
-          quiet-held (lits v.steps) c q.by (consistent-all store v.steps t) q.member (stands-held 0 v.steps q.by q.stands))
+          quiet-assigned (lits v.steps) c q.by (consistent-all store v.steps t) q.member (stands-assigned 0 v.steps q.by q.stands))
     ]
 
 -- what is true where no level is open is true at level 0
-pub true-first : (v : View) (c : List Lit) (l : Lit) → depth v.steps ≡ 0 → IsLevelled 0 v.steps → is_held c l ≡ true → is_held (lits v.steps) l ≡ true → Satisfied c 0 v.steps
-true-first v c l d levelled m h = record { by = l; member = m; stands = subst (λ z. stands_by z v.steps l ≡ true) d (held-stands 0 v.steps l levelled h) }
+pub true-first : (v : View) (c : List Lit) (l : Lit) → depth v.steps ≡ 0 → IsLevelled 0 v.steps → is_assigned c l ≡ true → is_assigned (lits v.steps) l ≡ true → Satisfied c 0 v.steps
+true-first v c l d levelled m h = record { by = l; member = m; stands = subst (λ z. stands_by z v.steps l ≡ true) d (assigned-stands 0 v.steps l levelled h) }
 
 pub some-clause : (a b : List Lit) → Some a ≡ Some b → a ≡ b
 some-clause a b e = cc

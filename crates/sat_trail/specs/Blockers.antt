@@ -3,7 +3,7 @@ use Rattle.std.specs.Prelude.{ℕ, ◌≡◌, ◌<◌, true, false, List, Some}
 use Rattle.std.specs.List.{All}
 use Rattle.std.specs.Global.{Vec}
 use Rattle.sat_clause.specs.declared.lit.Lit.{Lit}
-use Rattle.sat_clause.specs.Hints.{is_held}
+use Rattle.sat_clause.specs.Hints.{is_assigned}
 use Rattle.sat_trail.specs.declared.entry.Entry.{Entry}
 use Rattle.sat_trail.specs.Attached.{Seen, is_among, attached_clause}
 use Rattle.sat_trail.specs.Watches.{entries}
@@ -11,7 +11,7 @@ use Rattle.sat_trail.specs.Watches.{entries}
 -- the literal is one of the clause of this number, where that is attached and not loose
 abbrev pub IsOf : Seen → List ℕ → ℕ → Lit → Type 0
 IsOf seen loose id l = (c : List Lit) → attached_clause seen id ≡ Some c → is_among loose id ≡ false
-    → is_held c l ≡ true
+    → is_assigned c l ≡ true
 
 -- the number is below the count of pairs, and the blocker is a literal of its clause
 pub record IsBlocked (seen : Seen) (loose : List ℕ) (count : ℕ) (e : Entry) : Type 0 where

@@ -2,7 +2,7 @@
 use Rattle.std.specs.Prelude.{ℕ, List, length}
 use Rattle.sat_clause.specs.declared.lit.Lit.{Lit}
 use Rattle.sat_clause.specs.Clauses.{Store}
-use Rattle.sat_trail.specs.declared.found.Visit.{Visit}
+use Rattle.sat_trail.specs.declared.status.Visit.{Visit}
 use Rattle.sat_trail.specs.declared.step.Step.{Step}
 use Rattle.sat_trail.specs.declared.watch.Watches.{Watches}
 use Rattle.sat_trail.specs.Attached.{Seen}

@@ -3,11 +3,11 @@
 
 mod assigned;
 mod entry;
-mod found;
 mod needed;
 mod pair;
 mod scan;
 mod settled;
+mod status;
 mod step;
 mod trail;
 mod walk;

@@ -1,10 +1,10 @@
 ghost use Rattle.std.specs.Prelude.{◌≡◌, ◌||◌, ◌++◌, ◌∷◌, ◌<◌, [], List, length, map, OnOk, OnErr};
 ghost use Rattle.sat_clause.specs.Clauses.{opposite};
-ghost use Rattle.sat_clause.specs.Hints.{is_held, same_lit};
+ghost use Rattle.sat_clause.specs.Hints.{is_assigned, same_lit};
 ghost use Rattle.sat_trail.specs.Marks.{marked};
 ghost use Rattle.sat_trail.specs.Watches.{code_of};
 
-use crate::walk::negated;
+use crate::walk::negate;
 use crate::watch::code;
 use sat_clause::Lit;
 use std::alloc::{AllocError, Global};
@@ -41,14 +41,6 @@ pub fn widen(marks: &mut Vec<bool>, place: usize) -> Result<(), AllocError>
     Ok(())
 }
 
-/// Marks a literal.
-fn mark(marks: &mut [bool], l: Lit)
-    requires { code_of l < length marks.old }
-    ensures { (k : _) → marked marks.new k ≡ (same_lit k l || marked marks.old k) }
-{
-    marks[code(l)] = true;
-}
-
 impl Needed {
     /// No literal.
     pub fn new(alloc: Global) -> Needed
@@ -62,7 +54,7 @@ impl Needed {
 
     /// Whether a literal is one of these.
     pub fn has(&self, l: Lit) -> bool
-        ensures { result ≡ is_held self.now l }
+        ensures { result ≡ is_assigned self.now l }
     {
         match self.marks.get(code(l)) {
             Some(mark) => *mark,
@@ -85,8 +77,16 @@ impl Needed {
         ensures { OnOk result (self.new ≡ self.old ++ map opposite clause.now) }
     {
         for l in clause {
-            self.push(negated(*l))?;
+            self.push(negate(*l))?;
         }
         Ok(())
     }
+}
+
+/// Marks a literal.
+fn mark(marks: &mut [bool], l: Lit)
+    requires { code_of l < length marks.old }
+    ensures { (k : _) → marked marks.new k ≡ (same_lit k l || marked marks.old k) }
+{
+    marks[code(l)] = true;
 }

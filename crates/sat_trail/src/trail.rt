@@ -2,7 +2,7 @@ ghost use Rattle.std.specs.Prelude.{◌≡◌, ◌+◌, ◌≤◌, ◌<◌, [], 
 ghost use Rattle.std.specs.Prelude.{IsTrue, IsFalse, IsSome, MatchOption, IfSome, IfNone, true, ◌⊎◌, nat_le};
 ghost use Rattle.std.specs.Prelude.{option_map};
 ghost use Rattle.std.specs.List.{filter};
-ghost use Rattle.sat_clause.specs.Hints.{is_held};
+ghost use Rattle.sat_clause.specs.Hints.{is_assigned};
 ghost use Rattle.sat_clause.specs.Closed.{IsClosed};
 ghost use Rattle.sat_clause.specs.Clauses.{live_clause, opposite};
 ghost use Rattle.sat_trail.specs.Trails.{lits, IsFresh, IsTrail, IsLevelled, depth, IsIn, AllIn, step_of, reason_of};
@@ -101,7 +101,7 @@ impl Trail {
 
     /// Whether the literal is true.
     pub fn holds(&self, l: Lit) -> bool
-        ensures { result ≡ is_held (lits self.now.steps) l }
+        ensures { result ≡ is_assigned (lits self.now.steps) l }
     {
         self.assigned.holds(l)
     }
@@ -116,9 +116,9 @@ impl Trail {
         self.assigned.decide(lit);
     }
 
-    /// Takes off the levels above the one given. What is left is the front of the steps.
+    /// Takes off the levels above the one given. What is left is a prefix of the steps.
     pub fn back(&mut self, level: u32)
-        ensures front { self.new.steps ≡ take (length self.new.steps) self.old.steps }
+        ensures prefix { self.new.steps ≡ take (length self.new.steps) self.old.steps }
         ensures depth { depth self.new.steps ≤ level }
         ensures kept { self.new ≡ record self.old { steps = filter (λ s. nat_le s.level level) self.old.steps } }
     {
@@ -194,10 +194,10 @@ impl Trail {
     }
 
     /// A literal of a variable that has no value. There is none where each variable has one.
-    pub fn unassigned(&self) -> Option<Lit>
+    pub fn unassigned_literal(&self) -> Option<Lit>
         ensures some { IfSome result (λ l. IsFresh (lits self.now.steps) l × IsIn self.now.vars l) }
         ensures none { IfNone result (IsTotal self.now.vars (lits self.now.steps)) }
     {
-        self.assigned.unassigned()
+        self.assigned.unassigned_literal()
     }
 }

@@ -4,7 +4,7 @@ ghost use Rattle.std.specs.Prelude.{MatchOption, take, drop, set, slice_get, sli
 ghost use Rattle.std.specs.List.{All, filter};
 ghost use Rattle.sat_clause.specs.declared.lit.Lit.{Lit};
 ghost use Rattle.sat_clause.specs.Clauses.{opposite, live_clause};
-ghost use Rattle.sat_clause.specs.Hints.{same_lit, is_held, open_lits, unit_of};
+ghost use Rattle.sat_clause.specs.Hints.{same_lit, is_assigned, open_lits, unit_of};
 ghost use Rattle.sat_clause.specs.Closed.{IsClosed};
 ghost use Rattle.sat_trail.specs.Trails.{lits, IsTrail, AllIn, depth};
 ghost use Rattle.sat_trail.specs.Attached.{Seen, AreLive, IsSameBut, attached_clause, is_among};
@@ -19,11 +19,11 @@ ghost use Rattle.sat_trail.specs.Watching.{row_in, IsWatchingIn, AllBlockedIn, I
 
 use crate::assigned::Assigned;
 use crate::entry::Entry;
-use crate::found::{Next, Visit};
 use crate::pair::Pair;
 use crate::scan::{scan, scan_among};
-use crate::settled::{Settled, unsettled};
-use crate::walk::{negated, same};
+use crate::settled::{Settled, unsettled_clauses};
+use crate::status::{Propagation, Visit};
+use crate::walk::{negate, same};
 use sat_clause::{Arena, Lit};
 use std::alloc::{AllocError, Global};
 
@@ -64,6 +64,82 @@ pub fn put_entry(
     Ok(())
 }
 
+/// Adds what the live clauses force, until one of them is false or nothing more is forced.
+pub fn propagate_all(
+    trail: &mut Assigned,
+    watches: &mut Watches,
+    settled: Settled,
+    head: &mut usize,
+    arena: &Arena,
+) -> Result<Option<u64>, AllocError>
+    requires attached { AreLive arena.now trail.old.attached }
+    requires trail { IsTrail arena.now trail.old.steps }
+    requires in_vars { VarsUpTo arena.now trail.old.vars }
+    requires watching { IsWatchingIn trail.old watches.old head.old }
+    requires blocked { AllBlockedIn trail.old.attached watches.old }
+    requires settled { IsSettled trail.old watches.old.loose.items settled.count settled.top }
+    ensures trail { IsTrail arena.now trail.new.steps }
+    ensures forced { IsForced trail.old trail.new }
+    ensures watching { IsWatchingIn trail.new watches.new head.new }
+    ensures blocked { AllBlockedIn trail.new.attached watches.new }
+    ensures loose { watches.new.loose.items ≡ watches.old.loose.items }
+    ensures closed { IfOk result (IsClosedOrFalse arena.now (lits trail.new.steps)) }
+{
+    'forced: loop {
+        if let Some(id) = advance(trail, watches, head, arena)? {
+            return Ok(Some(id));
+        }
+        match rest(trail, watches, settled, *head, arena) {
+            Propagation::Closed => return Ok(None),
+            Propagation::Conflict(id) => return Ok(Some(id)),
+            Propagation::Unit(l, id) => trail.force(l, id),
+        }
+    }
+}
+
+/// Watches a clause of this number, or keeps it among the loose ones.
+pub fn watch(
+    trail: &Assigned,
+    watches: &mut Watches,
+    _head: usize,
+    clause: &[Lit],
+    id: u64,
+) -> Result<(), AllocError>
+    requires watching { IsWatchingIn trail.now watches.old _head }
+    requires blocked { AllBlockedIn trail.now.attached watches.old }
+    requires apart { attached_clause trail.now.attached id ≡ None }
+    requires in_vars { AllIn trail.now.vars clause.now }
+    ensures watching { IsWatchingIn trail.now watches.new _head }
+    ensures blocked { (seen : Seen) → IsSameBut trail.now.attached seen id clause.now → AllBlockedIn seen watches.new }
+    ensures loose { (watches.new.loose.items ≡ watches.old.loose.items)
+        ⊎ (watches.new.loose.items ≡ watches.old.loose.items ++ id ∷ []) }
+    ensures ok { OnOk result
+        (IsLooseOrWatchedIn watches.new clause.now id (take _head trail.now.steps) trail.now.steps) }
+{
+    make_free(&mut watches.lists, watches.pairs.len(), id);
+    let Some(pair) = choose(trail, clause) else {
+        watches.loose.push(id)?;
+        return Ok(());
+    };
+    reach(&mut watches.pairs, id, pair)?;
+    put_entry(&mut watches.lists, code(pair.first), id, pair.second)?;
+    put_entry(&mut watches.lists, code(pair.second), id, pair.first)?;
+    set_pair(&mut watches.pairs, id, pair);
+    Ok(())
+}
+
+/// This many lists, with nothing in them.
+pub fn empty_lists(alloc: Global, count: usize) -> Result<Vec<Vec<Entry>>, AllocError>
+    ensures size { IfOk result (λ lists. length (rows lists.items) ≡ count) }
+    ensures empty { IfOk result (λ lists. All (λ es. es ≡ []) (entries lists.items)) }
+{
+    let mut lists = Vec::with_capacity(alloc, count)?;
+    'more: while lists.len() < count {
+        lists.push(Vec::new(alloc))?;
+    }
+    Ok(lists)
+}
+
 /// Takes a clause out of a list. The last one takes its place.
 fn cut_entry(lists: &mut Vec<Vec<Entry>>, place: usize, i: usize)
     requires { i < length (row_at (rows lists.old.items) place) }
@@ -94,7 +170,7 @@ fn set_blocker(lists: &mut Vec<Vec<Entry>>, place: usize, i: usize, entry: Entry
 }
 
 /// The entry at an index of a list.
-fn listed(lists: &[Vec<Entry>], place: usize, i: usize) -> Option<Entry>
+fn entry_at(lists: &[Vec<Entry>], place: usize, i: usize) -> Option<Entry>
     ensures some { IfSome result (λ e. (i < length (row_at (rows lists.now) place))
         × (e.id ≡ slice_index_or (row_at (rows lists.now) place) i 0)) }
     ensures none { IfNone result (length (row_at (rows lists.now) place) ≤ i) }
@@ -157,13 +233,13 @@ fn other_watch(pairs: &[Pair], id: u64, w: Lit) -> Option<Lit>
 
 /// A literal of the clause other than one, that isn't false. Its place is written down.
 fn open_literal(trail: &Assigned, clause: &[Lit], other: Lit, place: &mut usize) -> Option<Lit>
-    ensures member { IfSome result (λ l. is_held clause.now l ≡ true) }
+    ensures member { IfSome result (λ l. is_assigned clause.now l ≡ true) }
     ensures apart { IfSome result (λ l. same_lit l other ≡ false) }
-    ensures not_false { IfSome result (λ l. is_held (lits trail.now.steps) (opposite l) ≡ false) }
+    ensures not_false { IfSome result (λ l. is_assigned (lits trail.now.steps) (opposite l) ≡ false) }
     ensures none { IfNone result (OthersAreFalse (lits trail.now.steps) clause.now other) }
 {
     for (i, l) in clause.iter().enumerate() {
-        if !trail.holds(negated(*l)) && !same(*l, other) {
+        if !trail.holds(negate(*l)) && !same(*l, other) {
             *place = i;
             return Some(*l);
         }
@@ -189,9 +265,9 @@ fn from_place(clause: &[Lit], place: usize) -> &[Lit]
 
 /// A literal of the clause other than one, that isn't false. The search begins where the last one ended.
 fn replacement(trail: &Assigned, clause: &[Lit], other: Lit, start: &mut usize) -> Option<Lit>
-    ensures member { IfSome result (λ l. is_held clause.now l ≡ true) }
+    ensures member { IfSome result (λ l. is_assigned clause.now l ≡ true) }
     ensures apart { IfSome result (λ l. same_lit l other ≡ false) }
-    ensures not_false { IfSome result (λ l. is_held (lits trail.now.steps) (opposite l) ≡ false) }
+    ensures not_false { IfSome result (λ l. is_assigned (lits trail.now.steps) (opposite l) ≡ false) }
     ensures none { IfNone result (OthersAreFalse (lits trail.now.steps) clause.now other) }
 {
     let first = if *start < clause.len() { *start } else { 0 };
@@ -223,23 +299,23 @@ fn set_pair(pairs: &mut Vec<Pair>, id: u64, pair: Pair)
 
 /// Whether a literal is one of the clause.
 fn has(clause: &[Lit], l: Lit) -> bool
-    ensures { result ≡ is_held clause.now l }
+    ensures { result ≡ is_assigned clause.now l }
 {
     clause.iter().any(|k| same(l, *k))
 }
 
 /// Whether a clause is false. All its literals but one are, and that one isn't true.
 fn is_false(trail: &Assigned, clause: &[Lit], other: Lit) -> bool
-    requires not_true { is_held (lits trail.now.steps) other ≡ false }
+    requires not_true { is_assigned (lits trail.now.steps) other ≡ false }
     requires others { OthersAreFalse (lits trail.now.steps) clause.now other }
     ensures yes { IsTrue result → open_lits (lits trail.now.steps) clause.now ≡ [] }
     ensures no { IsFalse result → unit_of (lits trail.now.steps) clause.now ≡ Some other }
 {
-    trail.holds(negated(other)) || !has(clause, other)
+    trail.holds(negate(other)) || !has(clause, other)
 }
 
 /// Looks at a clause that a literal watches which has become false: watches it by another one, or adds what it forces.
-fn look_at(
+fn visit_clause(
     trail: &mut Assigned,
     watches: &mut Watches,
     arena: &Arena,
@@ -253,7 +329,7 @@ fn look_at(
     requires watching { IsWatchingIn trail.old watches.old head }
     requires blocked { AllBlockedIn trail.old.attached watches.old }
     requires entry { IsBlocked trail.old.attached watches.old.loose.items (length watches.old.pairs.items) entry }
-    requires is_false { is_held (lits trail.old.steps) (opposite w) ≡ true }
+    requires is_false { is_assigned (lits trail.old.steps) (opposite w) ≡ true }
     ensures trail { IsTrail arena.now trail.new.steps }
     ensures forced { IsForced trail.old trail.new }
     ensures watching { IsWatchingIn trail.new watches.new head }
@@ -301,7 +377,7 @@ fn look_at(
 }
 
 /// Looks at each clause that a literal watches which has become false. The answer is a clause that is false.
-fn look_at_all(
+fn visit_all(
     trail: &mut Assigned,
     watches: &mut Watches,
     arena: &Arena,
@@ -326,8 +402,8 @@ fn look_at_all(
 {
     let place = code(w);
     let mut i = 0;
-    'list: while let Some(entry) = listed(&watches.lists, place, i) {
-        match look_at(trail, watches, arena, w, head, entry)? {
+    'list: while let Some(entry) = entry_at(&watches.lists, place, i) {
+        match visit_clause(trail, watches, arena, w, head, entry)? {
             Visit::Gone => cut_entry(&mut watches.lists, place, i),
             Visit::Blocked => i += 1,
             Visit::Kept(blocker) => {
@@ -357,7 +433,7 @@ fn next_false(trail: &Assigned, head: usize) -> Option<Lit>
     if head < steps.len() {
         let step = steps[head];
         if step.level == depth {
-            return Some(negated(step.lit));
+            return Some(negate(step.lit));
         }
     }
     None
@@ -383,7 +459,7 @@ fn advance(
     ensures found { IfOk result (λ o. IfSome o (IsConflict arena.now (lits trail.new.steps))) }
 {
     'ahead: while let Some(w) = next_false(trail, *head) {
-        if let Some(id) = look_at_all(trail, watches, arena, w, *head)? {
+        if let Some(id) = visit_all(trail, watches, arena, w, *head)? {
             return Ok(Some(id));
         }
         *head += 1;
@@ -392,7 +468,13 @@ fn advance(
 }
 
 /// What is found without the watches: in the loose clauses that are not settled, or in all of them where a literal of a lower level is still to be looked at.
-fn rest(trail: &Assigned, watches: &Watches, settled: Settled, head: usize, arena: &Arena) -> Next
+fn rest(
+    trail: &Assigned,
+    watches: &Watches,
+    settled: Settled,
+    head: usize,
+    arena: &Arena,
+) -> Propagation
     requires attached { AreLive arena.now trail.now.attached }
     requires trail { IsTrail arena.now trail.now.steps }
     requires watching { IsWatchingIn trail.now watches.now head }
@@ -402,40 +484,11 @@ fn rest(trail: &Assigned, watches: &Watches, settled: Settled, head: usize, aren
     if head < trail.steps().len() {
         return scan(trail, arena);
     }
-    scan_among(trail, arena, unsettled(&watches.loose, settled.count))
-}
-
-/// Adds what the live clauses force, until one of them is false or nothing more is forced.
-pub fn propagate_all(
-    trail: &mut Assigned,
-    watches: &mut Watches,
-    settled: Settled,
-    head: &mut usize,
-    arena: &Arena,
-) -> Result<Option<u64>, AllocError>
-    requires attached { AreLive arena.now trail.old.attached }
-    requires trail { IsTrail arena.now trail.old.steps }
-    requires in_vars { VarsUpTo arena.now trail.old.vars }
-    requires watching { IsWatchingIn trail.old watches.old head.old }
-    requires blocked { AllBlockedIn trail.old.attached watches.old }
-    requires settled { IsSettled trail.old watches.old.loose.items settled.count settled.top }
-    ensures trail { IsTrail arena.now trail.new.steps }
-    ensures forced { IsForced trail.old trail.new }
-    ensures watching { IsWatchingIn trail.new watches.new head.new }
-    ensures blocked { AllBlockedIn trail.new.attached watches.new }
-    ensures loose { watches.new.loose.items ≡ watches.old.loose.items }
-    ensures closed { IfOk result (IsClosedOrFalse arena.now (lits trail.new.steps)) }
-{
-    'forced: loop {
-        if let Some(id) = advance(trail, watches, head, arena)? {
-            return Ok(Some(id));
-        }
-        match rest(trail, watches, settled, *head, arena) {
-            Next::Closed => return Ok(None),
-            Next::False(id) => return Ok(Some(id)),
-            Next::Unit(l, id) => trail.force(l, id),
-        }
-    }
+    scan_among(
+        trail,
+        arena,
+        unsettled_clauses(&watches.loose, settled.count),
+    )
 }
 
 /// Makes the list of pairs reach up to a number.
@@ -465,47 +518,4 @@ fn choose(trail: &Assigned, clause: &[Lit]) -> Option<Pair>
         second,
         start: 0,
     })
-}
-
-/// Watches a clause of this number, or keeps it among the loose ones.
-pub fn watch(
-    trail: &Assigned,
-    watches: &mut Watches,
-    _head: usize,
-    clause: &[Lit],
-    id: u64,
-) -> Result<(), AllocError>
-    requires watching { IsWatchingIn trail.now watches.old _head }
-    requires blocked { AllBlockedIn trail.now.attached watches.old }
-    requires apart { attached_clause trail.now.attached id ≡ None }
-    requires in_vars { AllIn trail.now.vars clause.now }
-    ensures watching { IsWatchingIn trail.now watches.new _head }
-    ensures blocked { (seen : Seen) → IsSameBut trail.now.attached seen id clause.now → AllBlockedIn seen watches.new }
-    ensures loose { (watches.new.loose.items ≡ watches.old.loose.items)
-        ⊎ (watches.new.loose.items ≡ watches.old.loose.items ++ id ∷ []) }
-    ensures ok { OnOk result
-        (IsLooseOrWatchedIn watches.new clause.now id (take _head trail.now.steps) trail.now.steps) }
-{
-    make_free(&mut watches.lists, watches.pairs.len(), id);
-    let Some(pair) = choose(trail, clause) else {
-        watches.loose.push(id)?;
-        return Ok(());
-    };
-    reach(&mut watches.pairs, id, pair)?;
-    put_entry(&mut watches.lists, code(pair.first), id, pair.second)?;
-    put_entry(&mut watches.lists, code(pair.second), id, pair.first)?;
-    set_pair(&mut watches.pairs, id, pair);
-    Ok(())
-}
-
-/// This many lists, with nothing in them.
-pub fn empty_lists(alloc: Global, count: usize) -> Result<Vec<Vec<Entry>>, AllocError>
-    ensures size { IfOk result (λ lists. length (rows lists.items) ≡ count) }
-    ensures empty { IfOk result (λ lists. All (λ es. es ≡ []) (entries lists.items)) }
-{
-    let mut lists = Vec::with_capacity(alloc, count)?;
-    'more: while lists.len() < count {
-        lists.push(Vec::new(alloc))?;
-    }
-    Ok(lists)
 }

@@ -16,11 +16,11 @@ use Rattle.sat_core.specs.Listing.{text_of_line}
 use Rattle.sat_core.specs.Models.{IsModel, HasNoModel, MakesTrue, value_in}
 use Rattle.sat_core.specs.Runs.{State, Went, IsRecorded, Ends as AnswerEnds}
 use Rattle.sat_core.specs.Texts.{derive_line, has_room}
-use Rattle.sat_core.specs.declared.listed.Line.{Line}
+use Rattle.sat_core.specs.declared.list_recorder.Line.{Line}
 use Rattle.sat_core.specs.declared.solver.Answer.{Answer}
 use Rattle.sat_core.specs.declared.solver.Answer.TheVariants as answer
 use Rattle.solve_clauses.specs.declared.formula.Formula.{Formula}
-use Rattle.solve_clauses.specs.Outcomes.{AllFollow, AreRecorded, Ends, told_of}
+use Rattle.solve_clauses.specs.Outcomes.{AllFollow, AreRecorded, Ends, outcome_of}
 use Rattle.solve_clauses.specs.Replays.{fault_from}
 
 text-push : (xs : List Entry) (d : Derived) → flat_map entry_text (xs ++ inl d ∷ []) ≡ flat_map entry_text xs ++ derive_line d.0 d.1
@@ -59,14 +59,14 @@ above-push n m ids h a k q = elim (either (is_among ids k) (is_among (m ∷ []) 
 ]
 
 -- a clause that was there first is never forgotten
-front-live : (n : ℕ) (store : Store) (learnt : List ℕ) (es : List Entry) (id : ℕ) (c : List Lit) → n ≤ length store → Above n learnt → AllNew [] store learnt es → id ≤ n → live_clause store id ≡ Some c → live_clause (with_lines store es) id ≡ Some c
-front-live n store learnt [] id c w a g i l = l
-front-live n store learnt (inl d ∷ es) id c w a g i l =
+prefix-live : (n : ℕ) (store : Store) (learnt : List ℕ) (es : List Entry) (id : ℕ) (c : List Lit) → n ≤ length store → Above n learnt → AllNew [] store learnt es → id ≤ n → live_clause store id ≡ Some c → live_clause (with_lines store es) id ≡ Some c
+prefix-live n store learnt [] id c w a g i l = l
+prefix-live n store learnt (inl d ∷ es) id c w a g i l =
     let more = length-append store ((d.0, true) ∷ []) in
-    front-live n (store ++ (d.0, true) ∷ []) (learnt_after store learnt (inl d)) es id c (omega arith) (above-push n (length (store ++ (d.0, true) ∷ [])) learnt (omega arith) a) g.1 i (still-live store (d.0, true) id c l)
-front-live n store learnt (inr k ∷ es) id c w a g i l =
+    prefix-live n (store ++ (d.0, true) ∷ []) (learnt_after store learnt (inl d)) es id c (omega arith) (above-push n (length (store ++ (d.0, true) ∷ [])) learnt (omega arith) a) g.1 i (still-live store (d.0, true) id c l)
+prefix-live n store learnt (inr k ∷ es) id c w a g i l =
     let far = a k g.0.is_learnt in
-    front-live n (without store k) learnt es id c (let m = without-length store k in omega arith) a g.1 i (without-other store k id (λ e. omega arith) ∙ l)
+    prefix-live n (without store k) learnt es id c (let m = without-length store k in omega arith) a g.1 i (without-other store k id (λ e. omega arith) ∙ l)
 
 at-within : (store : Store) (i : ℕ) (c : List Lit) → if_live (slice_get store i) ≡ Some c → i < length store
 at-within [] i c h = absurd (cc)
@@ -77,8 +77,8 @@ within : (store : Store) (id : ℕ) (c : List Lit) → live_clause store id ≡ 
 within store zero c h = absurd (cc)
 within store (suc i) c h = let r = at-within store i c h in omega arith
 
-front-true : (values : ℕ → Bool) (store : Store) (es : List Entry) → AllNew [] store [] es → MakesTrue values (with_lines store es) → MakesTrue values store
-front-true values store es g t = λ id c live. t id c (front-live (length store) store [] es id c (omega arith) (λ k m. absurd (cc)) g (within store id c live) live)
+prefix-true : (values : ℕ → Bool) (store : Store) (es : List Entry) → AllNew [] store [] es → MakesTrue values (with_lines store es) → MakesTrue values store
+prefix-true values store es g t = λ id c live. t id c (prefix-live (length store) store [] es id c (omega arith) (λ k m. absurd (cc)) g (within store id c live) live)
 
 -- a solver that held the clauses and no line, what it listed by its end, and what the check of it found
 pub record IsRun (f : Formula) (old new : State) (listed : List Line) (fault : Option ℕ) : Type 0 where
@@ -133,7 +133,7 @@ module _ (f : Formula) (old new : State) (listed : List Line) (fault : Option �
   model_so : (more : List Entry) (values : List Bool) → Went [] old new more → IsModel new.clauses [] f.vars values → IsModel f.clauses [] f.vars values
   model_so more values went m = record {
     total = m.total;
-    clauses = front-true (value_in values) f.clauses more (all_new new more went) (subst (MakesTrue (value_in values)) (clauses_are new more went) m.clauses);
+    clauses = prefix-true (value_in values) f.clauses more (all_new new more went) (subst (MakesTrue (value_in values)) (clauses_are new more went) m.clauses);
     assumed = m.assumed;
   }
 
@@ -171,7 +171,7 @@ module _ (f : Formula) (old new : State) (listed : List Line) (fault : Option �
       never (Some n) is h = cc
 
 -- where the check found no fault the answer stands
-pub ends_so : (f : Formula) (old new : State) (listed : List Line) (r : IsRun f old new listed None) (conflicts : ℕ) (a : Answer) → AnswerEnds old new [] f.vars conflicts a → Ends f conflicts (told_of a new.derives)
+pub ends_so : (f : Formula) (old new : State) (listed : List Line) (r : IsRun f old new listed None) (conflicts : ℕ) (a : Answer) → AnswerEnds old new [] f.vars conflicts a → Ends f conflicts (outcome_of a new.derives)
 ends_so f old new listed r conflicts (answer.Sat values) e =
     let so = recorded f old new listed None r conflicts (answer.Sat values) e in
     (model_so f old new listed None r e.0 values e.1 e.3, so.0, so.1)

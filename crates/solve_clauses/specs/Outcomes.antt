@@ -8,7 +8,7 @@ use Rattle.sat_clause.specs.declared.follow.Follow.TheVariants.{Yes}
 use Rattle.sat_core.specs.Lines.{Entry, entry_text, after_entry, derive_count}
 use Rattle.sat_core.specs.Listing.{text_of_line}
 use Rattle.sat_core.specs.Models.{IsModel, HasNoModel}
-use Rattle.sat_core.specs.declared.listed.Line.{Line}
+use Rattle.sat_core.specs.declared.list_recorder.Line.{Line}
 use Rattle.sat_core.specs.declared.solver.Answer.{Answer}
 use Rattle.sat_core.specs.declared.solver.Answer.TheVariants as answer
 use Rattle.solve_clauses.specs.declared.formula.Formula.{Formula}
@@ -38,12 +38,12 @@ pub record AreRecorded (store : Store) (lines : ℕ) (fault : Option ℕ) : Type
   pub checked : fault_from store 1 listed ≡ fault
 
 -- what an answer and the number of derived lines tell; a recorder without a limit is never full
-abbrev pub told_of : Answer → ℕ → Outcome
-told_of (answer.Sat values) lines = Sat lines values
-told_of (answer.Unsat core) lines = Unsat lines
-told_of (answer.Spent clause hints) lines = Spent lines
-told_of (answer.Full bytes next) lines = Memory
-told_of answer.Memory lines = Memory
+abbrev pub outcome_of : Answer → ℕ → Outcome
+outcome_of (answer.Sat values) lines = Sat lines values
+outcome_of (answer.Unsat core) lines = Unsat lines
+outcome_of (answer.Spent clause hints) lines = Spent lines
+outcome_of (answer.Full bytes next) lines = Memory
+outcome_of answer.Memory lines = Memory
 
 -- what the end of a run over these clauses says, where at most so many lines may be derived
 abbrev pub Ends : Formula → ℕ → Outcome → Type 0
@@ -64,7 +64,7 @@ Says (Ok f) conflicts outcome = Ends f conflicts outcome
 Says (Err line) conflicts outcome = (outcome ≡ Text line) ⊎ (outcome ≡ Memory)
 
 abbrev pub numbered_line : List ℕ → ℕ → List ℕ → List ℕ
-numbered_line front number back = front ++ decimal number ++ back
+numbered_line prefix number back = prefix ++ decimal number ++ back
 
 -- the line that tells it
 abbrev pub line_of : Outcome → List ℕ

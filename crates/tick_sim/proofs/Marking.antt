@@ -8,13 +8,13 @@ use Rattle.rail_base.specs.declared.station.TrainNo.{TrainNo}
 use Rattle.rail_base.specs.declared.route.Route.{Route}
 use Rattle.rail_base.specs.declared.route.RouteNo.{RouteNo}
 use Rattle.rail_base.specs.declared.plan.Command.{Command}
-use Rattle.rail_base.specs.declared.state.Stop.{Stop}
+use Rattle.rail_base.specs.declared.state.PathNode.{PathNode}
 use Rattle.rail_base.specs.declared.state.TrainState.{TrainState}
 use Rattle.rail_base.specs.Numbering.{or_this, least}
 use Rattle.rail_base.specs.Routes.{route_at, sections}
 use Rattle.rail_base.proofs.Members.{map-map}
 use Rattle.std.proofs.lemmas.List.{map-append}
-use Rattle.rail_spec.specs.Visits.{is_passed, pass_tick, stops_of_train, visits_of_train, passed}
+use Rattle.rail_spec.specs.Visits.{is_passed, pass_tick, path_nodes_of_train, visits_of_train, passed}
 use Rattle.rail_spec.specs.Plans.{path}
 use Rattle.rail_spec.specs.Dispatches.{state_of, of_plan, state_at}
 use Rattle.rail_base.specs.declared.history.TrainHistory.{TrainHistory}
@@ -58,12 +58,12 @@ module _ (d : Station) (routes : List Route) (plan : List (List Command)) (t : T
 
   -- ---- passes
 
-  passes_of : (k : ℕ) (stops : List Stop) → mark_passes (now (suc k)) (suc k) stops (map (λ stop. (stop.node, pass_tick d routes (of_plan routes plan) k t stop)) stops) ≡ map (λ stop. (stop.node, pass_tick d routes (of_plan routes plan) (suc k) t stop)) stops
+  passes_of : (k : ℕ) (path_nodes : List PathNode) → mark_passes (now (suc k)) (suc k) path_nodes (map (λ path_node. (path_node.node, pass_tick d routes (of_plan routes plan) k t path_node)) path_nodes) ≡ map (λ path_node. (path_node.node, pass_tick d routes (of_plan routes plan) (suc k) t path_node)) path_nodes
   passes_of k [] = refl
-  passes_of k (stop ∷ stops) = ap (λ xs. (stop.node, pass_tick d routes (of_plan routes plan) (suc k) t stop) ∷ xs) (passes_of k stops)
+  passes_of k (path_node ∷ path_nodes) = ap (λ xs. (path_node.node, pass_tick d routes (of_plan routes plan) (suc k) t path_node) ∷ xs) (passes_of k path_nodes)
 
-  pub passes_marked : (k : ℕ) → mark_passes (now (suc k)) (suc k) (stops_of_train d routes (of_plan routes plan) t) (passed d routes (of_plan routes plan) k t) ≡ passed d routes (of_plan routes plan) (suc k) t
-  passes_marked k = passes_of k (stops_of_train d routes (of_plan routes plan) t)
+  pub passes_marked : (k : ℕ) → mark_passes (now (suc k)) (suc k) (path_nodes_of_train d routes (of_plan routes plan) t) (passed d routes (of_plan routes plan) k t) ≡ passed d routes (of_plan routes plan) (suc k) t
+  passes_marked k = passes_of k (path_nodes_of_train d routes (of_plan routes plan) t)
 
   -- ---- releases
 
@@ -84,35 +84,35 @@ module _ (d : Station) (routes : List Route) (plan : List (List Command)) (t : T
 
   -- ---- visits
 
-  abbrev made_with : Stop → ℕ → Option ℕ → Bool → Option (NodeNo × ℕ)
-  made_with stop n (Some i) b = Some (stop.node, i)
-  made_with stop n None b = made_now stop b n
+  abbrev made_with : PathNode → ℕ → Option ℕ → Bool → Option (NodeNo × ℕ)
+  made_with path_node n (Some i) b = Some (path_node.node, i)
+  made_with path_node n None b = made_now path_node b n
 
-  visit_marked : (k : ℕ) (place : Option Stop) → made_or (visit_made d routes plan k t place) place (now (suc k)) (suc k) ≡ visit_made d routes plan (suc k) t place
+  visit_marked : (k : ℕ) (place : Option PathNode) → made_or (visit_made d routes plan k t place) place (now (suc k)) (suc k) ≡ visit_made d routes plan (suc k) t place
   visit_marked k None = refl
-  visit_marked k (Some stop) = start (pass_tick d routes (of_plan routes plan) k t stop) ∙ go (pass_tick d routes (of_plan routes plan) k t stop) (is_passed (now (suc k)) stop)
+  visit_marked k (Some path_node) = start (pass_tick d routes (of_plan routes plan) k t path_node) ∙ go (pass_tick d routes (of_plan routes plan) k t path_node) (is_passed (now (suc k)) path_node)
     where
-      start : (o : Option ℕ) → made_or (option_map (λ i. (stop.node, i)) o) (Some stop) (now (suc k)) (suc k) ≡ made_with stop (suc k) o (is_passed (now (suc k)) stop)
+      start : (o : Option ℕ) → made_or (option_map (λ i. (path_node.node, i)) o) (Some path_node) (now (suc k)) (suc k) ≡ made_with path_node (suc k) o (is_passed (now (suc k)) path_node)
       start None = refl
       start (Some i) = refl
 
-      go : (o : Option ℕ) (b : Bool) → made_with stop (suc k) o b ≡ option_map (λ i. (stop.node, i)) (or_this o b (suc k))
+      go : (o : Option ℕ) (b : Bool) → made_with path_node (suc k) o b ≡ option_map (λ i. (path_node.node, i)) (or_this o b (suc k))
       go (Some i) b = refl
       go None true = refl
       go None false = refl
 
-  visits_of : (k : ℕ) (places : List (Option Stop)) → mark_visits (now (suc k)) (suc k) places (map (visit_made d routes plan k t) places) ≡ map (visit_made d routes plan (suc k) t) places
+  visits_of : (k : ℕ) (places : List (Option PathNode)) → mark_visits (now (suc k)) (suc k) places (map (visit_made d routes plan k t) places) ≡ map (visit_made d routes plan (suc k) t) places
   visits_of k [] = refl
   visits_of k (place ∷ places) = ap₂ (λ x xs. x ∷ xs) (visit_marked k place) (visits_of k places)
 
   pub visits_marked : (k : ℕ) → mark_visits (now (suc k)) (suc k) (visits_of_train d routes (of_plan routes plan) t) (map (visit_made d routes plan k t) (visits_of_train d routes (of_plan routes plan) t)) ≡ map (visit_made d routes plan (suc k) t) (visits_of_train d routes (of_plan routes plan) t)
   visits_marked k = visits_of k (visits_of_train d routes (of_plan routes plan) t)
 
-  visit_none : (place : Option Stop) → None ≡ visit_made d routes plan 0 t place
+  visit_none : (place : Option PathNode) → None ≡ visit_made d routes plan 0 t place
   visit_none None = refl
-  visit_none (Some stop) = refl
+  visit_none (Some path_node) = refl
 
-  visits_none : (places : List (Option Stop)) → map (λ place. None) places ≡ map (visit_made d routes plan 0 t) places
+  visits_none : (places : List (Option PathNode)) → map (λ place. None) places ≡ map (visit_made d routes plan 0 t) places
   visits_none [] = refl
   visits_none (place ∷ places) = ap₂ (λ x xs. x ∷ xs) (visit_none place) (visits_none places)
 
@@ -130,7 +130,7 @@ told_same g h p q r s v w a b c e = cc
 module _ (d : Station) (routes : List Route) (plan : List (List Command)) (t : TrainNo) where
   -- what a run begins with
   pub history_begins : (g : List (RouteNo × Option ℕ)) (p : List (NodeNo × Option ℕ)) (r : List (RouteNo × SectionNo × Option ℕ)) (v : List (Option (NodeNo × ℕ)))
-      → g ≡ map (λ x. (x, None)) (path plan t) → p ≡ map (λ (stop : Stop). (stop.node, None)) (stops_of_train d routes (of_plan routes plan) t)
+      → g ≡ map (λ x. (x, None)) (path plan t) → p ≡ map (λ (path_node : PathNode). (path_node.node, None)) (path_nodes_of_train d routes (of_plan routes plan) t)
       → r ≡ map (λ (x : Release). (x.route, x.section, None)) (releases_of_train d routes (of_plan routes plan) t) → v ≡ map (λ x. None) (visits_of_train d routes (of_plan routes plan) t)
       → told g p r v ≡ train_history d routes plan 0 t
   history_begins g p r v a b c e = told_same g _ p _ r _ v _ (a ∙ no_grants d routes plan t) b (c ∙ released_is d routes plan t 0) (e ∙ no_visits d routes plan t)
@@ -138,7 +138,7 @@ module _ (d : Station) (routes : List Route) (plan : List (List Command)) (t : T
   -- what it has one tick further
   pub history_goes_on : (tick : ℕ) → 1 ≤ tick → (s : TrainState) → s ≡ state_of (state_at d routes (of_plan routes plan) tick) t → (old : TrainHistory) → old ≡ train_history d routes plan (tick - 1) t
       → (g : List (RouteNo × Option ℕ)) (p : List (NodeNo × Option ℕ)) (r : List (RouteNo × SectionNo × Option ℕ)) (v : List (Option (NodeNo × ℕ)))
-      → g ≡ mark_grants s.granted tick old.grants → p ≡ mark_passes s tick (stops_of_train d routes (of_plan routes plan) t) old.passes
+      → g ≡ mark_grants s.granted tick old.grants → p ≡ mark_passes s tick (path_nodes_of_train d routes (of_plan routes plan) t) old.passes
       → r ≡ mark_releases s tick (releases_of_train d routes (of_plan routes plan) t) old.releases → v ≡ mark_visits s tick (visits_of_train d routes (of_plan routes plan) t) old.visits
       → told g p r v ≡ train_history d routes plan tick t
   history_goes_on zero first s here old before g p r v a b c e = absurd (omega arith)
@@ -147,6 +147,6 @@ module _ (d : Station) (routes : List Route) (plan : List (List Command)) (t : T
       let was : old ≡ train_history d routes plan k t = before ∙ ap (λ n. train_history d routes plan n t) less in
       told_same g _ p _ r _ v _
       (a ∙ ap₂ (λ (x : TrainState) (o : TrainHistory). mark_grants x.granted (suc k) o.grants) here was ∙ grants_marked d routes plan t k)
-      (b ∙ ap₂ (λ (x : TrainState) (o : TrainHistory). mark_passes x (suc k) (stops_of_train d routes (of_plan routes plan) t) o.passes) here was ∙ passes_marked d routes plan t k)
+      (b ∙ ap₂ (λ (x : TrainState) (o : TrainHistory). mark_passes x (suc k) (path_nodes_of_train d routes (of_plan routes plan) t) o.passes) here was ∙ passes_marked d routes plan t k)
       (c ∙ ap₂ (λ (x : TrainState) (o : TrainHistory). mark_releases x (suc k) (releases_of_train d routes (of_plan routes plan) t) o.releases) here was ∙ releases_marked d routes plan t k)
       (e ∙ ap₂ (λ (x : TrainState) (o : TrainHistory). mark_visits x (suc k) (visits_of_train d routes (of_plan routes plan) t) o.visits) here was ∙ visits_marked d routes plan t k)

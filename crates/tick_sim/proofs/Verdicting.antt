@@ -8,13 +8,13 @@ use Rattle.rail_base.specs.declared.route.Route.{Route}
 use Rattle.rail_base.specs.declared.plan.Command.{Command}
 use Rattle.rail_base.specs.declared.plan.Violation.{Violation}
 use Rattle.rail_base.specs.declared.plan.Violation.TheVariants as violation
-use Rattle.rail_base.specs.declared.state.Stop.{Stop}
+use Rattle.rail_base.specs.declared.state.PathNode.{PathNode}
 use Rattle.rail_base.specs.declared.history.Verdict.TheVariants.{Met, Failed, Undecided}
 use Rattle.rail_base.specs.Admitted.{IsAdmitted}
 use Rattle.rail_base.specs.Numbering.{least, one_to, after_first, from_first}
 use Rattle.rail_base.specs.Stations.{train_of, horizon}
 use Rattle.rail_base.proofs.Members.{below_or_not, not_less}
-use Rattle.rail_spec.specs.Visits.{visits_at, visits_on, stops_of_train, visits_of_train}
+use Rattle.rail_spec.specs.Visits.{visits_at, visits_on, path_nodes_of_train, visits_of_train}
 use Rattle.rail_spec.specs.Plans.{has_node}
 use Rattle.rail_spec.specs.Dispatches.{of_plan, tick, state_at}
 use Rattle.rail_spec.specs.Requirements.{is_certain, is_decided, violation_at, path_violation, visit_numbers, cost}
@@ -79,18 +79,18 @@ module _ (d : Station) (routes : List Route) (plan : List (List Command)) where
 
   -- ---- paths
 
-  pub length-visits_at : (sets : List (List NodeNo)) (ps : List Stop) → length (visits_at sets ps) ≡ length sets
+  pub length-visits_at : (sets : List (List NodeNo)) (ps : List PathNode) → length (visits_at sets ps) ≡ length sets
   length-visits_at [] ps = refl
   length-visits_at (set ∷ sets) ps = ap suc (length-visits_at sets (after_first (from_first (λ p. has_node set p.node) ps)))
 
-  pub length-visits_on : (sets : List (List NodeNo)) (ps : List Stop) → length (visits_on sets ps) ≡ length sets
+  pub length-visits_on : (sets : List (List NodeNo)) (ps : List PathNode) → length (visits_on sets ps) ≡ length sets
   length-visits_on [] ps = refl
   length-visits_on (set ∷ sets) ps = ap suc (length-visits_at sets (after_first ps))
 
   -- the first visit that a path doesn't make
   pub find-path : (t : TrainNo) → find (is_certain d routes plan 1) (map (violation.Path t) (visit_numbers d t)) ≡ option_map (violation.Path t) (position_from is_none 1 (visits_of_train d routes (of_plan routes plan) t))
   find-path t =
-      ap (λ n. find (is_certain d routes plan 1) (map (violation.Path t) (one_to n))) (sym (length-visits_on (train_of d t).visits (stops_of_train d routes (of_plan routes plan) t)))
+      ap (λ n. find (is_certain d routes plan 1) (map (violation.Path t) (one_to n))) (sym (length-visits_on (train_of d t).visits (path_nodes_of_train d routes (of_plan routes plan) t)))
       ∙ find-numbered (is_certain d routes plan 1) (violation.Path t) is_none 1 (visits_of_train d routes (of_plan routes plan) t)
       (λ i place there. let one : 1 + i ≡ suc i = omega arith in ap (λ n. is_certain d routes plan 1 (violation.Path t n)) one ∙ ap is_none (entry-get None (visits_of_train d routes (of_plan routes plan) t) i place there))
 

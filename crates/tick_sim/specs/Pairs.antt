@@ -10,15 +10,15 @@ use Rattle.rail_course.specs.Itineraries.{train_waits_in, wait_in}
 module _ (p : PlannedCourses) where
   -- the waits of a command for those of these that precede it
   abbrev pub waits_among : Command → List Command → List Wait
-  waits_among c es = let given = p.courses.given in
+  waits_among c es = let given = p.train_paths.given in
       map (wait_in given c) (filter (λ e. precedes given.interlocking.now.routes p.plan.now.steps e c) es)
 
   -- the waits of a command
   abbrev pub planned_waits : Command → List Wait
-  planned_waits c = let given = p.courses.given in
+  planned_waits c = let given = p.train_paths.given in
       map (wait_in given c) (preceding given.interlocking.now.routes p.plan.now.steps c)
 
   -- the waits of each command of a train's path
   abbrev pub planned_train_waits : TrainNo → List (List Wait)
-  planned_train_waits = let given = p.courses.given in
+  planned_train_waits = let given = p.train_paths.given in
       train_waits_in given (preceding given.interlocking.now.routes p.plan.now.steps)

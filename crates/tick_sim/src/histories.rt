@@ -15,69 +15,6 @@ use rail_base::state::TrainState;
 use rail_course::state_of;
 use std::alloc::{AllocError, Global};
 
-impl Ride<'_> {
-    /// What has happened to the train before the first tick: nothing.
-    fn first_history(&self, alloc: Global) -> Result<TrainHistory, AllocError>
-        ensures { IfOk result (λ h. h ≡ train_history_in self.now.run 0 self.now.journey.now.course.now.train) }
-    {
-        let course = self.journey.course;
-        let grants = none_granted(alloc, course.path.as_slice())?;
-        let passes = none_passed(alloc, course.stops.as_slice())?;
-        let releases = none_released(alloc, self.journey.releases.as_slice())?;
-        let visits = none_visited(alloc, course.visits.as_slice())?;
-        Ok(TrainHistory {
-            grants: List::from_vec(grants),
-            passes: List::from_vec(passes),
-            releases: List::from_vec(releases),
-            visits: List::from_vec(visits),
-        })
-    }
-
-    /// What has happened to the train by a tick, at which all trains are in these states.
-    fn next_history(
-        &self,
-        alloc: Global,
-        old: &TrainHistory,
-        states: &[TrainState],
-        tick: u64,
-    ) -> Result<TrainHistory, AllocError>
-        requires now { IsNowIn self.now.run tick states.now }
-        requires before { old.now ≡ train_history_in self.now.run (tick - 1) self.now.journey.now.course.now.train }
-        ensures { IfOk result (λ h. h ≡ train_history_in self.now.run tick self.now.journey.now.course.now.train) }
-    {
-        let course = self.journey.course;
-        let state = state_of(states, course.train);
-        let grants = mark_grants(alloc, state.granted, tick, old.grants.as_slice())?;
-        let passes = mark_passes(
-            alloc,
-            state,
-            tick,
-            course.stops.as_slice(),
-            old.passes.as_slice(),
-        )?;
-        let releases = mark_releases(
-            alloc,
-            state,
-            tick,
-            self.journey.releases.as_slice(),
-            old.releases.as_slice(),
-        )?;
-        let visits = mark_visits(
-            alloc,
-            state,
-            tick,
-            course.visits.as_slice(),
-            old.visits.as_slice(),
-        )?;
-        Ok(TrainHistory {
-            grants: List::from_vec(grants),
-            passes: List::from_vec(passes),
-            releases: List::from_vec(releases),
-            visits: List::from_vec(visits),
-        })
-    }
-}
-
 impl Run<'_> {
     /// What has happened to each train before the first tick.
     pub(crate) fn first_histories(&self, alloc: Global) -> Result<History, AllocError>
@@ -117,5 +54,68 @@ impl Run<'_> {
             histories.push(ride.next_history(alloc, &olds[i], states, tick)?)?;
         }
         Ok(List::from_vec(histories))
+    }
+}
+
+impl Ride<'_> {
+    /// What has happened to the train before the first tick: nothing.
+    fn first_history(&self, alloc: Global) -> Result<TrainHistory, AllocError>
+        ensures { IfOk result (λ h. h ≡ train_history_in self.now.run 0 self.now.journey.now.train_path.now.train) }
+    {
+        let train_path = self.journey.train_path;
+        let grants = none_granted(alloc, train_path.path.as_slice())?;
+        let passes = none_passed(alloc, train_path.path_nodes.as_slice())?;
+        let releases = none_released(alloc, self.journey.releases.as_slice())?;
+        let visits = none_visited(alloc, train_path.visits.as_slice())?;
+        Ok(TrainHistory {
+            grants: List::from_vec(grants),
+            passes: List::from_vec(passes),
+            releases: List::from_vec(releases),
+            visits: List::from_vec(visits),
+        })
+    }
+
+    /// What has happened to the train by a tick, at which all trains are in these states.
+    fn next_history(
+        &self,
+        alloc: Global,
+        old: &TrainHistory,
+        states: &[TrainState],
+        tick: u64,
+    ) -> Result<TrainHistory, AllocError>
+        requires now { IsNowIn self.now.run tick states.now }
+        requires before { old.now ≡ train_history_in self.now.run (tick - 1) self.now.journey.now.train_path.now.train }
+        ensures { IfOk result (λ h. h ≡ train_history_in self.now.run tick self.now.journey.now.train_path.now.train) }
+    {
+        let train_path = self.journey.train_path;
+        let state = state_of(states, train_path.train);
+        let grants = mark_grants(alloc, state.granted, tick, old.grants.as_slice())?;
+        let passes = mark_passes(
+            alloc,
+            state,
+            tick,
+            train_path.path_nodes.as_slice(),
+            old.passes.as_slice(),
+        )?;
+        let releases = mark_releases(
+            alloc,
+            state,
+            tick,
+            self.journey.releases.as_slice(),
+            old.releases.as_slice(),
+        )?;
+        let visits = mark_visits(
+            alloc,
+            state,
+            tick,
+            train_path.visits.as_slice(),
+            old.visits.as_slice(),
+        )?;
+        Ok(TrainHistory {
+            grants: List::from_vec(grants),
+            passes: List::from_vec(passes),
+            releases: List::from_vec(releases),
+            visits: List::from_vec(visits),
+        })
     }
 }

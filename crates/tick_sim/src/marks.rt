@@ -7,57 +7,10 @@ ghost use Rattle.rail_course.specs.Releases.{is_released};
 ghost use Rattle.tick_sim.specs.Marks.{made_or, mark_grants, mark_passes, mark_releases, mark_visits};
 
 use rail_base::route::RouteNo;
-use rail_base::state::{Stop, TrainState};
+use rail_base::state::{PathNode, TrainState};
 use rail_base::station::{NodeNo, SectionNo};
 use rail_course::Release;
 use std::alloc::{AllocError, Global};
-
-/// The tick at which something came: the one it has, or this one where it comes by now.
-fn first_tick(old: Option<u64>, comes: bool, tick: u64) -> Option<u64>
-    ensures { result ≡ or_this old comes tick }
-{
-    match old {
-        Some(earlier) => Some(earlier),
-        None if comes => Some(tick),
-        None => None,
-    }
-}
-
-/// Whether a node has been passed.
-fn is_passed(state: TrainState, stop: &Stop) -> bool
-    ensures { result ≡ is_passed state stop.now }
-{
-    stop.command <= state.granted && stop.offset <= state.x
-}
-
-/// Whether a section has been released.
-fn is_released(state: TrainState, release: &Release) -> bool
-    ensures { result ≡ is_released state release.now }
-{
-    release.number < state.granted && release.place <= state.x
-}
-
-/// A visit that is made already, or else made now at its place.
-fn made_or(
-    old: Option<(NodeNo, u64)>,
-    place: Option<Stop>,
-    state: TrainState,
-    tick: u64,
-) -> Option<(NodeNo, u64)>
-    ensures { result ≡ made_or old place state tick }
-{
-    match (old, place) {
-        (Some(made), _) => Some(made),
-        (None, Some(stop)) => {
-            if is_passed(state, &stop) {
-                Some((stop.node, tick))
-            } else {
-                None
-            }
-        }
-        (None, None) => None,
-    }
-}
 
 /// The grants of a train of which so many commands are granted now.
 pub(crate) fn mark_grants(
@@ -79,15 +32,18 @@ pub(crate) fn mark_passes(
     alloc: Global,
     state: TrainState,
     tick: u64,
-    stops: &[Stop],
+    path_nodes: &[PathNode],
     old: &[(NodeNo, Option<u64>)],
 ) -> Result<Vec<(NodeNo, Option<u64>)>, AllocError>
-    ensures { IfOk result (λ v. v.items ≡ mark_passes state tick stops.now old.now) }
+    ensures { IfOk result (λ v. v.items ≡ mark_passes state tick path_nodes.now old.now) }
 {
-    stops
+    path_nodes
         .iter()
         .zip(old.iter())
-        .map(|(stop, pass)| (stop.node, first_tick(pass.1, is_passed(state, stop), tick)))
+        .map(|(path_node, pass)| (
+            path_node.node,
+            first_tick(pass.1, is_passed(state, path_node), tick),
+        ))
         .collect(alloc)
 }
 
@@ -119,7 +75,7 @@ pub(crate) fn mark_visits(
     alloc: Global,
     state: TrainState,
     tick: u64,
-    places: &[Option<Stop>],
+    places: &[Option<PathNode>],
     old: &[Option<(NodeNo, u64)>],
 ) -> Result<Vec<Option<(NodeNo, u64)>>, AllocError>
     ensures { IfOk result (λ v. v.items ≡ mark_visits state tick places.now old.now) }
@@ -144,11 +100,14 @@ pub(crate) fn none_granted(
 /// The nodes of a path, none of them passed.
 pub(crate) fn none_passed(
     alloc: Global,
-    stops: &[Stop],
+    path_nodes: &[PathNode],
 ) -> Result<Vec<(NodeNo, Option<u64>)>, AllocError>
-    ensures { IfOk result (λ v. v.items ≡ map (λ stop. (stop.node, None)) stops.now) }
+    ensures { IfOk result (λ v. v.items ≡ map (λ path_node. (path_node.node, None)) path_nodes.now) }
 {
-    stops.iter().map(|stop| (stop.node, None)).collect(alloc)
+    path_nodes
+        .iter()
+        .map(|path_node| (path_node.node, None))
+        .collect(alloc)
 }
 
 /// The sections of a path, none of them released.
@@ -167,9 +126,56 @@ pub(crate) fn none_released(
 /// The visits of a train, none of them made.
 pub(crate) fn none_visited(
     alloc: Global,
-    places: &[Option<Stop>],
+    places: &[Option<PathNode>],
 ) -> Result<Vec<Option<(NodeNo, u64)>>, AllocError>
     ensures { IfOk result (λ v. v.items ≡ map (λ _. None) places.now) }
 {
     places.iter().map(|_| None).collect(alloc)
+}
+
+/// The tick at which something came: the one it has, or this one where it comes by now.
+fn first_tick(old: Option<u64>, comes: bool, tick: u64) -> Option<u64>
+    ensures { result ≡ or_this old comes tick }
+{
+    match old {
+        Some(earlier) => Some(earlier),
+        None if comes => Some(tick),
+        None => None,
+    }
+}
+
+/// Whether a node has been passed.
+fn is_passed(state: TrainState, path_node: &PathNode) -> bool
+    ensures { result ≡ is_passed state path_node.now }
+{
+    path_node.command <= state.granted && path_node.offset <= state.x
+}
+
+/// Whether a section has been released.
+fn is_released(state: TrainState, release: &Release) -> bool
+    ensures { result ≡ is_released state release.now }
+{
+    release.number < state.granted && release.place <= state.x
+}
+
+/// A visit that is made already, or else made now at its place.
+fn made_or(
+    old: Option<(NodeNo, u64)>,
+    place: Option<PathNode>,
+    state: TrainState,
+    tick: u64,
+) -> Option<(NodeNo, u64)>
+    ensures { result ≡ made_or old place state tick }
+{
+    match (old, place) {
+        (Some(made), _) => Some(made),
+        (None, Some(path_node)) => {
+            if is_passed(state, &path_node) {
+                Some((path_node.node, tick))
+            } else {
+                None
+            }
+        }
+        (None, None) => None,
+    }
 }

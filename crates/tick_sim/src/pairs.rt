@@ -14,6 +14,21 @@ use rail_course::{Journey, PlannedCourses, Wait};
 use rail_plan::paths::precedes;
 use std::alloc::{AllocError, Global};
 
+/// The journeys of all trains, in file order.
+pub(crate) fn journeys<'a>(
+    planned: &PlannedCourses<'a>,
+    alloc: Global,
+) -> Result<Vec<Journey<'a>>, AllocError>
+    ensures { IfOk result (λ js. ArePlannedJourneys planned.now js.items) }
+{
+    let mut journeys = Vec::new(alloc);
+    for train_path in planned.train_paths.train_paths {
+        let waits = waits_of_train(planned, alloc, train_path.train)?;
+        journeys.push(planned.train_paths.journey(alloc, train_path, waits)?)?;
+    }
+    Ok(journeys)
+}
+
 /// Adds the waits of a command for those of a step that precede it.
 fn push_waits(
     planned: &PlannedCourses,
@@ -21,14 +36,14 @@ fn push_waits(
     command: Command,
     step: &List<Command>,
 ) -> Result<(), AllocError>
-    requires command { IsRoute planned.now.courses.given.interlocking.now.routes command.route }
-    requires step { All (IsCommandIn planned.now.courses.given) step.now }
+    requires command { IsRoute planned.now.train_paths.given.interlocking.now.routes command.route }
+    requires step { All (IsCommandIn planned.now.train_paths.given) step.now }
     ensures { OnOk result (waits.new.items ≡ waits.old.items ++ waits_among planned.now command step.now) }
 {
-    let interlocking = planned.courses.given.interlocking;
+    let interlocking = planned.train_paths.given.interlocking;
     for other in step.as_slice() {
         if precedes(interlocking, planned.plan, *other, command) {
-            waits.push(planned.courses.wait_for(command, *other))?;
+            waits.push(planned.train_paths.wait_for(command, *other))?;
         }
     }
     Ok(())
@@ -40,7 +55,7 @@ fn waits_of(
     alloc: Global,
     command: Command,
 ) -> Result<Vec<Wait>, AllocError>
-    requires { IsRoute planned.now.courses.given.interlocking.now.routes command.route }
+    requires { IsRoute planned.now.train_paths.given.interlocking.now.routes command.route }
     ensures { IfOk result (λ w. w.items ≡ planned_waits planned.now command) }
 {
     let mut waits = Vec::new(alloc);
@@ -56,12 +71,12 @@ fn waits_of_train(
     alloc: Global,
     train: TrainNo,
 ) -> Result<Vec<Vec<Wait>>, AllocError>
-    requires { IsTrain planned.now.courses.given.interlocking.now.design.station train }
+    requires { IsTrain planned.now.train_paths.given.interlocking.now.design.station train }
     ensures { IfOk result (λ w. map (λ v. v.items) w.items ≡ planned_train_waits planned.now train) }
 {
     let mut waits = Vec::new(alloc);
-    let course = planned.courses.course(train);
-    for route in &course.path {
+    let train_path = planned.train_paths.train_path(train);
+    for route in &train_path.path {
         let command = Command {
             train,
             route: *route,
@@ -69,19 +84,4 @@ fn waits_of_train(
         waits.push(waits_of(planned, alloc, command)?)?;
     }
     Ok(waits)
-}
-
-/// The journeys of all trains, in file order.
-pub(crate) fn journeys<'a>(
-    planned: &PlannedCourses<'a>,
-    alloc: Global,
-) -> Result<Vec<Journey<'a>>, AllocError>
-    ensures { IfOk result (λ js. ArePlannedJourneys planned.now js.items) }
-{
-    let mut journeys = Vec::new(alloc);
-    for course in planned.courses.courses {
-        let waits = waits_of_train(planned, alloc, course.train)?;
-        journeys.push(planned.courses.journey(alloc, course, waits)?)?;
-    }
-    Ok(journeys)
 }

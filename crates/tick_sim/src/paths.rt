@@ -6,18 +6,7 @@ ghost use Rattle.tick_sim.specs.Running.{path_violation_in};
 
 use crate::run::Run;
 use rail_base::plan::Violation;
-use rail_base::state::Stop;
-
-/// The number of the first visit that is made nowhere.
-fn missed(visits: &[Option<Stop>]) -> Option<u32>
-    requires { length visits.now < 2 ^ 32 }
-    ensures { result ≡ position_from is_none 1 visits.now }
-{
-    visits
-        .iter()
-        .position(|place| place.is_none())
-        .map(|place| place as u32 + 1)
-}
+use rail_base::state::PathNode;
 
 impl Run<'_> {
     /// The first visit, by train, that no path makes.
@@ -25,13 +14,24 @@ impl Run<'_> {
         ensures { result ≡ path_violation_in self.now }
     {
         for journey in self.journeys {
-            if let Some(visit) = missed(journey.course.visits.as_slice()) {
+            if let Some(visit) = first_missed(journey.train_path.visits.as_slice()) {
                 return Some(Violation::Path {
-                    train: journey.course.train,
+                    train: journey.train_path.train,
                     visit,
                 });
             }
         }
         None
     }
+}
+
+/// The number of the first visit that is made nowhere.
+fn first_missed(visits: &[Option<PathNode>]) -> Option<u32>
+    requires { length visits.now < 2 ^ 32 }
+    ensures { result ≡ position_from is_none 1 visits.now }
+{
+    visits
+        .iter()
+        .position(|place| place.is_none())
+        .map(|place| place as u32 + 1)
 }

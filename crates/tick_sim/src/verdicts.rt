@@ -15,9 +15,32 @@ use rail_base::history::Verdict;
 use rail_base::list::List;
 use rail_base::plan::Plan;
 use rail_base::state::TrainState;
-use rail_course::{Courses, IDLE, Itineraries, PlannedCourses, paths_of};
+use rail_course::{IDLE, Itineraries, PlannedCourses, TrainPaths, paths_of};
 use rail_require::{first_violation, is_done};
 use std::alloc::{AllocError, Global};
+
+/// What so many ticks of a run show of a plan: that it meets the design, that it fails and why, or nothing yet. The
+/// history ends with the deciding tick.
+///
+/// At whatever tick each train is within its authority and its limits. Where the plan is executable too, no two trains
+/// ever hold one section or stand on one, and each command is granted in a bounded time.
+pub fn simulate(
+    alloc: Global,
+    interlocking: &Interlocking,
+    plan: &Plan,
+    ticks: u64,
+) -> Result<Verdict, AllocError>
+    requires formed { IsWellFormed interlocking.now.design.station interlocking.now.routes 256 plan.now.steps }
+    ensures value { IfOk result (λ v. v
+        ≡ verdict_of interlocking.now.design.station interlocking.now.routes plan.now.steps ticks) }
+    ensures keeps { KeepsToTrack interlocking.now.design.station interlocking.now.routes plan.now.steps }
+    ensures granted { is_executable interlocking.now.design.station interlocking.now.routes plan.now.steps ≡ true
+        → IsGrantedInTime interlocking.now.design.station interlocking.now.routes plan.now.steps }
+    ensures apart { is_executable interlocking.now.design.station interlocking.now.routes plan.now.steps ≡ true
+        → (k : ℕ) → Clash interlocking.now.design.station interlocking.now.routes plan.now.steps k → ⊥ }
+{
+    run_plan(alloc, interlocking, plan, ticks)
+}
 
 impl Run<'_> {
     /// All trains before the first tick.
@@ -90,12 +113,12 @@ fn run_plan<'a>(
         interlocking,
         paths: paths.as_slice(),
     };
-    let courses = given.courses(alloc)?;
-    let courses = Courses {
+    let train_paths = given.train_paths(alloc)?;
+    let train_paths = TrainPaths {
         given,
-        courses: courses.as_slice(),
+        train_paths: train_paths.as_slice(),
     };
-    let planned = PlannedCourses { courses, plan };
+    let planned = PlannedCourses { train_paths, plan };
     let journeys = journeys(&planned, alloc)?;
     let run = Run {
         interlocking,
@@ -103,27 +126,4 @@ fn run_plan<'a>(
         journeys: journeys.as_slice(),
     };
     run.verdict(alloc, ticks)
-}
-
-/// What so many ticks of a run show of a plan: that it meets the design, that it fails and why, or nothing yet. The
-/// history ends with the deciding tick.
-///
-/// At whatever tick each train is within its authority and its limits. Where the plan is executable too, no two trains
-/// ever hold one section or stand on one, and each command is granted in a bounded time.
-pub fn simulate(
-    alloc: Global,
-    interlocking: &Interlocking,
-    plan: &Plan,
-    ticks: u64,
-) -> Result<Verdict, AllocError>
-    requires formed { IsWellFormed interlocking.now.design.station interlocking.now.routes 256 plan.now.steps }
-    ensures value { IfOk result (λ v. v
-        ≡ verdict_of interlocking.now.design.station interlocking.now.routes plan.now.steps ticks) }
-    ensures keeps { KeepsToTrack interlocking.now.design.station interlocking.now.routes plan.now.steps }
-    ensures granted { is_executable interlocking.now.design.station interlocking.now.routes plan.now.steps ≡ true
-        → IsGrantedInTime interlocking.now.design.station interlocking.now.routes plan.now.steps }
-    ensures apart { is_executable interlocking.now.design.station interlocking.now.routes plan.now.steps ≡ true
-        → (k : ℕ) → Clash interlocking.now.design.station interlocking.now.routes plan.now.steps k → ⊥ }
-{
-    run_plan(alloc, interlocking, plan, ticks)
 }

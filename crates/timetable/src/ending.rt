@@ -29,6 +29,23 @@ pub fn is_path_failure(violation: Violation) -> bool
     matches!(violation, Violation::Path { .. })
 }
 
+/// How a plan fails, with the tick unless a path fails.
+pub fn failure_line(
+    alloc: Global,
+    design: &Design,
+    violation: Violation,
+    tick: u64,
+) -> Result<Vec<u8>, AllocError>
+    ensures { IfOk result (λ line. line.items ≡ failure_line design.now.station tick violation) }
+{
+    let mut line = failure(alloc, design, violation)?;
+    if !is_path_failure(violation) {
+        put_tick(&mut line, tick)?;
+    }
+    line.push(b'\n')?;
+    Ok(line)
+}
+
 /// A failure of a train: what, the train's name, and what of it by its number.
 fn train_failure(
     alloc: Global,
@@ -95,21 +112,4 @@ fn failure(alloc: Global, design: &Design, violation: Violation) -> Result<Vec<u
             )
         }
     }
-}
-
-/// How a plan fails, with the tick unless a path fails.
-pub fn failure_line(
-    alloc: Global,
-    design: &Design,
-    violation: Violation,
-    tick: u64,
-) -> Result<Vec<u8>, AllocError>
-    ensures { IfOk result (λ line. line.items ≡ failure_line design.now.station tick violation) }
-{
-    let mut line = failure(alloc, design, violation)?;
-    if !is_path_failure(violation) {
-        put_tick(&mut line, tick)?;
-    }
-    line.push(b'\n')?;
-    Ok(line)
 }

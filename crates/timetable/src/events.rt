@@ -18,15 +18,6 @@ pub fn put_tick(line: &mut Vec<u8>, tick: u64) -> Result<(), AllocError>
     put_number(line, tick)
 }
 
-/// Appends the time of a tick, in ms.
-fn put_time(line: &mut Vec<u8>, tick: u64, tick_ms: u32) -> Result<(), AllocError>
-    ensures { OnOk result (line.new.items ≡ line.old.items ++ decimal (tick * tick_ms)) }
-{
-    let mut buffer = itoa::Buffer::new();
-    let time = u128::from(tick) * u128::from(tick_ms);
-    line.extend_from_slice(buffer.format(time).as_bytes())
-}
-
 /// `train <name>`, of the train of a number.
 pub fn train_line(alloc: Global, design: &Design, number: usize) -> Result<Vec<u8>, AllocError>
     ensures { IfOk result (λ line. line.items ≡ train_line design.now.station (record { 0 = number })) }
@@ -90,4 +81,13 @@ pub fn visit_line(
     put_time(&mut line, tick, design.station.tick_ms)?;
     line.push(b'\n')?;
     Ok(line)
+}
+
+/// Appends the time of a tick, in ms.
+fn put_time(line: &mut Vec<u8>, tick: u64, tick_ms: u32) -> Result<(), AllocError>
+    ensures { OnOk result (line.new.items ≡ line.old.items ++ decimal (tick * tick_ms)) }
+{
+    let mut buffer = itoa::Buffer::new();
+    let time = u128::from(tick) * u128::from(tick_ms);
+    line.extend_from_slice(buffer.format(time).as_bytes())
 }

@@ -11,6 +11,22 @@ use rail_base::route::RouteNo;
 use rail_base::station::NodeNo;
 use std::alloc::{AllocError, Global};
 
+/// Appends the lines of all trains.
+pub fn push_history(
+    alloc: Global,
+    design: &Design,
+    history: &[TrainHistory],
+    lines: &mut Vec<Vec<u8>>,
+) -> Result<(), AllocError>
+    ensures { OnOk result (lines_of lines.new.items
+        ≡ lines_of lines.old.items ++ history_lines design.now.station history.now) }
+{
+    for (index, train) in history.iter().enumerate() {
+        push_train(alloc, design, index + 1, train, lines)?;
+    }
+    Ok(())
+}
+
 /// Appends the grants that have come.
 fn push_grants(
     alloc: Global,
@@ -78,20 +94,4 @@ fn push_train(
     push_grants(alloc, train.grants.as_slice(), lines)?;
     push_passes(alloc, design, train.passes.as_slice(), lines)?;
     push_visits(alloc, design, train.visits.as_slice(), lines)
-}
-
-/// Appends the lines of all trains.
-pub fn push_history(
-    alloc: Global,
-    design: &Design,
-    history: &[TrainHistory],
-    lines: &mut Vec<Vec<u8>>,
-) -> Result<(), AllocError>
-    ensures { OnOk result (lines_of lines.new.items
-        ≡ lines_of lines.old.items ++ history_lines design.now.station history.now) }
-{
-    for (index, train) in history.iter().enumerate() {
-        push_train(alloc, design, index + 1, train, lines)?;
-    }
-    Ok(())
 }

@@ -23,7 +23,7 @@ pub(crate) fn put_edges(
     ensures size { OnOk result (length picture.new ≡ length picture.old + length edges.now) }
 {
     for (index, edge) in edges.iter().enumerate() {
-        let points = grid.course(edge, index).points(alloc)?;
+        let points = grid.train_path(edge, index).points(alloc)?;
         put_line(
             picture,
             points,
@@ -32,16 +32,6 @@ pub(crate) fn put_edges(
         )?;
     }
     Ok(())
-}
-
-/// The middle of the first edge of a section, by the section's index.
-fn middle_of(grid: &Grid, edges: &[Edge], section: usize) -> Point {
-    for (index, edge) in edges.iter().enumerate() {
-        if edge.section.0 as usize == section.saturating_add(1) {
-            return grid.course(edge, index).middle();
-        }
-    }
-    Point { x: 0, y: 0 }
 }
 
 /// Appends the name of each section, below the middle of its first edge.
@@ -65,6 +55,16 @@ pub(crate) fn put_section_names(
         put_words(picture, place, Anchor::Middle, section_color(index), text)?;
     }
     Ok(())
+}
+
+/// The middle of the first edge of a section, by the section's index.
+fn middle_of(grid: &Grid, edges: &[Edge], section: usize) -> Point {
+    for (index, edge) in edges.iter().enumerate() {
+        if edge.section.0 as usize == section.saturating_add(1) {
+            return grid.train_path(edge, index).middle();
+        }
+    }
+    Point { x: 0, y: 0 }
 }
 
 /// The colour of a section of an index, counted from 0.

@@ -34,11 +34,101 @@ pub(crate) struct Grid {
 
 /// Where an edge begins, runs and ends, in px, from the left to the right.
 #[derive(Clone, Copy, Debug)]
-pub(crate) struct Course {
+pub(crate) struct TrainPath {
     pub(crate) left: Point,
     pub(crate) right: Point,
     /// The height at which it runs; none where it goes straight.
     pub(crate) height: Option<u64>,
+}
+
+impl Grid {
+    /// The layout of a station, with room for its names. The error is want of memory.
+    pub(crate) fn new(alloc: Global, station: &Station) -> Result<Grid, AllocError> {
+        let layout = layout_of(alloc, station)?;
+        let name = width_of(longest_name(station));
+        let how = Spread {
+            first: left_of(station, &layout).saturating_add(MARGIN),
+            least: name.saturating_add(2 * SLANT),
+            mm_per_px: 5000,
+            most: 100,
+        };
+        let levels = drawn_levels(alloc, layout.levels.as_slice(), how)?;
+        Ok(Grid { layout, levels })
+    }
+
+    /// Where a node of an index lies, counted from 0.
+    pub(crate) fn point_at(&self, index: usize) -> Point {
+        let place = place_at(&self.layout, index);
+        Point {
+            x: self.levels.get(place.level).copied().unwrap_or(0),
+            y: height_of(place.row),
+        }
+    }
+
+    /// Where a node lies.
+    pub(crate) fn point_of(&self, node: NodeNo) -> Point {
+        self.point_at(index_of(node))
+    }
+
+    /// Whether a side of a node leads to the right.
+    pub(crate) fn is_right(&self, node: NodeNo, side: Side) -> bool {
+        place_at(&self.layout, index_of(node)).right == side
+    }
+
+    /// The course of an edge of an index, counted from 0.
+    pub(crate) fn train_path(&self, edge: &Edge, index: usize) -> TrainPath {
+        let one = self.point_of(edge.from.node);
+        let other = self.point_of(edge.to.node);
+        let height = match self.layout.edges.get(index) {
+            Some(EdgePlace { row: Some(row) }) => Some(height_of(*row)),
+            Some(EdgePlace { row: None }) => None,
+            None => None,
+        };
+        if one.x <= other.x {
+            TrainPath {
+                left: one,
+                right: other,
+                height,
+            }
+        } else {
+            TrainPath {
+                left: other,
+                right: one,
+                height,
+            }
+        }
+    }
+}
+
+impl TrainPath {
+    /// The points of the line. The error is want of memory.
+    pub(crate) fn points(&self, alloc: Global) -> Result<Vec<Point>, AllocError> {
+        let mut points = Vec::new(alloc);
+        points.push(self.left)?;
+        if let Some(height) = self.height {
+            points.push(Point {
+                x: self.left.x.saturating_add(SLANT),
+                y: height,
+            })?;
+            points.push(Point {
+                x: self.right.x.saturating_sub(SLANT),
+                y: height,
+            })?;
+        }
+        points.push(self.right)?;
+        Ok(points)
+    }
+
+    /// Its middle.
+    pub(crate) fn middle(&self) -> Point {
+        Point {
+            x: mean(self.left.x, self.right.x),
+            y: match self.height {
+                Some(height) => height,
+                None => mean(self.left.y, self.right.y),
+            },
+        }
+    }
 }
 
 /// The longer of a length and that of a name.
@@ -108,94 +198,4 @@ fn height_of(row: usize) -> u64 {
 /// The mean of two lengths.
 fn mean(one: u64, other: u64) -> u64 {
     one / 2 + other / 2
-}
-
-impl Grid {
-    /// The layout of a station, with room for its names. The error is want of memory.
-    pub(crate) fn new(alloc: Global, station: &Station) -> Result<Grid, AllocError> {
-        let layout = layout_of(alloc, station)?;
-        let name = width_of(longest_name(station));
-        let how = Spread {
-            first: left_of(station, &layout).saturating_add(MARGIN),
-            least: name.saturating_add(2 * SLANT),
-            mm_per_px: 5000,
-            most: 100,
-        };
-        let levels = drawn_levels(alloc, layout.levels.as_slice(), how)?;
-        Ok(Grid { layout, levels })
-    }
-
-    /// Where a node of an index lies, counted from 0.
-    pub(crate) fn point_at(&self, index: usize) -> Point {
-        let place = place_at(&self.layout, index);
-        Point {
-            x: self.levels.get(place.level).copied().unwrap_or(0),
-            y: height_of(place.row),
-        }
-    }
-
-    /// Where a node lies.
-    pub(crate) fn point_of(&self, node: NodeNo) -> Point {
-        self.point_at(index_of(node))
-    }
-
-    /// Whether a side of a node leads to the right.
-    pub(crate) fn is_right(&self, node: NodeNo, side: Side) -> bool {
-        place_at(&self.layout, index_of(node)).right == side
-    }
-
-    /// The course of an edge of an index, counted from 0.
-    pub(crate) fn course(&self, edge: &Edge, index: usize) -> Course {
-        let one = self.point_of(edge.from.node);
-        let other = self.point_of(edge.to.node);
-        let height = match self.layout.edges.get(index) {
-            Some(EdgePlace { row: Some(row) }) => Some(height_of(*row)),
-            Some(EdgePlace { row: None }) => None,
-            None => None,
-        };
-        if one.x <= other.x {
-            Course {
-                left: one,
-                right: other,
-                height,
-            }
-        } else {
-            Course {
-                left: other,
-                right: one,
-                height,
-            }
-        }
-    }
-}
-
-impl Course {
-    /// The points of the line. The error is want of memory.
-    pub(crate) fn points(&self, alloc: Global) -> Result<Vec<Point>, AllocError> {
-        let mut points = Vec::new(alloc);
-        points.push(self.left)?;
-        if let Some(height) = self.height {
-            points.push(Point {
-                x: self.left.x.saturating_add(SLANT),
-                y: height,
-            })?;
-            points.push(Point {
-                x: self.right.x.saturating_sub(SLANT),
-                y: height,
-            })?;
-        }
-        points.push(self.right)?;
-        Ok(points)
-    }
-
-    /// Its middle.
-    pub(crate) fn middle(&self) -> Point {
-        Point {
-            x: mean(self.left.x, self.right.x),
-            y: match self.height {
-                Some(height) => height,
-                None => mean(self.left.y, self.right.y),
-            },
-        }
-    }
 }

@@ -12,22 +12,6 @@ use std::alloc::{AllocError, Global};
 /// How far above a node its name stands, in px.
 const ABOVE: u64 = 18;
 
-/// Appends the mark of a node: a bar across the track for a boundary, and else a dot.
-fn put_node(picture: &mut Picture, point: Point, boundary: bool) -> Result<(), AllocError>
-    ensures words { OnOk result (words_in picture.new ≡ words_in picture.old) }
-    ensures size { OnOk result (length picture.new ≡ length picture.old + 1) }
-{
-    if boundary {
-        let corner = Point {
-            x: point.x.saturating_sub(2),
-            y: point.y.saturating_sub(10),
-        };
-        put_bar(picture, corner, 4, 20, Color::Black)
-    } else {
-        put_dot(picture, point, 4, Color::Black)
-    }
-}
-
 /// Appends the mark of each node.
 pub(crate) fn put_nodes(
     picture: &mut Picture,
@@ -63,4 +47,20 @@ pub(crate) fn put_node_names(
         put_words(picture, place, Anchor::Middle, Color::Black, text)?;
     }
     Ok(())
+}
+
+/// Appends the mark of a node: a bar across the track for a boundary, and else a dot.
+fn put_node(picture: &mut Picture, point: Point, boundary: bool) -> Result<(), AllocError>
+    ensures words { OnOk result (words_in picture.new ≡ words_in picture.old) }
+    ensures size { OnOk result (length picture.new ≡ length picture.old + 1) }
+{
+    if boundary {
+        let corner = Point {
+            x: point.x.saturating_sub(2),
+            y: point.y.saturating_sub(10),
+        };
+        put_bar(picture, corner, 4, 20, Color::Black)
+    } else {
+        put_dot(picture, point, 4, Color::Black)
+    }
 }

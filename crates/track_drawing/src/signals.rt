@@ -9,6 +9,50 @@ use drawing::{Anchor, Color, Picture, Point, put_line, put_words};
 use rail_base::station::Signal;
 use std::alloc::{AllocError, Global};
 
+/// Appends an arrow for each signal, in its direction.
+pub(crate) fn put_signals(
+    alloc: Global,
+    picture: &mut Picture,
+    grid: &Grid,
+    signals: &[Signal],
+) -> Result<(), AllocError>
+    ensures words { OnOk result (words_in picture.new ≡ words_in picture.old) }
+    ensures size { OnOk result (length picture.new ≡ length picture.old + length signals.now) }
+{
+    for signal in signals {
+        let point = grid.point_of(signal.node);
+        let points = if grid.is_right(signal.node, signal.toward) {
+            right_arrow(alloc, point)?
+        } else {
+            left_arrow(alloc, point)?
+        };
+        put_line(picture, points, Color::Red, 2)?;
+    }
+    Ok(())
+}
+
+/// Appends the name of each signal.
+pub(crate) fn put_signal_names(
+    alloc: Global,
+    picture: &mut Picture,
+    grid: &Grid,
+    signals: &[Signal],
+) -> Result<(), AllocError>
+    ensures words { OnOk result (words_in picture.new ≡ words_in picture.old ++ map signal_name signals.now) }
+    ensures size { OnOk result (length picture.new ≡ length picture.old + length signals.now) }
+{
+    for signal in signals {
+        put_signal_name(
+            alloc,
+            picture,
+            grid.point_of(signal.node),
+            grid.is_right(signal.node, signal.toward),
+            signal.name.as_bytes(),
+        )?;
+    }
+    Ok(())
+}
+
 /// The corners of an arrow to the right, below a point. The error is want of memory.
 fn right_arrow(alloc: Global, point: Point) -> Result<Vec<Point>, AllocError> {
     let near = point.x.saturating_add(5);
@@ -49,28 +93,6 @@ fn left_arrow(alloc: Global, point: Point) -> Result<Vec<Point>, AllocError> {
     Ok(points)
 }
 
-/// Appends an arrow for each signal, in its direction.
-pub(crate) fn put_signals(
-    alloc: Global,
-    picture: &mut Picture,
-    grid: &Grid,
-    signals: &[Signal],
-) -> Result<(), AllocError>
-    ensures words { OnOk result (words_in picture.new ≡ words_in picture.old) }
-    ensures size { OnOk result (length picture.new ≡ length picture.old + length signals.now) }
-{
-    for signal in signals {
-        let point = grid.point_of(signal.node);
-        let points = if grid.is_right(signal.node, signal.toward) {
-            right_arrow(alloc, point)?
-        } else {
-            left_arrow(alloc, point)?
-        };
-        put_line(picture, points, Color::Red, 2)?;
-    }
-    Ok(())
-}
-
 /// Appends the name of a signal, beside its arrow.
 fn put_signal_name(
     alloc: Global,
@@ -96,26 +118,4 @@ fn put_signal_name(
         };
         put_words(picture, place, Anchor::End, Color::Red, text)
     }
-}
-
-/// Appends the name of each signal.
-pub(crate) fn put_signal_names(
-    alloc: Global,
-    picture: &mut Picture,
-    grid: &Grid,
-    signals: &[Signal],
-) -> Result<(), AllocError>
-    ensures words { OnOk result (words_in picture.new ≡ words_in picture.old ++ map signal_name signals.now) }
-    ensures size { OnOk result (length picture.new ≡ length picture.old + length signals.now) }
-{
-    for signal in signals {
-        put_signal_name(
-            alloc,
-            picture,
-            grid.point_of(signal.node),
-            grid.is_right(signal.node, signal.toward),
-            signal.name.as_bytes(),
-        )?;
-    }
-    Ok(())
 }

@@ -23,6 +23,79 @@ pub(crate) fn entry_at(entries: &[Option<usize>], index: usize) -> Option<usize>
     }
 }
 
+impl Lanes {
+    /// No lane is given out yet. The error is want of memory.
+    pub(crate) fn new(alloc: Global, nodes: usize, edges: usize) -> Result<Lanes, AllocError> {
+        let many = nodes.saturating_add(edges).saturating_add(1);
+        Ok(Lanes {
+            held: vec![in alloc; None; many]?,
+            nodes: vec![in alloc; None; nodes]?,
+            edges: vec![in alloc; None; edges]?,
+        })
+    }
+
+    /// Lays all edges that lead from a node to the right, first the one that goes straight on.
+    pub(crate) fn lay_all_from(
+        &mut self,
+        edges: &[Edge],
+        levels: &[usize],
+        node: usize,
+        level: usize,
+    ) {
+        let lane = self.lane_of(node, level);
+        let straight = straight_on(edges, levels, self.nodes.as_slice(), node, lane);
+        if let Some(run) = straight {
+            self.lay_from(run, lane, true);
+        }
+        for (index, edge) in edges.iter().enumerate() {
+            if let Some(run) = run_from(edge, index, levels, node) {
+                if !is_of_edge(straight, index) {
+                    self.lay_from(run, lane, false);
+                }
+            }
+        }
+    }
+
+    /// The lane of a node, which is given one from the middle on downward where it has none.
+    fn lane_of(&mut self, node: usize, level: usize) -> usize {
+        match entry_at(self.nodes.as_slice(), node) {
+            Some(lane) => lane,
+            None => {
+                let lane = free_from_middle(self.held.as_slice(), level);
+                set_entry(self.held.as_mut_slice(), lane, level);
+                set_entry(self.nodes.as_mut_slice(), node, lane);
+                lane
+            }
+        }
+    }
+
+    /// Lays an edge in a lane, from its left node to a level at which its right node lies.
+    fn lay(&mut self, edge: usize, lane: usize, right: usize, level: usize) {
+        set_entry(self.held.as_mut_slice(), lane, level);
+        set_entry(self.edges.as_mut_slice(), edge, lane);
+        if entry_at(self.nodes.as_slice(), right).is_none() {
+            set_entry(self.nodes.as_mut_slice(), right, lane);
+        }
+    }
+
+    /// Lays an edge from a node in a lane to the right: in that lane where it keeps to it, or else in the nearest free
+    /// lane. An edge between nodes at one level goes straight, and so does one that does not keep to the lane and leads
+    /// to a node that has another lane already, at the next level or in the lane beside it.
+    fn lay_from(&mut self, run: Run, lane: usize, keeps: bool) {
+        if run.to == run.from {
+            return;
+        }
+        let there = entry_at(self.nodes.as_slice(), run.right);
+        let is_next = run.to <= run.from.saturating_add(1) || is_near(there, lane);
+        if keeps {
+            self.lay(run.edge, lane, run.right, run.to);
+        } else if there.is_none() || there == Some(lane) || !is_next {
+            let beside = free_beside(self.held.as_slice(), lane, run.from);
+            self.lay(run.edge, beside, run.right, run.to);
+        }
+    }
+}
+
 /// Sets the number at an index, where there is one.
 fn set_entry(entries: &mut [Option<usize>], index: usize, number: usize) {
     if index < entries.len() {
@@ -79,79 +152,6 @@ fn is_near(there: Option<usize>, lane: usize) -> bool {
     match there {
         Some(other) => other <= lane.saturating_add(1) && lane <= other.saturating_add(1),
         None => false,
-    }
-}
-
-impl Lanes {
-    /// No lane is given out yet. The error is want of memory.
-    pub(crate) fn new(alloc: Global, nodes: usize, edges: usize) -> Result<Lanes, AllocError> {
-        let many = nodes.saturating_add(edges).saturating_add(1);
-        Ok(Lanes {
-            held: vec![in alloc; None; many]?,
-            nodes: vec![in alloc; None; nodes]?,
-            edges: vec![in alloc; None; edges]?,
-        })
-    }
-
-    /// The lane of a node, which is given one from the middle on downward where it has none.
-    fn lane_of(&mut self, node: usize, level: usize) -> usize {
-        match entry_at(self.nodes.as_slice(), node) {
-            Some(lane) => lane,
-            None => {
-                let lane = free_from_middle(self.held.as_slice(), level);
-                set_entry(self.held.as_mut_slice(), lane, level);
-                set_entry(self.nodes.as_mut_slice(), node, lane);
-                lane
-            }
-        }
-    }
-
-    /// Lays an edge in a lane, from its left node to a level at which its right node lies.
-    fn lay(&mut self, edge: usize, lane: usize, right: usize, level: usize) {
-        set_entry(self.held.as_mut_slice(), lane, level);
-        set_entry(self.edges.as_mut_slice(), edge, lane);
-        if entry_at(self.nodes.as_slice(), right).is_none() {
-            set_entry(self.nodes.as_mut_slice(), right, lane);
-        }
-    }
-
-    /// Lays an edge from a node in a lane to the right: in that lane where it keeps to it, or else in the nearest free
-    /// lane. An edge between nodes at one level goes straight, and so does one that does not keep to the lane and leads
-    /// to a node that has another lane already, at the next level or in the lane beside it.
-    fn lay_from(&mut self, run: Run, lane: usize, keeps: bool) {
-        if run.to == run.from {
-            return;
-        }
-        let there = entry_at(self.nodes.as_slice(), run.right);
-        let is_next = run.to <= run.from.saturating_add(1) || is_near(there, lane);
-        if keeps {
-            self.lay(run.edge, lane, run.right, run.to);
-        } else if there.is_none() || there == Some(lane) || !is_next {
-            let beside = free_beside(self.held.as_slice(), lane, run.from);
-            self.lay(run.edge, beside, run.right, run.to);
-        }
-    }
-
-    /// Lays all edges that lead from a node to the right, first the one that goes straight on.
-    pub(crate) fn lay_all_from(
-        &mut self,
-        edges: &[Edge],
-        levels: &[usize],
-        node: usize,
-        level: usize,
-    ) {
-        let lane = self.lane_of(node, level);
-        let straight = straight_on(edges, levels, self.nodes.as_slice(), node, lane);
-        if let Some(run) = straight {
-            self.lay_from(run, lane, true);
-        }
-        for (index, edge) in edges.iter().enumerate() {
-            if let Some(run) = run_from(edge, index, levels, node) {
-                if !is_of_edge(straight, index) {
-                    self.lay_from(run, lane, false);
-                }
-            }
-        }
     }
 }
 

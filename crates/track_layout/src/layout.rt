@@ -35,6 +35,28 @@ pub struct Layout {
     pub edges: Vec<EdgePlace>,
 }
 
+/// Where the track of a station is drawn. The error is want of memory.
+pub fn layout_of(alloc: Global, station: &Station) -> Result<Layout, AllocError> {
+    let reached = reach_all(alloc, station)?;
+    let levels = levels_of(alloc, reached.as_slice())?;
+    let of_nodes = node_levels(alloc, reached.as_slice(), levels.as_slice())?;
+    let lanes = lanes_of(alloc, station, of_nodes.as_slice())?;
+    let used = lanes_used(alloc, &lanes)?;
+    let nodes = node_places(
+        alloc,
+        reached.as_slice(),
+        levels.as_slice(),
+        lanes.nodes.as_slice(),
+        used.as_slice(),
+    )?;
+    let edges = edge_places(alloc, lanes.edges.as_slice(), used.as_slice())?;
+    Ok(Layout {
+        levels,
+        nodes,
+        edges,
+    })
+}
+
 /// The level of each node.
 fn node_levels(
     alloc: Global,
@@ -137,26 +159,4 @@ fn edge_places(
         places.push(EdgePlace { row })?;
     }
     Ok(places)
-}
-
-/// Where the track of a station is drawn. The error is want of memory.
-pub fn layout_of(alloc: Global, station: &Station) -> Result<Layout, AllocError> {
-    let reached = reach_all(alloc, station)?;
-    let levels = levels_of(alloc, reached.as_slice())?;
-    let of_nodes = node_levels(alloc, reached.as_slice(), levels.as_slice())?;
-    let lanes = lanes_of(alloc, station, of_nodes.as_slice())?;
-    let used = lanes_used(alloc, &lanes)?;
-    let nodes = node_places(
-        alloc,
-        reached.as_slice(),
-        levels.as_slice(),
-        lanes.nodes.as_slice(),
-        used.as_slice(),
-    )?;
-    let edges = edge_places(alloc, lanes.edges.as_slice(), used.as_slice())?;
-    Ok(Layout {
-        levels,
-        nodes,
-        edges,
-    })
 }

@@ -16,6 +16,21 @@ pub struct Spread {
     pub most: u64,
 }
 
+/// Where each level is drawn, in px. The error is want of memory.
+pub fn drawn_levels(alloc: Global, levels: &[u64], how: Spread) -> Result<Vec<u64>, AllocError> {
+    let mut drawn = Vec::new(alloc);
+    let mut at_px = how.first;
+    let mut before = None;
+    for level in levels {
+        if let Some(before) = before {
+            at_px = at_px.saturating_add(gap(level.saturating_sub(before), how));
+        }
+        drawn.push(at_px)?;
+        before = Some(*level);
+    }
+    Ok(drawn)
+}
+
 /// The place of a node, in mm.
 pub(crate) fn place_in(reach: &Option<Reach>) -> u64 {
     match reach {
@@ -47,19 +62,4 @@ pub(crate) fn level_at(levels: &[u64], place: u64) -> usize {
 fn gap(length: u64, how: Spread) -> u64 {
     let more = length / how.mm_per_px.max(1);
     how.least.saturating_add(more.min(how.most))
-}
-
-/// Where each level is drawn, in px. The error is want of memory.
-pub fn drawn_levels(alloc: Global, levels: &[u64], how: Spread) -> Result<Vec<u64>, AllocError> {
-    let mut drawn = Vec::new(alloc);
-    let mut at_px = how.first;
-    let mut before = None;
-    for level in levels {
-        if let Some(before) = before {
-            at_px = at_px.saturating_add(gap(level.saturating_sub(before), how));
-        }
-        drawn.push(at_px)?;
-        before = Some(*level);
-    }
-    Ok(drawn)
 }

@@ -22,6 +22,19 @@ pub(crate) fn index_of(node: NodeNo) -> usize {
     (node.0 as usize).saturating_sub(1)
 }
 
+/// How each node is reached, in file order. The error is want of memory.
+pub(crate) fn reach_all(
+    alloc: Global,
+    station: &Station,
+) -> Result<Vec<Option<Reach>>, AllocError> {
+    let nodes = station.nodes.as_slice();
+    let edges = station.edges.as_slice();
+    let mut reached = vec![in alloc; None; nodes.len()]?;
+    begin_at_boundaries(nodes, edges, reached.as_mut_slice());
+    begin_at_nodes(nodes, edges, reached.as_mut_slice());
+    Ok(reached)
+}
+
 /// The other side.
 fn other_side(side: Side) -> Side {
     match side {
@@ -147,17 +160,4 @@ fn begin_at_nodes(nodes: &[Node], edges: &[Edge], reached: &mut [Option<Reach>])
     for index in 0..nodes.len() {
         begin(edges, reached, index);
     }
-}
-
-/// How each node is reached, in file order. The error is want of memory.
-pub(crate) fn reach_all(
-    alloc: Global,
-    station: &Station,
-) -> Result<Vec<Option<Reach>>, AllocError> {
-    let nodes = station.nodes.as_slice();
-    let edges = station.edges.as_slice();
-    let mut reached = vec![in alloc; None; nodes.len()]?;
-    begin_at_boundaries(nodes, edges, reached.as_mut_slice());
-    begin_at_nodes(nodes, edges, reached.as_mut_slice());
-    Ok(reached)
 }

@@ -6,7 +6,7 @@ pub mod Heading
 pub mod Turning
 pub mod Modelling
 pub mod Within
-pub mod Rounds
+pub mod Refining
 pub mod Each
 pub mod Refuting
 pub mod Answering

@@ -7,8 +7,8 @@ use Rattle.rail_base.specs.declared.plan.Plan.{Plan}
 use Rattle.rail_base.specs.declared.station.Station.{Station}
 use Rattle.rail_spec.specs.Requirements.{cost}
 use Rattle.rail_spec.specs.Track.{routes_of}
-use Rattle.run_log.specs.declared.text.Text.{Text}
-use Rattle.run_log.specs.Logs.{log_text}
+use Rattle.log_recorder.specs.declared.text.Text.{Text}
+use Rattle.log_recorder.specs.Logs.{log_text}
 use Rattle.verify_loop.specs.declared.outcome.Budgets.{Budgets}
 use Rattle.verify_loop.specs.Outcomes.{head, plans_of, IsLog, IsWithin, IsReached}
 use Rattle.verify_loop.specs.Searching.{IsSearch, IsAtPlan}

@@ -2,21 +2,21 @@
 use Rattle.std.specs.Prelude.{ℕ, ◌≡◌, ◌+◌, ◌<◌, Bool, List, [], ◌∷◌}
 use Rattle.plan_exclusion.specs.declared.exclusion.Exclusion.{Exclusion}
 use Rattle.plan_exclusion.specs.Exclusions.{IsExclusion}
-use Rattle.plan_exclusion.specs.Failures.{TellOf}
+use Rattle.plan_exclusion.specs.Failures.{AreValuesOfPlan}
 use Rattle.rail_base.specs.declared.plan.Command.{Command}
 use Rattle.rail_base.specs.declared.station.Station.{Station}
 use Rattle.rail_bound.specs.declared.Evidence.{Evidence}
-use Rattle.run_log.specs.Logs as logs
+use Rattle.log_recorder.specs.Logs as logs
 use Rattle.sat_clause.specs.declared.lit.Lit.{Lit}
 use Rattle.sat_clause.specs.Clauses.{opposite}
 use Rattle.sat_core.specs.Units.{HasUnit}
 use Rattle.verify_loop.specs.declared.outcome.Outcome.{Outcome}
-use Rattle.verify_loop.specs.declared.question.Question.{Question}
-use Rattle.verify_loop.specs.declared.question.Search.{Search}
+use Rattle.verify_loop.specs.declared.rounds.PlanSearch.{PlanSearch}
+use Rattle.verify_loop.specs.declared.rounds.SearchState.{SearchState}
 use Rattle.verify_loop.specs.Outcomes.{Says, IsFound, cost_of, vars}
 use Rattle.verify_loop.specs.Searching as searching
 
-module _ (q : Question) where
+module _ (q : PlanSearch) where
   -- the station
   abbrev pub station_of : Station
   station_of = q.interlocking.now.design.station
@@ -40,8 +40,8 @@ module _ (q : Question) where
   WasFound plan = (known : List Evidence) × IsFound q.method station_of most_steps known plan
 
   -- the values tell of the plan
-  abbrev pub Tells : List Bool → List (List Command) → Type 0
-  Tells = TellOf station_of most_steps
+  abbrev pub AreValuesFor : List Bool → List (List Command) → Type 0
+  AreValuesFor = AreValuesOfPlan station_of most_steps
 
   -- the line and the clause of a cone or a bound that shows that a plan fails
   abbrev pub Excludes : List (List Command) → Exclusion → Type 0
@@ -54,29 +54,29 @@ module _ (q : Question) where
   -- ---- the search
 
   -- the search goes on, and nothing is spent
-  abbrev pub IsSearch : Search → Type 0
+  abbrev pub IsSearch : SearchState → Type 0
   IsSearch s =
       searching.IsSearch q.method station_of most_steps q.budgets s.solver.recorder s.solver.vars s.solver.derives
       s.failed.items s.sum s.steps
 
   -- it came to this plan
-  abbrev pub IsAtPlan : Search → List (List Command) → Type 0
+  abbrev pub IsAtPlan : SearchState → List (List Command) → Type 0
   IsAtPlan s plan =
       searching.IsAtPlan q.method station_of most_steps q.budgets s.solver.recorder s.solver.vars s.solver.derives
       s.failed.items s.sum s.steps plan
 
   -- the last line of its log shows by this clause that there is no plan, or none of so many steps
-  abbrev pub IsDenied : Search → List Lit → Type 0
+  abbrev pub IsDenied : SearchState → List Lit → Type 0
   IsDenied s clause =
       searching.IsDenied q.method station_of most_steps q.budgets s.solver.recorder s.solver.vars s.solver.derives
       s.failed.items s.sum s.steps clause
 
   -- where it may look for longer plans, no clause says that there is none of so many steps
-  abbrev pub IsOpen : Search → Type 0
+  abbrev pub IsOpen : SearchState → Type 0
   IsOpen s = s.steps < most_steps → HasUnit s.solver.recorder.arena (opposite (given_by s.steps)) → ⊥
 
   -- it goes on from one to the other: more is spent, or longer plans are looked for
-  abbrev pub GoesOn : Search → Search → Type 0
+  abbrev pub GoesOn : SearchState → SearchState → Type 0
   GoesOn old new = IsSearch new × (old.sum + old.steps < new.sum + new.steps)
 
   -- what its end says

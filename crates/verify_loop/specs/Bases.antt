@@ -3,8 +3,8 @@ use Rattle.std.specs.Prelude.{ℕ, ◌≡◌, ◌++◌, List, Some}
 use Rattle.interlocking.specs.declared.railway.Interlocking.{Interlocking}
 use Rattle.plan_clauses.specs.Clauses.{base_clauses, past_limit}
 use Rattle.plan_encoding.specs.Bases.{IsBaseOf, Numbered}
-use Rattle.plan_encoding.specs.declared.draft.BaseFault.{BaseFault}
-use Rattle.plan_encoding.specs.declared.draft.BaseFault.TheVariants.{TooLarge, Memory}
+use Rattle.plan_encoding.specs.declared.sink.BaseFault.{BaseFault}
+use Rattle.plan_encoding.specs.declared.sink.BaseFault.TheVariants.{TooLarge, Memory}
 use Rattle.plan_encoding.specs.declared.sorted.SortedBase.{SortedBase}
 use Rattle.plan_exclusion.specs.declared.method.Method.{Method}
 use Rattle.proof_judge.specs.Judged.{all_live}

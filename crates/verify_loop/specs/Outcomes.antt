@@ -1,7 +1,7 @@
 -- What each end of a search says of a design, for plans of at most n steps.
 use Rattle.std.specs.Prelude.{ℕ, ◌≡◌, ◌+◌, ◌<◌, ◌≤◌, ◌⊎◌, true, List, [], ◌∷◌, ◌++◌, map, length, None, Some, sum_by}
 use Rattle.std.specs.List.{list_all}
-use Rattle.log_checker.specs.declared.shown.Shown.TheVariants.{Yes}
+use Rattle.log_checker.specs.declared.check_result.CheckResult.TheVariants.{Yes}
 use Rattle.plan_clauses.specs.Clauses.{past_limit}
 use Rattle.plan_clauses.specs.Models.{model_of}
 use Rattle.plan_clauses.specs.Variables.{variable_count}
@@ -22,7 +22,7 @@ use Rattle.rail_spec.specs.Feasible.{IsRunnable, IsFeasible, IsInfeasible}
 use Rattle.rail_spec.specs.Histories.{verdict_of}
 use Rattle.rail_spec.specs.Requirements.{cost}
 use Rattle.rail_spec.specs.Track.{routes_of}
-use Rattle.run_log.specs.Logs.{LogLine, Learnt, IsRunLog, IsEndedLog, MayComeNext, evidence_of, learnt_count, log_text}
+use Rattle.log_recorder.specs.Logs.{LogLine, Learnt, IsRunLog, IsEndedLog, MayComeNext, evidence_of, learnt_count, log_text}
 use Rattle.sat_clause.specs.Clauses.{Store, clause_holds}
 use Rattle.sat_core.specs.Lines.{Derived, text_of}
 use Rattle.sat_core.specs.Texts.{ended}

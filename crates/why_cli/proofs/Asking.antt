@@ -3,7 +3,7 @@ use Rattle.std.proofs.Common.{◌≡◌, [], Option, Some, None, Result, Ok, Err
 use Rattle.rail_cli.specs.declared.reply.Reply.{Reply}
 use Rattle.rail_cli.specs.declared.ending.Ending.{Ending}
 use Rattle.rail_cli.specs.declared.ending.Ending.TheVariants as ending
-use Rattle.rail_cli.specs.Answers.{Answer}
+use Rattle.rail_cli.specs.Answers.{ReplySeen}
 use Rattle.rail_cli.specs.Replies.{reply_seen, Replies}
 use Rattle.rail_outside.specs.Files.{Files}
 use Rattle.why_words.specs.Wanted.{Wanted}
@@ -12,7 +12,7 @@ use Rattle.why_cli.specs.Replies.{RepliesSome}
 
 module _ (r : Result Reply Ending) where
   -- memory was wanting
-  pub wanting : (a : Answer) → r ≡ Err ending.Memory → Replies r a
+  pub wanting : (a : ReplySeen) → r ≡ Err ending.Memory → Replies r a
   wanting a is = subst (λ (x : Result Reply Ending). Replies x a) (sym is) tt
 
   pub wanting_some : (wanted : Option Wanted) → r ≡ Err ending.Memory → RepliesSome r wanted

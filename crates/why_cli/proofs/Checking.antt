@@ -1,8 +1,8 @@
 -- Answers and those of a check of the same files.
 use Rattle.std.proofs.Common.{◌≡◌, ◌≢◌, ℕ, List, Some, None, Result, Ok, Err, refl, ap, sym, ◌∙◌}
 use Rattle.infra_reader.specs.Design.{design_of}
-use Rattle.log_checker.specs.declared.shown.Shown.{Shown}
-use Rattle.log_checker.specs.declared.shown.Shown.TheVariants.{Yes, No}
+use Rattle.log_checker.specs.declared.check_result.CheckResult.{CheckResult}
+use Rattle.log_checker.specs.declared.check_result.CheckResult.TheVariants.{Yes, No}
 use Rattle.plan_clauses.specs.Clauses.{base_clauses, past_limit}
 use Rattle.plan_exclusion.specs.declared.method.Method.TheVariants.{Cones}
 use Rattle.proof_judge.specs.Judged.{judged}
@@ -13,22 +13,22 @@ use Rattle.rail_spec.specs.Track.{routes_of}
 use Rattle.rail_cli.specs.declared.status.Status.TheVariants.{Done}
 use Rattle.rail_cli.specs.declared.input.InputFile.TheVariants as file
 use Rattle.rail_cli.specs.Statuses.{is_verdict}
-use Rattle.rail_cli.specs.Answers.{Answer, within_limit, with_routes, and_then, design_in, unless_refused, with_clauses, told, checked_against, with_proof, checked}
+use Rattle.rail_cli.specs.Answers.{ReplySeen, within_limit, with_routes, and_then, design_in, unless_refused, with_clauses, reply_for, checked_against, with_proof, check_reply}
 use Rattle.rail_cli.proofs.Deciding.{answered_next}
 use Rattle.rail_cli.proofs.Passing.{passed, long_refuses, design_refuses, clauses_refuse}
 use Rattle.rail_cli.proofs.Refusing.{file_is}
 use Rattle.rail_cli.proofs.Untold.{with_design}
-use Rattle.why_cli.specs.Answers.{usage, sentences_or_shown, explained_against, text_explained, steps_in, explained_where, proof_explained, proof_by_head, explained}
+use Rattle.why_cli.specs.Answers.{usage, sentences_or_shown, explained_against, text_explained, steps_in, explained_where, proof_explained, proof_by_head, explanation_reply}
 use Rattle.why_cli.specs.Laws.{RefusesAsCheck, TellsWhereYes, HeadsNameSteps, NoStepsIsUsage}
 
 -- ---- what a check does not answer with yes
 
 -- where both go on from the same reading, and one says what the other says unless that is yes, so it is of both
-goes_on : {X : Type 0} (r : Result X Answer) (f g : X → Answer) → ((x : X) → (g x).status ≢ Done → f x ≡ g x) → (unless_refused r g).status ≢ Done → unless_refused r f ≡ unless_refused r g
+goes_on : {X : Type 0} (r : Result X ReplySeen) (f g : X → ReplySeen) → ((x : X) → (g x).status ≢ Done → f x ≡ g x) → (unless_refused r g).status ≢ Done → unless_refused r f ≡ unless_refused r g
 goes_on (Ok x) f g h other = h x other
 goes_on (Err a) f g h other = refl
 
-shown_so : (lines : List (List ℕ)) (shown : Shown) → (told shown).status ≢ Done → sentences_or_shown (told_where_yes lines shown) ≡ told shown
+shown_so : (lines : List (List ℕ)) (shown : CheckResult) → (reply_for shown).status ≢ Done → sentences_or_shown (told_where_yes lines shown) ≡ reply_for shown
 shown_so lines (Yes k) other = absurd (other refl)
 shown_so lines (No line reason) other = refl
 
@@ -45,11 +45,11 @@ refuses_as_check n design_bytes proof_bytes other =
 -- ---- what it answers with yes
 
 -- the file shows k
-record Shows (v : Shown) : Type 0 where
+record Shows (v : CheckResult) : Type 0 where
   steps : ℕ
   is : v ≡ Yes steps
 
-shows : (v : Shown) → (told v).status ≡ Done → Shows v
+shows : (v : CheckResult) → (reply_for v).status ≡ Done → Shows v
 shows (Yes k) done = record { steps = k; is = refl }
 shows (No line reason) done = absurd (cc)
 
@@ -58,9 +58,9 @@ pub record Passes (n : ℕ) (design_bytes proof_bytes : List ℕ) : Type 0 where
   pub design : Station
   pub text : within_limit file.Design design_bytes ≡ Ok design_bytes
   pub reads : design_in design_bytes ≡ Ok design
-  pub answer : explained (Some n) design_bytes proof_bytes ≡ sentences_or_shown (Ok (file_told design proof_bytes))
+  pub answer : explanation_reply (Some n) design_bytes proof_bytes ≡ sentences_or_shown (Ok (file_told design proof_bytes))
 
-pub passes : (n : ℕ) (design_bytes proof_bytes : List ℕ) → (checked n design_bytes proof_bytes).status ≡ Done → Passes n design_bytes proof_bytes
+pub passes : (n : ℕ) (design_bytes proof_bytes : List ℕ) → (check_reply n design_bytes proof_bytes).status ≡ Done → Passes n design_bytes proof_bytes
 passes n design_bytes proof_bytes done =
     let one = passed (within_limit file.Design design_bytes) (λ text. unless_refused (design_in text) (λ e. with_proof n e proof_bytes)) (long_refuses file.Design design_bytes) (ap is_verdict done) in
     let two = passed (design_in one.read) (λ e. with_proof n e proof_bytes) (design_refuses (and_then (design_of one.read) with_routes)) one.verdict in
@@ -69,8 +69,8 @@ passes n design_bytes proof_bytes done =
     let four = passed (within_limit file.Proof proof_bytes) (checked_against d n) (long_refuses file.Proof proof_bytes) three.verdict in
     let text : design_bytes ≡ one.read = file_is file.Design design_bytes one.read one.is in
     let bytes : proof_bytes ≡ four.read = file_is file.Proof proof_bytes four.read four.is in
-    let all : checked n design_bytes proof_bytes ≡ checked_against d n four.read = one.comes ∙ (two.comes ∙ (three.comes ∙ four.comes)) in
-    let shown = shows (judged d n four.read) (ap (λ (a : Answer). a.status) (sym all) ∙ done) in
+    let all : check_reply n design_bytes proof_bytes ≡ checked_against d n four.read = one.comes ∙ (two.comes ∙ (three.comes ∙ four.comes)) in
+    let shown = shows (judged d n four.read) (ap (λ (a : ReplySeen). a.status) (sym all) ∙ done) in
     record {
       design = d;
       text = one.is ∙ ap (λ (t : List ℕ). Ok t) (sym text);
@@ -92,11 +92,11 @@ tells_where_yes n design_bytes proof_bytes d reads done =
 
 -- ---- the status
 
-same_status : {X : Type 0} (r : Result X Answer) (f g : X → Answer) → ((x : X) → (f x).status ≡ (g x).status) → (unless_refused r f).status ≡ (unless_refused r g).status
+same_status : {X : Type 0} (r : Result X ReplySeen) (f g : X → ReplySeen) → ((x : X) → (f x).status ≡ (g x).status) → (unless_refused r f).status ≡ (unless_refused r g).status
 same_status (Ok x) f g h = h x
 same_status (Err a) f g h = refl
 
-shown_status : (lines : List (List ℕ)) (shown : Shown) → (sentences_or_shown (told_where_yes lines shown)).status ≡ (told shown).status
+shown_status : (lines : List (List ℕ)) (shown : CheckResult) → (sentences_or_shown (told_where_yes lines shown)).status ≡ (reply_for shown).status
 shown_status lines (Yes k) = refl
 shown_status lines (No line reason) = refl
 
@@ -106,14 +106,14 @@ proof_status n d bytes =
     (λ same. same_status (within_limit file.Proof bytes) (explained_against d n) (checked_against d n) (λ text. shown_status (file_told d text) (judged d n text)))
 
 -- it is that of a check
-pub status_as_check : (n : ℕ) (design_bytes proof_bytes : List ℕ) → (explained (Some n) design_bytes proof_bytes).status ≡ (checked n design_bytes proof_bytes).status
+pub status_as_check : (n : ℕ) (design_bytes proof_bytes : List ℕ) → (explanation_reply (Some n) design_bytes proof_bytes).status ≡ (check_reply n design_bytes proof_bytes).status
 status_as_check n design_bytes proof_bytes =
     same_status (within_limit file.Design design_bytes) (λ text. unless_refused (design_in text) (λ d. proof_explained n d proof_bytes)) (λ text. unless_refused (design_in text) (λ d. with_proof n d proof_bytes))
     (λ text. same_status (design_in text) (λ d. proof_explained n d proof_bytes) (λ d. with_proof n d proof_bytes) (λ d. proof_status n d proof_bytes))
 
 -- ---- steps that the head names
 
-after_both : {X : Type 0} (r : Result X Answer) (f g : X → Answer) → ((x : X) → f x ≡ g x) → unless_refused r f ≡ unless_refused r g
+after_both : {X : Type 0} (r : Result X ReplySeen) (f g : X → ReplySeen) → ((x : X) → f x ≡ g x) → unless_refused r f ≡ unless_refused r g
 after_both (Ok x) f g h = h x
 after_both (Err a) f g h = refl
 

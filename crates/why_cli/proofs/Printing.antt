@@ -5,7 +5,7 @@ use Rattle.rail_cli.specs.declared.status.Status.TheVariants as statuses
 use Rattle.rail_cli.specs.declared.reply.Reply.{Reply}
 use Rattle.rail_cli.specs.declared.ending.Ending.{Ending}
 use Rattle.rail_cli.specs.declared.ending.Ending.TheVariants as ending
-use Rattle.rail_cli.specs.Answers.{Answer}
+use Rattle.rail_cli.specs.Answers.{ReplySeen}
 use Rattle.rail_cli.specs.Replies.{reply_seen, Replies}
 use Rattle.rail_cli.specs.Prints.{Prints}
 use Rattle.rail_cli.proofs.Deciding.{prints_answer}
@@ -16,7 +16,7 @@ use Rattle.why_cli.specs.Replies.{RepliesSome, PrintsSome}
 
 module _ (t : Status) (text new_text : Option (List ℕ)) (pieces new_pieces : Option (List (List ℕ))) (reply : Reply) (prints : Prints (reply_seen reply) t text new_text pieces new_pieces) where
   -- the answer was printed
-  pub prints_reply : (a : Answer) → Replies (Ok reply) a → Prints a t text new_text pieces new_pieces
+  pub prints_reply : (a : ReplySeen) → Replies (Ok reply) a → Prints a t text new_text pieces new_pieces
   prints_reply a h = prints_answer a reply t text new_text pieces new_pieces h prints
 
   pub prints_some : (wanted : Option Wanted) → RepliesSome (Ok reply) wanted → PrintsSome wanted t text new_text pieces new_pieces
@@ -27,10 +27,10 @@ module _ (t : Status) (text new_text : Option (List ℕ)) (pieces new_pieces : O
   }
 
 -- the reply of an ending
-pub told_so : (e : Ending) (reply : Reply) (a : Answer) → e ≡ ending.Told reply → Replies (Err e) a → Replies (Ok reply) a
+pub told_so : (e : Ending) (reply : Reply) (a : ReplySeen) → e ≡ ending.RefusedWith reply → Replies (Err e) a → Replies (Ok reply) a
 told_so e reply a is h = subst (λ (x : Ending). Replies (Err x) a) is h
 
-pub told_some : (e : Ending) (reply : Reply) (wanted : Option Wanted) → e ≡ ending.Told reply → RepliesSome (Err e) wanted → RepliesSome (Ok reply) wanted
+pub told_some : (e : Ending) (reply : Reply) (wanted : Option Wanted) → e ≡ ending.RefusedWith reply → RepliesSome (Err e) wanted → RepliesSome (Ok reply) wanted
 told_some e reply wanted is h = record {
   design_bytes = h.design_bytes;
   proof_bytes = h.proof_bytes;

@@ -8,18 +8,18 @@ use Rattle.rail_cli.specs.declared.input.InputFile.TheVariants as file
 use Rattle.rail_cli.specs.declared.reply.Reply.{Reply}
 use Rattle.rail_cli.specs.declared.ending.Ending.{Ending}
 use Rattle.rail_cli.specs.declared.ending.Ending.TheVariants as ending
-use Rattle.rail_cli.specs.Answers.{Answer, within_limit, design_in, unless_refused, with_clauses}
+use Rattle.rail_cli.specs.Answers.{ReplySeen, within_limit, design_in, unless_refused, with_clauses}
 use Rattle.rail_cli.specs.Replies.{reply_seen, Reads, Replies}
 use Rattle.rail_cli.proofs.Deciding.{answered_next}
 use Rattle.rail_cli.proofs.Untold.{ends_so, with_text, with_design}
 use Rattle.why_words.specs.Wanted.{Wanted}
-use Rattle.why_cli.specs.Answers.{sentences_or_shown, explained_against, text_explained, steps_in, explained_where, proof_explained, proof_by_head, proof_for, explained}
+use Rattle.why_cli.specs.Answers.{sentences_or_shown, explained_against, text_explained, steps_in, explained_where, proof_explained, proof_by_head, proof_for, explanation_reply}
 use Rattle.why_cli.specs.Replies.{RepliesSome}
 
 -- ---- the text of a proof
 
 -- what is said of it is the answer for as many steps
-pub said_so : (d : Station) (m n : ℕ) (text : List ℕ) (said : Explained) (a : Answer) → m ≡ n → sentences_or said ≡ explained_of d m text → a ≡ sentences_or_shown (sentences_or said) → a ≡ explained_against d n text
+pub said_so : (d : Station) (m n : ℕ) (text : List ℕ) (said : Explained) (a : ReplySeen) → m ≡ n → sentences_or said ≡ explained_of d m text → a ≡ sentences_or_shown (sentences_or said) → a ≡ explained_against d n text
 said_so d m n text said a same is seen = seen ∙ (ap sentences_or_shown is ∙ ap (λ (k : ℕ). explained_against d k text) same)
 
 -- the bytes of the proof are its text, and the clauses are few
@@ -38,7 +38,7 @@ module _ (r : Result Reply Ending) (n : ℕ) (d : Station) where
   ExplainedSo = (bytes : List ℕ) × Replies r (proof_explained n d bytes)
 
   -- what is left where the clauses are few
-  abbrev with_bytes : List ℕ → Answer
+  abbrev with_bytes : List ℕ → ReplySeen
   with_bytes bytes = unless_refused (within_limit file.Proof bytes) (explained_against d n)
 
   pub no_base : {X : Type 0} (view : X → Station) (e : Ending) → r ≡ Err e → Reads view (Err e) (with_clauses Cones n d) → ExplainedSo
@@ -55,7 +55,7 @@ module _ (r : Result Reply Ending) (d : Station) where
   ByHeadSo = (bytes : List ℕ) × Replies r (proof_by_head d bytes)
 
   -- what is left of a text
-  abbrev by_text : List ℕ → Answer
+  abbrev by_text : List ℕ → ReplySeen
   by_text text = explained_where (steps_in text) d text
 
   pub no_text : (e : Ending) → r ≡ Err e → (bytes : List ℕ) × Reads (λ (v : Vec ℕ Global). v.items) (Err e) (within_limit file.Proof bytes) → ByHeadSo
@@ -81,11 +81,11 @@ module _ (r : Result Reply Ending) (w : Wanted) where
   abbrev WantedSo : Type 0
   WantedSo = RepliesSome r (Some w)
 
-  wanted_so : (a b : List ℕ) → Replies r (explained w.steps a b) → WantedSo
+  wanted_so : (a b : List ℕ) → Replies r (explanation_reply w.steps a b) → WantedSo
   wanted_so a b h = record { design_bytes = a; proof_bytes = b; replies = h }
 
   -- what is left of the design's text, and then of the design
-  abbrev with_station : List ℕ → Station → Answer
+  abbrev with_station : List ℕ → Station → ReplySeen
   with_station bytes d = proof_for w.steps d bytes
 
   pub no_design : (e : Ending) → r ≡ Err e → (bytes : List ℕ) × Reads (λ (v : Vec ℕ Global). v.items) (Err e) (within_limit file.Design bytes) → WantedSo

@@ -13,7 +13,7 @@ use Rattle.rail_cli.specs.declared.status.Status.{Status}
 use Rattle.rail_cli.specs.declared.status.Status.TheVariants.{Done}
 use Rattle.rail_cli.specs.declared.input.InputFile.TheVariants as file
 use Rattle.rail_cli.specs.Statuses.{is_answered, is_verdict}
-use Rattle.rail_cli.specs.Answers.{Answer, within_limit, with_routes, and_then, design_in, unless_refused, told, checked}
+use Rattle.rail_cli.specs.Answers.{ReplySeen, within_limit, with_routes, and_then, design_in, unless_refused, reply_for, check_reply}
 use Rattle.rail_cli.specs.Prints.{Prints}
 use Rattle.rail_cli.specs.Verdicts.{IsVerdict}
 use Rattle.rail_cli.proofs.Judging.{checked_shows}
@@ -24,11 +24,11 @@ use Rattle.rail_outside.specs.Files.{Files}
 use Rattle.rail_outside.specs.Growth.{grown}
 use Rattle.rail_text.specs.Pieces.{pieces}
 use Rattle.rail_words.specs.Laws.{is_plain}
-use Rattle.rail_words.specs.Requests.{Asked, simulate, routes, verify, check, trial, request_of}
+use Rattle.rail_words.specs.Requests.{RequestSeen, simulate, routes, verify, check, trial, request_of}
 use Rattle.rail_words.specs.Requests as requests
 use Rattle.rail_words.proofs.Ranges.{requests_in_range}
 use Rattle.why_words.specs.Wanted.{Wanted, IsInRange, two_names, check_words, by_check, or_else, wanted_of}
-use Rattle.why_cli.specs.Answers.{if_in_range, steps_named, steps_in, steps_for, explained_where, proof_by_head, explained, answer_to, answer_of}
+use Rattle.why_cli.specs.Answers.{if_in_range, steps_named, steps_in, steps_for, explained_where, proof_by_head, explanation_reply, answer_to, answer_of}
 use Rattle.why_cli.specs.Shows.{Explains, TellsWhy, IsUnrefused}
 use Rattle.why_cli.proofs.Checking.{heads_name_steps, status_as_check, passes}
 
@@ -48,7 +48,7 @@ two_in_range (program ∷ design ∷ []) w e = absurd (cc)
 two_in_range (program ∷ design ∷ proof ∷ []) w e = by_names (is_plain design && is_plain proof) design proof w e
 two_in_range (program ∷ design ∷ proof ∷ word ∷ words) w e = absurd (cc)
 
-check_in_range : (asked : Option Asked) (w : Wanted) → ((a : Asked) → asked ≡ Some a → requests.IsInRange a) → by_check asked ≡ Some w → IsInRange w.steps
+check_in_range : (asked : Option RequestSeen) (w : Wanted) → ((a : RequestSeen) → asked ≡ Some a → requests.IsInRange a) → by_check asked ≡ Some w → IsInRange w.steps
 check_in_range None w range e = absurd (cc)
 check_in_range (Some (check n design proof)) w range e = let same : asking (Some n) design proof ≡ w = cc in subst (λ (x : Wanted). IsInRange x.steps) same (range (check n design proof) refl)
 check_in_range (Some (simulate design plan)) w range e = absurd (cc)
@@ -89,7 +89,7 @@ where_some : (s : Option ℕ) (d : Station) (text : List ℕ) → is_verdict (ex
 where_some None d text verdict = absurd (cc)
 where_some (Some n) d text verdict = (n, refl)
 
-names : (design_bytes proof_bytes : List ℕ) → (explained None design_bytes proof_bytes).status ≡ Done → Names proof_bytes
+names : (design_bytes proof_bytes : List ℕ) → (explanation_reply None design_bytes proof_bytes).status ≡ Done → Names proof_bytes
 names design_bytes proof_bytes done =
     let one = passed (within_limit file.Design design_bytes) (λ text. unless_refused (design_in text) (λ e. proof_by_head e proof_bytes)) (long_refuses file.Design design_bytes) (ap is_verdict done) in
     let two = passed (design_in one.read) (λ e. proof_by_head e proof_bytes) (design_refuses (and_then (design_of one.read) with_routes)) one.verdict in
@@ -105,17 +105,17 @@ record Gives (steps : Option ℕ) (design_bytes proof_bytes : List ℕ) : Type 0
   most : ℕ
   are_most : steps_for steps proof_bytes ≡ Some most
   some : 1 ≤ most
-  same : explained steps design_bytes proof_bytes ≡ explained (Some most) design_bytes proof_bytes
+  same : explanation_reply steps design_bytes proof_bytes ≡ explanation_reply (Some most) design_bytes proof_bytes
 
-gives : (steps : Option ℕ) (design_bytes proof_bytes : List ℕ) → IsInRange steps → (explained steps design_bytes proof_bytes).status ≡ Done → Gives steps design_bytes proof_bytes
+gives : (steps : Option ℕ) (design_bytes proof_bytes : List ℕ) → IsInRange steps → (explanation_reply steps design_bytes proof_bytes).status ≡ Done → Gives steps design_bytes proof_bytes
 gives (Some n) design_bytes proof_bytes range done = record { most = n; are_most = refl; some = range.0; same = refl }
 gives None design_bytes proof_bytes range done =
     let h = names design_bytes proof_bytes done in
     record { most = h.steps; are_most = h.named; some = some_named (head_in (pieces proof_bytes)) h.steps h.named; same = heads_name_steps h.steps design_bytes proof_bytes h.fits h.named }
 
 -- the answer is that for as many steps as are given or named
-as_many : (steps : Option ℕ) (n : ℕ) (design_bytes proof_bytes : List ℕ) → within_limit file.Proof proof_bytes ≡ Ok proof_bytes → steps_for steps proof_bytes ≡ Some n → explained steps design_bytes proof_bytes ≡ explained (Some n) design_bytes proof_bytes
-as_many (Some k) n design_bytes proof_bytes fits is = ap (λ (s : Option ℕ). explained s design_bytes proof_bytes) is
+as_many : (steps : Option ℕ) (n : ℕ) (design_bytes proof_bytes : List ℕ) → within_limit file.Proof proof_bytes ≡ Ok proof_bytes → steps_for steps proof_bytes ≡ Some n → explanation_reply steps design_bytes proof_bytes ≡ explanation_reply (Some n) design_bytes proof_bytes
+as_many (Some k) n design_bytes proof_bytes fits is = ap (λ (s : Option ℕ). explanation_reply s design_bytes proof_bytes) is
 as_many None n design_bytes proof_bytes fits is = heads_name_steps n design_bytes proof_bytes fits is
 
 module _ (files : Files) (words : List (List ℕ)) (t : Status) (text new_text : Option (List ℕ)) (pieces new_pieces : Option (List (List ℕ))) (prints : Prints (answer_of files words) t text new_text pieces new_pieces) where
@@ -126,10 +126,10 @@ module _ (files : Files) (words : List (List ℕ)) (t : Status) (text new_text :
       let design = files w.design in
       let proof = files w.proof in
       let answered : is_answered t ≡ true = rw done refl in
-      let so : answer_of files words ≡ explained w.steps design proof = ap (answer_to files) e.asked in
-      let yes : (explained w.steps design proof).status ≡ Done = ap (λ (a : Answer). a.status) (sym so) ∙ (sym (prints.status answered) ∙ done) in
+      let so : answer_of files words ≡ explanation_reply w.steps design proof = ap (answer_to files) e.asked in
+      let yes : (explanation_reply w.steps design proof).status ≡ Done = ap (λ (a : ReplySeen). a.status) (sym so) ∙ (sym (prints.status answered) ∙ done) in
       let g = gives w.steps design proof (wanted_in_range words w e.asked) yes in
-      let yes_to_check : (checked g.most design proof).status ≡ Done = sym (status_as_check g.most design proof) ∙ (ap (λ (a : Answer). a.status) (sym g.same) ∙ yes) in
+      let yes_to_check : (check_reply g.most design proof).status ≡ Done = sym (status_as_check g.most design proof) ∙ (ap (λ (a : ReplySeen). a.status) (sym g.same) ∙ yes) in
       let p = passes g.most design proof yes_to_check in
       let same : d ≡ p.design = read-same design d p.design e.spells_design p.reads in
       let s = checked_shows g.most design proof d g.some e.spells_design yes_to_check in
@@ -138,17 +138,17 @@ module _ (files : Files) (words : List (List ℕ)) (t : Status) (text new_text :
         are_most = g.are_most;
         steps = s.steps;
         within = s.within;
-        text = prints.written answered ∙ (ap (λ (a : Answer). grown text (concat a.lines)) (so ∙ (g.same ∙ p.answer)) ∙ ap (λ (x : Station). grown text (concat (file_told x proof))) (sym same));
+        text = prints.written answered ∙ (ap (λ (a : ReplySeen). grown text (concat a.lines)) (so ∙ (g.same ∙ p.answer)) ∙ ap (λ (x : Station). grown text (concat (file_told x proof))) (sym same));
         none = s.none;
       }
 
   -- a run of which nothing is refused
-  pub comes_to : IsUnrefused files words → is_answered t ≡ true → IsVerdict t
-  comes_to u answered =
+  pub has_verdict : IsUnrefused files words → is_answered t ≡ true → IsVerdict t
+  has_verdict u answered =
       let w = u.wanted in
       let design = files w.design in
       let proof = files w.proof in
-      let so : answer_of files words ≡ explained (Some u.steps) design proof = ap (answer_to files) u.asked ∙ as_many w.steps u.steps design proof (file_fits file.Proof proof u.short) u.are_steps in
-      let of_check : (checked u.steps design proof).status ≡ (told (judged u.design u.steps proof)).status = ap (λ (a : Answer). a.status) (checked_so design u.design u.spells_design u.steps proof u.few u.short) in
-      let status : t ≡ (told (judged u.design u.steps proof)).status = prints.status answered ∙ (ap (λ (a : Answer). a.status) so ∙ (status_as_check u.steps design proof ∙ of_check)) in
+      let so : answer_of files words ≡ explanation_reply (Some u.steps) design proof = ap (answer_to files) u.asked ∙ as_many w.steps u.steps design proof (file_fits file.Proof proof u.short) u.are_steps in
+      let of_check : (check_reply u.steps design proof).status ≡ (reply_for (judged u.design u.steps proof)).status = ap (λ (a : ReplySeen). a.status) (checked_so design u.design u.spells_design u.steps proof u.few u.short) in
+      let status : t ≡ (reply_for (judged u.design u.steps proof)).status = prints.status answered ∙ (ap (λ (a : ReplySeen). a.status) so ∙ (status_as_check u.steps design proof ∙ of_check)) in
       subst IsVerdict (sym status) (told_verdict (judged u.design u.steps proof))

@@ -2,7 +2,7 @@
 -- sentences about the proof's lines, and else what the check answers.
 use Rattle.std.specs.Prelude.{ℕ, ◌&&◌, nat_le, if◌then◌else◌, List, [], ◌∷◌, codes}
 use Rattle.std.specs.Prelude.{Option, Some, None, Result, Ok, Err}
-use Rattle.log_checker.specs.declared.shown.Shown.{Shown}
+use Rattle.log_checker.specs.declared.check_result.CheckResult.{CheckResult}
 use Rattle.log_checker.specs.Verdict.{head_in}
 use Rattle.plan_exclusion.specs.declared.method.Method.TheVariants.{Cones}
 use Rattle.proof_log.specs.declared.head.Head.{Head}
@@ -11,7 +11,7 @@ use Rattle.proof_words.specs.Explained.{explained_of}
 use Rattle.rail_base.specs.declared.station.Station.{Station}
 use Rattle.rail_cli.specs.declared.status.Status.TheVariants.{Done, Usage}
 use Rattle.rail_cli.specs.declared.input.InputFile.TheVariants as file
-use Rattle.rail_cli.specs.Answers.{Answer, one_line, within_limit, design_in, unless_refused, with_clauses, told}
+use Rattle.rail_cli.specs.Answers.{ReplySeen, one_line, within_limit, design_in, unless_refused, with_clauses, reply_for}
 use Rattle.rail_outside.specs.Files.{Files}
 use Rattle.rail_outside.specs.Asks.{Ask, fetched}
 use Rattle.rail_text.specs.Pieces.{pieces}
@@ -22,22 +22,22 @@ abbrev pub usage_line : List ℕ
 usage_line = codes "usage: rcv_why [--steps N] DESIGN PROOF\n"
 
 -- the answer to words that ask for nothing, or for no number of steps
-abbrev pub usage : Answer
+abbrev pub usage : ReplySeen
 usage = one_line Usage usage_line
 
 -- ---- what the text of a proof says of a design
 
 -- the sentences, or what is shown in their place
-abbrev pub sentences_or_shown : Result (List (List ℕ)) Shown → Answer
+abbrev pub sentences_or_shown : Result (List (List ℕ)) CheckResult → ReplySeen
 sentences_or_shown (Ok lines) = record { status = Done; lines = lines }
-sentences_or_shown (Err shown) = told shown
+sentences_or_shown (Err shown) = reply_for shown
 
 -- for plans of n steps
-abbrev pub explained_against : Station → ℕ → List ℕ → Answer
+abbrev pub explained_against : Station → ℕ → List ℕ → ReplySeen
 explained_against d n text = sentences_or_shown (explained_of d n text)
 
 -- the same, where the clauses of the design are few
-abbrev pub text_explained : ℕ → Station → List ℕ → Answer
+abbrev pub text_explained : ℕ → Station → List ℕ → ReplySeen
 text_explained n d text = unless_refused (with_clauses Cones n d) (λ same. explained_against d n text)
 
 -- ---- how many steps
@@ -65,45 +65,45 @@ steps_for None text = steps_in text
 -- ---- answers
 
 -- the answer for a design and n steps, for the bytes of the proof
-abbrev pub proof_explained : ℕ → Station → List ℕ → Answer
+abbrev pub proof_explained : ℕ → Station → List ℕ → ReplySeen
 proof_explained n d proof_bytes =
     unless_refused (with_clauses Cones n d) (λ same.
     unless_refused (within_limit file.Proof proof_bytes) (explained_against d n))
 
 -- the answer for the text of a proof and as many steps as are named, if any are
-abbrev pub explained_where : Option ℕ → Station → List ℕ → Answer
+abbrev pub explained_where : Option ℕ → Station → List ℕ → ReplySeen
 explained_where (Some n) d text = text_explained n d text
 explained_where None d text = usage
 
 -- the answer for a design and as many steps as the head of the proof names, for the bytes of the proof
-abbrev pub proof_by_head : Station → List ℕ → Answer
+abbrev pub proof_by_head : Station → List ℕ → ReplySeen
 proof_by_head d proof_bytes =
     unless_refused (within_limit file.Proof proof_bytes) (λ text. explained_where (steps_in text) d text)
 
 -- the answer for a design and the steps that are given, or else as many as the head of the proof names
-abbrev pub proof_for : Option ℕ → Station → List ℕ → Answer
+abbrev pub proof_for : Option ℕ → Station → List ℕ → ReplySeen
 proof_for (Some n) d proof_bytes = proof_explained n d proof_bytes
 proof_for None d proof_bytes = proof_by_head d proof_bytes
 
 -- the same, for the bytes of the design and of the proof
-abbrev pub explained : Option ℕ → List ℕ → List ℕ → Answer
-explained steps design_bytes proof_bytes =
+abbrev pub explanation_reply : Option ℕ → List ℕ → List ℕ → ReplySeen
+explanation_reply steps design_bytes proof_bytes =
     unless_refused (within_limit file.Design design_bytes) (λ design_text.
     unless_refused (design_in design_text) (λ d.
     proof_for steps d proof_bytes))
 
 -- the answer to what is wanted, which may be nothing, for the bytes of the design and of the proof
-abbrev pub answer_given : List ℕ → List ℕ → Option Wanted → Answer
+abbrev pub answer_given : List ℕ → List ℕ → Option Wanted → ReplySeen
 answer_given design_bytes proof_bytes None = usage
-answer_given design_bytes proof_bytes (Some w) = explained w.steps design_bytes proof_bytes
+answer_given design_bytes proof_bytes (Some w) = explanation_reply w.steps design_bytes proof_bytes
 
 -- the same, for the files that are held
-abbrev pub answer_to : Files → Option Wanted → Answer
+abbrev pub answer_to : Files → Option Wanted → ReplySeen
 answer_to files None = usage
-answer_to files (Some w) = explained w.steps (files w.design) (files w.proof)
+answer_to files (Some w) = explanation_reply w.steps (files w.design) (files w.proof)
 
 -- the answer to the words of a command line, the first of which is the program's name
-abbrev pub answer_of : Files → List (List ℕ) → Answer
+abbrev pub answer_of : Files → List (List ℕ) → ReplySeen
 answer_of files words = answer_to files (wanted_of words)
 
 -- ---- what is asked of the shelf

@@ -3,10 +3,10 @@
 ghost use Rattle.std.specs.Prelude.{◌≡◌, ◌≢◌, ◌≤◌, [], ◌∷◌, Some, Err, ℕ, List};
 ghost use Rattle.rail_outside.specs.Asks.{fetched};
 ghost use Rattle.rail_outside.specs.Files.{Files};
-ghost use Rattle.rail_outside.specs.Growth.{Rose, GrowsByFront};
+ghost use Rattle.rail_outside.specs.Growth.{Rose, GrowsByPrefix};
 ghost use Rattle.rail_spec.specs.Track.{routes_of};
 ghost use Rattle.plan_encoding.specs.Bases.{IsBaseOf};
-ghost use Rattle.rail_cli.specs.Replies.{Replies, Tells};
+ghost use Rattle.rail_cli.specs.Replies.{Replies, RepliesWith};
 ghost use Rattle.why_words.specs.Wanted.{IsInRange};
 ghost use Rattle.why_words.specs.Words.{wanted_by};
 ghost use Rattle.why_cli.specs.Answers.{answer_to, asks_to, explained_against, explained_where, if_in_range, steps_in};
@@ -20,28 +20,48 @@ use plan_encoding::Base;
 use proof_log::Head;
 use proof_words::{Explained, explain};
 use rail_base::design::Design;
-use rail_cli::{Ending, InputFile, Reply, Status, admit, encode, fetch, one_line, tell};
+use rail_cli::{Ending, InputFile, Reply, Status, admit, encode, fetch, make_reply, one_line};
 use rail_outside::Shelf;
 use std::alloc::{AllocError, Global};
 use why_words::Wanted;
 
 /// The words ask for nothing, or for no number of steps.
 pub(crate) fn usage(alloc: Global) -> Result<Reply, AllocError>
-    ensures { Tells result usage }
+    ensures { RepliesWith result usage }
 {
     let line = Vec::from_slice(alloc, b"usage: rcv_why [--steps N] DESIGN PROOF\n")?;
     one_line(alloc, Status::Usage, line)
 }
 
+/// The reply to what is wanted.
+pub(crate) fn explanation_reply<S: Shelf>(
+    alloc: Global,
+    shelf: &mut S,
+    wanted: Wanted<'_>,
+) -> Result<Reply, Ending>
+    requires { IsInRange wanted.steps }
+    ensures replies { (files : Files) → S.known_files shelf.old ≡ Some files
+        → Replies result (answer_to files (Some (wanted_by wanted.entry))) }
+    ensures for_some_files { RepliesSome result (Some (wanted_by wanted.entry)) }
+    ensures cause { result ≡ Err Ending.ShelfFault → Rose (S.fault_count shelf.old) (S.fault_count shelf.new) }
+    ensures never_falls { S.fault_count shelf.old ≤ S.fault_count shelf.new }
+    ensures files_stay { S.known_files shelf.new ≡ S.known_files shelf.old }
+    ensures asks { GrowsByPrefix (S.asked shelf.old) (S.asked shelf.new) (asks_to (Some (wanted_by wanted.entry))) }
+{
+    let design_bytes = fetch(alloc, shelf, InputFile::Design, wanted.design)?;
+    let interlocking = admit(alloc, design_bytes.as_slice())?;
+    for_proof(alloc, shelf, &interlocking, wanted.steps, wanted.proof)
+}
+
 /// What the text of a proof says of a design, in sentences where it shows that there is no plan.
-fn told(
+fn reply_for(
     alloc: Global,
     interlocking: &Interlocking,
     base: Base,
     text: &[u8],
 ) -> Result<Reply, AllocError>
     requires { let d = interlocking.now.design.station in IsBaseOf d (routes_of d) base.steps base }
-    ensures { Tells result (explained_against interlocking.now.design.station base.steps text.now) }
+    ensures { RepliesWith result (explained_against interlocking.now.design.station base.steps text.now) }
 {
     let said = explain(alloc, interlocking, base, text)?;
     match said {
@@ -49,7 +69,7 @@ fn told(
             status: Status::Done,
             lines,
         }),
-        Explained::Refused(shown) => tell(alloc, shown),
+        Explained::Refused(shown) => make_reply(alloc, shown),
     }
 }
 
@@ -61,18 +81,18 @@ fn proof_explained<S: Shelf>(
     steps: Steps,
     proof: &str,
 ) -> Result<Reply, Ending>
-    ensures replies { (files : Files) → S.held shelf.old ≡ Some files
+    ensures replies { (files : Files) → S.known_files shelf.old ≡ Some files
         → Replies result (proof_explained steps.count interlocking.now.design.station (files proof.now)) }
-    ensures some { (bytes : List ℕ)
+    ensures for_some_bytes { (bytes : List ℕ)
         × Replies result (proof_explained steps.count interlocking.now.design.station bytes) }
     ensures cause { result ≡ Err Ending.ShelfFault → Rose (S.fault_count shelf.old) (S.fault_count shelf.new) }
     ensures never_falls { S.fault_count shelf.old ≤ S.fault_count shelf.new }
-    ensures files_stay { S.held shelf.new ≡ S.held shelf.old }
-    ensures asks { GrowsByFront (S.asked shelf.old) (S.asked shelf.new) (fetched proof.now ∷ []) }
+    ensures files_stay { S.known_files shelf.new ≡ S.known_files shelf.old }
+    ensures asks { GrowsByPrefix (S.asked shelf.old) (S.asked shelf.new) (fetched proof.now ∷ []) }
 {
     let base = encode(alloc, interlocking, steps)?;
     let bytes = fetch(alloc, shelf, InputFile::Proof, proof)?;
-    let reply = told(alloc, interlocking, base, bytes.as_slice())?;
+    let reply = reply_for(alloc, interlocking, base, bytes.as_slice())?;
     Ok(reply)
 }
 
@@ -112,7 +132,7 @@ fn text_explained(
     ensures no_fault { result ≢ Err Ending.ShelfFault }
 {
     let base = encode(alloc, interlocking, steps)?;
-    let reply = told(alloc, interlocking, base, text)?;
+    let reply = reply_for(alloc, interlocking, base, text)?;
     Ok(reply)
 }
 
@@ -138,13 +158,13 @@ fn proof_by_head<S: Shelf>(
     interlocking: &Interlocking,
     proof: &str,
 ) -> Result<Reply, Ending>
-    ensures replies { (files : Files) → S.held shelf.old ≡ Some files
+    ensures replies { (files : Files) → S.known_files shelf.old ≡ Some files
         → Replies result (proof_by_head interlocking.now.design.station (files proof.now)) }
-    ensures some { (bytes : List ℕ) × Replies result (proof_by_head interlocking.now.design.station bytes) }
+    ensures for_some_bytes { (bytes : List ℕ) × Replies result (proof_by_head interlocking.now.design.station bytes) }
     ensures cause { result ≡ Err Ending.ShelfFault → Rose (S.fault_count shelf.old) (S.fault_count shelf.new) }
     ensures never_falls { S.fault_count shelf.old ≤ S.fault_count shelf.new }
-    ensures files_stay { S.held shelf.new ≡ S.held shelf.old }
-    ensures asks { GrowsByFront (S.asked shelf.old) (S.asked shelf.new) (fetched proof.now ∷ []) }
+    ensures files_stay { S.known_files shelf.new ≡ S.known_files shelf.old }
+    ensures asks { GrowsByPrefix (S.asked shelf.old) (S.asked shelf.new) (fetched proof.now ∷ []) }
 {
     let bytes = fetch(alloc, shelf, InputFile::Proof, proof)?;
     text_by_head(alloc, interlocking, bytes.as_slice())
@@ -159,36 +179,16 @@ fn for_proof<S: Shelf>(
     proof: &str,
 ) -> Result<Reply, Ending>
     requires { IsInRange steps }
-    ensures replies { (files : Files) → S.held shelf.old ≡ Some files
+    ensures replies { (files : Files) → S.known_files shelf.old ≡ Some files
         → Replies result (proof_for steps interlocking.now.design.station (files proof.now)) }
-    ensures some { (bytes : List ℕ) × Replies result (proof_for steps interlocking.now.design.station bytes) }
+    ensures for_some_bytes { (bytes : List ℕ) × Replies result (proof_for steps interlocking.now.design.station bytes) }
     ensures cause { result ≡ Err Ending.ShelfFault → Rose (S.fault_count shelf.old) (S.fault_count shelf.new) }
     ensures never_falls { S.fault_count shelf.old ≤ S.fault_count shelf.new }
-    ensures files_stay { S.held shelf.new ≡ S.held shelf.old }
-    ensures asks { GrowsByFront (S.asked shelf.old) (S.asked shelf.new) (fetched proof.now ∷ []) }
+    ensures files_stay { S.known_files shelf.new ≡ S.known_files shelf.old }
+    ensures asks { GrowsByPrefix (S.asked shelf.old) (S.asked shelf.new) (fetched proof.now ∷ []) }
 {
     match steps {
         Some(count) => proof_explained(alloc, shelf, interlocking, Steps { count }, proof),
         None => proof_by_head(alloc, shelf, interlocking, proof),
     }
-}
-
-/// The reply to what is wanted.
-pub(crate) fn explained<S: Shelf>(
-    alloc: Global,
-    shelf: &mut S,
-    wanted: Wanted<'_>,
-) -> Result<Reply, Ending>
-    requires { IsInRange wanted.steps }
-    ensures replies { (files : Files) → S.held shelf.old ≡ Some files
-        → Replies result (answer_to files (Some (wanted_by wanted.entry))) }
-    ensures some { RepliesSome result (Some (wanted_by wanted.entry)) }
-    ensures cause { result ≡ Err Ending.ShelfFault → Rose (S.fault_count shelf.old) (S.fault_count shelf.new) }
-    ensures never_falls { S.fault_count shelf.old ≤ S.fault_count shelf.new }
-    ensures files_stay { S.held shelf.new ≡ S.held shelf.old }
-    ensures asks { GrowsByFront (S.asked shelf.old) (S.asked shelf.new) (asks_to (Some (wanted_by wanted.entry))) }
-{
-    let design_bytes = fetch(alloc, shelf, InputFile::Design, wanted.design)?;
-    let interlocking = admit(alloc, design_bytes.as_slice())?;
-    for_proof(alloc, shelf, &interlocking, wanted.steps, wanted.proof)
 }

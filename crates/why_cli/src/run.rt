@@ -3,7 +3,7 @@
 ghost use Rattle.std.specs.Prelude.{◌≡◌, ◌≤◌, true, Some};
 ghost use Rattle.rail_base.specs.declared.station.Station.{Station};
 ghost use Rattle.rail_outside.specs.Files.{Files};
-ghost use Rattle.rail_outside.specs.Growth.{Rose, GrowsByFront};
+ghost use Rattle.rail_outside.specs.Growth.{Rose, GrowsByPrefix};
 ghost use Rattle.rail_words.specs.Words.{texts_of};
 ghost use Rattle.rail_cli.specs.Prints.{Prints};
 ghost use Rattle.rail_cli.specs.Replies.{Replies};
@@ -14,33 +14,12 @@ ghost use Rattle.why_cli.specs.Answers.{answer_of, asks_of};
 ghost use Rattle.why_cli.specs.Replies.{PrintsSome, RepliesSome};
 ghost use Rattle.why_cli.specs.Shows.{Explains, IsUnrefused, TellsWhy};
 
-use crate::explaining::{explained, usage};
+use crate::explaining::{explanation_reply, usage};
 use rail_cli::{Ending, Reply, Status, print};
 use rail_outside::{Shelf, Sink};
 use rail_words::WordsFault;
 use std::alloc::Global;
 use why_words::{check_words, read_wanted};
-
-/// The reply to the words of a command line.
-fn reply<S: Shelf>(alloc: Global, words: &[String], shelf: &mut S) -> Result<Reply, Ending>
-    ensures replies { (files : Files) → S.held shelf.old ≡ Some files
-        → Replies result (answer_of files (texts_of words.now)) }
-    ensures some { RepliesSome result (wanted_of (texts_of words.now)) }
-    ensures cause { result ≡ Err Ending.ShelfFault → Rose (S.fault_count shelf.old) (S.fault_count shelf.new) }
-    ensures never_falls { S.fault_count shelf.old ≤ S.fault_count shelf.new }
-    ensures files_stay { S.held shelf.new ≡ S.held shelf.old }
-    ensures asks { GrowsByFront (S.asked shelf.old) (S.asked shelf.new) (asks_of (texts_of words.now)) }
-{
-    let check = check_words(alloc, words)?;
-    match read_wanted(alloc, words, &check) {
-        Ok(wanted) => explained(alloc, shelf, wanted),
-        Err(WordsFault::Usage) => {
-            let reply = usage(alloc)?;
-            Ok(reply)
-        }
-        Err(WordsFault::Memory) => Err(Ending::Memory),
-    }
-}
 
 /// Does what the words of a command line ask for, the first of which is the program's name: reads the design and the proof
 /// that they name from the shelf, checks the proof, and prints the sentences about its cones and bounds, or what the check
@@ -54,7 +33,7 @@ pub fn run_why<S: Shelf, O: Sink>(
     shelf: &mut S,
     out: &mut O,
 ) -> Status
-    ensures answer { (files : Files) → S.held shelf.old ≡ Some files
+    ensures answer { (files : Files) → S.known_files shelf.old ≡ Some files
         → Prints (answer_of files (texts_of words.now)) result
         (O.written out.old) (O.written out.new) (O.puts out.old) (O.puts out.new) }
 
@@ -63,12 +42,12 @@ pub fn run_why<S: Shelf, O: Sink>(
         (O.written out.old) (O.written out.new) (O.puts out.old) (O.puts out.new) }
 
     // Sentences are told only where the design has no plan, and they are those about the lines of the proof.
-    ensures infeasible { (files : Files) → S.held shelf.old ≡ Some files → (d : Station)
+    ensures infeasible { (files : Files) → S.known_files shelf.old ≡ Some files → (d : Station)
         → (e : Explains files (texts_of words.now) d) → result ≡ Status.Done
         → TellsWhy files e.wanted d (O.written out.old) (O.written out.new) }
 
     // Where nothing is refused, a run comes to a verdict: the sentences, or the first bad line.
-    ensures comes_to { (files : Files) → S.held shelf.old ≡ Some files
+    ensures has_verdict { (files : Files) → S.known_files shelf.old ≡ Some files
         → IsUnrefused files (texts_of words.now) → is_answered result ≡ true → IsVerdict result }
 
     // A fault comes only where its side has counted one.
@@ -78,13 +57,34 @@ pub fn run_why<S: Shelf, O: Sink>(
     ensures sink_count { O.fault_count out.old ≤ O.fault_count out.new }
 
     // Nothing is stored, and nothing is asked for but the named files, in their order.
-    ensures held { S.held shelf.new ≡ S.held shelf.old }
-    ensures asked { GrowsByFront (S.asked shelf.old) (S.asked shelf.new) (asks_of (texts_of words.now)) }
+    ensures stored { S.known_files shelf.new ≡ S.known_files shelf.old }
+    ensures asked { GrowsByPrefix (S.asked shelf.old) (S.asked shelf.new) (asks_of (texts_of words.now)) }
 {
     match reply(alloc, words, shelf) {
         Ok(reply) => print(&reply, out),
-        Err(Ending::Told(reply)) => print(&reply, out),
+        Err(Ending::RefusedWith(reply)) => print(&reply, out),
         Err(Ending::Memory) => Status::Memory,
         Err(Ending::ShelfFault) => Status::ShelfFault,
+    }
+}
+
+/// The reply to the words of a command line.
+fn reply<S: Shelf>(alloc: Global, words: &[String], shelf: &mut S) -> Result<Reply, Ending>
+    ensures replies { (files : Files) → S.known_files shelf.old ≡ Some files
+        → Replies result (answer_of files (texts_of words.now)) }
+    ensures for_some_files { RepliesSome result (wanted_of (texts_of words.now)) }
+    ensures cause { result ≡ Err Ending.ShelfFault → Rose (S.fault_count shelf.old) (S.fault_count shelf.new) }
+    ensures never_falls { S.fault_count shelf.old ≤ S.fault_count shelf.new }
+    ensures files_stay { S.known_files shelf.new ≡ S.known_files shelf.old }
+    ensures asks { GrowsByPrefix (S.asked shelf.old) (S.asked shelf.new) (asks_of (texts_of words.now)) }
+{
+    let check = check_words(alloc, words)?;
+    match read_wanted(alloc, words, &check) {
+        Ok(wanted) => explanation_reply(alloc, shelf, wanted),
+        Err(WordsFault::Usage) => {
+            let reply = usage(alloc)?;
+            Ok(reply)
+        }
+        Err(WordsFault::Memory) => Err(Ending::Memory),
     }
 }

@@ -2,7 +2,7 @@
 use Rattle.std.specs.Prelude.{ℕ, ◌≤◌, ◌&&◌, List, [], ◌∷◌, Option, Some, None, codes, if◌then◌else◌}
 use Rattle.clap.specs.Words.{Text}
 use Rattle.rail_words.specs.Laws.{is_plain}
-use Rattle.rail_words.specs.Requests.{Asked, simulate, routes, verify, check, trial, request_of}
+use Rattle.rail_words.specs.Requests.{RequestSeen, simulate, routes, verify, check, trial, request_of}
 
 -- the sentences about a proof of a design, each by its file's name, for plans of so many steps, or of as many as the proof's head names
 pub record Wanted : Type 0 where
@@ -29,7 +29,7 @@ check_words [] = []
 check_words (program ∷ words) = program ∷ codes "check" ∷ words
 
 -- what a check asks for
-abbrev pub by_check : Option Asked → Option Wanted
+abbrev pub by_check : Option RequestSeen → Option Wanted
 by_check (Some (check n design proof)) = Some (record { steps = Some n; design = design; proof = proof })
 by_check (Some (simulate design plan)) = None
 by_check (Some (routes design)) = None

@@ -11,4 +11,4 @@ is_told c text = nat_eq (vec_len c.prints) 0 || list_any (λ wanted. bytes_eq wa
 
 -- a text that begins as it has to
 abbrev pub begins_so : Command → List ℕ → Bool
-begins_so c text = option_map_or (λ front. starts_with nat_eq text front.now) c.begins true
+begins_so c text = option_map_or (λ prefix. starts_with nat_eq text prefix.now) c.begins true

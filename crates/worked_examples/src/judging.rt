@@ -6,6 +6,28 @@ ghost use Rattle.worked_examples.specs.Answers.{is_told, begins_so};
 
 use crate::row::command::{Command, Leaves};
 
+/// Whether a command may end with a status and print a text.
+pub fn may_answer(command: &Command, status: u8, text: &[u8]) -> bool
+    ensures { result ≡ (nat_eq command.now.status status
+        && (is_told command.now text.now && begins_so command.now text.now)) }
+{
+    command.status == status && (is_told(command, text) && begins_so(command, text))
+}
+
+/// Whether a command may leave a proof file, or none, and so many calls of the shelf.
+pub fn may_leave(leaves: &Leaves<'_>, proof: Option<&str>, calls: u64) -> bool {
+    let text = proof.unwrap_or("");
+    let is_there = leaves
+        .has_proof
+        .is_none_or(|wanted| wanted == proof.is_some());
+    let has_count = leaves
+        .cone_count
+        .is_none_or(|wanted| wanted == cone_count(text));
+    let has_cones = leaves.cones.iter().all(|cone| has_line(text, cone));
+    let has_calls = leaves.calls.is_none_or(|wanted| wanted == calls);
+    is_there && has_text(leaves, text) && has_count && has_cones && has_calls
+}
+
 /// Whether a text is one of some.
 fn is_one_of(texts: &[&str], text: &[u8]) -> bool
     ensures { result ≡ list_any (λ wanted. bytes_eq wanted.now text.now) texts.now }
@@ -27,17 +49,9 @@ fn begins_so(command: &Command, text: &[u8]) -> bool
     ensures { result ≡ begins_so command.now text.now }
 {
     match command.begins {
-        Some(front) => text.starts_with(front.as_bytes()),
+        Some(prefix) => text.starts_with(prefix.as_bytes()),
         None => true,
     }
-}
-
-/// Whether a command may end with a status and print a text.
-pub fn may_answer(command: &Command, status: u8, text: &[u8]) -> bool
-    ensures { result ≡ (nat_eq command.now.status status
-        && (is_told command.now text.now && begins_so command.now text.now)) }
-{
-    command.status == status && (is_told(command, text) && begins_so(command, text))
 }
 
 /// How many lines of a proof file are those of cones.
@@ -56,18 +70,4 @@ fn has_text(leaves: &Leaves<'_>, proof: &str) -> bool {
         Some(wanted) => wanted == proof,
         None => true,
     }
-}
-
-/// Whether a command may leave a proof file, or none, and so many calls of the shelf.
-pub fn may_leave(leaves: &Leaves<'_>, proof: Option<&str>, calls: u64) -> bool {
-    let text = proof.unwrap_or("");
-    let is_there = leaves
-        .has_proof
-        .is_none_or(|wanted| wanted == proof.is_some());
-    let has_count = leaves
-        .cone_count
-        .is_none_or(|wanted| wanted == cone_count(text));
-    let has_cones = leaves.cones.iter().all(|cone| has_line(text, cone));
-    let has_calls = leaves.calls.is_none_or(|wanted| wanted == calls);
-    is_there && has_text(leaves, text) && has_count && has_cones && has_calls
 }

@@ -87,6 +87,20 @@ const KEYS: [&str; 16] = [
     "turns",
 ];
 
+/// The worked examples of a file.
+///
+/// Refused are a key that no worked example has, a value that is not of its key's form, and a key that is missing and
+/// has to be there.
+pub fn rows_of<'a>(alloc: Global, book: &'a Table) -> Result<Vec<Row<'a>>> {
+    let fields = Fields::of_table(book, &["row"])?;
+    ensure!(book.contains_key("row"), "no worked examples");
+    let mut rows = Vec::new(alloc);
+    for value in fields.entries("row")? {
+        rows.push(row_of(alloc, value)?)?;
+    }
+    Ok(rows)
+}
+
 /// What `design.toml` holds in a worked example.
 fn design_of<'a>(fields: Fields<'a>) -> Result<DesignText<'a>> {
     Ok(DesignText {
@@ -136,18 +150,4 @@ fn row_of<'a>(alloc: Global, value: &'a Value) -> Result<Row<'a>> {
         turns: all_turns_of(alloc, fields)?,
         commands: commands_of(alloc, fields)?,
     })
-}
-
-/// The worked examples of a file.
-///
-/// Refused are a key that no worked example has, a value that is not of its key's form, and a key that is missing and
-/// has to be there.
-pub fn rows_of<'a>(alloc: Global, book: &'a Table) -> Result<Vec<Row<'a>>> {
-    let fields = Fields::of_table(book, &["row"])?;
-    ensure!(book.contains_key("row"), "no worked examples");
-    let mut rows = Vec::new(alloc);
-    for value in fields.entries("row")? {
-        rows.push(row_of(alloc, value)?)?;
-    }
-    Ok(rows)
 }

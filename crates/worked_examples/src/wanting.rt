@@ -35,7 +35,7 @@ impl WantingShelf {
 }
 
 impl Shelf for WantingShelf {
-    ghost held = { λ _. None };
+    ghost known_files = { λ _. None };
 
     ghost asked = { λ _. None };
 

@@ -14,6 +14,20 @@ use std::alloc::Global;
 use verify_loop::{Budgets, Outcome, verify};
 use worked_examples::{Row, Run, Search, Text, Turns};
 
+/// How many runs, searches and lists of clauses of a worked example are not what they have to be; each is named.
+pub fn wrong_layers(rt: &impl Print, alloc: Global, row: &Row<'_>, texts: &[Text]) -> Result<u64> {
+    if row.runs.is_empty() && row.searches.is_empty() && row.turns.is_empty() {
+        return Ok(0);
+    }
+    let design = read_design(alloc, bytes_of(texts, "design.toml"))?;
+    let interlocking = interlocking(alloc, design)?;
+    let plan = bytes_of(texts, "plan.json");
+    let runs = wrong_runs(rt, alloc, &interlocking, row, plan)?;
+    let searches = wrong_searches(rt, alloc, &interlocking, row)?;
+    let turns = wrong_turns(rt, alloc, &interlocking, row)?;
+    Ok(runs.saturating_add(searches).saturating_add(turns))
+}
+
 /// The bytes of a file of a worked example; none where it has no such file.
 fn bytes_of<'a>(texts: &'a [Text], name: &str) -> &'a [u8] {
     match texts.iter().find(|file| file.name == name) {
@@ -22,7 +36,7 @@ fn bytes_of<'a>(texts: &'a [Text], name: &str) -> &'a [u8] {
     }
 }
 
-/// Whether a plan is met at the tick that is told, or where none is told nothing is decided.
+/// Whether a plan is met at the tick that is named, or where none is named nothing is decided.
 fn ends(verdict: &Verdict, met: Option<u64>) -> bool {
     match verdict {
         Verdict::Met { tick, .. } => met == Some(*tick),
@@ -62,7 +76,7 @@ fn lacks_room(alloc: Global, interlocking: &Interlocking, search: &Search) -> Re
 }
 
 /// The literals of a clause, with a space between each and the next.
-fn spelled(alloc: Global, clause: &[Lit]) -> Result<String> {
+fn clause_text(alloc: Global, clause: &[Lit]) -> Result<String> {
     let mut text = String::new(alloc);
     for lit in clause {
         let gap = if text.is_empty() { "" } else { " " };
@@ -73,7 +87,7 @@ fn spelled(alloc: Global, clause: &[Lit]) -> Result<String> {
     Ok(text)
 }
 
-/// Whether trains that are alike come in turn by just the clauses that are told.
+/// Whether trains that are alike come in turn by just the clauses that are named.
 fn come_in_turn(alloc: Global, interlocking: &Interlocking, turns: &Turns<'_>) -> Result<bool> {
     ensure!(1 <= turns.steps && turns.steps <= 256, "steps out of range");
     let steps = Steps { count: turns.steps };
@@ -83,7 +97,7 @@ fn come_in_turn(alloc: Global, interlocking: &Interlocking, turns: &Turns<'_>) -
     }
     for (place, wanted) in turns.clauses.iter().enumerate() {
         let id = place as u64 + 1;
-        if !listed.live(id) || spelled(alloc, listed.clause(id))?.as_str() != *wanted {
+        if !listed.live(id) || clause_text(alloc, listed.clause(id))?.as_str() != *wanted {
             return Ok(false);
         }
     }
@@ -143,18 +157,4 @@ fn wrong_turns(
         }
     }
     Ok(wrong)
-}
-
-/// How many runs, searches and lists of clauses of a worked example are not what they have to be; each is named.
-pub fn wrong_layers(rt: &impl Print, alloc: Global, row: &Row<'_>, texts: &[Text]) -> Result<u64> {
-    if row.runs.is_empty() && row.searches.is_empty() && row.turns.is_empty() {
-        return Ok(0);
-    }
-    let design = read_design(alloc, bytes_of(texts, "design.toml"))?;
-    let interlocking = interlocking(alloc, design)?;
-    let plan = bytes_of(texts, "plan.json");
-    let runs = wrong_runs(rt, alloc, &interlocking, row, plan)?;
-    let searches = wrong_searches(rt, alloc, &interlocking, row)?;
-    let turns = wrong_turns(rt, alloc, &interlocking, row)?;
-    Ok(runs.saturating_add(searches).saturating_add(turns))
 }

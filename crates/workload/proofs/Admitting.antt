@@ -14,14 +14,14 @@ use Rattle.workload.specs.Traffic.{train}
 
 -- what holds of each size from 1 to 6
 by_size : (P : ℕ → Type 0) → P 1 → P 2 → P 3 → P 4 → P 5 → P 6 → (size : ℕ) → 1 ≤ size → size ≤ 6 → P size
-by_size P a b c d e f zero low high = absurd (omega arith)
-by_size P a b c d e f (suc zero) low high = a
-by_size P a b c d e f (suc (suc zero)) low high = b
-by_size P a b c d e f (suc (suc (suc zero))) low high = c
-by_size P a b c d e f (suc (suc (suc (suc zero)))) low high = d
-by_size P a b c d e f (suc (suc (suc (suc (suc zero))))) low high = e
-by_size P a b c d e f (suc (suc (suc (suc (suc (suc zero)))))) low high = f
-by_size P a b c d e f (suc (suc (suc (suc (suc (suc (suc n))))))) low high = absurd (omega arith)
+by_size P a b c d e f zero at_least_one at_most_six = absurd (omega arith)
+by_size P a b c d e f (suc zero) at_least_one at_most_six = a
+by_size P a b c d e f (suc (suc zero)) at_least_one at_most_six = b
+by_size P a b c d e f (suc (suc (suc zero))) at_least_one at_most_six = c
+by_size P a b c d e f (suc (suc (suc (suc zero)))) at_least_one at_most_six = d
+by_size P a b c d e f (suc (suc (suc (suc (suc zero))))) at_least_one at_most_six = e
+by_size P a b c d e f (suc (suc (suc (suc (suc (suc zero)))))) at_least_one at_most_six = f
+by_size P a b c d e f (suc (suc (suc (suc (suc (suc (suc n))))))) at_least_one at_most_six = absurd (omega arith)
 
 -- what holds of both truth values
 by_truth : (P : Bool → Type 0) → P true → P false → (b : Bool) → P b
@@ -76,7 +76,7 @@ module _ (long : ℕ → ℕ) (runs_east : ℕ → Bool) (time : ℕ → ℕ) wh
         (rw (at_least 1, at_most 1, at_least 2, at_most 2, at_least 3, at_most 3, at_least 4, at_most 4, at_least 5, at_most 5, at_least 6, at_most 6) refl)
 
     sound_track : (size : ℕ) → 1 ≤ size → size ≤ 6 → is_sound_track (made_of size) ≡ true
-    sound_track size low high = five _ _ _ _ _ (good_nodes size low high) (good_edges size low high) (sections_numbered size low high) (good_signals size low high) (signals_apart size low high)
+    sound_track size at_least_one at_most_six = five _ _ _ _ _ (good_nodes size at_least_one at_most_six) (good_edges size at_least_one at_most_six) (sections_numbered size at_least_one at_most_six) (good_signals size at_least_one at_most_six) (signals_apart size at_least_one at_most_six)
 
   -- ---- trains, whichever way they run
 
@@ -90,7 +90,7 @@ module _ (long : ℕ → ℕ) (runs_east : ℕ → Bool) (time : ℕ → ℕ) wh
       (λ j. by_truth (λ east. is_good_train (made_of 6) (train j east) ≡ true) refl refl)
 
   good_trains : (size : ℕ) → 1 ≤ size → size ≤ 6 → list_all (is_good_train (made_of size)) (made_of size).trains ≡ true
-  good_trains size low high = all_map (is_good_train (made_of size)) (λ j. train j (runs_east j)) (one_to size) (λ j. good_train size low high j (runs_east j))
+  good_trains size at_least_one at_most_six = all_map (is_good_train (made_of size)) (λ j. train j (runs_east j)) (one_to size) (λ j. good_train size at_least_one at_most_six j (runs_east j))
 
   -- ---- the times of trains
 
@@ -105,16 +105,16 @@ module _ (long : ℕ → ℕ) (runs_east : ℕ → Bool) (time : ℕ → ℕ) wh
         (rw (in_time 1, in_time 2, in_time 3, in_time 4, in_time 5, in_time 6) refl)
 
     sound_traffic : (size : ℕ) → 1 ≤ size → size ≤ 6 → is_sound_traffic (made_of size) ≡ true
-    sound_traffic size low high = four (list_all (is_good_vehicle (made_of size)) (made_of size).vehicles) (list_all (is_good_train (made_of size)) (made_of size).trains) (list_all (is_good_order (made_of size)) (made_of size).orders) (list_all (is_good_within (made_of size)) (made_of size).withins) refl (good_trains size low high) refl (good_withins size low high)
+    sound_traffic size at_least_one at_most_six = four (list_all (is_good_vehicle (made_of size)) (made_of size).vehicles) (list_all (is_good_train (made_of size)) (made_of size).trains) (list_all (is_good_order (made_of size)) (made_of size).orders) (list_all (is_good_within (made_of size)) (made_of size).withins) refl (good_trains size at_least_one at_most_six) refl (good_withins size at_least_one at_most_six)
 
 -- ---- the station, for lengths and times in range
 
 admitted : (long : ℕ → ℕ) (runs_east : ℕ → Bool) (time : ℕ → ℕ) → ((i : ℕ) → (1 ≤ long i) × (long i ≤ 10000000)) → ((j : ℕ) → time j ≤ 86400000) → (size : ℕ) → 1 ≤ size → size ≤ 6 → is_admitted (station size long runs_east time) ≡ true
-admitted long runs_east time ranges in_time size low high =
+admitted long runs_east time ranges in_time size at_least_one at_most_six =
     let d : Station = station size long runs_east time in
-    five (are_few d) (is_timed d) (are_named d) (is_sound_track d) (is_sound_traffic d) (few long runs_east time size low high) refl (named long runs_east time size low high)
-    (sound_track long runs_east time (λ i. le-leb 1 (long i) (ranges i).0) (λ i. le-leb (long i) 10000000 (ranges i).1) size low high)
-    (sound_traffic long runs_east time (λ j. le-leb (time j) 86400000 (in_time j)) size low high)
+    five (are_few d) (is_timed d) (are_named d) (is_sound_track d) (is_sound_traffic d) (few long runs_east time size at_least_one at_most_six) refl (named long runs_east time size at_least_one at_most_six)
+    (sound_track long runs_east time (λ i. le-leb 1 (long i) (ranges i).0) (λ i. le-leb (long i) 10000000 (ranges i).1) size at_least_one at_most_six)
+    (sound_traffic long runs_east time (λ j. le-leb (time j) 86400000 (in_time j)) size at_least_one at_most_six)
 
 below_most : (m x : ℕ) → 1 ≤ m → below m x < m
 below_most m x h = grind arith
@@ -122,7 +122,7 @@ below_most m x h = grind arith
 -- the station that is made, by any seed
 pub made_admitted : (seed size : ℕ) → 1 ≤ size → size ≤ 6 → is_admitted (made seed size) ≡ true
 unfolding made
-made_admitted seed size low high = admitted (track_length seed) (runs_east seed size) (time_of seed size)
+made_admitted seed size at_least_one at_most_six = admitted (track_length seed) (runs_east seed size) (time_of seed size)
     (λ i. let b : draw seed i 100000 < 100000 = below_most 100000 (drawn seed i) (omega arith) in (omega arith, omega arith))
     (λ j. let b : draw seed (size + 2 * (j - 1) + 2) 240 < 240 = below_most 240 (drawn seed (size + 2 * (j - 1) + 2)) (omega arith) in omega arith)
-    size low high
+    size at_least_one at_most_six

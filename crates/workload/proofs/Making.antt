@@ -29,4 +29,4 @@ module _ (seed size : ℕ) (ns : List Node) (es : List Edge) (zs : List (List �
 
 -- the station that is made is admitted
 pub same_admitted : (seed size : ℕ) (d : Station) → d ≡ made seed size → 1 ≤ size → size ≤ 6 → is_admitted d ≡ true
-same_admitted seed size d e low high = subst (λ s. is_admitted s ≡ true) (sym e) (made_admitted seed size low high)
+same_admitted seed size d e at_least_one at_most_six = subst (λ s. is_admitted s ≡ true) (sym e) (made_admitted seed size at_least_one at_most_six)

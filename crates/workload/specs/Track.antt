@@ -10,14 +10,14 @@ use Rattle.rail_base.specs.declared.station.NodeNo.{NodeNo}
 use Rattle.rail_base.specs.declared.station.Side.{Side}
 
 -- letters and then a number
-abbrev pub numbered : List ℕ → ℕ → List ℕ
-numbered letters i = letters ++ decimal i
+abbrev pub numbered_name : List ℕ → ℕ → List ℕ
+numbered_name letters i = letters ++ decimal i
 
 -- ---- nodes
 
 -- a node inside the station
 abbrev pub inner : List ℕ → ℕ → Node
-inner letters i = record { name = numbered letters i; boundary = false }
+inner letters i = record { name = numbered_name letters i; boundary = false }
 
 -- two nodes inside the station, of one number
 abbrev pub inner_pair : List ℕ → List ℕ → ℕ → List Node
@@ -50,8 +50,8 @@ abbrev pub east_boundary : ℕ
 east_boundary = 2
 
 -- the west end of a track
-abbrev pub left : ℕ → ℕ
-left i = 2 * i + 1
+abbrev pub left_node : ℕ → ℕ
+left_node i = 2 * i + 1
 
 -- the east end of a track
 abbrev pub right : ℕ → ℕ
@@ -59,7 +59,7 @@ right i = 2 * i + 2
 
 -- where the way from the west reaches track i: at its switch, or at the end of the last track
 abbrev pub fork : ℕ → ℕ → ℕ
-fork size i = if nat_lt i size then 2 * size + 2 * i + 1 else left i
+fork size i = if nat_lt i size then 2 * size + 2 * i + 1 else left_node i
 
 -- where the way to the east leaves track i: at its switch, or at the end of the last track
 abbrev pub join : ℕ → ℕ → ℕ
@@ -70,7 +70,7 @@ join size i = if nat_lt i size then 2 * size + 2 * i + 2 else right i
 -- an edge of this number, between two nodes
 abbrev pub edge : ℕ → ℕ → ℕ → ℕ → ℕ → Edge
 edge number from to length section = record {
-  name = numbered (codes "x") number;
+  name = numbered_name (codes "x") number;
   from = record { node = record { 0 = from }; side = B };
   to = record { node = record { 0 = to }; side = A };
   length_mm = length;
@@ -81,7 +81,7 @@ edge number from to length section = record {
 -- from the switch of a track to it, and on to the next
 abbrev pub west_legs : ℕ → ℕ → List Edge
 west_legs size i =
-    edge (2 * i) (fork size i) (left i) 50000 1
+    edge (2 * i) (fork size i) (left_node i) 50000 1
     ∷ edge (2 * i + 1) (fork size i) (fork size (i + 1)) 50000 1
     ∷ []
 
@@ -91,7 +91,7 @@ west size = edge 1 west_boundary (fork size 1) 200000 1 ∷ flat_map (west_legs 
 
 -- a track, with a section of its own
 abbrev pub track : ℕ → (ℕ → ℕ) → ℕ → Edge
-track size length i = edge (2 * size + i - 1) (left i) (right i) (length i) (i + 1)
+track size length i = edge (2 * size + i - 1) (left_node i) (right i) (length i) (i + 1)
 
 -- from a track to its switch, and from the next
 abbrev pub east_legs : ℕ → ℕ → List Edge
@@ -114,17 +114,17 @@ edges size length = west size ++ map (track size length) (one_to size) ++ east s
 
 -- the names of the sections, by their numbers
 abbrev pub sections : ℕ → List (List ℕ)
-sections size = codes "W" ∷ map (numbered (codes "T")) (one_to size) ++ codes "E" ∷ []
+sections size = codes "W" ∷ map (numbered_name (codes "T")) (one_to size) ++ codes "E" ∷ []
 
 -- a signal with these letters and the number of its track
 abbrev pub signal : List ℕ → ℕ → NodeNo → Side → Signal
-signal letters i node toward = record { name = numbered letters i; node = node; toward = toward }
+signal letters i node toward = record { name = numbered_name letters i; node = node; toward = toward }
 
 -- the signals of a track: at its east end to the east, at its west end to the west
 abbrev pub signals_of : ℕ → List Signal
 signals_of i =
     signal (codes "re") i (record { 0 = right i }) B
-    ∷ signal (codes "lw") i (record { 0 = left i }) A
+    ∷ signal (codes "lw") i (record { 0 = left_node i }) A
     ∷ []
 
 -- the signals of all tracks

@@ -5,7 +5,7 @@ use Rattle.rail_base.specs.declared.station.Vehicle.{Vehicle}
 use Rattle.rail_base.specs.declared.station.Train.{Train}
 use Rattle.rail_base.specs.declared.station.Within.{Within}
 use Rattle.rail_base.specs.Numbering.{one_to}
-use Rattle.workload.specs.Track.{numbered, west_boundary, east_boundary}
+use Rattle.workload.specs.Track.{numbered_name, west_boundary, east_boundary}
 
 -- the one vehicle
 abbrev pub vehicle : Vehicle
@@ -22,7 +22,7 @@ way_out runs_east = record { 0 = if runs_east then east_boundary else west_bound
 -- a train from the one boundary to the other
 abbrev pub train : ℕ → Bool → Train
 train j runs_east = record {
-  name = numbered (codes "t") j;
+  name = numbered_name (codes "t") j;
   vehicle = record { 0 = 1 };
   visits = (entrance runs_east ∷ []) ∷ (way_out runs_east ∷ []) ∷ [];
 }

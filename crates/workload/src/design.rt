@@ -24,28 +24,6 @@ struct Track {
     signals: List<Signal>,
 }
 
-/// The track. The lengths of its tracks are drawn.
-fn make_track(alloc: Global, size: u32, draws: &mut Draws) -> Result<Track, AllocError>
-    requires low { 1 ≤ size }
-    requires high { size ≤ 6 }
-    ensures nodes { IfOk result (λ track. track.nodes ≡ nodes size) }
-    ensures edges { IfOk result (λ track. track.edges ≡ edges size (track_length draws.old.state)) }
-    ensures sections { IfOk result (λ track. track.sections ≡ sections size) }
-    ensures signals { IfOk result (λ track. track.signals ≡ signals size) }
-    ensures draws { OnOk result (draws.new.state ≡ drawn draws.old.state size) }
-{
-    let edges = edges(alloc, size, draws)?;
-    let nodes = nodes(alloc, size)?;
-    let sections = sections(alloc, size)?;
-    let signals = signals(alloc, size)?;
-    Ok(Track {
-        nodes,
-        edges,
-        sections,
-        signals,
-    })
-}
-
 /// The station of so many tracks and trains that is made from a seed: tracks side by side between two boundaries, and
 /// a train for each track. What is drawn from the seed are the lengths of the tracks, then the way of each train and
 /// the time that it has.
@@ -54,8 +32,8 @@ fn make_track(alloc: Global, size: u32, draws: &mut Draws) -> Result<Track, Allo
 ///
 /// Want of memory.
 pub fn make(alloc: Global, seed: u64, size: u32) -> Result<Design, AllocError>
-    requires low { 1 ≤ size }
-    requires high { size ≤ 6 }
+    requires at_least_one { 1 ≤ size }
+    requires at_most_six { size ≤ 6 }
     ensures { IfOk result (λ design. design.station ≡ made seed size) }
 {
     let mut draws = Draws { state: seed };
@@ -76,4 +54,26 @@ pub fn make(alloc: Global, seed: u64, size: u32) -> Result<Design, AllocError>
         withins: List::from_vec(traffic.withins),
     };
     Ok(Design { station })
+}
+
+/// The track. The lengths of its tracks are drawn.
+fn make_track(alloc: Global, size: u32, draws: &mut Draws) -> Result<Track, AllocError>
+    requires at_least_one { 1 ≤ size }
+    requires at_most_six { size ≤ 6 }
+    ensures nodes { IfOk result (λ track. track.nodes ≡ nodes size) }
+    ensures edges { IfOk result (λ track. track.edges ≡ edges size (track_length draws.old.state)) }
+    ensures sections { IfOk result (λ track. track.sections ≡ sections size) }
+    ensures signals { IfOk result (λ track. track.signals ≡ signals size) }
+    ensures draws { OnOk result (draws.new.state ≡ drawn draws.old.state size) }
+{
+    let edges = edges(alloc, size, draws)?;
+    let nodes = nodes(alloc, size)?;
+    let sections = sections(alloc, size)?;
+    let signals = signals(alloc, size)?;
+    Ok(Track {
+        nodes,
+        edges,
+        sections,
+        signals,
+    })
 }

@@ -6,8 +6,8 @@ ghost use Rattle.workload.specs.Draws.{drawn, track_length};
 ghost use Rattle.workload.specs.Track.{edge, west_legs, west, track, east_legs, east, edges};
 
 use crate::draws::Draws;
-use crate::names::numbered;
-use crate::nodes::{EAST, WEST, fork, join, left, right};
+use crate::names::numbered_name;
+use crate::nodes::{EAST, WEST, fork, join, left_node, right};
 use rail_base::list::List;
 use rail_base::station::{Edge, End, NodeNo, SectionNo, Side};
 use std::alloc::{AllocError, Global};
@@ -20,6 +20,19 @@ const LINE_MM: u32 = 200_000;
 
 /// How long an edge between switches and tracks is, in mm.
 const LEG_MM: u32 = 50_000;
+
+/// All edges in the order of their numbers. The lengths of the tracks are drawn.
+pub fn edges(alloc: Global, size: u32, draws: &mut Draws) -> Result<List<Edge>, AllocError>
+    requires at_least_one { 1 ≤ size }
+    requires at_most_six { size ≤ 6 }
+    ensures edges { IfOk result (λ all. all ≡ edges size (track_length draws.old.state)) }
+    ensures draws { OnOk result (draws.new.state ≡ drawn draws.old.state size) }
+{
+    let mut edges = west(alloc, size)?;
+    push_tracks(alloc, size, draws, &mut edges)?;
+    push_east(alloc, size, &mut edges)?;
+    Ok(List::from_vec(edges))
+}
 
 /// Adds an edge from side b of one node to side a of another.
 fn push_edge(
@@ -35,7 +48,7 @@ fn push_edge(
 {
     let (from, to) = ends;
     edges.push(Edge {
-        name: numbered(alloc, b"x", number)?,
+        name: numbered_name(alloc, b"x", number)?,
         from: End {
             node: from,
             side: Side::B,
@@ -68,7 +81,7 @@ fn push_west_legs(
         alloc,
         edges,
         2 * track,
-        (switch, left(track)),
+        (switch, left_node(track)),
         LEG_MM,
         FIRST,
     )?;
@@ -77,8 +90,8 @@ fn push_west_legs(
 
 /// The edges from the boundary in the west to all tracks.
 fn west(alloc: Global, size: u32) -> Result<Vec<Edge>, AllocError>
-    requires low { 1 ≤ size }
-    requires high { size ≤ 6 }
+    requires at_least_one { 1 ≤ size }
+    requires at_most_six { size ≤ 6 }
     ensures { IfOk result (λ all. all.items ≡ west size) }
 {
     let mut edges = Vec::new(alloc);
@@ -96,8 +109,8 @@ fn push_tracks(
     draws: &mut Draws,
     edges: &mut Vec<Edge>,
 ) -> Result<(), AllocError>
-    requires low { 1 ≤ size }
-    requires high { size ≤ 6 }
+    requires at_least_one { 1 ≤ size }
+    requires at_most_six { size ≤ 6 }
     ensures edges { OnOk result (edges.new.items
         ≡ edges.old.items ++ map (track size (track_length draws.old.state)) (one_to size)) }
     ensures draws { OnOk result (draws.new.state ≡ drawn draws.old.state size) }
@@ -110,7 +123,7 @@ fn push_tracks(
             alloc,
             edges,
             number,
-            (left(track), right(track)),
+            (left_node(track), right(track)),
             length_mm,
             section,
         )?;
@@ -126,7 +139,7 @@ fn push_east_legs(
     edges: &mut Vec<Edge>,
 ) -> Result<(), AllocError>
     requires size { size ≤ 6 }
-    requires first { 1 ≤ track }
+    requires at_least_one { 1 ≤ track }
     requires track { track < size }
     ensures { OnOk result (edges.new.items ≡ edges.old.items ++ east_legs size track) }
 {
@@ -147,8 +160,8 @@ fn push_east_legs(
 
 /// Adds the edges from all tracks to the boundary in the east.
 fn push_east(alloc: Global, size: u32, edges: &mut Vec<Edge>) -> Result<(), AllocError>
-    requires low { 1 ≤ size }
-    requires high { size ≤ 6 }
+    requires at_least_one { 1 ≤ size }
+    requires at_most_six { size ≤ 6 }
     ensures { OnOk result (edges.new.items ≡ edges.old.items ++ east size) }
 {
     let section = SectionNo(size + 2);
@@ -164,17 +177,4 @@ fn push_east(alloc: Global, size: u32, edges: &mut Vec<Edge>) -> Result<(), Allo
         push_east_legs(alloc, size, track, edges)?;
     }
     Ok(())
-}
-
-/// All edges in the order of their numbers. The lengths of the tracks are drawn.
-pub fn edges(alloc: Global, size: u32, draws: &mut Draws) -> Result<List<Edge>, AllocError>
-    requires low { 1 ≤ size }
-    requires high { size ≤ 6 }
-    ensures edges { IfOk result (λ all. all ≡ edges size (track_length draws.old.state)) }
-    ensures draws { OnOk result (draws.new.state ≡ drawn draws.old.state size) }
-{
-    let mut edges = west(alloc, size)?;
-    push_tracks(alloc, size, draws, &mut edges)?;
-    push_east(alloc, size, &mut edges)?;
-    Ok(List::from_vec(edges))
 }

@@ -2,7 +2,7 @@
 
 ghost use Rattle.std.specs.Prelude.{◌≡◌, ◌≤◌, ◌++◌, map, IfOk, OnOk, codes};
 ghost use Rattle.rail_base.specs.Numbering.{one_to};
-ghost use Rattle.workload.specs.Track.{numbered, sections};
+ghost use Rattle.workload.specs.Track.{numbered_name, sections};
 
 use rail_base::list::{List, Name};
 use rail_text::put_number;
@@ -16,23 +16,12 @@ pub fn plain(alloc: Global, letters: &[u8]) -> Result<Name, AllocError>
 }
 
 /// A name of letters and then a number.
-pub fn numbered(alloc: Global, letters: &[u8], number: u32) -> Result<Name, AllocError>
-    ensures { IfOk result (λ name. name ≡ numbered letters.now number) }
+pub fn numbered_name(alloc: Global, letters: &[u8], number: u32) -> Result<Name, AllocError>
+    ensures { IfOk result (λ name. name ≡ numbered_name letters.now number) }
 {
     let mut name = Vec::from_slice(alloc, letters)?;
     put_number(&mut name, u64::from(number))?;
     Ok(Name::from_vec(name))
-}
-
-/// Adds the names of the sections of the tracks.
-fn push_track_sections(alloc: Global, size: u32, names: &mut Vec<Name>) -> Result<(), AllocError>
-    requires { size ≤ 6 }
-    ensures { OnOk result (names.new.items ≡ names.old.items ++ map (numbered (codes "T")) (one_to size)) }
-{
-    for track in 1..size + 1 {
-        names.push(numbered(alloc, b"T", track)?)?;
-    }
-    Ok(())
 }
 
 /// The names of the sections, by their numbers.
@@ -45,4 +34,15 @@ pub fn sections(alloc: Global, size: u32) -> Result<List<Name>, AllocError>
     push_track_sections(alloc, size, &mut names)?;
     names.push(plain(alloc, b"E")?)?;
     Ok(List::from_vec(names))
+}
+
+/// Adds the names of the sections of the tracks.
+fn push_track_sections(alloc: Global, size: u32, names: &mut Vec<Name>) -> Result<(), AllocError>
+    requires { size ≤ 6 }
+    ensures { OnOk result (names.new.items ≡ names.old.items ++ map (numbered_name (codes "T")) (one_to size)) }
+{
+    for track in 1..size + 1 {
+        names.push(numbered_name(alloc, b"T", track)?)?;
+    }
+    Ok(())
 }

@@ -2,10 +2,10 @@
 
 ghost use Rattle.std.specs.Prelude.{◌≡◌, ◌≤◌, ◌-◌, ◌∷◌, [], ◌++◌, flat_map, false, true, IfOk, OnOk, codes};
 ghost use Rattle.rail_base.specs.Numbering.{one_to};
-ghost use Rattle.workload.specs.Track.{inner, nodes, left, right, fork, join, signals_of, signals, numbered};
+ghost use Rattle.workload.specs.Track.{inner, nodes, left_node, right, fork, join, signals_of, signals, numbered_name};
 ghost use Rattle.workload.specs.Track.{boundaries, inner_pair, signal};
 
-use crate::names::{numbered, plain};
+use crate::names::{numbered_name, plain};
 use rail_base::list::List;
 use rail_base::station::{Node, NodeNo, Side, Signal};
 use std::alloc::{AllocError, Global};
@@ -17,9 +17,9 @@ pub const WEST: NodeNo = NodeNo(1);
 pub const EAST: NodeNo = NodeNo(2);
 
 /// The west end of a track.
-pub fn left(track: u32) -> NodeNo
+pub fn left_node(track: u32) -> NodeNo
     requires { track ≤ 7 }
-    ensures { result.0 ≡ left track }
+    ensures { result.0 ≡ left_node track }
 {
     NodeNo(2 * track + 1)
 }
@@ -41,7 +41,7 @@ pub fn fork(size: u32, track: u32) -> NodeNo
     if track < size {
         NodeNo(2 * size + 2 * track + 1)
     } else {
-        left(track)
+        left_node(track)
     }
 }
 
@@ -58,6 +58,31 @@ pub fn join(size: u32, track: u32) -> NodeNo
     }
 }
 
+/// The nodes in the order of their numbers.
+pub fn nodes(alloc: Global, size: u32) -> Result<List<Node>, AllocError>
+    requires at_least_one { 1 ≤ size }
+    requires at_most_six { size ≤ 6 }
+    ensures { IfOk result (λ all. all ≡ nodes size) }
+{
+    let mut nodes = boundaries(alloc)?;
+    push_inner_pairs(alloc, &mut nodes, b"l", b"r", size)?;
+    push_inner_pairs(alloc, &mut nodes, b"p", b"q", size - 1)?;
+    Ok(List::from_vec(nodes))
+}
+
+/// The signals of all tracks.
+pub fn signals(alloc: Global, size: u32) -> Result<List<Signal>, AllocError>
+    requires { size ≤ 6 }
+    ensures { IfOk result (λ all. all ≡ signals size) }
+{
+    let mut signals = Vec::new(alloc);
+    for track in 1..size + 1 {
+        push_signal(alloc, &mut signals, b"re", track, right(track), Side::B)?;
+        push_signal(alloc, &mut signals, b"lw", track, left_node(track), Side::A)?;
+    }
+    Ok(List::from_vec(signals))
+}
+
 /// Adds a node inside the station.
 fn push_inner(
     alloc: Global,
@@ -68,7 +93,7 @@ fn push_inner(
     ensures { OnOk result (nodes.new.items ≡ nodes.old.items ++ inner letters.now number ∷ []) }
 {
     nodes.push(Node {
-        name: numbered(alloc, letters, number)?,
+        name: numbered_name(alloc, letters, number)?,
         boundary: false,
     })?;
     Ok(())
@@ -108,18 +133,6 @@ fn boundaries(alloc: Global) -> Result<Vec<Node>, AllocError>
     Ok(vec![in alloc; west, east]?)
 }
 
-/// The nodes in the order of their numbers.
-pub fn nodes(alloc: Global, size: u32) -> Result<List<Node>, AllocError>
-    requires low { 1 ≤ size }
-    requires high { size ≤ 6 }
-    ensures { IfOk result (λ all. all ≡ nodes size) }
-{
-    let mut nodes = boundaries(alloc)?;
-    push_inner_pairs(alloc, &mut nodes, b"l", b"r", size)?;
-    push_inner_pairs(alloc, &mut nodes, b"p", b"q", size - 1)?;
-    Ok(List::from_vec(nodes))
-}
-
 /// Adds a signal with these letters and the number of its track.
 fn push_signal(
     alloc: Global,
@@ -132,22 +145,9 @@ fn push_signal(
     ensures { OnOk result (signals.new.items ≡ signals.old.items ++ signal letters.now track node toward ∷ []) }
 {
     signals.push(Signal {
-        name: numbered(alloc, letters, track)?,
+        name: numbered_name(alloc, letters, track)?,
         node,
         toward,
     })?;
     Ok(())
-}
-
-/// The signals of all tracks.
-pub fn signals(alloc: Global, size: u32) -> Result<List<Signal>, AllocError>
-    requires { size ≤ 6 }
-    ensures { IfOk result (λ all. all ≡ signals size) }
-{
-    let mut signals = Vec::new(alloc);
-    for track in 1..size + 1 {
-        push_signal(alloc, &mut signals, b"re", track, right(track), Side::B)?;
-        push_signal(alloc, &mut signals, b"lw", track, left(track), Side::A)?;
-    }
-    Ok(List::from_vec(signals))
 }

@@ -5,7 +5,7 @@ ghost use Rattle.workload.specs.Draws.{next, below, runs_east, time_of};
 ghost use Rattle.workload.specs.Traffic.{vehicle, entrance, way_out, train, within, trains, withins};
 
 use crate::draws::Draws;
-use crate::names::{numbered, plain};
+use crate::names::{numbered_name, plain};
 use crate::nodes::{EAST, WEST};
 use rail_base::list::List;
 use rail_base::station::{NodeNo, Train, TrainNo, Vehicle, VehicleNo, Within};
@@ -30,6 +30,22 @@ pub fn vehicles(alloc: Global) -> Result<List<Vehicle>, AllocError>
         speed_mm_s: 20_000,
     };
     Ok(List::from_vec(vec![in alloc; vehicle]?))
+}
+
+/// A train for each track. Their ways and times are drawn.
+pub fn make_traffic(alloc: Global, size: u32, draws: &mut Draws) -> Result<Traffic, AllocError>
+    requires { size ≤ 6 }
+    ensures trains { IfOk result (λ traffic. traffic.trains.items ≡ trains size (runs_east draws.old.state 0)) }
+    ensures withins { IfOk result (λ traffic. traffic.withins.items ≡ withins size (time_of draws.old.state 0)) }
+{
+    let mut traffic = Traffic {
+        trains: Vec::new(alloc),
+        withins: Vec::new(alloc),
+    };
+    for number in 1..size + 1 {
+        traffic.add(alloc, number, draws)?;
+    }
+    Ok(traffic)
 }
 
 /// A visit of one node.
@@ -57,7 +73,7 @@ fn visits(alloc: Global, runs_east: bool) -> Result<List<List<NodeNo>>, AllocErr
 fn train(alloc: Global, number: u32, runs_east: bool) -> Result<Train, AllocError>
     ensures { IfOk result (λ t. t ≡ train number runs_east) }
 {
-    let name = numbered(alloc, b"t", number)?;
+    let name = numbered_name(alloc, b"t", number)?;
     let visits = visits(alloc, runs_east)?;
     Ok(Train {
         name,
@@ -95,20 +111,4 @@ impl Traffic {
         self.withins.push(within(number, max_ms))?;
         Ok(())
     }
-}
-
-/// A train for each track. Their ways and times are drawn.
-pub fn make_traffic(alloc: Global, size: u32, draws: &mut Draws) -> Result<Traffic, AllocError>
-    requires { size ≤ 6 }
-    ensures trains { IfOk result (λ traffic. traffic.trains.items ≡ trains size (runs_east draws.old.state 0)) }
-    ensures withins { IfOk result (λ traffic. traffic.withins.items ≡ withins size (time_of draws.old.state 0)) }
-{
-    let mut traffic = Traffic {
-        trains: Vec::new(alloc),
-        withins: Vec::new(alloc),
-    };
-    for number in 1..size + 1 {
-        traffic.add(alloc, number, draws)?;
-    }
-    Ok(traffic)
 }

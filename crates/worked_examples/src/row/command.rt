@@ -64,6 +64,15 @@ const KEYS: [&str; 13] = [
     "twice",
 ];
 
+/// The commands of a worked example.
+pub fn commands_of<'a>(alloc: Global, row: Fields<'a>) -> Result<Vec<Command<'a>>> {
+    let mut commands = Vec::new(alloc);
+    for entry in row.entries("command")? {
+        commands.push(command_of(alloc, entry)?)?;
+    }
+    Ok(commands)
+}
+
 /// The status that a command has to have.
 fn status_of(fields: Fields<'_>) -> Result<u8> {
     Ok(u8::try_from(fields.needed_number("status")?)?)
@@ -101,13 +110,4 @@ fn command_of<'a>(alloc: Global, value: &'a Value) -> Result<Command<'a>> {
         prints: fields.texts(alloc, "prints")?,
         leaves: leaves_of(alloc, fields)?,
     })
-}
-
-/// The commands of a worked example.
-pub fn commands_of<'a>(alloc: Global, row: Fields<'a>) -> Result<Vec<Command<'a>>> {
-    let mut commands = Vec::new(alloc);
-    for entry in row.entries("command")? {
-        commands.push(command_of(alloc, entry)?)?;
-    }
-    Ok(commands)
 }

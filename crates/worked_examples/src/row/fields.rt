@@ -4,29 +4,6 @@ use anyhow::{Context, Result, bail, ensure};
 use std::alloc::Global;
 use toml::{Table, Value};
 
-/// Whether a text is one of some.
-fn is_known(known: &[&str], text: &str) -> bool {
-    known.iter().any(|key| *key == text)
-}
-
-/// Refuses a key that is none of these.
-fn ensure_known(table: &Table, known: &[&str]) -> Result<()> {
-    for key in table.keys() {
-        ensure!(
-            is_known(known, key.as_str()),
-            "unknown key {}",
-            key.as_str()
-        );
-    }
-    Ok(())
-}
-
-/// A table, all of whose keys are known.
-#[derive(Clone, Copy)]
-pub struct Fields<'a> {
-    table: &'a Table,
-}
-
 impl<'a> Fields<'a> {
     /// The fields of a table. Refuses a key that is none of these.
     pub fn of_table(table: &'a Table, known: &[&str]) -> Result<Self> {
@@ -102,4 +79,27 @@ impl<'a> Fields<'a> {
         }
         Ok(texts)
     }
+}
+
+/// Whether a text is one of some.
+fn is_known(known: &[&str], text: &str) -> bool {
+    known.iter().any(|key| *key == text)
+}
+
+/// A table, all of whose keys are known.
+#[derive(Clone, Copy)]
+pub struct Fields<'a> {
+    table: &'a Table,
+}
+
+/// Refuses a key that is none of these.
+fn ensure_known(table: &Table, known: &[&str]) -> Result<()> {
+    for key in table.keys() {
+        ensure!(
+            is_known(known, key.as_str()),
+            "unknown key {}",
+            key.as_str()
+        );
+    }
+    Ok(())
 }

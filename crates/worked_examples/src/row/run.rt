@@ -32,6 +32,33 @@ pub struct Turns<'a> {
     pub clauses: Vec<&'a str>,
 }
 
+/// The runs of a worked example.
+pub fn runs_of(alloc: Global, row: Fields<'_>) -> Result<Vec<Run>> {
+    let mut runs = Vec::new(alloc);
+    for entry in row.entries("run")? {
+        runs.push(run_of(entry)?)?;
+    }
+    Ok(runs)
+}
+
+/// The searches of a worked example.
+pub fn searches_of(alloc: Global, row: Fields<'_>) -> Result<Vec<Search>> {
+    let mut searches = Vec::new(alloc);
+    for entry in row.entries("search")? {
+        searches.push(search_of(entry)?)?;
+    }
+    Ok(searches)
+}
+
+/// The clauses of a worked example.
+pub fn all_turns_of<'a>(alloc: Global, row: Fields<'a>) -> Result<Vec<Turns<'a>>> {
+    let mut turns = Vec::new(alloc);
+    for entry in row.entries("turns")? {
+        turns.push(turns_of(alloc, entry)?)?;
+    }
+    Ok(turns)
+}
+
 /// A run.
 fn run_of(value: &Value) -> Result<Run> {
     let fields = Fields::of(value, &["ticks", "met"])?;
@@ -59,31 +86,4 @@ fn turns_of<'a>(alloc: Global, value: &'a Value) -> Result<Turns<'a>> {
         steps: u32::try_from(fields.needed_number("steps")?)?,
         clauses: fields.texts(alloc, "clauses")?,
     })
-}
-
-/// The runs of a worked example.
-pub fn runs_of(alloc: Global, row: Fields<'_>) -> Result<Vec<Run>> {
-    let mut runs = Vec::new(alloc);
-    for entry in row.entries("run")? {
-        runs.push(run_of(entry)?)?;
-    }
-    Ok(runs)
-}
-
-/// The searches of a worked example.
-pub fn searches_of(alloc: Global, row: Fields<'_>) -> Result<Vec<Search>> {
-    let mut searches = Vec::new(alloc);
-    for entry in row.entries("search")? {
-        searches.push(search_of(entry)?)?;
-    }
-    Ok(searches)
-}
-
-/// The clauses of a worked example.
-pub fn all_turns_of<'a>(alloc: Global, row: Fields<'a>) -> Result<Vec<Turns<'a>>> {
-    let mut turns = Vec::new(alloc);
-    for entry in row.entries("turns")? {
-        turns.push(turns_of(alloc, entry)?)?;
-    }
-    Ok(turns)
 }

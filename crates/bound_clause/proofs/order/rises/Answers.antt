@@ -1,7 +1,7 @@
 use Rattle.std.proofs.Common.{nat_lt, le-leb, false}
 use Rattle.rail_base.proofs.Members.{not_less}
 use Rattle.sat_clause.specs.declared.lit.Lit.{Lit}
-use Rattle.cone_design.proofs.Walks.{neighbors_stop, neighbors_next, neighbors_end}
+use Rattle.cone_form.proofs.Walks.{neighbors_stop, neighbors_next, neighbors_end}
 use Rattle.bound_clause.proofs.order.rises.Goals as goal
 
 none : Lit

@@ -1,4 +1,4 @@
-use Rattle.cone_design.proofs.Walks.{neighbors_end}
+use Rattle.cone_form.proofs.Walks.{neighbors_end}
 use Rattle.bound_design.specs.Covered.{comes_before_in}
 use Rattle.bound_design.proofs.before.places_follow.Goals as goal
 

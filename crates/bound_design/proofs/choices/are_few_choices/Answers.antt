@@ -1,5 +1,5 @@
 use Rattle.std.proofs.Common.{◌+◌, sym, ap₂, ◌∙◌}
-use Rattle.cone_design.proofs.Walks.{rest_is}
+use Rattle.cone_form.proofs.Walks.{rest_is}
 use Rattle.bound_design.specs.Named.{few_choices_before}
 use Rattle.bound_design.proofs.Counting.{few_stop, few_next, few_end}
 use Rattle.bound_design.proofs.choices.are_few_choices.Goals as goal

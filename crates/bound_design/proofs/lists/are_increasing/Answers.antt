@@ -1,6 +1,6 @@
 use Rattle.std.proofs.Common.{nat_lt}
 use Rattle.rail_base.specs.declared.route.RouteNo.{RouteNo}
-use Rattle.cone_design.proofs.Walks.{neighbors_end}
+use Rattle.cone_form.proofs.Walks.{neighbors_end}
 use Rattle.bound_design.proofs.lists.are_increasing.Goals as goal
 
 pub returns : goal.returns

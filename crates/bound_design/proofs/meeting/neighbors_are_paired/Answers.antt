@@ -1,4 +1,4 @@
-use Rattle.cone_design.proofs.Walks.{neighbors_end}
+use Rattle.cone_form.proofs.Walks.{neighbors_end}
 use Rattle.bound_design.specs.Meeting.{are_paired_where_they_meet}
 use Rattle.bound_design.proofs.meeting.neighbors_are_paired.Goals as goal
 

@@ -1,7 +1,7 @@
 use Rattle.std.proofs.Common.{List, nat_le, ap, ◌∙◌}
 use Rattle.rail_bound.specs.declared.Leg.{Leg}
 use Rattle.rail_bound.specs.Validity.{are_few_choices, most_places, places_of}
-use Rattle.cone_design.proofs.Walks.{and_then}
+use Rattle.cone_form.proofs.Walks.{and_then}
 use Rattle.bound_design.proofs.stated.is_stated.Goals as goal
 
 pub returns-then-are_few_places : goal.returns-then-are_few_places

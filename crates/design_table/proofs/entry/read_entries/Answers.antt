@@ -21,11 +21,11 @@ pub loop-value-preserved : goal.loop-value-preserved
 loop-value-preserved g c = record {
   number = omega arith;
   places = entry_passes (wrong_entry g.E.Entry.kind) c.loop-value.number c.args.values.now c.loop-value.value-index c.value-item.result _ c.loop-value-test.true c.value-item.is c.loop-value.invariant.places c.in_ok-read_entry.ensures.0;
-  entries = entry_read (λ entry. g.E.Entry.spelled (members_of entry)) g.E.Entry.seen c.args.values.now c.loop-value.value-index c.value-item.result c.in_ok-read_entry.field-0 c.loop-value.entries.items c.push.new.self.items _ c.loop-value-test.true c.value-item.is c.loop-value.invariant.entries c.in_ok-read_entry.ensures.1 c.in_ok-push.ensures.items;
+  entries = entry_read (λ entry. g.E.Entry.parsed (members_of entry)) g.E.Entry.seen c.args.values.now c.loop-value.value-index c.value-item.result c.in_ok-read_entry.field-0 c.loop-value.entries.items c.push.new.self.items _ c.loop-value-test.true c.value-item.is c.loop-value.invariant.entries c.in_ok-read_entry.ensures.1 c.in_ok-push.ensures.items;
 }
 
 pub returns : goal.returns
 returns g c = (
   no_entry_left (wrong_entry g.E.Entry.kind) c.loop-value.number c.args.values.now c.loop-value.value-index _ c.loop-value-test.false c.loop-value.invariant.places,
-  all_read (λ entry. g.E.Entry.spelled (members_of entry)) (map g.E.Entry.seen c.loop-value.entries.items) _ c.args.values.now c.loop-value.value-index c.loop-value-test.false c.loop-value.invariant.entries,
+  all_read (λ entry. g.E.Entry.parsed (members_of entry)) (map g.E.Entry.seen c.loop-value.entries.items) _ c.args.values.now c.loop-value.value-index c.loop-value-test.false c.loop-value.invariant.entries,
 )

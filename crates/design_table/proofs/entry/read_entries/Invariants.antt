@@ -10,5 +10,5 @@ abbrev pub invariant-loop-value : goal.invariant-loop-value
 invariant-loop-value g l = record {
   number : l.number ≡ l.value-index + 1;
   places : in_each (wrong_entry g.E.Entry.kind) (listed (items_view l.values)) ≡ places_from (wrong_entry g.E.Entry.kind) l.number (map view (drop l.value-index l.values));
-  entries : map (λ entry. g.E.Entry.spelled (members_of entry)) (listed (items_view l.values)) ≡ map g.E.Entry.seen l.entries.items ++ map (λ entry. g.E.Entry.spelled (members_of entry)) (map view (drop l.value-index l.values));
+  entries : map (λ entry. g.E.Entry.parsed (members_of entry)) (listed (items_view l.values)) ≡ map g.E.Entry.seen l.entries.items ++ map (λ entry. g.E.Entry.parsed (members_of entry)) (map view (drop l.value-index l.values));
 }

@@ -1,6 +1,6 @@
 use Rattle.std.proofs.Common.{◌≡◌, ℕ, suc, ◌+◌, length, get_or, set, Option, None, ap, ap₂, ◌∙◌, arith}
 use Rattle.rail_base.specs.declared.station.NodeNo.{NodeNo}
-use Rattle.rail_base.specs.declared.state.Stop.{Stop}
+use Rattle.rail_base.specs.declared.state.PathNode.{PathNode}
 use Rattle.rail_base.specs.Numbering.{or_this}
 use Rattle.rail_spec.specs.Visits.{is_passed}
 use Rattle.dispatch_run.proofs.Filling.{filled}
@@ -9,16 +9,16 @@ use Rattle.dispatch_run.proofs.marks.mark_passes.Goals as goal
 
 pub loop-index-init : goal.loop-index-init
 loop-index-init c =
-    let make : Stop → NodeNo × Option ℕ → NodeNo × Option ℕ = λ stop pass. (stop.node, or_this pass.1 (is_passed c.args.state stop) c.args.tick) in
-    none_filled make c.args.stops.now c.args.passes.now
+    let make : PathNode → NodeNo × Option ℕ → NodeNo × Option ℕ = λ path_node pass. (path_node.node, or_this pass.1 (is_passed c.args.state path_node) c.args.tick) in
+    none_filled make c.args.path_nodes.now c.args.passes.now
 
 pub loop-index-preserved : goal.loop-index-preserved
 loop-index-preserved c =
-    let make : Stop → NodeNo × Option ℕ → NodeNo × Option ℕ = λ stop pass. (stop.node, or_this pass.1 (is_passed c.args.state stop) c.args.tick) in
+    let make : PathNode → NodeNo × Option ℕ → NodeNo × Option ℕ = λ path_node pass. (path_node.node, or_this pass.1 (is_passed c.args.state path_node) c.args.tick) in
     let i = c.loop-index.index in
     let old = c.args.passes.now in
-    let parts = c.args.stops.now in
-    let none : Stop = record { node = record { 0 = 0 }; offset = 0; command = 0 } in
+    let parts = c.args.path_nodes.now in
+    let none : PathNode = record { node = record { 0 = 0 }; offset = 0; command = 0 } in
     let no_mark : NodeNo × Option ℕ = (record { 0 = 0 }, None) in
     let less = c.loop-index-test.true in
     let own : get_or c.loop-index.passes i no_mark ≡ get_or old i no_mark = ap (λ zs. get_or zs i no_mark) c.loop-index.invariant ∙ next_is make i parts old no_mark in
@@ -30,10 +30,10 @@ loop-index-preserved c =
 
 pub returns-clause-marked : goal.returns-clause-marked
 returns-clause-marked c =
-    let make : Stop → NodeNo × Option ℕ → NodeNo × Option ℕ = λ stop pass. (stop.node, or_this pass.1 (is_passed c.args.state stop) c.args.tick) in
-    c.loop-index.invariant ∙ all_filled make c.loop-index.index c.args.stops.now c.args.passes.now c.loop-index-test.false c.requires
+    let make : PathNode → NodeNo × Option ℕ → NodeNo × Option ℕ = λ path_node pass. (path_node.node, or_this pass.1 (is_passed c.args.state path_node) c.args.tick) in
+    c.loop-index.invariant ∙ all_filled make c.loop-index.index c.args.path_nodes.now c.args.passes.now c.loop-index-test.false c.requires
 
 pub returns-clause-count : goal.returns-clause-count
 returns-clause-count c =
-    let make : Stop → NodeNo × Option ℕ → NodeNo × Option ℕ = λ stop pass. (stop.node, or_this pass.1 (is_passed c.args.state stop) c.args.tick) in
-    ap length c.loop-index.invariant ∙ length-filled make c.loop-index.index c.args.stops.now c.args.passes.now
+    let make : PathNode → NodeNo × Option ℕ → NodeNo × Option ℕ = λ path_node pass. (path_node.node, or_this pass.1 (is_passed c.args.state path_node) c.args.tick) in
+    ap length c.loop-index.invariant ∙ length-filled make c.loop-index.index c.args.path_nodes.now c.args.passes.now

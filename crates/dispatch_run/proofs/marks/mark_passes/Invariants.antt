@@ -6,4 +6,4 @@ use Rattle.dispatch_run.proofs.marks.mark_passes.Given as goal
 
 -- the passes so far are marked
 abbrev pub invariant-loop-index : goal.invariant-loop-index
-invariant-loop-index l = l.passes ≡ filled (λ stop pass. (stop.node, or_this pass.1 (is_passed l.state stop) l.tick)) l.index l.stops l.fn.passes
+invariant-loop-index l = l.passes ≡ filled (λ path_node pass. (path_node.node, or_this pass.1 (is_passed l.state path_node) l.tick)) l.index l.path_nodes l.fn.passes

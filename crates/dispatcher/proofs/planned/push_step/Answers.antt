@@ -19,11 +19,11 @@ loop-command-init c =
 pub waits_of-requires-clause-route : goal.waits_of-requires-clause-route
 waits_of-requires-clause-route c = (c.step_at-step.ensures.named c.loop-command.command-index _ c.loop-command-test.true).1
 
-pub put-requires-clause-first : goal.put-requires-clause-first
-put-requires-clause-first c = (c.step_at-step.ensures.named c.loop-command.command-index _ c.loop-command-test.true).0.0
+pub put-requires-clause-at_least_one : goal.put-requires-clause-at_least_one
+put-requires-clause-at_least_one c = (c.step_at-step.ensures.named c.loop-command.command-index _ c.loop-command-test.true).0.0
 
-pub put-requires-clause-last : goal.put-requires-clause-last
-put-requires-clause-last c = at_most _ _ _ c.loop-command.invariant.many (c.step_at-step.ensures.named c.loop-command.command-index _ c.loop-command-test.true).0.1
+pub put-requires-clause-within : goal.put-requires-clause-within
+put-requires-clause-within c = at_most _ _ _ c.loop-command.invariant.many (c.step_at-step.ensures.named c.loop-command.command-index _ c.loop-command-test.true).0.1
 
 pub loop-command-preserved : goal.loop-command-preserved
 loop-command-preserved c =
@@ -36,7 +36,7 @@ loop-command-preserved c =
     let is = c.step_at-step.ensures.step ∙ get_or_default p.plan.now.steps n [] step c.requires.number in
     let waits = own_waits_are p n c.args.queues.now c.requires.queues c.requires.number step is x (in_at step j _ less) c.in_ok-own.own.items c.in_ok-own.ensures in
     record {
-      many = c.put.ensures.many ∙ c.loop-command.invariant.many;
+      many = c.put.ensures.same_length ∙ c.loop-command.invariant.many;
       known = λ t train. known_more p t (path (take n p.plan.now.steps) t) step j x less (get_or_default step j _ x less) c.in_ok-own.own waits _ _ (c.in_ok-put.ensures.put t.0) (c.loop-command.invariant.known t train);
     }
 

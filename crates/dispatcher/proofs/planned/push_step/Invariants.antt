@@ -7,7 +7,7 @@ use Rattle.dispatcher.proofs.planned.push_step.Given as goal
 
 abbrev pub invariant-loop-command : goal.invariant-loop-command
 invariant-loop-command l = record {
-  many : length l.waits.items ≡ length l.planned.courses.given.interlocking.now.design.station.trains;
-  known : (t : TrainNo) → IsTrain l.planned.courses.given.interlocking.now.design.station t
+  many : length l.waits.items ≡ length l.planned.train_paths.given.interlocking.now.design.station.trains;
+  known : (t : TrainNo) → IsTrain l.planned.train_paths.given.interlocking.now.design.station t
       → AreWaitsIn l.planned t (path (take l.number l.planned.plan.now.steps) t ++ routes_given t (take l.command-index l.step)) (own_waits l.waits.items t);
 }

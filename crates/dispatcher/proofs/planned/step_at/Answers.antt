@@ -5,7 +5,7 @@ use Rattle.dispatcher.proofs.planned.step_at.Goals as goal
 
 pub returns-clause-named : goal.returns-clause-named
 returns-clause-named c =
-    let given = c.args.planned.now.courses.given in
+    let given = c.args.planned.now.train_paths.given in
     let steps = c.args.planned.now.plan.now.steps in
     let other = c.index-as_slice-number.result in
     let same : c.as_slice-2.result.now ≡ get_or steps c.args.number other = c.as_slice-2.ensures ∙ c.index-as_slice-number.is ∙ ap (λ ss. get_or ss c.args.number other) c.as_slice.ensures in

@@ -7,5 +7,5 @@ use Rattle.dispatcher.proofs.turns.enter_all.Given as goal
 abbrev pub invariant-loop-command : goal.invariant-loop-command
 invariant-loop-command l = record {
   many : length l.queues.items ≡ length l.fn.queues.items;
-  entered : (z : SectionNo) → queue_at l.queues.items z ≡ queue_at l.fn.queues.items z ++ map (wait_in l.courses.given z) (on_section l.courses.given.interlocking.now.routes z (take l.command-index l.step));
+  entered : (z : SectionNo) → queue_at l.queues.items z ≡ queue_at l.fn.queues.items z ++ map (wait_in l.train_paths.given z) (on_section l.train_paths.given.interlocking.now.routes z (take l.command-index l.step));
 }

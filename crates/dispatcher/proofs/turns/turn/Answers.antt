@@ -7,7 +7,7 @@ use Rattle.dispatcher.proofs.turns.turn.Goals as goal
 
 pub returns-clause-turned : goal.returns-clause-turned
 returns-clause-turned c = λ z.
-    let given = c.args.courses.now.given in
+    let given = c.args.train_paths.now.given in
     let routes = given.interlocking.now.routes in
     c.in_ok-enter_all.ensures.entered z
     ∙ ap (λ q. q ++ map (wait_in given z) (on_section routes z c.args.step.now)) (c.leave_all.ensures.left z)

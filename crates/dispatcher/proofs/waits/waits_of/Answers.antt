@@ -14,11 +14,11 @@ use Rattle.dispatcher.proofs.waits.waits_of.Goals as goal
 
 pub overflow_sub-part : goal.overflow_sub-part
 overflow_sub-part c =
-    ((subst (All (λ (p : SectionNo × ℤ). IsWithin (length c.args.queues.now) p.0)) (sym c.as_slice-part-items.ensures) (all_within c.args.interlocking.now (length c.args.queues.now) c.requires.many c.args.command.route c.route.result.now c.route.ensures)) c.loop-part.part-index _ c.loop-part-test.true).0
+    ((subst (All (λ (p : SectionNo × ℤ). IsWithin (length c.args.queues.now) p.0)) (sym c.as_slice-part-items.ensures) (all_within c.args.interlocking.now (length c.args.queues.now) c.requires.every_section c.args.command.route c.route.result.now c.route.ensures)) c.loop-part.part-index _ c.loop-part-test.true).0
 
 pub bounds-queues-part : goal.bounds-queues-part
 bounds-queues-part c =
-    let within = (subst (All (λ (p : SectionNo × ℤ). IsWithin (length c.args.queues.now) p.0)) (sym c.as_slice-part-items.ensures) (all_within c.args.interlocking.now (length c.args.queues.now) c.requires.many c.args.command.route c.route.result.now c.route.ensures)) c.loop-part.part-index (record { 0 = 0 }, pos 0) c.loop-part-test.true in
+    let within = (subst (All (λ (p : SectionNo × ℤ). IsWithin (length c.args.queues.now) p.0)) (sym c.as_slice-part-items.ensures) (all_within c.args.interlocking.now (length c.args.queues.now) c.requires.every_section c.args.command.route c.route.result.now c.route.ensures)) c.loop-part.part-index (record { 0 = 0 }, pos 0) c.loop-part-test.true in
     omega (arith, within.0, within.1)
 
 pub loop-part-preserved : goal.loop-part-preserved
@@ -26,7 +26,7 @@ loop-part-preserved c = λ s.
     let parts = c.as_slice-part-items.result.now in
     let k = c.loop-part.part-index in
     let less = c.loop-part-test.true in
-    let within = (subst (All (λ (p : SectionNo × ℤ). IsWithin (length c.args.queues.now) p.0)) (sym c.as_slice-part-items.ensures) (all_within c.args.interlocking.now (length c.args.queues.now) c.requires.many c.args.command.route c.route.result.now c.route.ensures)) k (record { 0 = 0 }, pos 0) less in
+    let within = (subst (All (λ (p : SectionNo × ℤ). IsWithin (length c.args.queues.now) p.0)) (sym c.as_slice-part-items.ensures) (all_within c.args.interlocking.now (length c.args.queues.now) c.requires.every_section c.args.command.route c.route.result.now c.route.ensures)) k (record { 0 = 0 }, pos 0) less in
     let queue = entry_at c.args.queues.now (get_or parts k (record { 0 = 0 }, pos 0)).0.0 _ _ within.0 within.1 refl c.index-queues-part.is in
     let test = λ (p : SectionNo × ℤ). list_all (lets_pass s c.args.command.train) (queue_at c.args.queues.now p.0) in
     c.in_ok-push_queue.ensures s

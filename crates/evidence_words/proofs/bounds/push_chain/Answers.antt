@@ -2,7 +2,7 @@ use Rattle.std.proofs.Common.{List, ◌≤◌, All, length, refl, subst, sym, ar
 use Rattle.rail_bound.specs.declared.Leg.{Leg}
 use Rattle.bound_ticks.specs.Chains.{chain_of}
 use Rattle.leg_targets.specs.Visits.{origin_of}
-use Rattle.bound_ticks.specs.Ways.{IsLeg}
+use Rattle.bound_ticks.specs.Walks.{IsLeg}
 use Rattle.bound_ticks.proofs.Chained.{chain_by}
 use Rattle.bound_ticks.proofs.Naming.{is_named}
 use Rattle.evidence_words.proofs.bounds.push_chain.Goals as goal
@@ -22,7 +22,7 @@ push_legs-requires-clause-few c =
     let i = c.args.interlocking.now in
     let legs = c.as_slice-legs.result.now in
     let long : length legs ≤ 64 = subst (λ (ls : List Leg). length ls ≤ 64) (sym c.as_slice-legs.ensures) (is_named i c.args.bound.now c.requires.names).many in
-    let ticks = chain_of i.design.station i.routes c.in_ok-most.most (origin_of c.passed.result) (origin_of c.visit_to.result) legs in
-    let most = chain_by i.design.station i.routes c.in_ok-most.most ticks (origin_of c.passed.result) (origin_of c.visit_to.result) legs refl long c.in_ok-most.ensures.few in
+    let ticks = chain_of i.design.station i.routes c.in_ok-most.most (origin_of c.later_visit.result) (origin_of c.visit_to.result) legs in
+    let most = chain_by i.design.station i.routes c.in_ok-most.most ticks (origin_of c.later_visit.result) (origin_of c.visit_to.result) legs refl long c.in_ok-most.ensures.at_most_86400 in
     let small = c.first_tick.ensures.small in
     omega arith

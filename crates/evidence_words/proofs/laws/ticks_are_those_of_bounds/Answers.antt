@@ -2,7 +2,7 @@ use Rattle.std.proofs.Common.{List, ap, sym, map}
 use Rattle.rail_base.specs.declared.route.Route.{Route}
 use Rattle.rail_bound.specs.Certificates.{ride_of}
 use Rattle.rail_bound.specs.Rides.{least_route, release_place, run_ticks}
-use Rattle.rail_bound.specs.Ways.{least_way, ways}
+use Rattle.rail_bound.specs.Walks.{least_walk, walks}
 use Rattle.bound_ticks.proofs.Chained.{chain_from, chain_to, first_place_is}
 use Rattle.evidence_words.proofs.laws.ticks_are_those_of_bounds.Goals as goal
 
@@ -14,4 +14,4 @@ returns-clause-from_visit c = chain_from
 
 pub returns-clause-release : goal.returns-clause-release
 returns-clause-release c = λ d routes h l m legs.
-    ap (λ (qs : List Route). least_way (λ rs. least_route (λ q. run_ticks d routes h l.train rs (release_place d l.train rs q)) h qs) h (ways (ride_of routes l).places)) (sym (first_place_is routes m))
+    ap (λ (qs : List Route). least_walk (λ rs. least_route (λ q. run_ticks d routes h l.train rs (release_place d l.train rs q)) h qs) h (walks (ride_of routes l).places)) (sym (first_place_is routes m))

@@ -5,4 +5,4 @@ use Rattle.free_moves.proofs.following.exits.Given as goal
 
 -- those left decide
 abbrev pub invariant-loop-number : goal.invariant-loop-number
-invariant-loop-number l = list_any exits (map (route_at l.routes) l.way) ≡ list_any exits (map (route_at l.routes) (drop l.number-index l.way))
+invariant-loop-number l = list_any exits (map (route_at l.routes) l.walk) ≡ list_any exits (map (route_at l.routes) (drop l.number-index l.walk))

@@ -1,5 +1,5 @@
 use Rattle.std.proofs.Common.{◌/◌, arith}
-use Rattle.rail_motion.proofs.Ways.{product_small}
+use Rattle.rail_motion.proofs.Distances.{product_small}
 use Rattle.free_moves.proofs.Gaining.{rise_found}
 use Rattle.free_moves.proofs.gains.rise.Goals as goal
 

@@ -2,42 +2,42 @@ use Rattle.std.proofs.Common.{length, refl, sym, ap, subst, ◌∙◌, arith}
 use Rattle.plan_clauses.specs.Variables.{pairs}
 use Rattle.plan_clauses.specs.Clauses.{clauses}
 use Rattle.plan_clauses.proofs.Few.{few_pairs}
-use Rattle.plan_encoding.specs.declared.frame.Frame.{Frame}
+use Rattle.plan_encoding.specs.declared.encoder.Encoder.{Encoder}
 use Rattle.plan_encoding.specs.Bases.{IsBaseOf, IsRefused}
-use Rattle.plan_encoding.specs.Drafts.{Drafted}
-use Rattle.plan_encoding.specs.Frames.{Lists, Stops, over, station, table}
+use Rattle.plan_encoding.specs.Sinks.{SinkView}
+use Rattle.plan_encoding.specs.Encoders.{Emits, Stops, over, station, table}
 use Rattle.plan_encoding.proofs.Based.{kept, not_refused, refused}
-use Rattle.plan_encoding.proofs.Listing.{handed_on}
+use Rattle.plan_encoding.proofs.Emission.{handed_on}
 use Rattle.plan_encoding.proofs.make.base.Goals as goal
 
 pub base_of-requires : goal.base_of-requires
 base_of-requires c =
-    let fits = not_refused c.args.interlocking.now.design.station c.args.interlocking.now.routes c.args.steps.count c.in_ok-draft.draft (ap (λ (x : Drafted). x.literals) c.in_ok-draft.ensures) c.put_all-2.new.draft
-    (subst (λ (f : Frame). Lists f (over f clauses) c.in_ok-draft.draft c.put_all-2.new.draft) c.in_ok-tables.ensures c.in_ok-put_all-2.ensures.ok) in
+    let fits = not_refused c.args.interlocking.now.design.station c.args.interlocking.now.routes c.args.steps.count c.in_ok-sink.sink (ap (λ (x : SinkView). x.literals) c.in_ok-sink.ensures) c.emit_all-2.new.sink
+    (subst (λ (f : Encoder). Emits f (over f clauses) c.in_ok-sink.sink c.emit_all-2.new.sink) c.in_ok-tables.ensures c.in_ok-emit_all-2.ensures.ok) in
     let few = few_pairs c.args.interlocking.now.design.station c.args.interlocking.now.routes c.args.steps.count 16000000 fits in
-    let is = ap length (c.in_ok-pairs.ensures ∙ ap (λ (f : Frame). pairs (station f) (table f)) c.in_ok-tables.ensures) in
+    let is = ap length (c.in_ok-pairs.ensures ∙ ap (λ (f : Encoder). pairs (station f) (table f)) c.in_ok-tables.ensures) in
     record { pairs = omega arith }
 
-pub returns-in_err-put_all-clause-fault : goal.returns-in_err-put_all-clause-fault
-returns-in_err-put_all-clause-fault c = handed_on (IsRefused c.args.interlocking.now.design.station c.args.interlocking.now.routes c.args.steps.count) c.from_residual-in_err-put_all.result c.in_err-put_all.field-0.0 c.from_residual-in_err-put_all.ensures.1
-    (refused c.args.interlocking.now.design.station c.args.interlocking.now.routes c.args.steps.count c.new-count.result (ap (λ (x : Drafted). x.literals) c.new-count.ensures) c.in_err-put_all.field-0.0
-    (subst (λ (f : Frame). Stops f (over f clauses) c.new-count.result c.in_err-put_all.field-0.0) c.in_ok-tables.ensures c.in_err-put_all.ensures.err))
+pub returns-in_err-emit_all-clause-fault : goal.returns-in_err-emit_all-clause-fault
+returns-in_err-emit_all-clause-fault c = handed_on (IsRefused c.args.interlocking.now.design.station c.args.interlocking.now.routes c.args.steps.count) c.from_residual-in_err-emit_all.result c.in_err-emit_all.field-0.0 c.from_residual-in_err-emit_all.ensures.1
+    (refused c.args.interlocking.now.design.station c.args.interlocking.now.routes c.args.steps.count c.new-count.result (ap (λ (x : SinkView). x.literals) c.new-count.ensures) c.in_err-emit_all.field-0.0
+    (subst (λ (f : Encoder). Stops f (over f clauses) c.new-count.result c.in_err-emit_all.field-0.0) c.in_ok-tables.ensures c.in_err-emit_all.ensures.err))
 
-pub returns-in_err-put_all-2-clause-fault : goal.returns-in_err-put_all-2-clause-fault
-returns-in_err-put_all-2-clause-fault c = handed_on (IsRefused c.args.interlocking.now.design.station c.args.interlocking.now.routes c.args.steps.count) c.from_residual-in_err-put_all-2.result c.in_err-put_all-2.field-0.0 c.from_residual-in_err-put_all-2.ensures.1
-    (refused c.args.interlocking.now.design.station c.args.interlocking.now.routes c.args.steps.count c.in_ok-draft.draft (ap (λ (x : Drafted). x.literals) c.in_ok-draft.ensures) c.in_err-put_all-2.field-0.0
-    (subst (λ (f : Frame). Stops f (over f clauses) c.in_ok-draft.draft c.in_err-put_all-2.field-0.0) c.in_ok-tables.ensures c.in_err-put_all-2.ensures.err))
+pub returns-in_err-emit_all-2-clause-fault : goal.returns-in_err-emit_all-2-clause-fault
+returns-in_err-emit_all-2-clause-fault c = handed_on (IsRefused c.args.interlocking.now.design.station c.args.interlocking.now.routes c.args.steps.count) c.from_residual-in_err-emit_all-2.result c.in_err-emit_all-2.field-0.0 c.from_residual-in_err-emit_all-2.ensures.1
+    (refused c.args.interlocking.now.design.station c.args.interlocking.now.routes c.args.steps.count c.in_ok-sink.sink (ap (λ (x : SinkView). x.literals) c.in_ok-sink.ensures) c.in_err-emit_all-2.field-0.0
+    (subst (λ (f : Encoder). Stops f (over f clauses) c.in_ok-sink.sink c.in_err-emit_all-2.field-0.0) c.in_ok-tables.ensures c.in_err-emit_all-2.ensures.err))
 
 pub returns-clause-base : goal.returns-clause-base
 returns-clause-base c = subst (IsBaseOf c.args.interlocking.now.design.station c.args.interlocking.now.routes c.args.steps.count) (sym c.base_of.ensures) (record {
   trains = refl;
   routes = refl;
   steps = refl;
-  pairs = c.in_ok-pairs.ensures ∙ ap (λ (f : Frame). pairs (station f) (table f)) c.in_ok-tables.ensures;
-  clauses = c.into_clauses.ensures ∙ kept c.args.interlocking.now.design.station c.args.interlocking.now.routes c.args.steps.count c.in_ok-draft.draft c.put_all-2.new.draft
-      (subst (λ (f : Frame). Lists f (over f clauses) c.in_ok-draft.draft c.put_all-2.new.draft) c.in_ok-tables.ensures c.in_ok-put_all-2.ensures.ok) c.in_ok-draft.ensures;
+  pairs = c.in_ok-pairs.ensures ∙ ap (λ (f : Encoder). pairs (station f) (table f)) c.in_ok-tables.ensures;
+  clauses = c.into_clauses.ensures ∙ kept c.args.interlocking.now.design.station c.args.interlocking.now.routes c.args.steps.count c.in_ok-sink.sink c.emit_all-2.new.sink
+      (subst (λ (f : Encoder). Emits f (over f clauses) c.in_ok-sink.sink c.emit_all-2.new.sink) c.in_ok-tables.ensures c.in_ok-emit_all-2.ensures.ok) c.in_ok-sink.ensures;
 })
 
 pub returns-clause-within : goal.returns-clause-within
-returns-clause-within c = not_refused c.args.interlocking.now.design.station c.args.interlocking.now.routes c.args.steps.count c.in_ok-draft.draft (ap (λ (x : Drafted). x.literals) c.in_ok-draft.ensures) c.put_all-2.new.draft
-    (subst (λ (f : Frame). Lists f (over f clauses) c.in_ok-draft.draft c.put_all-2.new.draft) c.in_ok-tables.ensures c.in_ok-put_all-2.ensures.ok)
+returns-clause-within c = not_refused c.args.interlocking.now.design.station c.args.interlocking.now.routes c.args.steps.count c.in_ok-sink.sink (ap (λ (x : SinkView). x.literals) c.in_ok-sink.ensures) c.emit_all-2.new.sink
+    (subst (λ (f : Encoder). Emits f (over f clauses) c.in_ok-sink.sink c.emit_all-2.new.sink) c.in_ok-tables.ensures c.in_ok-emit_all-2.ensures.ok)

@@ -1,7 +1,7 @@
 use Rattle.std.proofs.Common.{◌≡◌, ℕ, ◌≤◌, ◌∙◌, List, Result, Ok, None, Some, ap, sym, subst, IfOk, arith}
 use Rattle.rail_text.specs.Pieces.{pieces}
-use Rattle.log_checker.specs.declared.shown.Shown.{Shown}
-use Rattle.log_checker.specs.declared.shown.Shown.TheVariants.{Yes}
+use Rattle.log_checker.specs.declared.check_result.CheckResult.{CheckResult}
+use Rattle.log_checker.specs.declared.check_result.CheckResult.TheVariants.{Yes}
 use Rattle.log_checker.specs.Verdict.{head_in}
 use Rattle.proof_log.specs.declared.head.Head.TheVariants.{Plain, Named, Sorted}
 use Rattle.rail_base.specs.declared.station.Station.{Station}
@@ -13,7 +13,7 @@ use Rattle.proof_judge.proofs.Sound.{yes_infeasible}
 use Rattle.proof_judge.proofs.Under.{by_head}
 use Rattle.proof_judge.proofs.judging.judge.Goals as goal
 
-sound : {E : Type 0} (d : Station) → IsAdmitted d → (n : ℕ) (bytes : List ℕ) → 1 ≤ n → (r : Result Shown E) → IfOk r (λ shown. shown ≡ judged d n bytes) → (k : ℕ) → r ≡ Ok (Yes k) → IsInfeasible d k
+sound : {E : Type 0} (d : Station) → IsAdmitted d → (n : ℕ) (bytes : List ℕ) → 1 ≤ n → (r : Result CheckResult E) → IfOk r (λ shown. shown ≡ judged d n bytes) → (k : ℕ) → r ≡ Ok (Yes k) → IsInfeasible d k
 sound d good n bytes some r value k e = (yes_infeasible d good n k bytes some (sym (subst (λ z. IfOk z (λ shown. shown ≡ judged d n bytes)) e value))).1
 
 pub returns-in-Some-Sorted-clause-value : goal.returns-in-Some-Sorted-clause-value

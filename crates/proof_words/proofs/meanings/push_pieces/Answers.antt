@@ -2,7 +2,7 @@ use Rattle.rail_outside.specs.Lines.{lines_of}
 use Rattle.rail_text.specs.Cursors.{lines_left}
 use Rattle.rail_text.specs.Lines.{line_of}
 use Rattle.proof_words.specs.Meanings.{piece_told}
-use Rattle.proof_words.specs.Shown.{IsNamedPiece}
+use Rattle.proof_words.specs.Named.{IsNamedPiece}
 use Rattle.proof_words.proofs.Pieces.{first_all, rest_all, told_more}
 use Rattle.proof_words.proofs.meanings.push_pieces.Goals as goal
 

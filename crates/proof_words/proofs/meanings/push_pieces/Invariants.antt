@@ -2,7 +2,7 @@ use Rattle.std.proofs.Common.{◌≡◌, ◌++◌, All, flat_map}
 use Rattle.rail_outside.specs.Lines.{lines_of}
 use Rattle.rail_text.specs.Cursors.{lines_left}
 use Rattle.proof_words.specs.Meanings.{piece_told}
-use Rattle.proof_words.specs.Shown.{IsNamedPiece}
+use Rattle.proof_words.specs.Named.{IsNamedPiece}
 use Rattle.proof_words.proofs.meanings.push_pieces.Given as goal
 
 abbrev pub invariant-pieces : goal.invariant-pieces

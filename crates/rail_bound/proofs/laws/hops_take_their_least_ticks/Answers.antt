@@ -5,4 +5,4 @@ pub returns-clause-run : goal.returns-clause-run
 returns-clause-run c d adm n plan well t before l has some h y j later k = run d adm n plan well t before l has some h y j k later
 
 pub returns-clause-on : goal.returns-clause-on
-returns-clause-on c d adm n plan well t before l has h x y way k = on d adm n plan well t before l has h x y k way
+returns-clause-on c d adm n plan well t before l has h x y walk k = on d adm n plan well t before l has h x y k walk

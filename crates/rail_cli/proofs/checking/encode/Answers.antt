@@ -16,4 +16,4 @@ returns-in-Ok-clause-base c = subst (λ (r : List Route). IsBaseOf c.args.interl
 pub returns-in-Err-TooLarge-clause-reads : goal.returns-in-Err-TooLarge-clause-reads
 returns-in-Err-TooLarge-clause-reads c =
     let d = c.args.interlocking.now.design.station in
-    rw c.ended.ensures (ended_reads (λ (b : Numbered). d) c.too_large.result _ _ c.too_large.ensures (refused_so c.args.steps.count d c.args.interlocking.now.routes c.in-Err-TooLarge.field-0 c.in-Err-TooLarge.field-0-0 c.args.interlocking.now.table c.in-Err-TooLarge.field-0-is c.in-Err-TooLarge.ensures.fault))
+    rw c.ending_of.ensures (ended_reads (λ (b : Numbered). d) c.too_large.result _ _ c.too_large.ensures (refused_so c.args.steps.count d c.args.interlocking.now.routes c.in-Err-TooLarge.field-0 c.in-Err-TooLarge.field-0-0 c.args.interlocking.now.table c.in-Err-TooLarge.field-0-is c.in-Err-TooLarge.ensures.fault))

@@ -17,55 +17,55 @@ use Rattle.rail_cli.proofs.Untold.{prints_some, prints_told, want_prints, fault_
 use Rattle.rail_cli.proofs.run.run_words.Goals as goal
 
 pub returns-in-Ok-clause-answer : goal.returns-in-Ok-clause-answer
-returns-in-Ok-clause-answer g c = λ files told. run_so files (texts_of c.args.words.now) c.in-Ok.reply c.print.result _ _ _ _ (c.in-Ok.ensures.replies files told) c.print.ensures.prints
+returns-in-Ok-clause-answer g c = λ files reply_for. run_so files (texts_of c.args.words.now) c.in-Ok.reply c.print.result _ _ _ _ (c.in-Ok.ensures.replies files reply_for) c.print.ensures.prints
 
 pub returns-in-Ok-clause-met : goal.returns-in-Ok-clause-met
-returns-in-Ok-clause-met g c = λ files told d plan s answered. run_met files (texts_of c.args.words.now) c.in-Ok.reply c.print.result _ _ _ _ (c.in-Ok.ensures.replies files told) (c.in-Ok.ensures.done files told) c.print.ensures.prints d plan s answered
+returns-in-Ok-clause-met g c = λ files reply_for d plan s answered. run_met files (texts_of c.args.words.now) c.in-Ok.reply c.print.result _ _ _ _ (c.in-Ok.ensures.replies files reply_for) (c.in-Ok.ensures.done files reply_for) c.print.ensures.prints d plan s answered
 
 pub returns-in-Ok-clause-infeasible : goal.returns-in-Ok-clause-infeasible
-returns-in-Ok-clause-infeasible g c = λ files told n d checks done. run_infeasible files (texts_of c.args.words.now) c.in-Ok.reply c.print.result _ _ _ _ n d (c.in-Ok.ensures.replies files told) c.print.ensures.prints checks done
+returns-in-Ok-clause-infeasible g c = λ files reply_for n d checks done. run_infeasible files (texts_of c.args.words.now) c.in-Ok.reply c.print.result _ _ _ _ n d (c.in-Ok.ensures.replies files reply_for) c.print.ensures.prints checks done
 
 pub returns-in-Ok-clause-planned : goal.returns-in-Ok-clause-planned
-returns-in-Ok-clause-planned g c = λ files told n d s done. tells_plan files (texts_of c.args.words.now) n d s c.in-Ok.reply c.print.result _ _ _ _ (c.in-Ok.ensures.replies files told) c.print.ensures.prints done
+returns-in-Ok-clause-planned g c = λ files reply_for n d s done. tells_plan files (texts_of c.args.words.now) n d s c.in-Ok.reply c.print.result _ _ _ _ (c.in-Ok.ensures.replies files reply_for) c.print.ensures.prints done
 
-pub returns-in-Ok-clause-held : goal.returns-in-Ok-clause-held
-returns-in-Ok-clause-held g c = run_leaves (request_of (texts_of c.args.words.now)) c.in-Ok.reply.status c.print.result (g.S.Shelf.held c.args.shelf.now) (g.S.Shelf.held c.reply.new.shelf) c.in-Ok.reply.answered c.print.ensures.prints.status c.print.ensures.no_shelf c.in-Ok.ensures.held
+pub returns-in-Ok-clause-stored : goal.returns-in-Ok-clause-stored
+returns-in-Ok-clause-stored g c = run_leaves (request_of (texts_of c.args.words.now)) c.in-Ok.reply.status c.print.result (g.S.Shelf.known_files c.args.shelf.now) (g.S.Shelf.known_files c.reply.new.shelf) c.in-Ok.reply.answered c.print.ensures.prints.status c.print.ensures.no_shelf c.in-Ok.ensures.stored
 
 pub returns-in-Ok-clause-proven : goal.returns-in-Ok-clause-proven
-returns-in-Ok-clause-proven g c = λ files told n d s no. tells_none files (texts_of c.args.words.now) n d s c.in-Ok.reply c.print.result _ _ _ _ (c.in-Ok.ensures.replies files told) c.print.ensures.prints _ _ told
-    (run_leaves (request_of (texts_of c.args.words.now)) c.in-Ok.reply.status c.print.result (g.S.Shelf.held c.args.shelf.now) (g.S.Shelf.held c.reply.new.shelf) c.in-Ok.reply.answered c.print.ensures.prints.status c.print.ensures.no_shelf c.in-Ok.ensures.held) no
+returns-in-Ok-clause-proven g c = λ files reply_for n d s no. tells_none files (texts_of c.args.words.now) n d s c.in-Ok.reply c.print.result _ _ _ _ (c.in-Ok.ensures.replies files reply_for) c.print.ensures.prints _ _ reply_for
+    (run_leaves (request_of (texts_of c.args.words.now)) c.in-Ok.reply.status c.print.result (g.S.Shelf.known_files c.args.shelf.now) (g.S.Shelf.known_files c.reply.new.shelf) c.in-Ok.reply.answered c.print.ensures.prints.status c.print.ensures.no_shelf c.in-Ok.ensures.stored) no
 
-pub returns-in-Err-Told-clause-answer : goal.returns-in-Err-Told-clause-answer
-returns-in-Err-Told-clause-answer g c = λ files told. run_so files (texts_of c.args.words.now) c.in-Err-Told.reply c.print-in-Err-Told.result _ _ _ _ (told_so c.in-Err-Told.field-0 c.in-Err-Told.reply files (request_of (texts_of c.args.words.now)) c.in-Err-Told.field-0-is (c.in-Err-Told.ensures.replies files told)) c.print-in-Err-Told.ensures.prints
+pub returns-in-Err-RefusedWith-clause-answer : goal.returns-in-Err-RefusedWith-clause-answer
+returns-in-Err-RefusedWith-clause-answer g c = λ files reply_for. run_so files (texts_of c.args.words.now) c.in-Err-RefusedWith.reply c.print-in-Err-RefusedWith.result _ _ _ _ (told_so c.in-Err-RefusedWith.field-0 c.in-Err-RefusedWith.reply files (request_of (texts_of c.args.words.now)) c.in-Err-RefusedWith.field-0-is (c.in-Err-RefusedWith.ensures.replies files reply_for)) c.print-in-Err-RefusedWith.ensures.prints
 
-pub returns-in-Err-Told-clause-met : goal.returns-in-Err-Told-clause-met
-returns-in-Err-Told-clause-met g c = λ files told d plan s answered. run_met files (texts_of c.args.words.now) c.in-Err-Told.reply c.print-in-Err-Told.result _ _ _ _ (told_so c.in-Err-Told.field-0 c.in-Err-Told.reply files (request_of (texts_of c.args.words.now)) c.in-Err-Told.field-0-is (c.in-Err-Told.ensures.replies files told)) (told_reply c.in-Err-Told.field-0 c.in-Err-Told.reply (λ reply. DoneWhereFeasible files (texts_of c.args.words.now) reply.status) c.in-Err-Told.field-0-is (c.in-Err-Told.ensures.done files told)) c.print-in-Err-Told.ensures.prints d plan s answered
+pub returns-in-Err-RefusedWith-clause-met : goal.returns-in-Err-RefusedWith-clause-met
+returns-in-Err-RefusedWith-clause-met g c = λ files reply_for d plan s answered. run_met files (texts_of c.args.words.now) c.in-Err-RefusedWith.reply c.print-in-Err-RefusedWith.result _ _ _ _ (told_so c.in-Err-RefusedWith.field-0 c.in-Err-RefusedWith.reply files (request_of (texts_of c.args.words.now)) c.in-Err-RefusedWith.field-0-is (c.in-Err-RefusedWith.ensures.replies files reply_for)) (told_reply c.in-Err-RefusedWith.field-0 c.in-Err-RefusedWith.reply (λ reply. DoneWhereFeasible files (texts_of c.args.words.now) reply.status) c.in-Err-RefusedWith.field-0-is (c.in-Err-RefusedWith.ensures.done files reply_for)) c.print-in-Err-RefusedWith.ensures.prints d plan s answered
 
-pub returns-in-Err-Told-clause-infeasible : goal.returns-in-Err-Told-clause-infeasible
-returns-in-Err-Told-clause-infeasible g c = λ files told n d checks done. run_infeasible files (texts_of c.args.words.now) c.in-Err-Told.reply c.print-in-Err-Told.result _ _ _ _ n d (told_so c.in-Err-Told.field-0 c.in-Err-Told.reply files (request_of (texts_of c.args.words.now)) c.in-Err-Told.field-0-is (c.in-Err-Told.ensures.replies files told)) c.print-in-Err-Told.ensures.prints checks done
+pub returns-in-Err-RefusedWith-clause-infeasible : goal.returns-in-Err-RefusedWith-clause-infeasible
+returns-in-Err-RefusedWith-clause-infeasible g c = λ files reply_for n d checks done. run_infeasible files (texts_of c.args.words.now) c.in-Err-RefusedWith.reply c.print-in-Err-RefusedWith.result _ _ _ _ n d (told_so c.in-Err-RefusedWith.field-0 c.in-Err-RefusedWith.reply files (request_of (texts_of c.args.words.now)) c.in-Err-RefusedWith.field-0-is (c.in-Err-RefusedWith.ensures.replies files reply_for)) c.print-in-Err-RefusedWith.ensures.prints checks done
 
-pub returns-in-Err-Told-clause-planned : goal.returns-in-Err-Told-clause-planned
-returns-in-Err-Told-clause-planned g c = λ files told n d s done. tells_plan files (texts_of c.args.words.now) n d s c.in-Err-Told.reply c.print-in-Err-Told.result _ _ _ _ (told_so c.in-Err-Told.field-0 c.in-Err-Told.reply files (request_of (texts_of c.args.words.now)) c.in-Err-Told.field-0-is (c.in-Err-Told.ensures.replies files told)) c.print-in-Err-Told.ensures.prints done
+pub returns-in-Err-RefusedWith-clause-planned : goal.returns-in-Err-RefusedWith-clause-planned
+returns-in-Err-RefusedWith-clause-planned g c = λ files reply_for n d s done. tells_plan files (texts_of c.args.words.now) n d s c.in-Err-RefusedWith.reply c.print-in-Err-RefusedWith.result _ _ _ _ (told_so c.in-Err-RefusedWith.field-0 c.in-Err-RefusedWith.reply files (request_of (texts_of c.args.words.now)) c.in-Err-RefusedWith.field-0-is (c.in-Err-RefusedWith.ensures.replies files reply_for)) c.print-in-Err-RefusedWith.ensures.prints done
 
-pub returns-in-Err-Told-clause-held : goal.returns-in-Err-Told-clause-held
-returns-in-Err-Told-clause-held g c = run_leaves (request_of (texts_of c.args.words.now)) c.in-Err-Told.reply.status c.print-in-Err-Told.result (g.S.Shelf.held c.args.shelf.now) (g.S.Shelf.held c.reply.new.shelf) c.in-Err-Told.reply.answered c.print-in-Err-Told.ensures.prints.status c.print-in-Err-Told.ensures.no_shelf (told_status c.in-Err-Told.field-0 c.in-Err-Told.reply (λ s. Leaves (request_of (texts_of c.args.words.now)) s (g.S.Shelf.held c.args.shelf.now) (g.S.Shelf.held c.reply.new.shelf)) c.in-Err-Told.field-0-is c.in-Err-Told.ensures.held)
+pub returns-in-Err-RefusedWith-clause-stored : goal.returns-in-Err-RefusedWith-clause-stored
+returns-in-Err-RefusedWith-clause-stored g c = run_leaves (request_of (texts_of c.args.words.now)) c.in-Err-RefusedWith.reply.status c.print-in-Err-RefusedWith.result (g.S.Shelf.known_files c.args.shelf.now) (g.S.Shelf.known_files c.reply.new.shelf) c.in-Err-RefusedWith.reply.answered c.print-in-Err-RefusedWith.ensures.prints.status c.print-in-Err-RefusedWith.ensures.no_shelf (told_status c.in-Err-RefusedWith.field-0 c.in-Err-RefusedWith.reply (λ s. Leaves (request_of (texts_of c.args.words.now)) s (g.S.Shelf.known_files c.args.shelf.now) (g.S.Shelf.known_files c.reply.new.shelf)) c.in-Err-RefusedWith.field-0-is c.in-Err-RefusedWith.ensures.stored)
 
-pub returns-in-Err-Told-clause-proven : goal.returns-in-Err-Told-clause-proven
-returns-in-Err-Told-clause-proven g c = λ files told n d s no. tells_none files (texts_of c.args.words.now) n d s c.in-Err-Told.reply c.print-in-Err-Told.result _ _ _ _ (told_so c.in-Err-Told.field-0 c.in-Err-Told.reply files (request_of (texts_of c.args.words.now)) c.in-Err-Told.field-0-is (c.in-Err-Told.ensures.replies files told)) c.print-in-Err-Told.ensures.prints _ _ told
-    (run_leaves (request_of (texts_of c.args.words.now)) c.in-Err-Told.reply.status c.print-in-Err-Told.result (g.S.Shelf.held c.args.shelf.now) (g.S.Shelf.held c.reply.new.shelf) c.in-Err-Told.reply.answered c.print-in-Err-Told.ensures.prints.status c.print-in-Err-Told.ensures.no_shelf (told_status c.in-Err-Told.field-0 c.in-Err-Told.reply (λ s. Leaves (request_of (texts_of c.args.words.now)) s (g.S.Shelf.held c.args.shelf.now) (g.S.Shelf.held c.reply.new.shelf)) c.in-Err-Told.field-0-is c.in-Err-Told.ensures.held)) no
+pub returns-in-Err-RefusedWith-clause-proven : goal.returns-in-Err-RefusedWith-clause-proven
+returns-in-Err-RefusedWith-clause-proven g c = λ files reply_for n d s no. tells_none files (texts_of c.args.words.now) n d s c.in-Err-RefusedWith.reply c.print-in-Err-RefusedWith.result _ _ _ _ (told_so c.in-Err-RefusedWith.field-0 c.in-Err-RefusedWith.reply files (request_of (texts_of c.args.words.now)) c.in-Err-RefusedWith.field-0-is (c.in-Err-RefusedWith.ensures.replies files reply_for)) c.print-in-Err-RefusedWith.ensures.prints _ _ reply_for
+    (run_leaves (request_of (texts_of c.args.words.now)) c.in-Err-RefusedWith.reply.status c.print-in-Err-RefusedWith.result (g.S.Shelf.known_files c.args.shelf.now) (g.S.Shelf.known_files c.reply.new.shelf) c.in-Err-RefusedWith.reply.answered c.print-in-Err-RefusedWith.ensures.prints.status c.print-in-Err-RefusedWith.ensures.no_shelf (told_status c.in-Err-RefusedWith.field-0 c.in-Err-RefusedWith.reply (λ s. Leaves (request_of (texts_of c.args.words.now)) s (g.S.Shelf.known_files c.args.shelf.now) (g.S.Shelf.known_files c.reply.new.shelf)) c.in-Err-RefusedWith.field-0-is c.in-Err-RefusedWith.ensures.stored)) no
 
 pub returns-in-Err-Memory-clause-answer : goal.returns-in-Err-Memory-clause-answer
-returns-in-Err-Memory-clause-answer g c = λ files told. (Memory, finds_so files (request_of (texts_of c.args.words.now)) Memory (may_want files (request_of (texts_of c.args.words.now))), silent_for_memory (answer_of files Memory (texts_of c.args.words.now)) _ _)
+returns-in-Err-Memory-clause-answer g c = λ files reply_for. (Memory, finds_so files (request_of (texts_of c.args.words.now)) Memory (may_want files (request_of (texts_of c.args.words.now))), silent_for_memory (answer_of files Memory (texts_of c.args.words.now)) _ _)
 
 pub returns-in-Err-ShelfFault-clause-answer : goal.returns-in-Err-ShelfFault-clause-answer
-returns-in-Err-ShelfFault-clause-answer g c = λ files told. (Memory, finds_so files (request_of (texts_of c.args.words.now)) Memory (may_want files (request_of (texts_of c.args.words.now))), silent_at_shelf (answer_of files Memory (texts_of c.args.words.now)) _ _)
+returns-in-Err-ShelfFault-clause-answer g c = λ files reply_for. (Memory, finds_so files (request_of (texts_of c.args.words.now)) Memory (may_want files (request_of (texts_of c.args.words.now))), silent_at_shelf (answer_of files Memory (texts_of c.args.words.now)) _ _)
 
 pub returns-in-Ok-clause-tried : goal.returns-in-Ok-clause-tried
 returns-in-Ok-clause-tried g c = λ seed size asked. tells_trial seed size c.print.result _ _ _ _ c.in-Ok.reply (tries_trial (Ok c.in-Ok.reply) seed size (request_of (texts_of c.args.words.now)) asked c.in-Ok.ensures.tries) c.print.ensures.prints
 
-pub returns-in-Err-Told-clause-tried : goal.returns-in-Err-Told-clause-tried
-returns-in-Err-Told-clause-tried g c = λ seed size asked. tells_trial seed size c.print-in-Err-Told.result _ _ _ _ c.in-Err-Told.reply
-    (told_trial_reply c.in-Err-Told.field-0 c.in-Err-Told.reply seed size c.in-Err-Told.field-0-is (tries_trial (Err c.in-Err-Told.field-0) seed size (request_of (texts_of c.args.words.now)) asked c.in-Err-Told.ensures.tries)) c.print-in-Err-Told.ensures.prints
+pub returns-in-Err-RefusedWith-clause-tried : goal.returns-in-Err-RefusedWith-clause-tried
+returns-in-Err-RefusedWith-clause-tried g c = λ seed size asked. tells_trial seed size c.print-in-Err-RefusedWith.result _ _ _ _ c.in-Err-RefusedWith.reply
+    (told_trial_reply c.in-Err-RefusedWith.field-0 c.in-Err-RefusedWith.reply seed size c.in-Err-RefusedWith.field-0-is (tries_trial (Err c.in-Err-RefusedWith.field-0) seed size (request_of (texts_of c.args.words.now)) asked c.in-Err-RefusedWith.ensures.tries)) c.print-in-Err-RefusedWith.ensures.prints
 
 pub returns-in-Err-Memory-clause-tried : goal.returns-in-Err-Memory-clause-tried
 returns-in-Err-Memory-clause-tried g c = λ seed size asked. tells_nothing seed size _ _ _ refl
@@ -79,30 +79,30 @@ returns-in-Ok-clause-usage g c = λ answered.
     let law = silence_has_a_cause (texts_of c.args.words.now) in
     (λ is. law.0 (same.0 is), λ nothing. same.1 (law.1 nothing))
 
-pub returns-in-Err-Told-clause-usage : goal.returns-in-Err-Told-clause-usage
-returns-in-Err-Told-clause-usage g c = λ answered.
-    let same : (c.print-in-Err-Told.result ≡ Usage) ↔ (request_of (texts_of c.args.words.now) ≡ None) = search rules in
+pub returns-in-Err-RefusedWith-clause-usage : goal.returns-in-Err-RefusedWith-clause-usage
+returns-in-Err-RefusedWith-clause-usage g c = λ answered.
+    let same : (c.print-in-Err-RefusedWith.result ≡ Usage) ↔ (request_of (texts_of c.args.words.now) ≡ None) = search rules in
     let law = silence_has_a_cause (texts_of c.args.words.now) in
     (λ is. law.0 (same.0 is), λ nothing. same.1 (law.1 nothing))
 
-pub returns-in-Ok-clause-comes_to : goal.returns-in-Ok-clause-comes_to
-returns-in-Ok-clause-comes_to g c = λ files told. run_comes files (texts_of c.args.words.now) c.print.result _ _ _ _ (run_so files (texts_of c.args.words.now) c.in-Ok.reply c.print.result _ _ _ _ (c.in-Ok.ensures.replies files told) c.print.ensures.prints)
+pub returns-in-Ok-clause-has_verdict : goal.returns-in-Ok-clause-has_verdict
+returns-in-Ok-clause-has_verdict g c = λ files reply_for. run_comes files (texts_of c.args.words.now) c.print.result _ _ _ _ (run_so files (texts_of c.args.words.now) c.in-Ok.reply c.print.result _ _ _ _ (c.in-Ok.ensures.replies files reply_for) c.print.ensures.prints)
 
-pub returns-in-Err-Told-clause-comes_to : goal.returns-in-Err-Told-clause-comes_to
-returns-in-Err-Told-clause-comes_to g c = λ files told. run_comes files (texts_of c.args.words.now) c.print-in-Err-Told.result _ _ _ _
-    (run_so files (texts_of c.args.words.now) c.in-Err-Told.reply c.print-in-Err-Told.result _ _ _ _ (told_so c.in-Err-Told.field-0 c.in-Err-Told.reply files (request_of (texts_of c.args.words.now)) c.in-Err-Told.field-0-is (c.in-Err-Told.ensures.replies files told)) c.print-in-Err-Told.ensures.prints)
+pub returns-in-Err-RefusedWith-clause-has_verdict : goal.returns-in-Err-RefusedWith-clause-has_verdict
+returns-in-Err-RefusedWith-clause-has_verdict g c = λ files reply_for. run_comes files (texts_of c.args.words.now) c.print-in-Err-RefusedWith.result _ _ _ _
+    (run_so files (texts_of c.args.words.now) c.in-Err-RefusedWith.reply c.print-in-Err-RefusedWith.result _ _ _ _ (told_so c.in-Err-RefusedWith.field-0 c.in-Err-RefusedWith.reply files (request_of (texts_of c.args.words.now)) c.in-Err-RefusedWith.field-0-is (c.in-Err-RefusedWith.ensures.replies files reply_for)) c.print-in-Err-RefusedWith.ensures.prints)
 
-pub returns-in-Err-Memory-clause-comes_to : goal.returns-in-Err-Memory-clause-comes_to
-returns-in-Err-Memory-clause-comes_to g c = λ files told u answered. no_answer files (request_of (texts_of c.args.words.now)) _ refl answered
+pub returns-in-Err-Memory-clause-has_verdict : goal.returns-in-Err-Memory-clause-has_verdict
+returns-in-Err-Memory-clause-has_verdict g c = λ files reply_for u answered. no_answer files (request_of (texts_of c.args.words.now)) _ refl answered
 
-pub returns-in-Err-ShelfFault-clause-comes_to : goal.returns-in-Err-ShelfFault-clause-comes_to
-returns-in-Err-ShelfFault-clause-comes_to g c = λ files told u answered. no_answer files (request_of (texts_of c.args.words.now)) _ refl answered
+pub returns-in-Err-ShelfFault-clause-has_verdict : goal.returns-in-Err-ShelfFault-clause-has_verdict
+returns-in-Err-ShelfFault-clause-has_verdict g c = λ files reply_for u answered. no_answer files (request_of (texts_of c.args.words.now)) _ refl answered
 
 pub returns-in-Ok-clause-for_some_files : goal.returns-in-Ok-clause-for_some_files
-returns-in-Ok-clause-for_some_files g c = prints_some (request_of (texts_of c.args.words.now)) c.print.result _ _ _ _ c.in-Ok.reply c.in-Ok.ensures.some c.print.ensures.prints
+returns-in-Ok-clause-for_some_files g c = prints_some (request_of (texts_of c.args.words.now)) c.print.result _ _ _ _ c.in-Ok.reply c.in-Ok.ensures.for_some_files c.print.ensures.prints
 
-pub returns-in-Err-Told-clause-for_some_files : goal.returns-in-Err-Told-clause-for_some_files
-returns-in-Err-Told-clause-for_some_files g c = prints_told (request_of (texts_of c.args.words.now)) c.print-in-Err-Told.result _ _ _ _ c.in-Err-Told.field-0 c.in-Err-Told.reply c.in-Err-Told.field-0-is c.in-Err-Told.ensures.some c.print-in-Err-Told.ensures.prints
+pub returns-in-Err-RefusedWith-clause-for_some_files : goal.returns-in-Err-RefusedWith-clause-for_some_files
+returns-in-Err-RefusedWith-clause-for_some_files g c = prints_told (request_of (texts_of c.args.words.now)) c.print-in-Err-RefusedWith.result _ _ _ _ c.in-Err-RefusedWith.field-0 c.in-Err-RefusedWith.reply c.in-Err-RefusedWith.field-0-is c.in-Err-RefusedWith.ensures.for_some_files c.print-in-Err-RefusedWith.ensures.prints
 
 pub returns-in-Err-Memory-clause-for_some_files : goal.returns-in-Err-Memory-clause-for_some_files
 returns-in-Err-Memory-clause-for_some_files g c = want_prints (request_of (texts_of c.args.words.now)) _ _

@@ -9,10 +9,10 @@ returns-in_err-keep-clause-replies g c = failed_so c.in_err-keep.field-0.0 c.fro
 pub returns-in_err-keep-clause-refuses : goal.returns-in_err-keep-clause-refuses
 returns-in_err-keep-clause-refuses g c = failed_refuses c.in_err-keep.field-0.0 c.from_residual-in_err-keep.result (search rules) c.in_err-keep.ensures.fails
 
-pub returns-in_err-keep-clause-held : goal.returns-in_err-keep-clause-held
-returns-in_err-keep-clause-held g c = λ files name told spelled.
-    failed_leaves files c.args.steps name c.args.proof.now _ c.requires.says.0 c.args.design.now.station spelled c.args.budgets c.requires.room c.from_residual-in_err-keep.result c.in_err-keep.field-0.0 c.args.found.now (search rules) c.requires.says.1 (c.in_err-keep.ensures.held files told)
+pub returns-in_err-keep-clause-stored : goal.returns-in_err-keep-clause-stored
+returns-in_err-keep-clause-stored g c = λ files name reply_for parsed.
+    failed_leaves files c.args.steps name c.args.proof.now _ c.requires.says.0 c.args.design.now.station parsed c.args.budgets c.requires.room c.from_residual-in_err-keep.result c.in_err-keep.field-0.0 c.args.found.now (search rules) c.requires.says.1 (c.in_err-keep.ensures.stored files reply_for)
 
-pub returns-clause-held : goal.returns-clause-held
-returns-clause-held g c = λ files name told spelled.
-    settled_leaves files c.args.steps name c.args.proof.now _ c.requires.says.0 c.args.design.now.station spelled c.args.budgets c.requires.room c.args.found.now c.in_ok-reply.reply c.requires.says.1 (c.in_ok-keep.ensures.held files told) c.in_ok-reply.ensures
+pub returns-clause-stored : goal.returns-clause-stored
+returns-clause-stored g c = λ files name reply_for parsed.
+    settled_leaves files c.args.steps name c.args.proof.now _ c.requires.says.0 c.args.design.now.station parsed c.args.budgets c.requires.room c.args.found.now c.in_ok-reply.reply c.requires.says.1 (c.in_ok-keep.ensures.stored files reply_for) c.in_ok-reply.ensures

@@ -5,7 +5,7 @@ use Rattle.rail_spec.specs.Histories.{verdict_of}
 use Rattle.rail_cli.specs.declared.status.Status.{Status}
 use Rattle.rail_cli.specs.declared.status.Status.TheVariants as statuses
 use Rattle.rail_cli.specs.Answers.{verdict_status}
-use Rattle.rail_cli.specs.Shows.{shown_by}
+use Rattle.rail_cli.specs.Shows.{verdict_at_horizon}
 use Rattle.rail_cli.proofs.Showing.{done_exactly, runs_safely, shown_so}
 use Rattle.rail_cli.proofs.simulation.show.Goals as goal
 
@@ -13,15 +13,15 @@ pub returns-clause-shown : goal.returns-clause-shown
 returns-clause-shown c =
     let d = c.args.interlocking.now.design.station in
     let plan = c.args.plan.now.steps in
-    let same : c.in_ok-verdict.verdict ≡ shown_by d plan = c.in_ok-verdict.ensures.value ∙ ap₂ (λ r h. verdict_of d r plan h) c.args.interlocking.now.table c.horizon.ensures.value in
+    let same : c.in_ok-verdict.verdict ≡ verdict_at_horizon d plan = c.in_ok-verdict.ensures.value ∙ ap₂ (λ r h. verdict_of d r plan h) c.args.interlocking.now.table c.horizon.ensures.value in
     shown_so d _ _ c.in_ok-verdict.verdict _ c.status_of.ensures c.in_ok-lines.ensures same
 
 pub returns-clause-exactly : goal.returns-clause-exactly
 returns-clause-exactly c =
     let d = c.args.interlocking.now.design.station in
     let plan = c.args.plan.now.steps in
-    let same : c.in_ok-verdict.verdict ≡ shown_by d plan = c.in_ok-verdict.ensures.value ∙ ap₂ (λ r h. verdict_of d r plan h) c.args.interlocking.now.table c.horizon.ensures.value in
-    let kind : c.status_of.result ≡ verdict_status (shown_by d plan) = c.status_of.ensures ∙ ap verdict_status same in
+    let same : c.in_ok-verdict.verdict ≡ verdict_at_horizon d plan = c.in_ok-verdict.ensures.value ∙ ap₂ (λ r h. verdict_of d r plan h) c.args.interlocking.now.table c.horizon.ensures.value in
+    let kind : c.status_of.result ≡ verdict_status (verdict_at_horizon d plan) = c.status_of.ensures ∙ ap verdict_status same in
     subst (λ (s : Status). (s ≡ statuses.Done) ↔ IsFeasible d 256 plan) (sym kind) (done_exactly d 256 plan (admitted d c.args.interlocking.now.design.admitted) c.requires.runnable)
 
 pub returns-clause-safe : goal.returns-clause-safe

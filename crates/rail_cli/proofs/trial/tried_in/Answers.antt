@@ -4,10 +4,10 @@ use Rattle.verify_loop.specs.declared.outcome.Budgets.{Budgets}
 use Rattle.verify_loop.specs.Outcomes.{Says}
 use Rattle.rail_cli.proofs.trial.tried_in.Goals as goal
 
-pub returns-clause-told : goal.returns-clause-told
-returns-clause-told c = (
+pub returns-clause-replies : goal.returns-clause-replies
+returns-clause-replies c = (
   c.verify-found.result,
   subst (λ (b : Budgets). Says Cones c.args.interlocking.now.design.station (2 * c.args.size) b c.verify-found.result) c.budgets-budgets.ensures c.verify-found.ensures.says,
   c.verify-found.ensures.fits,
-  c.tell.ensures.told,
+  c.make_reply.ensures.replies,
 )

@@ -8,7 +8,7 @@ use Rattle.rail_base.specs.Stations.{length_of}
 use Rattle.rail_spec.specs.Track.{edge_ends}
 use Rattle.rail_spec.specs.Plans.{route_at, length_mm}
 use Rattle.rail_spec.specs.Dispatches.{stretch}
-use Rattle.rail_course.specs.Tracks.{way}
+use Rattle.rail_course.specs.Tracks.{path_length}
 use Rattle.rail_course.specs.Tracks.{HasLimit, edges_of}
 use Rattle.std.proofs.Math.ListN.{drop_of_length-le}
 use Rattle.std.proofs.lemmas.List.{append-nil}
@@ -27,7 +27,7 @@ push_spans-requires-clause-short c =
     let cut : drop c.loop-number.number-index c.args.path.now ≡ number ∷ rest = grind (arith, common_steps) in
     let whole = ap (λ (r : Route). sum_by (length_of c.args.interlocking.now.design.station) r.edges) c.route_at-route.ensures ∙ ((laid_out c.args.interlocking.now).each number).whole in
     let sum = sum_by-cons length_mm (route_at c.args.interlocking.now.routes number) (map (route_at c.args.interlocking.now.routes) rest) in
-    let way_cut = ap (way c.args.interlocking.now.routes) cut in
+    let length_cut = ap (path_length c.args.interlocking.now.routes) cut in
     let short = c.loop-number.invariant.short in
     omega arith
 
@@ -39,7 +39,7 @@ loop-number-preserved c =
     let size : c.length_mm-offset.result ≡ length_mm (route_at c.args.interlocking.now.routes number) = c.length_mm-offset.ensures ∙ ap length_mm c.route_at-route.ensures in
     let made = subst (λ r. stretches_of c.push_spans.new.spans.items ≡ stretches_of c.loop-number.spans.items ++ map (stretch c.args.interlocking.now.design.station) (edge_ends c.args.interlocking.now.design.station c.loop-number.offset r.edges)) c.route_at-route.ensures c.in_ok-push_spans.ensures in
     let sum = sum_by-cons length_mm (route_at c.args.interlocking.now.routes number) (map (route_at c.args.interlocking.now.routes) rest) in
-    let way_cut = ap (way c.args.interlocking.now.routes) cut in
+    let length_cut = ap (path_length c.args.interlocking.now.routes) cut in
     record {
       short = omega arith;
       left = subst (λ n. stretches_of c.push_spans.new.spans.items ++ map (stretch c.args.interlocking.now.design.station) (edge_ends c.args.interlocking.now.design.station (c.loop-number.offset + n) (edges_of c.args.interlocking.now.routes rest)) ≡ map (stretch c.args.interlocking.now.design.station) (edge_ends c.args.interlocking.now.design.station 0 (edges_of c.args.interlocking.now.routes c.args.path.now))) (sym size)

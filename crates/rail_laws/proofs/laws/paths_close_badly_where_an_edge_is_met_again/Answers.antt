@@ -1,4 +1,4 @@
-use Rattle.rail_laws.proofs.BadClosing.{bad_exactly, closed_are_routes}
+use Rattle.rail_laws.proofs.BadWalk.{bad_exactly, closed_are_routes}
 use Rattle.rail_laws.proofs.laws.paths_close_badly_where_an_edge_is_met_again.Goals as goal
 
 pub returns-clause-again : goal.returns-clause-again

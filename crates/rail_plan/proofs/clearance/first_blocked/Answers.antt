@@ -50,7 +50,7 @@ loop-index-init c =
     let routes = c.args.interlocking.now.routes in
     record {
       left = walk_start (places d routes c.args.steps.now) (length c.args.steps.now);
-      holds = holds_none d routes c.no_holds-holds.result (let few = few_sections d c.args.interlocking.now.design.admitted in let many = c.no_holds-holds.ensures.many in omega (arith, few, many)) c.no_holds-holds.ensures.none;
+      holds = holds_none d routes c.no_holds-holds.result (let few = few_sections d c.args.interlocking.now.design.admitted in let many = c.no_holds-holds.ensures.count in omega (arith, few, many)) c.no_holds-holds.ensures.none;
     }
 
 pub stopped_step-place-requires-clause-trains : goal.stopped_step-place-requires-clause-trains
@@ -81,7 +81,7 @@ loop-index-preserved c =
     let none = is_none_of c.stopped_step-place.result (sym c.is_some.ensures ∙ c.if-is_some.false) ∙ c.stopped_step-place.ensures in
     record {
       left = sym (walk_on (places d routes c.args.steps.now) (length c.args.steps.now) i c.loop-index-test.true (none ∙ ap first_of_list (sym same))) ∙ c.loop-index.invariant.left;
-      holds = further d routes c.args.steps.now c.args.interlocking.now.design.admitted c.requires i step c.loop-index-test.true c.index-steps-index.is none c.loop-index.holds c.turn.new.holds c.loop-index.invariant.holds c.turn.ensures.many c.turn.ensures.turned;
+      holds = further d routes c.args.steps.now c.args.interlocking.now.design.admitted c.requires i step c.loop-index-test.true c.index-steps-index.is none c.loop-index.holds c.turn.new.holds c.loop-index.invariant.holds c.turn.ensures.same_length c.turn.ensures.turned;
     }
 
 pub returns : goal.returns

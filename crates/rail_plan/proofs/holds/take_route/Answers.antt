@@ -10,17 +10,17 @@ use Rattle.rail_plan.proofs.holds.take_route.Goals as goal
 pub loop-part-init : goal.loop-part-init
 loop-part-init c = record { many = refl; taken = λ z. refl }
 
-pub take-requires-clause-first : goal.take-requires-clause-first
-take-requires-clause-first c =
-    (part_within c.args.interlocking.now c.args.command.route c.as_slice-part-items.result.now c.loop-part.part-index _ (c.as_slice-part-items.ensures ∙ ap (λ (r : Route). r.sections) c.route_at.ensures) c.loop-part-test.true (length c.loop-part.holds) (let many = c.loop-part.invariant.many in let all = c.requires.many in omega (arith, many, all))).0
+pub take-requires-clause-at_least_one : goal.take-requires-clause-at_least_one
+take-requires-clause-at_least_one c =
+    (part_within c.args.interlocking.now c.args.command.route c.as_slice-part-items.result.now c.loop-part.part-index _ (c.as_slice-part-items.ensures ∙ ap (λ (r : Route). r.sections) c.route_at.ensures) c.loop-part-test.true (length c.loop-part.holds) (let many = c.loop-part.invariant.many in let all = c.requires.every_section in omega (arith, many, all))).0
 
-pub take-requires-clause-last : goal.take-requires-clause-last
-take-requires-clause-last c =
-    (part_within c.args.interlocking.now c.args.command.route c.as_slice-part-items.result.now c.loop-part.part-index _ (c.as_slice-part-items.ensures ∙ ap (λ (r : Route). r.sections) c.route_at.ensures) c.loop-part-test.true (length c.loop-part.holds) (let many = c.loop-part.invariant.many in let all = c.requires.many in omega (arith, many, all))).1
+pub take-requires-clause-within : goal.take-requires-clause-within
+take-requires-clause-within c =
+    (part_within c.args.interlocking.now c.args.command.route c.as_slice-part-items.result.now c.loop-part.part-index _ (c.as_slice-part-items.ensures ∙ ap (λ (r : Route). r.sections) c.route_at.ensures) c.loop-part-test.true (length c.loop-part.holds) (let many = c.loop-part.invariant.many in let all = c.requires.every_section in omega (arith, many, all))).1
 
 pub loop-part-preserved : goal.loop-part-preserved
 loop-part-preserved c = record {
-  many = c.take.ensures.many ∙ c.loop-part.invariant.many;
+  many = c.take.ensures.same_length ∙ c.loop-part.invariant.many;
   taken = λ z. parts_on c.args.interlocking.now.design.station c.args.interlocking.now.routes z c.args.command c.as_slice-part-items.result.now c.loop-part.part-index _ c.loop-part-test.true
       (hold_at c.loop-part.holds z) (hold_at c.take.new.holds z) (hold_at c.args.holds.now z) c.lack_after-left.result
       (c.lack_after-left.ensures ∙ ap (λ n. lack_after c.args.interlocking.now.design.station c.args.interlocking.now.routes c.args.command n) c.offset_of.ensures)

@@ -10,7 +10,7 @@ loop-command-init c = record { many = refl; taken = λ z. refl }
 
 pub loop-command-preserved : goal.loop-command-preserved
 loop-command-preserved c = record {
-  many = c.take_route.ensures.many ∙ c.loop-command.invariant.many;
+  many = c.take_route.ensures.same_length ∙ c.loop-command.invariant.many;
   taken = λ z. commands_on c.args.interlocking.now.design.station c.args.interlocking.now.routes z c.as_slice-command-items.result.now c.loop-command.command-index _ c.loop-command-test.true
       (hold_at c.loop-command.holds z) (hold_at c.take_route.new.holds z) (hold_at c.args.holds.now z) (c.take_route.ensures.taken z) (c.loop-command.invariant.taken z);
 }

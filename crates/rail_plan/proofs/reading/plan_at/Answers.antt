@@ -7,7 +7,7 @@ use Rattle.serde_json.specs.View.{view}
 use Rattle.rail_plan.specs.declared.fault.PlanCode.TheVariants.{P2}
 use Rattle.rail_plan.specs.Reading.{Gives, admitted_plan, plan_of_text, planned, read_steps, train_names, unknown, unread}
 use Rattle.rail_plan.proofs.Seen.{step_fails, step_given, unless_none}
-use Rattle.rail_plan.proofs.Spelled.{planned_named, read_is, unread_is}
+use Rattle.rail_plan.proofs.Parsed.{planned_named, read_is, unread_is}
 use Rattle.rail_plan.proofs.reading.plan_at.Goals as goal
 
 pub returns-in_err-steps-in-Some : goal.returns-in_err-steps-in-Some

@@ -1,6 +1,6 @@
 use Rattle.serde_json.specs.View.{view}
 use Rattle.rail_plan.specs.Text.{text_steps}
-use Rattle.rail_plan.proofs.Spelled.{runnable_result}
+use Rattle.rail_plan.proofs.Parsed.{runnable_result}
 use Rattle.rail_plan.proofs.reading.read_plan.Goals as goal
 
 pub returns-clause-runnable : goal.returns-clause-runnable

@@ -13,7 +13,7 @@ with_ends-requires-clause-sections c z m =
     let d = c.args.design.now.station in
     let order = c.as_slice.ensures.value ∙ c.in_ok-order.ensures in
     let there = section_there d c.args.path.now z (admitted d c.args.design.now.admitted) c.requires (subst (In z) order m) in
-    let many = ap length c.as_slice-2.ensures.value ∙ c.in_ok-ends.ensures.many in
+    let many = ap length c.as_slice-2.ensures.value ∙ c.in_ok-ends.ensures.every_section in
     omega arith
 
 pub returns : goal.returns

@@ -4,7 +4,7 @@ use Rattle.std.proofs.lemmas.Result.{err_from_is_err_and}
 use Rattle.rail_base.specs.declared.route.Start.TheVariants as start
 use Rattle.rail_base.specs.Members.{In}
 use Rattle.rail_base.proofs.Contained.{in_at}
-use Rattle.rail_spec.specs.Track.{closings_from}
+use Rattle.rail_spec.specs.Track.{walks_from}
 use Rattle.rail_laws.proofs.RouteLaws.{starts_tell}
 use Rattle.rail_routes.specs.Refusals.{fault_of}
 use Rattle.rail_routes.proofs.Faults.{has_fault, is_listed, start_more, start_added, from_start}
@@ -23,7 +23,7 @@ returns-in_err-add_routes-clause-fault c =
     let i = c.loop-start.start-index in
     let p = err_from_is_err_and c.from_residual-in_err-add_routes.result c.from_residual-in_err-add_routes.ensures.1 in
     let from = from_start items i _ (omega arith) in
-    rw (p.1, p.2) (has_fault d (2000 - length c.loop-start.table.items) _ (flat_map (closings_from d) (drop (i + 1) items)) _ c.in_err-add_routes.ensures.fault (ap (λ ss. fault_of (2000 - length c.loop-start.table.items) (flat_map (closings_from d) ss)) (sym from) ∙ c.loop-start.invariant.fault))
+    rw (p.1, p.2) (has_fault d (2000 - length c.loop-start.table.items) _ (flat_map (walks_from d) (drop (i + 1) items)) _ c.in_err-add_routes.ensures.fault (ap (λ ss. fault_of (2000 - length c.loop-start.table.items) (flat_map (walks_from d) ss)) (sym from) ∙ c.loop-start.invariant.fault))
 
 pub loop-start-preserved : goal.loop-start-preserved
 loop-start-preserved c =
@@ -36,8 +36,8 @@ loop-start-preserved c =
     let from = from_start items i (start.Boundary (record { 0 = 0 })) (omega arith) in
     let s = get_or items i (start.Boundary (record { 0 = 0 })) in
     record {
-      few = c.in_ok-add_routes.ensures.few;
-      fault = start_more d s later table new _ c.loop-start.invariant.few c.in_ok-add_routes.ensures.sound c.in_ok-add_routes.ensures.added (ap (λ ss. fault_of (2000 - length table) (flat_map (closings_from d) ss)) (sym from) ∙ c.loop-start.invariant.fault);
+      few = c.in_ok-add_routes.ensures.at_most_2000;
+      fault = start_more d s later table new _ c.loop-start.invariant.few c.in_ok-add_routes.ensures.sound c.in_ok-add_routes.ensures.added (ap (λ ss. fault_of (2000 - length table) (flat_map (walks_from d) ss)) (sym from) ∙ c.loop-start.invariant.fault);
       same = start_added d s (drop i items) later table new _ from c.in_ok-add_routes.ensures.added c.loop-start.invariant.same;
     }
 
@@ -45,4 +45,4 @@ pub returns-clause-listed : goal.returns-clause-listed
 returns-clause-listed c =
     let d = c.args.track.now.design.now.station in
     let none : drop c.loop-start.start-index c.as_slice-start-items.result.now ≡ [] = drop_of_length-le c.as_slice-start-items.result.now (omega arith) in
-    is_listed d (sym c.loop-start.invariant.fault ∙ ap (λ ss. fault_of (2000 - length c.loop-start.table.items) (flat_map (closings_from d) ss)) none)
+    is_listed d (sym c.loop-start.invariant.fault ∙ ap (λ ss. fault_of (2000 - length c.loop-start.table.items) (flat_map (walks_from d) ss)) none)

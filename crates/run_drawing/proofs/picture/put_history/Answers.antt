@@ -16,16 +16,16 @@ loop-index-preserved c =
     let i = c.loop-index.index in
     let train = c.index-history-index.result in
     let at : get_or (enumerate_from 1 history) i (0, train) ≡ (i + 1, train) = numbered history i train c.loop-index-test.true ∙ ap (λ (t : TrainHistory). (i + 1, t)) (sym c.index-history-index.is) in
-    let tell = λ (t : ℕ × TrainHistory). visit_texts (train_name d (record { 0 = t.0 })) t.1.visits in
+    let make_reply = λ (t : ℕ × TrainHistory). visit_texts (train_name d (record { 0 = t.0 })) t.1.visits in
     let more : history_size (take (i + 1) history) ≡ history_size (take i history) + train_size train =
     sum_by_more train_size history i train c.loop-index-test.true ∙ ap (λ (t : TrainHistory). history_size (take i history) + train_size t) (sym c.index-history-index.is) in
     record {
-      words = all_told (enumerate_from 1 history) i (0, train) (i + 1, train) (rw length-enumerate_from c.loop-index-test.true) at tell
+      words = all_told (enumerate_from 1 history) i (0, train) (i + 1, train) (rw length-enumerate_from c.loop-index-test.true) at make_reply
           (words_in c.args.picture.now) (words_in c.loop-index.picture) _ c.loop-index.invariant.words c.in_ok-put_train.ensures.words;
       size = omega (arith, more, c.in_ok-put_train.ensures.size, c.loop-index.invariant.size);
     }
 
 pub returns-clause-words : goal.returns-clause-words
 returns-clause-words c =
-    let tell = λ (t : ℕ × TrainHistory). visit_texts (train_name c.args.design.now.station (record { 0 = t.0 })) t.1.visits in
-    c.loop-index.invariant.words ∙ ap (λ t. words_in c.args.picture.now ++ flat_map tell t) (all_numbered c.args.history.now c.loop-index.index c.loop-index-test.false)
+    let make_reply = λ (t : ℕ × TrainHistory). visit_texts (train_name c.args.design.now.station (record { 0 = t.0 })) t.1.visits in
+    c.loop-index.invariant.words ∙ ap (λ t. words_in c.args.picture.now ++ flat_map make_reply t) (all_numbered c.args.history.now c.loop-index.index c.loop-index-test.false)

@@ -18,15 +18,15 @@ loop-index-preserved c =
     let at = numbered visits i None c.loop-index-test.true in
     elim c.match-visit.branch [
       | in-Some+in_ok-put_visit w ↦
-          let told : visit_told name (i + 1, visit) ≡ Some (visit_text name (i + 1)) = ap (option_map (λ (made : NodeNo × ℕ). visit_text name (i + 1))) w.in-Some.is in
+          let reply_for : visit_told name (i + 1, visit) ≡ Some (visit_text name (i + 1)) = ap (option_map (λ (made : NodeNo × ℕ). visit_text name (i + 1))) w.in-Some.is in
           record {
-            words = rw (w.picture-is) (one_told (visit_told name) (enumerate_from 1 visits) i _ (i + 1, visit) (rw length-enumerate_from c.loop-index-test.true) at (words_in c.args.picture.now) (words_in c.loop-index.picture) _ (visit_text name (i + 1)) c.loop-index.invariant.words told w.in_ok-put_visit.ensures.words);
+            words = rw (w.picture-is) (one_told (visit_told name) (enumerate_from 1 visits) i _ (i + 1, visit) (rw length-enumerate_from c.loop-index-test.true) at (words_in c.args.picture.now) (words_in c.loop-index.picture) _ (visit_text name (i + 1)) c.loop-index.invariant.words reply_for w.in_ok-put_visit.ensures.words);
             size = omega (arith, ap length w.picture-is, w.in_ok-put_visit.ensures.size, c.loop-index.invariant.size);
           }
       | in_default w ↦
-          let told : visit_told name (i + 1, visit) ≡ None = ap (option_map (λ (made : NodeNo × ℕ). visit_text name (i + 1))) w.in_default.is in
+          let reply_for : visit_told name (i + 1, visit) ≡ None = ap (option_map (λ (made : NodeNo × ℕ). visit_text name (i + 1))) w.in_default.is in
           record {
-            words = rw (w.picture-is) (none_told (visit_told name) (enumerate_from 1 visits) i _ (i + 1, visit) (rw length-enumerate_from c.loop-index-test.true) at (words_in c.args.picture.now) (words_in c.loop-index.picture) c.loop-index.invariant.words told);
+            words = rw (w.picture-is) (none_told (visit_told name) (enumerate_from 1 visits) i _ (i + 1, visit) (rw length-enumerate_from c.loop-index-test.true) at (words_in c.args.picture.now) (words_in c.loop-index.picture) c.loop-index.invariant.words reply_for);
             size = omega (arith, ap length w.picture-is, c.loop-index.invariant.size);
           }
     ]

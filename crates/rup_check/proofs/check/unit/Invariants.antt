@@ -4,4 +4,4 @@ use Rattle.rup_check.proofs.Units.{found_in}
 use Rattle.rup_check.proofs.check.unit.Given as goal
 
 abbrev pub invariant-loop-literal : goal.invariant-loop-literal
-invariant-loop-literal l = unit_of l.held l.clause ≡ found_in l.held l.found (open_lits l.held (drop l.literal-index l.clause))
+invariant-loop-literal l = unit_of l.assigned l.clause ≡ found_in l.assigned l.found (open_lits l.assigned (drop l.literal-index l.clause))

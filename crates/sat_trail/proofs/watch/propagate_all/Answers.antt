@@ -18,8 +18,8 @@ returns-in-Some-clause-forced c = forced-then c.args.trail.now c.forced.trail c.
 pub returns-in-Closed-clause-forced : goal.returns-in-Closed-clause-forced
 returns-in-Closed-clause-forced c = forced-then c.args.trail.now c.forced.trail c.advance.new.trail c.forced.invariant.forced c.advance.ensures.forced
 
-pub returns-in-False-clause-forced : goal.returns-in-False-clause-forced
-returns-in-False-clause-forced c = forced-then c.args.trail.now c.forced.trail c.advance.new.trail c.forced.invariant.forced c.advance.ensures.forced
+pub returns-in-Conflict-clause-forced : goal.returns-in-Conflict-clause-forced
+returns-in-Conflict-clause-forced c = forced-then c.args.trail.now c.forced.trail c.advance.new.trail c.forced.invariant.forced c.advance.ensures.forced
 
 pub force-requires-clause-fresh : goal.force-requires-clause-fresh
 force-requires-clause-fresh c = behind-fresh c.args.arena.now (lits c.advance.new.trail.steps) c.in-Unit.l c.in-Unit.id c.in-Unit.ensures

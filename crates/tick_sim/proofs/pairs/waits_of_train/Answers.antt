@@ -7,4 +7,4 @@ use Rattle.tick_sim.proofs.pairs.waits_of_train.Goals as goal
 pub loop-route-init : goal.loop-route-init
 loop-route-init c =
     let items = c.new-waits.ensures.items in
-    rw items (ap (map (λ (r : RouteNo). planned_waits c.args.planned.now (record { train = c.args.train; route = r }))) (c.deref-route-items.ensures.value ∙ c.course-course.ensures.course.given ∙ ap (path_in c.args.planned.now.courses.given) c.course-course.ensures.train))
+    rw items (ap (map (λ (r : RouteNo). planned_waits c.args.planned.now (record { train = c.args.train; route = r }))) (c.deref-route-items.ensures.value ∙ c.train_path-train_path.ensures.train_path.given ∙ ap (path_in c.args.planned.now.train_paths.given) c.train_path-train_path.ensures.train))

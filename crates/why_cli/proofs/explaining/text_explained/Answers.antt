@@ -5,8 +5,8 @@ use Rattle.why_cli.specs.Answers.{explained_against}
 use Rattle.why_cli.proofs.Reading.{text_told}
 use Rattle.why_cli.proofs.explaining.text_explained.Goals as goal
 
-pub told-requires : goal.told-requires
-told-requires c =
+pub reply_for-requires : goal.reply_for-requires
+reply_for-requires c =
     let d = c.args.interlocking.now.design.station in
     subst (λ (m : ℕ). IsBaseOf d (routes_of d) m c.in_ok-base.base) (sym c.in_ok-base.ensures.base.steps) c.in_ok-base.ensures.base
 

@@ -5,7 +5,7 @@ use Rattle.why_cli.proofs.Asking.{asked, asked_some}
 use Rattle.why_cli.proofs.run.reply.Goals as goal
 
 pub returns-in-Ok-clause-replies : goal.returns-in-Ok-clause-replies
-returns-in-Ok-clause-replies g c = λ files told. asked c.explained.result files (wanted_of (texts_of c.args.words.now)) (wanted_by c.in-Ok.wanted) c.in-Ok.ensures.ok (c.explained.ensures.replies files told)
+returns-in-Ok-clause-replies g c = λ files reply_for. asked c.explanation_reply.result files (wanted_of (texts_of c.args.words.now)) (wanted_by c.in-Ok.wanted) c.in-Ok.ensures.ok (c.explanation_reply.ensures.replies files reply_for)
 
-pub returns-in-Ok-clause-some : goal.returns-in-Ok-clause-some
-returns-in-Ok-clause-some g c = asked_some c.explained.result (wanted_of (texts_of c.args.words.now)) (wanted_by c.in-Ok.wanted) c.in-Ok.ensures.ok c.explained.ensures.some
+pub returns-in-Ok-clause-for_some_files : goal.returns-in-Ok-clause-for_some_files
+returns-in-Ok-clause-for_some_files g c = asked_some c.explanation_reply.result (wanted_of (texts_of c.args.words.now)) (wanted_by c.in-Ok.wanted) c.in-Ok.ensures.ok c.explanation_reply.ensures.for_some_files

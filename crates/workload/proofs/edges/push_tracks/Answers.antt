@@ -15,5 +15,5 @@ loop-track-preserved c =
       omega arith,
       next_track seed i c.below-length_mm.new.self.state state,
       push_next c.loop-track.edges.items c.push_edge.new.edges.items _ _ _ i (count_next i (c.args.size + 1) within) (track c.args.size (track_length seed))
-          (c.in_ok-push_edge.ensures ∙ (λ k. c.loop-track.edges.items ++ edge (2 * c.args.size + i - 1) (c.left.ensures k) (c.right.ensures k) (150000 + length k) (i + 1) ∷ [])) c.loop-track.invariant.2,
+          (c.in_ok-push_edge.ensures ∙ (λ k. c.loop-track.edges.items ++ edge (2 * c.args.size + i - 1) (c.left_node.ensures k) (c.right.ensures k) (150000 + length k) (i + 1) ∷ [])) c.loop-track.invariant.2,
     )

@@ -14,14 +14,14 @@ pub overflow_add-result : goal.overflow_add-result
 overflow_add-result c =
     let few = c.args.self.now.contention.few in
     let inside : c.place_of-place.result ≤ length c.args.self.now.contention.pairs.now = subst (λ (ps : List (Command × Command)). c.place_of-place.result ≤ length ps) c.sorted.ensures c.place_of-place.ensures.bound in
-    let used = c.used_count.ensures.bound in
+    let used_literal = c.used_count.ensures.bound in
     omega arith
 
 pub overflow_add-result-2 : goal.overflow_add-result-2
 overflow_add-result-2 c =
     let few = c.args.self.now.contention.few in
     let inside : c.place_of-place.result ≤ length c.args.self.now.contention.pairs.now = subst (λ (ps : List (Command × Command)). c.place_of-place.result ≤ length ps) c.sorted.ensures c.place_of-place.ensures.bound in
-    let used = c.used_count.ensures.bound in
+    let used_literal = c.used_count.ensures.bound in
     omega arith
 
 pub returns : goal.returns

@@ -5,7 +5,7 @@ use Rattle.cone_clause.proofs.Gathering.{drop_next, drop_end}
 use Rattle.bound_clause.specs.Spoken.{station_of, routes_in, numbered}
 use Rattle.rail_base.specs.declared.route.RouteNo.{RouteNo}
 use Rattle.rail_base.specs.Members.{In}
-use Rattle.cone_design.proofs.Orders.{member_at}
+use Rattle.cone_form.proofs.Orders.{member_at}
 use Rattle.bound_clause.specs.Said.{said_of_pair}
 use Rattle.bound_clause.proofs.Putting.{put_next, put_end}
 use Rattle.bound_clause.proofs.numbered.NumberedBound.push_after.Goals as goal

@@ -7,7 +7,7 @@ use Rattle.rail_base.specs.declared.plan.Command.{Command}
 use Rattle.rail_cone.specs.Clauses.{Before, Literal}
 use Rattle.rail_base.specs.Members.{In}
 use Rattle.rail_spec.specs.Plans.{is_command}
-use Rattle.cone_design.proofs.Orders.{member_at}
+use Rattle.cone_form.proofs.Orders.{member_at}
 use Rattle.cone_clause.proofs.Said.{before_from}
 use Rattle.bound_clause.proofs.Placing.{turned}
 use Rattle.bound_clause.proofs.Putting.{put_next, put_end}
@@ -34,7 +34,7 @@ loop-pair-preserved c = put_next (λ (p : Command × Command). record { fact = B
 
 pub returns : goal.returns
 returns c =
-    let said : Command × Command → Literal = λ p. record { fact = Before p.1 c.args.command; negated = false } in
+    let said_literals : Command × Command → Literal = λ p. record { fact = Before p.1 c.args.command; negated = false } in
     let from : List (Command × Command) → List (Command × Command) = λ ps. filter (λ (p : Command × Command). is_command p.0 c.args.command) ps in
-    put_end said (lit_of (station_of c.args.self.now) (routes_in c.args.self.now) c.args.self.now.steps.count) c.loop-pair.clause.items _ _ (drop_end c.pairs_from-pair-items.result.now c.loop-pair.pair-index c.loop-pair-test.false) c.loop-pair.invariant
-    ∙ ap (λ (ps : List (Command × Command)). c.args.clause.now.items ++ numbered c.args.self.now (map said ps)) (c.pairs_from-pair-items.ensures ∙ ap from c.sorted.ensures)
+    put_end said_literals (lit_of (station_of c.args.self.now) (routes_in c.args.self.now) c.args.self.now.steps.count) c.loop-pair.clause.items _ _ (drop_end c.pairs_from-pair-items.result.now c.loop-pair.pair-index c.loop-pair-test.false) c.loop-pair.invariant
+    ∙ ap (λ (ps : List (Command × Command)). c.args.clause.now.items ++ numbered c.args.self.now (map said_literals ps)) (c.pairs_from-pair-items.ensures ∙ ap from c.sorted.ensures)

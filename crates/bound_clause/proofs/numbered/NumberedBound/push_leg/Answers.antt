@@ -5,7 +5,7 @@ use Rattle.bound_clause.specs.Spoken.{station_of, routes_in, numbered}
 use Rattle.bound_clause.specs.Said.{said_of_place}
 use Rattle.bound_clause.proofs.Fitting.{train_fits, place_fits}
 use Rattle.rail_base.specs.Members.{In}
-use Rattle.cone_design.proofs.Orders.{member_at}
+use Rattle.cone_form.proofs.Orders.{member_at}
 use Rattle.bound_clause.proofs.numbered.NumberedBound.push_leg.Goals as goal
 
 pub loop-place-init : goal.loop-place-init

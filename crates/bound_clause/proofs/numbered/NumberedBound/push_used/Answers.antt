@@ -16,7 +16,7 @@ loop-number-init c = refl
 
 pub loop-number-preserved : goal.loop-number-preserved
 unfolding none
-loop-number-preserved c = put_next (used_by c.args.train) (lit_of (station_of c.args.self.now) (routes_in c.args.self.now) c.args.self.now.steps.count) c.loop-number.clause.items c.push.new.self.items _ _ _ _ (drop_next c.args.routes.now c.loop-number.number-index none c.loop-number-test.true) (c.in_ok-push.ensures.items ∙ ap (λ (x : Lit). c.loop-number.clause.items ++ x ∷ []) c.used.ensures) c.loop-number.invariant
+loop-number-preserved c = put_next (used_by c.args.train) (lit_of (station_of c.args.self.now) (routes_in c.args.self.now) c.args.self.now.steps.count) c.loop-number.clause.items c.push.new.self.items _ _ _ _ (drop_next c.args.routes.now c.loop-number.number-index none c.loop-number-test.true) (c.in_ok-push.ensures.items ∙ ap (λ (x : Lit). c.loop-number.clause.items ++ x ∷ []) c.used_literal.ensures) c.loop-number.invariant
 
 pub returns : goal.returns
 returns c = put_end (used_by c.args.train) (lit_of (station_of c.args.self.now) (routes_in c.args.self.now) c.args.self.now.steps.count) c.loop-number.clause.items _ _ (drop_end c.args.routes.now c.loop-number.number-index c.loop-number-test.false) c.loop-number.invariant

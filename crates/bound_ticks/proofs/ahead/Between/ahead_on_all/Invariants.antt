@@ -4,5 +4,5 @@ use Rattle.bound_ticks.specs.Ahead.{ahead_on}
 use Rattle.bound_ticks.proofs.ahead.Between.ahead_on_all.Given as goal
 
 -- those left decide
-abbrev pub invariant-loop-way : goal.invariant-loop-way
-invariant-loop-way l = list_all (ahead_on l.self l.leg l.rest) (drop l.way-index l.way-items) ≡ list_all (ahead_on l.self l.leg l.rest) l.way-items
+abbrev pub invariant-loop-walk : goal.invariant-loop-walk
+invariant-loop-walk l = list_all (ahead_on l.self l.leg l.rest) (drop l.walk-index l.walk-items) ≡ list_all (ahead_on l.self l.leg l.rest) l.walk-items

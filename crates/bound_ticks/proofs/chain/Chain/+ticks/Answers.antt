@@ -1,7 +1,7 @@
 use Rattle.std.proofs.Common.{rules, ◌-◌, All, None, length, take, drop, subst, sym, arith}
 use Rattle.rail_base.specs.Routes.{IsRoute}
 use Rattle.leg_targets.specs.Visits.{origin_of}
-use Rattle.bound_ticks.specs.Ways.{IsLeg}
+use Rattle.bound_ticks.specs.Walks.{IsLeg}
 use Rattle.bound_ticks.proofs.Chained.{chain_by, first_routes_named, release_most}
 use Rattle.leg_targets.proofs.Parts.{rest_all, rest_long}
 use Rattle.bound_ticks.proofs.chain.Chain.+ticks.Goals as goal
@@ -30,7 +30,7 @@ overflow_add-result-in-len1-up t c =
     let here = c.in_ok-here-in-len1-up.ensures in
     let most = release_most i.design.station i.routes c.args.self.now.most (origin_of c.args.from) c.leg-item.result c.first_routes.result.now in
     let few = c.args.self.now.few in
-    let many = c.requires.many in
+    let many = c.requires.at_most_64 in
     let some = c.in-len1-up.len_at_least in
     let long = rest_long c.args.legs.now (omega arith) in
     let least = chain_by i.design.station i.routes c.args.self.now.most c.in_ok-ticks-in-len1-up.field-0 None (origin_of c.args.self.now.to) (take (length c.args.legs.now - 1) (drop 1 c.args.legs.now)) c.in_ok-ticks-in-len1-up.ensures (omega arith) few in

@@ -12,8 +12,8 @@ returns-clause-ticks c =
     let to = origin_of c.args.to in
     ok_more _ _ c.ticks.result (λ n e. e ∙ (ap (chain_of i.design.station i.routes most None to) c.as_slice.ensures ∙ chain_to i.design.station i.routes most to c.args.self.now.bound.now.legs)) c.ticks.ensures
 
-pub returns-clause-few : goal.returns-clause-few
-returns-clause-few c =
+pub returns-clause-at_most_5529664 : goal.returns-clause-at_most_5529664
+returns-clause-at_most_5529664 c =
     let i = c.args.self.now.contention.interlocking.now in
     let most = c.args.self.now.most in
     let to = origin_of c.args.to in

@@ -3,7 +3,7 @@ use Rattle.std.specs.List.{slice_get}
 use Rattle.rail_base.specs.declared.plan.Command.{Command}
 use Rattle.rail_base.proofs.Members.{In}
 use Rattle.rail_spec.specs.Plans.{is_command}
-use Rattle.cone_design.proofs.Orders.{member_at}
+use Rattle.cone_form.proofs.Orders.{member_at}
 use Rattle.cone_clause.specs.Places.{Adds, IsPlaceOf, IsPlaceBefore}
 use Rattle.cone_clause.proofs.Adding.{adds_one, adds_none, adds_more, adds_all, adds_same}
 use Rattle.cone_clause.proofs.Said.{before_from, from_run, to_run, one_place}

@@ -2,7 +2,7 @@ use Rattle.std.proofs.Common.{◌≡◌, ℕ, List, Some, get_or, subst}
 use Rattle.std.specs.List.{slice_get}
 use Rattle.rail_base.specs.declared.plan.Command.{Command}
 use Rattle.rail_base.specs.Members.{In}
-use Rattle.cone_design.proofs.Orders.{member_at}
+use Rattle.cone_form.proofs.Orders.{member_at}
 use Rattle.cone_clause.specs.Places.{Adds, IsPlaceOf}
 use Rattle.cone_clause.proofs.Adding.{adds_one, adds_none, adds_more, adds_all}
 use Rattle.cone_clause.proofs.Said.{one_place}

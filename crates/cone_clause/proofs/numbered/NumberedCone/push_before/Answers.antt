@@ -2,7 +2,7 @@ use Rattle.std.proofs.Common.{ℕ, ◌+◌, ◌<◌, ◌≤◌, List, length, dr
 use Rattle.rail_base.specs.declared.plan.Command.{Command}
 use Rattle.rail_base.specs.Members.{In}
 use Rattle.sat_clause.specs.declared.lit.Lit.{Lit}
-use Rattle.cone_design.proofs.Orders.{member_at}
+use Rattle.cone_form.proofs.Orders.{member_at}
 use Rattle.cone_clause.specs.Places.{IsSaid, AreSaid}
 use Rattle.cone_clause.proofs.Small.{said_inside}
 use Rattle.cone_clause.proofs.Said.{place_inside, SaysUpTo, says_more, says_all, none_between, left_after, left_same, none_left}

@@ -1,20 +1,20 @@
 use Rattle.std.proofs.Common.{◌<◌, ◌^◌, All, sym, subst}
 use Rattle.rail_base.proofs.Admitting.{admitted}
 use Rattle.rail_base.specs.Routes.{IsRoute}
-use Rattle.rail_course.specs.Tracks.{way}
+use Rattle.rail_course.specs.Tracks.{path_length}
 use Rattle.rail_course.proofs.Granting.{all_from_in}
 use Rattle.rail_cone.specs.Cones.{named}
 use Rattle.cone_run.proofs.Ranging.{fair, paths_short}
 use Rattle.cone_run.proofs.checked.ConeRun.path_shown.Goals as goal
 
-pub stops_of-requires-clause-named : goal.stops_of-requires-clause-named
-stops_of-requires-clause-named c =
+pub path_nodes_of-requires-clause-named : goal.path_nodes_of-requires-clause-named
+path_nodes_of-requires-clause-named c =
     let l = c.args.self.now.layout in
     let routes = l.contention.interlocking.now.routes in
     subst (All (IsRoute routes)) (sym c.path-routes.ensures) (all_from_in (IsRoute routes) (named l.cone.now c.args.train).path (fair l.contention.interlocking.now.design.station routes l.cone.now l.known c.args.train).there)
 
-pub stops_of-requires-clause-short : goal.stops_of-requires-clause-short
-stops_of-requires-clause-short c =
+pub path_nodes_of-requires-clause-short : goal.path_nodes_of-requires-clause-short
+path_nodes_of-requires-clause-short c =
     let l = c.args.self.now.layout in
     let i = l.contention.interlocking.now in
-    subst (λ ps. way l.contention.interlocking.now.routes ps < 2 ^ 47) (sym c.path-routes.ensures) (paths_short l.contention.interlocking.now.design.station (admitted l.contention.interlocking.now.design.station l.contention.interlocking.now.design.admitted) l.contention.interlocking.now.routes i.table l.cone.now i.few l.known c.args.train)
+    subst (λ ps. path_length l.contention.interlocking.now.routes ps < 2 ^ 47) (sym c.path-routes.ensures) (paths_short l.contention.interlocking.now.design.station (admitted l.contention.interlocking.now.design.station l.contention.interlocking.now.design.admitted) l.contention.interlocking.now.routes i.table l.cone.now i.few l.known c.args.train)

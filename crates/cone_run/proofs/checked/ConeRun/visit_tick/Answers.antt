@@ -14,4 +14,4 @@ returns c =
     let p = of_cone l.cone.now in
     let last = last_tick l.cone.now in
     let told = c.args.self.now.told in
-    c.up_to.ensures ∙ ap (up_to c.args.last) (c.visit_tick.ensures ∙ ap (λ h. visit_tick h c.args.train c.args.visit) told) ∙ visit_asked d routes p last c.args.train c.requires.train c.args.last c.args.visit c.requires.last
+    c.up_to.ensures ∙ ap (up_to c.args.last) (c.visit_tick.ensures ∙ ap (λ h. visit_tick h c.args.train c.args.visit) told) ∙ visit_asked d routes p last c.args.train c.requires.train c.args.last c.args.visit c.requires.within

@@ -4,8 +4,8 @@ use Rattle.cone_run.proofs.Looking.{named_until, visit_within}
 use Rattle.cone_run.proofs.Riding.{last_within}
 use Rattle.cone_run.proofs.checked.ConeRun.within_shown.Goals as goal
 
-pub visit_tick-requires-clause-last : goal.visit_tick-requires-clause-last
-visit_tick-requires-clause-last c =
+pub visit_tick-requires-clause-within : goal.visit_tick-requires-clause-within
+visit_tick-requires-clause-within c =
     let l = c.args.self.now.layout in
     let until = named_until l.contention.interlocking.now.design.station l.contention.interlocking.now.routes l.cone.now l.known c.args.within.now.from_train in
     let horizon = c.horizon_of-last.ensures in

@@ -12,7 +12,7 @@ loop-i-init g c =
     let items = c.new-told.ensures.items in
     record {
       left = refl;
-      told = rw items (sym (map-map history (λ (j : Follower). j.journey.now.course.now.train) c.args.self.now.followers.now) ∙ ap (map history) c.requires.0.followers.all);
+      told = rw items (sym (map-map history (λ (j : Follower). j.journey.now.train_path.now.train) c.args.self.now.followers.now) ∙ ap (map history) c.requires.0.followers.all);
     }
 
 pub remove-old-requires : goal.remove-old-requires
@@ -37,7 +37,7 @@ next_told-requires g c =
       c.requires.0.followers.each i c.index-self-i.result less,
       (
         c.requires.1.some,
-        comes_off d c.args.self.now.interlocking.now.routes g.dispatch c.args.tick c.args.states.now c.args.looks.now c.args.histories.items i (get_or js i c.index-self-i.result).journey.now.course.now.train c.state_of.result c.look_of.result c.remove-old.result
+        comes_off d c.args.self.now.interlocking.now.routes g.dispatch c.args.tick c.args.states.now c.args.looks.now c.args.histories.items i (get_or js i c.index-self-i.result).journey.now.train_path.now.train c.state_of.result c.look_of.result c.remove-old.result
             c.requires.1 number (omega arith) c.state_of.ensures c.look_of.ensures off,
       ),
     )
@@ -48,5 +48,5 @@ loop-i-preserved g c =
     let made = c.in_ok-push.ensures.items in
     record {
       left = c.remove-old.ensures.items ∙ ap (drop 1) c.loop-i.invariant.left ∙ drop_once c.args.histories.items c.loop-i.i (c.loop-i.i + 1) refl;
-      told = made_on (λ (j : Follower). history j.journey.now.course.now.train) c.loop-i.told.items c.push.new.self.items c.in_ok-next_told.field-0 c.args.self.now.followers.now c.loop-i.i (c.loop-i.i + 1) c.index-self-i.result _ c.loop-i-test.true refl made c.in_ok-next_told.ensures c.loop-i.invariant.told;
+      told = made_on (λ (j : Follower). history j.journey.now.train_path.now.train) c.loop-i.told.items c.push.new.self.items c.in_ok-next_told.field-0 c.args.self.now.followers.now c.loop-i.i (c.loop-i.i + 1) c.index-self-i.result _ c.loop-i-test.true refl made c.in_ok-next_told.ensures c.loop-i.invariant.told;
     }

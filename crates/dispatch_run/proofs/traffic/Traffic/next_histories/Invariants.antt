@@ -7,7 +7,7 @@ abbrev pub invariant-loop-i : goal.invariant-loop-i
 invariant-loop-i g l = record {
   left : l.olds.items ≡ drop l.i l.fn.histories.items;
   told :
-      l.told.items ++ map (λ (j : Follower). train_history l.self.interlocking.now.design.station l.self.interlocking.now.routes g.dispatch l.tick j.journey.now.course.now.train) (drop l.i l.self.followers.now)
+      l.told.items ++ map (λ (j : Follower). train_history l.self.interlocking.now.design.station l.self.interlocking.now.routes g.dispatch l.tick j.journey.now.train_path.now.train) (drop l.i l.self.followers.now)
       ≡ history_at l.self.interlocking.now.design.station l.self.interlocking.now.routes g.dispatch l.tick;
 }
 

@@ -1,6 +1,6 @@
 use Rattle.std.proofs.Common.{All, subst, sym}
 use Rattle.rail_base.specs.Routes.{IsRoute}
-use Rattle.bound_ticks.specs.Ways.{IsLeg}
+use Rattle.bound_ticks.specs.Walks.{IsLeg}
 use Rattle.bound_ticks.proofs.Chained.{first_routes_named}
 use Rattle.leg_targets.proofs.Parts.{rest_all}
 use Rattle.evidence_words.proofs.legs.Chain.+push_legs.Goals as goal

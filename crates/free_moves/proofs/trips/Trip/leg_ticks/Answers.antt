@@ -2,19 +2,19 @@ use Rattle.std.proofs.Common.{ap, ◌∙◌, arith}
 use Rattle.rail_motion.specs.Motor.{rates_of}
 use Rattle.rail_motion.specs.Track.{stretches_of}
 use Rattle.rail_course.specs.Tracks.{routes_at}
-use Rattle.free_moves.proofs.Least.{short_way, on_leg}
+use Rattle.free_moves.proofs.Least.{short_path, on_leg}
 use Rattle.free_moves.proofs.trips.Trip.leg_ticks.Goals as goal
 
 pub spans_of-requires-clause-short : goal.spans_of-requires-clause-short
-spans_of-requires-clause-short c = short_way c.args.self.now.interlocking.now c.args.path.now c.requires.few
+spans_of-requires-clause-short c = short_path c.args.self.now.interlocking.now c.args.path.now c.requires.at_most_65
 
 pub length_of-requires-clause-short : goal.length_of-requires-clause-short
-length_of-requires-clause-short c = short_way c.args.self.now.interlocking.now c.args.path.now c.requires.few
+length_of-requires-clause-short c = short_path c.args.self.now.interlocking.now c.args.path.now c.requires.at_most_65
 
 pub end_of-requires : goal.end_of-requires
 end_of-requires c =
     let long = c.length_of.ensures in
-    let short = short_way c.args.self.now.interlocking.now c.args.path.now c.requires.few in
+    let short = short_path c.args.self.now.interlocking.now c.args.path.now c.requires.at_most_65 in
     omega arith
 
 pub returns : goal.returns

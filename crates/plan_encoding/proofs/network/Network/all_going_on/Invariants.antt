@@ -1,8 +1,8 @@
 use Rattle.std.proofs.Common.{◌≡◌, ◌++◌, map, drop}
-use Rattle.plan_encoding.specs.Frames.{table}
+use Rattle.plan_encoding.specs.Encoders.{table}
 use Rattle.plan_encoding.specs.Tables.{going_on, rows_by}
 use Rattle.plan_encoding.proofs.network.Network.all_going_on.Given as goal
 
 -- what is found and what is left to find make all of it
 abbrev pub invariant-loop-number : goal.invariant-loop-number
-invariant-loop-number l = l.rows.items ++ map (going_on (table l.self.frame)) (drop l.number-index l.number-items) ≡ rows_by going_on (table l.self.frame)
+invariant-loop-number l = l.rows.items ++ map (going_on (table l.self.encoder)) (drop l.number-index l.number-items) ≡ rows_by going_on (table l.self.encoder)

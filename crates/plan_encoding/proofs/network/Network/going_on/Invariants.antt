@@ -1,9 +1,9 @@
 use Rattle.std.proofs.Common.{◌≡◌, ◌++◌, drop, filter}
 use Rattle.rail_spec.specs.Plans.{route_at, goes_on}
 use Rattle.plan_encoding.specs.Tables.{going_on}
-use Rattle.plan_encoding.specs.Frames.{table}
+use Rattle.plan_encoding.specs.Encoders.{table}
 use Rattle.plan_encoding.proofs.network.Network.going_on.Given as goal
 
 -- what is found and what is left to find make all of it
 abbrev pub invariant-loop-number : goal.invariant-loop-number
-invariant-loop-number l = l.found.items ++ filter (λ q. goes_on (route_at (table l.self.frame) l.fn.route).finish (route_at (table l.self.frame) q).start) (drop l.number-index l.number-items) ≡ going_on (table l.self.frame) l.fn.route
+invariant-loop-number l = l.found.items ++ filter (λ q. goes_on (route_at (table l.self.encoder) l.fn.route).finish (route_at (table l.self.encoder) q).start) (drop l.number-index l.number-items) ≡ going_on (table l.self.encoder) l.fn.route

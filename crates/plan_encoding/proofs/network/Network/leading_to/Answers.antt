@@ -9,10 +9,10 @@ route_at-requires c = known_routes c.args.self.now c.deref-number-items.result.n
 
 pub loop-number-init : goal.loop-number-init
 loop-number-init c =
-    ap (λ xs. xs ++ filter (λ q. goes_on (route_at c.args.self.now.frame.interlocking.now.routes q).finish c.args.start) c.deref-number-items.result.now) c.new-found.ensures.items
-    ∙ ap (filter (λ q. goes_on (route_at c.args.self.now.frame.interlocking.now.routes q).finish c.args.start)) (c.deref-number-items.ensures.value ∙ c.args.self.now.every_number)
+    ap (λ xs. xs ++ filter (λ q. goes_on (route_at c.args.self.now.encoder.interlocking.now.routes q).finish c.args.start) c.deref-number-items.result.now) c.new-found.ensures.items
+    ∙ ap (filter (λ q. goes_on (route_at c.args.self.now.encoder.interlocking.now.routes q).finish c.args.start)) (c.deref-number-items.ensures.value ∙ c.args.self.now.every_number)
 
 pub loop-number-preserved : goal.loop-number-preserved
 loop-number-preserved c =
-    kept_next c.loop-number.found.items c.push_if.new.list.items _ _ _ _ (drop_next c.deref-number-items.result.now c.loop-number.number-index _ c.loop-number-test.true) (λ q. goes_on (route_at c.args.self.now.frame.interlocking.now.routes q).finish c.args.start)
+    kept_next c.loop-number.found.items c.push_if.new.list.items _ _ _ _ (drop_next c.deref-number-items.result.now c.loop-number.number-index _ c.loop-number-test.true) (λ q. goes_on (route_at c.args.self.now.encoder.interlocking.now.routes q).finish c.args.start)
     (ap (λ r. goes_on r.finish c.args.start) (sym c.route_at.ensures) ∙ sym c.goes_on-ends.ensures) c.in_ok-push_if.ensures c.loop-number.invariant

@@ -9,10 +9,10 @@ share-shares-requires-clause-other c = known_routes c.args.self.now c.deref-numb
 
 pub loop-number-init : goal.loop-number-init
 loop-number-init c =
-    ap (λ xs. xs ++ filter (shares c.args.self.now.frame.interlocking.now.routes c.args.route) c.deref-number-items.result.now) c.new-found.ensures.items
-    ∙ ap (filter (shares c.args.self.now.frame.interlocking.now.routes c.args.route)) (c.deref-number-items.ensures.value ∙ c.args.self.now.every_number)
+    ap (λ xs. xs ++ filter (shares c.args.self.now.encoder.interlocking.now.routes c.args.route) c.deref-number-items.result.now) c.new-found.ensures.items
+    ∙ ap (filter (shares c.args.self.now.encoder.interlocking.now.routes c.args.route)) (c.deref-number-items.ensures.value ∙ c.args.self.now.every_number)
 
 pub loop-number-preserved : goal.loop-number-preserved
 loop-number-preserved c =
-    kept_next c.loop-number.found.items c.push_if.new.list.items _ _ _ _ (drop_next c.deref-number-items.result.now c.loop-number.number-index _ c.loop-number-test.true) (shares c.args.self.now.frame.interlocking.now.routes c.args.route)
+    kept_next c.loop-number.found.items c.push_if.new.list.items _ _ _ _ (drop_next c.deref-number-items.result.now c.loop-number.number-index _ c.loop-number-test.true) (shares c.args.self.now.encoder.interlocking.now.routes c.args.route)
     (sym c.share-shares.ensures) c.in_ok-push_if.ensures c.loop-number.invariant

@@ -1,14 +1,14 @@
 use Rattle.std.proofs.Common.{◌++◌, filter, sym, ap, ◌∙◌}
 use Rattle.alike_clauses.specs.Turns.{begins}
-use Rattle.plan_encoding.specs.Frames.{over}
+use Rattle.plan_encoding.specs.Encoders.{over}
 use Rattle.plan_encoding.proofs.Gathering.{kept_next, drop_next}
 use Rattle.plan_encoding.proofs.Tabled.{known_numbers}
 use Rattle.plan_encoding.proofs.tables.Tables.beginnings.Goals as goal
 
 pub loop-route-init : goal.loop-route-init
 loop-route-init c =
-    ap (λ xs. xs ++ filter (over c.args.self.now.frame begins c.args.train) c.deref-route-items.result.now) c.new-routes.ensures.items
-    ∙ ap (filter (over c.args.self.now.frame begins c.args.train)) (c.deref-route-items.ensures.value ∙ c.args.self.now.every_number)
+    ap (λ xs. xs ++ filter (over c.args.self.now.encoder begins c.args.train) c.deref-route-items.result.now) c.new-routes.ensures.items
+    ∙ ap (filter (over c.args.self.now.encoder begins c.args.train)) (c.deref-route-items.ensures.value ∙ c.args.self.now.every_number)
 
 pub begins-belongs-requires : goal.begins-belongs-requires
 begins-belongs-requires c = record { train = c.requires; route = known_numbers c.args.self.now c.deref-route-items.result.now c.deref-route-items.ensures.value c.loop-route.route-index _ c.loop-route-test.true }
@@ -16,4 +16,4 @@ begins-belongs-requires c = record { train = c.requires; route = known_numbers c
 pub loop-route-preserved : goal.loop-route-preserved
 loop-route-preserved c =
     kept_next c.loop-route.routes.items c.push_if.new.list.items _ _ _ _ (drop_next c.deref-route-items.result.now c.loop-route.route-index _ c.loop-route-test.true)
-    (over c.args.self.now.frame begins c.args.train) (sym c.begins-belongs.ensures) c.in_ok-push_if.ensures c.loop-route.invariant
+    (over c.args.self.now.encoder begins c.args.train) (sym c.begins-belongs.ensures) c.in_ok-push_if.ensures c.loop-route.invariant

@@ -1,11 +1,11 @@
 use Rattle.std.proofs.Common.{◌≡◌, ◌+◌, ◌-◌, ◌++◌, List, length, sym, ap, ap₂, subst, ◌∙◌, arith}
 use Rattle.rail_base.specs.declared.station.Station.{Station}
-use Rattle.rail_spec.specs.Track.{Closing}
+use Rattle.rail_spec.specs.Track.{Walk}
 use Rattle.rail_routes.specs.Pending.{at_level, over, of_step, station_of, to_come, GoesOn, IsLonger}
 use Rattle.rail_routes.specs.declared.path.Path.{Path}
 use Rattle.rail_routes.specs.declared.search.Step.{Step}
 use Rattle.rail_routes.specs.declared.search.Step.TheVariants as step
-use Rattle.rail_routes.proofs.Searching.{few, level_closings, station_same}
+use Rattle.rail_routes.proofs.Searching.{few, level_walks, station_same}
 use Rattle.rail_routes.proofs.search.Search.close.Goals as goal
 
 pub loop-edge-smaller : goal.loop-edge-smaller
@@ -36,7 +36,7 @@ loop-edge-preserved c =
       innermost = (here, record { on_path = omega arith; node = on.0; some = on.1 });
       same =
           ap (λ n. at_level d new.path.edges.items (record { after = n; from = c.in-On.end; tried = 0 }) ++ rest) here
-          ∙ ap (λ (cs : List Closing). cs ++ rest) (level_closings d new.path.edges.items c.in-On.end most)
+          ∙ ap (λ (cs : List Walk). cs ++ rest) (level_walks d new.path.edges.items c.in-On.end most)
           ∙ ap (λ (s : Step). of_step d new.path.edges.items s ++ rest) (sym c.in-On.is)
           ∙ c.in_ok-closed.ensures.same
           ∙ ap₂ (λ (d : Station) (p : Path). over d (length d.edges - length p.edges.items) p.edges.items from e ++ to_come taken) (station_same taken old c.in_ok-edge.ensures.track) c.in_ok-edge.ensures.path

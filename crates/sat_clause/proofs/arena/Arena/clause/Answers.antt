@@ -10,8 +10,8 @@ begin-start-requires c =
     let e = ap length c.deref.ensures.value in
     omega arith
 
-pub index-end-requires : goal.index-end-requires
-index-end-requires c =
+pub index-requires : goal.index-requires
+index-requires c =
     let w = number-within c.self.inside.lits.items c.self.inside.ends.items c.self.inside.marks.items c.self.invariant c.args.self.now c.args.id c.self.view_is c.requires in
     omega arith
 
@@ -23,7 +23,7 @@ part-requires c =
     let l : k < length es = omega arith in
     let p = piece-within c.self.inside.lits.items es c.self.inside.marks.items c.self.invariant k l in
     let b : c.begin-start.result ≡ begin_at 0 es k = c.begin-start.ensures ∙ ap (λ (xs : List ℕ). begin_at 0 xs k) c.deref.ensures.value in
-    let e : c.index-end.result.now ≡ get_or es k 0 = end-is es k c.index-end.result.now l c.index-end.ensures in
+    let e : c.index.result.now ≡ get_or es k 0 = end-is es k c.index.result.now l c.index.ensures in
     let n = ap length c.deref-2.ensures.value in
     record { ordered = omega arith; within = omega arith }
 
@@ -35,6 +35,6 @@ returns c =
     let w = number-within lits es c.self.inside.marks.items c.self.invariant c.args.self.now c.args.id c.self.view_is c.requires in
     let l : k < length es = omega arith in
     let b : c.begin-start.result ≡ begin_at 0 es k = c.begin-start.ensures ∙ ap (λ (xs : List ℕ). begin_at 0 xs k) c.deref.ensures.value in
-    let e : c.index-end.result.now ≡ get_or es k 0 = end-is es k c.index-end.result.now l c.index-end.ensures in
+    let e : c.index.result.now ≡ get_or es k 0 = end-is es k c.index.result.now l c.index.ensures in
     lent-clause lits es c.self.inside.marks.items c.self.invariant c.args.self.now c.args.id k c.part.result.now c.self.view_is c.requires (omega arith) l
-    (c.part.ensures ∙ (ap (λ (xs : List Lit). take (c.index-end.result.now - c.begin-start.result) (drop c.begin-start.result xs)) c.deref-2.ensures.value ∙ ap₂ (λ s t. take (t - s) (drop s lits)) b e))
+    (c.part.ensures ∙ (ap (λ (xs : List Lit). take (c.index.result.now - c.begin-start.result) (drop c.begin-start.result xs)) c.deref-2.ensures.value ∙ ap₂ (λ s t. take (t - s) (drop s lits)) b e))

@@ -8,4 +8,4 @@ pub loop-journey-init : goal.loop-journey-init
 loop-journey-init c =
     let history = train_history c.args.self.now.interlocking.now.design.station c.args.self.now.interlocking.now.routes c.args.self.now.plan.now.steps 0 in
     let items = c.new-histories.ensures.items in
-    rw items (sym (map-map history (λ (j : Journey). j.course.now.train) c.args.self.now.journeys.now) ∙ ap (map history) c.args.self.now.led.all)
+    rw items (sym (map-map history (λ (j : Journey). j.train_path.now.train) c.args.self.now.journeys.now) ∙ ap (map history) c.args.self.now.led.all)

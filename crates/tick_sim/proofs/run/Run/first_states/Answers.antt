@@ -10,4 +10,4 @@ pub loop-journey-init : goal.loop-journey-init
 loop-journey-init c =
     let begin : TrainNo → TrainState = λ t. idle in
     let items = c.new-states.ensures.items in
-    rw items (sym (map-map begin (λ (j : Journey). j.course.now.train) c.args.self.now.journeys.now) ∙ ap (map begin) c.args.self.now.led.all)
+    rw items (sym (map-map begin (λ (j : Journey). j.train_path.now.train) c.args.self.now.journeys.now) ∙ ap (map begin) c.args.self.now.led.all)

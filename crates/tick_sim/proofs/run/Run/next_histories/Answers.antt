@@ -9,12 +9,12 @@ pub loop-i-init : goal.loop-i-init
 loop-i-init c =
     let history = train_history c.args.self.now.interlocking.now.design.station c.args.self.now.interlocking.now.routes c.args.self.now.plan.now.steps c.args.tick in
     let items = c.new-histories.ensures.items in
-    rw items (sym (map-map history (λ (j : Journey). j.course.now.train) c.args.self.now.journeys.now) ∙ ap (map history) c.args.self.now.led.all)
+    rw items (sym (map-map history (λ (j : Journey). j.train_path.now.train) c.args.self.now.journeys.now) ∙ ap (map history) c.args.self.now.led.all)
 
 pub next_history-requires-clause-before : goal.next_history-requires-clause-before
 next_history-requires-clause-before c =
     let history = train_history c.args.self.now.interlocking.now.design.station c.args.self.now.interlocking.now.routes c.args.self.now.plan.now.steps (c.args.tick - 1) in
-    let train = λ (j : Journey). j.course.now.train in
+    let train = λ (j : Journey). j.train_path.now.train in
     let js = c.args.self.now.journeys.now in
     c.index-olds-i.is ∙ ap (λ hs. get_or hs c.loop-i.i c.index-olds-i.result) (c.as_slice-olds.ensures ∙ c.requires.before ∙ ap (map history) (sym c.args.self.now.led.all) ∙ map-map history train js)
     ∙ get_or-map (λ j. history (train j)) js c.loop-i.i c.index-self-i.result c.index-olds-i.result c.loop-i-test.true

@@ -5,5 +5,5 @@ use Rattle.tick_sim.proofs.run.Run.next_histories.Given as goal
 
 abbrev pub invariant-loop-i : goal.invariant-loop-i
 invariant-loop-i l =
-    l.histories.items ++ map (λ (j : Journey). train_history l.self.interlocking.now.design.station l.self.interlocking.now.routes l.self.plan.now.steps l.tick j.course.now.train) (drop l.i l.self.journeys.now)
+    l.histories.items ++ map (λ (j : Journey). train_history l.self.interlocking.now.design.station l.self.interlocking.now.routes l.self.plan.now.steps l.tick j.train_path.now.train) (drop l.i l.self.journeys.now)
     ≡ history_at l.self.interlocking.now.design.station l.self.interlocking.now.routes l.self.plan.now.steps l.tick

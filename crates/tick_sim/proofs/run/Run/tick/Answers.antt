@@ -10,4 +10,4 @@ pub loop-journey-init : goal.loop-journey-init
 loop-journey-init c =
     let next : TrainNo → TrainState = λ t. moved c.args.self.now.interlocking.now.design.station c.args.self.now.interlocking.now.routes (of_plan c.args.self.now.interlocking.now.routes c.args.self.now.plan.now.steps) t (state_of c.args.states.now t) (granted_after c.args.self.now.interlocking.now.design.station c.args.self.now.interlocking.now.routes (of_plan c.args.self.now.interlocking.now.routes c.args.self.now.plan.now.steps) c.args.states.now t) in
     let items = c.new-next.ensures.items in
-    rw items (sym (map-map next (λ (j : Journey). j.course.now.train) c.args.self.now.journeys.now) ∙ ap (map next) c.args.self.now.led.all)
+    rw items (sym (map-map next (λ (j : Journey). j.train_path.now.train) c.args.self.now.journeys.now) ∙ ap (map next) c.args.self.now.led.all)

@@ -1,0 +1,22 @@
+use Rattle.std.proofs.Common.{arith}
+use Rattle.rail_base.proofs.Admitting.{admitted}
+use Rattle.cone_clause.proofs.Sizes.{given_small}
+use Rattle.bound_clause.proofs.numbered.NumberedBound.used_literal.Goals as goal
+
+pub overflow_mul-result : goal.overflow_mul-result
+overflow_mul-result c =
+    let few = (admitted c.args.self.now.contention.interlocking.now.design.station c.args.self.now.contention.interlocking.now.design.admitted).many_trains in
+    let t = c.requires.train in
+    let r = c.requires.route in
+    let l = c.len-routes.ensures in
+    let small = given_small c.args.command.train.0 c.args.command.route.0 c.len-routes.result c.args.self.now.steps.count (omega arith) (omega arith) (omega arith) c.args.self.now.steps.most t.0 r.0 in
+    omega arith
+
+pub overflow_add-result : goal.overflow_add-result
+overflow_add-result c =
+    let few = (admitted c.args.self.now.contention.interlocking.now.design.station c.args.self.now.contention.interlocking.now.design.admitted).many_trains in
+    let t = c.requires.train in
+    let r = c.requires.route in
+    let l = c.len-routes.ensures in
+    let small = given_small c.args.command.train.0 c.args.command.route.0 c.len-routes.result c.args.self.now.steps.count (omega arith) (omega arith) (omega arith) c.args.self.now.steps.most t.0 r.0 in
+    omega arith

@@ -1,8 +1,0 @@
-use Rattle.std.proofs.Common.{◌≡◌, nat_lt, ◌-◌, drop}
-use Rattle.rail_base.specs.Members.{all_neighbors}
-use Rattle.rail_cone.specs.declared.ConeTrain.{ConeTrain}
-use Rattle.cone_design.proofs.order.trains_in_order.Given as goal
-
--- those so far stand in order
-abbrev pub invariant-loop-index : goal.invariant-loop-index
-invariant-loop-index l = all_neighbors (λ (a b : ConeTrain). nat_lt a.train.0 b.train.0) (drop (l.index - 1) l.entries) ≡ all_neighbors (λ (a b : ConeTrain). nat_lt a.train.0 b.train.0) l.entries

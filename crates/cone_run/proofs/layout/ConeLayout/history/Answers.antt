@@ -1,0 +1,25 @@
+use Rattle.std.proofs.Common.{refl, sym, subst, arith}
+use Rattle.rail_base.proofs.Admitting.{admitted}
+use Rattle.interlocking.specs.declared.railway.Interlocking.{Interlocking}
+use Rattle.rail_cone.specs.Cones.{of_cone}
+use Rattle.dispatch_run.specs.Followers.{AreFollowers}
+use Rattle.cone_run.proofs.Riding.{last_within}
+use Rattle.cone_run.proofs.Leading.{may_go}
+use Rattle.cone_run.proofs.layout.ConeLayout.history.Goals as goal
+
+pub history_of-requires : goal.history_of-requires
+history_of-requires c =
+    let i = c.args.self.now.contention.interlocking.now in
+    let d = i.design.station in
+    let cone = c.args.self.now.cone.now in
+    let known = c.args.self.now.known in
+    let adm = admitted d i.design.admitted in
+    let within = last_within d i.routes cone known in
+    let most = adm.ticks.1 in
+    let last = c.last_tick.ensures in (
+      record {
+        goes = may_go d i.routes cone known adm i.table i.few;
+        followers = subst (AreFollowers d i.routes (of_cone cone)) (sym c.as_slice-2.ensures.value) (subst (λ (i : Interlocking). AreFollowers i.design.station i.routes (of_cone cone) c.in_ok-followers.followers.items) c.args.self.now.over c.in_ok-followers.ensures);
+      },
+      (refl, omega arith),
+    )

@@ -1,0 +1,38 @@
+use Rattle.std.proofs.Common.{All, ap, sym, subst}
+use Rattle.std.proofs.lemmas.List.Elements.{All-push}
+use Rattle.rail_course.specs.declared.train_path.TrainPath.{TrainPath}
+use Rattle.rail_course.specs.declared.journey.Journey.{Journey}
+use Rattle.rail_course.specs.Itineraries.{IsTrainPathIn}
+use Rattle.rail_course.specs.Journeys.{IsJourney}
+use Rattle.rail_course.specs.Waits.{IsContending}
+use Rattle.rail_course.proofs.Coursing.{map_step, path_of_number}
+use Rattle.rail_course.proofs.Waiting.{all_waits_in}
+use Rattle.interlocking.specs.declared.railway.Interlocking.{Interlocking}
+use Rattle.rail_cone.specs.Cones.{free_path, of_cone}
+use Rattle.cone_run.proofs.Leading.{contending}
+use Rattle.cone_run.proofs.Ranging.{no_free_path}
+use Rattle.cone_run.proofs.layout.ConeLayout.journeys.Goals as goal
+
+pub waits_of_train-requires : goal.waits_of_train-requires
+waits_of_train-requires c = (subst (IsTrainPathIn c.args.self.now.train_paths.given) (sym c.train_path-item.is) (c.args.self.now.train_paths.coursed.each c.loop-train_path.train_path-index c.train_path-item.result c.loop-train_path-test.true)).train
+
+pub journey-requires : goal.journey-requires
+journey-requires c = subst (IsTrainPathIn c.args.self.now.train_paths.given) (sym c.train_path-item.is) (c.args.self.now.train_paths.coursed.each c.loop-train_path.train_path-index c.train_path-item.result c.loop-train_path-test.true)
+
+pub loop-train_path-preserved : goal.loop-train_path-preserved
+loop-train_path-preserved c =
+    let self = c.args.self.now in
+    let given = self.train_paths.given in
+    let d = given.interlocking.now.design.station in
+    let routes = given.interlocking.now.routes in
+    let cone = self.cone.now in
+    let p = of_cone cone in
+    let items = c.in_ok-push.ensures.items in
+    let over = self.contention.interlocking.now in
+    let same = path_of_number over.design.station (free_path cone) given.paths.now self.given (no_free_path over.design.station over.routes cone self.known) in
+    let contends = subst (λ (i : Interlocking). IsContending i.design.station i.routes p) (sym self.over) (contending over.design.station over.routes cone self.known) in
+    record {
+      each = subst (All (IsJourney d routes p)) (sym items) (All-push (IsJourney d routes p) c.loop-train_path.journeys.items _ c.loop-train_path.invariant.each
+          (c.in_ok-journey.ensures.journey p same (all_waits_in given p contends same _ _ c.in_ok-waits.ensures)));
+      left = map_step (λ (j : Journey). j.train_path.now.train) (λ (x : TrainPath). x.train) c.loop-train_path.journeys.items c.push.new.self.items _ self.train_paths.train_paths.now c.loop-train_path.train_path-index c.train_path-item.result _ c.loop-train_path-test.true c.train_path-item.is items (ap (λ (x : TrainPath). x.train) c.in_ok-journey.ensures.train_path) c.loop-train_path.invariant.left;
+    }

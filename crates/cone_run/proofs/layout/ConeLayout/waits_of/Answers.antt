@@ -1,0 +1,56 @@
+use Rattle.std.proofs.Common.{◌≡◌, ◌+◌, ◌++◌, [], ◌∷◌, Bool, true, Vec, Global, List, drop, get_or, filter, map, ap, sym, subst, ◌∙◌}
+use Rattle.rail_base.specs.declared.plan.Command.{Command}
+use Rattle.rail_spec.specs.Plans.{is_command}
+use Rattle.rail_cone.specs.Cones.{is_listed, is_pair}
+use Rattle.rail_course.specs.declared.waits.Wait.{Wait}
+use Rattle.std.specs.List.{list_any}
+use Rattle.interlocking.specs.declared.railway.Interlocking.{Interlocking}
+use Rattle.rail_course.specs.Tracks.{IsCommand}
+use Rattle.rail_course.specs.Itineraries.{wait_in}
+use Rattle.plan_clauses.specs.Variables.{pairs}
+use Rattle.cone_run.specs.Layouts.{waits_in}
+use Rattle.cone_run.proofs.Listing.{listed_rivals, listed_next, unlisted_next}
+use Rattle.cone_run.proofs.Looking.{listed_there as listed_commands}
+use Rattle.cone_run.proofs.layout.ConeLayout.waits_of.Goals.{then-is_among+in_ok-push, else-is_among}
+use Rattle.cone_run.proofs.layout.ConeLayout.waits_of.Goals as goal
+
+none : Command
+none = record { train = record { 0 = 0 }; route = record { 0 = 0 } }
+
+pub loop-other-init : goal.loop-other-init
+loop-other-init c =
+    let d = c.args.self.now.contention.interlocking.now.design.station in
+    let routes = c.args.self.now.contention.interlocking.now.routes in
+    let k = c.args.self.now.cone.now in
+    let wait = wait_in c.args.self.now.train_paths.given c.args.command in
+    let listed : Command → Bool = λ e. is_listed k e c.args.command in
+    let run : List (Command × Command) = filter (λ (p : Command × Command). is_command p.0 c.args.command) (pairs d routes) in
+    let items : c.pairs_from-other-items.result.now ≡ run = c.pairs_from-other-items.ensures ∙ ap (filter (λ (p : Command × Command). is_command p.0 c.args.command)) (c.sorted-pairs.ensures ∙ c.args.self.now.contention.ordered) in
+    ap (λ ws. ws ++ map wait (filter listed (map (λ (p : Command × Command). p.1) c.pairs_from-other-items.result.now))) c.new-waits.ensures.items
+    ∙ (ap (λ (ps : List (Command × Command)). map wait (filter listed (map (λ (p : Command × Command). p.1) ps))) items
+    ∙ ap (map wait) (listed_rivals d routes k c.args.self.now.known c.args.command))
+
+pub wait_for-requires-clause-other : goal.wait_for-requires-clause-other
+unfolding none
+wait_for-requires-clause-other c =
+    let k = c.args.self.now.cone.now in
+    let e : Command = (get_or c.pairs_from-other-items.result.now c.loop-other.other-index (none, none)).1 in
+    let listed : is_listed k e c.args.command ≡ true = sym (ap (list_any (is_pair e c.args.command)) c.listed-listed.ensures) ∙ (sym c.is_among.ensures ∙ c.if-is_among.true) in
+    subst (λ (i : Interlocking). IsCommand i.design.station i.routes e) (sym c.args.self.now.over) (listed_commands c.args.self.now.contention.interlocking.now.design.station c.args.self.now.contention.interlocking.now.routes k c.args.self.now.known e c.args.command listed).0
+
+pub loop-other-preserved : goal.loop-other-preserved
+unfolding none
+loop-other-preserved c =
+    let k = c.args.self.now.cone.now in
+    let wait = wait_in c.args.self.now.train_paths.given c.args.command in
+    let run : List (Command × Command) = c.pairs_from-other-items.result.now in
+    let e : Command = (get_or run c.loop-other.other-index (none, none)).1 in
+    let listed : Command → Bool = λ e. is_listed k e c.args.command in
+    let is : c.is_among.result ≡ listed e = c.is_among.ensures ∙ ap (list_any (is_pair e c.args.command)) c.listed-listed.ensures in
+    elim c.if-is_among.branch [
+      | then-is_among+in_ok-push w ↦ listed_next wait listed run c.loop-other.other-index (none, none) c.loop-other-test.true c.loop-other.waits.items c.if-is_among.waits.items _ (sym is ∙ w.if-is_among.true)
+          (ap (λ (v : Vec Wait Global). v.items) w.waits-is ∙ (w.in_ok-push.ensures.items ∙ ap (λ x. c.loop-other.waits.items ++ x ∷ [])
+          w.wait_for.ensures)) c.loop-other.invariant
+      | else-is_among w ↦ subst (λ (v : Vec Wait Global). v.items ++ map wait (filter listed (map (λ (p : Command × Command). p.1) (drop (c.loop-other.other-index + 1) run))) ≡ waits_in c.args.self.now c.args.command) (sym w.waits-is)
+          (unlisted_next wait listed run c.loop-other.other-index (none, none) c.loop-other-test.true c.loop-other.waits.items _ (sym is ∙ w.if-is_among.false) c.loop-other.invariant)
+    ]

@@ -1,0 +1,10 @@
+use Rattle.std.proofs.Common.{◌≡◌, ◌+◌, ◌-◌, [], ◌∷◌, map}
+use Rattle.rail_base.specs.Numbering.{count_from, one_to}
+use Rattle.plan_clauses.specs.Variables.{Given, no}
+use Rattle.plan_encoding.specs.Sinks.{emitted}
+use Rattle.plan_encoding.specs.Encoders.{numbered_clauses}
+use Rattle.plan_encoding.proofs.encoder.Encoder.emit_never.Given as goal
+
+-- what is left to list makes all of it
+abbrev pub invariant-loop-step : goal.invariant-loop-step
+invariant-loop-step l = emitted l.sink (numbered_clauses l.self (map (λ i. no (Given l.command i) ∷ []) (count_from l.step (l.self.steps.count + 1 - l.step)))) ≡ emitted l.fn.sink (numbered_clauses l.self (map (λ i. no (Given l.command i) ∷ []) (one_to l.self.steps.count)))

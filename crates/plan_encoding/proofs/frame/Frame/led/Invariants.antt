@@ -1,7 +1,0 @@
-use Rattle.std.proofs.Common.{◌≡◌, ◌-◌, ◌++◌, ◌∷◌, map, flat_map, drop}
-use Rattle.plan_clauses.specs.Variables.{Given, no, if_given, numbered}
-use Rattle.plan_encoding.proofs.frame.Frame.led.Given as goal
-
--- what is put and what is left to put make all of it
-abbrev pub invariant-loop-route : goal.invariant-loop-route
-invariant-loop-route l = l.clause.items ++ map (numbered l.self.interlocking.now.design.station l.self.interlocking.now.routes l.self.steps.count) (flat_map (λ q. if_given (record { train = l.command.train; route = q }) (l.step - 1)) (drop l.route-index l.leading)) ≡ map (numbered l.self.interlocking.now.design.station l.self.interlocking.now.routes l.self.steps.count) (no (Given l.command l.step) ∷ flat_map (λ q. if_given (record { train = l.command.train; route = q }) (l.step - 1)) l.leading)

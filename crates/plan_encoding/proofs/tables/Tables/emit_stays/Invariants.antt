@@ -1,0 +1,12 @@
+use Rattle.std.proofs.Common.{◌≡◌, flat_map, drop}
+use Rattle.plan_clauses.specs.Clauses.{stays_given}
+use Rattle.plan_encoding.specs.Sinks.{emitted}
+use Rattle.plan_encoding.specs.Families.{all_stay}
+use Rattle.plan_encoding.specs.Encoders.{over, numbered_clauses}
+use Rattle.plan_encoding.proofs.tables.Tables.emit_stays.Given as goal
+
+-- what is left to list makes all of it
+abbrev pub invariant-loop-command : goal.invariant-loop-command
+invariant-loop-command l =
+    emitted l.sink (numbered_clauses l.self.encoder (flat_map (over l.self.encoder stays_given) (drop l.command-index l.command-items)))
+    ≡ emitted l.fn.sink (numbered_clauses l.self.encoder (all_stay l.self.encoder))

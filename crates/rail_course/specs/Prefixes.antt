@@ -1,0 +1,27 @@
+-- The fronts of a path: its first routes, so many at a time.
+use Rattle.std.specs.Prelude.{◌+◌, false, ◌||◌, List, [], ◌∷◌, length, flat_map, sum_by}
+use Rattle.std.specs.List.{list_any}
+use Rattle.rail_base.specs.declared.route.Route.{Route}
+use Rattle.rail_base.specs.Routes.{length_mm, exits}
+use Rattle.rail_course.specs.declared.prefixes.PathPrefix.{PathPrefix}
+
+-- how many edges these routes have, how long they are, and whether one exits
+abbrev pub prefix_of : List Route → PathPrefix
+prefix_of rs = record {
+  spans = length (flat_map (λ r. r.edges) rs);
+  length = sum_by length_mm rs;
+  exits = list_any exits rs;
+}
+
+-- a front with one more route
+abbrev pub longer : PathPrefix → Route → PathPrefix
+longer f r = record { spans = f.spans + length r.edges; length = f.length + length_mm r; exits = f.exits || exits r }
+
+-- a front, and those with one, two and more of these routes behind it
+abbrev pub prefixes_from : PathPrefix → List Route → List PathPrefix
+prefixes_from f [] = f ∷ []
+prefixes_from f (r ∷ rs) = f ∷ prefixes_from (longer f r) rs
+
+-- the front of no route
+abbrev pub no_prefix : PathPrefix
+no_prefix = record { spans = 0; length = 0; exits = false }

@@ -1,0 +1,18 @@
+-- The first that fails is found by its place.
+use Rattle.std.proofs.Common.{◌≡◌, ◌+◌, ap, ◌∙◌, option_map, rules, tests}
+use Rattle.std.specs.List.{position_from}
+use Rattle.std.proofs.lemmas.Iterator.{YieldsList-from_slice}
+use Rattle.std.proofs.lemmas.Iterator.Search.{position_from_yields_List}
+use Rattle.std.proofs.lemmas.Iterator.Adapters.{position_from-zero}
+use Rattle.rail_base.specs.declared.plan.Violation.TheVariants as violation
+use Rattle.rail_require.specs.Violations.{is_broken, is_certain}
+use Rattle.rail_require.proofs.Finding.{found, entry-get}
+use Rattle.rail_require.proofs.failures.broken_order.Goals as goal
+
+pub returns : goal.returns
+returns c =
+    let d = c.args.design.now.station in
+    let test = is_broken c.args.history.now c.args.tick in
+    let place : c.position.result ≡ position_from test 0 d.orders = position_from_yields_List test _ _ c.position.result c.position.ensures.ran (YieldsList-from_slice d.orders cc) (λ x b q k. search (rules, tests)) ∙ position_from-zero test d.orders in
+    let made : c.map.result ≡ option_map (λ i. violation.Order (i + 1)) c.position.result = search rules in
+    made ∙ found (is_certain d c.args.history.now c.args.tick) violation.Order test d.orders c.position.result place (λ i x g. ap test (entry-get _ d.orders i x g))

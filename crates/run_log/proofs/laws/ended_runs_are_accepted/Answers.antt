@@ -1,5 +1,0 @@
-use Rattle.run_log.proofs.Accepted.{accepted}
-use Rattle.run_log.proofs.laws.ended_runs_are_accepted.Goals as goal
-
-pub returns : goal.returns
-returns c = accepted c.lines_read_back.ensures

@@ -1,0 +1,25 @@
+use Rattle.std.proofs.Common.{◌≡◌, ℕ, ◌≤◌, ◌<◌, List, [], length, inl, inr, ◌⊎◌, ap, subst, sym, ◌∙◌}
+use Rattle.rail_spec.specs.Feasible.{IsInfeasible}
+use Rattle.log_recorder.proofs.Searched.{le-split}
+use Rattle.verify_loop.specs.Outcomes.{IsProof}
+use Rattle.verify_loop.proofs.Held.{empty-so, some-so}
+use Rattle.verify_loop.proofs.rounds.PlanSearch.after_denial.Goals as goal
+use Rattle.verify_loop.proofs.rounds.PlanSearch.after_denial.Goals.{then-is_empty-via-then-is_empty, then-is_empty-via-else-is_empty+then-search-counts}
+
+pub returns-then-is_empty-clause-ends : goal.returns-then-is_empty-clause-ends
+returns-then-is_empty-clause-ends c =
+    let m = c.args.self.now.method in
+    let d = c.args.self.now.interlocking.now.design.station in
+    let n = c.args.self.now.base.now.steps in
+    let b = c.args.self.now.budgets in
+    let which : (c.args.core.now ≡ []) ⊎ (c.args.search.steps ≡ n) = elim c.then-is_empty.branch [
+      | then-is_empty-via-then-is_empty w ↦ inl (empty-so c.args.core.now c.is_empty.result c.is_empty.ensures w.if-is_empty.true)
+      | then-is_empty-via-else-is_empty+then-search-counts w ↦ inr (w.if-search-counts.true ∙ w.counts.ensures.steps)
+    ] in
+    subst (λ (log : List ℕ). IsInfeasible d n × IsProof m d n b log × (length log ≤ b.log_bytes)) (sym (ap (λ v. v.items) c.log_of.ensures)) (c.requires.of_all which)
+
+pub longer-requires-clause-known : goal.longer-requires-clause-known
+longer-requires-clause-known c =
+    let n = c.args.self.now.base.now.steps in
+    let less : c.args.search.steps < n = elim (le-split c.args.search.steps n c.requires.last) [ inl p ↦ p | inr q ↦ absurd (c.if-search-counts.false (q ∙ sym c.counts.ensures.steps)) ] in
+    (c.requires.of_these (some-so c.args.core.now c.is_empty.result c.is_empty.ensures c.if-is_empty.false) less).0

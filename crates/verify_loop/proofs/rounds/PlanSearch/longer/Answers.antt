@@ -1,0 +1,31 @@
+use Rattle.std.proofs.Common.{inl, inr, subst, sym, arith}
+use Rattle.rail_spec.specs.Feasible.{IsInfeasible}
+use Rattle.log_recorder.proofs.Searched.{le-split}
+use Rattle.verify_loop.proofs.rounds.PlanSearch.longer.Goals as goal
+
+pub returns : goal.returns
+returns c =
+    let d = c.args.self.now.interlocking.now.design.station in
+    let s = c.requires.state in
+    let less = c.requires.less in (
+      record {
+        lines = s.lines;
+        rs = s.rs;
+        clauses = s.clauses;
+        numbers = s.numbers;
+        log = s.log;
+        limit = s.limit;
+        same_vars = s.same_vars;
+        small = s.small;
+        below = s.below;
+        derived = s.derived;
+        learnt = s.learnt;
+        plans = s.plans;
+        cost = s.cost;
+        left = s.left;
+        first = omega arith;
+        last = omega (arith, less);
+        fewer = λ k h. elim (le-split k c.args.search.steps (omega (arith, h))) [ inl p ↦ s.fewer k p | inr q ↦ subst (IsInfeasible d) (sym q) c.requires.known ];
+      },
+      omega arith,
+    )

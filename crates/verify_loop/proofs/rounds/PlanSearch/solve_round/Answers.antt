@@ -1,0 +1,120 @@
+use Rattle.std.proofs.Common.{◌≡◌, ℕ, ◌≤◌, ◌<◌, ◌+◌, ◌-◌, true, List, [], ◌⊎◌, refl, sym, ap, ◌∙◌, subst, arith}
+use Rattle.rail_base.proofs.Admitting.{admitted}
+use Rattle.plan_clauses.specs.Variables.{By, number_of}
+use Rattle.rail_spec.specs.Track.{routes_of}
+use Rattle.log_recorder.specs.Logs.{by_step}
+use Rattle.sat_trail.proofs.Members.{assigned-self}
+use Rattle.sat_clause.specs.declared.lit.Lit.{Lit}
+use Rattle.sat_core.specs.Lines.{derive_count}
+use Rattle.sat_core.specs.Models.{value_in}
+use Rattle.verify_loop.specs.Outcomes.{IsFull, vars}
+use Rattle.verify_loop.specs.Searching.{state_in}
+use Rattle.verify_loop.proofs.Answering.{base_holds, at_plan}
+use Rattle.verify_loop.proofs.Heading.{kept_so}
+use Rattle.verify_loop.proofs.Held.{some-same}
+use Rattle.verify_loop.proofs.Known.{denials, denied_is_so, ended_runs, yes_is_so}
+use Rattle.verify_loop.proofs.Refining.{lines, log_so, next_so, full_so, within_so, count_so, proof_so, infeasible_so, none_so, denied_so}
+use Rattle.verify_loop.proofs.rounds.PlanSearch.solve_round.Goals as goal
+
+pub time_plan-requires-clause-at : goal.time_plan-requires-clause-at
+time_plan-requires-clause-at c =
+    let m = c.args.self.now.method in
+    let d = c.args.self.now.interlocking.now.design.station in
+    let n = c.args.self.now.base.now.steps in
+    let b = c.args.self.now.budgets in
+    let one = c.args.search.solver in
+    let two = c.put_to.new.solver in
+    let run = c.in-Sat.ensures.run in
+    let some = c.args.self.now.some in
+    let is = c.args.self.now.numbers in
+    let within : derive_count run.0 ≤ b.conflicts - one.derives = subst (λ (k : ℕ). derive_count run.0 ≤ b.conflicts - k) c.derives.ensures run.2 in
+    let holds = base_holds m d n b some one.recorder one.vars one.derives c.args.search.failed.items c.args.search.sum c.args.search.steps c.requires.state two.recorder two.vars two.derives run.0 run.1 c.in-Sat.values run.3.clauses in
+    let at : vars d n - n + c.args.search.steps ≡ number_of d (routes_of d) n (By c.args.search.steps) = omega arith in
+    let told : value_in c.in-Sat.values (number_of d (routes_of d) n (By c.args.search.steps)) ≡ true = subst (λ (v : ℕ). value_in c.in-Sat.values v ≡ true) at (run.3.assumed (by_step (vars d n) n c.args.search.steps) (assigned-self (by_step (vars d n) n c.args.search.steps))) in
+    at_plan m d n b some one.recorder one.vars one.derives c.args.search.failed.items c.args.search.sum c.args.search.steps c.requires.state two.recorder two.vars two.derives run.0 run.1 c.in-Sat.values run.3.clauses
+    within c.put_to.ensures.vars c.in-Ok.plan.steps (c.in-Ok.ensures.value d (routes_of d) n is)
+    (c.in-Ok.ensures.runnable d (routes_of d) n is some holds)
+    (c.in-Ok.ensures.ends d (routes_of d) n is holds c.args.search.steps c.requires.state.first c.requires.state.last told)
+
+pub time_plan-requires-clause-told : goal.time_plan-requires-clause-told
+time_plan-requires-clause-told c =
+    let m = c.args.self.now.method in
+    let d = c.args.self.now.interlocking.now.design.station in
+    let n = c.args.self.now.base.now.steps in
+    let b = c.args.self.now.budgets in
+    let one = c.args.search.solver in
+    let two = c.put_to.new.solver in
+    let run = c.in-Sat.ensures.run in
+    let some = c.args.self.now.some in
+    record {
+      holds = base_holds m d n b some one.recorder one.vars one.derives c.args.search.failed.items c.args.search.sum c.args.search.steps c.requires.state two.recorder two.vars two.derives run.0 run.1 c.in-Sat.values run.3.clauses;
+      told = c.in-Ok.ensures.value d (routes_of d) n c.args.self.now.numbers;
+    }
+
+pub after_denial-requires : goal.after_denial-requires
+after_denial-requires c =
+    let m = c.args.self.now.method in
+    let d = c.args.self.now.interlocking.now.design.station in
+    let n = c.args.self.now.base.now.steps in
+    let b = c.args.self.now.budgets in
+    let one = c.args.search.solver in
+    let two = c.put_to.new.solver in
+    let run = c.in-Unsat.ensures.run in
+    let some = c.args.self.now.some in
+    let core = c.in-Unsat.core.clause.items in
+    let new = state_in two.recorder two.derives in
+    let good = admitted d c.args.self.now.interlocking.now.design.admitted in
+    let room : two.recorder.limit ≡ b.log_bytes = some-same two.recorder.limit one.recorder.limit (run.6.limit ∙ run.3.limit) ∙ c.requires.state.limit in
+    let within = two.recorder.within in
+    let fits = c.args.self.now.fits in
+    let kept = kept_so m d n good c.args.self.now.most in
+    let less : derive_count run.0 < b.conflicts - one.derives = subst (λ (k : ℕ). derive_count run.0 < b.conflicts - k) c.derives.ensures run.4 in
+    record {
+      last = c.requires.state.last;
+      of_all = λ told. let which = subst (λ (z : List Lit). (z ≡ []) ⊎ (c.args.search.steps ≡ n)) c.as_slice.ensures.value told in (
+        infeasible_so m d n b some one.recorder one.vars one.derives c.args.search.failed.items c.args.search.sum c.args.search.steps c.requires.state run.1 new run.0 core run.2 run.3 run.5 run.6 two.recorder.few which kept fits good ended_runs yes_is_so,
+        proof_so m d n b some one.recorder one.vars one.derives c.args.search.failed.items c.args.search.sum c.args.search.steps c.requires.state run.1 new run.0 core run.2 run.3 run.5 run.6 two.recorder.few which kept fits less ended_runs,
+        omega (arith, room, within),
+      );
+      of_these = λ some_there fewer. let not_empty : core ≡ [] → ⊥ = λ e. some_there (c.as_slice.ensures.value ∙ e) in (
+        none_so m d n b some one.recorder one.vars one.derives c.args.search.failed.items c.args.search.sum c.args.search.steps c.requires.state run.1 new run.0 core run.2 run.3 run.5 run.6 two.recorder.few not_empty fewer (c.requires.unsaid fewer) good denials (denied_is_so m),
+        denied_so m d n b some one.recorder one.vars one.derives c.args.search.failed.items c.args.search.sum c.args.search.steps c.requires.state run.1 new run.0 core run.2 run.3 run.5 run.6 two.recorder.few not_empty fewer (c.requires.unsaid fewer) two.recorder two.vars two.derives refl less c.put_to.ensures.vars,
+      );
+    }
+
+pub returns-in-Spent-clause-ends : goal.returns-in-Spent-clause-ends
+returns-in-Spent-clause-ends c =
+    let m = c.args.self.now.method in
+    let d = c.args.self.now.interlocking.now.design.station in
+    let n = c.args.self.now.base.now.steps in
+    let b = c.args.self.now.budgets in
+    let one = c.args.search.solver in
+    let two = c.put_to.new.solver in
+    let run = c.in-Spent.ensures.run in
+    let some = c.args.self.now.some in
+    let new = state_in two.recorder two.derives in
+    let text : c.log_of.result.items ≡ new.text = ap (λ v. v.items) c.log_of.ensures in
+    let all : derive_count run.0 ≡ b.conflicts - one.derives = subst (λ (k : ℕ). derive_count run.0 ≡ b.conflicts - k) c.derives.ensures run.2 in (
+      lines m d n b some one.recorder one.vars one.derives c.args.search.failed.items c.args.search.sum c.args.search.steps c.requires.state new run.0 run.1,
+      c.requires.state.rs,
+      rw text (log_so m d n b some one.recorder one.vars one.derives c.args.search.failed.items c.args.search.sum c.args.search.steps c.requires.state new run.0 run.1 two.recorder.few),
+      within_so m d n b some one.recorder one.vars one.derives c.args.search.failed.items c.args.search.sum c.args.search.steps c.requires.state new run.0 run.1 two.recorder.few (omega (arith, all)),
+      count_so m d n b some one.recorder one.vars one.derives c.args.search.failed.items c.args.search.sum c.args.search.steps c.requires.state new run.0 run.1 two.recorder.few all,
+      next_so m d n b some one.recorder one.vars one.derives c.args.search.failed.items c.args.search.sum c.args.search.steps c.requires.state new run.0 run.1 two.recorder.few c.requires.unsaid c.in-Spent.clause.items c.in-Spent.hints.items run.3,
+    )
+
+pub returns-in-Full-clause-ends : goal.returns-in-Full-clause-ends
+returns-in-Full-clause-ends c =
+    let m = c.args.self.now.method in
+    let d = c.args.self.now.interlocking.now.design.station in
+    let n = c.args.self.now.base.now.steps in
+    let b = c.args.self.now.budgets in
+    let one = c.args.search.solver in
+    let two = c.put_to.new.solver in
+    let run = c.in-Full.ensures.run in
+    let new = state_in two.recorder two.derives in
+    let text : c.log_of-in-Full.result.items ≡ new.text = ap (λ v. v.items) c.log_of-in-Full.ensures in
+    let fewer : derive_count run.0 ≤ b.conflicts - one.derives = (let less = subst (λ (k : ℕ). derive_count run.0 < b.conflicts - k) c.derives.ensures run.4 in omega arith) in
+    let full : IsFull m d n b new.text c.in-Full.bytes c.in-Full.next =
+    full_so m d n b c.args.self.now.some one.recorder one.vars one.derives c.args.search.failed.items c.args.search.sum c.args.search.steps c.requires.state new run.0 run.3 two.recorder.few c.requires.unsaid run.1 run.2 c.in-Full.bytes c.in-Full.next fewer run.5 run.6 run.7 run.8 in
+    subst (λ (t : List ℕ). IsFull m d n b t c.in-Full.bytes c.in-Full.next) (sym text) full

@@ -1,0 +1,283 @@
+//! A search, round after round.
+
+ghost use Rattle.std.specs.Prelude.{◌≡◌, ◌≤◌, ◌<◌, ◌+◌, [], ◌∷◌, IfOk, IfErr, None};
+ghost use Rattle.plan_clauses.specs.Clauses.{past_limit};
+ghost use Rattle.verify_loop.specs.Bases.{IsBaseFor};
+ghost use Rattle.verify_loop.specs.Outcomes.{first_clauses};
+ghost use Rattle.verify_loop.specs.Searching.{state_in};
+ghost use Rattle.rail_spec.specs.Feasible.{IsInfeasible};
+ghost use Rattle.plan_exclusion.specs.Failures.{FailsSo};
+ghost use Rattle.sat_core.specs.Runs.{Ends};
+
+use crate::outcome::{Budgets, Outcome};
+use bound_finder::Finder;
+use cone_form::Contention;
+use interlocking::Interlocking;
+use log_recorder::Text;
+use plan_decoder::decode;
+use plan_encoding::Base;
+use plan_exclusion::{Exclusion, FailedPlan, Method};
+use plan_run::simulate;
+use rail_base::history::{History, Verdict};
+use rail_base::plan::{Plan, Violation};
+use sat_clause::Lit;
+use sat_core::{Answer, Assignment, Recorder, Solver};
+use std::alloc::{AllocError, Global};
+
+/// A search that goes on.
+#[derive(Drop)]
+pub(crate) struct SearchState {
+    /// It holds the clauses, and its recorder the log.
+    pub solver: Solver<Text>,
+    /// The plans that failed so far.
+    pub failed: Vec<Plan>,
+    /// How many ticks they took.
+    pub sum: u64,
+    /// A plan of so many steps is looked for. There is none of fewer.
+    pub steps: u32,
+    /// It looks for bounds by which plans fail.
+    pub finder: Finder,
+}
+
+/// What is searched, and what may be spent.
+#[derive(Clone, Copy)]
+pub(crate) struct PlanSearch<'a> {
+    pub alloc: Global,
+    pub interlocking: &'a Interlocking,
+    pub method: Method,
+    pub base: &'a Base,
+    pub budgets: Budgets,
+    pub ghost numbers: { IsBaseFor interlocking.now base.now },
+    pub ghost some: { 1 ≤ base.now.steps },
+    pub ghost most: { base.now.steps ≤ 256 },
+    pub ghost fits: { past_limit 16000000 0
+        (first_clauses method interlocking.now.design.station base.now.steps) ≡ None },
+}
+
+/// The log of a solver that is done.
+fn log_of(solver: Solver<Text>) -> Vec<u8>
+    ensures { result ≡ solver.recorder.bytes }
+{
+    solver.into_recorder().into_bytes()
+}
+
+impl PlanSearch<'_> {
+    ghost use Rattle.verify_loop.specs.Asking.{EndsWith, Excludes, GoesOn, IsAtPlan, IsDenied, IsOpen, IsSearch};
+    ghost use Rattle.verify_loop.specs.Asking.{AreValuesFor, WasFound, given_by, ticks_of, variables};
+
+    /// What excludes a plan that was found and fails.
+    fn exclusion_of<'b>(
+        &self,
+        finder: &mut Finder,
+        plan: &'b Plan,
+        values: &'b Assignment,
+        history: &'b History,
+        tick: u64,
+        violation: Violation,
+    ) -> Result<Exclusion, AllocError>
+        requires found { WasFound self.now plan.now.steps }
+        requires told { AreValuesFor self.now values.now plan.now.steps }
+        requires fails { FailsSo self.now.interlocking.now.design.station plan.now.steps history.now tick violation }
+        ensures { IfOk result (Excludes self.now plan.now.steps) }
+    {
+        let contention = Contention {
+            interlocking: self.interlocking,
+            pairs: self.base.pairs(),
+        };
+        let failed = FailedPlan {
+            contention,
+            steps: self.base.steps(),
+            plan,
+            values,
+            history,
+            tick,
+            violation,
+        };
+        failed.exclusion(self.alloc, self.method, finder)
+    }
+
+    /// The search with the clause that excludes a plan that fails at this tick, where the log has room for its line.
+    fn exclude_plan(
+        &self,
+        search: SearchState,
+        plan: Plan,
+        tick: u64,
+        exclusion: &Exclusion,
+    ) -> Result<SearchState, Outcome>
+        requires state { IsAtPlan self.now search plan.steps }
+        requires excludes { Excludes self.now plan.steps exclusion.now }
+        requires tick { tick ≡ ticks_of self.now plan.steps }
+        requires at_least_one { 1 ≤ tick }
+        requires left { search.sum + tick ≤ self.now.budgets.ticks }
+        ensures goes_on { IfOk result (GoesOn self.now search) }
+        ensures ends { IfErr result (EndsWith self.now) }
+    {
+        let mut search = search;
+        // The sum stays within these.
+        let _ticks = self.budgets.ticks;
+        let line = exclusion.line.as_slice();
+        let next = line.len() as u64 + 1;
+        if !search.solver.recorder().room(next) {
+            let log = log_of(search.solver);
+            let bytes = log.as_slice().len() as u64;
+            return Err(Outcome::LogSpent { log, bytes, next });
+        }
+        let Ok(_id) = search.solver.add_clause(line, exclusion.clause.as_slice()) else {
+            return Err(Outcome::Memory);
+        };
+        let Ok(()) = search.failed.push(plan) else {
+            return Err(Outcome::Memory);
+        };
+        search.sum += tick;
+        Ok(search)
+    }
+
+    /// What follows of the run of a plan that was found, of which these values tell.
+    fn time_plan(
+        &self,
+        search: SearchState,
+        plan: Plan,
+        values: &Assignment,
+    ) -> Result<SearchState, Outcome>
+        requires at { IsAtPlan self.now search plan.steps }
+        requires told { AreValuesFor self.now values.now plan.steps }
+        ensures goes_on { IfOk result (GoesOn self.now search) }
+        ensures ends { IfErr result (EndsWith self.now) }
+    {
+        let mut search = search;
+        let left = self.budgets.ticks - search.sum;
+        match simulate(self.alloc, self.interlocking, &plan, left) {
+            Ok(Verdict::Met { history, tick }) => Err(Outcome::Plan {
+                plan,
+                verdict: Verdict::Met { history, tick },
+            }),
+            Ok(
+                Verdict::Failed {
+                    history,
+                    tick,
+                    violation,
+                },
+            ) => match self.exclusion_of(
+                &mut search.finder,
+                &plan,
+                values,
+                &history,
+                tick,
+                violation,
+            ) {
+                Ok(exclusion) => self.exclude_plan(search, plan, tick, &exclusion),
+                Err(_) => Err(Outcome::Memory),
+            },
+            Ok(Verdict::Undecided) => Err(Outcome::TicksSpent {
+                failed: search.failed,
+                sum: search.sum,
+                at_hand: plan,
+            }),
+            Err(_) => Err(Outcome::Memory),
+        }
+    }
+
+    /// The search for a plan of one step more, where it is known that there is none of these.
+    fn longer(&self, search: SearchState) -> SearchState
+        requires state { IsSearch self.now search }
+        requires known { IsInfeasible self.now.interlocking.now.design.station search.steps }
+        requires less { search.steps < self.now.base.now.steps }
+        ensures { GoesOn self.now search result }
+    {
+        let mut search = search;
+        let _steps = self.base.counts().steps;
+        search.steps += 1;
+        search
+    }
+
+    /// What follows where the solver shows that there is no plan of so many steps.
+    fn after_denial(&self, search: SearchState, core: &[Lit]) -> Result<SearchState, Outcome>
+        requires { IsDenied self.now search core.now }
+        ensures goes_on { IfOk result (GoesOn self.now search) }
+        ensures ends { IfErr result (EndsWith self.now) }
+    {
+        if core.is_empty() || search.steps == self.base.counts().steps {
+            return Err(Outcome::Infeasible {
+                log: log_of(search.solver),
+            });
+        }
+        Ok(self.longer(search))
+    }
+
+    /// The literal that all is given by a step.
+    fn by_step(&self, step: u32) -> Lit
+        requires { step ≤ self.now.base.now.steps }
+        ensures { result ≡ given_by self.now step }
+    {
+        self.base.selector(step)
+    }
+
+    /// Asks the solver for values that tell of a plan of so many steps.
+    fn put_to(&self, solver: &mut Solver<Text>, steps: u32, left: u64) -> Answer
+        requires vars { solver.old.vars ≡ variables self.now }
+        requires at_least_one { 1 ≤ steps }
+        requires within { steps ≤ self.now.base.now.steps }
+        ensures run { let before = state_in solver.old.recorder solver.old.derives in
+            let after = state_in solver.new.recorder solver.new.derives in
+            Ends before after (given_by self.now steps ∷ []) solver.old.vars left result }
+        ensures vars { solver.new.vars ≡ solver.old.vars }
+    {
+        solver.solve(&[self.by_step(steps)], left)
+    }
+
+    /// One question to the solver, whether there is a plan of so many steps, and what follows of its answer.
+    fn solve_round(&self, search: SearchState) -> Result<SearchState, Outcome>
+        requires state { IsSearch self.now search }
+        requires unsaid { IsOpen self.now search }
+        ensures goes_on { IfOk result (GoesOn self.now search) }
+        ensures ends { IfErr result (EndsWith self.now) }
+    {
+        let mut search = search;
+        let left = self.budgets.conflicts - search.solver.derives();
+        match self.put_to(&mut search.solver, search.steps, left) {
+            Answer::Sat(values) => match decode(self.alloc, self.base, &values) {
+                Ok(plan) => self.time_plan(search, plan, &values),
+                Err(_) => Err(Outcome::Memory),
+            },
+            Answer::Unsat(core) => self.after_denial(search, core.clause.as_slice()),
+            Answer::Spent { clause, hints } => Err(Outcome::ConflictsSpent {
+                log: log_of(search.solver),
+                clause,
+                hints,
+            }),
+            Answer::Full { bytes, next } => Err(Outcome::LogSpent {
+                log: log_of(search.solver),
+                bytes,
+                next,
+            }),
+            Answer::Memory => Err(Outcome::Memory),
+        }
+    }
+
+    /// One question to the solver, unless a clause says already that there is no plan of so many steps.
+    fn refine(&self, search: SearchState) -> Result<SearchState, Outcome>
+        requires { IsSearch self.now search }
+        ensures goes_on { IfOk result (GoesOn self.now search) }
+        ensures ends { IfErr result (EndsWith self.now) }
+    {
+        let most = self.base.counts().steps;
+        if search.steps < most && search.solver.is_refuted(self.by_step(search.steps)) {
+            return Ok(self.longer(search));
+        }
+        self.solve_round(search)
+    }
+
+    /// Round after round, each of which but the last excludes a plan that fails.
+    pub(crate) fn run_rounds(&self, search: SearchState) -> Outcome
+        requires { IsSearch self.now search }
+        ensures { EndsWith self.now result }
+    {
+        let mut search = search;
+        'rounds: loop {
+            match self.refine(search) {
+                Ok(next) => search = next,
+                Err(outcome) => return outcome,
+            }
+        }
+    }
+}
