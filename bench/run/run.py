@@ -182,7 +182,7 @@ def commands(program, folder):
     yield "32 trains in turn over long edges, all demands", 2, "", simulated(program, folder, in_turn(32, 1_998, 100_000, 100_000))
     yield "128 trains in turn over 1,998 nodes each, all demands", 2, "met", simulated(program, folder, in_turn(128, 1_998, 1_000, 10_000))
     yield "128 trains in a row over up to 256 routes each", 2, "met", simulated(program, folder, in_rows(1, 128, 256, 10_000, 20_000, 2))
-    yield "126 trains in seven rows over up to 256 routes each", 2, "met", simulated(program, folder, in_rows(7, 126, 256, 10_000, 20_000, 2))
+    yield "126 trains in three rows over up to 256 routes each", 2, "met", simulated(program, folder, in_rows(3, 126, 256, 10_000, 20_000, 2))
     refused = "plan refused P4 step 1 train train0 section section0"
     yield "128 trains over 256 routes each, all at once", 2, refused, simulated(program, folder, in_rows(1, 128, 256, 10_000, 20_000, 0))
     yield "100,000 cones of a train that is followed for a day", 10, "no line 100002", checked(program, folder, 100_000, "r visit 1 2 t 1 86400 1 1 0 0 0")

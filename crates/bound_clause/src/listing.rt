@@ -17,31 +17,6 @@ use rail_bound::{Bound, Origin};
 use sat_clause::Lit;
 use std::alloc::{AllocError, Global};
 
-impl NumberedBound<'_> {
-    /// The clause of the certificate's cone; nothing where it names none.
-    fn of_cone(&self, alloc: Global) -> Result<Vec<Lit>, AllocError>
-        ensures { IfOk result (λ c. c.items ≡ numbered self.now
-            (clause_of_cone (station_of self.now) (routes_in self.now) (cone_of self.now.bound.now))) }
-    {
-        match &self.bound.origin {
-            Origin::Cone { cone, .. } => clause_of_cone(alloc, &self.contention, self.steps, cone),
-            Origin::Visit | Origin::Start | Origin::FirstTick => Ok(Vec::new(alloc)),
-        }
-    }
-
-    /// All that the certificate says, in some order; one literal may stand there twice.
-    fn said_literals(&self, alloc: Global) -> Result<Vec<Lit>, AllocError>
-        ensures { IfOk result (λ c. c.items
-            ≡ numbered self.now (said_literals (station_of self.now) (routes_in self.now) self.now.bound.now)) }
-    {
-        let mut clause = self.of_cone(alloc)?;
-        self.push_legs(&mut clause)?;
-        self.push_meetings(&mut clause)?;
-        self.push_origin(&mut clause)?;
-        Ok(clause)
-    }
-}
-
 /// The clause of a certificate, over the variables of the base for plans of so many steps, by increasing variable. None
 /// where the certificate takes something for granted both ways.
 ///
@@ -71,5 +46,30 @@ pub fn clause_of(
         Ok(Some(clause))
     } else {
         Ok(None)
+    }
+}
+
+impl NumberedBound<'_> {
+    /// The clause of the certificate's cone; nothing where it names none.
+    fn of_cone(&self, alloc: Global) -> Result<Vec<Lit>, AllocError>
+        ensures { IfOk result (λ c. c.items ≡ numbered self.now
+            (clause_of_cone (station_of self.now) (routes_in self.now) (cone_of self.now.bound.now))) }
+    {
+        match &self.bound.origin {
+            Origin::Cone { cone, .. } => clause_of_cone(alloc, &self.contention, self.steps, cone),
+            Origin::Visit | Origin::Start | Origin::FirstTick => Ok(Vec::new(alloc)),
+        }
+    }
+
+    /// All that the certificate says, in some order; one literal may stand there twice.
+    fn said_literals(&self, alloc: Global) -> Result<Vec<Lit>, AllocError>
+        ensures { IfOk result (λ c. c.items
+            ≡ numbered self.now (said_literals (station_of self.now) (routes_in self.now) self.now.bound.now)) }
+    {
+        let mut clause = self.of_cone(alloc)?;
+        self.push_legs(&mut clause)?;
+        self.push_meetings(&mut clause)?;
+        self.push_origin(alloc, &mut clause)?;
+        Ok(clause)
     }
 }

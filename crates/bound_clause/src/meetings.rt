@@ -14,41 +14,19 @@ use rail_bound::{Leg, Place, first_routes, last_routes};
 use sat_clause::Lit;
 use std::alloc::AllocError;
 
-/// Whether a place names its route.
-fn is_named_place(place: &Place) -> bool
-    ensures { result ≡ is_named_place place.now }
-{
-    matches!(place, Place::Named { .. })
-}
-
-/// Whether a leg's first place names its route.
-fn is_first_named(leg: &Leg) -> bool
-    ensures { result ≡ is_named_place (first_of_leg leg.now) }
-{
-    match leg.places.as_slice().first() {
-        Some(place) => is_named_place(place),
-        None => false,
-    }
-}
-
-/// Whether a leg's last place names its route.
-fn is_last_named(leg: &Leg) -> bool
-    ensures { result ≡ is_named_place (last_of_leg leg.now) }
-{
-    match leg.places.as_slice().last() {
-        Some(place) => is_named_place(place),
-        None => false,
-    }
-}
-
-/// Whether the places at which two legs meet each name their route.
-fn meet_named(leg: &Leg, next: &Leg) -> bool
-    ensures { result ≡ meet_named leg.now next.now }
-{
-    is_last_named(leg) && is_first_named(next)
-}
-
 impl NumberedBound<'_> {
+    /// Puts what is said of the commands with which legs meet at the end.
+    pub(crate) fn push_meetings(&self, clause: &mut Vec<Lit>) -> Result<(), AllocError>
+        ensures { OnOk result (clause.new.items ≡ clause.old.items
+            ++ numbered self.now (said_of_meetings self.now.bound.now.legs)) }
+    {
+        let legs = self.bound.legs.as_slice();
+        for index in 1..legs.len() {
+            self.push_between(clause, &legs[index - 1], &legs[index])?;
+        }
+        Ok(())
+    }
+
     /// What is said of the last command of one leg and the first of the next.
     fn meeting(&self, named: bool, last: Command, first: Command) -> Lit
         requires { In (last, first) (pairs_in self.now) }
@@ -99,16 +77,38 @@ impl NumberedBound<'_> {
         }
         Ok(())
     }
+}
 
-    /// Puts what is said of the commands with which legs meet at the end.
-    pub(crate) fn push_meetings(&self, clause: &mut Vec<Lit>) -> Result<(), AllocError>
-        ensures { OnOk result (clause.new.items ≡ clause.old.items
-            ++ numbered self.now (said_of_meetings self.now.bound.now.legs)) }
-    {
-        let legs = self.bound.legs.as_slice();
-        for index in 1..legs.len() {
-            self.push_between(clause, &legs[index - 1], &legs[index])?;
-        }
-        Ok(())
+/// Whether a place names its route.
+fn is_named_place(place: &Place) -> bool
+    ensures { result ≡ is_named_place place.now }
+{
+    matches!(place, Place::Named { .. })
+}
+
+/// Whether a leg's first place names its route.
+fn is_first_named(leg: &Leg) -> bool
+    ensures { result ≡ is_named_place (first_of_leg leg.now) }
+{
+    match leg.places.as_slice().first() {
+        Some(place) => is_named_place(place),
+        None => false,
     }
+}
+
+/// Whether a leg's last place names its route.
+fn is_last_named(leg: &Leg) -> bool
+    ensures { result ≡ is_named_place (last_of_leg leg.now) }
+{
+    match leg.places.as_slice().last() {
+        Some(place) => is_named_place(place),
+        None => false,
+    }
+}
+
+/// Whether the places at which two legs meet each name their route.
+fn meet_named(leg: &Leg, next: &Leg) -> bool
+    ensures { result ≡ meet_named leg.now next.now }
+{
+    is_last_named(leg) && is_first_named(next)
 }

@@ -16,6 +16,17 @@ use sat_clause::Lit;
 use std::alloc::AllocError;
 
 impl NumberedBound<'_> {
+    /// Puts what is said of the places of all legs at the end.
+    pub(crate) fn push_legs(&self, clause: &mut Vec<Lit>) -> Result<(), AllocError>
+        ensures { OnOk result (clause.new.items ≡ clause.old.items
+            ++ numbered self.now (said_of_legs self.now.bound.now)) }
+    {
+        for leg in self.bound.legs.as_slice() {
+            self.push_leg(clause, leg)?;
+        }
+        Ok(())
+    }
+
     /// Puts that a train uses each of some routes at the end of a clause.
     fn push_used(
         &self,
@@ -65,17 +76,6 @@ impl NumberedBound<'_> {
     {
         for place in leg.places.as_slice() {
             self.push_place(clause, leg.train, place)?;
-        }
-        Ok(())
-    }
-
-    /// Puts what is said of the places of all legs at the end.
-    pub(crate) fn push_legs(&self, clause: &mut Vec<Lit>) -> Result<(), AllocError>
-        ensures { OnOk result (clause.new.items ≡ clause.old.items
-            ++ numbered self.now (said_of_legs self.now.bound.now)) }
-    {
-        for leg in self.bound.legs.as_slice() {
-            self.push_leg(clause, leg)?;
         }
         Ok(())
     }

@@ -15,9 +15,20 @@ use rail_base::route::{RouteNo, Start, route_at};
 use rail_base::station::TrainNo;
 use rail_bound::{Origin, Requirement};
 use sat_clause::Lit;
-use std::alloc::AllocError;
+use std::alloc::{AllocError, Global};
 
 impl NumberedBound<'_> {
+    /// Puts what is said of the origin's first tick at the end.
+    pub(crate) fn push_origin(&self, alloc: Global, clause: &mut Vec<Lit>) -> Result<(), AllocError>
+        ensures { OnOk result (clause.new.items ≡ clause.old.items
+            ++ numbered self.now (said_of_origin (station_of self.now) (routes_in self.now) self.now.bound.now)) }
+    {
+        match (&self.bound.origin, self.train_from()) {
+            (Origin::FirstTick, Some(train)) => self.push_starts(alloc, clause, train),
+            _ => Ok(()),
+        }
+    }
+
     /// Whether the route of a command starts at a boundary of its train's first visit.
     fn begins(&self, command: Command) -> bool
         requires train { IsTrain (station_of self.now) command.train }
@@ -35,38 +46,54 @@ impl NumberedBound<'_> {
     }
 
     /// Puts that some command that contends with this one is given before it at the end of a clause.
-    fn push_before(&self, clause: &mut Vec<Lit>, command: Command) -> Result<(), AllocError>
+    fn push_before(
+        &self,
+        alloc: Global,
+        clause: &mut Vec<Lit>,
+        command: Command,
+    ) -> Result<(), AllocError>
         ensures { OnOk result (clause.new.items ≡ clause.old.items
             ++ numbered self.now (said_before (pairs_in self.now) command)) }
     {
-        for pair in self.contention.sorted().pairs_from(command) {
-            clause.push(self.before((pair.1, command), false))?;
+        let others = self.contention.pairs.rivals(alloc, command)?;
+        for other in &others {
+            clause.push(self.before((*other, command), false))?;
         }
         Ok(())
     }
 
     /// The same, where the command is one with which its train can begin.
-    fn push_start(&self, clause: &mut Vec<Lit>, command: Command) -> Result<(), AllocError>
+    fn push_start(
+        &self,
+        alloc: Global,
+        clause: &mut Vec<Lit>,
+        command: Command,
+    ) -> Result<(), AllocError>
         requires train { IsTrain (station_of self.now) command.train }
         requires route { IsRoute (routes_in self.now) command.route }
         ensures { OnOk result (clause.new.items ≡ clause.old.items
             ++ numbered self.now (said_of_start (station_of self.now) (routes_in self.now) command)) }
     {
         if self.begins(command) {
-            self.push_before(clause, command)?;
+            self.push_before(alloc, clause, command)?;
         }
         Ok(())
     }
 
     /// The same of each command of a train.
-    fn push_starts(&self, clause: &mut Vec<Lit>, train: TrainNo) -> Result<(), AllocError>
+    fn push_starts(
+        &self,
+        alloc: Global,
+        clause: &mut Vec<Lit>,
+        train: TrainNo,
+    ) -> Result<(), AllocError>
         requires { IsTrain (station_of self.now) train }
         ensures { OnOk result (clause.new.items ≡ clause.old.items
             ++ numbered self.now (said_of_starts (station_of self.now) (routes_in self.now) train)) }
     {
         for number in 1..self.contention.interlocking.routes.len() as u32 + 1 {
             let route = RouteNo(number);
-            self.push_start(clause, Command { train, route })?;
+            self.push_start(alloc, clause, Command { train, route })?;
         }
         Ok(())
     }
@@ -84,17 +111,6 @@ impl NumberedBound<'_> {
                 Some(station.orders.as_slice()[order as usize - 1].then_train)
             }
             Requirement::Visit { .. } | Requirement::Grant { .. } => None,
-        }
-    }
-
-    /// Puts what is said of the origin's first tick at the end.
-    pub(crate) fn push_origin(&self, clause: &mut Vec<Lit>) -> Result<(), AllocError>
-        ensures { OnOk result (clause.new.items ≡ clause.old.items
-            ++ numbered self.now (said_of_origin (station_of self.now) (routes_in self.now) self.now.bound.now)) }
-    {
-        match (&self.bound.origin, self.train_from()) {
-            (Origin::FirstTick, Some(train)) => self.push_starts(clause, train),
-            _ => Ok(()),
         }
     }
 }

@@ -29,6 +29,19 @@ impl NumberedBound<'_> {
         }
     }
 
+    /// Whether one of two contending commands is given before the other: the literal that says so, or that it is not.
+    pub(crate) fn before(&self, pair: (Command, Command), negated: bool) -> Lit
+        requires { In pair (pairs_in self.now) }
+        ensures { result ≡ lit_of (station_of self.now) (routes_in self.now) self.now.steps.count
+            (record { fact = Before pair.0 pair.1; negated = negated }) }
+    {
+        let place = self.contention.pairs.place_of(pair);
+        Lit {
+            var: self.used_count() + place as u32 + 1,
+            negated,
+        }
+    }
+
     /// How many variables say that a command is given by a step.
     fn used_count(&self) -> u32
         ensures value { result ≡ used_count self.now }
@@ -37,18 +50,5 @@ impl NumberedBound<'_> {
         let interlocking = self.contention.interlocking;
         let trains = interlocking.design.station.trains.len() as u32;
         trains * interlocking.routes.len() as u32 * self.steps.count
-    }
-
-    /// Whether one of two contending commands is given before the other: the literal that says so, or that it is not.
-    pub(crate) fn before(&self, pair: (Command, Command), negated: bool) -> Lit
-        requires { In pair (pairs_in self.now) }
-        ensures { result ≡ lit_of (station_of self.now) (routes_in self.now) self.now.steps.count
-            (record { fact = Before pair.0 pair.1; negated = negated }) }
-    {
-        let place = self.contention.sorted().place_of(pair);
-        Lit {
-            var: self.used_count() + place as u32 + 1,
-            negated,
-        }
     }
 }

@@ -24,6 +24,23 @@ pub(crate) fn is_first(route: &Route) -> bool
     matches!(route.start, Start::Boundary(_))
 }
 
+/// Whether it is so on each leg.
+pub(crate) fn legs_follow(
+    alloc: Global,
+    interlocking: &Interlocking,
+    legs: &[Leg],
+) -> Result<bool, AllocError>
+    requires { list_all (leg_fits interlocking.now) legs.now ≡ true }
+    ensures { IfOk result (λ b. b ≡ legs_follow interlocking.now legs.now) }
+{
+    for leg in legs {
+        if !places_follow(alloc, interlocking, leg.places.as_slice())? {
+            return Ok(false);
+        }
+    }
+    Ok(true)
+}
+
 /// Whether none of the routes starts at a boundary.
 fn none_is_first(routes: &[&Route]) -> bool
     ensures { result ≡ list_all (λ r. not (from_boundary (r.now ∷ []))) routes.now }
@@ -121,23 +138,6 @@ fn places_follow(
 {
     for index in 1..places.len() {
         if !comes_before(alloc, interlocking, &places[index - 1], &places[index])? {
-            return Ok(false);
-        }
-    }
-    Ok(true)
-}
-
-/// Whether it is so on each leg.
-pub(crate) fn legs_follow(
-    alloc: Global,
-    interlocking: &Interlocking,
-    legs: &[Leg],
-) -> Result<bool, AllocError>
-    requires { list_all (leg_fits interlocking.now) legs.now ≡ true }
-    ensures { IfOk result (λ b. b ≡ legs_follow interlocking.now legs.now) }
-{
-    for leg in legs {
-        if !places_follow(alloc, interlocking, leg.places.as_slice())? {
             return Ok(false);
         }
     }

@@ -22,6 +22,30 @@ use rail_base::station::{NodeNo, TrainNo};
 use rail_bound::{Bound, Leg, Origin, Place, routes_of};
 use std::alloc::{AllocError, Global};
 
+/// Whether the first leg begins on a route of the visit from which the ticks are counted.
+pub(crate) fn origin_covered(
+    alloc: Global,
+    interlocking: &Interlocking,
+    bound: &Bound,
+    first: &Leg,
+) -> Result<bool, AllocError>
+    requires requirement { requirement_fits interlocking.now bound.now.requirement ≡ true }
+    requires leg { leg_fits interlocking.now first.now ≡ true }
+    requires first { first_leg bound.now.legs ≡ first.now }
+    ensures { IfOk result (λ b. b ≡ origin_covered_in interlocking.now bound.now) }
+{
+    match &bound.origin {
+        Origin::Visit => match first_visit(interlocking, bound.requirement) {
+            Some(visit) => {
+                let begins = begins_with(alloc, interlocking, visit, first_place(first))?;
+                Ok(begins)
+            }
+            None => Ok(true),
+        },
+        Origin::Start | Origin::FirstTick | Origin::Cone { .. } => Ok(true),
+    }
+}
+
 /// How far from a route's start, in mm, the first of these nodes is in the visit's set, or 0 where none is.
 fn first_offset(visit: &Visit, nodes: &[(NodeNo, i64)]) -> u64
     ensures { result ≡ first_in visit.now.list.now nodes.now }
@@ -112,28 +136,4 @@ fn begins_with(
     }
     let last = is_made_where_it_exits(alloc, interlocking, &made)?;
     Ok(last)
-}
-
-/// Whether the first leg begins on a route of the visit from which the ticks are counted.
-pub(crate) fn origin_covered(
-    alloc: Global,
-    interlocking: &Interlocking,
-    bound: &Bound,
-    first: &Leg,
-) -> Result<bool, AllocError>
-    requires requirement { requirement_fits interlocking.now bound.now.requirement ≡ true }
-    requires leg { leg_fits interlocking.now first.now ≡ true }
-    requires first { first_leg bound.now.legs ≡ first.now }
-    ensures { IfOk result (λ b. b ≡ origin_covered_in interlocking.now bound.now) }
-{
-    match &bound.origin {
-        Origin::Visit => match first_visit(interlocking, bound.requirement) {
-            Some(visit) => {
-                let begins = begins_with(alloc, interlocking, visit, first_place(first))?;
-                Ok(begins)
-            }
-            None => Ok(true),
-        },
-        Origin::Start | Origin::FirstTick | Origin::Cone { .. } => Ok(true),
-    }
 }

@@ -11,6 +11,18 @@ use rail_bound::{Leg, Place, first_routes, routes_of};
 /// Of a leg with more choices nothing is shown.
 const MOST_CHOICES: usize = 4096;
 
+/// Whether there are not too many choices on each leg.
+pub(crate) fn are_few_choices(legs: &[Leg]) -> bool
+    ensures { (d : Station) (routes : List Route) → result ≡ few_choices d routes legs.now }
+{
+    for index in 0..legs.len() {
+        if !is_few(&legs[index], &legs[index + 1..]) {
+            return false;
+        }
+    }
+    true
+}
+
 /// So many choices of as many, or one too many where there are more.
 fn product(one: usize, other: usize) -> usize
     requires { one ≤ 4097 }
@@ -39,16 +51,4 @@ fn is_few(leg: &Leg, later: &[Leg]) -> bool
         Some(next) => product(own, first_routes(next).len()) <= MOST_CHOICES,
         None => own <= MOST_CHOICES,
     }
-}
-
-/// Whether there are not too many choices on each leg.
-pub(crate) fn are_few_choices(legs: &[Leg]) -> bool
-    ensures { (d : Station) (routes : List Route) → result ≡ few_choices d routes legs.now }
-{
-    for index in 0..legs.len() {
-        if !is_few(&legs[index], &legs[index + 1..]) {
-            return false;
-        }
-    }
-    true
 }

@@ -13,6 +13,31 @@ use interlocking::Interlocking;
 use rail_bound::{Bound, Leg};
 use std::alloc::{AllocError, Global};
 
+/// Whether at each place of a certificate the train can use no routes but those of the place and those that are kept
+/// out.
+///
+/// # Errors
+///
+/// Want of memory alone.
+pub fn is_covered(
+    alloc: Global,
+    interlocking: &Interlocking,
+    bound: &Bound,
+) -> Result<bool, AllocError>
+    requires names { names_design interlocking.now.design.station interlocking.now.routes bound.now ≡ true }
+    ensures { IfOk result (λ b. b ≡ covered interlocking.now.design.station interlocking.now.routes bound.now) }
+{
+    let legs = bound.legs.as_slice();
+    if !legs_covered(alloc, interlocking, legs)? {
+        return Ok(false);
+    }
+    if !reaches_target(alloc, interlocking, bound.requirement, last_leg(legs))? {
+        return Ok(false);
+    }
+    let covered = origin_covered(alloc, interlocking, bound, first_leg(legs))?;
+    Ok(covered)
+}
+
 /// The first leg.
 fn first_leg(legs: &[Leg]) -> &Leg
     requires { not (is_empty legs.now) ≡ true }
@@ -43,29 +68,4 @@ fn legs_covered(
     }
     let uses = uses_before_last(alloc, interlocking, legs)?;
     Ok(uses)
-}
-
-/// Whether at each place of a certificate the train can use no routes but those of the place and those that are kept
-/// out.
-///
-/// # Errors
-///
-/// Want of memory alone.
-pub fn is_covered(
-    alloc: Global,
-    interlocking: &Interlocking,
-    bound: &Bound,
-) -> Result<bool, AllocError>
-    requires names { names_design interlocking.now.design.station interlocking.now.routes bound.now ≡ true }
-    ensures { IfOk result (λ b. b ≡ covered interlocking.now.design.station interlocking.now.routes bound.now) }
-{
-    let legs = bound.legs.as_slice();
-    if !legs_covered(alloc, interlocking, legs)? {
-        return Ok(false);
-    }
-    if !reaches_target(alloc, interlocking, bound.requirement, last_leg(legs))? {
-        return Ok(false);
-    }
-    let covered = origin_covered(alloc, interlocking, bound, first_leg(legs))?;
-    Ok(covered)
 }

@@ -14,25 +14,6 @@ use rail_bound::{Leg, Place};
 /// How many places all legs may have.
 const MOST_PLACES: usize = 64;
 
-/// Whether each place names routes of the design.
-fn are_places(interlocking: &Interlocking, places: &[Place]) -> bool
-    ensures { result ≡ list_all (place_fits interlocking.now) places.now }
-{
-    places
-        .iter()
-        .all(|place| place_in_design(interlocking, place))
-}
-
-/// Whether the leg is of a train of the design, and has places, each with routes of the design.
-fn leg_in_design(interlocking: &Interlocking, leg: &Leg) -> bool
-    ensures { result ≡ leg_fits interlocking.now leg.now }
-{
-    let places = leg.places.as_slice();
-    is_one_of(leg.train.0, interlocking.design.station.trains.len())
-        && !is_empty(places)
-        && are_places(interlocking, places)
-}
-
 /// Whether all legs are such.
 pub(crate) fn legs_in_design(interlocking: &Interlocking, legs: &[Leg]) -> bool
     ensures { result ≡ list_all (leg_fits interlocking.now) legs.now }
@@ -52,4 +33,23 @@ pub(crate) fn are_few_places(legs: &[Leg]) -> bool
         left -= leg.places.len();
     }
     true
+}
+
+/// Whether each place names routes of the design.
+fn are_places(interlocking: &Interlocking, places: &[Place]) -> bool
+    ensures { result ≡ list_all (place_fits interlocking.now) places.now }
+{
+    places
+        .iter()
+        .all(|place| place_in_design(interlocking, place))
+}
+
+/// Whether the leg is of a train of the design, and has places, each with routes of the design.
+fn leg_in_design(interlocking: &Interlocking, leg: &Leg) -> bool
+    ensures { result ≡ leg_fits interlocking.now leg.now }
+{
+    let places = leg.places.as_slice();
+    is_one_of(leg.train.0, interlocking.design.station.trains.len())
+        && !is_empty(places)
+        && are_places(interlocking, places)
 }

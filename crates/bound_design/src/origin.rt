@@ -10,6 +10,22 @@ use rail_base::station::TrainNo;
 use rail_bound::{Bound, Origin, first_train};
 use std::alloc::{AllocError, Global};
 
+/// Whether the origin goes with the requirement: two visits have one from which ticks are counted.
+pub(crate) fn origin_in_design(
+    alloc: Global,
+    contention: &Contention,
+    bound: &Bound,
+) -> Result<bool, AllocError>
+    requires { requirement_fits contention.now.interlocking.now bound.now.requirement ≡ true }
+    ensures { IfOk result (λ b. b ≡ origin_fits contention.now.interlocking.now bound.now
+        (first_visit contention.now.interlocking.now bound.now.requirement)) }
+{
+    match first_visit(contention.interlocking, bound.requirement) {
+        Some(visit) => goes_with(alloc, contention, bound, visit),
+        None => Ok(matches!(bound.origin, Origin::Start)),
+    }
+}
+
 /// Whether the origin goes with a visit of this train and number.
 fn goes_with(
     alloc: Global,
@@ -24,21 +40,5 @@ fn goes_with(
         Origin::FirstTick => Ok(visit.1 == 1),
         Origin::Cone { cone, .. } => is_in_design(alloc, contention, cone),
         Origin::Start => Ok(false),
-    }
-}
-
-/// Whether the origin goes with the requirement: two visits have one from which ticks are counted.
-pub(crate) fn origin_in_design(
-    alloc: Global,
-    contention: &Contention,
-    bound: &Bound,
-) -> Result<bool, AllocError>
-    requires { requirement_fits contention.now.interlocking.now bound.now.requirement ≡ true }
-    ensures { IfOk result (λ b. b ≡ origin_fits contention.now.interlocking.now bound.now
-        (first_visit contention.now.interlocking.now bound.now.requirement)) }
-{
-    match first_visit(contention.interlocking, bound.requirement) {
-        Some(visit) => goes_with(alloc, contention, bound, visit),
-        None => Ok(matches!(bound.origin, Origin::Start)),
     }
 }

@@ -11,13 +11,6 @@ use interlocking::Interlocking;
 use rail_base::route::{RouteNo, RouteTable};
 use rail_bound::Place;
 
-/// Whether all routes are there.
-fn are_routes(table: &RouteTable, routes: &[RouteNo]) -> bool
-    ensures { result ≡ list_all (λ r. is_from 1 (length table.now) r.0) routes.now }
-{
-    routes.iter().all(|route| is_one_of(route.0, table.len()))
-}
-
 /// Whether the place names routes of the design, each once.
 pub(crate) fn place_in_design(interlocking: &Interlocking, place: &Place) -> bool
     ensures { result ≡ place_fits interlocking.now place.now }
@@ -33,4 +26,11 @@ pub(crate) fn place_in_design(interlocking: &Interlocking, place: &Place) -> boo
                 && are_increasing(without.as_slice())
         }
     }
+}
+
+/// Whether all routes are there.
+fn are_routes(table: &RouteTable, routes: &[RouteNo]) -> bool
+    ensures { result ≡ list_all (λ r. is_from 1 (length table.now) r.0) routes.now }
+{
+    routes.iter().all(|route| is_one_of(route.0, table.len()))
 }

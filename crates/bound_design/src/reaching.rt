@@ -24,25 +24,6 @@ pub(crate) fn first_place(leg: &Leg) -> &Place
     &leg.places.as_slice()[0]
 }
 
-/// The last place of a leg.
-fn last_place(leg: &Leg) -> &Place
-    requires { not (is_empty leg.now.places) ≡ true }
-    ensures { result.now ≡ last_of_leg leg.now }
-{
-    let places = leg.places.as_slice();
-    &places[places.len() - 1]
-}
-
-/// Whether the leg's train uses a route of the last place.
-fn is_used_last(alloc: Global, interlocking: &Interlocking, leg: &Leg) -> Result<bool, AllocError>
-    requires { leg_fits interlocking.now leg.now ≡ true }
-    ensures { IfOk result (λ b. b ≡ is_used_last interlocking.now leg.now) }
-{
-    let place = last_place(leg);
-    let used = is_used(alloc, interlocking, leg.train, place)?;
-    Ok(used)
-}
-
 /// Whether that is so with each leg before the last.
 pub(crate) fn uses_before_last(
     alloc: Global,
@@ -58,16 +39,6 @@ pub(crate) fn uses_before_last(
         }
     }
     Ok(true)
-}
-
-/// Whether there is one place, that names the route.
-fn is_just(route: RouteNo, places: &[Place]) -> bool
-    ensures { (d : Station) (routes : List Route) → result ≡ is_just d routes route places.now }
-{
-    match places {
-        [Place::Named { route: named }] => *named == route,
-        _ => false,
-    }
 }
 
 /// Whether what is required can't happen before the leg's train is on its last place.
@@ -101,5 +72,34 @@ pub(crate) fn reaches_target(
             Ok(visited)
         }
         Requirement::Grant { command } => Ok(is_just(command.route, leg.places.as_slice())),
+    }
+}
+
+/// The last place of a leg.
+fn last_place(leg: &Leg) -> &Place
+    requires { not (is_empty leg.now.places) ≡ true }
+    ensures { result.now ≡ last_of_leg leg.now }
+{
+    let places = leg.places.as_slice();
+    &places[places.len() - 1]
+}
+
+/// Whether the leg's train uses a route of the last place.
+fn is_used_last(alloc: Global, interlocking: &Interlocking, leg: &Leg) -> Result<bool, AllocError>
+    requires { leg_fits interlocking.now leg.now ≡ true }
+    ensures { IfOk result (λ b. b ≡ is_used_last interlocking.now leg.now) }
+{
+    let place = last_place(leg);
+    let used = is_used(alloc, interlocking, leg.train, place)?;
+    Ok(used)
+}
+
+/// Whether there is one place, that names the route.
+fn is_just(route: RouteNo, places: &[Place]) -> bool
+    ensures { (d : Station) (routes : List Route) → result ≡ is_just d routes route places.now }
+{
+    match places {
+        [Place::Named { route: named }] => *named == route,
+        _ => false,
     }
 }

@@ -19,24 +19,6 @@ pub(crate) fn is_one_of(number: u32, many: usize) -> bool
     1 <= number && number as usize <= many
 }
 
-/// Whether the train has a visit of this number.
-fn is_visit(design: &Design, train: TrainNo, visit: u32) -> bool
-    ensures { result ≡ is_visit design.now.station train visit }
-{
-    is_one_of(train.0, design.station.trains.len())
-        && is_one_of(visit, design.train(train).visits.len())
-}
-
-/// Whether the command is one of a train and a route of the design.
-fn is_command(interlocking: &Interlocking, command: Command) -> bool
-    ensures { result ≡ is_of interlocking.now.design.station interlocking.now.routes command }
-{
-    1 <= command.train.0
-        && command.train.0 as usize <= interlocking.design.station.trains.len()
-        && 1 <= command.route.0
-        && command.route.0 as usize <= interlocking.routes.len()
-}
-
 /// Whether the design has what is required.
 pub(crate) fn requirement_in_design(interlocking: &Interlocking, requirement: Requirement) -> bool
     ensures { result ≡ requirement_fits interlocking.now requirement }
@@ -102,4 +84,22 @@ pub(crate) fn first_visit(
         }
         Requirement::Visit { .. } | Requirement::Grant { .. } => None,
     }
+}
+
+/// Whether the train has a visit of this number.
+fn is_visit(design: &Design, train: TrainNo, visit: u32) -> bool
+    ensures { result ≡ is_visit design.now.station train visit }
+{
+    is_one_of(train.0, design.station.trains.len())
+        && is_one_of(visit, design.train(train).visits.len())
+}
+
+/// Whether the command is one of a train and a route of the design.
+fn is_command(interlocking: &Interlocking, command: Command) -> bool
+    ensures { result ≡ is_of interlocking.now.design.station interlocking.now.routes command }
+{
+    1 <= command.train.0
+        && command.train.0 as usize <= interlocking.design.station.trains.len()
+        && 1 <= command.route.0
+        && command.route.0 as usize <= interlocking.routes.len()
 }

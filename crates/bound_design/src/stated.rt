@@ -16,6 +16,28 @@ use interlocking::Interlocking;
 use rail_bound::{Bound, last_train};
 use std::alloc::{AllocError, Global};
 
+/// Whether what a certificate names is there in the design, in order, and its legs can wait for each other.
+///
+/// # Errors
+///
+/// Want of memory alone.
+pub fn names_design(
+    alloc: Global,
+    contention: &Contention,
+    bound: &Bound,
+) -> Result<bool, AllocError>
+    ensures { IfOk result (λ b. b ≡ names_design contention.now.interlocking.now.design.station
+        contention.now.interlocking.now.routes bound.now) }
+{
+    if !is_stated(contention.interlocking, bound) {
+        return Ok(false);
+    }
+    if !is_chain(contention, bound) {
+        return Ok(false);
+    }
+    origin_in_design(alloc, contention, bound)
+}
+
 /// Whether the design has what is required and what the legs name.
 fn names_fit(interlocking: &Interlocking, bound: &Bound) -> bool
     ensures { result ≡ names_fit interlocking.now bound.now }
@@ -45,26 +67,4 @@ fn is_chain(contention: &Contention, bound: &Bound) -> bool
     let legs = bound.legs.as_slice();
     let last = requirement::last_train(contention.interlocking, bound.requirement);
     legs_meet(contention, legs) && last_train(legs) == last
-}
-
-/// Whether what a certificate names is there in the design, in order, and its legs can wait for each other.
-///
-/// # Errors
-///
-/// Want of memory alone.
-pub fn names_design(
-    alloc: Global,
-    contention: &Contention,
-    bound: &Bound,
-) -> Result<bool, AllocError>
-    ensures { IfOk result (λ b. b ≡ names_design contention.now.interlocking.now.design.station
-        contention.now.interlocking.now.routes bound.now) }
-{
-    if !is_stated(contention.interlocking, bound) {
-        return Ok(false);
-    }
-    if !is_chain(contention, bound) {
-        return Ok(false);
-    }
-    origin_in_design(alloc, contention, bound)
 }

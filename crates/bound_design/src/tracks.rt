@@ -31,6 +31,49 @@ pub(crate) fn routes_of_numbers<'a>(
     Ok(routes)
 }
 
+/// The routes that are neither of these numbers nor kept out.
+pub(crate) fn open_routes<'a>(
+    alloc: Global,
+    interlocking: &'a Interlocking,
+    own: &[RouteNo],
+    kept: &[RouteNo],
+) -> Result<Vec<&'a Route>, AllocError>
+    requires own { All (IsRoute interlocking.now.routes) own.now }
+    requires kept { All (IsRoute interlocking.now.routes) kept.now }
+    ensures { IfOk result (λ rs. AreOpen interlocking.now.routes own.now kept.now rs.items) }
+{
+    let own = marks_of(alloc, &interlocking.routes, own)?;
+    let kept = marks_of(alloc, &interlocking.routes, kept)?;
+    let open = unmarked_routes(alloc, interlocking, own.as_slice(), kept.as_slice())?;
+    Ok(open)
+}
+
+/// The set of the signals at which the routes of these numbers start.
+pub(crate) fn starts_of(
+    alloc: Global,
+    table: &RouteTable,
+    numbers: &[RouteNo],
+) -> Result<NumberSet, AllocError>
+    requires { All (IsRoute table.now) numbers.now }
+    ensures { IfOk result (λ set. IsStartSet table.now set numbers.now) }
+{
+    let mut set = NumberSet::new(alloc);
+    for number in numbers {
+        add_start(&mut set, route_at(table, *number).start)?;
+    }
+    Ok(set)
+}
+
+/// Whether a route ends at a signal of the set.
+pub(crate) fn leads_into(set: &NumberSet, finish: Finish) -> bool
+    ensures { result ≡ leads_into set.now finish }
+{
+    match finish {
+        Finish::Signal(signal) => set.contains(signal.0),
+        Finish::Exit(_) | Finish::DeadEnd(_) => false,
+    }
+}
+
 /// Adds a route, unless it is marked.
 fn push_unless<'a>(
     open: &mut Vec<&'a Route>,
@@ -74,23 +117,6 @@ fn unmarked_routes<'a>(
     Ok(open)
 }
 
-/// The routes that are neither of these numbers nor kept out.
-pub(crate) fn open_routes<'a>(
-    alloc: Global,
-    interlocking: &'a Interlocking,
-    own: &[RouteNo],
-    kept: &[RouteNo],
-) -> Result<Vec<&'a Route>, AllocError>
-    requires own { All (IsRoute interlocking.now.routes) own.now }
-    requires kept { All (IsRoute interlocking.now.routes) kept.now }
-    ensures { IfOk result (λ rs. AreOpen interlocking.now.routes own.now kept.now rs.items) }
-{
-    let own = marks_of(alloc, &interlocking.routes, own)?;
-    let kept = marks_of(alloc, &interlocking.routes, kept)?;
-    let open = unmarked_routes(alloc, interlocking, own.as_slice(), kept.as_slice())?;
-    Ok(open)
-}
-
 /// Adds a start, where it is a signal.
 fn add_start(set: &mut NumberSet, start: Start) -> Result<(), AllocError>
     ensures { OnOk result ((f : Finish) → leads_into set.new f ≡ (goes_on f start || leads_into set.old f)) }
@@ -98,31 +124,5 @@ fn add_start(set: &mut NumberSet, start: Start) -> Result<(), AllocError>
     match start {
         Start::Signal(signal) => set.add(signal.0),
         Start::Boundary(_) => Ok(()),
-    }
-}
-
-/// The set of the signals at which the routes of these numbers start.
-pub(crate) fn starts_of(
-    alloc: Global,
-    table: &RouteTable,
-    numbers: &[RouteNo],
-) -> Result<NumberSet, AllocError>
-    requires { All (IsRoute table.now) numbers.now }
-    ensures { IfOk result (λ set. IsStartSet table.now set numbers.now) }
-{
-    let mut set = NumberSet::new(alloc);
-    for number in numbers {
-        add_start(&mut set, route_at(table, *number).start)?;
-    }
-    Ok(set)
-}
-
-/// Whether a route ends at a signal of the set.
-pub(crate) fn leads_into(set: &NumberSet, finish: Finish) -> bool
-    ensures { result ≡ leads_into set.now finish }
-{
-    match finish {
-        Finish::Signal(signal) => set.contains(signal.0),
-        Finish::Exit(_) | Finish::DeadEnd(_) => false,
     }
 }

@@ -25,6 +25,65 @@ pub struct Visit<'a> {
     pub ghost same: { IsNodeSet set list.now },
 }
 
+/// A visit of a train, counted from 1. It has no nodes where the train is not of the station or has not so many visits.
+/// `Err` where memory ran out.
+pub fn visit_of(
+    alloc: Global,
+    station: &Station,
+    train: TrainNo,
+    number: usize,
+) -> Result<Visit, AllocError>
+    ensures number { IfOk result (λ v. v.number ≡ number) }
+    ensures list { IfOk result (λ v. v.list.now ≡ nodes_of_visit station.now train number) }
+{
+    let list = nodes_of_visit(station, train, number);
+    Ok(Visit {
+        number,
+        list,
+        set: node_set(alloc, list)?,
+    })
+}
+
+impl Visit<'_> {
+    /// Whether the visit may be made on a route: the first at its start, a later one at the end of one of its edges.
+    pub fn may_visit(&self, route: &Route) -> bool
+        ensures { result ≡ may_visit self.now.number self.now.list.now route.now }
+    {
+        match self.number {
+            0 => false,
+            1 => self.has_start(route.start),
+            _ => self.has_end(route),
+        }
+    }
+
+    /// Whether a train that starts here makes the visit.
+    fn has_start(&self, start: Start) -> bool
+        ensures { result ≡ starts_in self.now.list.now start }
+    {
+        match start {
+            Start::Boundary(node) => self.set.contains(node.0),
+            Start::Signal(_) => false,
+        }
+    }
+
+    /// Whether a node of the set is at the end of an edge of a route.
+    fn has_later_node(&self, route: &Route) -> bool
+        ensures { result ≡ list_any (λ p. contains self.now.set p.0.0) (after_first route.now.nodes) }
+    {
+        match route.nodes.as_slice().split_first() {
+            Some((_, later)) => later.iter().any(|place| self.set.contains(place.0.0)),
+            None => false,
+        }
+    }
+
+    /// Whether a node of the visit is at the end of an edge of a route.
+    fn has_end(&self, route: &Route) -> bool
+        ensures { result ≡ leads_to self.now.list.now route.now }
+    {
+        self.has_later_node(route)
+    }
+}
+
 /// The nodes of each visit of a train.
 pub(crate) fn visits_of(station: &Station, train: TrainNo) -> &[List<NodeNo>]
     ensures { result.now ≡ (train_of station.now train).visits }
@@ -57,63 +116,4 @@ fn node_set(alloc: Global, nodes: &[NodeNo]) -> Result<NumberSet, AllocError>
         set.add(node.0)?;
     }
     Ok(set)
-}
-
-/// A visit of a train, counted from 1. It has no nodes where the train is not of the station or has not so many visits.
-/// `Err` where memory ran out.
-pub fn visit_of(
-    alloc: Global,
-    station: &Station,
-    train: TrainNo,
-    number: usize,
-) -> Result<Visit, AllocError>
-    ensures number { IfOk result (λ v. v.number ≡ number) }
-    ensures list { IfOk result (λ v. v.list.now ≡ nodes_of_visit station.now train number) }
-{
-    let list = nodes_of_visit(station, train, number);
-    Ok(Visit {
-        number,
-        list,
-        set: node_set(alloc, list)?,
-    })
-}
-
-impl Visit<'_> {
-    /// Whether a train that starts here makes the visit.
-    fn has_start(&self, start: Start) -> bool
-        ensures { result ≡ starts_in self.now.list.now start }
-    {
-        match start {
-            Start::Boundary(node) => self.set.contains(node.0),
-            Start::Signal(_) => false,
-        }
-    }
-
-    /// Whether a node of the set is at the end of an edge of a route.
-    fn has_later_node(&self, route: &Route) -> bool
-        ensures { result ≡ list_any (λ p. contains self.now.set p.0.0) (after_first route.now.nodes) }
-    {
-        match route.nodes.as_slice().split_first() {
-            Some((_, later)) => later.iter().any(|place| self.set.contains(place.0.0)),
-            None => false,
-        }
-    }
-
-    /// Whether a node of the visit is at the end of an edge of a route.
-    fn has_end(&self, route: &Route) -> bool
-        ensures { result ≡ leads_to self.now.list.now route.now }
-    {
-        self.has_later_node(route)
-    }
-
-    /// Whether the visit may be made on a route: the first at its start, a later one at the end of one of its edges.
-    pub fn may_visit(&self, route: &Route) -> bool
-        ensures { result ≡ may_visit self.now.number self.now.list.now route.now }
-    {
-        match self.number {
-            0 => false,
-            1 => self.has_start(route.start),
-            _ => self.has_end(route),
-        }
-    }
 }

@@ -20,6 +20,53 @@ use rail_base::station::{Station, TrainNo};
 use rail_bound::Place;
 use std::alloc::{AllocError, Global};
 
+/// Whether a train uses a route of a place: the named one, or else one of those on which it makes some visit.
+pub(crate) fn is_used(
+    alloc: Global,
+    interlocking: &Interlocking,
+    train: TrainNo,
+    place: &Place,
+) -> Result<bool, AllocError>
+    requires { place_fits interlocking.now place.now ≡ true }
+    ensures { IfOk result (λ b. b ≡ is_used_in interlocking.now train place.now) }
+{
+    match place {
+        Place::Named { .. } => Ok(true),
+        Place::Among { routes, without } => {
+            let own = routes.as_slice();
+            let kept = without.as_slice();
+            let used = is_used_among(alloc, interlocking, train, own, kept)?;
+            Ok(used)
+        }
+    }
+}
+
+/// Whether a visit is not made before a route of a place.
+pub(crate) fn is_visited(
+    alloc: Global,
+    interlocking: &Interlocking,
+    train: TrainNo,
+    number: usize,
+    place: &Place,
+) -> Result<bool, AllocError>
+    requires { place_fits interlocking.now place.now ≡ true }
+    ensures { IfOk result (λ b. b ≡ is_visited_in interlocking.now train number place.now) }
+{
+    let visit = visit_of(alloc, &interlocking.design.station, train, number)?;
+    match place {
+        Place::Named { route } => {
+            let visited = is_visited_named(alloc, interlocking, &visit, *route)?;
+            Ok(visited)
+        }
+        Place::Among { routes, without } => {
+            let own = routes.as_slice();
+            let kept = without.as_slice();
+            let visited = is_visited_among(alloc, interlocking, &visit, own, kept)?;
+            Ok(visited)
+        }
+    }
+}
+
 /// Whether a visit may be made on none of the routes.
 fn is_missed(visit: &Visit, routes: &[&Route]) -> bool
     ensures { result ≡ list_all (λ r. not (may_visit visit.now.number visit.now.list.now r.now)) routes.now }
@@ -62,27 +109,6 @@ fn is_used_among(
     let open = open_routes(alloc, interlocking, own, kept)?;
     let used = misses_some(alloc, &interlocking.design.station, train, open.as_slice())?;
     Ok(used)
-}
-
-/// Whether a train uses a route of a place: the named one, or else one of those on which it makes some visit.
-pub(crate) fn is_used(
-    alloc: Global,
-    interlocking: &Interlocking,
-    train: TrainNo,
-    place: &Place,
-) -> Result<bool, AllocError>
-    requires { place_fits interlocking.now place.now ≡ true }
-    ensures { IfOk result (λ b. b ≡ is_used_in interlocking.now train place.now) }
-{
-    match place {
-        Place::Named { .. } => Ok(true),
-        Place::Among { routes, without } => {
-            let own = routes.as_slice();
-            let kept = without.as_slice();
-            let used = is_used_among(alloc, interlocking, train, own, kept)?;
-            Ok(used)
-        }
-    }
 }
 
 /// Whether a visit can be made on none but these routes and those that are kept out.
@@ -132,30 +158,4 @@ fn is_visited_named(
     }
     let open = open_routes(alloc, interlocking, &[route], &[])?;
     Ok(is_made_where_paths_end(visit, open.as_slice()))
-}
-
-/// Whether a visit is not made before a route of a place.
-pub(crate) fn is_visited(
-    alloc: Global,
-    interlocking: &Interlocking,
-    train: TrainNo,
-    number: usize,
-    place: &Place,
-) -> Result<bool, AllocError>
-    requires { place_fits interlocking.now place.now ≡ true }
-    ensures { IfOk result (λ b. b ≡ is_visited_in interlocking.now train number place.now) }
-{
-    let visit = visit_of(alloc, &interlocking.design.station, train, number)?;
-    match place {
-        Place::Named { route } => {
-            let visited = is_visited_named(alloc, interlocking, &visit, *route)?;
-            Ok(visited)
-        }
-        Place::Among { routes, without } => {
-            let own = routes.as_slice();
-            let kept = without.as_slice();
-            let visited = is_visited_among(alloc, interlocking, &visit, own, kept)?;
-            Ok(visited)
-        }
-    }
 }

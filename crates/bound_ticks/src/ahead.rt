@@ -28,6 +28,18 @@ pub(crate) struct Between<'a> {
 impl Between<'_> {
     ghost use Rattle.bound_ticks.specs.Ahead.{ahead_on, ahead_on_all, all_past};
 
+    /// Whether it is so on all walks of the first of some legs.
+    pub(crate) fn are_ahead(&self, alloc: Global, legs: &[Leg]) -> Result<bool, AllocError>
+        requires { All (IsLeg self.now.interlocking.now) legs.now }
+        ensures { let i = self.now.interlocking.now in IfOk result (λ b. b
+            ≡ are_ahead i.design.station i.routes (visit_of self.now.from) (visit_of self.now.to) legs.now) }
+    {
+        match legs {
+            [] => Ok(false),
+            [leg, rest @ ..] => self.ahead_on_all(alloc, leg, rest),
+        }
+    }
+
     /// Whether a place is not past where a walk has released what any of these routes waits for.
     fn all_past(&self, train: TrainNo, walk: &[RouteNo], place: u64, next: &[RouteNo]) -> bool
         requires train { IsTrain self.now.interlocking.now.design.station train }
@@ -72,17 +84,5 @@ impl Between<'_> {
             }
         }
         Ok(true)
-    }
-
-    /// Whether it is so on all walks of the first of some legs.
-    pub(crate) fn are_ahead(&self, alloc: Global, legs: &[Leg]) -> Result<bool, AllocError>
-        requires { All (IsLeg self.now.interlocking.now) legs.now }
-        ensures { let i = self.now.interlocking.now in IfOk result (λ b. b
-            ≡ are_ahead i.design.station i.routes (visit_of self.now.from) (visit_of self.now.to) legs.now) }
-    {
-        match legs {
-            [] => Ok(false),
-            [leg, rest @ ..] => self.ahead_on_all(alloc, leg, rest),
-        }
     }
 }

@@ -25,25 +25,6 @@ pub(crate) struct Chain<'a> {
 }
 
 impl Chain<'_> {
-    /// The least ticks of the last leg.
-    fn end_ticks(&self, alloc: Global, from: Option<Visit>, leg: &Leg) -> Result<u64, AllocError>
-        requires leg { IsLeg self.now.interlocking.now leg.now }
-        requires from { ForSome from (λ v. IsTrain self.now.interlocking.now.design.station v.train) }
-        ensures { let i = self.now.interlocking.now in IfOk result (λ n. n
-            ≡ end_ticks i.design.station i.routes self.now.most (origin_of from) (origin_of self.now.to) leg.now) }
-    {
-        let Some(visit) = self.to else {
-            return Ok(0);
-        };
-        let ride = Ride {
-            interlocking: self.interlocking,
-            leg,
-            from,
-            most: self.most,
-        };
-        ride.leg_to_visit(alloc, visit)
-    }
-
     /// The least ticks of all legs.
     pub(crate) fn ticks(
         &self,
@@ -71,5 +52,24 @@ impl Chain<'_> {
                 Ok(here + 1 + self.ticks(alloc, None, rest)?)
             }
         }
+    }
+
+    /// The least ticks of the last leg.
+    fn end_ticks(&self, alloc: Global, from: Option<Visit>, leg: &Leg) -> Result<u64, AllocError>
+        requires leg { IsLeg self.now.interlocking.now leg.now }
+        requires from { ForSome from (λ v. IsTrain self.now.interlocking.now.design.station v.train) }
+        ensures { let i = self.now.interlocking.now in IfOk result (λ n. n
+            ≡ end_ticks i.design.station i.routes self.now.most (origin_of from) (origin_of self.now.to) leg.now) }
+    {
+        let Some(visit) = self.to else {
+            return Ok(0);
+        };
+        let ride = Ride {
+            interlocking: self.interlocking,
+            leg,
+            from,
+            most: self.most,
+        };
+        ride.leg_to_visit(alloc, visit)
     }
 }

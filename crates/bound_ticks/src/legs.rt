@@ -32,6 +32,34 @@ pub struct Ride<'a> {
 }
 
 impl Ride<'_> {
+    /// The least ticks to a visit over all walks of the leg.
+    pub fn leg_to_visit(&self, alloc: Global, visit: Visit) -> Result<u64, AllocError>
+        requires { IsTrain self.now.interlocking.now.design.station visit.train }
+        ensures { let i = self.now.interlocking.now in let from = origin_of self.now.from in IfOk result (λ n. n
+            ≡ leg_to_visit i.design.station i.routes self.now.most from self.now.leg.now (visit_of visit)) }
+    {
+        let walks = walks_of(alloc, &self.interlocking.routes, self.leg.places.as_slice())?;
+        let mut least = self.most;
+        for walk in &walks {
+            least = least.min(self.to_visit(alloc, walk.as_slice(), visit)?);
+        }
+        Ok(least)
+    }
+
+    /// The least ticks to a release over all walks of the leg.
+    pub fn leg_to_release(&self, alloc: Global, next: &[RouteNo]) -> Result<u64, AllocError>
+        requires { All (IsRoute self.now.interlocking.now.routes) next.now }
+        ensures { let i = self.now.interlocking.now in let from = origin_of self.now.from in IfOk result (λ n. n
+            ≡ leg_to_release i.design.station i.routes self.now.most from self.now.leg.now next.now) }
+    {
+        let walks = walks_of(alloc, &self.interlocking.routes, self.leg.places.as_slice())?;
+        let mut least = self.most;
+        for walk in &walks {
+            least = least.min(self.to_release(alloc, walk.as_slice(), next)?);
+        }
+        Ok(least)
+    }
+
     /// The least ticks to a place of a walk.
     fn ticks_on(&self, alloc: Global, walk: &[RouteNo], place: u64) -> Result<u64, AllocError>
         requires walk { All (IsRoute self.now.interlocking.now.routes) walk.now }
@@ -89,34 +117,6 @@ impl Ride<'_> {
         for route in next {
             let place = release_place(self.interlocking, self.leg.train, walk, *route);
             least = least.min(self.ticks_on(alloc, walk, place)?);
-        }
-        Ok(least)
-    }
-
-    /// The least ticks to a visit over all walks of the leg.
-    pub fn leg_to_visit(&self, alloc: Global, visit: Visit) -> Result<u64, AllocError>
-        requires { IsTrain self.now.interlocking.now.design.station visit.train }
-        ensures { let i = self.now.interlocking.now in let from = origin_of self.now.from in IfOk result (λ n. n
-            ≡ leg_to_visit i.design.station i.routes self.now.most from self.now.leg.now (visit_of visit)) }
-    {
-        let walks = walks_of(alloc, &self.interlocking.routes, self.leg.places.as_slice())?;
-        let mut least = self.most;
-        for walk in &walks {
-            least = least.min(self.to_visit(alloc, walk.as_slice(), visit)?);
-        }
-        Ok(least)
-    }
-
-    /// The least ticks to a release over all walks of the leg.
-    pub fn leg_to_release(&self, alloc: Global, next: &[RouteNo]) -> Result<u64, AllocError>
-        requires { All (IsRoute self.now.interlocking.now.routes) next.now }
-        ensures { let i = self.now.interlocking.now in let from = origin_of self.now.from in IfOk result (λ n. n
-            ≡ leg_to_release i.design.station i.routes self.now.most from self.now.leg.now next.now) }
-    {
-        let walks = walks_of(alloc, &self.interlocking.routes, self.leg.places.as_slice())?;
-        let mut least = self.most;
-        for walk in &walks {
-            least = least.min(self.to_release(alloc, walk.as_slice(), next)?);
         }
         Ok(least)
     }

@@ -14,24 +14,6 @@ use leg_targets::Visit;
 use rail_base::station::{Order, Station, Within};
 use rail_bound::Requirement;
 
-/// The within of a number.
-fn within_of(station: &Station, within: u32) -> &Within
-    requires at_least_one { 1 ≤ within }
-    requires within { within ≤ length station.now.withins }
-    ensures { result.now ≡ within_of station.now within }
-{
-    &station.withins.as_slice()[within as usize - 1]
-}
-
-/// The order of a number.
-fn order_of(station: &Station, order: u32) -> &Order
-    requires at_least_one { 1 ≤ order }
-    requires within { order ≤ length station.now.orders }
-    ensures { result.now ≡ order_of station.now order }
-{
-    &station.orders.as_slice()[order as usize - 1]
-}
-
 /// The visit from which the ticks of a within or an order are counted.
 pub fn visit_from(interlocking: &Interlocking, requirement: Requirement) -> Option<Visit>
     requires { requirement_fits interlocking.now requirement ≡ true }
@@ -88,13 +70,6 @@ pub fn visit_to(interlocking: &Interlocking, requirement: Requirement) -> Option
     }
 }
 
-/// The most ticks that a within allows.
-fn most_ticks(interlocking: &Interlocking, within: &Within) -> u64
-    ensures { result ≡ most_ticks interlocking.now.design.station within.now }
-{
-    u64::from(within.max_ms / interlocking.design.station.tick_ms)
-}
-
 /// Whether so many ticks from the one visit to the other are too many.
 pub(crate) fn is_too_long(interlocking: &Interlocking, requirement: Requirement, ticks: u64) -> bool
     requires { requirement_fits interlocking.now requirement ≡ true }
@@ -133,4 +108,29 @@ pub(crate) fn is_too_late(
         Requirement::Order { .. } => tick <= ticks,
         Requirement::Visit { .. } | Requirement::Grant { .. } => false,
     }
+}
+
+/// The within of a number.
+fn within_of(station: &Station, within: u32) -> &Within
+    requires at_least_one { 1 ≤ within }
+    requires within { within ≤ length station.now.withins }
+    ensures { result.now ≡ within_of station.now within }
+{
+    &station.withins.as_slice()[within as usize - 1]
+}
+
+/// The order of a number.
+fn order_of(station: &Station, order: u32) -> &Order
+    requires at_least_one { 1 ≤ order }
+    requires within { order ≤ length station.now.orders }
+    ensures { result.now ≡ order_of station.now order }
+{
+    &station.orders.as_slice()[order as usize - 1]
+}
+
+/// The most ticks that a within allows.
+fn most_ticks(interlocking: &Interlocking, within: &Within) -> u64
+    ensures { result ≡ most_ticks interlocking.now.design.station within.now }
+{
+    u64::from(within.max_ms / interlocking.design.station.tick_ms)
 }

@@ -24,6 +24,29 @@ use rail_bound::{Bound, Origin};
 use rail_cone::Cone;
 use std::alloc::{AllocError, Global};
 
+/// Whether a certificate shows that its requirement fails: the ticks that its legs take at the least are too many.
+///
+/// # Errors
+///
+/// Want of memory alone.
+pub fn is_shown(alloc: Global, contention: &Contention, bound: &Bound) -> Result<bool, AllocError>
+    requires names { let i = contention.now.interlocking.now in
+        names_design i.design.station i.routes bound.now ≡ true }
+    ensures { let i = contention.now.interlocking.now in
+        IfOk result (λ b. b ≡ shown i.design.station i.routes bound.now) }
+{
+    let stretches = stretches_of(alloc, contention.interlocking, bound.legs.as_slice())?;
+    if stretches > MOST_LOOKS {
+        return Ok(false);
+    }
+    let claim = Claim {
+        contention: *contention,
+        bound,
+        most: ticks_followed(contention.interlocking, stretches),
+    };
+    claim.is_shown(alloc)
+}
+
 /// Whether a visit is made at this tick.
 fn is_made_at(tick: u64, made: Option<u64>) -> bool
     ensures { (i : Interlocking) (b : Bound) → result ≡ made_at i b tick made }
@@ -201,27 +224,4 @@ impl<'a> Claim<'a> {
             Origin::Cone { tick, cone } => self.by_cone(alloc, *tick, cone),
         }
     }
-}
-
-/// Whether a certificate shows that its requirement fails: the ticks that its legs take at the least are too many.
-///
-/// # Errors
-///
-/// Want of memory alone.
-pub fn is_shown(alloc: Global, contention: &Contention, bound: &Bound) -> Result<bool, AllocError>
-    requires names { let i = contention.now.interlocking.now in
-        names_design i.design.station i.routes bound.now ≡ true }
-    ensures { let i = contention.now.interlocking.now in
-        IfOk result (λ b. b ≡ shown i.design.station i.routes bound.now) }
-{
-    let stretches = stretches_of(alloc, contention.interlocking, bound.legs.as_slice())?;
-    if stretches > MOST_LOOKS {
-        return Ok(false);
-    }
-    let claim = Claim {
-        contention: *contention,
-        bound,
-        most: ticks_followed(contention.interlocking, stretches),
-    };
-    claim.is_shown(alloc)
 }

@@ -18,6 +18,35 @@ use std::alloc::{AllocError, Global};
 /// No more stretches are looked at.
 pub(crate) const MOST_LOOKS: u64 = 33_554_432;
 
+/// The stretches of all legs, each of which leads to what the next waits for.
+pub fn stretches_of(
+    alloc: Global,
+    interlocking: &Interlocking,
+    legs: &[Leg],
+) -> Result<u64, AllocError>
+    requires { All (IsLeg interlocking.now) legs.now }
+    ensures { let d = interlocking.now.design.station in
+        IfOk result (λ n. n ≡ cap (stretches_of d interlocking.now.routes legs.now)) }
+{
+    match legs {
+        [] => Ok(0),
+        [last] => stretches_of_leg(alloc, interlocking, last, 1),
+        [leg, rest @ ..] => {
+            let own = stretches_of_leg(alloc, interlocking, leg, first_routes(rest).len())?;
+            Ok(cap(own + stretches_of(alloc, interlocking, rest)?))
+        }
+    }
+}
+
+/// The ticks in which so many stretches may be looked at.
+pub fn ticks_followed(interlocking: &Interlocking, stretches: u64) -> u64
+    ensures ticks { result ≡ min (horizon interlocking.now.design.station) (most_looks / stretches) }
+    ensures at_most_86400 { result ≤ 86400 }
+{
+    let most = MOST_LOOKS.checked_div(stretches).unwrap_or(0);
+    interlocking.design.horizon().min(most)
+}
+
 /// A count, or one more than the most.
 fn cap(count: u64) -> u64
     ensures { result ≡ cap count }
@@ -71,33 +100,4 @@ fn stretches_of_leg(
         count = cap(count + stretches_of_walk(interlocking, walk.as_slice()));
     }
     Ok(cap(count * cap(places as u64)))
-}
-
-/// The stretches of all legs, each of which leads to what the next waits for.
-pub fn stretches_of(
-    alloc: Global,
-    interlocking: &Interlocking,
-    legs: &[Leg],
-) -> Result<u64, AllocError>
-    requires { All (IsLeg interlocking.now) legs.now }
-    ensures { let d = interlocking.now.design.station in
-        IfOk result (λ n. n ≡ cap (stretches_of d interlocking.now.routes legs.now)) }
-{
-    match legs {
-        [] => Ok(0),
-        [last] => stretches_of_leg(alloc, interlocking, last, 1),
-        [leg, rest @ ..] => {
-            let own = stretches_of_leg(alloc, interlocking, leg, first_routes(rest).len())?;
-            Ok(cap(own + stretches_of(alloc, interlocking, rest)?))
-        }
-    }
-}
-
-/// The ticks in which so many stretches may be looked at.
-pub fn ticks_followed(interlocking: &Interlocking, stretches: u64) -> u64
-    ensures ticks { result ≡ min (horizon interlocking.now.design.station) (most_looks / stretches) }
-    ensures at_most_86400 { result ≤ 86400 }
-{
-    let most = MOST_LOOKS.checked_div(stretches).unwrap_or(0);
-    interlocking.design.horizon().min(most)
 }

@@ -23,6 +23,29 @@ pub fn first_routes(legs: &[Leg]) -> &[RouteNo]
     }
 }
 
+/// The walks over places, each of one route of each place.
+pub(crate) fn walks_of(
+    alloc: Global,
+    routes: &RouteTable,
+    places: &[Place],
+) -> Result<Vec<List<RouteNo>>, AllocError>
+    requires { All (IsPlaceOf routes.now) places.now }
+    ensures walks { IfOk result (λ walks. walks.items ≡ walks_by_number routes.now places.now) }
+    ensures named { IfOk result (λ walks. All (IsWalk routes.now (length places.now)) walks.items) }
+{
+    match places {
+        [] => {
+            let mut walks = Vec::new(alloc);
+            walks.push(List::new(alloc))?;
+            Ok(walks)
+        }
+        [place, rest @ ..] => {
+            let later = walks_of(alloc, routes, rest)?;
+            longer_walks(alloc, routes, routes_of(place), &later)
+        }
+    }
+}
+
 /// Whether the first route of a walk, if there is one, goes on where a route ends.
 fn precedes_walk(routes: &RouteTable, route: RouteNo, walk: &[RouteNo]) -> bool
     requires route { IsRoute routes.now route }
@@ -84,27 +107,4 @@ fn longer_walks(
         push_longer(alloc, &mut walks, routes, *route, later)?;
     }
     Ok(walks)
-}
-
-/// The walks over places, each of one route of each place.
-pub(crate) fn walks_of(
-    alloc: Global,
-    routes: &RouteTable,
-    places: &[Place],
-) -> Result<Vec<List<RouteNo>>, AllocError>
-    requires { All (IsPlaceOf routes.now) places.now }
-    ensures walks { IfOk result (λ walks. walks.items ≡ walks_by_number routes.now places.now) }
-    ensures named { IfOk result (λ walks. All (IsWalk routes.now (length places.now)) walks.items) }
-{
-    match places {
-        [] => {
-            let mut walks = Vec::new(alloc);
-            walks.push(List::new(alloc))?;
-            Ok(walks)
-        }
-        [place, rest @ ..] => {
-            let later = walks_of(alloc, routes, rest)?;
-            longer_walks(alloc, routes, routes_of(place), &later)
-        }
-    }
 }

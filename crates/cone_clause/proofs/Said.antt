@@ -9,8 +9,8 @@ use Rattle.std.specs.List.Sorted.{IsNonDecreasing, IsPermutation}
 use Rattle.rail_base.specs.declared.station.Station.{Station}
 use Rattle.rail_base.specs.declared.route.Route.{Route}
 use Rattle.rail_base.specs.declared.plan.Command.{Command}
-use Rattle.rail_base.proofs.Members.{In, in_filter, list_any_from, list_any_gives, false_unless, below_or_not}
-use Rattle.rail_base.proofs.Lists.{in_filter_back}
+use Rattle.rail_base.proofs.Members.{In, in_filter, list_any_from, list_any_gives, false_unless, below_or_not, same_bool}
+use Rattle.rail_base.proofs.Lists.{in_filter_back, in_map, in_map_back}
 use Rattle.rail_spec.specs.Plans.{is_command, contend}
 use Rattle.plan_clauses.specs.Variables.{pairs}
 use Rattle.rail_cone.specs.declared.Cone.{Cone}
@@ -19,14 +19,14 @@ use Rattle.rail_cone.specs.Cones.{unnamed, first_named, free_path, is_free, is_l
 use Rattle.rail_cone.specs.Validity.{in_design}
 use Rattle.rail_cone.specs.Clauses.{Before, Literal, before_literals}
 use Rattle.rail_cone.proofs.Naming.{IsNamed, named_or_not, has_route_in, in_has_route}
-use Rattle.rail_cone.proofs.Saying.{is_command_same, is_command_self}
+use Rattle.rail_cone.proofs.Saying.{is_command_self}
 use Rattle.cone_form.proofs.Placed.{to_place, is_pair_same, pair_itself}
 use Rattle.sat_clause.specs.declared.lit.Lit.{Lit}
 use Rattle.rail_spec.specs.Plans.{all_commands}
 use Rattle.cone_clause.specs.Numbered.{lit_of}
 use Rattle.cone_clause.proofs.Gathering.{drop_next, drop_end}
 use Rattle.cone_clause.proofs.Walked.{walked, pair_step}
-use Rattle.cone_clause.specs.Places.{Adds, AreSaid, IsPlaceOf, IsPlaceBefore, IsPlaceBeforeFree, IsSaid}
+use Rattle.cone_clause.specs.Places.{Adds, AreListed, AreSaid, IsPlaceOf, IsPlaceBefore, IsPlaceBeforeFree, IsSaid}
 
 some_same : {X : Type 0} {a b : X} → Some a ≡ Some b → a ≡ b
 some_same h = cc
@@ -37,28 +37,28 @@ some_same h = cc
 abbrev pub IsMirrored : List (Command × Command) → Type 0
 IsMirrored ps = (e c : Command) → In (e, c) ps → In (c, e) ps
 
--- the pair that stands before a command in a run stands with it the other way round
-pub before_from : (ps : List (Command × Command)) → IsMirrored ps → (c : Command) (p : Command × Command) → In p (filter (λ p. is_command p.0 c) ps) → In (p.1, c) ps
-before_from ps turn c p m =
-    let k = in_filter_back (λ p. is_command p.0 c) ps p m in
-    let s = is_command_same p.0 c k.1 in
-    turn c p.1 (subst (λ x. In (x, p.1) ps) s k.0)
+-- the commands that contend with one, each with that one before, are all of its pairs
+module _ (ps : List (Command × Command)) (c : Command) (others : List Command) (run : map (λ e. (c, e)) others ≡ filter (λ p. is_command p.0 c) ps) where
+  -- each stands before it too
+  pub before_of : IsMirrored ps → (e : Command) → In e others → In (e, c) ps
+  before_of turn e m =
+      let there = subst (λ (qs : List (Command × Command)). In (c, e) qs) run (in_map (λ (x : Command). (c, x)) others e m) in
+      turn c e (in_filter_back (λ p. is_command p.0 c) ps (c, e) there).0
 
--- the place of each pair with this second command is that of one of the run
-module _ (ps : List (Command × Command)) (c : Command) where
-  pub from_run : (i : ℕ) → ((p : Command × Command) × In p (filter (λ p. is_command p.0 c) ps) × IsPlaceOf ps (p.1, c) i) → IsPlaceBefore ps c i
-  from_run i (p, m, e) = (p.1, e)
+  -- the place of each pair with this second command is that of one of them
+  pub from_others : (i : ℕ) → ((e : Command) × In e others × IsPlaceOf ps (e, c) i) → IsPlaceBefore ps c i
+  from_others i (e, m, h) = (e, h)
 
-  pub to_run : IsMirrored ps → (i : ℕ) → IsPlaceBefore ps c i → (p : Command × Command) × In p (filter (λ p. is_command p.0 c) ps) × IsPlaceOf ps (p.1, c) i
-  to_run turn i (e, h) = ((c, e), kept ps (turn e c (there ps i h)), h)
+  pub to_others : IsMirrored ps → (i : ℕ) → IsPlaceBefore ps c i → (e : Command) × In e others × IsPlaceOf ps (e, c) i
+  to_others turn i (e, h) =
+      let kept = in_filter (λ p. is_command p.0 c) ps (c, e) (turn e c (there ps i h)) (is_command_self c) in
+      let back = in_map_back (λ (x : Command). (c, x)) others (c, e) (subst (λ (qs : List (Command × Command)). In (c, e) qs) (sym run) kept) in
+      (e, subst (λ (x : Command). In x others) (ap (λ (q : Command × Command). q.1) back.2) back.1, h)
     where
       there : (xs : List (Command × Command)) (i : ℕ) → slice_get xs i ≡ Some (e, c) → In (e, c) xs
       there [] i h = cc
       there (x ∷ xs) zero h = inl (some_same h)
       there (x ∷ xs) (suc i) h = inr (there xs i h)
-
-      kept : (xs : List (Command × Command)) → In (c, e) xs → In (c, e) (filter (λ p. is_command p.0 c) xs)
-      kept xs m = in_filter (λ p. is_command p.0 c) xs (c, e) m (is_command_self c)
 
 -- two numbers of one place
 pub one_place : (ps : List (Command × Command)) (p : Command × Command) (place : ℕ) → ((i : ℕ) → slice_get ps i ≡ Some p → place ≡ i) → In p ps → IsPlaceOf ps p place
@@ -132,6 +132,49 @@ said_all ps k old mid new places none free listed moved rising = record {
     from : (i : ℕ) → In i mid ⊎ ((p : Command × Command) × In p k.pairs × IsPlaceOf ps p i) → IsSaid ps k i
     from i (inl m) = first i (free.no_more i m)
     from i (inr l) = said_listed ps k i l
+
+-- what is added for listed pairs alone, in order, is all of their places
+pub listed_all : (ps : List (Command × Command)) (k : Cone) (old new places : List ℕ) → old ≡ []
+    → Adds (λ i. (p : Command × Command) × In p k.pairs × IsPlaceOf ps p i) old new → IsPermutation new places → IsNonDecreasing places → AreListed ps k places
+listed_all ps k old new places none listed moved rising = record {
+  rising = rising;
+  all = λ i h. at places i (sym (list_any-IsPermutation (λ j. j == i) new places moved) ∙ has new i (listed.added i h));
+  only = λ i m. from i (listed.no_more i (at new i (list_any-IsPermutation (λ j. j == i) new places moved ∙ has places i m)));
+}
+  where
+    at : (xs : List ℕ) (i : ℕ) → list_any (λ j. j == i) xs ≡ true → In i xs
+    at xs i h = let f = list_any_gives (λ j. j == i) xs h in subst (λ j. In j xs) (eqb-true f.0 i f.2) f.1
+
+    has : (xs : List ℕ) (i : ℕ) → In i xs → list_any (λ j. j == i) xs ≡ true
+    has xs i m = list_any_from (λ j. j == i) xs i m (eq-eqb i i refl)
+
+    from : (i : ℕ) → In i old ⊎ ((p : Command × Command) × In p k.pairs × IsPlaceOf ps p i) → (p : Command × Command) × In p k.pairs × IsPlaceOf ps p i
+    from i (inl m) = absurd (subst (In i) none m)
+    from i (inr l) = l
+
+-- a pair is listed where its place is one of those
+pub listed_at : (ps : List (Command × Command)) (k : Cone) (places : List ℕ) → AreListed ps k places → (i : ℕ) (other : Command × Command) → i < length ps
+    → list_any (λ j. j == i) places ≡ is_listed k (get_or ps i other).0 (get_or ps i other).1
+listed_at ps k places are i other inside = same_bool (list_any (λ j. j == i) places) (is_listed k q.0 q.1) to from
+  where
+    q : Command × Command
+    q = get_or ps i other
+
+    here : slice_get ps i ≡ Some q
+    here = slice_get-get_or ps i other inside
+
+    to : list_any (λ j. j == i) places ≡ true → is_listed k q.0 q.1 ≡ true
+    to h =
+        let f = list_any_gives (λ j. j == i) places h in
+        let l = are.only i (subst (λ j. In j places) (eqb-true f.0 i f.2) f.1) in
+        let same : l.0 ≡ q = some_same (sym l.2 ∙ here) in
+        list_any_from (is_pair q.0 q.1) k.pairs q (subst (λ (p : Command × Command). In p k.pairs) same l.1) (pair_itself q.0 q.1)
+
+    from : is_listed k q.0 q.1 ≡ true → list_any (λ j. j == i) places ≡ true
+    from h =
+        let f = list_any_gives (is_pair q.0 q.1) k.pairs h in
+        let m : In q k.pairs = subst (λ (p : Command × Command). In p k.pairs) (is_pair_same q.0 q.1 f.0 f.2) f.1 in
+        list_any_from (λ j. j == i) places i (are.all i (q, m, here)) (eq-eqb i i refl)
 
 module _ (d : Station) (routes : List Route) (k : Cone) (fits : in_design d routes k ≡ true) where
   abbrev said_of : Command × Command → List Literal

@@ -45,3 +45,9 @@ module _ (pairs : List (Command × Command)) where
     pub rising : IsNonDecreasing places
     pub all : (i : ℕ) → IsSaid k i → In i places
     pub only : (i : ℕ) → In i places → IsSaid k i
+
+  -- the places of all listed pairs, in order
+  pub record AreListed (k : Cone) (places : List ℕ) : Type 0 where
+    pub rising : IsNonDecreasing places
+    pub all : (i : ℕ) → IsListedPlace k i → In i places
+    pub only : (i : ℕ) → In i places → IsListedPlace k i

@@ -13,7 +13,7 @@ use Rattle.rail_cone.specs.Cones.{has_route}
 use Rattle.rail_cone.specs.Clauses.{Literal, before_literals, goes_further, used_literals}
 use Rattle.cone_clause.specs.declared.numbered.NumberedCone.{NumberedCone}
 use Rattle.cone_clause.specs.Numbered.{lit_of}
-use Rattle.cone_clause.specs.Places.{Adds, AreSaid, IsListedPlace, IsPlaceBefore, IsPlaceBeforeAny, IsPlaceBeforeFree}
+use Rattle.cone_clause.specs.Places.{Adds, AreListed, AreSaid, IsListedPlace, IsPlaceBefore, IsPlaceBeforeAny, IsPlaceBeforeFree}
 
 -- the sign of a route: negated where the path has it, not negated where a closed path goes on to it, and else none
 abbrev pub used_sign : List Route → List RouteNo → Bool → RouteNo → Option Bool
@@ -88,3 +88,7 @@ module _ (c : NumberedCone) where
   -- these are all of them, in order
   abbrev pub ArePlaces : List ℕ → Type 0
   ArePlaces = AreSaid c.contention.pairs.now c.cone.now
+
+  -- these are all places of listed pairs, in order
+  abbrev pub AreListedPlaces : List ℕ → Type 0
+  AreListedPlaces = AreListed c.contention.pairs.now c.cone.now

@@ -9,18 +9,33 @@ ghost use Rattle.rail_spec.specs.Plans.{is_start};
 ghost use Rattle.rail_cone.specs.Cones.{all_free, named};
 ghost use Rattle.rail_cone.specs.Clauses.{goes_further, is_closed, is_path_violation};
 
-use cone_form::named;
+use cone_form::entry_of;
 use interlocking::goes_on;
 use rail_base::plan::Violation;
 use rail_base::route::{Route, RouteNo, RouteTable, Start, route_at};
 use rail_base::station::TrainNo;
 use rail_cone::Cone;
 
+/// Whether the cone says that a train goes no further than its path.
+pub fn is_closed(cone: &Cone, train: TrainNo) -> bool
+    ensures { (d : Station) (routes : List Route) → result ≡ is_closed d routes cone.now train }
+{
+    all_free(cone, train) || is_path_violation(cone.violation)
+}
+
+/// Whether a route starts at the signal where a path ends, which is not a start of one of the path's routes.
+pub fn goes_further(routes: &RouteTable, path: &[RouteNo], route: &Route) -> bool
+    requires { All (IsRoute routes.now) path.now }
+    ensures { result ≡ goes_further (map (route_at routes.now) path.now) route.now }
+{
+    is_next(routes, path, route) && starts_no_other(routes, path, route)
+}
+
 /// Whether all commands of a train are free.
 fn all_free(cone: &Cone, train: TrainNo) -> bool
     ensures { result ≡ all_free (named cone.now train) }
 {
-    match named(cone, train) {
+    match entry_of(cone, train) {
         Some(entry) => entry.path.len() <= entry.free as usize,
         None => true,
     }
@@ -31,13 +46,6 @@ fn is_path_violation(violation: Violation) -> bool
     ensures { (d : Station) (routes : List Route) (k : Cone) → result ≡ is_path_violation d routes k violation }
 {
     matches!(violation, Violation::Path { .. })
-}
-
-/// Whether the cone says that a train goes no further than its path.
-pub fn is_closed(cone: &Cone, train: TrainNo) -> bool
-    ensures { (d : Station) (routes : List Route) → result ≡ is_closed d routes cone.now train }
-{
-    all_free(cone, train) || is_path_violation(cone.violation)
 }
 
 /// Whether two routes start at one place.
@@ -57,14 +65,6 @@ fn is_next(routes: &RouteTable, path: &[RouteNo], route: &Route) -> bool
     }
     let last = route_at(routes, path[path.len() - 1]);
     goes_on(last.finish, route.start)
-}
-
-/// Whether a route starts at the signal where a path ends, which is not a start of one of the path's routes.
-pub fn goes_further(routes: &RouteTable, path: &[RouteNo], route: &Route) -> bool
-    requires { All (IsRoute routes.now) path.now }
-    ensures { result ≡ goes_further (map (route_at routes.now) path.now) route.now }
-{
-    is_next(routes, path, route) && starts_no_other(routes, path, route)
 }
 
 /// The same, by the whole path.

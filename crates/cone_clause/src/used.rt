@@ -18,28 +18,6 @@ use rail_base::station::TrainNo;
 use sat_clause::Lit;
 use std::alloc::{AllocError, Global};
 
-/// Whether the clause says that a route of a train with this path is not used, or that it is, or neither.
-fn used_sign(
-    routes: &RouteTable,
-    path: &[RouteNo],
-    marks: &[bool],
-    closed: bool,
-    route: RouteNo,
-) -> Option<bool>
-    requires path { All (IsRoute routes.now) path.now }
-    requires marks { MarksPath path.now marks.now }
-    requires route { IsRoute routes.now route }
-    ensures { result ≡ used_sign routes.now path.now closed route }
-{
-    if has_mark(marks, route) {
-        return Some(true);
-    }
-    if closed && goes_further(routes, path, route_at(routes, route)) {
-        return Some(false);
-    }
-    None
-}
-
 impl NumberedCone<'_> {
     /// How many variables say that a command is given by a step.
     pub(crate) fn used_count(&self) -> u32
@@ -49,6 +27,21 @@ impl NumberedCone<'_> {
         let interlocking = self.contention.interlocking;
         let trains = interlocking.design.station.trains.len() as u32;
         trains * interlocking.routes.len() as u32 * self.steps.count
+    }
+
+    /// Puts what the clause says of all commands at its end, by train and then by route. It says nothing of a train
+    /// without a path.
+    pub(crate) fn push_used(&self, alloc: Global, clause: &mut Vec<Lit>) -> Result<(), AllocError>
+        ensures { OnOk result (clause.new.items ≡ clause.old.items ++ said_of_commands self.now) }
+    {
+        let trains = self.contention.interlocking.design.station.trains.len();
+        for number in 1..trains as u32 + 1 {
+            let train = TrainNo(number);
+            if !path(self.cone, train).is_empty() {
+                self.push_used_of(alloc, clause, train)?;
+            }
+        }
+        Ok(())
     }
 
     /// The number of the variable that a command is given by the last step.
@@ -84,19 +77,26 @@ impl NumberedCone<'_> {
         }
         Ok(())
     }
+}
 
-    /// Puts what the clause says of all commands at its end, by train and then by route. It says nothing of a train
-    /// without a path.
-    pub(crate) fn push_used(&self, alloc: Global, clause: &mut Vec<Lit>) -> Result<(), AllocError>
-        ensures { OnOk result (clause.new.items ≡ clause.old.items ++ said_of_commands self.now) }
-    {
-        let trains = self.contention.interlocking.design.station.trains.len();
-        for number in 1..trains as u32 + 1 {
-            let train = TrainNo(number);
-            if !path(self.cone, train).is_empty() {
-                self.push_used_of(alloc, clause, train)?;
-            }
-        }
-        Ok(())
+/// Whether the clause says that a route of a train with this path is not used, or that it is, or neither.
+fn used_sign(
+    routes: &RouteTable,
+    path: &[RouteNo],
+    marks: &[bool],
+    closed: bool,
+    route: RouteNo,
+) -> Option<bool>
+    requires path { All (IsRoute routes.now) path.now }
+    requires marks { MarksPath path.now marks.now }
+    requires route { IsRoute routes.now route }
+    ensures { result ≡ used_sign routes.now path.now closed route }
+{
+    if has_mark(marks, route) {
+        return Some(true);
     }
+    if closed && goes_further(routes, path, route_at(routes, route)) {
+        return Some(false);
+    }
+    None
 }

@@ -1,9 +1,9 @@
 -- The order of commands and of pairs of them, and lists in that order.
-use Rattle.std.proofs.Common.{◌≡◌, ℕ, zero, suc, ◌≤◌, ◌<◌, ◌⊎◌, inl, inr, Bool, true, false, ◌&&◌, ◌==◌, nat_lt, List, [], ◌∷◌, get_or, length, refl, sym, subst, ◌∙◌, arith, leb-true, le-leb, eqb-true, eq-eqb, true≢false}
+use Rattle.std.proofs.Common.{◌≡◌, ℕ, zero, suc, ◌<◌, ◌⊎◌, inl, inr, Bool, true, ◌&&◌, ◌==◌, nat_lt, List, [], ◌∷◌, get_or, length, refl, sym, subst, ◌∙◌, arith, leb-true, le-leb, eqb-true, eq-eqb}
 use Rattle.std.specs.List.{list_all}
 use Rattle.rail_base.specs.declared.plan.Command.{Command}
 use Rattle.rail_base.specs.Members.{all_pairs, all_neighbors}
-use Rattle.rail_base.proofs.Members.{In, and_left, and_right, and_both, either, or_left, or_right, list_all_at, false_unless, below_or_not}
+use Rattle.rail_base.proofs.Members.{In, and_left, and_right, and_both, either, or_left, or_right, list_all_at}
 use Rattle.rail_base.proofs.Lists.{list_all_from}
 use Rattle.rail_spec.specs.Plans.{is_command}
 use Rattle.rail_cone.specs.Validity.{is_before, is_pair_before}
@@ -35,29 +35,6 @@ not_both c e (inl x) (inl y) = absurd (omega arith)
 not_both c e (inl x) (inr (y, z)) = absurd (omega arith)
 not_both c e (inr (x, w)) (inl y) = absurd (omega arith)
 not_both c e (inr (x, w)) (inr (y, z)) = absurd (omega arith)
-
--- of two commands that are not one, either is before the other
-pub same_unless : (c e : Command) → is_before c e ≡ false → is_before e c ≡ false → is_command c e ≡ true
-same_unless c e h k = go (below_or_not c.train.0 e.train.0) (below_or_not e.train.0 c.train.0) (below_or_not c.route.0 e.route.0) (below_or_not e.route.0 c.route.0)
-  where
-    not_less : Less c e → ⊥
-    not_less l = true≢false (sym (from_less c e l) ∙ h)
-
-    not_more : Less e c → ⊥
-    not_more l = true≢false (sym (from_less e c l) ∙ k)
-
-    go : (c.train.0 < e.train.0) ⊎ (e.train.0 ≤ c.train.0) → (e.train.0 < c.train.0) ⊎ (c.train.0 ≤ e.train.0) → (c.route.0 < e.route.0) ⊎ (e.route.0 ≤ c.route.0) → (e.route.0 < c.route.0) ⊎ (c.route.0 ≤ e.route.0) → is_command c e ≡ true
-    go (inl x) b f g = absurd (not_less (inl x))
-    go (inr x) (inl y) f g = absurd (not_more (inl y))
-    go (inr x) (inr y) (inl f) g = absurd (not_less (inr (omega arith, f)))
-    go (inr x) (inr y) (inr f) (inl g) = absurd (not_more (inr (omega arith, g)))
-    go (inr x) (inr y) (inr f) (inr g) = and_both _ _ (eq-eqb c.train.0 e.train.0 (omega arith)) (eq-eqb c.route.0 e.route.0 (omega arith))
-
-pub apart_before : (c e : Command) → is_before c e ≡ true → is_command c e ≡ false
-apart_before c e h = false_unless (is_command c e) (λ t. let s = is_command_same c e t in let l = less c e h in not_both c c (subst (Less c) (sym s) l) (subst (Less c) (sym s) l))
-
-pub apart_after : (c e : Command) → is_before e c ≡ true → is_command c e ≡ false
-apart_after c e h = false_unless (is_command c e) (λ t. let s = is_command_same c e t in let l = less e c h in not_both e e (subst (Less e) s l) (subst (Less e) s l))
 
 -- ---- pairs
 

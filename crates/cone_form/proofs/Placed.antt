@@ -1,16 +1,16 @@
 -- Pairs in order, found by halves.
-use Rattle.std.proofs.Common.{◌≡◌, ℕ, zero, suc, ◌-◌, ◌≤◌, ◌<◌, ◌⊎◌, inl, inr, Bool, true, false, cond, not, List, [], ◌∷◌, filter, take, drop, get_or, length, Option, Some, None, refl, sym, ap, subst, ◌∙◌, arith, true≢false}
+use Rattle.std.proofs.Common.{◌≡◌, ℕ, zero, suc, ◌≤◌, ◌<◌, ◌⊎◌, inl, inr, Bool, true, false, List, [], ◌∷◌, get_or, length, Option, Some, None, sym, ap, subst, ◌∙◌, arith, true≢false}
 use Rattle.std.proofs.lemmas.Option.{slice_get-get_or}
 use Rattle.std.specs.List.{list_any, slice_get}
 use Rattle.std.specs.List.Sorted.{IsPartitionedBy, IsPartitionPoint}
 use Rattle.rail_base.specs.declared.plan.Command.{Command}
 use Rattle.rail_base.specs.Members.{all_pairs}
-use Rattle.rail_base.proofs.Members.{In, and_left, and_right, and_both, list_any_gives, list_any_from, or_left, false_unless, same_bool, below_or_not}
+use Rattle.rail_base.proofs.Members.{In, and_left, and_right, and_both, list_any_gives, list_any_from, false_unless, same_bool, below_or_not}
 use Rattle.rail_spec.specs.Plans.{is_command}
 use Rattle.rail_cone.specs.Cones.{is_pair}
-use Rattle.rail_cone.specs.Validity.{is_before, is_pair_before}
+use Rattle.rail_cone.specs.Validity.{is_pair_before}
 use Rattle.rail_cone.proofs.Saying.{is_command_same, is_command_self}
-use Rattle.cone_form.proofs.Orders.{Less, less, from_less, less_on, PairLess, pair_less, pair_on, not_both_pairs, pairs_at, same_unless, apart_before, apart_after}
+use Rattle.cone_form.proofs.Orders.{pair_on, not_both_pairs, pairs_at}
 
 -- a place is before another, or it is the same
 before_or_same : (i j : ℕ) → i ≤ j → (i < j) ⊎ (i ≡ j)
@@ -31,28 +31,6 @@ module _ (xs : List (Command × Command)) (sorted : all_pairs is_pair_before xs 
 
   pub parted_pair : (pair : Command × Command) → IsPartitionedBy (λ p. is_pair_before p pair) xs
   parted_pair pair = parted (λ p. is_pair_before p pair) (λ p q h k. pair_on p q pair h k)
-
-  pub parted_below : (c : Command) → IsPartitionedBy (λ p. is_before p.0 c) xs
-  parted_below c = parted (λ p. is_before p.0 c) (λ p q h k. from_less p.0 c (go p q (less q.0 c k) (pair_less p q h)))
-    where
-      go : (p q : Command × Command) → Less q.0 c → PairLess p q → Less p.0 c
-      go p q l (inl x) = less_on p.0 q.0 c x l
-      go p q l (inr (e, x)) = subst (λ b. Less b c) (sym e) l
-
-  pub parted_above : (c : Command) → IsPartitionedBy (λ p. not (is_before c p.0)) xs
-  parted_above c = parted (λ p. not (is_before c p.0)) (λ p q h k. not_so (is_before c p.0) (λ t. true≢false (sym (from_less c q.0 (go p q (less c p.0 t) (pair_less p q h))) ∙ so_not (is_before c q.0) k)))
-    where
-      go : (p q : Command × Command) → Less c p.0 → PairLess p q → Less c q.0
-      go p q l (inl x) = less_on c p.0 q.0 l x
-      go p q l (inr (e, x)) = subst (Less c) e l
-
-      not_so : (b : Bool) → (b ≡ true → ⊥) → not b ≡ true
-      not_so true f = absurd (f refl)
-      not_so false f = refl
-
-      so_not : (b : Bool) → not b ≡ true → b ≡ false
-      so_not true h = sym h
-      so_not false h = refl
 
   -- the place of a pair that is there
   pub place_index : (pair : Command × Command) (place : ℕ) → place ≤ length xs → IsPartitionPoint (λ p. is_pair_before p pair ≡ true) (λ p. is_pair_before p pair ≡ false) xs place
@@ -136,62 +114,3 @@ module _ (xs : List (Command × Command)) (e c : Command) (place : ℕ) (index :
       nothing [] j l h = cc
       nothing (y ∷ ys) zero l h = absurd (omega arith)
       nothing (y ∷ ys) (suc j) l h = nothing ys j (omega arith) h
-
--- ---- those of one first command
-
--- what stands between two places, where the test holds exactly there
-between : {X : Type 0} (test : X → Bool) (xs : List X) (a b : ℕ) → a ≤ b → b ≤ length xs
-    → ((k : ℕ) (other : X) → k < a → test (get_or xs k other) ≡ false)
-    → ((k : ℕ) (other : X) → a ≤ k → k < b → test (get_or xs k other) ≡ true)
-    → ((k : ℕ) (other : X) → b ≤ k → k < length xs → test (get_or xs k other) ≡ false) → take (b - a) (drop a xs) ≡ filter test xs
-between test [] zero zero h l below within above = refl
-between test [] (suc a) b h l below within above = absurd (omega arith)
-between test [] zero (suc b) h l below within above = absurd (omega arith)
-between test (x ∷ xs) (suc a) zero h l below within above = absurd (omega arith)
-between {X} test (x ∷ xs) (suc a) (suc b) h l below within above =
-    let less : suc b - suc a ≡ b - a = omega arith in
-    ap (λ n. take n (drop a xs)) less
-    ∙ (between test xs a b (omega arith) (omega arith) (λ k other m. below (suc k) other (omega arith)) (λ k other m n. within (suc k) other (omega arith) (omega arith)) (λ k other m n. above (suc k) other (omega arith) (omega arith))
-    ∙ sym (ap (λ t. cond t (x ∷ filter test xs) (filter test xs)) (below zero x (omega arith))))
-between test (x ∷ xs) zero (suc b) h l below within above =
-    let all : suc b - zero ≡ suc b = omega arith in
-    let less : b ≡ b - zero = omega arith in
-    ap (λ n. take n (x ∷ xs)) all
-    ∙ (ap (λ ys. x ∷ ys) (ap (λ n. take n xs) less ∙ between test xs zero b (omega arith) (omega arith) (λ k other m. absurd (omega arith)) (λ k other m n. within (suc k) other (omega arith) (omega arith)) (λ k other m n. above (suc k) other (omega arith) (omega arith)))
-    ∙ sym (ap (λ t. cond t (x ∷ filter test xs) (filter test xs)) (within zero x (omega arith) (omega arith))))
-between test (x ∷ xs) zero zero h l below within above =
-    let none : zero - zero ≡ zero = omega arith in
-    ap (λ n. take n (x ∷ xs)) none
-    ∙ (ap (λ n. take n xs) (sym none) ∙ (between test xs zero zero (omega arith) (omega arith) (λ k other m. absurd (omega arith)) (λ k other m n. absurd (omega arith)) (λ k other m n. above (suc k) other (omega arith) (omega arith))
-    ∙ sym (ap (λ t. cond t (x ∷ filter test xs) (filter test xs)) (above zero x (omega arith) (omega arith)))))
-
-module _ (xs : List (Command × Command)) (c : Command) (a b : ℕ) (low : a ≤ length xs) (high : b ≤ length xs)
-    (below : IsPartitionPoint (λ p. is_before p.0 c ≡ true) (λ p. is_before p.0 c ≡ false) xs a)
-    (above : IsPartitionPoint (λ p. not (is_before c p.0) ≡ true) (λ p. not (is_before c p.0) ≡ false) xs b) where
-  so_not : (t : Bool) → not t ≡ true → t ≡ false
-  so_not true h = sym h
-  so_not false h = refl
-
-  not_so : (t : Bool) → not t ≡ false → t ≡ true
-  not_so true h = refl
-  not_so false h = sym h
-
-  pub run_ends : a ≤ b
-  run_ends = go (below_or_not b a)
-    where
-      go : (b < a) ⊎ (a ≤ b) → a ≤ b
-      go (inr l) = l
-      go (inl l) =
-          let p = get_or xs b (c, c) in
-          let under : is_before p.0 c ≡ true = below.0 b (c, c) (omega arith) l in
-          let over : is_before c p.0 ≡ true = not_so (is_before c p.0) (above.1 b (c, c) (omega arith) (omega arith)) in
-          absurd (not_both_pairs (p.0, p.0) (c, c) (left p.0 c under) (left c p.0 over))
-        where
-          left : (e f : Command) → is_before e f ≡ true → is_pair_before (e, e) (f, f) ≡ true
-          left e f h = or_left (is_before e f) _ h
-
-  pub run_is : take (b - a) (drop a xs) ≡ filter (λ p. is_command p.0 c) xs
-  run_is = between (λ p. is_command p.0 c) xs a b run_ends high
-      (λ k other l. apart_before (get_or xs k other).0 c (below.0 k other (omega arith) l))
-      (λ k other l m. same_unless (get_or xs k other).0 c (below.1 k other l (omega arith)) (so_not _ (above.0 k other (omega arith) m)))
-      (λ k other l m. apart_after (get_or xs k other).0 c (not_so _ (above.1 k other l m)))

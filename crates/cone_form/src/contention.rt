@@ -5,8 +5,8 @@ ghost use Rattle.plan_clauses.specs.Variables.{pairs as contending};
 ghost use Rattle.cone_form.specs.Fits.{fits};
 
 use crate::pairs::SortedPairs;
+use contending::ContendingPairs;
 use interlocking::Interlocking;
-use rail_base::plan::Command;
 use rail_cone::Cone;
 
 /// An interlocking with all pairs of commands that contend: of different trains, by routes that share a section.
@@ -14,21 +14,14 @@ use rail_cone::Cone;
 pub struct Contention<'a> {
     pub interlocking: &'a Interlocking,
     /// The pairs in the order of their variables.
-    pub pairs: &'a [(Command, Command)],
+    pub pairs: &'a ContendingPairs,
     pub ghost ordered: { pairs.now ≡ contending interlocking.now.design.station interlocking.now.routes },
     pub ghost few: { length pairs.now ≤ 8000000 },
 }
 
 impl<'a> Contention<'a> {
-    /// The pairs, which stand in increasing order.
-    pub fn sorted(&self) -> SortedPairs<'a>
-        ensures { result.items.now ≡ self.now.pairs.now }
-    {
-        SortedPairs { items: self.pairs }
-    }
-
-    /// The pairs of a cone that speaks of the design, which stand in increasing order too.
-    pub fn listed<'b>(&self, cone: &'b Cone) -> SortedPairs<'b>
+    /// The pairs of a cone that speaks of the design, which stand in increasing order.
+    pub fn listed_pairs<'b>(&self, cone: &'b Cone) -> SortedPairs<'b>
         requires { fits self.now.interlocking.now cone.now ≡ true }
         ensures { result.items.now ≡ cone.now.pairs }
     {

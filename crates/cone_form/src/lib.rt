@@ -15,7 +15,7 @@ mod violations;
 mod walk;
 
 pub use crate::contention::Contention;
-pub use crate::lookup::{free_path, is_free, is_named, named, path};
+pub use crate::lookup::{entry_of, free_path, is_free, is_named, path};
 pub use crate::marks::{has_mark, marks_of};
 use crate::order::{pairs_in_order, trains_in_order};
 pub use crate::pairs::SortedPairs;
@@ -24,16 +24,6 @@ use crate::violations::violation_in_design;
 use interlocking::Interlocking;
 use rail_cone::Cone;
 use std::alloc::{AllocError, Global};
-
-/// Whether the cone's trains stand in order, what is said of each is possible, and its holders are commands of it.
-fn trains_fit(interlocking: &Interlocking, cone: &Cone) -> bool
-    ensures { result ≡ trains_fit interlocking.now cone.now }
-{
-    if !trains_in_order(cone.trains.as_slice()) {
-        return false;
-    }
-    trains_in_design(interlocking, cone) && holders_in_paths(cone)
-}
 
 /// Whether the cone speaks of the design: its trains and pairs stand in order, each path is one that a train can go,
 /// and pairs, holders and the violation name what there is.
@@ -54,4 +44,14 @@ pub fn is_in_design(alloc: Global, contention: &Contention, cone: &Cone) -> Resu
         return Ok(false);
     }
     pairs_in_design(alloc, contention, cone)
+}
+
+/// Whether the cone's trains stand in order, what is said of each is possible, and its holders are commands of it.
+fn trains_fit(interlocking: &Interlocking, cone: &Cone) -> bool
+    ensures { result ≡ trains_fit interlocking.now cone.now }
+{
+    if !trains_in_order(cone.trains.as_slice()) {
+        return false;
+    }
+    trains_in_design(interlocking, cone) && holders_in_paths(cone)
 }

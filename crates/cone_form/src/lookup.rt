@@ -10,7 +10,7 @@ use rail_base::station::TrainNo;
 use rail_cone::{Cone, ConeTrain};
 
 /// What the cone says of a train; None where it doesn't name it, so that its horizon is 0 and it has no command.
-pub fn named(cone: &Cone, train: TrainNo) -> Option<&ConeTrain>
+pub fn entry_of(cone: &Cone, train: TrainNo) -> Option<&ConeTrain>
     ensures entry { MatchOption result (named cone.now train ≡ unnamed train) (λ e. e.now ≡ named cone.now train) }
     ensures first { option_map (λ e. e.now) result ≡ find (λ e. is_train e.train train) cone.now.trains }
 {
@@ -26,7 +26,7 @@ pub fn named(cone: &Cone, train: TrainNo) -> Option<&ConeTrain>
 pub fn path(cone: &Cone, train: TrainNo) -> &[RouteNo]
     ensures { result.now ≡ (named cone.now train).path }
 {
-    match named(cone, train) {
+    match entry_of(cone, train) {
         Some(entry) => entry.path.as_slice(),
         None => &[],
     }
@@ -36,24 +36,10 @@ pub fn path(cone: &Cone, train: TrainNo) -> &[RouteNo]
 pub fn free_path(cone: &Cone, train: TrainNo) -> &[RouteNo]
     ensures { result.now ≡ free_path cone.now train }
 {
-    match named(cone, train) {
+    match entry_of(cone, train) {
         Some(entry) => prefix(entry.path.as_slice(), entry.free as usize),
         None => &[],
     }
-}
-
-/// The first routes of a path, so many or all.
-fn prefix(path: &[RouteNo], many: usize) -> &[RouteNo]
-    ensures { result.now ≡ take many path.now }
-{
-    &path[..many.min(path.len())]
-}
-
-/// Whether a route is one of these.
-fn has_route(routes: &[RouteNo], route: RouteNo) -> bool
-    ensures { result ≡ has_route routes.now route }
-{
-    routes.iter().any(|other| other.0 == route.0)
 }
 
 /// Whether the command is of the cone, free or waiting.
@@ -75,4 +61,18 @@ pub(crate) fn is_command(one: Command, other: Command) -> bool
     ensures { result ≡ is_command one other }
 {
     one == other
+}
+
+/// The first routes of a path, so many or all.
+fn prefix(path: &[RouteNo], many: usize) -> &[RouteNo]
+    ensures { result.now ≡ take many path.now }
+{
+    &path[..many.min(path.len())]
+}
+
+/// Whether a route is one of these.
+fn has_route(routes: &[RouteNo], route: RouteNo) -> bool
+    ensures { result ≡ has_route routes.now route }
+{
+    routes.iter().any(|other| other.0 == route.0)
 }

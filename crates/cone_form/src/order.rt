@@ -20,6 +20,18 @@ pub fn trains_in_order(entries: &[ConeTrain]) -> bool
     true
 }
 
+/// Whether the pairs stand in increasing order.
+pub fn pairs_in_order(pairs: &[(Command, Command)]) -> bool
+    ensures { result ≡ all_neighbors is_pair_before pairs.now }
+{
+    for index in 1..pairs.len() {
+        if !is_pair_before(pairs[index - 1], pairs[index]) {
+            return false;
+        }
+    }
+    true
+}
+
 /// Whether a command is less than another: by train, and then by route.
 pub(crate) fn is_before(first: Command, second: Command) -> bool
     ensures { result ≡ is_before first second }
@@ -33,16 +45,4 @@ pub(crate) fn is_pair_before(first: (Command, Command), second: (Command, Comman
     ensures { result ≡ is_pair_before first second }
 {
     is_before(first.0, second.0) || is_command(first.0, second.0) && is_before(first.1, second.1)
-}
-
-/// Whether the pairs stand in increasing order.
-pub fn pairs_in_order(pairs: &[(Command, Command)]) -> bool
-    ensures { result ≡ all_neighbors is_pair_before pairs.now }
-{
-    for index in 1..pairs.len() {
-        if !is_pair_before(pairs[index - 1], pairs[index]) {
-            return false;
-        }
-    }
-    true
 }

@@ -1,25 +1,15 @@
 //! Pairs of commands that stand in increasing order, found by halves.
 
-ghost use Rattle.std.specs.Prelude.{◌≡◌, ◌≤◌, ◌-◌, ℕ, Some, drop, filter, length, slice_get, take};
+ghost use Rattle.std.specs.Prelude.{◌≡◌, ◌≤◌, ℕ, Some, length, slice_get};
 ghost use Rattle.std.specs.List.{list_any};
-ghost use Rattle.rail_spec.specs.Plans.{is_command};
 ghost use Rattle.rail_cone.specs.Cones.{is_pair};
 
 use crate::lookup::is_command;
-use crate::order::{is_before, is_pair_before};
+use crate::order::is_pair_before;
 use crate::pairs::SortedPairs;
 use rail_base::plan::Command;
 
-/// The pairs from a place up to another.
-fn part(pairs: &[(Command, Command)], start: usize, end: usize) -> &[(Command, Command)]
-    requires order { start ≤ end }
-    requires bound { end ≤ length pairs.now }
-    ensures { result.now ≡ take (end - start) (drop start pairs.now) }
-{
-    &pairs[start..end]
-}
-
-impl<'a> SortedPairs<'a> {
+impl SortedPairs<'_> {
     /// The index of a pair, where it is one of them.
     pub fn place_of(&self, pair: (Command, Command)) -> usize
         ensures bound { result ≤ length self.now.items.now }
@@ -39,18 +29,5 @@ impl<'a> SortedPairs<'a> {
         }
         let pair = self.items[place];
         is_command(pair.0, first) && is_command(pair.1, second)
-    }
-
-    /// The pairs with this first command, which stand together.
-    pub fn pairs_from(&self, command: Command) -> &'a [(Command, Command)]
-        ensures { result.now ≡ filter (λ p. is_command p.0 command) self.now.items.now }
-    {
-        let start = self
-            .items
-            .partition_point(|pair| is_before(pair.0, command));
-        let end = self
-            .items
-            .partition_point(|pair| !is_before(command, pair.0));
-        part(self.items, start, end)
     }
 }

@@ -14,13 +14,53 @@ ghost use Rattle.cone_form.specs.Marks.{marked_pair};
 use crate::contention::Contention;
 use crate::lookup::is_named;
 use crate::marks::{is_marked, rows_of};
-use crate::pairs::SortedPairs;
 use crate::walk::is_walk;
+use contending::ContendingPairs;
 use interlocking::Interlocking;
 use rail_base::plan::Command;
 use rail_base::route::{RouteNo, RouteTable};
 use rail_cone::{Cone, ConeTrain};
 use std::alloc::{AllocError, Global};
+
+/// Whether what is said of each train is possible.
+pub fn trains_in_design(interlocking: &Interlocking, cone: &Cone) -> bool
+    ensures { result ≡ each_train_fits interlocking.now cone.now }
+{
+    for entry in cone.trains.as_slice() {
+        if !train_in_design(interlocking, entry) {
+            return false;
+        }
+    }
+    true
+}
+
+/// Whether each holder is a command of the cone.
+pub fn holders_in_paths(cone: &Cone) -> bool
+    ensures { (i : Interlocking) → result ≡ each_holder_fits i cone.now }
+{
+    for entry in cone.trains.as_slice() {
+        if !holder_in_path(cone, entry.holder) {
+            return false;
+        }
+    }
+    true
+}
+
+/// Whether each pair is of two commands of the cone that contend.
+pub fn pairs_in_design(
+    alloc: Global,
+    contention: &Contention,
+    cone: &Cone,
+) -> Result<bool, AllocError>
+    requires { each_train_fits contention.now.interlocking.now cone.now ≡ true }
+    ensures { IfOk result (λ b. b ≡ each_pair_fits contention.now.interlocking.now cone.now) }
+{
+    if cone.pairs.is_empty() {
+        return Ok(true);
+    }
+    let rows = rows_of(alloc, contention.interlocking, cone)?;
+    Ok(are_pairs(rows.as_slice(), contention.pairs, cone.pairs.as_slice()))
+}
 
 /// Whether a number is one of `many`, counted from 1.
 pub(crate) fn is_one_of(number: u32, many: usize) -> bool
@@ -55,18 +95,6 @@ fn train_in_design(interlocking: &Interlocking, entry: &ConeTrain) -> bool
     entry.free as usize <= entry.path.len() && is_walk(&interlocking.routes, entry.path.as_slice())
 }
 
-/// Whether what is said of each train is possible.
-pub fn trains_in_design(interlocking: &Interlocking, cone: &Cone) -> bool
-    ensures { result ≡ each_train_fits interlocking.now cone.now }
-{
-    for entry in cone.trains.as_slice() {
-        if !train_in_design(interlocking, entry) {
-            return false;
-        }
-    }
-    true
-}
-
 /// Whether a holder, if there is one, is a command of the cone.
 fn holder_in_path(cone: &Cone, holder: Option<Command>) -> bool
     ensures { (d : Station) (routes : List Route) → result ≡ holder_in_path d routes cone.now holder }
@@ -77,44 +105,16 @@ fn holder_in_path(cone: &Cone, holder: Option<Command>) -> bool
     }
 }
 
-/// Whether each holder is a command of the cone.
-pub fn holders_in_paths(cone: &Cone) -> bool
-    ensures { (i : Interlocking) → result ≡ each_holder_fits i cone.now }
-{
-    for entry in cone.trains.as_slice() {
-        if !holder_in_path(cone, entry.holder) {
-            return false;
-        }
-    }
-    true
-}
-
 /// Whether two commands are marked and are one of the contending pairs.
-fn is_pair(rows: &[Vec<bool>], pairs: &SortedPairs, pair: (Command, Command)) -> bool
-    ensures { result ≡ marked_pair (map (λ row. row.items) rows.now) pairs.now.items.now pair }
+fn is_pair(rows: &[Vec<bool>], pairs: &ContendingPairs, pair: (Command, Command)) -> bool
+    ensures { result ≡ marked_pair (map (λ row. row.items) rows.now) pairs.now pair }
 {
     is_marked(rows, pair.0) && is_marked(rows, pair.1) && pairs.is_among(pair.0, pair.1)
 }
 
 /// Whether each of these pairs is.
-fn are_pairs(rows: &[Vec<bool>], pairs: &SortedPairs, listed: &[(Command, Command)]) -> bool
-    ensures { result ≡ list_all (marked_pair (map (λ row. row.items) rows.now) pairs.now.items.now) listed.now }
+fn are_pairs(rows: &[Vec<bool>], pairs: &ContendingPairs, listed: &[(Command, Command)]) -> bool
+    ensures { result ≡ list_all (marked_pair (map (λ row. row.items) rows.now) pairs.now) listed.now }
 {
     listed.iter().all(|pair| is_pair(rows, pairs, *pair))
-}
-
-/// Whether each pair is of two commands of the cone that contend.
-pub fn pairs_in_design(
-    alloc: Global,
-    contention: &Contention,
-    cone: &Cone,
-) -> Result<bool, AllocError>
-    requires { each_train_fits contention.now.interlocking.now cone.now ≡ true }
-    ensures { IfOk result (λ b. b ≡ each_pair_fits contention.now.interlocking.now cone.now) }
-{
-    if cone.pairs.is_empty() {
-        return Ok(true);
-    }
-    let rows = rows_of(alloc, contention.interlocking, cone)?;
-    Ok(are_pairs(rows.as_slice(), &contention.sorted(), cone.pairs.as_slice()))
 }

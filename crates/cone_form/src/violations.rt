@@ -16,6 +16,22 @@ use rail_base::plan::Violation;
 use rail_base::station::TrainNo;
 use rail_cone::{Cone, ConeTrain};
 
+/// Whether the violation names what there is.
+pub fn violation_in_design(interlocking: &Interlocking, cone: &Cone) -> bool
+    ensures { result ≡ violation_fits interlocking.now cone.now }
+{
+    let station = &interlocking.design.station;
+    match cone.violation {
+        Violation::Path { train, visit } => { path_in_design(interlocking, cone, train, visit) }
+        Violation::Within { within } => is_one_of(within, station.withins.len()),
+        Violation::Order { order } => is_one_of(order, station.orders.len()),
+        Violation::Grant { train, command } => {
+            is_one_of(train.0, station.trains.len()) && is_one_of(command, path(cone, train).len())
+        }
+        Violation::Visit { train, visit } => is_visit(&interlocking.design, train, visit),
+    }
+}
+
 /// Whether the train has a visit of this number.
 fn is_visit(design: &Design, train: TrainNo, visit: u32) -> bool
     ensures { result ≡ is_visit design.now.station train visit }
@@ -47,20 +63,4 @@ fn path_in_design(interlocking: &Interlocking, cone: &Cone, train: TrainNo, visi
         return false;
     }
     only_path(train, cone.trains.as_slice()) && cone.pairs.is_empty()
-}
-
-/// Whether the violation names what there is.
-pub fn violation_in_design(interlocking: &Interlocking, cone: &Cone) -> bool
-    ensures { result ≡ violation_fits interlocking.now cone.now }
-{
-    let station = &interlocking.design.station;
-    match cone.violation {
-        Violation::Path { train, visit } => { path_in_design(interlocking, cone, train, visit) }
-        Violation::Within { within } => is_one_of(within, station.withins.len()),
-        Violation::Order { order } => is_one_of(order, station.orders.len()),
-        Violation::Grant { train, command } => {
-            is_one_of(train.0, station.trains.len()) && is_one_of(command, path(cone, train).len())
-        }
-        Violation::Visit { train, visit } => is_visit(&interlocking.design, train, visit),
-    }
 }

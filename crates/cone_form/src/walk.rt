@@ -10,6 +10,14 @@ ghost use Rattle.rail_cone.specs.Validity.{from_boundary, is_walk};
 use interlocking::goes_on;
 use rail_base::route::{Route, RouteNo, RouteTable, Start, route_at};
 
+/// Whether the routes stand in a row, from a boundary, and use no start twice.
+pub fn is_walk(routes: &RouteTable, path: &[RouteNo]) -> bool
+    requires { All (IsRoute routes.now) path.now }
+    ensures { result ≡ is_walk (map (route_at routes.now) path.now) }
+{
+    is_from_boundary(routes, path) && is_connected(routes, path) && starts_differ(routes, path)
+}
+
 /// Whether the first route starts at a boundary.
 fn is_from_boundary(routes: &RouteTable, path: &[RouteNo]) -> bool
     requires { All (IsRoute routes.now) path.now }
@@ -61,12 +69,4 @@ fn starts_differ(routes: &RouteTable, path: &[RouteNo]) -> bool
         }
     }
     true
-}
-
-/// Whether the routes stand in a row, from a boundary, and use no start twice.
-pub fn is_walk(routes: &RouteTable, path: &[RouteNo]) -> bool
-    requires { All (IsRoute routes.now) path.now }
-    ensures { result ≡ is_walk (map (route_at routes.now) path.now) }
-{
-    is_from_boundary(routes, path) && is_connected(routes, path) && starts_differ(routes, path)
 }

@@ -104,22 +104,20 @@ module _ (d : Station) (routes : List Route) (k : Cone) (known : in_design d rou
           let turned = in_filter (λ p. is_command p.0 c) (pairs d routes) (c, e) (mirrored d routes e c there) (is_command_self c) in
           in_filter (λ e. is_listed k e c) rivals e (in_map (λ p. p.1) (filter (λ p. is_command p.0 c) (pairs d routes)) (c, e) turned) l
 
--- one more pair of the run, whose second command is listed or is not
-module _ {W : Type 0} (wait : Command → W) (listed : Command → Bool) (run : List (Command × Command)) (i : ℕ) (other : Command × Command) (inside : i < length run) where
-  pub listed_next : (now new all : List W) → listed (get_or run i other).1 ≡ true → new ≡ now ++ wait (get_or run i other).1 ∷ [] → now ++ map wait (filter listed (map (λ p. p.1) (drop i run))) ≡ all → new ++ map wait (filter listed (map (λ p. p.1) (drop (i + 1) run))) ≡ all
+-- one more of the commands that contend with it, which is listed or is not
+module _ {W : Type 0} (wait : Command → W) (listed : Command → Bool) (run : List Command) (i : ℕ) (other : Command) (inside : i < length run) where
+  pub listed_next : (now new all : List W) → listed (get_or run i other) ≡ true → new ≡ now ++ wait (get_or run i other) ∷ [] → now ++ map wait (filter listed (drop i run)) ≡ all → new ++ map wait (filter listed (drop (i + 1) run)) ≡ all
   listed_next now new all t e h =
-      let e' : Command = (get_or run i other).1 in
-      let later : List Command = map (λ p. p.1) (drop (i + 1) run) in
-      let prefix : map (λ p. p.1) (drop i run) ≡ e' ∷ later = ap (map (λ p. p.1)) (drop_next run i other inside) in
+      let e' : Command = get_or run i other in
+      let later : List Command = drop (i + 1) run in
       ap (λ ws. ws ++ map wait (filter listed later)) e
       ∙ (append_assoc now (wait e' ∷ []) (map wait (filter listed later))
       ∙ (ap (λ b. now ++ map wait (cond b (e' ∷ filter listed later) (filter listed later))) (sym t)
-      ∙ (ap (λ es. now ++ map wait (filter listed es)) (sym prefix) ∙ h)))
+      ∙ (ap (λ es. now ++ map wait (filter listed es)) (sym (drop_next run i other inside)) ∙ h)))
 
-  pub unlisted_next : (now all : List W) → listed (get_or run i other).1 ≡ false → now ++ map wait (filter listed (map (λ p. p.1) (drop i run))) ≡ all → now ++ map wait (filter listed (map (λ p. p.1) (drop (i + 1) run))) ≡ all
+  pub unlisted_next : (now all : List W) → listed (get_or run i other) ≡ false → now ++ map wait (filter listed (drop i run)) ≡ all → now ++ map wait (filter listed (drop (i + 1) run)) ≡ all
   unlisted_next now all t h =
-      let e' : Command = (get_or run i other).1 in
-      let later : List Command = map (λ p. p.1) (drop (i + 1) run) in
-      let prefix : map (λ p. p.1) (drop i run) ≡ e' ∷ later = ap (map (λ p. p.1)) (drop_next run i other inside) in
+      let e' : Command = get_or run i other in
+      let later : List Command = drop (i + 1) run in
       ap (λ b. now ++ map wait (cond b (e' ∷ filter listed later) (filter listed later))) (sym t)
-      ∙ (ap (λ es. now ++ map wait (filter listed es)) (sym prefix) ∙ h)
+      ∙ (ap (λ es. now ++ map wait (filter listed es)) (sym (drop_next run i other inside)) ∙ h)

@@ -42,6 +42,25 @@ pub(crate) fn grant_tick(history: &[TrainHistory], train: TrainNo, command: u32)
     grant.1
 }
 
+/// Whether a command has released by a tick all sections that its route shares with another.
+pub(crate) fn all_released(
+    history: &[TrainHistory],
+    command: Command,
+    tick: u64,
+    route: &Route,
+    other: &Route,
+) -> bool
+    ensures { result ≡ released_by history.now command tick (shared route.now other.now) }
+{
+    route
+        .sections
+        .as_slice()
+        .iter()
+        .map(|part| part.0)
+        .filter(|section| other.has_section(*section))
+        .all(|section| is_by(release_tick(history, command, section), tick))
+}
+
 /// The tick of the first release of a section of a route.
 fn first_release(
     releases: &[(RouteNo, SectionNo, Option<u64>)],
@@ -64,23 +83,4 @@ fn release_tick(history: &[TrainHistory], command: Command, section: SectionNo) 
 {
     let train = history.get((command.train.0 as usize).checked_sub(1)?)?;
     first_release(train.releases.as_slice(), command.route, section)
-}
-
-/// Whether a command has released by a tick all sections that its route shares with another.
-pub(crate) fn all_released(
-    history: &[TrainHistory],
-    command: Command,
-    tick: u64,
-    route: &Route,
-    other: &Route,
-) -> bool
-    ensures { result ≡ released_by history.now command tick (shared route.now other.now) }
-{
-    route
-        .sections
-        .as_slice()
-        .iter()
-        .map(|part| part.0)
-        .filter(|section| other.has_section(*section))
-        .all(|section| is_by(release_tick(history, command, section), tick))
 }

@@ -12,6 +12,37 @@ use rail_cone::{Cone, ConeFault};
 use rail_course::{Itineraries, TrainPaths};
 use std::alloc::{AllocError, Global};
 
+/// The first of the reasons for which a cone shows nothing, or None where it is valid.
+pub fn fault_of<'a>(
+    alloc: Global,
+    contention: &Contention<'a>,
+    cone: &'a Cone,
+) -> Result<Option<ConeFault>, AllocError>
+    ensures value { IfOk result (λ f. f ≡ first_reason contention.now.interlocking.now cone.now) }
+{
+    let fits = is_in_design(alloc, contention, cone)?;
+    if !fits {
+        return Ok(Some(ConeFault::PathNotInDesign));
+    }
+    let interlocking = contention.interlocking;
+    let paths = free_paths(alloc, interlocking, cone)?;
+    let given = Itineraries {
+        interlocking,
+        paths: paths.as_slice(),
+    };
+    let train_paths = given.train_paths(alloc)?;
+    let train_paths = TrainPaths {
+        given,
+        train_paths: train_paths.as_slice(),
+    };
+    let layout = ConeLayout {
+        contention: *contention,
+        cone,
+        train_paths,
+    };
+    layout.fault(alloc)
+}
+
 impl ConeRun<'_> {
     /// The first reason against a cone that speaks of the design.
     fn fault(&self, alloc: Global) -> Result<Option<ConeFault>, AllocError>
@@ -42,35 +73,4 @@ impl ConeLayout<'_> {
         };
         run.fault(alloc)
     }
-}
-
-/// The first of the reasons for which a cone shows nothing, or None where it is valid.
-pub fn fault_of<'a>(
-    alloc: Global,
-    contention: &Contention<'a>,
-    cone: &'a Cone,
-) -> Result<Option<ConeFault>, AllocError>
-    ensures value { IfOk result (λ f. f ≡ first_reason contention.now.interlocking.now cone.now) }
-{
-    let fits = is_in_design(alloc, contention, cone)?;
-    if !fits {
-        return Ok(Some(ConeFault::PathNotInDesign));
-    }
-    let interlocking = contention.interlocking;
-    let paths = free_paths(alloc, interlocking, cone)?;
-    let given = Itineraries {
-        interlocking,
-        paths: paths.as_slice(),
-    };
-    let train_paths = given.train_paths(alloc)?;
-    let train_paths = TrainPaths {
-        given,
-        train_paths: train_paths.as_slice(),
-    };
-    let layout = ConeLayout {
-        contention: *contention,
-        cone,
-        train_paths,
-    };
-    layout.fault(alloc)
 }

@@ -15,6 +15,57 @@ use rail_base::plan::Command;
 use rail_base::route::{RouteNo, route_at};
 use rail_cone::ConeTrain;
 
+impl ConeRun<'_> {
+    /// Whether all free commands are granted.
+    pub(crate) fn all_granted(&self) -> bool
+        ensures { result ≡ all_granted self.now.layout }
+    {
+        for entry in self.layout.cone.trains.as_slice() {
+            let train = TrainRun {
+                run: *self,
+                said: entry,
+            };
+            if !train.free_granted() {
+                return false;
+            }
+        }
+        true
+    }
+
+    /// Whether each train has a holder where it needs one, which holds it up, and has none where it needs none.
+    pub(crate) fn all_holders_fit(&self) -> bool
+        ensures { result ≡ all_holders_fit self.now.layout }
+    {
+        for entry in self.layout.cone.trains.as_slice() {
+            let train = TrainRun {
+                run: *self,
+                said: entry,
+            };
+            if !train.holder_fits() {
+                return false;
+            }
+        }
+        true
+    }
+
+    /// Whether a command has released by a tick all sections that it shares with one that waits for it.
+    fn has_cleared(&self, tick: u64, first: Command, second: Command) -> bool
+        requires tick { tick ≤ last_tick self.now.layout.cone.now }
+        requires second { IsRoute (routes_in self.now.layout) second.route }
+        requires listed { is_listed self.now.layout.cone.now first second ≡ true }
+        ensures { result ≡ has_cleared self.now.layout tick second first }
+    {
+        let routes = &self.layout.contention.interlocking.routes;
+        all_released(
+            self.history,
+            first,
+            tick,
+            route_at(routes, first.route),
+            route_at(routes, second.route),
+        )
+    }
+}
+
 /// Whether all commands of a train are free.
 fn all_free(entry: &ConeTrain) -> bool
     ensures { result ≡ all_free entry.now }
@@ -73,7 +124,7 @@ impl TrainRun<'_> {
             train: self.said.train,
             route,
         };
-        let listed = layout.contention.listed(layout.cone);
+        let listed = layout.contention.listed_pairs(layout.cone);
         if !listed.is_among(holder, waiting) {
             return false;
         }
@@ -99,56 +150,5 @@ impl TrainRun<'_> {
                 self.holds_up(holder, path[self.said.free as usize])
             }
         }
-    }
-}
-
-impl ConeRun<'_> {
-    /// Whether a command has released by a tick all sections that it shares with one that waits for it.
-    fn has_cleared(&self, tick: u64, first: Command, second: Command) -> bool
-        requires tick { tick ≤ last_tick self.now.layout.cone.now }
-        requires second { IsRoute (routes_in self.now.layout) second.route }
-        requires listed { is_listed self.now.layout.cone.now first second ≡ true }
-        ensures { result ≡ has_cleared self.now.layout tick second first }
-    {
-        let routes = &self.layout.contention.interlocking.routes;
-        all_released(
-            self.history,
-            first,
-            tick,
-            route_at(routes, first.route),
-            route_at(routes, second.route),
-        )
-    }
-
-    /// Whether all free commands are granted.
-    pub(crate) fn all_granted(&self) -> bool
-        ensures { result ≡ all_granted self.now.layout }
-    {
-        for entry in self.layout.cone.trains.as_slice() {
-            let train = TrainRun {
-                run: *self,
-                said: entry,
-            };
-            if !train.free_granted() {
-                return false;
-            }
-        }
-        true
-    }
-
-    /// Whether each train has a holder where it needs one, which holds it up, and has none where it needs none.
-    pub(crate) fn all_holders_fit(&self) -> bool
-        ensures { result ≡ all_holders_fit self.now.layout }
-    {
-        for entry in self.layout.cone.trains.as_slice() {
-            let train = TrainRun {
-                run: *self,
-                said: entry,
-            };
-            if !train.holder_fits() {
-                return false;
-            }
-        }
-        true
     }
 }

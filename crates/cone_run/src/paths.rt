@@ -13,14 +13,6 @@ use rail_base::station::TrainNo;
 use rail_cone::Cone;
 use std::alloc::{AllocError, Global};
 
-/// The path that a cone's free commands give a train.
-fn free_path_of(alloc: Global, cone: &Cone, train: TrainNo) -> Result<List<RouteNo>, AllocError>
-    ensures { IfOk result (λ path. path ≡ free_path cone.now train) }
-{
-    let path = free_path(cone, train).to_vec(alloc)?;
-    Ok(List::from_vec(path))
-}
-
 /// The paths that a cone's free commands give all trains, in file order.
 pub(crate) fn free_paths(
     alloc: Global,
@@ -37,4 +29,12 @@ pub(crate) fn free_paths(
         paths.push(path)?;
     }
     Ok(paths)
+}
+
+/// The path that a cone's free commands give a train.
+fn free_path_of(alloc: Global, cone: &Cone, train: TrainNo) -> Result<List<RouteNo>, AllocError>
+    ensures { IfOk result (λ path. path ≡ free_path cone.now train) }
+{
+    let path = free_path(cone, train).to_vec(alloc)?;
+    Ok(List::from_vec(path))
 }

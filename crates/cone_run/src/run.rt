@@ -19,52 +19,6 @@ use rail_cone::Cone;
 use rail_course::{Itineraries, TrainPaths};
 use std::alloc::{AllocError, Global};
 
-/// The last tick of a cone's run: the greatest of its horizons.
-fn last_tick(cone: &Cone) -> u64
-    ensures { result ≡ last_tick cone.now }
-{
-    cone.trains
-        .as_slice()
-        .iter()
-        .map(|train| train.horizon)
-        .fold(0, |most, horizon| most.max(horizon))
-}
-
-impl ConeLayout<'_> {
-    /// What happens to each train in the run of the cone.
-    pub(crate) fn history(&self, alloc: Global) -> Result<Vec<TrainHistory>, AllocError>
-        ensures { IfOk result (λ h. h.items ≡ history_in self.now) }
-    {
-        let interlocking = self.contention.interlocking;
-        let journeys = self.journeys(alloc)?;
-        let followers = self.followers(alloc, journeys.as_slice())?;
-        let traffic = Traffic {
-            interlocking,
-            followers: followers.as_slice(),
-        };
-        history_of(&traffic, self.cone, alloc, last_tick(self.cone))
-    }
-}
-
-/// What happens to each train in the run of a cone up to a tick.
-fn history_of(
-    traffic: &Traffic,
-    cone: &Cone,
-    alloc: Global,
-    last: u64,
-) -> Result<Vec<TrainHistory>, AllocError>
-    ghost dispatch: { Dispatch }
-    requires traffic { IsTraffic dispatch traffic.now }
-    requires same { dispatch ≡ of_cone cone.now }
-    requires early { last ≤ 86400 }
-    ensures { IfOk result (λ h. h.items
-        ≡ history_at traffic.now.interlocking.now.design.station traffic.now.interlocking.now.routes
-        (of_cone cone.now) last) }
-{
-    let progress = traffic.run(alloc, last)?;
-    Ok(progress.histories)
-}
-
 /// What happens to each train in the run of a cone, up to the greatest horizon.
 pub fn cone_history<'a>(
     alloc: Global,
@@ -91,4 +45,50 @@ pub fn cone_history<'a>(
         train_paths,
     };
     Ok(List::from_vec(layout.history(alloc)?))
+}
+
+impl ConeLayout<'_> {
+    /// What happens to each train in the run of the cone.
+    pub(crate) fn history(&self, alloc: Global) -> Result<Vec<TrainHistory>, AllocError>
+        ensures { IfOk result (λ h. h.items ≡ history_in self.now) }
+    {
+        let interlocking = self.contention.interlocking;
+        let journeys = self.journeys(alloc)?;
+        let followers = self.followers(alloc, journeys.as_slice())?;
+        let traffic = Traffic {
+            interlocking,
+            followers: followers.as_slice(),
+        };
+        history_of(&traffic, self.cone, alloc, last_tick(self.cone))
+    }
+}
+
+/// The last tick of a cone's run: the greatest of its horizons.
+fn last_tick(cone: &Cone) -> u64
+    ensures { result ≡ last_tick cone.now }
+{
+    cone.trains
+        .as_slice()
+        .iter()
+        .map(|train| train.horizon)
+        .fold(0, |most, horizon| most.max(horizon))
+}
+
+/// What happens to each train in the run of a cone up to a tick.
+fn history_of(
+    traffic: &Traffic,
+    cone: &Cone,
+    alloc: Global,
+    last: u64,
+) -> Result<Vec<TrainHistory>, AllocError>
+    ghost dispatch: { Dispatch }
+    requires traffic { IsTraffic dispatch traffic.now }
+    requires same { dispatch ≡ of_cone cone.now }
+    requires early { last ≤ 86400 }
+    ensures { IfOk result (λ h. h.items
+        ≡ history_at traffic.now.interlocking.now.design.station traffic.now.interlocking.now.routes
+        (of_cone cone.now) last) }
+{
+    let progress = traffic.run(alloc, last)?;
+    Ok(progress.histories)
 }

@@ -15,6 +15,24 @@ use rail_course::{path_nodes_of, visits_of};
 use std::alloc::{AllocError, Global};
 
 impl ConeRun<'_> {
+    /// Whether the violation is certain.
+    pub(crate) fn is_shown(&self, alloc: Global) -> Result<bool, AllocError>
+        ensures { IfOk result (λ b. b ≡ shown self.now.layout self.now.layout.cone.now.violation) }
+    {
+        let station = &self.layout.contention.interlocking.design.station;
+        match self.layout.cone.violation {
+            Violation::Path { train, visit } => self.path_shown(alloc, train, visit),
+            Violation::Within { within } => {
+                Ok(self.within_shown(&station.withins.as_slice()[within as usize - 1]))
+            }
+            Violation::Order { order } => {
+                Ok(self.order_shown(&station.orders.as_slice()[order as usize - 1]))
+            }
+            Violation::Grant { train, command } => Ok(self.grant_shown(train, command)),
+            Violation::Visit { train, visit } => Ok(self.visit_shown(train, visit)),
+        }
+    }
+
     /// Whether a train's path misses a visit.
     fn path_shown(&self, alloc: Global, train: TrainNo, visit: u32) -> Result<bool, AllocError>
         requires { IsTrain (station_of self.now.layout) train }
@@ -105,23 +123,5 @@ impl ConeRun<'_> {
             return false;
         }
         self.visit_tick(last, train, visit).is_none()
-    }
-
-    /// Whether the violation is certain.
-    pub(crate) fn is_shown(&self, alloc: Global) -> Result<bool, AllocError>
-        ensures { IfOk result (λ b. b ≡ shown self.now.layout self.now.layout.cone.now.violation) }
-    {
-        let station = &self.layout.contention.interlocking.design.station;
-        match self.layout.cone.violation {
-            Violation::Path { train, visit } => self.path_shown(alloc, train, visit),
-            Violation::Within { within } => {
-                Ok(self.within_shown(&station.withins.as_slice()[within as usize - 1]))
-            }
-            Violation::Order { order } => {
-                Ok(self.order_shown(&station.orders.as_slice()[order as usize - 1]))
-            }
-            Violation::Grant { train, command } => Ok(self.grant_shown(train, command)),
-            Violation::Visit { train, visit } => Ok(self.visit_shown(train, visit)),
-        }
     }
 }

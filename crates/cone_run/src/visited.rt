@@ -16,39 +16,6 @@ use rail_cone::Cone;
 use rail_course::{Itineraries, TrainPaths};
 use std::alloc::{AllocError, Global};
 
-impl ConeRun<'_> {
-    /// The tick, up to the train's horizon, of a visit, where the cone's commands are granted or held up as it says.
-    fn visit_made(&self, train: TrainNo, visit: u32) -> Option<u64>
-        requires train { IsTrain (station_of self.now.layout) train }
-        ensures { result ≡ shown_visit self.now.layout train visit }
-    {
-        if !self.all_granted() || !self.all_holders_fit() {
-            return None;
-        }
-        self.visit_tick(horizon_of(self.layout.cone, train), train, visit)
-    }
-}
-
-impl ConeLayout<'_> {
-    /// The tick, up to the train's horizon, of a visit, where the cone's commands are granted or held up as it says.
-    fn visit_made(
-        &self,
-        alloc: Global,
-        train: TrainNo,
-        visit: u32,
-    ) -> Result<Option<u64>, AllocError>
-        requires train { IsTrain (station_of self.now) train }
-        ensures { IfOk result (λ tick. tick ≡ shown_visit self.now train visit) }
-    {
-        let history = self.history(alloc)?;
-        let run = ConeRun {
-            layout: *self,
-            history: history.as_slice(),
-        };
-        Ok(run.visit_made(train, visit))
-    }
-}
-
 /// The tick at which a train makes a visit in the run of a cone, up to the train's horizon. None where it is not made,
 /// or where some free command is not granted or some holder is not valid.
 ///
@@ -83,4 +50,37 @@ pub fn visit_shown<'a>(
         train_paths,
     };
     layout.visit_made(alloc, train, visit)
+}
+
+impl ConeRun<'_> {
+    /// The tick, up to the train's horizon, of a visit, where the cone's commands are granted or held up as it says.
+    fn visit_made(&self, train: TrainNo, visit: u32) -> Option<u64>
+        requires train { IsTrain (station_of self.now.layout) train }
+        ensures { result ≡ shown_visit self.now.layout train visit }
+    {
+        if !self.all_granted() || !self.all_holders_fit() {
+            return None;
+        }
+        self.visit_tick(horizon_of(self.layout.cone, train), train, visit)
+    }
+}
+
+impl ConeLayout<'_> {
+    /// The tick, up to the train's horizon, of a visit, where the cone's commands are granted or held up as it says.
+    fn visit_made(
+        &self,
+        alloc: Global,
+        train: TrainNo,
+        visit: u32,
+    ) -> Result<Option<u64>, AllocError>
+        requires train { IsTrain (station_of self.now) train }
+        ensures { IfOk result (λ tick. tick ≡ shown_visit self.now train visit) }
+    {
+        let history = self.history(alloc)?;
+        let run = ConeRun {
+            layout: *self,
+            history: history.as_slice(),
+        };
+        Ok(run.visit_made(train, visit))
+    }
 }

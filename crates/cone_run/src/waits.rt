@@ -39,39 +39,6 @@ pub(crate) fn free_of(cone: &Cone, train: TrainNo) -> u32
 }
 
 impl<'a> ConeLayout<'a> {
-    /// The waits of a command for those that are listed before it. They are among those that contend with it.
-    fn waits_of(&self, alloc: Global, command: Command) -> Result<Vec<Wait>, AllocError>
-        requires { IsRoute self.now.train_paths.given.interlocking.now.routes command.route }
-        ensures { IfOk result (λ w. w.items ≡ waits_in self.now command) }
-    {
-        let pairs = self.contention.sorted();
-        let listed = self.contention.listed(self.cone);
-        let mut waits = Vec::new(alloc);
-        for (_, other) in pairs.pairs_from(command) {
-            if listed.is_among(*other, command) {
-                waits.push(self.train_paths.wait_for(command, *other))?;
-            }
-        }
-        Ok(waits)
-    }
-
-    /// The waits of each free command of a train.
-    fn waits_of_train(&self, alloc: Global, train: TrainNo) -> Result<Vec<Vec<Wait>>, AllocError>
-        requires { IsTrain self.now.train_paths.given.interlocking.now.design.station train }
-        ensures { IfOk result (λ w. map (λ v. v.items) w.items ≡ train_waits_in self.now train) }
-    {
-        let mut waits = Vec::new(alloc);
-        let train_path = self.train_paths.train_path(train);
-        for route in &train_path.path {
-            let command = Command {
-                train,
-                route: *route,
-            };
-            waits.push(self.waits_of(alloc, command)?)?;
-        }
-        Ok(waits)
-    }
-
     /// The journeys of all trains, in file order.
     pub(crate) fn journeys(&self, alloc: Global) -> Result<Vec<Journey<'a>>, AllocError>
         ensures { IfOk result (λ journeys. AreJourneysOf self.now journeys.items) }
@@ -101,5 +68,38 @@ impl<'a> ConeLayout<'a> {
             })?;
         }
         Ok(followers)
+    }
+
+    /// The waits of a command for those that are listed before it. They are among those that contend with it.
+    fn waits_of(&self, alloc: Global, command: Command) -> Result<Vec<Wait>, AllocError>
+        requires { IsRoute self.now.train_paths.given.interlocking.now.routes command.route }
+        ensures { IfOk result (λ w. w.items ≡ waits_in self.now command) }
+    {
+        let listed = self.contention.listed_pairs(self.cone);
+        let others = self.contention.pairs.rivals(alloc, command)?;
+        let mut waits = Vec::new(alloc);
+        for other in &others {
+            if listed.is_among(*other, command) {
+                waits.push(self.train_paths.wait_for(command, *other))?;
+            }
+        }
+        Ok(waits)
+    }
+
+    /// The waits of each free command of a train.
+    fn waits_of_train(&self, alloc: Global, train: TrainNo) -> Result<Vec<Vec<Wait>>, AllocError>
+        requires { IsTrain self.now.train_paths.given.interlocking.now.design.station train }
+        ensures { IfOk result (λ w. map (λ v. v.items) w.items ≡ train_waits_in self.now train) }
+    {
+        let mut waits = Vec::new(alloc);
+        let train_path = self.train_paths.train_path(train);
+        for route in &train_path.path {
+            let command = Command {
+                train,
+                route: *route,
+            };
+            waits.push(self.waits_of(alloc, command)?)?;
+        }
+        Ok(waits)
     }
 }

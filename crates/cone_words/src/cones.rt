@@ -19,6 +19,58 @@ use rail_cone::{Cone, ConeTrain};
 use rail_text::put_number;
 use std::alloc::{AllocError, Global};
 
+/// Appends what is so in a cone: its trains, and then its pairs.
+pub fn push_parts(
+    alloc: Global,
+    interlocking: &Interlocking,
+    line: u64,
+    cone: &Cone,
+    lines: &mut Vec<Vec<u8>>,
+) -> Result<(), AllocError>
+    ensures { let i = interlocking.now in OnOk result (lines_of lines.new.items
+        ≡ lines_of lines.old.items ++ parts_told i.design.station i.routes line cone.now) }
+{
+    push_trains(
+        alloc,
+        &interlocking.design,
+        line,
+        cone.trains.as_slice(),
+        lines,
+    )?;
+    push_pairs(alloc, interlocking, line, cone.pairs.as_slice(), lines)?;
+    Ok(())
+}
+
+/// Appends the sentence that opens what is so.
+pub fn push_opening(alloc: Global, line: u64, lines: &mut Vec<Vec<u8>>) -> Result<(), AllocError>
+    ensures { OnOk result (lines_of lines.new.items ≡ lines_of lines.old.items ++ opening_line line ∷ []) }
+{
+    push_sentence(
+        alloc,
+        lines,
+        line,
+        b"no plan that meets the design is one in which this is so:",
+    )
+}
+
+/// Appends the sentences about a cone.
+pub fn push_cone(
+    alloc: Global,
+    interlocking: &Interlocking,
+    line: u64,
+    cone: &Cone,
+    lines: &mut Vec<Vec<u8>>,
+) -> Result<(), AllocError>
+    ensures { let i = interlocking.now in OnOk result (lines_of lines.new.items
+        ≡ lines_of lines.old.items ++ cone_told i.design.station i.routes line cone.now) }
+{
+    push_opening(alloc, line, lines)?;
+    push_parts(alloc, interlocking, line, cone, lines)?;
+    let mut text = Vec::new(alloc);
+    put_failure(&mut text, interlocking, cone.violation)?;
+    push_sentence(alloc, lines, line, &text)
+}
+
 /// Appends what holds up the first command that waits.
 fn put_holder(
     text: &mut Vec<u8>,
@@ -130,28 +182,6 @@ fn push_pairs(
     Ok(())
 }
 
-/// Appends what is so in a cone: its trains, and then its pairs.
-pub fn push_parts(
-    alloc: Global,
-    interlocking: &Interlocking,
-    line: u64,
-    cone: &Cone,
-    lines: &mut Vec<Vec<u8>>,
-) -> Result<(), AllocError>
-    ensures { let i = interlocking.now in OnOk result (lines_of lines.new.items
-        ≡ lines_of lines.old.items ++ parts_told i.design.station i.routes line cone.now) }
-{
-    push_trains(
-        alloc,
-        &interlocking.design,
-        line,
-        cone.trains.as_slice(),
-        lines,
-    )?;
-    push_pairs(alloc, interlocking, line, cone.pairs.as_slice(), lines)?;
-    Ok(())
-}
-
 /// Appends that a visit is not made.
 fn put_missed(
     text: &mut Vec<u8>,
@@ -258,34 +288,4 @@ fn put_failure(
             put_by_horizon(text, design)
         }
     }
-}
-
-/// Appends the sentence that opens what is so.
-pub fn push_opening(alloc: Global, line: u64, lines: &mut Vec<Vec<u8>>) -> Result<(), AllocError>
-    ensures { OnOk result (lines_of lines.new.items ≡ lines_of lines.old.items ++ opening_line line ∷ []) }
-{
-    push_sentence(
-        alloc,
-        lines,
-        line,
-        b"no plan that meets the design is one in which this is so:",
-    )
-}
-
-/// Appends the sentences about a cone.
-pub fn push_cone(
-    alloc: Global,
-    interlocking: &Interlocking,
-    line: u64,
-    cone: &Cone,
-    lines: &mut Vec<Vec<u8>>,
-) -> Result<(), AllocError>
-    ensures { let i = interlocking.now in OnOk result (lines_of lines.new.items
-        ≡ lines_of lines.old.items ++ cone_told i.design.station i.routes line cone.now) }
-{
-    push_opening(alloc, line, lines)?;
-    push_parts(alloc, interlocking, line, cone, lines)?;
-    let mut text = Vec::new(alloc);
-    put_failure(&mut text, interlocking, cone.violation)?;
-    push_sentence(alloc, lines, line, &text)
 }

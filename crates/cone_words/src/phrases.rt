@@ -35,30 +35,6 @@ pub fn put_ticks(text: &mut Vec<u8>, ticks: u64) -> Result<(), AllocError>
     }
 }
 
-/// Appends the words and a route, for each of these.
-fn put_each_route(text: &mut Vec<u8>, between: &[u8], routes: &[RouteNo]) -> Result<(), AllocError>
-    ensures { OnOk result (text.new.items ≡ text.old.items ++ each_after between.now route_number routes.now) }
-{
-    for route in routes {
-        text.extend_from_slice(between)?;
-        put_number(text, u64::from(route.0))?;
-    }
-    Ok(())
-}
-
-/// Appends routes, with the words between each and the next.
-fn put_joined(text: &mut Vec<u8>, between: &[u8], routes: &[RouteNo]) -> Result<(), AllocError>
-    ensures { OnOk result (text.new.items ≡ text.old.items ++ joined between.now route_number routes.now) }
-{
-    match routes {
-        [] => Ok(()),
-        [first, rest @ ..] => {
-            put_number(text, u64::from(first.0))?;
-            put_each_route(text, between, rest)
-        }
-    }
-}
-
 /// Appends routes, of which any may be the one.
 pub fn put_any_route(text: &mut Vec<u8>, routes: &[RouteNo]) -> Result<(), AllocError>
     ensures { OnOk result (text.new.items ≡ text.old.items ++ any_route_text routes.now) }
@@ -73,32 +49,6 @@ pub fn put_path(text: &mut Vec<u8>, routes: &[RouteNo]) -> Result<(), AllocError
 {
     text.extend_from_slice(b"route ")?;
     put_joined(text, b", route ", routes)
-}
-
-/// Appends ` or ` and a node, for each of these.
-fn put_each_node(text: &mut Vec<u8>, design: &Design, nodes: &[NodeNo]) -> Result<(), AllocError>
-    ensures { OnOk result (text.new.items
-        ≡ text.old.items ++ each_after (codes " or ") (node_name design.now.station) nodes.now) }
-{
-    for node in nodes {
-        text.extend_from_slice(b" or ")?;
-        text.extend_from_slice(node_name(design, *node))?;
-    }
-    Ok(())
-}
-
-/// Appends nodes, with ` or ` between each and the next.
-fn put_joined_nodes(text: &mut Vec<u8>, design: &Design, nodes: &[NodeNo]) -> Result<(), AllocError>
-    ensures { OnOk result (text.new.items
-        ≡ text.old.items ++ joined (codes " or ") (node_name design.now.station) nodes.now) }
-{
-    match nodes {
-        [] => Ok(()),
-        [first, rest @ ..] => {
-            text.extend_from_slice(node_name(design, *first))?;
-            put_each_node(text, design, rest)
-        }
-    }
 }
 
 /// Appends `<train> makes visit <k>`.
@@ -127,6 +77,73 @@ pub fn put_nodes(
 {
     text.extend_from_slice(b", at ")?;
     put_joined_nodes(text, design, nodes_of_visit(design, train, visit))
+}
+
+/// Appends the sections of a route that another has too.
+pub fn put_shared(
+    alloc: Global,
+    text: &mut Vec<u8>,
+    design: &Design,
+    routes: &RouteTable,
+    route: RouteNo,
+    other: RouteNo,
+) -> Result<(), AllocError>
+    ensures { OnOk result (text.new.items
+        ≡ text.old.items
+        ++ sections_text design.now.station (shared (route_at routes.now route) (route_at routes.now other))) }
+{
+    let found = shared_sections(alloc, routes, route, other)?;
+    put_sections(text, design, &found)
+}
+
+/// Appends the words and a route, for each of these.
+fn put_each_route(text: &mut Vec<u8>, between: &[u8], routes: &[RouteNo]) -> Result<(), AllocError>
+    ensures { OnOk result (text.new.items ≡ text.old.items ++ each_after between.now route_number routes.now) }
+{
+    for route in routes {
+        text.extend_from_slice(between)?;
+        put_number(text, u64::from(route.0))?;
+    }
+    Ok(())
+}
+
+/// Appends routes, with the words between each and the next.
+fn put_joined(text: &mut Vec<u8>, between: &[u8], routes: &[RouteNo]) -> Result<(), AllocError>
+    ensures { OnOk result (text.new.items ≡ text.old.items ++ joined between.now route_number routes.now) }
+{
+    match routes {
+        [] => Ok(()),
+        [first, rest @ ..] => {
+            put_number(text, u64::from(first.0))?;
+            put_each_route(text, between, rest)
+        }
+    }
+}
+
+/// Appends ` or ` and a node, for each of these.
+fn put_each_node(text: &mut Vec<u8>, design: &Design, nodes: &[NodeNo]) -> Result<(), AllocError>
+    ensures { OnOk result (text.new.items
+        ≡ text.old.items ++ each_after (codes " or ") (node_name design.now.station) nodes.now) }
+{
+    for node in nodes {
+        text.extend_from_slice(b" or ")?;
+        text.extend_from_slice(node_name(design, *node))?;
+    }
+    Ok(())
+}
+
+/// Appends nodes, with ` or ` between each and the next.
+fn put_joined_nodes(text: &mut Vec<u8>, design: &Design, nodes: &[NodeNo]) -> Result<(), AllocError>
+    ensures { OnOk result (text.new.items
+        ≡ text.old.items ++ joined (codes " or ") (node_name design.now.station) nodes.now) }
+{
+    match nodes {
+        [] => Ok(()),
+        [first, rest @ ..] => {
+            text.extend_from_slice(node_name(design, *first))?;
+            put_each_node(text, design, rest)
+        }
+    }
 }
 
 /// Appends `, ` and a section, for each of these.
@@ -178,21 +195,4 @@ fn shared_sections(
         }
     }
     Ok(found)
-}
-
-/// Appends the sections of a route that another has too.
-pub fn put_shared(
-    alloc: Global,
-    text: &mut Vec<u8>,
-    design: &Design,
-    routes: &RouteTable,
-    route: RouteNo,
-    other: RouteNo,
-) -> Result<(), AllocError>
-    ensures { OnOk result (text.new.items
-        ≡ text.old.items
-        ++ sections_text design.now.station (shared (route_at routes.now route) (route_at routes.now other))) }
-{
-    let found = shared_sections(alloc, routes, route, other)?;
-    put_sections(text, design, &found)
 }

@@ -9,6 +9,7 @@ ghost use Rattle.rail_spec.specs.Track.{routes_of};
 
 use crate::stations::{edge, name, node, one, train, two, vehicle};
 use cone_form::{Contention, SortedPairs, is_free, is_in_design};
+use contending::ContendingPairs;
 use interlocking::Interlocking;
 use rail_base::design::Design;
 use rail_base::list::List;
@@ -132,9 +133,11 @@ fn no_trains(alloc: Global, visit: u32) -> Cone {
 fn cones_of_a_design(rt: HostRuntime) -> Result<(), AllocError> {
     let alloc = rt.alloc();
     let interlocking = one_route(alloc)?;
+    let pairs = ContendingPairs::new(alloc, &interlocking)?;
+    assert_eq!(rt; pairs.count(), 0);
     let contention = Contention {
         interlocking: &interlocking,
-        pairs: &[],
+        pairs: &pairs,
     };
     for (free, fits) in [(0, true), (1, true), (2, false)] {
         let cone = cone_of(alloc, free)?;

@@ -11,6 +11,17 @@ use rail_base::route::{Finish, Route, RouteTable, Start};
 use rail_base::station::{EdgeNo, Node, NodeNo, SectionNo, Side, Signal, SignalNo, Station};
 use std::alloc::{AllocError, Global};
 
+/// Its interlocking.
+#[tactic(auto, using(crate::proofs::Lined::line_admitted, crate::proofs::Lined::routes_of_line, crate::proofs::Lined::one_train, crate::proofs::Lined::three_routes))]
+pub(crate) fn line(alloc: Global) -> Result<Interlocking, AllocError>
+    ensures trains { IfOk result (λ i. length i.design.station.trains ≡ 1) }
+    ensures routes { IfOk result (λ i. length i.routes ≡ 3) }
+{
+    let station = station(alloc)?;
+    let routes = table(alloc)?;
+    Interlocking::new(alloc, Design { station }, routes)
+}
+
 /// The nodes: a boundary, the signal's node, and a boundary.
 fn nodes(alloc: Global) -> Result<List<Node>, AllocError>
     ensures { IfOk result (λ ns. ns ≡ record { name = 119 ∷ []; boundary = true }
@@ -100,15 +111,4 @@ fn table(alloc: Global) -> Result<RouteTable, AllocError>
         sections: two(alloc, (SectionNo(2), 6000), (SectionNo(1), 16_000))?,
     })?;
     Ok(routes)
-}
-
-/// Its interlocking.
-#[tactic(auto, using(crate::proofs::Lined::line_admitted, crate::proofs::Lined::routes_of_line, crate::proofs::Lined::one_train, crate::proofs::Lined::three_routes))]
-pub(crate) fn line(alloc: Global) -> Result<Interlocking, AllocError>
-    ensures trains { IfOk result (λ i. length i.design.station.trains ≡ 1) }
-    ensures routes { IfOk result (λ i. length i.routes ≡ 3) }
-{
-    let station = station(alloc)?;
-    let routes = table(alloc)?;
-    Interlocking::new(alloc, Design { station }, routes)
 }

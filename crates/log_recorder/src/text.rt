@@ -28,42 +28,6 @@ pub struct Text {
     ghost few: { length arena ≤ greatest_clause_number },
 }
 
-/// A line with its end.
-fn end_line(mut line: Vec<u8>) -> Result<Vec<u8>, AllocError>
-    ensures { IfOk result (λ text. text.items ≡ ended line.items) }
-{
-    line.push(b'\n')?;
-    Ok(line)
-}
-
-/// The line that derives a clause by its hints.
-fn derive_text(alloc: Global, clause: &[Lit], hints: &[u64]) -> Result<Vec<u8>, AllocError>
-    ensures { IfOk result (λ text. text.items ≡ derive_line clause.now hints.now) }
-{
-    end_line(write_derive(alloc, clause, hints)?)
-}
-
-/// The line that forgets a clause.
-fn forget_text(alloc: Global, id: u64) -> Result<Vec<u8>, AllocError>
-    ensures { IfOk result (λ text. text.items ≡ forget_line id) }
-{
-    let mut line = Vec::from_slice(alloc, b"x ")?;
-    put_number(&mut line, id)?;
-    line.extend_from_slice(b" 0")?;
-    end_line(line)
-}
-
-/// The line that comes with a clause, if it has any bytes.
-fn added_text(alloc: Global, line: &[u8]) -> Result<Vec<u8>, AllocError>
-    ensures { IfOk result (λ text. text.items ≡ added_line line.now) }
-{
-    let text = Vec::from_slice(alloc, line)?;
-    if line.is_empty() {
-        return Ok(text);
-    }
-    end_line(text)
-}
-
 impl Text {
     /// No clause yet, and a text of one line, which is given without its end.
     ///
@@ -141,6 +105,42 @@ impl Text {
             Err(_) => Err(RecordFault::Memory),
         }
     }
+}
+
+/// A line with its end.
+fn end_line(mut line: Vec<u8>) -> Result<Vec<u8>, AllocError>
+    ensures { IfOk result (λ text. text.items ≡ ended line.items) }
+{
+    line.push(b'\n')?;
+    Ok(line)
+}
+
+/// The line that derives a clause by its hints.
+fn derive_text(alloc: Global, clause: &[Lit], hints: &[u64]) -> Result<Vec<u8>, AllocError>
+    ensures { IfOk result (λ text. text.items ≡ derive_line clause.now hints.now) }
+{
+    end_line(write_derive(alloc, clause, hints)?)
+}
+
+/// The line that forgets a clause.
+fn forget_text(alloc: Global, id: u64) -> Result<Vec<u8>, AllocError>
+    ensures { IfOk result (λ text. text.items ≡ forget_line id) }
+{
+    let mut line = Vec::from_slice(alloc, b"x ")?;
+    put_number(&mut line, id)?;
+    line.extend_from_slice(b" 0")?;
+    end_line(line)
+}
+
+/// The line that comes with a clause, if it has any bytes.
+fn added_text(alloc: Global, line: &[u8]) -> Result<Vec<u8>, AllocError>
+    ensures { IfOk result (λ text. text.items ≡ added_line line.now) }
+{
+    let text = Vec::from_slice(alloc, line)?;
+    if line.is_empty() {
+        return Ok(text);
+    }
+    end_line(text)
 }
 
 impl Recorder for Text {

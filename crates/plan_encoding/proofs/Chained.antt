@@ -15,7 +15,7 @@ use Rattle.plan_clauses.specs.Variables.{pairs_of}
 use Rattle.plan_clauses.specs.Clauses.{onward, chain_length, chains, clearing, waits_for, waits}
 use Rattle.plan_encoding.specs.Families.{waiting}
 use Rattle.plan_encoding.specs.Waiting.{waits_over}
-use Rattle.plan_encoding.proofs.Gathering.{drop_next}
+use Rattle.contending.proofs.Gathering.{drop_next}
 use Rattle.std.proofs.Common.{cond, ◌||◌, ◌==◌, eqb, eqb-true, ap₂, subst, filter}
 use Rattle.std.specs.List.{list_any}
 use Rattle.rail_base.specs.Members.{In}

@@ -1,11 +1,11 @@
 -- How many pairs there are, by the literals of what their variables say.
-use Rattle.std.proofs.Common.{◌≡◌, ℕ, ◌+◌, ◌*◌, ◌≤◌, ◌⊎◌, inl, inr, Bool, true, false, if◌then◌else◌, List, [], ◌∷◌, map, flat_map, length, nat_lt, refl, ap, arith}
+use Rattle.std.proofs.Common.{◌≡◌, ℕ, ◌+◌, ◌*◌, ◌≤◌, ◌⊎◌, inl, inr, Bool, true, false, if◌then◌else◌, List, [], ◌∷◌, map, length, nat_lt, refl, arith}
 use Rattle.std.proofs.lemmas.Bool.{ltb-false}
 use Rattle.std.proofs.lemmas.List.Sums.{sum_by-cons}
 use Rattle.sat_clause.specs.declared.lit.Lit.{Lit}
 use Rattle.rail_base.specs.declared.plan.Command.{Command}
 use Rattle.rail_base.proofs.Lists.{length-map}
-use Rattle.plan_clauses.specs.Clauses.{Clause, in_order, literals}
+use Rattle.plan_clauses.specs.Clauses.{in_order, literals}
 use Rattle.plan_clauses.specs.Variables.{numbered}
 use Rattle.plan_clauses.proofs.Few.{literals_told, orders_literals}
 use Rattle.plan_encoding.specs.declared.encoder.Encoder.{Encoder}

@@ -12,7 +12,7 @@ use Rattle.plan_clauses.specs.Clauses.{Clause, past_limit}
 use Rattle.plan_encoding.specs.Sinks.{SinkView, Emission, Emitted, TooMany, with_clause, emitted, FaultSays}
 use Rattle.plan_clauses.specs.Variables.{numbered}
 use Rattle.plan_encoding.specs.Encoders.{numbered_clauses}
-use Rattle.plan_encoding.proofs.Gathering.{count_next, drop_next}
+use Rattle.contending.proofs.Gathering.{count_next, drop_next}
 
 -- what is listed after a part that was listed
 pub emitted_then : (d e : SinkView) (cs more : List (List Lit)) → emitted d cs ≡ Emitted e → emitted d (cs ++ more) ≡ emitted e more

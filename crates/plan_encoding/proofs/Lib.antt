@@ -1,5 +1,4 @@
 pub mod Visiting
-pub mod Gathering
 pub mod Emission
 pub mod Sizes
 pub mod Tabled

@@ -1,5 +1,5 @@
 -- The numbers of pairs, in their order.
-use Rattle.std.proofs.Common.{◌≡◌, ℕ, zero, suc, ◌+◌, ◌^◌, ◌*◌, ◌≤◌, ◌<◌, ◌⊎◌, inl, inr, Bool, true, false, cond, if◌then◌else◌, List, [], ◌∷◌, ◌++◌, map, flat_map, filter, length, take, drop, get_or, refl, sym, ap, subst, ◌∙◌, arith, length-append, append-nil}
+use Rattle.std.proofs.Common.{◌≡◌, ℕ, zero, suc, ◌+◌, ◌*◌, ◌≤◌, ◌<◌, ◌⊎◌, inl, inr, Bool, true, false, cond, if◌then◌else◌, List, [], ◌∷◌, ◌++◌, map, flat_map, filter, length, take, drop, get_or, refl, sym, ap, subst, ◌∙◌, arith, length-append, append-nil}
 use Rattle.std.proofs.lemmas.List.{append_assoc, map-append, take-append-drop}
 use Rattle.std.proofs.lemmas.Grind.{flat_map-append}
 use Rattle.std.proofs.lemmas.Nat.{mul-le}
@@ -16,7 +16,7 @@ use Rattle.rail_base.proofs.Lists.{in_append, in_map_back, in_flat_map_back, len
 use Rattle.rail_spec.specs.Plans.{all_commands, commands_of, contend, is_command, route_numbers}
 use Rattle.plan_clauses.specs.Variables.{Before, is_pair, number_of, pairs, pairs_of}
 use Rattle.plan_clauses.proofs.Steps.{is_command_same, is_command_self}
-use Rattle.plan_encoding.proofs.Gathering.{drop_next}
+use Rattle.contending.proofs.Gathering.{drop_next}
 
 -- the members before the first that passes, which is named
 first_there : {X : Type 0} (test : X → Bool) (xs ys : List X) (y : X) → ((x : X) → In x xs → test x ≡ true → ⊥) → test y ≡ true → before_first test (xs ++ y ∷ ys) ≡ xs

@@ -1,11 +1,11 @@
 -- What the tables of an encoder have.
-use Rattle.std.proofs.Common.{◌≡◌, ℕ, zero, suc, ◌+◌, ◌-◌, ◌*◌, ◌≤◌, ◌<◌, ◌⊎◌, inl, inr, Bool, true, false, cond, not, ◌&&◌, ◌==◌, List, [], ◌∷◌, ◌++◌, map, filter, flat_map, length, get_or, refl, sym, ap, subst, ◌∙◌, arith, eqb-true, eq-eqb, drop, length-append}
+use Rattle.std.proofs.Common.{◌≡◌, ℕ, zero, suc, ◌+◌, ◌-◌, ◌*◌, ◌≤◌, ◌<◌, ◌⊎◌, inl, inr, Bool, true, false, cond, ◌&&◌, List, [], ◌∷◌, ◌++◌, map, filter, flat_map, length, get_or, refl, sym, ap, subst, ◌∙◌, arith, drop, length-append}
 use Rattle.std.proofs.Math.Nat.{suc-mul}
 use Rattle.std.proofs.lemmas.Nat.{mul-le}
 use Rattle.plan_clauses.specs.Variables.{pairs_of}
 use Rattle.plan_clauses.specs.Clauses.{Clause, exclude, later_pairs}
 use Rattle.std.proofs.lemmas.List.{append_assoc}
-use Rattle.plan_encoding.proofs.Gathering.{drop_next}
+use Rattle.contending.proofs.Gathering.{drop_next}
 use Rattle.plan_encoding.proofs.Emission.{Next}
 use Rattle.std.specs.Prelude.{All}
 use Rattle.rail_base.specs.declared.station.Station.{Station}
@@ -15,9 +15,9 @@ use Rattle.rail_base.specs.declared.route.RouteNo.{RouteNo}
 use Rattle.rail_base.specs.declared.plan.Command.{Command}
 use Rattle.rail_base.specs.Numbering.{one_to, entry}
 use Rattle.rail_base.specs.Members.{In}
-use Rattle.rail_base.specs.Routes.{IsRoute, route_at, share}
+use Rattle.rail_base.specs.Routes.{IsRoute, route_at}
 use Rattle.rail_base.specs.Stations.{IsTrain, trains}
-use Rattle.rail_base.proofs.Members.{get_or-counted, map-map, filter-append}
+use Rattle.rail_base.proofs.Members.{filter-append}
 use Rattle.rail_base.proofs.Lists.{in_append, in_map_back, in_flat_map_back, in_filter_back, in_count_back, length-map}
 use Rattle.rail_spec.specs.Plans.{all_commands, commands_of, contend, route_numbers}
 use Rattle.plan_clauses.proofs.Numbers.{length-count}
@@ -26,26 +26,7 @@ use Rattle.plan_encoding.specs.declared.network.Network.{Network}
 use Rattle.plan_encoding.specs.declared.tables.Tables.{Tables}
 use Rattle.plan_encoding.specs.Families.{rivals_of}
 use Rattle.plan_encoding.specs.Encoders.{IsCommand, station, table}
-use Rattle.plan_encoding.specs.Tables.{ArePairs, exclusions, sharing}
-
--- ---- rows by the numbers of routes
-
-module _ (routes : List Route) (row : RouteNo → List RouteNo) (rows : List (List RouteNo)) (is : rows ≡ map row (route_numbers routes)) where
-  pub length_rows : length rows ≡ length routes
-  length_rows =
-      let named : ℕ → RouteNo = λ r. record { 0 = r } in
-      ap length is ∙ (length-map row (route_numbers routes) ∙ (length-map named (one_to (length routes)) ∙ length-count 1 (length routes)))
-
-  -- the row of a route stands at its number
-  pub row_is : (r : RouteNo) → IsRoute routes r → entry [] rows r.0 ≡ row r
-  row_is r k = ap (λ rs. entry [] rs r.0) is ∙ at r.0 k.0 k.1
-    where
-      named : ℕ → RouteNo
-      named n = record { 0 = n }
-
-      at : (n : ℕ) → 1 ≤ n → n ≤ length routes → entry [] (map row (route_numbers routes)) n ≡ row (named n)
-      at zero a b = absurd (omega arith)
-      at (suc i) a b = ap (λ rs. get_or rs i []) (map-map row named (one_to (length routes))) ∙ (get_or-counted (λ n. row (named n)) 1 (length routes) i [] (omega arith) ∙ ap (λ n. row (named n)) (omega arith))
+use Rattle.plan_encoding.specs.Tables.{ArePairs, exclusions}
 
 -- ---- members
 
@@ -104,44 +85,6 @@ all_kept_commands f test =
     all_by_members (IsCommand f) (filter test all) (λ c m. command_known f c (in_filter_back test all c m).0)
 
 -- ---- rivals
-
-module _ (routes : List Route) (e : Command) (t : TrainNo) where
-  abbrev make : RouteNo → Command
-  make r = record { train = t; route = r }
-
-  -- a command contends with none of its own train
-  pub rivals_none : t.0 ≡ e.train.0 → filter (contend routes e) (commands_of routes t) ≡ []
-  rivals_none h = go (route_numbers routes)
-    where
-      same : (e.train.0 == t.0) ≡ true
-      same = eq-eqb e.train.0 t.0 (sym h)
-
-      go : (rs : List RouteNo) → filter (contend routes e) (map make rs) ≡ []
-      go [] = refl
-      go (r ∷ rs) = ap (λ b. cond (not b && share (route_at routes e.route) (route_at routes r)) (make r ∷ filter (contend routes e) (map make rs)) (filter (contend routes e) (map make rs))) same ∙ go rs
-
-  -- and with those of another train whose routes share a section with its own
-  pub rivals_some : (t.0 ≡ e.train.0 → ⊥) → filter (contend routes e) (commands_of routes t) ≡ map (λ r. record { train = t; route = r }) (sharing routes e.route)
-  rivals_some h = go (route_numbers routes)
-    where
-      other : (b : Bool) → (e.train.0 == t.0) ≡ b → (e.train.0 == t.0) ≡ false
-      other true k = absurd (h (sym (eqb-true e.train.0 t.0 k)))
-      other false k = k
-
-      join : (b : Bool) (r : RouteNo) (rs : List RouteNo) → cond b (make r ∷ map make (filter (λ q. share (route_at routes e.route) (route_at routes q)) rs)) (map make (filter (λ q. share (route_at routes e.route) (route_at routes q)) rs))
-          ≡ map make (cond b (r ∷ filter (λ q. share (route_at routes e.route) (route_at routes q)) rs) (filter (λ q. share (route_at routes e.route) (route_at routes q)) rs))
-      join true r rs = refl
-      join false r rs = refl
-
-      go : (rs : List RouteNo) → filter (contend routes e) (map make rs) ≡ map make (filter (λ q. share (route_at routes e.route) (route_at routes q)) rs)
-      go [] = refl
-      go (r ∷ rs) = ap (λ b. cond (not b && share (route_at routes e.route) (route_at routes r)) (make r ∷ filter (contend routes e) (map make rs)) (filter (contend routes e) (map make rs))) (other _ refl)
-          ∙ (ap (λ cs. cond (share (route_at routes e.route) (route_at routes r)) (make r ∷ cs) cs) (go rs) ∙ join (share (route_at routes e.route) (route_at routes r)) r rs)
-
--- a test of all commands goes train by train
-pub filter_parts : {X Y : Type 0} (test : Y → Bool) (g : X → List Y) (xs : List X) → filter test (flat_map g xs) ≡ flat_map (λ x. filter test (g x)) xs
-filter_parts test g [] = refl
-filter_parts test g (x ∷ xs) = filter-append test (g x) (flat_map g xs) ∙ ap (λ ys. filter test (g x) ++ ys) (filter_parts test g xs)
 
 -- a filter of a filter
 pub filter_both : {X : Type 0} (one other : X → Bool) (xs : List X) → filter other (filter one xs) ≡ filter (λ x. one x && other x) xs

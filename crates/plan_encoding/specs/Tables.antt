@@ -3,7 +3,7 @@ use Rattle.std.specs.Prelude.{Bool, List, filter, map}
 use Rattle.rail_base.specs.declared.route.Route.{Route}
 use Rattle.rail_base.specs.declared.route.RouteNo.{RouteNo}
 use Rattle.rail_base.specs.Routes.{IsRoute}
-use Rattle.rail_spec.specs.Plans.{goes_on, route_at, route_numbers, share}
+use Rattle.rail_spec.specs.Plans.{goes_on, route_at, route_numbers}
 use Rattle.plan_clauses.specs.Clauses.{exclude, later_pairs, leading_to}
 
 -- the routes that go on where this one ends
@@ -13,14 +13,6 @@ going_on routes r = filter (λ q. goes_on (route_at routes r).finish (route_at r
 -- the routes that end where this one starts
 abbrev pub leading : List Route → RouteNo → List RouteNo
 leading routes r = leading_to routes (route_at routes r).start
-
--- the two routes share a section
-abbrev pub shares : List Route → RouteNo → RouteNo → Bool
-shares routes r q = share (route_at routes r) (route_at routes q)
-
--- the routes that share a section with this one
-abbrev pub sharing : List Route → RouteNo → List RouteNo
-sharing routes r = filter (shares routes r) (route_numbers routes)
 
 -- the two routes of a pair exclude each other
 abbrev pub exclude_both : List Route → RouteNo × RouteNo → Bool

@@ -13,6 +13,21 @@ use rail_base::plan::Command;
 use sat_clause::Lit;
 use std::alloc::{AllocError, Global};
 
+impl Tables<'_> {
+    /// Emits that no contending commands are given in one step.
+    pub fn emit_apart(&self, alloc: Global, sink: &mut ClauseSink) -> Result<(), BaseFault>
+        ensures ok { OnOk result (Emits self.now.encoder (all_apart self.now.encoder) sink.old sink.new) }
+        ensures err { IfErr result (Stops self.now.encoder (all_apart self.now.encoder) sink.old) }
+    {
+        for command in &self.commands {
+            let rivals = self.rivals(alloc, *command)?;
+            self.encoder
+                .emit_apart_from(alloc, sink, *command, &rivals)?;
+        }
+        Ok(())
+    }
+}
+
 impl Encoder<'_> {
     /// The clause that of two commands not both are new in a step.
     fn apart(
@@ -90,21 +105,6 @@ impl Encoder<'_> {
     {
         for second in rivals {
             self.emit_apart_once(alloc, sink, first, *second)?;
-        }
-        Ok(())
-    }
-}
-
-impl Tables<'_> {
-    /// Emits that no contending commands are given in one step.
-    pub fn emit_apart(&self, alloc: Global, sink: &mut ClauseSink) -> Result<(), BaseFault>
-        ensures ok { OnOk result (Emits self.now.encoder (all_apart self.now.encoder) sink.old sink.new) }
-        ensures err { IfErr result (Stops self.now.encoder (all_apart self.now.encoder) sink.old) }
-    {
-        for command in &self.commands {
-            let rivals = self.rivals(alloc, *command)?;
-            self.encoder
-                .emit_apart_from(alloc, sink, *command, &rivals)?;
         }
         Ok(())
     }

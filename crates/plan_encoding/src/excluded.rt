@@ -12,6 +12,17 @@ use rail_base::plan::Command;
 use rail_base::station::TrainNo;
 
 impl Tables<'_> {
+    /// Emits that no train is given two routes that exclude each other.
+    pub fn emit_excluded(&self, sink: &mut ClauseSink) -> Result<(), BaseFault>
+        ensures ok { OnOk result (Emits self.now.encoder (none_excluded self.now.encoder) sink.old sink.new) }
+        ensures err { IfErr result (Stops self.now.encoder (none_excluded self.now.encoder) sink.old) }
+    {
+        for train in &self.trains {
+            self.emit_excluded_of(sink, *train)?;
+        }
+        Ok(())
+    }
+
     /// Emits that a train is given no two routes that exclude each other.
     fn emit_excluded_of(&self, sink: &mut ClauseSink, train: TrainNo) -> Result<(), BaseFault>
         requires train { IsTrain (station self.now.encoder) train }
@@ -32,17 +43,6 @@ impl Tables<'_> {
                 self.encoder.not_given(one, last),
                 self.encoder.not_given(other, last),
             ])?;
-        }
-        Ok(())
-    }
-
-    /// Emits that no train is given two routes that exclude each other.
-    pub fn emit_excluded(&self, sink: &mut ClauseSink) -> Result<(), BaseFault>
-        ensures ok { OnOk result (Emits self.now.encoder (none_excluded self.now.encoder) sink.old sink.new) }
-        ensures err { IfErr result (Stops self.now.encoder (none_excluded self.now.encoder) sink.old) }
-    {
-        for train in &self.trains {
-            self.emit_excluded_of(sink, *train)?;
         }
         Ok(())
     }

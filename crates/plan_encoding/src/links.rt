@@ -1,25 +1,12 @@
 //! How routes are related.
 
-ghost use Rattle.std.specs.Prelude.{◌≡◌, ◌≤◌, ◌&&◌, ◌||◌, ◌++◌, ◌∷◌, [], OnOk, cond, length};
+ghost use Rattle.std.specs.Prelude.{◌≡◌, ◌&&◌, ◌||◌, ◌++◌, ◌∷◌, [], OnOk, cond};
 ghost use Rattle.rail_spec.specs.Plans.{is_start};
 ghost use Rattle.plan_clauses.specs.Clauses.{at_boundary, exclude};
-ghost use Rattle.rail_base.specs.Numbering.{entry};
 
 use interlocking::end_at_one_signal;
-use rail_base::list::List;
-use rail_base::route::{Route, RouteNo, Start};
+use rail_base::route::{Route, Start};
 use std::alloc::AllocError;
-
-/// Whether two routes start at boundaries, or at one place.
-fn exclude_by_starts(one: Start, other: Start) -> bool
-    ensures { result ≡ (at_boundary one && at_boundary other || is_start one other) }
-{
-    match (one, other) {
-        (Start::Boundary(_), Start::Boundary(_)) => true,
-        (Start::Signal(one), Start::Signal(other)) => one == other,
-        _ => false,
-    }
-}
 
 /// Whether no train is given both routes.
 pub fn exclude(one: &Route, other: &Route) -> bool
@@ -38,11 +25,13 @@ pub fn push_if<T: Drop>(list: &mut Vec<T>, item: T, belongs: bool) -> Result<(),
     Ok(())
 }
 
-/// The row of a route.
-pub fn row_of(rows: &[List<RouteNo>], route: RouteNo) -> &[RouteNo]
-    requires one { 1 ≤ route.0 }
-    requires within { route.0 ≤ length rows.now }
-    ensures { result.now ≡ entry [] rows.now route.0 }
+/// Whether two routes start at boundaries, or at one place.
+fn exclude_by_starts(one: Start, other: Start) -> bool
+    ensures { result ≡ (at_boundary one && at_boundary other || is_start one other) }
 {
-    rows[route.0 as usize - 1].as_slice()
+    match (one, other) {
+        (Start::Boundary(_), Start::Boundary(_)) => true,
+        (Start::Signal(one), Start::Signal(other)) => one == other,
+        _ => false,
+    }
 }

@@ -13,16 +13,6 @@ use sat_clause::Lit;
 use std::alloc::{AllocError, Global};
 
 impl Encoder<'_> {
-    /// The number of the variable that a command is given by a step.
-    fn given_number(&self, command: Command, step: u32) -> u32
-        requires command { IsCommand self.now command }
-        requires step { step ≤ self.now.steps.count }
-        ensures { result ≡ over self.now number_of (Given command step) }
-    {
-        let routes = self.interlocking.routes.len() as u32;
-        ((command.train.0 - 1) * routes + (command.route.0 - 1)) * self.steps.count + step
-    }
-
     /// The literal that a command is given by a step.
     pub fn given(&self, command: Command, step: u32) -> Lit
         requires command { IsCommand self.now command }
@@ -64,6 +54,27 @@ impl Encoder<'_> {
         Ok(())
     }
 
+    /// All commands, by train and then by route.
+    pub fn commands(&self, alloc: Global) -> Result<Vec<Command>, AllocError>
+        ensures { IfOk result (λ cs. cs.items ≡ all_commands (station self.now) (table self.now)) }
+    {
+        let mut commands = Vec::new(alloc);
+        for number in 1..self.interlocking.design.station.trains.len() as u32 + 1 {
+            self.add_commands(TrainNo(number), &mut commands)?;
+        }
+        Ok(commands)
+    }
+
+    /// The number of the variable that a command is given by a step.
+    fn given_number(&self, command: Command, step: u32) -> u32
+        requires command { IsCommand self.now command }
+        requires step { step ≤ self.now.steps.count }
+        ensures { result ≡ over self.now number_of (Given command step) }
+    {
+        let routes = self.interlocking.routes.len() as u32;
+        ((command.train.0 - 1) * routes + (command.route.0 - 1)) * self.steps.count + step
+    }
+
     /// Adds the commands of a train to a list.
     fn add_commands(&self, train: TrainNo, commands: &mut Vec<Command>) -> Result<(), AllocError>
         ensures { OnOk result (commands.new.items ≡ commands.old.items ++ commands_of (table self.now) train) }
@@ -75,16 +86,5 @@ impl Encoder<'_> {
             })?;
         }
         Ok(())
-    }
-
-    /// All commands, by train and then by route.
-    pub fn commands(&self, alloc: Global) -> Result<Vec<Command>, AllocError>
-        ensures { IfOk result (λ cs. cs.items ≡ all_commands (station self.now) (table self.now)) }
-    {
-        let mut commands = Vec::new(alloc);
-        for number in 1..self.interlocking.design.station.trains.len() as u32 + 1 {
-            self.add_commands(TrainNo(number), &mut commands)?;
-        }
-        Ok(commands)
     }
 }

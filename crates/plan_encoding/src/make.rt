@@ -1,11 +1,10 @@
 //! How the base of a design is made: all clauses are emitted twice, first to count their literals, then to keep them.
 
-ghost use Rattle.std.specs.Prelude.{◌≡◌, ◌++◌, IfOk, OnOk, IfErr, None, map};
-ghost use Rattle.plan_clauses.specs.Variables.{pairs};
+ghost use Rattle.std.specs.Prelude.{◌≡◌, IfOk, OnOk, IfErr, None};
 ghost use Rattle.plan_clauses.specs.Clauses.{base_clauses, clauses, past_limit};
 ghost use Rattle.plan_encoding.specs.Bases.{IsBaseOf, IsRefused};
 ghost use Rattle.plan_encoding.specs.Families.{alone, together, defining};
-ghost use Rattle.plan_encoding.specs.Encoders.{Emits, Stops, over, station, table};
+ghost use Rattle.plan_encoding.specs.Encoders.{Emits, Stops, over};
 
 use crate::encoder::Encoder;
 use crate::numbered::{Base, base_of};
@@ -13,10 +12,19 @@ use crate::selectors::Selectors;
 use crate::sink::{BaseFault, ClauseSink};
 use crate::tables::Tables;
 use interlocking::{Interlocking, Steps};
-use rail_base::plan::Command;
-use std::alloc::{AllocError, Global};
+use std::alloc::Global;
 
 impl Tables<'_> {
+    /// Emits all clauses, family by family.
+    pub fn emit_all(&self, alloc: Global, sink: &mut ClauseSink) -> Result<(), BaseFault>
+        ensures ok { OnOk result (Emits self.now.encoder (over self.now.encoder clauses) sink.old sink.new) }
+        ensures err { IfErr result (Stops self.now.encoder (over self.now.encoder clauses) sink.old) }
+    {
+        self.emit_alone(alloc, sink)?;
+        self.emit_together(alloc, sink)?;
+        self.emit_defining(alloc, sink)
+    }
+
     /// Emits that what is given stays given, that routes start rightly, and that none exclude each other.
     fn emit_alone(&self, alloc: Global, sink: &mut ClauseSink) -> Result<(), BaseFault>
         ensures ok { OnOk result (Emits self.now.encoder (alone self.now.encoder) sink.old sink.new) }
@@ -46,42 +54,6 @@ impl Tables<'_> {
         let selectors = Selectors { tables: self, last };
         selectors.emit_by_steps(sink)
     }
-
-    /// Emits all clauses, family by family.
-    pub fn emit_all(&self, alloc: Global, sink: &mut ClauseSink) -> Result<(), BaseFault>
-        ensures ok { OnOk result (Emits self.now.encoder (over self.now.encoder clauses) sink.old sink.new) }
-        ensures err { IfErr result (Stops self.now.encoder (over self.now.encoder clauses) sink.old) }
-    {
-        self.emit_alone(alloc, sink)?;
-        self.emit_together(alloc, sink)?;
-        self.emit_defining(alloc, sink)
-    }
-
-    /// Adds a command with each of its rivals.
-    fn add_pairs(
-        pairs: &mut Vec<(Command, Command)>,
-        first: Command,
-        rivals: &[Command],
-    ) -> Result<(), AllocError>
-        ensures { OnOk result (pairs.new.items ≡ pairs.old.items ++ map (λ c. (first, c)) rivals.now) }
-    {
-        for second in rivals {
-            pairs.push((first, *second))?;
-        }
-        Ok(())
-    }
-
-    /// All contending pairs.
-    pub fn pairs(&self, alloc: Global) -> Result<Vec<(Command, Command)>, AllocError>
-        ensures { IfOk result (λ ps. ps.items ≡ pairs (station self.now.encoder) (table self.now.encoder)) }
-    {
-        let mut pairs = Vec::new(alloc);
-        for command in &self.commands {
-            let rivals = self.rivals(alloc, *command)?;
-            Tables::add_pairs(&mut pairs, *command, &rivals)?;
-        }
-        Ok(pairs)
-    }
 }
 
 /// The base of a design and its routes, for plans of up to so many steps: the clauses that the model of each feasible
@@ -103,8 +75,8 @@ pub fn base(alloc: Global, interlocking: &Interlocking, steps: Steps) -> Result<
     let tables = encoder.tables(alloc)?;
     let mut count = ClauseSink::new(alloc, false);
     tables.emit_all(alloc, &mut count)?;
-    let mut sink = count.kept(alloc)?;
+    let mut sink = count.keeping(alloc)?;
     tables.emit_all(alloc, &mut sink)?;
-    let pairs = tables.pairs(alloc)?;
+    let pairs = tables.into_pairs();
     Ok(base_of(interlocking, steps, pairs, sink.into_clauses()))
 }

@@ -1,14 +1,13 @@
 //! A base, and the numbers of its variables.
 
-ghost use Rattle.std.specs.Prelude.{◌≡◌, ℕ, ◌≤◌, ◌<◌, IfSome, List, Some, None, if◌then◌else◌, length};
-ghost use Rattle.std.specs.List.{list_any};
-ghost use Rattle.rail_base.specs.Numbering.{before_first};
+ghost use Rattle.std.specs.Prelude.{◌≡◌, ℕ, ◌≤◌, List, Some, None, if◌then◌else◌, length};
 ghost use Rattle.rail_base.specs.declared.station.Station.{Station};
 ghost use Rattle.rail_base.specs.declared.route.Route.{Route};
 ghost use Rattle.rail_spec.specs.Plans.{contend};
-ghost use Rattle.plan_clauses.specs.Variables.{Given, Before, By, is_pair, yes, numbered, variable_count};
+ghost use Rattle.plan_clauses.specs.Variables.{Given, Before, By, yes, numbered, variable_count};
 ghost use Rattle.plan_encoding.specs.Bases.{HasCommand, IsBaseOf};
 
+use contending::ContendingPairs;
 use interlocking::{Interlocking, Steps};
 use rail_base::plan::Command;
 use rail_base::route::RouteNo;
@@ -31,7 +30,7 @@ pub struct Base {
     trains: u32,
     routes: u32,
     steps: Steps,
-    pairs: Vec<(Command, Command)>,
+    pairs: ContendingPairs,
     clauses: Arena,
 }
 
@@ -45,12 +44,12 @@ impl Model for Base {
       trains = b.trains;
       routes = b.routes;
       steps = b.steps.count;
-      pairs = b.pairs.items;
+      pairs = b.pairs;
       clauses = b.clauses;
     } };
 
     ghost invariant = { λ b. (b.trains ≤ 128) × (b.routes ≤ 2000) × (b.steps.count ≤ 256) ×
-        (length b.pairs.items ≤ 8000000) };
+        (length b.pairs ≤ 8000000) };
 }
 
 impl Base {
@@ -75,7 +74,7 @@ impl Base {
             → result ≡
             (if contend routes first second then Some (numbered d routes n (yes (Before first second))) else None) }
     {
-        match place_of(&self.pairs, first, second) {
+        match self.pairs.place(first, second) {
             Some(place) => Some(Lit {
                 var: self.trains * self.routes * self.steps.count + place as u32 + 1,
                 negated: false,
@@ -91,7 +90,7 @@ impl Base {
             → result ≡ numbered d routes n (yes (By step)) }
     {
         Lit {
-            var: self.trains * self.routes * self.steps.count + self.pairs.len() as u32 + step,
+            var: self.trains * self.routes * self.steps.count + self.pairs.count() as u32 + step,
             negated: false,
         }
     }
@@ -104,7 +103,7 @@ impl Base {
     }
 
     /// The pairs of commands that contend, in the order of their variables.
-    pub fn pairs(&self) -> &[(Command, Command)]
+    pub fn pairs(&self) -> &ContendingPairs
         ensures pairs { result.now ≡ self.now.pairs }
         ensures bound { length result.now ≤ 8000000 }
     {
@@ -113,10 +112,10 @@ impl Base {
 
     /// The clauses, to which others may be added, and the pairs of commands that contend, in the order of their
     /// variables.
-    pub fn into_parts(self) -> (Arena, Vec<(Command, Command)>)
+    pub fn into_parts(self) -> (Arena, ContendingPairs)
         ensures clauses { result.0 ≡ self.clauses }
-        ensures pairs { result.1.items ≡ self.pairs }
-        ensures bound { length result.1.items ≤ 8000000 }
+        ensures pairs { result.1 ≡ self.pairs }
+        ensures bound { length result.1 ≤ 8000000 }
     {
         let Base { clauses, pairs, .. } = self;
         (clauses, pairs)
@@ -143,50 +142,25 @@ impl Base {
             routes: self.routes,
             steps: self.steps.count,
             vars: self.trains * self.routes * self.steps.count
-                + self.pairs.len() as u32
+                + self.pairs.count() as u32
                 + self.steps.count,
         }
     }
-}
-
-/// How many pairs stand before this one, if it is there.
-fn place_of(pairs: &[(Command, Command)], first: Command, second: Command) -> Option<usize>
-    ensures place { result ≡
-        (if list_any (is_pair first second) pairs.now
-        then Some (length (before_first (is_pair first second) pairs.now))
-        else None) }
-    ensures bound { IfSome result (λ place. place < length pairs.now) }
-{
-    let mut place = 0;
-    for pair in pairs {
-        if is_pair(first, second, *pair) {
-            return Some(place);
-        }
-        place += 1;
-    }
-    None
-}
-
-/// Whether a pair is of these two commands.
-fn is_pair(first: Command, second: Command, pair: (Command, Command)) -> bool
-    ensures { result ≡ is_pair first second pair }
-{
-    first == pair.0 && second == pair.1
 }
 
 /// A base with these pairs and clauses.
 pub fn base_of(
     interlocking: &Interlocking,
     steps: Steps,
-    pairs: Vec<(Command, Command)>,
+    pairs: ContendingPairs,
     clauses: Arena,
 ) -> Base
-    requires pairs { length pairs.items ≤ 8000000 }
+    requires pairs { length pairs ≤ 8000000 }
     ensures { result ≡ record {
       trains = length interlocking.now.design.station.trains;
       routes = length interlocking.now.routes;
       steps = steps.count;
-      pairs = pairs.items;
+      pairs = pairs;
       clauses = clauses;
     } }
 {

@@ -11,6 +11,30 @@ use crate::tables::Tables;
 use sat_clause::Lit;
 use std::alloc::{AllocError, Global};
 
+impl Tables<'_> {
+    /// Emits what the variables of all pairs say, and gives how many variables there are up to these.
+    pub fn emit_orders(&self, alloc: Global, sink: &mut ClauseSink) -> Result<u32, BaseFault>
+        ensures last { IfOk result (λ last. last ≡ last_pair self.now.encoder) }
+        ensures bound { IfOk result (λ last. last ≤ 73536000) }
+        ensures ok { OnOk result (Emits self.now.encoder (all_in_order self.now.encoder) sink.old sink.new) }
+        ensures err { IfErr result (Stops self.now.encoder (all_in_order self.now.encoder) sink.old) }
+    {
+        let mut last = self.commands.len() as u32 * self.encoder.steps.count;
+        for command in &self.commands {
+            let rivals = self.rivals(alloc, *command)?;
+            let contenders = Contenders {
+                encoder: self.encoder,
+                first: *command,
+                rivals: &rivals,
+                last,
+            };
+            contenders.emit_orders_of(alloc, sink)?;
+            last += rivals.len() as u32;
+        }
+        Ok(last)
+    }
+}
+
 impl Pair<'_> {
     /// The literal that the first is given before the second.
     fn holds(&self) -> Lit
@@ -107,29 +131,5 @@ impl Contenders<'_> {
             pair.emit_order(alloc, sink)?;
         }
         Ok(())
-    }
-}
-
-impl Tables<'_> {
-    /// Emits what the variables of all pairs say, and gives how many variables there are up to these.
-    pub fn emit_orders(&self, alloc: Global, sink: &mut ClauseSink) -> Result<u32, BaseFault>
-        ensures last { IfOk result (λ last. last ≡ last_pair self.now.encoder) }
-        ensures bound { IfOk result (λ last. last ≤ 73536000) }
-        ensures ok { OnOk result (Emits self.now.encoder (all_in_order self.now.encoder) sink.old sink.new) }
-        ensures err { IfErr result (Stops self.now.encoder (all_in_order self.now.encoder) sink.old) }
-    {
-        let mut last = self.commands.len() as u32 * self.encoder.steps.count;
-        for command in &self.commands {
-            let rivals = self.rivals(alloc, *command)?;
-            let contenders = Contenders {
-                encoder: self.encoder,
-                first: *command,
-                rivals: &rivals,
-                last,
-            };
-            contenders.emit_orders_of(alloc, sink)?;
-            last += rivals.len() as u32;
-        }
-        Ok(last)
     }
 }

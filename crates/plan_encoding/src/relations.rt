@@ -6,12 +6,13 @@ ghost use Rattle.rail_base.specs.Stations.{trains};
 ghost use Rattle.rail_spec.specs.Plans.{route_numbers};
 ghost use Rattle.plan_clauses.specs.Clauses.{leading_to};
 ghost use Rattle.plan_encoding.specs.Encoders.{station, table};
-ghost use Rattle.plan_encoding.specs.Tables.{exclude_both, exclusions, going_on, leading, rows_by, sharing};
+ghost use Rattle.plan_encoding.specs.Tables.{exclude_both, exclusions, going_on, leading, rows_by};
 
 use crate::encoder::Encoder;
 use crate::links::{exclude, push_if};
 use crate::network::Network;
 use crate::tables::Tables;
+use contending::ContendingPairs;
 use interlocking::goes_on;
 use rail_base::list::List;
 use rail_base::route::{RouteNo, Start, route_at};
@@ -19,6 +20,13 @@ use rail_base::station::TrainNo;
 use std::alloc::{AllocError, Global};
 
 impl<'a> Encoder<'a> {
+    /// The tables of the encoder.
+    pub fn tables(self, alloc: Global) -> Result<Tables<'a>, AllocError>
+        ensures { IfOk result (λ tables. tables.encoder ≡ self.entry) }
+    {
+        self.network(alloc)?.tables(alloc)
+    }
+
     /// The numbers of all trains.
     fn trains(&self, alloc: Global) -> Result<Vec<TrainNo>, AllocError>
         ensures { IfOk result (λ ts. ts.items ≡ trains (station self.now)) }
@@ -49,13 +57,6 @@ impl<'a> Encoder<'a> {
             encoder: self,
             numbers: self.numbers(alloc)?,
         })
-    }
-
-    /// The tables of the encoder.
-    pub fn tables(self, alloc: Global) -> Result<Tables<'a>, AllocError>
-        ensures { IfOk result (λ tables. tables.encoder ≡ self.entry) }
-    {
-        self.network(alloc)?.tables(alloc)
     }
 }
 
@@ -92,20 +93,6 @@ impl<'a> Network<'a> {
         Ok(List::from_vec(found))
     }
 
-    /// The routes that share a section with a route.
-    fn sharing(&self, alloc: Global, route: RouteNo) -> Result<List<RouteNo>, AllocError>
-        requires { IsRoute (table self.now.encoder) route }
-        ensures { IfOk result (λ rs. rs ≡ sharing (table self.now.encoder) route) }
-    {
-        let interlocking = self.encoder.interlocking;
-        let mut found = Vec::new(alloc);
-        for number in &self.numbers {
-            let shares = interlocking.share(route, *number);
-            push_if(&mut found, *number, shares)?;
-        }
-        Ok(List::from_vec(found))
-    }
-
     /// For each route, those that end where it starts.
     fn all_leading(&self, alloc: Global) -> Result<Vec<List<RouteNo>>, AllocError>
         ensures { IfOk result (λ rows. rows.items ≡ rows_by leading (table self.now.encoder)) }
@@ -125,17 +112,6 @@ impl<'a> Network<'a> {
         let mut rows = Vec::new(alloc);
         for number in &self.numbers {
             rows.push(self.going_on(alloc, *number)?)?;
-        }
-        Ok(rows)
-    }
-
-    /// For each route, those that share a section with it.
-    fn all_sharing(&self, alloc: Global) -> Result<Vec<List<RouteNo>>, AllocError>
-        ensures { IfOk result (λ rows. rows.items ≡ rows_by sharing (table self.now.encoder)) }
-    {
-        let mut rows = Vec::new(alloc);
-        for number in &self.numbers {
-            rows.push(self.sharing(alloc, *number)?)?;
         }
         Ok(rows)
     }
@@ -181,7 +157,7 @@ impl<'a> Network<'a> {
         let commands = self.encoder.commands(alloc)?;
         let leading = self.all_leading(alloc)?;
         let going_on = self.all_going_on(alloc)?;
-        let sharing = self.all_sharing(alloc)?;
+        let pairs = ContendingPairs::new(alloc, self.encoder.interlocking)?;
         let exclusions = self.exclusions(alloc)?;
         let Network { encoder, numbers } = self;
         Ok(Tables {
@@ -191,7 +167,7 @@ impl<'a> Network<'a> {
             commands,
             leading,
             going_on,
-            sharing,
+            pairs,
             exclusions,
         })
     }

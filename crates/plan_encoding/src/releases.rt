@@ -18,6 +18,16 @@ pub fn releases(alloc: Global, route: &Route) -> Result<Vec<(SectionNo, i64)>, A
     Ok(parts)
 }
 
+/// Where the last of these sections that is in a set is released, in mm; 0 where none is.
+pub fn last_release(parts: &[(SectionNo, i64)], set: &NumberSet) -> u64
+    ensures { result ≡ offset_of (find (λ p. contains set.now p.0.0) (reverse parts.now)) }
+{
+    match last_in(parts, set) {
+        Some(part) => part.1.unsigned_abs(),
+        None => 0,
+    }
+}
+
 /// The last of these sections that is in a set.
 fn last_in(parts: &[(SectionNo, i64)], set: &NumberSet) -> Option<(SectionNo, i64)>
     ensures { result ≡ find (λ p. contains set.now p.0.0) (reverse parts.now) }
@@ -27,14 +37,4 @@ fn last_in(parts: &[(SectionNo, i64)], set: &NumberSet) -> Option<(SectionNo, i6
         .rev()
         .copied()
         .find(|part| set.contains(part.0.0))
-}
-
-/// Where the last of these sections that is in a set is released, in mm; 0 where none is.
-pub fn last_release(parts: &[(SectionNo, i64)], set: &NumberSet) -> u64
-    ensures { result ≡ offset_of (find (λ p. contains set.now p.0.0) (reverse parts.now)) }
-{
-    match last_in(parts, set) {
-        Some(part) => part.1.unsigned_abs(),
-        None => 0,
-    }
 }

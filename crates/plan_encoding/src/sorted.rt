@@ -47,11 +47,11 @@ pub fn sorted_base(
     let neighbors = neighbors(alloc, &interlocking.design)?;
     let mut count = ClauseSink::new(alloc, false);
     tables.emit_all(alloc, &mut count)?;
-    let mut sink = count.kept(alloc)?;
+    let mut sink = count.keeping(alloc)?;
     tables.emit_all(alloc, &mut sink)?;
     let mut turns = sink.after(alloc);
     tables.emit_turns(alloc, &mut turns, neighbors.as_slice())?;
-    let pairs = tables.pairs(alloc)?;
+    let pairs = tables.into_pairs();
     Ok(SortedBase {
         base: base_of(interlocking, steps, pairs, sink.into_clauses()),
         turns: turns.into_clauses(),

@@ -10,15 +10,54 @@ ghost use Rattle.plan_encoding.specs.Encoders.{IsCommand, Emits, Stops, over, st
 ghost use Rattle.plan_encoding.specs.Tables.{leading};
 
 use crate::encoder::Encoder;
-use crate::links::row_of;
 use crate::sink::{BaseFault, ClauseSink};
 use crate::tables::Tables;
+use contending::row_of;
 use interlocking::has_node;
 use rail_base::plan::Command;
 use rail_base::route::{RouteNo, Start, route_at};
 use rail_base::station::{NodeNo, TrainNo};
 use sat_clause::Lit;
 use std::alloc::{AllocError, Global};
+
+impl Tables<'_> {
+    /// Emits that the routes of all commands start rightly.
+    pub fn emit_starts(&self, alloc: Global, sink: &mut ClauseSink) -> Result<(), BaseFault>
+        ensures ok { OnOk result (Emits self.now.encoder (all_start_rightly self.now.encoder) sink.old sink.new) }
+        ensures err { IfErr result (Stops self.now.encoder (all_start_rightly self.now.encoder) sink.old) }
+    {
+        for command in &self.commands {
+            self.emit_starts_of(alloc, sink, *command)?;
+        }
+        Ok(())
+    }
+
+    /// Emits that a command's route starts rightly.
+    fn emit_starts_of(
+        &self,
+        alloc: Global,
+        sink: &mut ClauseSink,
+        command: Command,
+    ) -> Result<(), BaseFault>
+        requires command { IsCommand self.now.encoder command }
+        ensures ok { OnOk result (Emits self.now.encoder (over self.now.encoder starts_rightly command)
+            sink.old sink.new) }
+        ensures err { IfErr result (Stops self.now.encoder (over self.now.encoder starts_rightly command) sink.old) }
+    {
+        match route_at(&self.encoder.interlocking.routes, command.route).start {
+            Start::Boundary(node) => {
+                if self.encoder.may_start(command.train, node) {
+                    return Ok(());
+                }
+                self.encoder.emit_never(sink, command)
+            }
+            Start::Signal(_) => {
+                let leading = row_of(&self.leading, command.route);
+                self.encoder.emit_led(alloc, sink, command, leading)
+            }
+        }
+    }
+}
 
 impl Encoder<'_> {
     /// Emits that a command is given by no step.
@@ -95,44 +134,5 @@ impl Encoder<'_> {
             Some(set) => has_node(set.as_slice(), node),
             None => false,
         }
-    }
-}
-
-impl Tables<'_> {
-    /// Emits that a command's route starts rightly.
-    fn emit_starts_of(
-        &self,
-        alloc: Global,
-        sink: &mut ClauseSink,
-        command: Command,
-    ) -> Result<(), BaseFault>
-        requires command { IsCommand self.now.encoder command }
-        ensures ok { OnOk result (Emits self.now.encoder (over self.now.encoder starts_rightly command)
-            sink.old sink.new) }
-        ensures err { IfErr result (Stops self.now.encoder (over self.now.encoder starts_rightly command) sink.old) }
-    {
-        match route_at(&self.encoder.interlocking.routes, command.route).start {
-            Start::Boundary(node) => {
-                if self.encoder.may_start(command.train, node) {
-                    return Ok(());
-                }
-                self.encoder.emit_never(sink, command)
-            }
-            Start::Signal(_) => {
-                let leading = row_of(&self.leading, command.route);
-                self.encoder.emit_led(alloc, sink, command, leading)
-            }
-        }
-    }
-
-    /// Emits that the routes of all commands start rightly.
-    pub fn emit_starts(&self, alloc: Global, sink: &mut ClauseSink) -> Result<(), BaseFault>
-        ensures ok { OnOk result (Emits self.now.encoder (all_start_rightly self.now.encoder) sink.old sink.new) }
-        ensures err { IfErr result (Stops self.now.encoder (all_start_rightly self.now.encoder) sink.old) }
-    {
-        for command in &self.commands {
-            self.emit_starts_of(alloc, sink, *command)?;
-        }
-        Ok(())
     }
 }

@@ -12,20 +12,6 @@ use crate::tables::Tables;
 use rail_base::plan::Command;
 use sat_clause::Lit;
 
-impl Encoder<'_> {
-    /// Emits that a command stays given.
-    fn emit_stays_of(&self, sink: &mut ClauseSink, command: Command) -> Result<(), BaseFault>
-        requires command { IsCommand self.now command }
-        ensures ok { OnOk result (Emits self.now (over self.now stays_given command) sink.old sink.new) }
-        ensures err { IfErr result (Stops self.now (over self.now stays_given command) sink.old) }
-    {
-        for step in 1..self.steps.count {
-            sink.emit(&[self.not_given(command, step), self.given(command, step + 1)])?;
-        }
-        Ok(())
-    }
-}
-
 impl Tables<'_> {
     /// Emits that all commands stay given.
     pub fn emit_stays(&self, sink: &mut ClauseSink) -> Result<(), BaseFault>
@@ -40,6 +26,19 @@ impl Tables<'_> {
 }
 
 impl Selectors<'_> {
+    /// Lists this for each step but the last.
+    pub fn emit_by_steps(&self, sink: &mut ClauseSink) -> Result<(), BaseFault>
+        ensures ok { OnOk result (Emits self.now.tables.now.encoder
+            (all_by_steps self.now.tables.now.encoder) sink.old sink.new) }
+        ensures err { IfErr result (Stops self.now.tables.now.encoder
+            (all_by_steps self.now.tables.now.encoder) sink.old) }
+    {
+        for step in 1..self.tables.encoder.steps.count {
+            self.emit_by_step(sink, step)?;
+        }
+        Ok(())
+    }
+
     /// Emits that by a step all commands are given that are given at all.
     fn emit_by_step(&self, sink: &mut ClauseSink, step: u32) -> Result<(), BaseFault>
         requires at_least_one { 1 ≤ step }
@@ -64,16 +63,17 @@ impl Selectors<'_> {
         }
         Ok(())
     }
+}
 
-    /// Lists this for each step but the last.
-    pub fn emit_by_steps(&self, sink: &mut ClauseSink) -> Result<(), BaseFault>
-        ensures ok { OnOk result (Emits self.now.tables.now.encoder
-            (all_by_steps self.now.tables.now.encoder) sink.old sink.new) }
-        ensures err { IfErr result (Stops self.now.tables.now.encoder
-            (all_by_steps self.now.tables.now.encoder) sink.old) }
+impl Encoder<'_> {
+    /// Emits that a command stays given.
+    fn emit_stays_of(&self, sink: &mut ClauseSink, command: Command) -> Result<(), BaseFault>
+        requires command { IsCommand self.now command }
+        ensures ok { OnOk result (Emits self.now (over self.now stays_given command) sink.old sink.new) }
+        ensures err { IfErr result (Stops self.now (over self.now stays_given command) sink.old) }
     {
-        for step in 1..self.tables.encoder.steps.count {
-            self.emit_by_step(sink, step)?;
+        for step in 1..self.steps.count {
+            sink.emit(&[self.not_given(command, step), self.given(command, step + 1)])?;
         }
         Ok(())
     }

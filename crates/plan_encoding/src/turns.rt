@@ -19,6 +19,63 @@ use rail_base::station::TrainNo;
 use sat_clause::Lit;
 use std::alloc::{AllocError, Global};
 
+impl Tables<'_> {
+    /// Emits that the trains of each pair come in turn.
+    pub fn emit_turns(
+        &self,
+        alloc: Global,
+        sink: &mut ClauseSink,
+        pairs: &[(TrainNo, TrainNo)],
+    ) -> Result<(), BaseFault>
+        requires { AreNamed (station self.now.encoder) pairs.now }
+        ensures ok { OnOk result (Emits self.now.encoder (all_in_turn self.now.encoder pairs.now) sink.old sink.new) }
+        ensures err { IfErr result (Stops self.now.encoder (all_in_turn self.now.encoder pairs.now) sink.old) }
+    {
+        for pair in pairs {
+            self.emit_turns_of(alloc, sink, *pair)?;
+        }
+        Ok(())
+    }
+
+    /// The routes with which a train may begin.
+    fn beginnings(&self, alloc: Global, train: TrainNo) -> Result<Vec<RouteNo>, AllocError>
+        requires { IsTrain (station self.now.encoder) train }
+        ensures { IfOk result (λ rs. rs.items ≡ over self.now.encoder beginnings train) }
+    {
+        let mut routes = Vec::new(alloc);
+        for route in &self.numbers {
+            let belongs = self.encoder.begins(train, *route);
+            push_if(&mut routes, *route, belongs)?;
+        }
+        Ok(routes)
+    }
+
+    /// Emits that two trains come in turn.
+    fn emit_turns_of(
+        &self,
+        alloc: Global,
+        sink: &mut ClauseSink,
+        pair: (TrainNo, TrainNo),
+    ) -> Result<(), BaseFault>
+        requires earlier { IsTrain (station self.now.encoder) pair.0 }
+        requires later { IsTrain (station self.now.encoder) pair.1 }
+        ensures ok { OnOk result (Emits self.now.encoder (over self.now.encoder in_turn pair) sink.old sink.new) }
+        ensures err { IfErr result (Stops self.now.encoder (over self.now.encoder in_turn pair) sink.old) }
+    {
+        let first = self.beginnings(alloc, pair.0)?;
+        let then = self.beginnings(alloc, pair.1)?;
+        for route in &then {
+            let command = Command {
+                train: pair.1,
+                route: *route,
+            };
+            self.encoder
+                .emit_begun(alloc, sink, pair.0, &first, command)?;
+        }
+        Ok(())
+    }
+}
+
 impl Encoder<'_> {
     /// Whether a train may begin with a route.
     fn begins(&self, train: TrainNo, route: RouteNo) -> bool
@@ -80,63 +137,6 @@ impl Encoder<'_> {
         for step in 1..self.steps.count + 1 {
             let clause = self.begun_clause(alloc, earlier, routes, command, step)?;
             sink.emit(&clause)?;
-        }
-        Ok(())
-    }
-}
-
-impl Tables<'_> {
-    /// The routes with which a train may begin.
-    fn beginnings(&self, alloc: Global, train: TrainNo) -> Result<Vec<RouteNo>, AllocError>
-        requires { IsTrain (station self.now.encoder) train }
-        ensures { IfOk result (λ rs. rs.items ≡ over self.now.encoder beginnings train) }
-    {
-        let mut routes = Vec::new(alloc);
-        for route in &self.numbers {
-            let belongs = self.encoder.begins(train, *route);
-            push_if(&mut routes, *route, belongs)?;
-        }
-        Ok(routes)
-    }
-
-    /// Emits that two trains come in turn.
-    fn emit_turns_of(
-        &self,
-        alloc: Global,
-        sink: &mut ClauseSink,
-        pair: (TrainNo, TrainNo),
-    ) -> Result<(), BaseFault>
-        requires earlier { IsTrain (station self.now.encoder) pair.0 }
-        requires later { IsTrain (station self.now.encoder) pair.1 }
-        ensures ok { OnOk result (Emits self.now.encoder (over self.now.encoder in_turn pair) sink.old sink.new) }
-        ensures err { IfErr result (Stops self.now.encoder (over self.now.encoder in_turn pair) sink.old) }
-    {
-        let first = self.beginnings(alloc, pair.0)?;
-        let then = self.beginnings(alloc, pair.1)?;
-        for route in &then {
-            let command = Command {
-                train: pair.1,
-                route: *route,
-            };
-            self.encoder
-                .emit_begun(alloc, sink, pair.0, &first, command)?;
-        }
-        Ok(())
-    }
-
-    /// Emits that the trains of each pair come in turn.
-    pub fn emit_turns(
-        &self,
-        alloc: Global,
-        sink: &mut ClauseSink,
-        pairs: &[(TrainNo, TrainNo)],
-    ) -> Result<(), BaseFault>
-        requires { AreNamed (station self.now.encoder) pairs.now }
-        ensures ok { OnOk result (Emits self.now.encoder (all_in_turn self.now.encoder pairs.now) sink.old sink.new) }
-        ensures err { IfErr result (Stops self.now.encoder (all_in_turn self.now.encoder pairs.now) sink.old) }
-    {
-        for pair in pairs {
-            self.emit_turns_of(alloc, sink, *pair)?;
         }
         Ok(())
     }

@@ -24,21 +24,18 @@ use rail_base::station::{NodeNo, TrainNo};
 use sat_clause::Lit;
 use std::alloc::{AllocError, Global};
 
-impl Encoder<'_> {
-    /// Whether a visit may be made on a route.
-    fn may_visit(&self, visit: &Visit, route: RouteNo) -> bool
-        requires route { IsRoute (table self.now) route }
-        ensures { result ≡ over self.now may_visit visit.now.number visit.now.list.now route }
-    {
-        let route = route_at(&self.interlocking.routes, route);
-        if visit.number == 1 {
-            return starts_in(visit.list.as_slice(), route.start);
-        }
-        leads_to(&visit.set, route)
-    }
-}
-
 impl Tables<'_> {
+    /// Emits that all trains make their visits.
+    pub fn emit_visits(&self, alloc: Global, sink: &mut ClauseSink) -> Result<(), BaseFault>
+        ensures ok { OnOk result (Emits self.now.encoder (all_visits self.now.encoder) sink.old sink.new) }
+        ensures err { IfErr result (Stops self.now.encoder (all_visits self.now.encoder) sink.old) }
+    {
+        for train in &self.trains {
+            self.emit_visits_of(alloc, sink, *train)?;
+        }
+        Ok(())
+    }
+
     /// The clause that one of the routes is given on which a visit may be made.
     fn visit_clause(
         &self,
@@ -90,16 +87,19 @@ impl Tables<'_> {
         }
         Ok(())
     }
+}
 
-    /// Emits that all trains make their visits.
-    pub fn emit_visits(&self, alloc: Global, sink: &mut ClauseSink) -> Result<(), BaseFault>
-        ensures ok { OnOk result (Emits self.now.encoder (all_visits self.now.encoder) sink.old sink.new) }
-        ensures err { IfErr result (Stops self.now.encoder (all_visits self.now.encoder) sink.old) }
+impl Encoder<'_> {
+    /// Whether a visit may be made on a route.
+    fn may_visit(&self, visit: &Visit, route: RouteNo) -> bool
+        requires route { IsRoute (table self.now) route }
+        ensures { result ≡ over self.now may_visit visit.now.number visit.now.list.now route }
     {
-        for train in &self.trains {
-            self.emit_visits_of(alloc, sink, *train)?;
+        let route = route_at(&self.interlocking.routes, route);
+        if visit.number == 1 {
+            return starts_in(visit.list.as_slice(), route.start);
         }
-        Ok(())
+        leads_to(&visit.set, route)
     }
 }
 

@@ -11,11 +11,11 @@ ghost use Rattle.plan_encoding.specs.Encoders.{IsCommand, Emits, Stops, station,
 ghost use Rattle.plan_encoding.specs.Waits.{frame_of, waits_at, waits_for_it, waits_in, waits_on};
 
 use crate::encoder::Encoder;
-use crate::links::row_of;
 use crate::releases::{last_release, releases};
 use crate::sink::{BaseFault, ClauseSink};
 use crate::tables::Tables;
 use crate::wait::{Releasing, Wait};
+use contending::row_of;
 use rail_base::plan::Command;
 use rail_base::route::{RouteNo, Start, route_at};
 use rail_base::station::TrainNo;
@@ -23,19 +23,6 @@ use sat_clause::Lit;
 use std::alloc::{AllocError, Global};
 
 impl Encoder<'_> {
-    /// Whether one of the routes starts there.
-    fn start_there(&self, chain: &[RouteNo], start: Start) -> bool
-        requires { All (IsRoute (table self.now)) chain.now }
-        ensures { result ≡ list_any (λ v. is_start (route_at (table self.now) v).start start) chain.now }
-    {
-        for route in chain {
-            if route_at(&self.interlocking.routes, *route).start == start {
-                return true;
-            }
-        }
-        false
-    }
-
     /// Puts at the end of a clause that a train is given routes by a step.
     pub fn push_all_given(
         &self,
@@ -60,6 +47,19 @@ impl Encoder<'_> {
         Ok(())
     }
 
+    /// Whether one of the routes starts there.
+    fn start_there(&self, chain: &[RouteNo], start: Start) -> bool
+        requires { All (IsRoute (table self.now)) chain.now }
+        ensures { result ≡ list_any (λ v. is_start (route_at (table self.now) v).start start) chain.now }
+    {
+        for route in chain {
+            if route_at(&self.interlocking.routes, *route).start == start {
+                return true;
+            }
+        }
+        false
+    }
+
     /// Puts at the end of a clause that a train is not given routes by a step.
     fn push_none_given(
         &self,
@@ -80,6 +80,79 @@ impl Encoder<'_> {
                 route: *route,
             };
             clause.push(self.not_given(command, step))?;
+        }
+        Ok(())
+    }
+}
+
+impl Tables<'_> {
+    /// Emits that all contending commands wait for each other. With one step there is nothing to list.
+    pub fn emit_waits(&self, alloc: Global, sink: &mut ClauseSink) -> Result<(), BaseFault>
+        ensures ok { OnOk result (Emits self.now.encoder (all_wait self.now.encoder) sink.old sink.new) }
+        ensures err { IfErr result (Stops self.now.encoder (all_wait self.now.encoder) sink.old) }
+    {
+        if self.encoder.steps.count == 1 {
+            return Ok(());
+        }
+        for command in &self.commands {
+            let rivals = self.rivals(alloc, *command)?;
+            self.emit_waits_for(alloc, sink, *command, &rivals)?;
+        }
+        Ok(())
+    }
+
+    /// The routes with which a chain goes on: all that start where its last one ends, unless one of the chain starts
+    /// there.
+    fn onward(
+        &self,
+        alloc: Global,
+        chain: &[RouteNo],
+        last: RouteNo,
+    ) -> Result<Vec<RouteNo>, AllocError>
+        requires chain { All (IsRoute (table self.now.encoder)) chain.now }
+        requires last { IsRoute (table self.now.encoder) last }
+        ensures { IfOk result (λ rs. rs.items ≡ onward (table self.now.encoder) chain.now last) }
+    {
+        let row = row_of(&self.going_on, last);
+        let Some(first) = row.first() else {
+            return Ok(Vec::new(alloc));
+        };
+        let start = route_at(&self.encoder.interlocking.routes, *first).start;
+        if self.encoder.start_there(chain, start) {
+            return Ok(Vec::new(alloc));
+        }
+        Vec::from_slice(alloc, row)
+    }
+
+    /// Emits that rivals wait for a command; for one whose route exits no chain is emitted.
+    fn emit_waits_for(
+        &self,
+        alloc: Global,
+        sink: &mut ClauseSink,
+        first: Command,
+        rivals: &[Command],
+    ) -> Result<(), BaseFault>
+        requires first { IsCommand self.now.encoder first }
+        requires rivals { All (IsCommand self.now.encoder) rivals.now }
+        ensures ok { OnOk result (Emits self.now.encoder (each_with self.now.encoder waits first rivals.now)
+            sink.old sink.new) }
+        ensures err { IfErr result (Stops self.now.encoder (each_with self.now.encoder waits first rivals.now) sink.old) }
+    {
+        if rivals.is_empty() {
+            return Ok(());
+        }
+        let route = route_at(&self.encoder.interlocking.routes, first.route);
+        if route.exits() {
+            return Ok(());
+        }
+        let parts = releases(alloc, route)?;
+        let releasing = Releasing {
+            tables: self,
+            first,
+            parts: &parts,
+        };
+        for second in rivals {
+            releasing.emit_waits_of(alloc, sink, *second)?;
         }
         Ok(())
     }
@@ -198,78 +271,5 @@ impl Releasing<'_> {
         let more = interlocking.routes.len() as u32;
         let mut chain = Vec::new(alloc);
         wait.emit_chains(alloc, sink, &mut chain, 0, self.first.route, more)
-    }
-}
-
-impl Tables<'_> {
-    /// The routes with which a chain goes on: all that start where its last one ends, unless one of the chain starts
-    /// there.
-    fn onward(
-        &self,
-        alloc: Global,
-        chain: &[RouteNo],
-        last: RouteNo,
-    ) -> Result<Vec<RouteNo>, AllocError>
-        requires chain { All (IsRoute (table self.now.encoder)) chain.now }
-        requires last { IsRoute (table self.now.encoder) last }
-        ensures { IfOk result (λ rs. rs.items ≡ onward (table self.now.encoder) chain.now last) }
-    {
-        let row = row_of(&self.going_on, last);
-        let Some(first) = row.first() else {
-            return Ok(Vec::new(alloc));
-        };
-        let start = route_at(&self.encoder.interlocking.routes, *first).start;
-        if self.encoder.start_there(chain, start) {
-            return Ok(Vec::new(alloc));
-        }
-        Vec::from_slice(alloc, row)
-    }
-
-    /// Emits that rivals wait for a command; for one whose route exits no chain is emitted.
-    fn emit_waits_for(
-        &self,
-        alloc: Global,
-        sink: &mut ClauseSink,
-        first: Command,
-        rivals: &[Command],
-    ) -> Result<(), BaseFault>
-        requires first { IsCommand self.now.encoder first }
-        requires rivals { All (IsCommand self.now.encoder) rivals.now }
-        ensures ok { OnOk result (Emits self.now.encoder (each_with self.now.encoder waits first rivals.now)
-            sink.old sink.new) }
-        ensures err { IfErr result (Stops self.now.encoder (each_with self.now.encoder waits first rivals.now) sink.old) }
-    {
-        if rivals.is_empty() {
-            return Ok(());
-        }
-        let route = route_at(&self.encoder.interlocking.routes, first.route);
-        if route.exits() {
-            return Ok(());
-        }
-        let parts = releases(alloc, route)?;
-        let releasing = Releasing {
-            tables: self,
-            first,
-            parts: &parts,
-        };
-        for second in rivals {
-            releasing.emit_waits_of(alloc, sink, *second)?;
-        }
-        Ok(())
-    }
-
-    /// Emits that all contending commands wait for each other. With one step there is nothing to list.
-    pub fn emit_waits(&self, alloc: Global, sink: &mut ClauseSink) -> Result<(), BaseFault>
-        ensures ok { OnOk result (Emits self.now.encoder (all_wait self.now.encoder) sink.old sink.new) }
-        ensures err { IfErr result (Stops self.now.encoder (all_wait self.now.encoder) sink.old) }
-    {
-        if self.encoder.steps.count == 1 {
-            return Ok(());
-        }
-        for command in &self.commands {
-            let rivals = self.rivals(alloc, *command)?;
-            self.emit_waits_for(alloc, sink, *command, &rivals)?;
-        }
-        Ok(())
     }
 }

@@ -58,6 +58,29 @@ pub struct FailedPlan<'a, 'b> {
 impl FailedPlan<'_, '_> {
     ghost use Rattle.plan_exclusion.specs.Written.{DeniedBy, DeniesNothing, ExcludesNothing, IsExclusionOf, SpellsNoBound};
 
+    /// What excludes the plan: by the method of cones the cone of its failure, and by that of bounds one of the bounds that
+    /// are found, or the cone where none of them excludes it.
+    ///
+    /// # Errors
+    ///
+    /// Want of memory alone.
+    pub fn exclusion(
+        &self,
+        alloc: Global,
+        method: Method,
+        finder: &mut Finder,
+    ) -> Result<Exclusion, AllocError>
+        ensures { IfOk result (IsExclusionOf self.now method) }
+    {
+        match method {
+            Method::Cones => self.by_cone(alloc, method),
+            Method::Bounds => match self.by_bounds(alloc, finder)? {
+                Some(exclusion) => Ok(exclusion),
+                None => self.by_cone(alloc, method),
+            },
+        }
+    }
+
     /// What the design says of evidence.
     fn by_design(&self) -> ByDesign<'_>
         ensures design { result.contention ≡ self.now.contention }
@@ -142,28 +165,5 @@ impl FailedPlan<'_, '_> {
             }
         }
         Ok(None)
-    }
-
-    /// What excludes the plan: by the method of cones the cone of its failure, and by that of bounds one of the bounds that
-    /// are found, or the cone where none of them excludes it.
-    ///
-    /// # Errors
-    ///
-    /// Want of memory alone.
-    pub fn exclusion(
-        &self,
-        alloc: Global,
-        method: Method,
-        finder: &mut Finder,
-    ) -> Result<Exclusion, AllocError>
-        ensures { IfOk result (IsExclusionOf self.now method) }
-    {
-        match method {
-            Method::Cones => self.by_cone(alloc, method),
-            Method::Bounds => match self.by_bounds(alloc, finder)? {
-                Some(exclusion) => Ok(exclusion),
-                None => self.by_cone(alloc, method),
-            },
-        }
     }
 }

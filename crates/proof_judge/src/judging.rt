@@ -23,6 +23,38 @@ use rail_base::plan::Command;
 use sat_clause::Arena;
 use std::alloc::{AllocError, Global};
 
+/// What the bytes of a proof file show of the design whose clauses these are: that it has no plan of so many steps, or the
+/// first bad line. Where the file's head names the base of trains that come in turn, its further clauses are made here.
+/// The error is want of memory.
+pub fn judge(
+    alloc: Global,
+    interlocking: &Interlocking,
+    base: Base,
+    bytes: &[u8],
+) -> Result<CheckResult, AllocError>
+    requires base { let d = interlocking.now.design.station in IsBaseOf d (routes_of d) base.steps base }
+    ensures value { IfOk result (λ shown. shown ≡ judged interlocking.now.design.station base.steps bytes.now) }
+    ensures sound { (k : ℕ) → result ≡ Ok (Yes k) → IsInfeasible interlocking.now.design.station k }
+{
+    let steps = base.steps();
+    match head_in(bytes) {
+        Some(
+            Head::Sorted {
+                version,
+                steps: named,
+            },
+        ) => judge_sorted(alloc, interlocking, steps, version, named, bytes),
+        Some(
+            Head::Named {
+                version,
+                steps: named,
+            },
+        ) => judge_named(alloc, interlocking, base, version, named, bytes),
+        Some(Head::Plain) => judge_base(alloc, interlocking, Head::Plain, base, bytes),
+        None => judge_base(alloc, interlocking, Head::Plain, base, bytes),
+    }
+}
+
 /// Puts clauses, all live, behind others.
 fn append(clauses: &mut Arena, more: &Arena) -> Result<(), AllocError>
     requires { (cs : List (List Lit)) × (more.now ≡ all_live cs) }
@@ -182,37 +214,5 @@ fn judge_sorted(
         Ok(sorted) => judge_turns(alloc, interlocking, version, named, sorted, bytes),
         Err(BaseFault::TooLarge { .. }) => Ok(bad_head(Reason::BaseTooLarge)),
         Err(BaseFault::Memory) => Err(AllocError),
-    }
-}
-
-/// What the bytes of a proof file show of the design whose clauses these are: that it has no plan of so many steps, or the
-/// first bad line. Where the file's head names the base of trains that come in turn, its further clauses are made here.
-/// The error is want of memory.
-pub fn judge(
-    alloc: Global,
-    interlocking: &Interlocking,
-    base: Base,
-    bytes: &[u8],
-) -> Result<CheckResult, AllocError>
-    requires base { let d = interlocking.now.design.station in IsBaseOf d (routes_of d) base.steps base }
-    ensures value { IfOk result (λ shown. shown ≡ judged interlocking.now.design.station base.steps bytes.now) }
-    ensures sound { (k : ℕ) → result ≡ Ok (Yes k) → IsInfeasible interlocking.now.design.station k }
-{
-    let steps = base.steps();
-    match head_in(bytes) {
-        Some(
-            Head::Sorted {
-                version,
-                steps: named,
-            },
-        ) => judge_sorted(alloc, interlocking, steps, version, named, bytes),
-        Some(
-            Head::Named {
-                version,
-                steps: named,
-            },
-        ) => judge_named(alloc, interlocking, base, version, named, bytes),
-        Some(Head::Plain) => judge_base(alloc, interlocking, Head::Plain, base, bytes),
-        None => judge_base(alloc, interlocking, Head::Plain, base, bytes),
     }
 }

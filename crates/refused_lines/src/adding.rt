@@ -18,6 +18,29 @@ const MOST_LINES: u64 = 1_000_000;
 /// A solver whose recorder stops at chosen calls.
 pub(crate) type HaltingSolver = Solver<Halting<Text>>;
 
+impl SearchState {
+    /// Gives the solver a clause with its line, once more where memory was wanting the first time.
+    pub(crate) fn add(&mut self, line: &[u8], clause: &[Lit]) -> Result<()> {
+        let vars = self.vars;
+        if is_added(&mut self.solver, vars, line, clause)? {
+            return Ok(());
+        }
+        self.refused = self.refused.saturating_add(1);
+        ensure!(
+            is_added(&mut self.solver, vars, line, clause)?,
+            "memory is wanting"
+        );
+        Ok(())
+    }
+
+    /// Asks the solver for values that make a literal true.
+    pub(crate) fn solve_under(&mut self, assumed: Lit) -> Result<Answer> {
+        let vars = self.vars;
+        ensure!(are_in(vars, &[assumed]), "the literal is of no variable");
+        Ok(self.solver.solve(&[assumed], MOST_LINES))
+    }
+}
+
 /// Whether a literal is of one of so many variables.
 fn is_in(vars: u32, lit: Lit) -> bool
     ensures { result ≡ is_in vars lit }
@@ -49,19 +72,6 @@ fn line_length(line: &[u8]) -> u64
     line.len() as u64 + 1
 }
 
-/// Gives a solver a clause with its line, and tells whether memory sufficed.
-fn is_added(solver: &mut HaltingSolver, vars: u32, line: &[u8], clause: &[Lit]) -> Result<bool>
-    requires { solver.old.vars ≡ vars }
-    ensures { solver.new.vars ≡ solver.old.vars }
-{
-    ensure!(are_in(vars, clause), "a literal is of no variable");
-    ensure!(
-        solver.recorder().room(line_length(line)),
-        "the log has no room"
-    );
-    Ok(solver.add_clause(line, clause).is_ok())
-}
-
 /// A search that goes on.
 #[derive(Drop)]
 pub(crate) struct SearchState {
@@ -75,25 +85,15 @@ pub(crate) struct SearchState {
     pub(crate) ghost same: { solver.vars ≡ vars },
 }
 
-impl SearchState {
-    /// Gives the solver a clause with its line, once more where memory was wanting the first time.
-    pub(crate) fn add(&mut self, line: &[u8], clause: &[Lit]) -> Result<()> {
-        let vars = self.vars;
-        if is_added(&mut self.solver, vars, line, clause)? {
-            return Ok(());
-        }
-        self.refused = self.refused.saturating_add(1);
-        ensure!(
-            is_added(&mut self.solver, vars, line, clause)?,
-            "memory is wanting"
-        );
-        Ok(())
-    }
-
-    /// Asks the solver for values that make a literal true.
-    pub(crate) fn solve_under(&mut self, assumed: Lit) -> Result<Answer> {
-        let vars = self.vars;
-        ensure!(are_in(vars, &[assumed]), "the literal is of no variable");
-        Ok(self.solver.solve(&[assumed], MOST_LINES))
-    }
+/// Gives a solver a clause with its line, and tells whether memory sufficed.
+fn is_added(solver: &mut HaltingSolver, vars: u32, line: &[u8], clause: &[Lit]) -> Result<bool>
+    requires { solver.old.vars ≡ vars }
+    ensures { solver.new.vars ≡ solver.old.vars }
+{
+    ensure!(are_in(vars, clause), "a literal is of no variable");
+    ensure!(
+        solver.recorder().room(line_length(line)),
+        "the log has no room"
+    );
+    Ok(solver.add_clause(line, clause).is_ok())
 }

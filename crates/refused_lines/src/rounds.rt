@@ -53,6 +53,40 @@ struct PlanSearch<'a> {
     ghost numbers: { let d = interlocking.now.design.station in IsBaseOf d (routes_of d) base.now.steps base.now },
 }
 
+/// Looks for a plan of so many steps, where the recorder stops at these calls, until it is shown that there is none.
+///
+/// # Errors
+///
+/// Want of memory that was not asked for, a plan that is met, and a round in which a budget is spent.
+pub(crate) fn refute(
+    alloc: Global,
+    interlocking: &Interlocking,
+    steps: Steps,
+    stops: &[u64],
+) -> Result<Ended> {
+    let base = base(alloc, interlocking, steps)?;
+    let plan_search = PlanSearch {
+        alloc,
+        interlocking,
+        base: &base,
+    };
+    let mut search = plan_search.start(stops)?;
+    for _ in 0..ROUNDS {
+        if plan_search.refine(&mut search)? {
+            let refused = search.refused;
+            let recorder = search.solver.into_recorder();
+            let calls = recorder.calls();
+            let log = recorder.into_inner().into_bytes();
+            return Ok(Ended {
+                log,
+                calls,
+                refused,
+            });
+        }
+    }
+    bail!("too many rounds")
+}
+
 impl PlanSearch<'_> {
     /// The plan of which these values tell, as its text reads back.
     fn plan_of(&self, values: &Assignment) -> Result<Plan>
@@ -164,38 +198,4 @@ impl PlanSearch<'_> {
         }
         Ok(search)
     }
-}
-
-/// Looks for a plan of so many steps, where the recorder stops at these calls, until it is shown that there is none.
-///
-/// # Errors
-///
-/// Want of memory that was not asked for, a plan that is met, and a round in which a budget is spent.
-pub(crate) fn refute(
-    alloc: Global,
-    interlocking: &Interlocking,
-    steps: Steps,
-    stops: &[u64],
-) -> Result<Ended> {
-    let base = base(alloc, interlocking, steps)?;
-    let plan_search = PlanSearch {
-        alloc,
-        interlocking,
-        base: &base,
-    };
-    let mut search = plan_search.start(stops)?;
-    for _ in 0..ROUNDS {
-        if plan_search.refine(&mut search)? {
-            let refused = search.refused;
-            let recorder = search.solver.into_recorder();
-            let calls = recorder.calls();
-            let log = recorder.into_inner().into_bytes();
-            return Ok(Ended {
-                log,
-                calls,
-                refused,
-            });
-        }
-    }
-    bail!("too many rounds")
 }

@@ -54,16 +54,23 @@ pub(crate) struct PlanSearch<'a> {
         (first_clauses method interlocking.now.design.station base.now.steps) ≡ None },
 }
 
-/// The log of a solver that is done.
-fn log_of(solver: Solver<Text>) -> Vec<u8>
-    ensures { result ≡ solver.recorder.bytes }
-{
-    solver.into_recorder().into_bytes()
-}
-
 impl PlanSearch<'_> {
     ghost use Rattle.verify_loop.specs.Asking.{EndsWith, Excludes, GoesOn, IsAtPlan, IsDenied, IsOpen, IsSearch};
     ghost use Rattle.verify_loop.specs.Asking.{AreValuesFor, WasFound, given_by, ticks_of, variables};
+
+    /// Round after round, each of which but the last excludes a plan that fails.
+    pub(crate) fn run_rounds(&self, search: SearchState) -> Outcome
+        requires { IsSearch self.now search }
+        ensures { EndsWith self.now result }
+    {
+        let mut search = search;
+        'rounds: loop {
+            match self.refine(search) {
+                Ok(next) => search = next,
+                Err(outcome) => return outcome,
+            }
+        }
+    }
 
     /// What excludes a plan that was found and fails.
     fn exclusion_of<'b>(
@@ -266,18 +273,11 @@ impl PlanSearch<'_> {
         }
         self.solve_round(search)
     }
+}
 
-    /// Round after round, each of which but the last excludes a plan that fails.
-    pub(crate) fn run_rounds(&self, search: SearchState) -> Outcome
-        requires { IsSearch self.now search }
-        ensures { EndsWith self.now result }
-    {
-        let mut search = search;
-        'rounds: loop {
-            match self.refine(search) {
-                Ok(next) => search = next,
-                Err(outcome) => return outcome,
-            }
-        }
-    }
+/// The log of a solver that is done.
+fn log_of(solver: Solver<Text>) -> Vec<u8>
+    ensures { result ≡ solver.recorder.bytes }
+{
+    solver.into_recorder().into_bytes()
 }

@@ -9,5 +9,5 @@ pub returns : goal.returns
 returns c =
     let i = c.args.contention.now.interlocking.now in
     c.neighbors_are_paired.ensures
-    ∙ (ap (λ (ps : List (Command × Command)). all_neighbors (are_paired_where_they_meet ps) c.args.legs.now) (c.sorted.ensures ∙ c.args.contention.now.ordered)
+    ∙ (ap (λ (ps : List (Command × Command)). all_neighbors (are_paired_where_they_meet ps) c.args.legs.now) c.args.contention.now.ordered
     ∙ legs_meet i.design.station i.routes c.args.legs.now c.requires)

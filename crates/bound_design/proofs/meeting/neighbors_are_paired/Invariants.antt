@@ -5,4 +5,4 @@ use Rattle.bound_design.proofs.meeting.neighbors_are_paired.Given as goal
 
 -- those so far are
 abbrev pub invariant-loop-index : goal.invariant-loop-index
-invariant-loop-index l = all_neighbors (are_paired_where_they_meet l.pairs.items.now) (drop (l.index - 1) l.legs) ≡ all_neighbors (are_paired_where_they_meet l.pairs.items.now) l.legs
+invariant-loop-index l = all_neighbors (are_paired_where_they_meet l.pairs) (drop (l.index - 1) l.legs) ≡ all_neighbors (are_paired_where_they_meet l.pairs) l.legs

@@ -13,6 +13,6 @@ returns c =
     let d = c.args.contention.now.interlocking.now.design.station in
     let routes = c.args.contention.now.interlocking.now.routes in
     c.are_pairs.ensures
-    ∙ (ap₂ (λ (rs : List (Vec Bool Global)) (ps : List (Command × Command)). list_all (marked_pair (map items rs) ps) c.as_slice-2.result.now) c.as_slice.ensures.value (c.sorted.ensures ∙ c.args.contention.now.ordered)
+    ∙ (ap₂ (λ (rs : List (Vec Bool Global)) (ps : List (Command × Command)). list_all (marked_pair (map items rs) ps) c.as_slice-2.result.now) c.as_slice.ensures.value c.args.contention.now.ordered
     ∙ (ap (λ (ps : List (Command × Command)). list_all (marked_pair (map items rows) (pairs d routes)) ps) c.as_slice-2.ensures
     ∙ pairs_are d routes c.args.cone.now c.requires (map items rows) c.in_ok-rows.ensures c.args.cone.now.pairs))

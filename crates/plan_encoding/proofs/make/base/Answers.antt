@@ -15,7 +15,7 @@ base_of-requires c =
     let fits = not_refused c.args.interlocking.now.design.station c.args.interlocking.now.routes c.args.steps.count c.in_ok-sink.sink (ap (λ (x : SinkView). x.literals) c.in_ok-sink.ensures) c.emit_all-2.new.sink
     (subst (λ (f : Encoder). Emits f (over f clauses) c.in_ok-sink.sink c.emit_all-2.new.sink) c.in_ok-tables.ensures c.in_ok-emit_all-2.ensures.ok) in
     let few = few_pairs c.args.interlocking.now.design.station c.args.interlocking.now.routes c.args.steps.count 16000000 fits in
-    let is = ap length (c.in_ok-pairs.ensures ∙ ap (λ (f : Encoder). pairs (station f) (table f)) c.in_ok-tables.ensures) in
+    let is = ap length (c.into_pairs-pairs.ensures ∙ ap (λ (f : Encoder). pairs (station f) (table f)) c.in_ok-tables.ensures) in
     record { pairs = omega arith }
 
 pub returns-in_err-emit_all-clause-fault : goal.returns-in_err-emit_all-clause-fault
@@ -33,7 +33,7 @@ returns-clause-base c = subst (IsBaseOf c.args.interlocking.now.design.station c
   trains = refl;
   routes = refl;
   steps = refl;
-  pairs = c.in_ok-pairs.ensures ∙ ap (λ (f : Encoder). pairs (station f) (table f)) c.in_ok-tables.ensures;
+  pairs = c.into_pairs-pairs.ensures ∙ ap (λ (f : Encoder). pairs (station f) (table f)) c.in_ok-tables.ensures;
   clauses = c.into_clauses.ensures ∙ kept c.args.interlocking.now.design.station c.args.interlocking.now.routes c.args.steps.count c.in_ok-sink.sink c.emit_all-2.new.sink
       (subst (λ (f : Encoder). Emits f (over f clauses) c.in_ok-sink.sink c.emit_all-2.new.sink) c.in_ok-tables.ensures c.in_ok-emit_all-2.ensures.ok) c.in_ok-sink.ensures;
 })

@@ -5,5 +5,5 @@ use Rattle.bound_clause.specs.Spoken.{numbered}
 use Rattle.bound_clause.proofs.numbered.NumberedBound.push_before.Given as goal
 
 -- what is put and what is left to put make all of it
-abbrev pub invariant-loop-pair : goal.invariant-loop-pair
-invariant-loop-pair l = l.clause.items ++ numbered l.self (map (λ (p : Command × Command). record { fact = Before p.1 l.command; negated = false }) (drop l.pair-index l.pair-items)) ≡ l.fn.clause.items ++ numbered l.self (map (λ (p : Command × Command). record { fact = Before p.1 l.command; negated = false }) l.pair-items)
+abbrev pub invariant-loop-other : goal.invariant-loop-other
+invariant-loop-other l = l.clause.items ++ numbered l.self (map (λ (e : Command). record { fact = Before e l.command; negated = false }) (drop l.other-index l.other-items)) ≡ l.fn.clause.items ++ numbered l.self (map (λ (e : Command). record { fact = Before e l.command; negated = false }) l.other-items)

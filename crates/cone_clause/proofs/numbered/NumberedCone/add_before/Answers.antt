@@ -1,42 +1,38 @@
-use Rattle.std.proofs.Common.{◌≡◌, ℕ, List, Some, filter, get_or, ap, subst, ◌∙◌}
-use Rattle.std.specs.List.{slice_get}
+use Rattle.std.proofs.Common.{◌≡◌, ℕ, List, filter, get_or, map, ap, ◌∙◌}
 use Rattle.rail_base.specs.declared.plan.Command.{Command}
-use Rattle.rail_base.proofs.Members.{In}
+use Rattle.rail_base.specs.Members.{In}
 use Rattle.rail_spec.specs.Plans.{is_command}
 use Rattle.cone_form.proofs.Orders.{member_at}
-use Rattle.cone_clause.specs.Places.{Adds, IsPlaceOf, IsPlaceBefore}
+use Rattle.cone_clause.specs.Places.{IsPlaceOf, IsPlaceBefore}
 use Rattle.cone_clause.proofs.Adding.{adds_one, adds_none, adds_more, adds_all, adds_same}
-use Rattle.cone_clause.proofs.Said.{before_from, from_run, to_run, one_place}
+use Rattle.cone_clause.proofs.Said.{before_of, from_others, to_others, one_place}
 use Rattle.cone_clause.proofs.Turning.{turned}
 use Rattle.cone_clause.proofs.numbered.NumberedCone.add_before.Goals as goal
 
 none : Command
 none = record { train = record { 0 = 0 }; route = record { 0 = 0 } }
 
-pub loop-pair-init : goal.loop-pair-init
-loop-pair-init c = adds_none (λ (p : Command × Command). IsPlaceOf c.args.self.now.contention.pairs.now (p.1, c.args.command)) c.pairs_from-pair-items.result.now _
+pub loop-other-init : goal.loop-other-init
+loop-other-init c = adds_none (λ (e : Command). IsPlaceOf c.args.self.now.contention.pairs.now (e, c.args.command)) c.deref-other-items.result.now _
 
-pub loop-pair-preserved : goal.loop-pair-preserved
+pub loop-other-preserved : goal.loop-other-preserved
 unfolding none
-loop-pair-preserved c =
+loop-other-preserved c =
     let pairs : List (Command × Command) = c.args.self.now.contention.pairs.now in
-    let run : List (Command × Command) = c.pairs_from-pair-items.result.now in
-    let place : Command × Command → ℕ → Type 0 = λ p. IsPlaceOf pairs (p.1, c.args.command) in
-    let pair : Command × Command = get_or run c.loop-pair.pair-index (none, none) in
-    let from : List (Command × Command) → List (Command × Command) = λ ps. filter (λ (p : Command × Command). is_command p.0 c.args.command) ps in
-    let member : In pair (from pairs) = subst (λ (ps : List (Command × Command)). In pair ps) (c.pairs_from-pair-items.ensures ∙ ap from c.sorted-pairs.ensures) (member_at run c.loop-pair.pair-index (none, none) c.loop-pair-test.true) in
-    let index = subst (λ (ps : List (Command × Command)). (i : ℕ) → slice_get ps i ≡ Some (pair.1, c.args.command) → c.place_of.result ≡ i) c.sorted-pairs.ensures c.place_of.ensures.index in
-    let there = one_place pairs (pair.1, c.args.command) c.place_of.result index (before_from pairs (turned c.args.self.now.contention) c.args.command pair member) in
-    adds_more place run c.loop-pair.pair-index (none, none) c.args.places.now.items c.loop-pair.places.items c.push.new.self.items c.loop-pair-test.true c.loop-pair.invariant
-    (adds_one (place pair) c.place_of.result c.loop-pair.places.items c.push.new.self.items c.in_ok-push.ensures.items there index)
+    let others : List Command = c.deref-other-items.result.now in
+    let run : map (λ e. (c.args.command, e)) others ≡ filter (λ p. is_command p.0 c.args.command) pairs = ap (map (λ e. (c.args.command, e))) c.deref-other-items.ensures.value ∙ c.in_ok-others.ensures.pairs in
+    let place : Command → ℕ → Type 0 = λ e. IsPlaceOf pairs (e, c.args.command) in
+    let other : Command = get_or others c.loop-other.other-index none in
+    let member : In other others = member_at others c.loop-other.other-index none c.loop-other-test.true in
+    let there = one_place pairs (other, c.args.command) c.place_of.result c.place_of.ensures.index (before_of pairs c.args.command others run (turned c.args.self.now.contention) other member) in
+    adds_more place others c.loop-other.other-index none c.args.places.now.items c.loop-other.places.items c.push.new.self.items c.loop-other-test.true c.loop-other.invariant
+    (adds_one (place other) c.place_of.result c.loop-other.places.items c.push.new.self.items c.in_ok-push.ensures.items there c.place_of.ensures.index)
 
 pub returns : goal.returns
 returns c =
     let pairs : List (Command × Command) = c.args.self.now.contention.pairs.now in
-    let run : List (Command × Command) = c.pairs_from-pair-items.result.now in
-    let place : Command × Command → ℕ → Type 0 = λ p. IsPlaceOf pairs (p.1, c.args.command) in
-    let of_run : List (Command × Command) → ℕ → Type 0 = λ ps i. (p : Command × Command) × In p ps × place p i in
-    let from : List (Command × Command) → List (Command × Command) = λ ps. filter (λ (p : Command × Command). is_command p.0 c.args.command) ps in
-    let whole : Adds (of_run run) c.args.places.now.items c.loop-pair.places.items = adds_all place run c.loop-pair.pair-index _ _ c.loop-pair-test.false c.loop-pair.invariant in
-    adds_same (of_run (from pairs)) (IsPlaceBefore pairs c.args.command) _ _ (from_run pairs c.args.command) (to_run pairs c.args.command (turned c.args.self.now.contention))
-    (subst (λ (ps : List (Command × Command)). Adds (of_run ps) c.args.places.now.items c.loop-pair.places.items) (c.pairs_from-pair-items.ensures ∙ ap from c.sorted-pairs.ensures) whole)
+    let others : List Command = c.deref-other-items.result.now in
+    let run : map (λ e. (c.args.command, e)) others ≡ filter (λ p. is_command p.0 c.args.command) pairs = ap (map (λ e. (c.args.command, e))) c.deref-other-items.ensures.value ∙ c.in_ok-others.ensures.pairs in
+    let place : Command → ℕ → Type 0 = λ e. IsPlaceOf pairs (e, c.args.command) in
+    adds_same (λ i. (e : Command) × In e others × place e i) (IsPlaceBefore pairs c.args.command) _ _ (from_others pairs c.args.command others run) (to_others pairs c.args.command others run (turned c.args.self.now.contention))
+    (adds_all place others c.loop-other.other-index _ _ c.loop-other-test.false c.loop-other.invariant)

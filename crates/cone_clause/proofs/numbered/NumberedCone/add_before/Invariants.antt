@@ -4,5 +4,5 @@ use Rattle.rail_base.specs.declared.plan.Command.{Command}
 use Rattle.cone_clause.proofs.numbered.NumberedCone.add_before.Given as goal
 
 -- the places of the pairs so far are added
-abbrev pub invariant-loop-pair : goal.invariant-loop-pair
-invariant-loop-pair l = Adds (OfPrefix (λ (p : Command × Command). IsPlaceOf l.self.contention.pairs.now (p.1, l.command)) l.pair-items l.pair-index) l.fn.places.items l.places.items
+abbrev pub invariant-loop-other : goal.invariant-loop-other
+invariant-loop-other l = Adds (OfPrefix (λ (e : Command). IsPlaceOf l.self.contention.pairs.now (e, l.command)) l.other-items l.other-index) l.fn.places.items l.places.items

@@ -1,5 +1,4 @@
-use Rattle.std.proofs.Common.{◌≡◌, ℕ, List, Some, get_or, subst}
-use Rattle.std.specs.List.{slice_get}
+use Rattle.std.proofs.Common.{List, get_or, subst}
 use Rattle.rail_base.specs.declared.plan.Command.{Command}
 use Rattle.rail_base.specs.Members.{In}
 use Rattle.cone_form.proofs.Orders.{member_at}
@@ -22,10 +21,9 @@ loop-pair-preserved c =
     let listed : List (Command × Command) = c.as_slice-pair-items.result.now in
     let pair : Command × Command = get_or listed c.loop-pair.pair-index (none, none) in
     let member : In pair c.args.self.now.cone.now.pairs = subst (λ (ps : List (Command × Command)). In pair ps) c.as_slice-pair-items.ensures (member_at listed c.loop-pair.pair-index (none, none) c.loop-pair-test.true) in
-    let index = subst (λ (ps : List (Command × Command)). (i : ℕ) → slice_get ps i ≡ Some pair → c.place_of.result ≡ i) c.sorted-pairs.ensures c.place_of.ensures.index in
-    let there = one_place pairs pair c.place_of.result index (listed_among c.args.self.now pair member) in
+    let there = one_place pairs pair c.place_of.result c.place_of.ensures.index (listed_among c.args.self.now pair member) in
     adds_more (λ (p : Command × Command). IsPlaceOf pairs p) listed c.loop-pair.pair-index (none, none) c.args.places.now.items c.loop-pair.places.items c.push.new.self.items c.loop-pair-test.true c.loop-pair.invariant
-    (adds_one (IsPlaceOf pairs pair) c.place_of.result c.loop-pair.places.items c.push.new.self.items c.in_ok-push.ensures.items there index)
+    (adds_one (IsPlaceOf pairs pair) c.place_of.result c.loop-pair.places.items c.push.new.self.items c.in_ok-push.ensures.items there c.place_of.ensures.index)
 
 pub returns : goal.returns
 returns c =

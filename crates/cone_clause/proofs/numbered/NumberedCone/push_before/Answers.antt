@@ -1,11 +1,12 @@
-use Rattle.std.proofs.Common.{ℕ, ◌+◌, ◌<◌, ◌≤◌, List, length, drop, get_or, sym, ap, subst, arith, append-nil, Vec, Global}
+use Rattle.std.proofs.Common.{ℕ, ◌+◌, ◌<◌, ◌≤◌, List, length, drop, get_or, sym, ap, subst, arith, append-nil, Vec, Global, ◌∙◌}
+use Rattle.std.specs.List.Sorted.{IsNonDecreasing}
 use Rattle.rail_base.specs.declared.plan.Command.{Command}
 use Rattle.rail_base.specs.Members.{In}
 use Rattle.sat_clause.specs.declared.lit.Lit.{Lit}
 use Rattle.cone_form.proofs.Orders.{member_at}
-use Rattle.cone_clause.specs.Places.{IsSaid, AreSaid}
+use Rattle.cone_clause.specs.Places.{AreListed, IsSaid, AreSaid}
 use Rattle.cone_clause.proofs.Small.{said_inside}
-use Rattle.cone_clause.proofs.Said.{place_inside, SaysUpTo, says_more, says_all, none_between, left_after, left_same, none_left}
+use Rattle.cone_clause.proofs.Said.{listed_at, place_inside, SaysUpTo, says_more, says_all, none_between, left_after, left_same, none_left}
 use Rattle.cone_clause.proofs.numbered.NumberedCone.push_before.Goals.{then-next-place+in_ok-push, else-next-place}
 use Rattle.cone_clause.proofs.numbered.NumberedCone.push_before.Goals as goal
 
@@ -52,28 +53,6 @@ overflow_add-var-then-next-place c =
     let start : c.used_count-used.result ≤ 65536000 = c.used_count-used.ensures.bound in
     omega arith
 
-pub offset_bounds-self-place : goal.offset_bounds-self-place
-offset_bounds-self-place c =
-    let self = c.args.self.now in
-    let items : List ℕ = c.deref-place-items.result.now in
-    let said : AreSaid self.contention.pairs.now self.cone.now items = subst (AreSaid self.contention.pairs.now self.cone.now) (sym c.deref-place-items.ensures.value) c.in_ok-places.ensures in
-    let inside = said_inside self items said c.loop-place.place-index c.loop-place-test.true in
-    let here = inside.0 in
-    let few = inside.1 in
-    let start : c.used_count-used.result ≤ 65536000 = c.used_count-used.ensures.bound in
-    omega arith
-
-pub bounds-self-place : goal.bounds-self-place
-bounds-self-place c =
-    let self = c.args.self.now in
-    let items : List ℕ = c.deref-place-items.result.now in
-    let said : AreSaid self.contention.pairs.now self.cone.now items = subst (AreSaid self.contention.pairs.now self.cone.now) (sym c.deref-place-items.ensures.value) c.in_ok-places.ensures in
-    let inside = said_inside self items said c.loop-place.place-index c.loop-place-test.true in
-    let here = inside.0 in
-    let few = inside.1 in
-    let start : c.used_count-used.result ≤ 65536000 = c.used_count-used.ensures.bound in
-    omega arith
-
 pub overflow_add-next : goal.overflow_add-next
 overflow_add-next c =
     let self = c.args.self.now in
@@ -105,7 +84,8 @@ loop-place-preserved c =
         spoken = subst (λ (m : ℕ). SaysUpTo d routes k c.args.self.now.known c.args.self.now.steps.count old ps m c.if-next-place.clause.items) (sym w.next-is)
             (subst (λ (v : Vec Lit Global). SaysUpTo d routes k c.args.self.now.known c.args.self.now.steps.count old ps (place + 1) v.items) (sym w.clause-is)
             (says_more d routes k c.args.self.now.known c.args.self.now.steps.count old ps c.args.self.now.contention.ordered c.loop-place.next place (none, none) c.loop-place.clause.items w.push.new.self.items w.if-next-place.true here
-            (none_between ps k items said c.loop-place.next c.loop-place.place-index 0 c.loop-place-test.true left) _ w.is_negated-negated.result (ap (λ u. u + place + 1) c.used_count-used.ensures.value) w.is_negated-negated.ensures w.in_ok-push.ensures.items c.loop-place.invariant.spoken));
+            (none_between ps k items said c.loop-place.next c.loop-place.place-index 0 c.loop-place-test.true left) _ w.is_among-negated.result (ap (λ u. u + place + 1) c.used_count-used.ensures.value)
+            (w.is_among-negated.ensures ∙ listed_at ps k w.deref.result.now (subst (AreListed ps k) (sym w.deref.ensures.value) c.in_ok-listed.ensures) place (none, none) inside) w.in_ok-push.ensures.items c.loop-place.invariant.spoken));
         left = subst (λ (m : ℕ). (i : ℕ) → m ≤ i → IsSaid ps k i → In i (drop (c.loop-place.place-index + 1) items)) (sym w.next-is)
             (left_after ps k items said c.loop-place.next c.loop-place.place-index 0 c.loop-place-test.true left w.if-next-place.true);
       }
@@ -125,3 +105,6 @@ returns c =
     let said : AreSaid ps c.args.self.now.cone.now items = subst (AreSaid ps c.args.self.now.cone.now) (sym c.deref-place-items.ensures.value) c.in_ok-places.ensures in
     says_all c.args.self.now.contention.interlocking.now.design.station c.args.self.now.contention.interlocking.now.routes c.args.self.now.cone.now c.args.self.now.known c.args.self.now.steps.count c.args.clause.now.items ps c.args.self.now.contention.ordered c.loop-place.next (none, none) c.loop-place.clause.items c.loop-place.invariant.within
     (none_left ps c.args.self.now.cone.now items said c.loop-place.next c.loop-place.place-index c.loop-place-test.false c.loop-place.invariant.left) c.loop-place.invariant.spoken
+
+pub is_among-negated-requires : goal.is_among-negated-requires
+is_among-negated-requires c = subst (λ (ps : List ℕ). IsNonDecreasing ps) (sym c.deref.ensures.value) c.in_ok-listed.ensures.rising

@@ -1,5 +1,6 @@
-use Rattle.std.proofs.Common.{◌≡◌, ◌+◌, ◌++◌, [], ◌∷◌, Bool, true, Vec, Global, List, drop, get_or, filter, map, ap, sym, subst, ◌∙◌}
+use Rattle.std.proofs.Common.{◌≡◌, ◌+◌, ◌++◌, [], ◌∷◌, Bool, true, Vec, Global, List, drop, get_or, filter, map, ap, sym, subst, refl, ◌∙◌}
 use Rattle.rail_base.specs.declared.plan.Command.{Command}
+use Rattle.rail_base.proofs.Members.{map-map}
 use Rattle.rail_spec.specs.Plans.{is_command}
 use Rattle.rail_cone.specs.Cones.{is_listed, is_pair}
 use Rattle.rail_course.specs.declared.waits.Wait.{Wait}
@@ -17,6 +18,10 @@ use Rattle.cone_run.proofs.layout.ConeLayout.waits_of.Goals as goal
 none : Command
 none = record { train = record { 0 = 0 }; route = record { 0 = 0 } }
 
+map_same : (cs : List Command) → map (λ (e : Command). e) cs ≡ cs
+map_same [] = refl
+map_same (e ∷ cs) = ap (λ es. e ∷ es) (map_same cs)
+
 pub loop-other-init : goal.loop-other-init
 loop-other-init c =
     let d = c.args.self.now.contention.interlocking.now.design.station in
@@ -24,18 +29,22 @@ loop-other-init c =
     let k = c.args.self.now.cone.now in
     let wait = wait_in c.args.self.now.train_paths.given c.args.command in
     let listed : Command → Bool = λ e. is_listed k e c.args.command in
-    let run : List (Command × Command) = filter (λ (p : Command × Command). is_command p.0 c.args.command) (pairs d routes) in
-    let items : c.pairs_from-other-items.result.now ≡ run = c.pairs_from-other-items.ensures ∙ ap (filter (λ (p : Command × Command). is_command p.0 c.args.command)) (c.sorted-pairs.ensures ∙ c.args.self.now.contention.ordered) in
-    ap (λ ws. ws ++ map wait (filter listed (map (λ (p : Command × Command). p.1) c.pairs_from-other-items.result.now))) c.new-waits.ensures.items
-    ∙ (ap (λ (ps : List (Command × Command)). map wait (filter listed (map (λ (p : Command × Command). p.1) ps))) items
+    let others : List Command = c.deref-other-items.result.now in
+    let pair : Command → Command × Command = λ e. (c.args.command, e) in
+    let second : Command × Command → Command = λ p. p.1 in
+    let run : map pair others ≡ filter (λ p. is_command p.0 c.args.command) (pairs d routes) =
+    ap (map pair) c.deref-other-items.ensures.value ∙ (c.in_ok-others.ensures.pairs ∙ ap (filter (λ (p : Command × Command). is_command p.0 c.args.command)) c.args.self.now.contention.ordered) in
+    let items : others ≡ map second (filter (λ p. is_command p.0 c.args.command) (pairs d routes)) = sym (map_same others) ∙ (sym (map-map second pair others) ∙ ap (map second) run) in
+    ap (λ ws. ws ++ map wait (filter listed others)) c.new-waits.ensures.items
+    ∙ (ap (λ (es : List Command). map wait (filter listed es)) items
     ∙ ap (map wait) (listed_rivals d routes k c.args.self.now.known c.args.command))
 
 pub wait_for-requires-clause-other : goal.wait_for-requires-clause-other
 unfolding none
 wait_for-requires-clause-other c =
     let k = c.args.self.now.cone.now in
-    let e : Command = (get_or c.pairs_from-other-items.result.now c.loop-other.other-index (none, none)).1 in
-    let listed : is_listed k e c.args.command ≡ true = sym (ap (list_any (is_pair e c.args.command)) c.listed-listed.ensures) ∙ (sym c.is_among.ensures ∙ c.if-is_among.true) in
+    let e : Command = get_or c.deref-other-items.result.now c.loop-other.other-index none in
+    let listed : is_listed k e c.args.command ≡ true = sym (ap (list_any (is_pair e c.args.command)) c.listed_pairs-listed.ensures) ∙ (sym c.is_among.ensures ∙ c.if-is_among.true) in
     subst (λ (i : Interlocking). IsCommand i.design.station i.routes e) (sym c.args.self.now.over) (listed_commands c.args.self.now.contention.interlocking.now.design.station c.args.self.now.contention.interlocking.now.routes k c.args.self.now.known e c.args.command listed).0
 
 pub loop-other-preserved : goal.loop-other-preserved
@@ -43,14 +52,14 @@ unfolding none
 loop-other-preserved c =
     let k = c.args.self.now.cone.now in
     let wait = wait_in c.args.self.now.train_paths.given c.args.command in
-    let run : List (Command × Command) = c.pairs_from-other-items.result.now in
-    let e : Command = (get_or run c.loop-other.other-index (none, none)).1 in
+    let run : List Command = c.deref-other-items.result.now in
+    let e : Command = get_or run c.loop-other.other-index none in
     let listed : Command → Bool = λ e. is_listed k e c.args.command in
-    let is : c.is_among.result ≡ listed e = c.is_among.ensures ∙ ap (list_any (is_pair e c.args.command)) c.listed-listed.ensures in
+    let is : c.is_among.result ≡ listed e = c.is_among.ensures ∙ ap (list_any (is_pair e c.args.command)) c.listed_pairs-listed.ensures in
     elim c.if-is_among.branch [
-      | then-is_among+in_ok-push w ↦ listed_next wait listed run c.loop-other.other-index (none, none) c.loop-other-test.true c.loop-other.waits.items c.if-is_among.waits.items _ (sym is ∙ w.if-is_among.true)
+      | then-is_among+in_ok-push w ↦ listed_next wait listed run c.loop-other.other-index none c.loop-other-test.true c.loop-other.waits.items c.if-is_among.waits.items _ (sym is ∙ w.if-is_among.true)
           (ap (λ (v : Vec Wait Global). v.items) w.waits-is ∙ (w.in_ok-push.ensures.items ∙ ap (λ x. c.loop-other.waits.items ++ x ∷ [])
           w.wait_for.ensures)) c.loop-other.invariant
-      | else-is_among w ↦ subst (λ (v : Vec Wait Global). v.items ++ map wait (filter listed (map (λ (p : Command × Command). p.1) (drop (c.loop-other.other-index + 1) run))) ≡ waits_in c.args.self.now c.args.command) (sym w.waits-is)
-          (unlisted_next wait listed run c.loop-other.other-index (none, none) c.loop-other-test.true c.loop-other.waits.items _ (sym is ∙ w.if-is_among.false) c.loop-other.invariant)
+      | else-is_among w ↦ subst (λ (v : Vec Wait Global). v.items ++ map wait (filter listed (drop (c.loop-other.other-index + 1) run)) ≡ waits_in c.args.self.now c.args.command) (sym w.waits-is)
+          (unlisted_next wait listed run c.loop-other.other-index none c.loop-other-test.true c.loop-other.waits.items _ (sym is ∙ w.if-is_among.false) c.loop-other.invariant)
     ]

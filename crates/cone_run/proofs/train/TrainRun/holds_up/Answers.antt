@@ -9,7 +9,7 @@ pub returns : goal.returns
 returns c =
     let l = c.args.self.now.run.layout in
     let i = l.contention.interlocking.now in
-    let listed : is_listed l.cone.now c.args.holder (record { train = c.args.self.now.said.now.train; route = c.args.route }) ≡ true = sym (ap (λ (ps : List (Command × Command)). list_any (is_pair c.args.holder (record { train = c.args.self.now.said.now.train; route = c.args.route })) ps) c.listed-listed.ensures) ∙ (sym c.is_among.ensures ∙ c.if-not-is_among.false) in
+    let listed : is_listed l.cone.now c.args.holder (record { train = c.args.self.now.said.now.train; route = c.args.route }) ≡ true = sym (ap (λ (ps : List (Command × Command)). list_any (is_pair c.args.holder (record { train = c.args.self.now.said.now.train; route = c.args.route })) ps) c.listed_pairs-listed.ensures) ∙ (sym c.is_among.ensures ∙ c.if-not-is_among.false) in
     let later = c.requires.later in
     let horizon = c.horizon_of.ensures in
     let short = c.if-horizon_of-last.false in

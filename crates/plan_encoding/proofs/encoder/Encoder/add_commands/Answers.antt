@@ -1,7 +1,7 @@
 use Rattle.std.proofs.Common.{◌<◌, ◌+◌, ap, length, arith, map}
 use Rattle.rail_base.specs.declared.plan.Command.{Command}
 use Rattle.rail_base.specs.declared.route.RouteNo.{RouteNo}
-use Rattle.plan_encoding.proofs.Gathering.{count_next, push_next}
+use Rattle.contending.proofs.Gathering.{count_next, push_next}
 use Rattle.plan_encoding.proofs.encoder.Encoder.add_commands.Goals as goal
 
 pub loop-number-preserved : goal.loop-number-preserved

@@ -1,6 +1,6 @@
 use Rattle.std.proofs.Common.{◌<◌, ◌+◌, ap, length, arith, map}
 use Rattle.rail_spec.specs.Plans.{commands_of}
-use Rattle.plan_encoding.proofs.Gathering.{count_next, part_next}
+use Rattle.contending.proofs.Gathering.{count_next, part_next}
 use Rattle.plan_encoding.proofs.encoder.Encoder.commands.Goals as goal
 
 pub loop-number-preserved : goal.loop-number-preserved

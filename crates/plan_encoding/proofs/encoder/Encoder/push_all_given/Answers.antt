@@ -1,7 +1,7 @@
 use Rattle.std.proofs.Common.{◌++◌, [], ◌∷◌, ap, ◌∙◌}
 use Rattle.plan_clauses.specs.Variables.{Given, yes, numbered}
-use Rattle.plan_encoding.proofs.Gathering.{twice_next}
-use Rattle.plan_encoding.proofs.Gathering.{drop_next}
+use Rattle.contending.proofs.Gathering.{twice_next}
+use Rattle.contending.proofs.Gathering.{drop_next}
 use Rattle.plan_encoding.proofs.encoder.Encoder.push_all_given.Goals as goal
 
 pub loop-route-preserved : goal.loop-route-preserved

@@ -1,6 +1,6 @@
 use Rattle.std.proofs.Common.{ℕ, ◌+◌, ◌<◌, length, arith}
 use Rattle.rail_base.specs.declared.station.TrainNo.{TrainNo}
-use Rattle.plan_encoding.proofs.Gathering.{count_next, push_next}
+use Rattle.contending.proofs.Gathering.{count_next, push_next}
 use Rattle.plan_encoding.proofs.encoder.Encoder.trains.Goals as goal
 
 pub loop-number-preserved : goal.loop-number-preserved

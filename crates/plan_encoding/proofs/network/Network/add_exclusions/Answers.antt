@@ -1,6 +1,6 @@
 use Rattle.std.proofs.Common.{map, ap}
 use Rattle.plan_encoding.specs.Tables.{exclude_both}
-use Rattle.plan_encoding.proofs.Gathering.{drop_next, kept_next}
+use Rattle.contending.proofs.Gathering.{drop_next, kept_next}
 use Rattle.plan_encoding.proofs.network.Network.add_exclusions.Goals as goal
 
 pub loop-other-preserved : goal.loop-other-preserved

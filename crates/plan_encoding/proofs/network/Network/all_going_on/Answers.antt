@@ -1,6 +1,6 @@
 use Rattle.std.proofs.Common.{[], ◌∷◌, ◌++◌, map, ap, ◌∙◌}
 use Rattle.plan_encoding.specs.Tables.{going_on}
-use Rattle.plan_encoding.proofs.Gathering.{drop_next, push_next}
+use Rattle.contending.proofs.Gathering.{drop_next, push_next}
 use Rattle.plan_encoding.proofs.Tabled.{known_routes}
 use Rattle.plan_encoding.proofs.network.Network.all_going_on.Goals as goal
 

@@ -1,7 +1,7 @@
 use Rattle.std.proofs.Common.{[], ◌∷◌, ◌++◌, map, ap, ◌∙◌}
 use Rattle.plan_clauses.specs.Clauses.{leading_to}
 use Rattle.plan_encoding.specs.Tables.{leading}
-use Rattle.plan_encoding.proofs.Gathering.{drop_next, push_next}
+use Rattle.contending.proofs.Gathering.{drop_next, push_next}
 use Rattle.plan_encoding.proofs.Tabled.{known_routes}
 use Rattle.plan_encoding.proofs.network.Network.all_leading.Goals as goal
 

@@ -5,11 +5,11 @@ use Rattle.plan_encoding.proofs.numbered.Base.before.Goals as goal
 
 pub returns-in-Some : goal.returns-in-Some
 returns-in-Some c = λ d routes n is.
-    before_some d routes n c.args.self.now is c.args.first c.args.second c.requires.first c.requires.second c.self.inside.trains c.self.inside.routes c.self.inside.steps.count c.in-Some.place c.deref.result.now
-    (ap (λ (b : Numbered). b.trains) c.self.view_is) (ap (λ (b : Numbered). b.routes) c.self.view_is) (ap (λ (b : Numbered). b.steps) c.self.view_is) (c.deref.ensures.value ∙ ap (λ (b : Numbered). b.pairs) c.self.view_is)
-    (sym c.place_of.ensures.place ∙ c.in-Some.is)
+    before_some d routes n c.args.self.now is c.args.first c.args.second c.requires.first c.requires.second c.self.inside.trains c.self.inside.routes c.self.inside.steps.count c.in-Some.place c.self.inside.pairs
+    (ap (λ (b : Numbered). b.trains) c.self.view_is) (ap (λ (b : Numbered). b.routes) c.self.view_is) (ap (λ (b : Numbered). b.steps) c.self.view_is) (ap (λ (b : Numbered). b.pairs) c.self.view_is)
+    (sym c.place.ensures.place ∙ c.in-Some.is)
 
 pub returns-in-None : goal.returns-in-None
 returns-in-None c = λ d routes n is.
-    before_none d routes n c.args.self.now is c.args.first c.args.second c.requires.first c.requires.second c.deref.result.now (c.deref.ensures.value ∙ ap (λ (b : Numbered). b.pairs) c.self.view_is)
-    (sym c.place_of.ensures.place ∙ c.in-None.is)
+    before_none d routes n c.args.self.now is c.args.first c.args.second c.requires.first c.requires.second c.self.inside.pairs (ap (λ (b : Numbered). b.pairs) c.self.view_is)
+    (sym c.place.ensures.place ∙ c.in-None.is)

@@ -1,7 +1,7 @@
 use Rattle.std.proofs.Common.{◌++◌, filter, sym, ap, ◌∙◌}
 use Rattle.alike_clauses.specs.Turns.{begins}
 use Rattle.plan_encoding.specs.Encoders.{over}
-use Rattle.plan_encoding.proofs.Gathering.{kept_next, drop_next}
+use Rattle.contending.proofs.Gathering.{kept_next, drop_next}
 use Rattle.plan_encoding.proofs.Tabled.{known_numbers}
 use Rattle.plan_encoding.proofs.tables.Tables.beginnings.Goals as goal
 

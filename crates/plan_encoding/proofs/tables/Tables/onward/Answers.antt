@@ -4,7 +4,7 @@ use Rattle.rail_base.specs.Routes.{route_at}
 use Rattle.rail_spec.specs.Plans.{is_start}
 use Rattle.plan_clauses.specs.Clauses.{onward}
 use Rattle.plan_encoding.specs.Tables.{going_on}
-use Rattle.plan_encoding.proofs.Tabled.{length_rows, row_is}
+use Rattle.contending.proofs.Sharing.{length_rows, row_is}
 use Rattle.plan_encoding.proofs.Chained.{onward_none, onward_is, first_known, first_in, none_within, taken}
 use Rattle.plan_encoding.proofs.tables.Tables.onward.Goals as goal
 

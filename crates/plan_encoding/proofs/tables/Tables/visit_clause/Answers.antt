@@ -3,7 +3,7 @@ use Rattle.plan_clauses.specs.Variables.{Given, yes, numbered}
 use Rattle.plan_clauses.specs.Clauses.{may_visit}
 use Rattle.plan_encoding.specs.Families.{one_given}
 use Rattle.plan_encoding.specs.Encoders.{over, written}
-use Rattle.plan_encoding.proofs.Gathering.{chosen_next, drop_next}
+use Rattle.contending.proofs.Gathering.{chosen_next, drop_next}
 use Rattle.plan_encoding.proofs.Tabled.{known_numbers}
 use Rattle.plan_encoding.proofs.tables.Tables.visit_clause.Goals as goal
 

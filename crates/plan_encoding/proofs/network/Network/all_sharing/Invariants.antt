@@ -1,8 +1,0 @@
-use Rattle.std.proofs.Common.{◌≡◌, ◌++◌, map, drop}
-use Rattle.plan_encoding.specs.Encoders.{table}
-use Rattle.plan_encoding.specs.Tables.{sharing, rows_by}
-use Rattle.plan_encoding.proofs.network.Network.all_sharing.Given as goal
-
--- what is found and what is left to find make all of it
-abbrev pub invariant-loop-number : goal.invariant-loop-number
-invariant-loop-number l = l.rows.items ++ map (sharing (table l.self.encoder)) (drop l.number-index l.number-items) ≡ rows_by sharing (table l.self.encoder)
