@@ -49,7 +49,7 @@ impl Finder {
         }
     }
 
-    /// Bounds that may exclude a plan that fails in this walk, the best first; each is still to be judged and tried against
+    /// Bounds that may exclude a plan that fails in this way, the best first; each is still to be judged and tried against
     /// the plan. `Err` where memory ran out; the finder may then be used on.
     pub fn bounds(
         &mut self,

@@ -159,7 +159,7 @@ fn long_spans(alloc: Global, count: u16) -> Result<Vec<Span>, AllocError>
     Ok(spans)
 }
 
-/// Braking walks of 100,000 moves and 5,000,050,000 mm over 10,000 spans.
+/// Braking distances of 100,000 moves and 5,000,050,000 mm over 10,000 spans.
 #[test]
 fn long_walks_are_quick(rt: HostRuntime) -> Result<(), Fail> {
     let spans = long_spans(rt.alloc(), 10_000)?;

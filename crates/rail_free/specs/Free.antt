@@ -12,7 +12,7 @@ climb (suc n) a u l = let further = climb n a (u - a) l in if nat_lt l (u - a) t
 abbrev pub rise : ℕ → ℕ → ℕ → ℕ
 rise a u l = climb u a u l
 
--- for each stretch that ends up to x the walk since its end is enough to gain u, from its limit at the most. The first begins there.
+-- for each stretch that ends up to x the distance since its end is enough to gain u, from its limit at the most. The first begins there.
 abbrev pub behind : ℕ → ℕ → List SpanSeen → ℕ → ℕ → Bool
 behind a from [] x u = true
 behind a from (s ∷ rest) x u =
