@@ -181,6 +181,7 @@ def commands(program, folder):
     yield "32 trains in turn over 1,998 nodes each, all demands", 2, "met", simulated(program, folder, in_turn(32, 1_998, 1_000, 1_000))
     yield "32 trains in turn over long edges, all demands", 2, "", simulated(program, folder, in_turn(32, 1_998, 100_000, 100_000))
     yield "128 trains in turn over 1,998 nodes each, all demands", 2, "met", simulated(program, folder, in_turn(128, 1_998, 1_000, 10_000))
+    yield "128 trains in turn over long edges, all demands", 2, "fails", simulated(program, folder, in_turn(128, 1_998, 100_000, 100_000))
     yield "128 trains in a row over up to 256 routes each", 2, "met", simulated(program, folder, in_rows(1, 128, 256, 10_000, 20_000, 2))
     yield "126 trains in three rows over up to 256 routes each", 2, "met", simulated(program, folder, in_rows(3, 126, 256, 10_000, 20_000, 2))
     refused = "plan refused P4 step 1 train train0 section section0"
