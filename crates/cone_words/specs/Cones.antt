@@ -51,8 +51,8 @@ pair_text d routes p =
     ++ sections_text d (shared (route_at routes p.0.route) (route_at routes p.1.route))
 
 -- its trains, and then its pairs
-abbrev pub parts_told : Station → List Route → ℕ → Cone → List (List ℕ)
-parts_told d routes n c =
+abbrev pub parts_sentences : Station → List Route → ℕ → Cone → List (List ℕ)
+parts_sentences d routes n c =
     map (λ t. sentence n (train_text d t)) c.trains ++ map (λ p. sentence n (pair_text d routes p)) c.pairs
 
 -- ---- how it fails
@@ -82,6 +82,6 @@ failure_text d (violation.Grant t j) =
 failure_text d (violation.Visit t k) = missed_text d t k ++ by_horizon_text d
 
 -- what is so, and how it fails
-abbrev pub cone_told : Station → List Route → ℕ → Cone → List (List ℕ)
-cone_told d routes n c =
-    opening_line n ∷ parts_told d routes n c ++ sentence n (failure_text d c.violation) ∷ []
+abbrev pub cone_sentences : Station → List Route → ℕ → Cone → List (List ℕ)
+cone_sentences d routes n c =
+    opening_line n ∷ parts_sentences d routes n c ++ sentence n (failure_text d c.violation) ∷ []

@@ -4,8 +4,8 @@ ghost use Rattle.std.specs.Prelude.{◌≡◌, ◌++◌, ◌∷◌, [], codes, d
 ghost use Rattle.rail_outside.specs.Lines.{lines_of};
 ghost use Rattle.cone_words.specs.Phrases.{sentence};
 ghost use Rattle.rail_base.specs.declared.plan.Violation.TheVariants as violation;
-ghost use Rattle.cone_words.specs.Cones.{followed_text, opening_line, holder_text, train_text, pair_text, parts_told};
-ghost use Rattle.cone_words.specs.Cones.{missed_text, by_horizon_text, failure_text, cone_told};
+ghost use Rattle.cone_words.specs.Cones.{followed_text, opening_line, holder_text, train_text, pair_text, parts_sentences};
+ghost use Rattle.cone_words.specs.Cones.{missed_text, by_horizon_text, failure_text, cone_sentences};
 
 use crate::entries::{order_of, within_of};
 use crate::phrases::{most_ticks, put_makes, put_nodes, put_path, put_shared, put_ticks};
@@ -28,7 +28,7 @@ pub fn push_parts(
     lines: &mut Vec<Vec<u8>>,
 ) -> Result<(), AllocError>
     ensures { let i = interlocking.now in OnOk result (lines_of lines.new.items
-        ≡ lines_of lines.old.items ++ parts_told i.design.station i.routes line cone.now) }
+        ≡ lines_of lines.old.items ++ parts_sentences i.design.station i.routes line cone.now) }
 {
     push_trains(
         alloc,
@@ -62,7 +62,7 @@ pub fn push_cone(
     lines: &mut Vec<Vec<u8>>,
 ) -> Result<(), AllocError>
     ensures { let i = interlocking.now in OnOk result (lines_of lines.new.items
-        ≡ lines_of lines.old.items ++ cone_told i.design.station i.routes line cone.now) }
+        ≡ lines_of lines.old.items ++ cone_sentences i.design.station i.routes line cone.now) }
 {
     push_opening(alloc, line, lines)?;
     push_parts(alloc, interlocking, line, cone, lines)?;

@@ -32,7 +32,7 @@ pub enum DesignFault {
     #[error("design refused {code:?} {place:?}")]
     Refused { code: Code, place: Place },
     /// Memory ran out, which says nothing of the document.
-    #[error("out of memory")]
+    #[error("want of memory")]
     Memory,
 }
 

@@ -21,7 +21,7 @@ use Rattle.dispatch_run.specs.Drifts.{going_with}
 use Rattle.dispatch_run.specs.Followers.{CanMove, IsFollower}
 use Rattle.dispatch_run.specs.Looks.{IsKnown}
 use Rattle.dispatch_run.specs.Progress.{IsProgress}
-use Rattle.dispatch_run.specs.Turns.{AreLookedAt, AreToBeTold, IsLook, IsLookedAt, IsToBeTold, IsTurn, looked_state}
+use Rattle.dispatch_run.specs.Turns.{AreLookedAt, AreToBeMarked, IsLook, IsLookedAt, IsToBeMarked, IsTurn, looked_state}
 
 -- the train that a follower is of
 abbrev pub followed_train : Follower → TrainNo
@@ -137,13 +137,13 @@ module _ (r : Traffic) (dispatch : Dispatch) where
   AreLookedAtIn = AreLookedAt r.interlocking.now.design.station r.interlocking.now.routes dispatch
 
   -- what is known of the history of a train, before it is marked
-  abbrev pub IsToBeToldIn : ℕ → Follower → TrainState → Look → TrainHistory → Type 0
-  IsToBeToldIn tick f =
-      IsToBeTold r.interlocking.now.design.station r.interlocking.now.routes dispatch tick (followed_train f)
+  abbrev pub IsToBeMarkedIn : ℕ → Follower → TrainState → Look → TrainHistory → Type 0
+  IsToBeMarkedIn tick f =
+      IsToBeMarked r.interlocking.now.design.station r.interlocking.now.routes dispatch tick (followed_train f)
 
   -- of the histories of all trains
-  abbrev pub AreToBeToldIn : ℕ → List TrainState → List Look → List TrainHistory → Type 0
-  AreToBeToldIn = AreToBeTold r.interlocking.now.design.station r.interlocking.now.routes dispatch
+  abbrev pub AreToBeMarkedIn : ℕ → List TrainState → List Look → List TrainHistory → Type 0
+  AreToBeMarkedIn = AreToBeMarked r.interlocking.now.design.station r.interlocking.now.routes dispatch
 
   -- the next look at a train is soon enough
   abbrev pub IsLookIn : ℕ → List TrainState → Follower → Look → Type 0

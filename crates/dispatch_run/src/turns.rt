@@ -3,8 +3,8 @@
 ghost use Rattle.std.specs.Prelude.{◌≡◌, ◌≤◌, IfOk};
 ghost use Rattle.rail_spec.specs.Dispatches.{Dispatch};
 ghost use Rattle.dispatch_run.specs.Followers.{IsTraffic};
-ghost use Rattle.dispatch_run.specs.InTraffic.{AreLookedAtIn, AreToBeToldIn, IsFollowerIn, IsKnownIn, IsLookIn};
-ghost use Rattle.dispatch_run.specs.InTraffic.{IsLookedAtIn, IsSeenIn, IsToBeToldIn, IsTurnIn, history_in};
+ghost use Rattle.dispatch_run.specs.InTraffic.{AreLookedAtIn, AreToBeMarkedIn, IsFollowerIn, IsKnownIn, IsLookIn};
+ghost use Rattle.dispatch_run.specs.InTraffic.{IsLookedAtIn, IsSeenIn, IsToBeMarkedIn, IsTurnIn, history_in};
 ghost use Rattle.dispatch_run.specs.InTraffic.{looked_state_in, looked_states_in, train_history_in};
 
 use crate::looks::{Look, look_of};
@@ -50,7 +50,7 @@ impl Traffic<'_> {
     ) -> Result<Vec<TrainHistory>, AllocError>
         ghost dispatch: { Dispatch }
         requires traffic { IsTraffic dispatch self.now }
-        requires told { AreToBeToldIn self.now dispatch tick states.now looks.now histories.items }
+        requires told { AreToBeMarkedIn self.now dispatch tick states.now looks.now histories.items }
         ensures { IfOk result (λ h. h.items ≡ history_in self.now dispatch tick) }
     {
         let mut olds = histories;
@@ -59,7 +59,7 @@ impl Traffic<'_> {
             let follower = &self.followers[i];
             let train = follower.journey.train_path.train;
             let old = olds.remove(0);
-            told.push(self.next_told(
+            told.push(self.next_history(
                 alloc,
                 follower,
                 old,
@@ -121,7 +121,7 @@ impl Traffic<'_> {
     }
 
     /// What has happened to a train by a tick; it is marked where the train is looked at then.
-    fn next_told(
+    fn next_history(
         &self,
         alloc: Global,
         follower: &Follower,
@@ -133,7 +133,7 @@ impl Traffic<'_> {
         ghost dispatch: { Dispatch }
         requires follower { IsFollowerIn self.now dispatch follower.now }
         requires at_least_one { 1 ≤ tick }
-        requires told { IsToBeToldIn self.now dispatch tick follower.now state look old }
+        requires told { IsToBeMarkedIn self.now dispatch tick follower.now state look old }
         ensures { IfOk result (λ h. h ≡ train_history_in self.now dispatch tick follower.now) }
     {
         if look.until != tick {

@@ -21,7 +21,7 @@ use Rattle.bound_ticks.specs.Walks.{first_routes}
 use Rattle.rail_base.specs.Names.{train_name}
 use Rattle.cone_words.specs.Names.{makes_text, nodes_text}
 use Rattle.cone_words.specs.Phrases.{joined, sentence, ticks_text, any_route_text}
-use Rattle.cone_words.specs.Cones.{opening_line, parts_told, sections_text}
+use Rattle.cone_words.specs.Cones.{opening_line, parts_sentences, sections_text}
 
 -- ---- from when ticks are counted
 
@@ -76,7 +76,7 @@ abbrev pub origin_parts : Station → List Route → ℕ → Origin → List (Li
 origin_parts d routes n origin.Visit = []
 origin_parts d routes n origin.Start = []
 origin_parts d routes n origin.FirstTick = []
-origin_parts d routes n (origin.Cone k c) = parts_told d routes n c
+origin_parts d routes n (origin.Cone k c) = parts_sentences d routes n c
 
 -- `tick 7`, or `7 ticks after <train> makes visit 1`
 abbrev pub moment_text : Station → Option VisitOf → ℕ → List ℕ
@@ -124,13 +124,13 @@ module _ (d : Station) (routes : List Route) (h : ℕ) where
   next_tick from tick l ls = tick + leg_to_release d routes h from l (first_routes ls) + 1
 
   -- each leg, and from when on the next one is granted its first route
-  abbrev pub legs_told : ℕ → Option VisitOf → Option VisitOf → ℕ → List Leg → List (List ℕ)
-  legs_told n after from tick [] = []
-  legs_told n after from tick (l ∷ []) = sentence n (leg_text d l) ∷ []
-  legs_told n after from tick (l ∷ m ∷ ls) =
+  abbrev pub legs_sentences : ℕ → Option VisitOf → Option VisitOf → ℕ → List Leg → List (List ℕ)
+  legs_sentences n after from tick [] = []
+  legs_sentences n after from tick (l ∷ []) = sentence n (leg_text d l) ∷ []
+  legs_sentences n after from tick (l ∷ m ∷ ls) =
       sentence n (leg_text d l)
       ∷ sentence n (wait_text d routes after (next_tick from tick l (m ∷ ls)) l (m ∷ ls))
-      ∷ legs_told n after None (next_tick from tick l (m ∷ ls)) (m ∷ ls)
+      ∷ legs_sentences n after None (next_tick from tick l (m ∷ ls)) (m ∷ ls)
 
 -- ---- the end
 
@@ -175,13 +175,13 @@ module _ (d : Station) (routes : List Route) (b : Bound) where
       + chain_of d routes (followed d routes b.legs) (passed after_of) (visit_to d b.requirement) b.legs
 
   -- its legs, from its first tick on
-  abbrev pub chain_told : ℕ → List (List ℕ)
-  chain_told n =
-      legs_told d routes (followed d routes b.legs) n after_of (passed after_of) (first_tick after_of) b.legs
+  abbrev pub chain_sentences : ℕ → List (List ℕ)
+  chain_sentences n =
+      legs_sentences d routes (followed d routes b.legs) n after_of (passed after_of) (first_tick after_of) b.legs
 
   -- from when ticks are counted, the legs, and when they are through
-  abbrev pub bound_told : ℕ → List (List ℕ)
-  bound_told n =
+  abbrev pub bound_sentences : ℕ → List (List ℕ)
+  bound_sentences n =
       opening_line n ∷ sentence n (origin_text d b.origin (visit_from d b.requirement))
-      ∷ (origin_parts d routes n b.origin ++ chain_told n
+      ∷ (origin_parts d routes n b.origin ++ chain_sentences n
       ++ sentence n (end_text d after_of (origin_tick b.origin) end_tick b.requirement) ∷ [])

@@ -5,8 +5,8 @@ use Rattle.rail_base.specs.declared.route.Route.{Route}
 use Rattle.rail_bound.specs.declared.Evidence.{Evidence}
 use Rattle.rail_bound.specs.declared.Evidence.TheVariants as evidence
 use Rattle.rail_bound.specs.Validity.{names_design}
-use Rattle.cone_words.specs.Cones.{cone_told}
-use Rattle.evidence_words.specs.Bounds.{bound_told}
+use Rattle.cone_words.specs.Cones.{cone_sentences}
+use Rattle.evidence_words.specs.Bounds.{bound_sentences}
 
 module _ (d : Station) (routes : List Route) where
   -- a bound names what the design has
@@ -15,6 +15,6 @@ module _ (d : Station) (routes : List Route) where
   names_what_is_there (evidence.Bound b) = names_design d routes b
 
   -- the sentences about the cone or the bound of the file's line of this number
-  abbrev pub evidence_told : ℕ → Evidence → List (List ℕ)
-  evidence_told n (evidence.Cone c) = cone_told d routes n c
-  evidence_told n (evidence.Bound b) = bound_told d routes b n
+  abbrev pub evidence_sentences : ℕ → Evidence → List (List ℕ)
+  evidence_sentences n (evidence.Cone c) = cone_sentences d routes n c
+  evidence_sentences n (evidence.Bound b) = bound_sentences d routes b n

@@ -11,8 +11,8 @@ ghost use Rattle.bound_ticks.specs.Walks.{IsLeg};
 ghost use Rattle.bound_ticks.specs.Claims.{requirement_fits};
 ghost use Rattle.rail_base.specs.declared.station.Station.{Station};
 ghost use Rattle.cone_words.specs.Phrases.{sentence};
-ghost use Rattle.cone_words.specs.Cones.{parts_told};
-ghost use Rattle.evidence_words.specs.Bounds.{after_of, arrives_text, bound_told, chain_told, counted_after, end_text};
+ghost use Rattle.cone_words.specs.Cones.{parts_sentences};
+ghost use Rattle.evidence_words.specs.Bounds.{after_of, arrives_text, bound_sentences, chain_sentences, counted_after, end_text};
 ghost use Rattle.evidence_words.specs.Bounds.{end_tick, first_tick, horizon_text, origin_of_visit_text, origin_parts};
 ghost use Rattle.evidence_words.specs.Bounds.{made_text, origin_text, origin_tick, passed, since_text, start_text};
 
@@ -42,7 +42,7 @@ pub fn push_bound(
 ) -> Result<(), AllocError>
     requires { let i = interlocking.now in names_design i.design.station i.routes bound.now ≡ true }
     ensures { let i = interlocking.now in OnOk result (lines_of lines.new.items
-        ≡ lines_of lines.old.items ++ bound_told i.design.station i.routes bound.now line) }
+        ≡ lines_of lines.old.items ++ bound_sentences i.design.station i.routes bound.now line) }
 {
     let from = visit_from(interlocking, bound.requirement);
     let after = counted_after(&bound.origin, from);
@@ -342,7 +342,7 @@ fn push_chain(
     ensures end { let i = interlocking.now in
         IfOk result (λ n. n ≡ end_tick i.design.station i.routes bound.now) }
     ensures lines { let i = interlocking.now in OnOk result (lines_of lines.new.items
-        ≡ lines_of lines.old.items ++ chain_told i.design.station i.routes bound.now line) }
+        ≡ lines_of lines.old.items ++ chain_sentences i.design.station i.routes bound.now line) }
 {
     let legs = bound.legs.as_slice();
     let most = most_followed(alloc, interlocking, legs)?;

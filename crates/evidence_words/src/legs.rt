@@ -62,7 +62,7 @@ impl Chain<'_> {
     ghost use Rattle.bound_ticks.specs.Walks.{IsLeg};
     ghost use Rattle.std.specs.Prelude.{◌∷◌, []};
     ghost use Rattle.cone_words.specs.Phrases.{sentence};
-    ghost use Rattle.evidence_words.specs.Bounds.{leg_text, legs_told, wait_text};
+    ghost use Rattle.evidence_words.specs.Bounds.{leg_text, legs_sentences, wait_text};
 
     /// Appends the sentences about legs of which the first one's first command is granted at this tick at the earliest, and gives
     /// the tick at which they are through at the earliest.
@@ -83,7 +83,7 @@ impl Chain<'_> {
             ≡ tick + chain_of d i.routes self.now.most (origin_of from) (origin_of self.now.to) legs.now) }
         ensures lines { let i = self.now.interlocking.now in OnOk result (lines_of lines.new.items
             ≡ lines_of lines.old.items
-            ++ legs_told i.design.station i.routes self.now.most self.now.line (origin_of self.now.after)
+            ++ legs_sentences i.design.station i.routes self.now.most self.now.line (origin_of self.now.after)
             (origin_of from) tick legs.now) }
     {
         match legs {

@@ -6,7 +6,7 @@ mod bounds;
 mod laws;
 mod legs;
 mod places;
-mod told;
+mod sentences;
 
 pub use laws::ticks_are_those_of_bounds;
-pub use told::push_evidence;
+pub use sentences::push_evidence;

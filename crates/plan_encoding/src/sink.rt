@@ -18,7 +18,7 @@ pub enum BaseFault {
     /// It has more than 16,000,000 literals. So many have the clauses up to the first that is too much.
     #[error("more than 16,000,000 literals")]
     TooLarge { literals: u64 },
-    #[error("out of memory")]
+    #[error("want of memory")]
     Memory,
 }
 

@@ -1,7 +1,7 @@
 -- The sentences about the lines of a proof file.
 use Rattle.std.specs.Prelude.{ℕ, List, [], Option, Some, None}
 use Rattle.std.specs.List.{flat_map}
-use Rattle.evidence_words.specs.Told.{evidence_told}
+use Rattle.evidence_words.specs.Told.{evidence_sentences}
 use Rattle.proof_log.specs.declared.line.Line.{Line}
 use Rattle.proof_log.specs.declared.line.Line.TheVariants.{Derive, Refute, Forget}
 use Rattle.proof_log.specs.Lines.{line_of}
@@ -13,16 +13,16 @@ use Rattle.rail_text.specs.Pieces.{Line as Piece}
 
 module _ (d : Station) where
   -- of the line of this number: those about its cone or bound, and none where it is another line
-  abbrev pub line_told : ℕ → Option Line → List (List ℕ)
-  line_told n None = []
-  line_told n (Some (Derive clause hints)) = []
-  line_told n (Some (Refute e)) = evidence_told d (routes_of d) n e
-  line_told n (Some (Forget clauses)) = []
+  abbrev pub line_sentences : ℕ → Option Line → List (List ℕ)
+  line_sentences n None = []
+  line_sentences n (Some (Derive clause hints)) = []
+  line_sentences n (Some (Refute e)) = evidence_sentences d (routes_of d) n e
+  line_sentences n (Some (Forget clauses)) = []
 
   -- of a piece of the file
-  abbrev pub piece_told : Piece → List (List ℕ)
-  piece_told piece = line_told piece.line (line_of piece.bytes)
+  abbrev pub piece_sentences : Piece → List (List ℕ)
+  piece_sentences piece = line_sentences piece.line (line_of piece.bytes)
 
   -- of all lines after the head, in order
-  abbrev pub file_told : List ℕ → List (List ℕ)
-  file_told bytes = flat_map piece_told (after_first (pieces bytes))
+  abbrev pub file_sentences : List ℕ → List (List ℕ)
+  file_sentences bytes = flat_map piece_sentences (after_first (pieces bytes))

@@ -5,7 +5,7 @@ ghost use Rattle.rail_spec.specs.Track.{routes_of};
 ghost use Rattle.plan_encoding.specs.Bases.{IsBaseOf};
 ghost use Rattle.proof_words.specs.Explained.{explained_of, sentences_or};
 
-use crate::meanings::file_told;
+use crate::meanings::file_sentences;
 use interlocking::Interlocking;
 use log_checker::CheckResult;
 use plan_encoding::Base;
@@ -36,7 +36,11 @@ pub fn explain(
 {
     let shown = judge(alloc, interlocking, base, bytes)?;
     match shown {
-        CheckResult::Yes { .. } => Ok(Explained::Sentences(file_told(alloc, interlocking, bytes)?)),
+        CheckResult::Yes { .. } => Ok(Explained::Sentences(file_sentences(
+            alloc,
+            interlocking,
+            bytes,
+        )?)),
         CheckResult::No { .. } => Ok(Explained::Refused(shown)),
     }
 }

@@ -7,7 +7,7 @@ ghost use Rattle.rail_text.specs.Lines.{line_of as piece_of};
 ghost use Rattle.rail_text.specs.Cursors.{lines_left};
 ghost use Rattle.rail_text.specs.Pieces.{pieces};
 ghost use Rattle.proof_log.specs.Lines.{line_of};
-ghost use Rattle.proof_words.specs.Meanings.{file_told, line_told, piece_told};
+ghost use Rattle.proof_words.specs.Meanings.{file_sentences, line_sentences, piece_sentences};
 ghost use Rattle.proof_words.specs.Named.{IsNamedPiece, names_line};
 
 use evidence_words::push_evidence;
@@ -17,13 +17,13 @@ use rail_text::{Cursor, Piece};
 use std::alloc::{AllocError, Global};
 
 /// The sentences about the lines of a proof file after its head, where each cone and bound names what the design has.
-pub(crate) fn file_told(
+pub(crate) fn file_sentences(
     alloc: Global,
     interlocking: &Interlocking,
     bytes: &[u8],
 ) -> Result<Vec<Vec<u8>>, AllocError>
     requires { All (IsNamedPiece interlocking.now.design.station) (after_first (pieces bytes.now)) }
-    ensures { IfOk result (λ lines. lines_of lines.items ≡ file_told interlocking.now.design.station bytes.now) }
+    ensures { IfOk result (λ lines. lines_of lines.items ≡ file_sentences interlocking.now.design.station bytes.now) }
 {
     let mut lines = Vec::new(alloc);
     let mut cursor = Cursor::new(bytes);
@@ -44,7 +44,7 @@ fn push_line(
 ) -> Result<(), AllocError>
     requires { names_line interlocking.now.design.station line.now ≡ true }
     ensures { OnOk result (lines_of lines.new.items
-        ≡ lines_of lines.old.items ++ line_told interlocking.now.design.station number (Some line.now)) }
+        ≡ lines_of lines.old.items ++ line_sentences interlocking.now.design.station number (Some line.now)) }
 {
     match line {
         Line::Derive { .. } => Ok(()),
@@ -62,7 +62,7 @@ fn push_piece(
 ) -> Result<(), AllocError>
     requires { IsNamedPiece interlocking.now.design.station (piece_of piece.now) }
     ensures { OnOk result (lines_of lines.new.items
-        ≡ lines_of lines.old.items ++ piece_told interlocking.now.design.station (piece_of piece.now)) }
+        ≡ lines_of lines.old.items ++ piece_sentences interlocking.now.design.station (piece_of piece.now)) }
 {
     match read_line(alloc, piece.bytes) {
         Ok(line) => push_line(alloc, interlocking, piece.line, &line, lines),
@@ -80,7 +80,7 @@ fn push_pieces(
 ) -> Result<(), AllocError>
     requires { All (IsNamedPiece interlocking.now.design.station) (lines_left pieces) }
     ensures { OnOk result (lines_of lines.new.items
-        ≡ lines_of lines.old.items ++ flat_map (piece_told interlocking.now.design.station) (lines_left pieces.entry)) }
+        ≡ lines_of lines.old.items ++ flat_map (piece_sentences interlocking.now.design.station) (lines_left pieces.entry)) }
 {
     'pieces: for piece in pieces {
         push_piece(alloc, interlocking, &piece, lines)?;

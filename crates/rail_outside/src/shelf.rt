@@ -22,7 +22,7 @@ pub enum FetchFault {
     #[error("the file is too long: {read} bytes were read")]
     TooLong { read: u64 },
     /// Want of memory.
-    #[error("out of memory")]
+    #[error("want of memory")]
     Memory,
 }
 
@@ -33,7 +33,7 @@ pub enum StoreFault {
     #[error("the file could not be written")]
     Failed,
     /// Want of memory; nothing has changed.
-    #[error("out of memory")]
+    #[error("want of memory")]
     Memory,
 }
 

@@ -15,7 +15,7 @@ pub enum SinkFault {
     #[error("the text could not be written")]
     Failed,
     /// Want of memory; nothing has been written.
-    #[error("out of memory")]
+    #[error("want of memory")]
     Memory,
 }
 

@@ -16,7 +16,7 @@ pub enum RouteFault {
     /// There are more than 2,000 routes.
     #[error("more than 2,000 routes")]
     TooMany,
-    #[error("out of memory")]
+    #[error("want of memory")]
     Memory,
 }
 

@@ -62,7 +62,7 @@ pub enum WordsFault {
     #[error("the words are no command")]
     Usage,
     /// Want of memory.
-    #[error("out of memory")]
+    #[error("want of memory")]
     Memory,
 }
 

@@ -35,12 +35,12 @@ abbrev pub visit_text : List ℕ → ℕ → List ℕ
 visit_text name number = name ++ codes " visit " ++ decimal number
 
 -- the same of a visit with its number, where it is made
-abbrev pub visit_told : List ℕ → ℕ × Option (NodeNo × ℕ) → Option (List ℕ)
-visit_told name visit = option_map (λ made. visit_text name visit.0) visit.1
+abbrev pub visit_line_of : List ℕ → ℕ × Option (NodeNo × ℕ) → Option (List ℕ)
+visit_line_of name visit = option_map (λ made. visit_text name visit.0) visit.1
 
 -- the visits that a train of this name has made, counted from 1
 abbrev pub visit_texts : List ℕ → List (Option (NodeNo × ℕ)) → List (List ℕ)
-visit_texts name visits = filter_map (visit_told name) (enumerate_from 1 visits)
+visit_texts name visits = filter_map (visit_line_of name) (enumerate_from 1 visits)
 
 -- those of all trains, counted from 1
 abbrev pub history_texts : Station → List TrainHistory → List (List ℕ)

@@ -355,7 +355,7 @@ impl<R: Recorder> Solver<R> {
             Err(AllocError) => Some(Answer::Memory),
             Ok(RoundEnd::Model(values)) => Some(Answer::Sat(values)),
             Ok(RoundEnd::Final(why)) => Some(self.finish(why, assumptions, last)),
-            Ok(RoundEnd::New(why)) => self.learn(why, assumptions, last),
+            Ok(RoundEnd::New(why)) => self.analyze(why, assumptions, last),
         }
     }
 
@@ -385,7 +385,7 @@ impl<R: Recorder> Solver<R> {
     }
 
     /// Records a new line, unless no line is left.
-    fn learn(&mut self, why: Learnt, _assumptions: &[Lit], last: bool) -> Option<Answer>
+    fn analyze(&mut self, why: Learnt, _assumptions: &[Lit], last: bool) -> Option<Answer>
         requires in_vars { AllIn self.old.vars why.clause.items }
         requires learnt { IsLearntBeyond (R.clauses self.old.recorder) _assumptions.now
             why.clause.items why.hints.items }

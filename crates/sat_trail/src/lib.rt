@@ -15,4 +15,4 @@ mod watch;
 
 pub use step::Step;
 pub use trail::Trail;
-pub use walk::{Learnt, learn, refute, refute_choice};
+pub use walk::{Learnt, analyze, analyze_final, refute_choice};

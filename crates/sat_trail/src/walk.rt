@@ -33,7 +33,7 @@ pub fn negate(l: Lit) -> Lit
 }
 
 /// A new clause that follows where a live one is false, `base` being the place at which the last level begins.
-pub fn learn(
+pub fn analyze(
     alloc: Global,
     arena: &Arena,
     steps: &[Step],
@@ -80,7 +80,7 @@ pub fn learn(
 }
 
 /// A clause that negates decided literals, where a live clause is false.
-pub fn refute(
+pub fn analyze_final(
     alloc: Global,
     arena: &Arena,
     steps: &[Step],

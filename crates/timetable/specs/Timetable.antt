@@ -14,30 +14,30 @@ use Rattle.timetable.specs.Lines.{visit_line}
 -- ---- what is told of an event: its line, where it has come
 
 -- of the grant of a command, with the command's number
-abbrev pub grant_told : ℕ × (RouteNo × Option ℕ) → Option (List ℕ)
-grant_told grant = option_map (grant_line grant.0 grant.1.0) grant.1.1
+abbrev pub grant_line_of : ℕ × (RouteNo × Option ℕ) → Option (List ℕ)
+grant_line_of grant = option_map (grant_line grant.0 grant.1.0) grant.1.1
 
 -- of the passing of a node
-abbrev pub pass_told : Station → NodeNo × Option ℕ → Option (List ℕ)
-pass_told d pass = option_map (pass_line d pass.0) pass.1
+abbrev pub pass_line_of : Station → NodeNo × Option ℕ → Option (List ℕ)
+pass_line_of d pass = option_map (pass_line d pass.0) pass.1
 
 -- of a visit, with its number
-abbrev pub visit_told : Station → ℕ × Option (NodeNo × ℕ) → Option (List ℕ)
-visit_told d visit = option_map (λ made. visit_line d visit.0 made.0 made.1) visit.1
+abbrev pub visit_line_of : Station → ℕ × Option (NodeNo × ℕ) → Option (List ℕ)
+visit_line_of d visit = option_map (λ made. visit_line d visit.0 made.0 made.1) visit.1
 
 -- ---- what is told of a train
 
 -- the grants, the commands of the path counted from 1
 abbrev pub grant_lines : List (RouteNo × Option ℕ) → List (List ℕ)
-grant_lines grants = filter_map grant_told (enumerate_from 1 grants)
+grant_lines grants = filter_map grant_line_of (enumerate_from 1 grants)
 
 -- the nodes passed, in path order
 abbrev pub pass_lines : Station → List (NodeNo × Option ℕ) → List (List ℕ)
-pass_lines d passes = filter_map (pass_told d) passes
+pass_lines d passes = filter_map (pass_line_of d) passes
 
 -- the visits made, counted from 1
 abbrev pub visit_lines : Station → List (Option (NodeNo × ℕ)) → List (List ℕ)
-visit_lines d visits = filter_map (visit_told d) (enumerate_from 1 visits)
+visit_lines d visits = filter_map (visit_line_of d) (enumerate_from 1 visits)
 
 -- its name, then its grants, the nodes passed and its visits
 abbrev pub train_lines : Station → TrainNo → TrainHistory → List (List ℕ)

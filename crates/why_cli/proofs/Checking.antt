@@ -6,8 +6,8 @@ use Rattle.log_checker.specs.declared.check_result.CheckResult.TheVariants.{Yes,
 use Rattle.plan_clauses.specs.Clauses.{base_clauses, past_limit}
 use Rattle.plan_exclusion.specs.declared.method.Method.TheVariants.{Cones}
 use Rattle.proof_judge.specs.Judged.{judged}
-use Rattle.proof_words.specs.Explained.{told_where_yes}
-use Rattle.proof_words.specs.Meanings.{file_told}
+use Rattle.proof_words.specs.Explained.{sentences_where_yes}
+use Rattle.proof_words.specs.Meanings.{file_sentences}
 use Rattle.rail_base.specs.declared.station.Station.{Station}
 use Rattle.rail_spec.specs.Track.{routes_of}
 use Rattle.rail_cli.specs.declared.status.Status.TheVariants.{Done}
@@ -28,14 +28,14 @@ goes_on : {X : Type 0} (r : Result X ReplySeen) (f g : X → ReplySeen) → ((x 
 goes_on (Ok x) f g h other = h x other
 goes_on (Err a) f g h other = refl
 
-shown_so : (lines : List (List ℕ)) (shown : CheckResult) → (reply_for shown).status ≢ Done → sentences_or_shown (told_where_yes lines shown) ≡ reply_for shown
+shown_so : (lines : List (List ℕ)) (shown : CheckResult) → (reply_for shown).status ≢ Done → sentences_or_shown (sentences_where_yes lines shown) ≡ reply_for shown
 shown_so lines (Yes k) other = absurd (other refl)
 shown_so lines (No line reason) other = refl
 
 proof_refused : (n : ℕ) (d : Station) (bytes : List ℕ) → (with_proof n d bytes).status ≢ Done → proof_explained n d bytes ≡ with_proof n d bytes
 proof_refused n d bytes other =
     goes_on (with_clauses Cones n d) (λ same. unless_refused (within_limit file.Proof bytes) (explained_against d n)) (λ same. unless_refused (within_limit file.Proof bytes) (checked_against d n))
-    (λ same. goes_on (within_limit file.Proof bytes) (explained_against d n) (checked_against d n) (λ text. shown_so (file_told d text) (judged d n text))) other
+    (λ same. goes_on (within_limit file.Proof bytes) (explained_against d n) (checked_against d n) (λ text. shown_so (file_sentences d text) (judged d n text))) other
 
 pub refuses_as_check : RefusesAsCheck
 refuses_as_check n design_bytes proof_bytes other =
@@ -58,7 +58,7 @@ pub record Passes (n : ℕ) (design_bytes proof_bytes : List ℕ) : Type 0 where
   pub design : Station
   pub text : within_limit file.Design design_bytes ≡ Ok design_bytes
   pub reads : design_in design_bytes ≡ Ok design
-  pub answer : explanation_reply (Some n) design_bytes proof_bytes ≡ sentences_or_shown (Ok (file_told design proof_bytes))
+  pub answer : explanation_reply (Some n) design_bytes proof_bytes ≡ sentences_or_shown (Ok (file_sentences design proof_bytes))
 
 pub passes : (n : ℕ) (design_bytes proof_bytes : List ℕ) → (check_reply n design_bytes proof_bytes).status ≡ Done → Passes n design_bytes proof_bytes
 passes n design_bytes proof_bytes done =
@@ -79,8 +79,8 @@ passes n design_bytes proof_bytes done =
           with_design design_bytes one.read one.is (λ e. proof_explained n e proof_bytes) d two.is
           ∙ (answered_next (with_clauses Cones n d) three.read (λ same. unless_refused (within_limit file.Proof proof_bytes) (explained_against d n)) three.is
           ∙ (answered_next (within_limit file.Proof proof_bytes) four.read (explained_against d n) four.is
-          ∙ (ap (λ v. sentences_or_shown (told_where_yes (file_told d four.read) v)) shown.is
-          ∙ ap (λ (b : List ℕ). sentences_or_shown (Ok (file_told d b))) (sym bytes))));
+          ∙ (ap (λ v. sentences_or_shown (sentences_where_yes (file_sentences d four.read) v)) shown.is
+          ∙ ap (λ (b : List ℕ). sentences_or_shown (Ok (file_sentences d b))) (sym bytes))));
     }
 
 pub tells_where_yes : TellsWhereYes
@@ -88,7 +88,7 @@ tells_where_yes n design_bytes proof_bytes d reads done =
     let p = passes n design_bytes proof_bytes done in
     let one : Ok p.design ≡ Ok d = sym p.reads ∙ reads in
     let same : p.design ≡ d = cc in
-    p.answer ∙ ap (λ (e : Station). sentences_or_shown (Ok (file_told e proof_bytes))) same
+    p.answer ∙ ap (λ (e : Station). sentences_or_shown (Ok (file_sentences e proof_bytes))) same
 
 -- ---- the status
 
@@ -96,14 +96,14 @@ same_status : {X : Type 0} (r : Result X ReplySeen) (f g : X → ReplySeen) → 
 same_status (Ok x) f g h = h x
 same_status (Err a) f g h = refl
 
-shown_status : (lines : List (List ℕ)) (shown : CheckResult) → (sentences_or_shown (told_where_yes lines shown)).status ≡ (reply_for shown).status
+shown_status : (lines : List (List ℕ)) (shown : CheckResult) → (sentences_or_shown (sentences_where_yes lines shown)).status ≡ (reply_for shown).status
 shown_status lines (Yes k) = refl
 shown_status lines (No line reason) = refl
 
 proof_status : (n : ℕ) (d : Station) (bytes : List ℕ) → (proof_explained n d bytes).status ≡ (with_proof n d bytes).status
 proof_status n d bytes =
     same_status (with_clauses Cones n d) (λ same. unless_refused (within_limit file.Proof bytes) (explained_against d n)) (λ same. unless_refused (within_limit file.Proof bytes) (checked_against d n))
-    (λ same. same_status (within_limit file.Proof bytes) (explained_against d n) (checked_against d n) (λ text. shown_status (file_told d text) (judged d n text)))
+    (λ same. same_status (within_limit file.Proof bytes) (explained_against d n) (checked_against d n) (λ text. shown_status (file_sentences d text) (judged d n text)))
 
 -- it is that of a check
 pub status_as_check : (n : ℕ) (design_bytes proof_bytes : List ℕ) → (explanation_reply (Some n) design_bytes proof_bytes).status ≡ (check_reply n design_bytes proof_bytes).status

@@ -6,7 +6,7 @@ use Rattle.log_checker.specs.Verdict.{head_in}
 use Rattle.proof_judge.specs.Judged.{judged}
 use Rattle.proof_log.specs.declared.head.Head.{Head}
 use Rattle.proof_log.specs.declared.head.Head.TheVariants.{Plain, Named, Sorted}
-use Rattle.proof_words.specs.Meanings.{file_told}
+use Rattle.proof_words.specs.Meanings.{file_sentences}
 use Rattle.rail_base.specs.declared.station.Station.{Station}
 use Rattle.rail_base.proofs.Members.{and_left}
 use Rattle.rail_cli.specs.declared.status.Status.{Status}
@@ -138,7 +138,7 @@ module _ (files : Files) (words : List (List ℕ)) (t : Status) (text new_text :
         are_most = g.are_most;
         steps = s.steps;
         within = s.within;
-        text = prints.written answered ∙ (ap (λ (a : ReplySeen). grown text (concat a.lines)) (so ∙ (g.same ∙ p.answer)) ∙ ap (λ (x : Station). grown text (concat (file_told x proof))) (sym same));
+        text = prints.written answered ∙ (ap (λ (a : ReplySeen). grown text (concat a.lines)) (so ∙ (g.same ∙ p.answer)) ∙ ap (λ (x : Station). grown text (concat (file_sentences x proof))) (sym same));
         none = s.none;
       }
 

@@ -1,6 +1,6 @@
 -- What the answers have to do with those of a check, and what is answered where nothing is asked for.
 use Rattle.std.specs.Prelude.{◌≡◌, ◌≢◌, ℕ, List, Ok, Some, None}
-use Rattle.proof_words.specs.Meanings.{file_told}
+use Rattle.proof_words.specs.Meanings.{file_sentences}
 use Rattle.rail_base.specs.declared.station.Station.{Station}
 use Rattle.rail_cli.specs.declared.status.Status.TheVariants.{Done}
 use Rattle.rail_cli.specs.declared.input.InputFile.TheVariants as file
@@ -18,7 +18,7 @@ RefusesAsCheck = (n : ℕ) (design_bytes proof_bytes : List ℕ) → (check_repl
 abbrev pub TellsWhereYes : Type 0
 TellsWhereYes = (n : ℕ) (design_bytes proof_bytes : List ℕ) (d : Station) → design_in design_bytes ≡ Ok d
     → (check_reply n design_bytes proof_bytes).status ≡ Done
-    → explanation_reply (Some n) design_bytes proof_bytes ≡ record { status = Done; lines = file_told d proof_bytes }
+    → explanation_reply (Some n) design_bytes proof_bytes ≡ record { status = Done; lines = file_sentences d proof_bytes }
 
 -- where no steps are given, the answer is that for the steps that the head of the proof names
 abbrev pub HeadsNameSteps : Type 0

@@ -3,7 +3,7 @@ use Rattle.std.specs.Prelude.{◌≡◌, ℕ, ◌≤◌, List, length, Option, S
 use Rattle.std.specs.List.{concat}
 use Rattle.infra_reader.specs.Design.{design_of}
 use Rattle.plan_exclusion.specs.declared.method.Method.TheVariants.{Cones}
-use Rattle.proof_words.specs.Meanings.{file_told}
+use Rattle.proof_words.specs.Meanings.{file_sentences}
 use Rattle.rail_base.specs.declared.station.Station.{Station}
 use Rattle.rail_cli.specs.declared.input.InputFile.TheVariants as file
 use Rattle.rail_cli.specs.Texts.{limit_of}
@@ -27,7 +27,7 @@ pub record TellsWhy (files : Files) (w : Wanted) (d : Station) (old new : Option
   pub are_most : steps_for w.steps (files w.proof) ≡ Some most
   pub steps : ℕ
   pub within : steps ≤ most
-  pub text : new ≡ grown old (concat (file_told d (files w.proof)))
+  pub text : new ≡ grown old (concat (file_sentences d (files w.proof)))
   pub none : IsInfeasible d steps
 
 -- the words ask for that, and nothing is refused: the files are within their limits, one spells a design, the steps are

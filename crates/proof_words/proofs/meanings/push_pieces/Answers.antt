@@ -1,7 +1,7 @@
 use Rattle.rail_outside.specs.Lines.{lines_of}
 use Rattle.rail_text.specs.Cursors.{lines_left}
 use Rattle.rail_text.specs.Lines.{line_of}
-use Rattle.proof_words.specs.Meanings.{piece_told}
+use Rattle.proof_words.specs.Meanings.{piece_sentences}
 use Rattle.proof_words.specs.Named.{IsNamedPiece}
 use Rattle.proof_words.proofs.Pieces.{first_all, rest_all, told_more}
 use Rattle.proof_words.proofs.meanings.push_pieces.Goals as goal
@@ -14,6 +14,6 @@ push_piece-requires c =
 pub pieces-preserved : goal.pieces-preserved
 pieces-preserved c =
     let d = c.args.interlocking.now.design.station in record {
-      told = told_more (piece_told d) (lines_left c.pieces.piece-iterator) (line_of c.in-Some.piece) (lines_left c.next.new.self) _ (lines_of c.pieces.lines.items) (lines_of c.push_piece.new.lines.items) c.in-Some.ensures.steps c.pieces.invariant.told c.in_ok-push_piece.ensures;
+      told = told_more (piece_sentences d) (lines_left c.pieces.piece-iterator) (line_of c.in-Some.piece) (lines_left c.next.new.self) _ (lines_of c.pieces.lines.items) (lines_of c.push_piece.new.lines.items) c.in-Some.ensures.steps c.pieces.invariant.told c.in_ok-push_piece.ensures;
       named = rest_all (IsNamedPiece d) (lines_left c.pieces.piece-iterator) (line_of c.in-Some.piece) (lines_left c.next.new.self) c.in-Some.ensures.steps c.pieces.invariant.named;
     }

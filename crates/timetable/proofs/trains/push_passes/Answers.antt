@@ -1,6 +1,6 @@
 use Rattle.std.proofs.Common.{◌≡◌, ap, refl, sym, ◌∙◌, get_or, Some, None, option_map}
 use Rattle.timetable.specs.Lines.{lines_of, pass_line}
-use Rattle.timetable.specs.Timetable.{pass_told}
+use Rattle.timetable.specs.Timetable.{pass_line_of}
 use Rattle.timetable.proofs.Telling.{none_told, one_told}
 use Rattle.timetable.proofs.trains.push_passes.Goals as goal
 use Rattle.timetable.proofs.trains.push_passes.Goals.{in-Some+in_ok-pass_line+in_ok-push, in_default}
@@ -10,7 +10,7 @@ loop-node-preserved c =
     let d = c.args.design.now.station in
     let passes = c.args.passes.now in
     let i = c.loop-node.node-index in
-    let tell = pass_told d in
+    let tell = pass_line_of d in
     let old = lines_of c.args.lines.now.items in
     let vs = c.loop-node.lines in
     elim c.match-tick.branch [

@@ -1,7 +1,7 @@
 use Rattle.std.proofs.Common.{◌≡◌, ◌≤◌, map, ap₂, sym, subst, ◌∙◌, arith}
 use Rattle.rail_base.specs.Members.{In}
 use Rattle.rail_base.specs.Stations.{trains}
-use Rattle.dispatch_run.specs.Turns.{IsTurn, looked_state, AreLookedAt, AreToBeTold}
+use Rattle.dispatch_run.specs.Turns.{IsTurn, looked_state, AreLookedAt, AreToBeMarked}
 use Rattle.dispatch_run.proofs.Turning.{looks_ahead, turn_of, nothing_before, all_looked, all_told}
 use Rattle.dispatch_run.proofs.traffic.Traffic.advance.Goals as goal
 
@@ -36,8 +36,8 @@ next_histories-requires g c =
     let states : c.in_ok-states.states.items ≡ map (looked_state d routes g.dispatch tick old.states.items old.looks.items) (trains d) =
     c.in_ok-states.ensures ∙ ap₂ (λ s l. map (looked_state d routes g.dispatch tick s l) (trains d)) c.as_slice-2.ensures.value c.as_slice-3.ensures.value in (
       c.requires.0,
-      subst (λ s. AreToBeTold d routes g.dispatch tick s c.as_slice-5.result.now old.histories.items) (sym c.as_slice-4.ensures.value)
-          (subst (λ l. AreToBeTold d routes g.dispatch tick c.in_ok-states.states.items l old.histories.items) (sym c.as_slice-5.ensures.value)
+      subst (λ s. AreToBeMarked d routes g.dispatch tick s c.as_slice-5.result.now old.histories.items) (sym c.as_slice-4.ensures.value)
+          (subst (λ l. AreToBeMarked d routes g.dispatch tick c.in_ok-states.states.items l old.histories.items) (sym c.as_slice-5.ensures.value)
           (all_told d routes g.dispatch tick old.states.items old.looks.items turn c.in_ok-states.states.items states old.histories.items progress.told)),
     )
 

@@ -25,8 +25,8 @@ remove-old-requires g c =
     let some = length-dropped c.args.histories.items c.loop-i.i (omega arith) in
     omega arith
 
-pub next_told-requires : goal.next_told-requires
-next_told-requires g c =
+pub next_history-requires : goal.next_history-requires
+next_history-requires g c =
     let d = c.args.self.now.interlocking.now.design.station in
     let js = c.args.self.now.followers.now in
     let i = c.loop-i.i in
@@ -48,5 +48,5 @@ loop-i-preserved g c =
     let made = c.in_ok-push.ensures.items in
     record {
       left = c.remove-old.ensures.items ∙ ap (drop 1) c.loop-i.invariant.left ∙ drop_once c.args.histories.items c.loop-i.i (c.loop-i.i + 1) refl;
-      told = made_on (λ (j : Follower). history j.journey.now.train_path.now.train) c.loop-i.told.items c.push.new.self.items c.in_ok-next_told.field-0 c.args.self.now.followers.now c.loop-i.i (c.loop-i.i + 1) c.index-self-i.result _ c.loop-i-test.true refl made c.in_ok-next_told.ensures c.loop-i.invariant.told;
+      told = made_on (λ (j : Follower). history j.journey.now.train_path.now.train) c.loop-i.told.items c.push.new.self.items c.in_ok-next_history.field-0 c.args.self.now.followers.now c.loop-i.i (c.loop-i.i + 1) c.index-self-i.result _ c.loop-i-test.true refl made c.in_ok-next_history.ensures c.loop-i.invariant.told;
     }

@@ -11,5 +11,5 @@ invariant-loop-i g l = record {
       ≡ history_at l.self.interlocking.now.design.station l.self.interlocking.now.routes g.dispatch l.tick;
 }
 
-abbrev pub ghost-next_told : goal.ghost-next_told
-ghost-next_told g a = g.dispatch
+abbrev pub ghost-next_history : goal.ghost-next_history
+ghost-next_history g a = g.dispatch

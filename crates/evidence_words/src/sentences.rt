@@ -2,7 +2,7 @@
 
 ghost use Rattle.std.specs.Prelude.{◌≡◌, ◌++◌, true, OnOk};
 ghost use Rattle.rail_outside.specs.Lines.{lines_of};
-ghost use Rattle.evidence_words.specs.Told.{evidence_told, names_what_is_there};
+ghost use Rattle.evidence_words.specs.Told.{evidence_sentences, names_what_is_there};
 
 use crate::bounds::push_bound;
 use cone_words::push_cone;
@@ -26,7 +26,7 @@ pub fn push_evidence(
     requires names { let i = interlocking.now in
         names_what_is_there i.design.station i.routes evidence.now ≡ true }
     ensures { let i = interlocking.now in OnOk result (lines_of lines.new.items
-        ≡ lines_of lines.old.items ++ evidence_told i.design.station i.routes line evidence.now) }
+        ≡ lines_of lines.old.items ++ evidence_sentences i.design.station i.routes line evidence.now) }
 {
     match evidence {
         Evidence::Cone(cone) => push_cone(alloc, interlocking, line, cone, lines),

@@ -12,7 +12,7 @@ use Rattle.sat_trail.proofs.Explains.{walk-start}
 use Rattle.sat_trail.proofs.Closes.{none-open, new-clause}
 use Rattle.sat_trail.proofs.Places.{prefix-trail, trail-consistent, some-same, prefix-assigned}
 use Rattle.std.proofs.lemmas.Grind.{common_steps}
-use Rattle.sat_trail.proofs.walk.learn.Goals as goal
+use Rattle.sat_trail.proofs.walk.analyze.Goals as goal
 
 -- the literals of the trail's front, either way
 prefix : (steps : List Step) (base : ℕ) → take base (lits steps) ≡ lits (take base steps)
