@@ -1,11 +1,12 @@
 -- Of spans that rise, those that end past a place are the rest from some index on.
-use Rattle.std.proofs.Common.{◌≡◌, ℕ, zero, suc, ◌+◌, ◌-◌, ◌≤◌, ◌<◌, ◌⊎◌, inl, inr, nat_abs, ◌<ℤ◌, Bool, true, false, ◌&&◌, ◌||◌, if◌then◌else◌, min, max, List, [], ◌∷◌, filter, drop, length, slice_index_or, nat_le, nat_lt, Option, None, refl, sym, ◌∙◌, ap, arith, ltb-false, eq-or-lt_of_le}
+use Rattle.std.proofs.Common.{◌≡◌, ℕ, zero, suc, ◌+◌, ◌-◌, ◌≤◌, ◌<◌, ◌⊎◌, inl, inr, nat_abs, ◌<ℤ◌, Bool, true, false, ◌&&◌, ◌||◌, if◌then◌else◌, min, max, List, [], ◌∷◌, filter, drop, length, slice_index_or, nat_le, nat_lt, Option, None, refl, sym, ◌∙◌, ap, subst, arith, le_refl, ltb-false, eq-or-lt_of_le}
 use Rattle.std.specs.List.{AllWithin}
 use Rattle.std.specs.List.Sorted.{IsNonDecreasingBy}
 use Rattle.std.proofs.lemmas.Int.{ints}
-use Rattle.std.proofs.lemmas.Bool.{le-leb}
+use Rattle.std.proofs.lemmas.Bool.{le-leb, lt-leb}
 use Rattle.std.proofs.lemmas.Grind.{common_steps}
-use Rattle.rail_spec.specs.Motion.{can_brake, may_stop, braking_distance}
+use Rattle.rail_spec.specs.Motion.{limit_at, keeps_limits, can_brake, may_stop, braking_distance}
+use Rattle.rail_laws.proofs.MotionLaws.{keeps_limits_tells, keeps_limits_from}
 use Rattle.rail_motion.specs.declared.Span.{Span}
 use Rattle.rail_motion.specs.Track.{stretch_of, stretches_of, IsRising}
 use Rattle.rail_motion.specs.Braking.{faster_distance}
@@ -31,6 +32,23 @@ filter_from p (x ∷ xs) zero before after =
 filter_from p (x ∷ xs) (suc i) before after =
     rw (before zero x (omega arith) (omega arith))
     (filter_from p xs i (λ k d l m. before (suc k) d (omega arith) (omega arith)) (λ k d l m. after (suc k) d (omega arith) (omega arith)))
+
+-- the spans that end by a place say nothing of the points past it
+pub limit_at_past : (top x : ℕ) (spans : List Span) (p : ℕ) → x < p → limit_at top (stretches_of (filter (λ s. nat_lt x (nat_abs s.end)) spans)) p ≡ limit_at top (stretches_of spans) p
+limit_at_past top x [] p past = refl
+limit_at_past top x (s ∷ rest) p past = go (nat_lt x (nat_abs s.end)) refl (limit_at_past top x rest p past)
+  where
+    go : (t : Bool) → nat_lt x (nat_abs s.end) ≡ t
+        → limit_at top (stretches_of (filter (λ s. nat_lt x (nat_abs s.end)) rest)) p ≡ limit_at top (stretches_of rest) p
+        → limit_at top (stretches_of (if t then s ∷ filter (λ s. nat_lt x (nat_abs s.end)) rest else filter (λ s. nat_lt x (nat_abs s.end)) rest)) p
+        ≡ (if nat_le p (nat_abs s.end) then nat_abs s.limit else limit_at top (stretches_of rest) p)
+    go true e later = ap (λ limit. if nat_le p (nat_abs s.end) then nat_abs s.limit else limit) later
+    go false e later = rw (lt-leb p (nat_abs s.end) (let before = ltb-false x (nat_abs s.end) e in omega arith)) later
+
+-- so limits that are kept on the others are kept on all
+pub keeps_limits_past : (spans : List Span) (x y u : ℕ) → keeps_limits (stretches_of (filter (λ s. nat_lt x (nat_abs s.end)) spans)) x y u ≡ true → keeps_limits (stretches_of spans) x y u ≡ true
+keeps_limits_past spans x y u kept =
+    keeps_limits_from u _ x y u (λ p past near. subst (λ limit. u ≤ limit) (limit_at_past u x spans p past) (keeps_limits_tells u _ x y u (le_refl u) kept p past near))
 
 -- the spans that end before the tail do not matter
 pub can_brake_past : (n b tail : ℕ) (spans : List Span) (x u : ℕ) → 1 ≤ b → u ≤ n

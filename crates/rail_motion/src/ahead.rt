@@ -29,6 +29,13 @@ impl Ahead<'_> {
             Some(end) => Some(end as u64),
         }
     }
+
+    /// The spans that end past a place (mm).
+    pub fn spans_past(&self, place: u64) -> &[Span]
+        ensures { result.now ≡ filter (λ s. nat_lt place (nat_abs s.end)) self.now.spans.now }
+    {
+        spans_past(self.spans, place)
+    }
 }
 
 impl Span {
