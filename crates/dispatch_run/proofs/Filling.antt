@@ -52,6 +52,17 @@ module _ {X Y : Type 0} (f : X → Y → Y) where
   all_filled (suc i) (x ∷ xs) [] h k = refl
   all_filled (suc i) (x ∷ xs) (y ∷ ys) h k = ap (λ zs. f x y ∷ zs) (all_filled i xs ys (omega arith) (omega arith))
 
+-- all of them, where each is made of the other list's alone
+pub all_made : {X Y : Type 0} (g : X → Y) (i : ℕ) (xs : List X) (ys : List Y) → length xs ≤ i → length ys ≡ length xs → filled (λ x y. g x) i xs ys ≡ map g xs
+unfolding filled
+all_made g zero [] [] h e = refl
+all_made g zero [] (y ∷ ys) h e = absurd (omega arith)
+all_made g zero (x ∷ xs) ys h e = absurd (omega arith)
+all_made g (suc i) [] [] h e = refl
+all_made g (suc i) [] (y ∷ ys) h e = absurd (omega arith)
+all_made g (suc i) (x ∷ xs) [] h e = absurd (omega arith)
+all_made g (suc i) (x ∷ xs) (y ∷ ys) h e = ap (λ zs. g x ∷ zs) (all_made g i xs ys (omega arith) (omega arith))
+
 all_taken : {X : Type 0} (xs : List X) (n : ℕ) → length xs ≤ n → take n xs ≡ xs
 all_taken [] zero h = refl
 all_taken [] (suc n) h = refl

@@ -67,11 +67,23 @@ impl Traffic<'_> {
             releases,
             visits,
         } = old;
-        let grants = mark_grants(alloc, state.granted, tick, grants.as_slice())?;
+        let grants = mark_grants(alloc, state.granted, tick, grants.into_vec())?;
         let mut passes = passes.into_vec();
-        mark_passes(state, tick, train_path.path_nodes.as_slice(), &mut passes);
+        mark_passes(
+            state,
+            tick,
+            &train_path.path_nodes,
+            &train_path.node_milestones,
+            &mut passes,
+        );
         let mut releases = releases.into_vec();
-        mark_releases(state, tick, journey.releases.as_slice(), &mut releases);
+        mark_releases(
+            state,
+            tick,
+            &journey.releases,
+            &journey.release_milestones,
+            &mut releases,
+        );
         let visits = mark_visits(
             alloc,
             state,
@@ -105,5 +117,15 @@ impl Traffic<'_> {
             releases: List::from_vec(releases),
             visits: List::from_vec(visits),
         })
+    }
+}
+
+/// The history of a train of which nothing is known.
+pub(crate) fn nothing(alloc: Global) -> TrainHistory {
+    TrainHistory {
+        grants: List::new(alloc),
+        passes: List::new(alloc),
+        releases: List::new(alloc),
+        visits: List::new(alloc),
     }
 }

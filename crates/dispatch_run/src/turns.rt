@@ -1,12 +1,13 @@
 //! A tick at which something may happen.
 
-ghost use Rattle.std.specs.Prelude.{◌≡◌, ◌≤◌, IfOk};
+ghost use Rattle.std.specs.Prelude.{◌≡◌, ◌≤◌, IfOk, OnOk};
 ghost use Rattle.rail_spec.specs.Dispatches.{Dispatch};
 ghost use Rattle.dispatch_run.specs.Followers.{IsTraffic};
 ghost use Rattle.dispatch_run.specs.InTraffic.{AreLookedAtIn, AreToBeMarkedIn, IsFollowerIn, IsKnownIn, IsLookIn};
 ghost use Rattle.dispatch_run.specs.InTraffic.{IsLookedAtIn, IsSeenIn, IsToBeMarkedIn, IsTurnIn, history_in};
 ghost use Rattle.dispatch_run.specs.InTraffic.{looked_state_in, looked_states_in, train_history_in};
 
+use crate::histories::nothing;
 use crate::looks::{Look, look_of};
 use crate::moves::is_followed;
 use crate::traffic::{Follower, Traffic};
@@ -14,6 +15,7 @@ use rail_base::history::TrainHistory;
 use rail_base::state::TrainState;
 use rail_course::{granted_on, state_of};
 use std::alloc::{AllocError, Global};
+use std::mem::replace;
 
 /// The last tick that a run may have.
 const LAST: u64 = 86_400;
@@ -53,22 +55,20 @@ impl Traffic<'_> {
         requires told { AreToBeMarkedIn self.now dispatch tick states.now looks.now histories.items }
         ensures { IfOk result (λ h. h.items ≡ history_in self.now dispatch tick) }
     {
-        let mut olds = histories;
-        let mut told = Vec::new(alloc);
+        let mut next = histories;
         for i in 0..self.followers.len() {
             let follower = &self.followers[i];
             let train = follower.journey.train_path.train;
-            let old = olds.remove(0);
-            told.push(self.next_history(
+            self.mark_history(
                 alloc,
                 follower,
-                old,
+                &mut next[i],
                 state_of(states, train),
                 look_of(looks, train),
                 tick,
-            )?)?;
+            )?;
         }
-        Ok(told)
+        Ok(next)
     }
 
     /// The next looks at all trains after a tick.
@@ -120,26 +120,28 @@ impl Traffic<'_> {
         self.move_train(follower, before, granted)
     }
 
-    /// What has happened to a train by a tick; it is marked where the train is looked at then.
-    fn next_history(
+    /// Marks what has happened to a train by a tick, where the train is looked at then.
+    fn mark_history(
         &self,
         alloc: Global,
         follower: &Follower,
-        old: TrainHistory,
+        history: &mut TrainHistory,
         state: TrainState,
         look: Look,
         tick: u64,
-    ) -> Result<TrainHistory, AllocError>
+    ) -> Result<(), AllocError>
         ghost dispatch: { Dispatch }
         requires follower { IsFollowerIn self.now dispatch follower.now }
         requires at_least_one { 1 ≤ tick }
-        requires told { IsToBeMarkedIn self.now dispatch tick follower.now state look old }
-        ensures { IfOk result (λ h. h ≡ train_history_in self.now dispatch tick follower.now) }
+        requires told { IsToBeMarkedIn self.now dispatch tick follower.now state look history.old }
+        ensures { OnOk result (history.new ≡ train_history_in self.now dispatch tick follower.now) }
     {
         if look.until != tick {
-            return Ok(old);
+            return Ok(());
         }
-        self.history_with(alloc, follower, old, state, tick)
+        let old = replace(history, nothing(alloc));
+        *history = self.history_with(alloc, follower, old, state, tick)?;
+        Ok(())
     }
 
     /// The next look at a train that is granted nothing in the next tick.

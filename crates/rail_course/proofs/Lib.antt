@@ -7,3 +7,5 @@ pub mod Parting
 pub mod Waiting
 pub mod Coursing
 pub mod Prefixing
+pub mod InTurn
+pub mod Sorting

@@ -5,6 +5,7 @@ use Rattle.rail_base.specs.declared.route.Route.{Route}
 use Rattle.rail_base.specs.Stations.{trains}
 use Rattle.rail_spec.specs.Dispatches.{Dispatch}
 use Rattle.rail_course.specs.declared.journey.Journey.{Journey}
+use Rattle.rail_course.specs.Milestones.{AreMilestones, ComeInTurn}
 use Rattle.rail_course.specs.TrainPaths.{IsTrainPath}
 use Rattle.rail_course.specs.Telling.{TellWhatIsReady}
 use Rattle.rail_course.specs.Releases.{releases_of_train}
@@ -14,6 +15,8 @@ pub record IsJourney (d : Station) (routes : List Route) (p : Dispatch) (j : Jou
   pub train_path : IsTrainPath d routes (p.path j.train_path.now.train) j.train_path.now
   pub telling : TellWhatIsReady d routes p j.train_path.now.train (map (λ v. v.items) j.waits.items)
   pub releasing : j.releases.items ≡ releases_of_train d routes p j.train_path.now.train
+  pub milestones : AreMilestones (map (λ r. r.place) j.releases.items) j.release_milestones.items
+  pub in_turn : ComeInTurn (λ r. r.place) (λ r. r.number) j.releases.items
 
 -- these are the journeys of all trains, in file order
 pub record AreJourneys (d : Station) (routes : List Route) (p : Dispatch) (js : List Journey) : Type 0 where

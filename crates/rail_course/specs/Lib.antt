@@ -2,6 +2,7 @@
 pub mod Tracks
 pub mod Prefixes
 pub mod PathNodes
+pub mod Milestones
 pub mod TrainPaths
 pub mod Waits
 pub mod Granting

@@ -10,10 +10,11 @@ use Rattle.rail_motion.specs.Track.{stretches_of, IsRising}
 use Rattle.rail_spec.specs.Dispatches.{rates, stretches}
 use Rattle.rail_spec.specs.Visits.{path_nodes, visits_on}
 use Rattle.rail_course.specs.declared.train_path.TrainPath.{TrainPath}
+use Rattle.rail_course.specs.Milestones.{AreMilestones, ComeInTurn}
 use Rattle.rail_course.specs.Prefixes.{no_prefix, prefixes_from}
 use Rattle.rail_course.specs.Tracks.{IsInRange, routes_at}
 
--- the course is that of its train on this path
+-- the train path is that of its train on this path
 pub record IsTrainPath (d : Station) (routes : List Route) (path : List RouteNo) (c : TrainPath) : Type 0 where
   pub train : IsTrain d c.train
   pub long : c.length ≡ train_length d c.train
@@ -24,9 +25,11 @@ pub record IsTrainPath (d : Station) (routes : List Route) (path : List RouteNo)
   pub rising : IsRising c.spans.items
   pub track : stretches_of c.spans.items ≡ stretches d (routes_at routes path)
   pub nodes : c.path_nodes.items ≡ path_nodes (routes_at routes path)
+  pub milestones : AreMilestones (map (λ n. n.offset) c.path_nodes.items) c.node_milestones.items
+  pub in_turn : ComeInTurn (λ n. n.offset) (λ n. n.command) c.path_nodes.items
   pub visits : c.visits.items ≡ visits_on (train_of d c.train).visits (path_nodes (routes_at routes path))
 
--- these are the courses of all trains on their paths, in file order
+-- these are the train paths of all trains on their paths, in file order
 pub record AreTrainPaths (d : Station) (routes : List Route) (path : TrainNo → List RouteNo)
     (cs : List TrainPath) : Type 0 where
   pub all : map (λ (c : TrainPath). c.train) cs ≡ trains d

@@ -5,7 +5,9 @@ ghost use Rattle.rail_base.specs.Routes.{IsRoute};
 ghost use Rattle.rail_base.specs.Stations.{IsTrain};
 ghost use Rattle.rail_course.specs.Itineraries.{IsCommandIn, IsTrainPathIn, IsJourneyIn, releases_in};
 ghost use Rattle.rail_course.specs.Itineraries.{route_releases_in};
+ghost use Rattle.rail_course.specs.Milestones.{ComeInTurn};
 
+use crate::milestones::{Milestone, release_milestones};
 use crate::train_path::TrainPath;
 use crate::train_paths::TrainPaths;
 use crate::waits::Wait;
@@ -33,6 +35,8 @@ pub struct Journey<'a> {
     pub waits: Vec<Vec<Wait>>,
     /// The sections of each route of the path.
     pub releases: Vec<Release>,
+    /// The same by their places, the nearest first.
+    pub release_milestones: Vec<Milestone>,
 }
 
 impl<'a> TrainPaths<'a> {
@@ -58,10 +62,12 @@ impl<'a> TrainPaths<'a> {
         ensures journey { IfOk result (IsJourneyIn self.now.given train_path.now (map (λ w. w.items) waits.items)) }
     {
         let releases = self.releases_of_train(alloc, train_path.train)?;
+        let release_milestones = release_milestones(alloc, &releases)?;
         Ok(Journey {
             train_path,
             waits,
             releases,
+            release_milestones,
         })
     }
 
@@ -98,7 +104,8 @@ impl<'a> TrainPaths<'a> {
     /// The releases of a train's path.
     fn releases_of_train(&self, alloc: Global, train: TrainNo) -> Result<Vec<Release>, AllocError>
         requires { IsTrain self.now.given.interlocking.now.design.station train }
-        ensures { IfOk result (λ r. r.items ≡ releases_in self.now.given train) }
+        ensures releases { IfOk result (λ r. r.items ≡ releases_in self.now.given train) }
+        ensures in_turn { IfOk result (λ r. ComeInTurn (λ r. r.place) (λ r. r.number) r.items) }
     {
         let mut releases = Vec::new(alloc);
         let train_path = self.train_path(train);

@@ -7,6 +7,7 @@ ghost use Rattle.rail_spec.specs.Plans.{has_node};
 ghost use Rattle.rail_spec.specs.Visits.{path_nodes, path_nodes_after, visits_at, visits_on};
 ghost use Rattle.rail_course.specs.Tracks.{routes_at, path_length};
 ghost use Rattle.rail_course.specs.PathNodes.{path_node_at};
+ghost use Rattle.rail_course.specs.Milestones.{ComeInTurn};
 
 use interlocking::{Interlocking, has_node};
 use rail_base::list::List;
@@ -23,12 +24,13 @@ pub fn path_nodes_of(
 ) -> Result<Vec<PathNode>, AllocError>
     requires named { All (IsRoute interlocking.now.routes) path.now }
     requires short { path_length interlocking.now.routes path.now < 2 ^ 47 }
-    ensures { IfOk result (λ s. s.items ≡ path_nodes (routes_at interlocking.now.routes path.now)) }
+    ensures nodes { IfOk result (λ s. s.items ≡ path_nodes (routes_at interlocking.now.routes path.now)) }
+    ensures in_turn { IfOk result (λ s. ComeInTurn (λ n. n.offset) (λ n. n.command) s.items) }
 {
-    if path.is_empty() {
+    let [first, later @ ..] = path else {
         return Ok(Vec::new(alloc));
-    }
-    path_nodes_from(alloc, interlocking, path[0], &path[1..])
+    };
+    path_nodes_from(alloc, interlocking, *first, later)
 }
 
 /// Where the visits of a train are made on its path: the first at the path's start, and each other at the first of
@@ -122,7 +124,8 @@ fn path_nodes_from(
     requires first { IsRoute interlocking.now.routes first }
     requires later { All (IsRoute interlocking.now.routes) later.now }
     requires short { path_length interlocking.now.routes (first ∷ later.now) < 2 ^ 47 }
-    ensures { IfOk result (λ s. s.items ≡ path_nodes (routes_at interlocking.now.routes (first ∷ later.now))) }
+    ensures nodes { IfOk result (λ s. s.items ≡ path_nodes (routes_at interlocking.now.routes (first ∷ later.now))) }
+    ensures in_turn { IfOk result (λ s. ComeInTurn (λ n. n.offset) (λ n. n.command) s.items) }
 {
     let mut path_nodes = Vec::new(alloc);
     let route = route_at(&interlocking.routes, first);

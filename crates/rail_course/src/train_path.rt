@@ -1,4 +1,4 @@
-//! The courses of trains.
+//! The paths of trains, and what is worked out of them.
 
 ghost use Rattle.std.specs.Prelude.{◌≡◌, IfOk};
 ghost use Rattle.rail_base.specs.Stations.{IsTrain};
@@ -6,6 +6,7 @@ ghost use Rattle.rail_course.specs.Itineraries.{AreTrainPathsIn, IsTrainPathIn, 
 ghost use Rattle.rail_course.specs.Tracks.{IsInRange};
 
 use crate::itineraries::Itineraries;
+use crate::milestones::{Milestone, node_milestones};
 use crate::motor::motor_of;
 use crate::path_nodes::{path_nodes_of, visits_of};
 use crate::prefixes::{PathPrefix, prefixes_of};
@@ -25,18 +26,20 @@ pub struct TrainPath {
     pub motor: Motor,
     /// The routes of the train's path, in order.
     pub path: Vec<RouteNo>,
-    /// The fronts of the path, by how many routes they have.
+    /// The prefixes of the path, by how many routes they have.
     pub prefixes: Vec<PathPrefix>,
     /// The spans of the whole path.
     pub spans: Vec<Span>,
     /// The nodes of the path, in order.
     pub path_nodes: Vec<PathNode>,
+    /// The same by their places, the nearest first.
+    pub node_milestones: Vec<Milestone>,
     /// Where each visit is made, if the path makes it.
     pub visits: Vec<Option<PathNode>>,
 }
 
 impl<'a> Itineraries<'a> {
-    /// The courses of all trains, in file order.
+    /// The train paths of all trains, in file order.
     pub fn train_paths(&self, alloc: Global) -> Result<Vec<TrainPath>, AllocError>
         ensures { IfOk result (λ cs. AreTrainPathsIn self.now cs.items) }
     {
@@ -67,6 +70,7 @@ impl<'a> Itineraries<'a> {
         let prefixes = prefixes_of(alloc, &self.interlocking.routes, path)?;
         let spans = spans_of(alloc, self.interlocking, path)?;
         let path_nodes = path_nodes_of(alloc, self.interlocking, path)?;
+        let node_milestones = node_milestones(alloc, &path_nodes)?;
         let visits = visits_of(alloc, design.train(train).visits.as_slice(), &path_nodes)?;
         Ok(TrainPath {
             train,
@@ -76,6 +80,7 @@ impl<'a> Itineraries<'a> {
             prefixes,
             spans,
             path_nodes,
+            node_milestones,
             visits,
         })
     }

@@ -50,9 +50,11 @@ fn keeps_limits(spans: &[Span], brake: u64, tail: u64, place: u64, speed: u64) -
         if start >= stop {
             return true;
         }
-        let covered = place + faster_distance(speed, brake, span.limit());
-        if span.limit() < speed && start < covered.min(span.end()) {
-            return false;
+        if span.limit() < speed {
+            let covered = place + faster_distance(speed, brake, span.limit());
+            if start < covered.min(span.end()) {
+                return false;
+            }
         }
         start = start.max(span.end());
     }

@@ -2,7 +2,7 @@
 //! is done. Ticks are those of the run; nothing here takes memory.
 #![tactic(auto)]
 
-ghost use Rattle.std.specs.Prelude.{◌≡◌, ◌≤◌, ◌++◌, ◌&&◌, ℕ, List, find, is_some};
+ghost use Rattle.std.specs.Prelude.{◌≡◌, ◌≤◌, ◌++◌, ◌&&◌, ℕ, List, find, is_some, true};
 ghost use Rattle.std.specs.List.{list_all};
 ghost use Rattle.rail_base.specs.declared.station.Station.{Station};
 ghost use Rattle.rail_base.specs.declared.route.Route.{Route};
@@ -62,9 +62,38 @@ pub fn are_done(history: &[TrainHistory]) -> bool
     ensures run { (d : Station) (routes : List Route) (plan : List (List Command)) (k : ℕ) → 1 ≤ k
         → history.now ≡ history_at d routes plan k → result ≡ is_done d routes plan k }
 {
+    all_ended(history) && all_done(history)
+}
+
+/// Whether each train has its last command and its last visit: without them not all is done, and they are soon asked.
+fn all_ended(history: &[TrainHistory]) -> bool
+    ensures { is_done_in history.now ≡ true → result ≡ true }
+{
+    history.iter().all(has_ended)
+}
+
+/// Whether each train has all of them.
+fn all_done(history: &[TrainHistory]) -> bool
+    ensures { result ≡ is_done_in history.now }
+{
     history
         .iter()
         .all(|train| is_granted(train) && is_visited(train))
+}
+
+/// Whether the train's last command is granted, and its last visit made.
+fn has_ended(train: &TrainHistory) -> bool
+    ensures { (list_all (λ g. is_some g.1) train.now.grants && list_all is_some train.now.visits) ≡ true → result ≡ true }
+{
+    let is_granted = match train.grants.as_slice() {
+        [.., last] => last.1.is_some(),
+        [] => true,
+    };
+    let is_visited = match train.visits.as_slice() {
+        [.., last] => last.is_some(),
+        [] => true,
+    };
+    is_granted && is_visited
 }
 
 /// At the horizon, the first command that isn't granted, or else the first visit that isn't made.

@@ -1,39 +1,106 @@
-use Rattle.std.proofs.Common.{◌≡◌, ℕ, suc, ◌+◌, length, get_or, set, Option, None, ap, ap₂, ◌∙◌, arith}
+use Rattle.std.proofs.Common.{◌≡◌, ℕ, ◌-◌, Option, get_or, ap, ap₂, ◌∙◌, refl, arith}
 use Rattle.rail_base.specs.declared.station.NodeNo.{NodeNo}
 use Rattle.rail_base.specs.declared.state.PathNode.{PathNode}
+use Rattle.rail_course.specs.declared.milestones.Milestone.{Milestone}
 use Rattle.rail_base.specs.Numbering.{or_this}
 use Rattle.rail_spec.specs.Visits.{is_passed}
-use Rattle.dispatch_run.proofs.Filling.{filled}
-use Rattle.dispatch_run.proofs.Filling.{none_filled, next_is, one_more, length-filled, all_filled}
+use Rattle.dispatch_run.proofs.InTurn.{pass_made, no_node, no_pass, passes_may_be_marked}
+use Rattle.dispatch_run.proofs.Settling.{begins, goes_on, ends, index_in}
 use Rattle.dispatch_run.proofs.marks.mark_passes.Goals as goal
 
-pub loop-index-init : goal.loop-index-init
-loop-index-init c =
-    let make : PathNode → NodeNo × Option ℕ → NodeNo × Option ℕ = λ path_node pass. (path_node.node, or_this pass.1 (is_passed c.args.state path_node) c.args.tick) in
-    none_filled make c.args.path_nodes.now c.args.passes.now
+pub loop-left-init : goal.loop-left-init
+loop-left-init c =
+    let may = passes_may_be_marked c.args.state c.args.tick c.args.path_nodes.now c.args.passes.now c.args.milestones.now c.requires.milestones c.requires.in_turn in
+    record {
+      within = c.reached-left.ensures.count;
+      marked = begins (pass_made c.args.state c.args.tick) (λ (n : PathNode). n.offset) (λ (p : NodeNo × Option ℕ). p.1) c.args.path_nodes.now c.args.passes.now no_node no_pass c.args.milestones.now c.args.tick c.args.state.x may c.reached-left.result c.reached-left.ensures.ahead;
+    }
 
-pub loop-index-preserved : goal.loop-index-preserved
-loop-index-preserved c =
-    let make : PathNode → NodeNo × Option ℕ → NodeNo × Option ℕ = λ path_node pass. (path_node.node, or_this pass.1 (is_passed c.args.state path_node) c.args.tick) in
-    let i = c.loop-index.index in
-    let old = c.args.passes.now in
-    let parts = c.args.path_nodes.now in
-    let none : PathNode = record { node = record { 0 = 0 }; offset = 0; command = 0 } in
-    let no_mark : NodeNo × Option ℕ = (record { 0 = 0 }, None) in
-    let less = c.loop-index-test.true in
-    let own : get_or c.loop-index.passes i no_mark ≡ get_or old i no_mark = ap (λ zs. get_or zs i no_mark) c.loop-index.invariant ∙ next_is make i parts old no_mark in
-    let tick : c.first_tick-tick.result ≡ or_this (get_or old i no_mark).1 (is_passed c.args.state (get_or parts i none)) c.args.tick =
-    c.first_tick-tick.ensures ∙ ap₂ (λ (m : NodeNo × Option ℕ) b. or_this m.1 b c.args.tick) own c.is_passed.ensures in
-    let one : suc i ≡ i + 1 = omega arith in
-    ap₂ (λ zs k. set zs i ((get_or parts i none).node, k)) c.loop-index.invariant tick
-    ∙ (one_more make i parts old none no_mark (let r = c.requires in omega arith) less ∙ ap (λ n. filled make n parts old) one)
+pub loop-left-preserved : goal.loop-left-preserved
+loop-left-preserved c =
+    let may = passes_may_be_marked c.args.state c.args.tick c.args.path_nodes.now c.args.passes.now c.args.milestones.now c.requires.milestones c.requires.in_turn in
+    let some = c.loop-left-test.true in
+    let within = c.loop-left.invariant.within in
+    let p = c.loop-left.left - 1 in
+    let milestone : Milestone = record { place = 0; index = 0 } in
+    let idx = (get_or c.args.milestones.now p milestone).index in
+    let mark : c.first_tick-mark.result ≡ or_this (get_or c.loop-left.passes idx no_pass).1 (is_passed c.args.state (get_or c.args.path_nodes.now idx no_node)) c.args.tick =
+    c.first_tick-mark.ensures ∙ ap (λ b. or_this (get_or c.loop-left.passes idx no_pass).1 b c.args.tick) c.is_passed.ensures in
+    record {
+      within = omega arith;
+      marked =
+          goes_on (pass_made c.args.state c.args.tick) (λ (n : PathNode). n.offset) (λ (p : NodeNo × Option ℕ). p.1) c.args.path_nodes.now c.args.passes.now no_node no_pass c.args.milestones.now c.args.tick c.args.state.x may c.loop-left.left c.loop-left.settled c.loop-left.passes c.loop-left.invariant.marked
+          p (omega arith) within _ (ap (λ m. ((get_or c.args.path_nodes.now idx no_node).node, m)) mark) _ c.settled_by-settled.ensures;
+    }
 
-pub returns-clause-marked : goal.returns-clause-marked
-returns-clause-marked c =
-    let make : PathNode → NodeNo × Option ℕ → NodeNo × Option ℕ = λ path_node pass. (path_node.node, or_this pass.1 (is_passed c.args.state path_node) c.args.tick) in
-    c.loop-index.invariant ∙ all_filled make c.loop-index.index c.args.path_nodes.now c.args.passes.now c.loop-index-test.false c.requires
+pub bounds-path_nodes-milestone : goal.bounds-path_nodes-milestone
+bounds-path_nodes-milestone c =
+    let may = passes_may_be_marked c.args.state c.args.tick c.args.path_nodes.now c.args.passes.now c.args.milestones.now c.requires.milestones c.requires.in_turn in
+    let some = c.loop-left-test.true in
+    let within = c.loop-left.invariant.within in
+    let known = index_in (pass_made c.args.state c.args.tick) (λ (n : PathNode). n.offset) (λ (p : NodeNo × Option ℕ). p.1) c.args.path_nodes.now c.args.passes.now no_node no_pass c.args.milestones.now c.args.tick c.args.state.x may (c.loop-left.left - 1) (omega arith) in
+    let count = c.loop-left.invariant.marked.count in
+    let as_many = may.as_many in
+    omega arith
 
-pub returns-clause-count : goal.returns-clause-count
-returns-clause-count c =
-    let make : PathNode → NodeNo × Option ℕ → NodeNo × Option ℕ = λ path_node pass. (path_node.node, or_this pass.1 (is_passed c.args.state path_node) c.args.tick) in
-    ap length c.loop-index.invariant ∙ length-filled make c.loop-index.index c.args.path_nodes.now c.args.passes.now
+pub bounds-passes-milestone : goal.bounds-passes-milestone
+bounds-passes-milestone c =
+    let may = passes_may_be_marked c.args.state c.args.tick c.args.path_nodes.now c.args.passes.now c.args.milestones.now c.requires.milestones c.requires.in_turn in
+    let some = c.loop-left-test.true in
+    let within = c.loop-left.invariant.within in
+    let known = index_in (pass_made c.args.state c.args.tick) (λ (n : PathNode). n.offset) (λ (p : NodeNo × Option ℕ). p.1) c.args.path_nodes.now c.args.passes.now no_node no_pass c.args.milestones.now c.args.tick c.args.state.x may (c.loop-left.left - 1) (omega arith) in
+    let count = c.loop-left.invariant.marked.count in
+    let as_many = may.as_many in
+    omega arith
+
+pub bounds-passes-milestone-in-loop-left : goal.bounds-passes-milestone-in-loop-left
+bounds-passes-milestone-in-loop-left c =
+    let may = passes_may_be_marked c.args.state c.args.tick c.args.path_nodes.now c.args.passes.now c.args.milestones.now c.requires.milestones c.requires.in_turn in
+    let some = c.loop-left-test.true in
+    let within = c.loop-left.invariant.within in
+    let known = index_in (pass_made c.args.state c.args.tick) (λ (n : PathNode). n.offset) (λ (p : NodeNo × Option ℕ). p.1) c.args.path_nodes.now c.args.passes.now no_node no_pass c.args.milestones.now c.args.tick c.args.state.x may (c.loop-left.left - 1) (omega arith) in
+    let count = c.loop-left.invariant.marked.count in
+    let as_many = may.as_many in
+    omega arith
+
+pub offset_bounds-path_nodes-milestone : goal.offset_bounds-path_nodes-milestone
+offset_bounds-path_nodes-milestone c =
+    let may = passes_may_be_marked c.args.state c.args.tick c.args.path_nodes.now c.args.passes.now c.args.milestones.now c.requires.milestones c.requires.in_turn in
+    let some = c.loop-left-test.true in
+    let within = c.loop-left.invariant.within in
+    let known = index_in (pass_made c.args.state c.args.tick) (λ (n : PathNode). n.offset) (λ (p : NodeNo × Option ℕ). p.1) c.args.path_nodes.now c.args.passes.now no_node no_pass c.args.milestones.now c.args.tick c.args.state.x may (c.loop-left.left - 1) (omega arith) in
+    let count = c.loop-left.invariant.marked.count in
+    let as_many = may.as_many in
+    omega arith
+
+pub offset_bounds-passes-milestone : goal.offset_bounds-passes-milestone
+offset_bounds-passes-milestone c =
+    let may = passes_may_be_marked c.args.state c.args.tick c.args.path_nodes.now c.args.passes.now c.args.milestones.now c.requires.milestones c.requires.in_turn in
+    let some = c.loop-left-test.true in
+    let within = c.loop-left.invariant.within in
+    let known = index_in (pass_made c.args.state c.args.tick) (λ (n : PathNode). n.offset) (λ (p : NodeNo × Option ℕ). p.1) c.args.path_nodes.now c.args.passes.now no_node no_pass c.args.milestones.now c.args.tick c.args.state.x may (c.loop-left.left - 1) (omega arith) in
+    let count = c.loop-left.invariant.marked.count in
+    let as_many = may.as_many in
+    omega arith
+
+pub offset_bounds-passes-milestone-in-loop-left : goal.offset_bounds-passes-milestone-in-loop-left
+offset_bounds-passes-milestone-in-loop-left c =
+    let may = passes_may_be_marked c.args.state c.args.tick c.args.path_nodes.now c.args.passes.now c.args.milestones.now c.requires.milestones c.requires.in_turn in
+    let some = c.loop-left-test.true in
+    let within = c.loop-left.invariant.within in
+    let known = index_in (pass_made c.args.state c.args.tick) (λ (n : PathNode). n.offset) (λ (p : NodeNo × Option ℕ). p.1) c.args.path_nodes.now c.args.passes.now no_node no_pass c.args.milestones.now c.args.tick c.args.state.x may (c.loop-left.left - 1) (omega arith) in
+    let count = c.loop-left.invariant.marked.count in
+    let as_many = may.as_many in
+    omega arith
+
+pub returns-else-settled-milestones-clause-marked : goal.returns-else-settled-milestones-clause-marked
+returns-else-settled-milestones-clause-marked c =
+    let may = passes_may_be_marked c.args.state c.args.tick c.args.path_nodes.now c.args.passes.now c.args.milestones.now c.requires.milestones c.requires.in_turn in
+    ends (pass_made c.args.state c.args.tick) (λ (n : PathNode). n.offset) (λ (p : NodeNo × Option ℕ). p.1) c.args.path_nodes.now c.args.passes.now no_node no_pass c.args.milestones.now c.args.tick c.args.state.x may c.loop-left.left c.loop-left.settled c.loop-left.passes c.loop-left.invariant.marked c.loop-left.invariant.within
+    (λ some. let h = c.if-settled-milestones.false in omega arith)
+
+pub returns-after-loop-left-clause-marked : goal.returns-after-loop-left-clause-marked
+returns-after-loop-left-clause-marked c =
+    let may = passes_may_be_marked c.args.state c.args.tick c.args.path_nodes.now c.args.passes.now c.args.milestones.now c.requires.milestones c.requires.in_turn in
+    ends (pass_made c.args.state c.args.tick) (λ (n : PathNode). n.offset) (λ (p : NodeNo × Option ℕ). p.1) c.args.path_nodes.now c.args.passes.now no_node no_pass c.args.milestones.now c.args.tick c.args.state.x may c.loop-left.left c.loop-left.settled c.loop-left.passes c.loop-left.invariant.marked c.loop-left.invariant.within
+    (λ some. let h = c.loop-left-test.false in absurd (omega arith))

@@ -1,9 +1,16 @@
-use Rattle.std.proofs.Common.{◌≡◌}
-use Rattle.rail_base.specs.Numbering.{or_this}
-use Rattle.rail_spec.specs.Visits.{is_passed}
-use Rattle.dispatch_run.proofs.Filling.{filled}
+use Rattle.std.proofs.Common.{◌≤◌, ℕ, Option, length}
+use Rattle.rail_base.specs.declared.station.NodeNo.{NodeNo}
+use Rattle.rail_base.specs.declared.state.PathNode.{PathNode}
+use Rattle.dispatch_run.proofs.InTurn.{pass_made, no_node, no_pass}
+use Rattle.dispatch_run.proofs.Settling.{IsMarkedFrom}
 use Rattle.dispatch_run.proofs.marks.mark_passes.Given as goal
 
--- the passes so far are marked
-abbrev pub invariant-loop-index : goal.invariant-loop-index
-invariant-loop-index l = l.passes ≡ filled (λ path_node pass. (path_node.node, or_this pass.1 (is_passed l.state path_node) l.tick)) l.index l.path_nodes l.fn.passes
+-- it is marked from a milestone on, and all that is nearer than a place was marked earlier
+abbrev pub invariant-loop-left : goal.invariant-loop-left
+invariant-loop-left l = record {
+  within : l.left ≤ length l.milestones;
+  marked : IsMarkedFrom (pass_made l.state l.tick) (λ (n : PathNode). n.offset) (λ (p : NodeNo × Option ℕ). p.1) l.path_nodes l.fn.passes no_node no_pass l.milestones l.left l.settled l.passes;
+}
+
+abbrev pub decreases-loop-left : goal.decreases-loop-left
+decreases-loop-left l = l.left

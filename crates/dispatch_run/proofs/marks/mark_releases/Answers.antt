@@ -1,40 +1,107 @@
-use Rattle.std.proofs.Common.{◌≡◌, ℕ, suc, ◌+◌, length, get_or, set, Option, None, ap, ap₂, ◌∙◌, arith}
+use Rattle.std.proofs.Common.{◌≡◌, ℕ, ◌-◌, Option, get_or, ap, ap₂, ◌∙◌, refl, arith}
 use Rattle.rail_base.specs.declared.station.SectionNo.{SectionNo}
 use Rattle.rail_base.specs.declared.route.RouteNo.{RouteNo}
 use Rattle.rail_course.specs.declared.journey.Release.{Release}
+use Rattle.rail_course.specs.declared.milestones.Milestone.{Milestone}
 use Rattle.rail_base.specs.Numbering.{or_this}
 use Rattle.rail_course.specs.Releases.{is_released}
-use Rattle.dispatch_run.proofs.Filling.{filled}
-use Rattle.dispatch_run.proofs.Filling.{none_filled, next_is, one_more, length-filled, all_filled}
+use Rattle.dispatch_run.proofs.InTurn.{release_made, no_release, no_entry, releases_may_be_marked}
+use Rattle.dispatch_run.proofs.Settling.{begins, goes_on, ends, index_in}
 use Rattle.dispatch_run.proofs.marks.mark_releases.Goals as goal
 
-pub loop-index-init : goal.loop-index-init
-loop-index-init c =
-    let make : Release → RouteNo × SectionNo × Option ℕ → RouteNo × SectionNo × Option ℕ = λ release entry. (release.route, release.section, or_this entry.2 (is_released c.args.state release) c.args.tick) in
-    none_filled make c.args.releases.now c.args.entries.now
+pub loop-left-init : goal.loop-left-init
+loop-left-init c =
+    let may = releases_may_be_marked c.args.state c.args.tick c.args.releases.now c.args.entries.now c.args.milestones.now c.requires.milestones c.requires.in_turn in
+    record {
+      within = c.reached-left.ensures.count;
+      marked = begins (release_made c.args.state c.args.tick) (λ (r : Release). r.place) (λ (e : RouteNo × SectionNo × Option ℕ). e.2) c.args.releases.now c.args.entries.now no_release no_entry c.args.milestones.now c.args.tick c.args.state.x may c.reached-left.result c.reached-left.ensures.ahead;
+    }
 
-pub loop-index-preserved : goal.loop-index-preserved
-loop-index-preserved c =
-    let make : Release → RouteNo × SectionNo × Option ℕ → RouteNo × SectionNo × Option ℕ = λ release entry. (release.route, release.section, or_this entry.2 (is_released c.args.state release) c.args.tick) in
-    let i = c.loop-index.index in
-    let old = c.args.entries.now in
-    let parts = c.args.releases.now in
-    let none : Release = record { route = record { 0 = 0 }; section = record { 0 = 0 }; number = 0; place = 0 } in
-    let no_mark : RouteNo × SectionNo × Option ℕ = (record { 0 = 0 }, record { 0 = 0 }, None) in
-    let less = c.loop-index-test.true in
-    let own : get_or c.loop-index.entries i no_mark ≡ get_or old i no_mark = ap (λ zs. get_or zs i no_mark) c.loop-index.invariant ∙ next_is make i parts old no_mark in
-    let tick : c.first_tick-tick.result ≡ or_this (get_or old i no_mark).2 (is_released c.args.state (get_or parts i none)) c.args.tick =
-    c.first_tick-tick.ensures ∙ ap₂ (λ (m : RouteNo × SectionNo × Option ℕ) b. or_this m.2 b c.args.tick) own c.is_released.ensures in
-    let one : suc i ≡ i + 1 = omega arith in
-    ap₂ (λ zs k. set zs i ((get_or parts i none).route, (get_or parts i none).section, k)) c.loop-index.invariant tick
-    ∙ (one_more make i parts old none no_mark (let r = c.requires in omega arith) less ∙ ap (λ n. filled make n parts old) one)
+pub loop-left-preserved : goal.loop-left-preserved
+loop-left-preserved c =
+    let may = releases_may_be_marked c.args.state c.args.tick c.args.releases.now c.args.entries.now c.args.milestones.now c.requires.milestones c.requires.in_turn in
+    let some = c.loop-left-test.true in
+    let within = c.loop-left.invariant.within in
+    let p = c.loop-left.left - 1 in
+    let milestone : Milestone = record { place = 0; index = 0 } in
+    let idx = (get_or c.args.milestones.now p milestone).index in
+    let mark : c.first_tick-mark.result ≡ or_this (get_or c.loop-left.entries idx no_entry).2 (is_released c.args.state (get_or c.args.releases.now idx no_release)) c.args.tick =
+    c.first_tick-mark.ensures ∙ ap (λ b. or_this (get_or c.loop-left.entries idx no_entry).2 b c.args.tick) c.is_released.ensures in
+    record {
+      within = omega arith;
+      marked =
+          goes_on (release_made c.args.state c.args.tick) (λ (r : Release). r.place) (λ (e : RouteNo × SectionNo × Option ℕ). e.2) c.args.releases.now c.args.entries.now no_release no_entry c.args.milestones.now c.args.tick c.args.state.x may c.loop-left.left c.loop-left.settled c.loop-left.entries c.loop-left.invariant.marked
+          p (omega arith) within _ (ap (λ m. ((get_or c.args.releases.now idx no_release).route, (get_or c.args.releases.now idx no_release).section, m)) mark) _ c.settled_by-settled.ensures;
+    }
 
-pub returns-clause-marked : goal.returns-clause-marked
-returns-clause-marked c =
-    let make : Release → RouteNo × SectionNo × Option ℕ → RouteNo × SectionNo × Option ℕ = λ release entry. (release.route, release.section, or_this entry.2 (is_released c.args.state release) c.args.tick) in
-    c.loop-index.invariant ∙ all_filled make c.loop-index.index c.args.releases.now c.args.entries.now c.loop-index-test.false c.requires
+pub bounds-releases-milestone : goal.bounds-releases-milestone
+bounds-releases-milestone c =
+    let may = releases_may_be_marked c.args.state c.args.tick c.args.releases.now c.args.entries.now c.args.milestones.now c.requires.milestones c.requires.in_turn in
+    let some = c.loop-left-test.true in
+    let within = c.loop-left.invariant.within in
+    let known = index_in (release_made c.args.state c.args.tick) (λ (r : Release). r.place) (λ (e : RouteNo × SectionNo × Option ℕ). e.2) c.args.releases.now c.args.entries.now no_release no_entry c.args.milestones.now c.args.tick c.args.state.x may (c.loop-left.left - 1) (omega arith) in
+    let count = c.loop-left.invariant.marked.count in
+    let as_many = may.as_many in
+    omega arith
 
-pub returns-clause-count : goal.returns-clause-count
-returns-clause-count c =
-    let make : Release → RouteNo × SectionNo × Option ℕ → RouteNo × SectionNo × Option ℕ = λ release entry. (release.route, release.section, or_this entry.2 (is_released c.args.state release) c.args.tick) in
-    ap length c.loop-index.invariant ∙ length-filled make c.loop-index.index c.args.releases.now c.args.entries.now
+pub bounds-entries-milestone : goal.bounds-entries-milestone
+bounds-entries-milestone c =
+    let may = releases_may_be_marked c.args.state c.args.tick c.args.releases.now c.args.entries.now c.args.milestones.now c.requires.milestones c.requires.in_turn in
+    let some = c.loop-left-test.true in
+    let within = c.loop-left.invariant.within in
+    let known = index_in (release_made c.args.state c.args.tick) (λ (r : Release). r.place) (λ (e : RouteNo × SectionNo × Option ℕ). e.2) c.args.releases.now c.args.entries.now no_release no_entry c.args.milestones.now c.args.tick c.args.state.x may (c.loop-left.left - 1) (omega arith) in
+    let count = c.loop-left.invariant.marked.count in
+    let as_many = may.as_many in
+    omega arith
+
+pub bounds-entries-milestone-in-loop-left : goal.bounds-entries-milestone-in-loop-left
+bounds-entries-milestone-in-loop-left c =
+    let may = releases_may_be_marked c.args.state c.args.tick c.args.releases.now c.args.entries.now c.args.milestones.now c.requires.milestones c.requires.in_turn in
+    let some = c.loop-left-test.true in
+    let within = c.loop-left.invariant.within in
+    let known = index_in (release_made c.args.state c.args.tick) (λ (r : Release). r.place) (λ (e : RouteNo × SectionNo × Option ℕ). e.2) c.args.releases.now c.args.entries.now no_release no_entry c.args.milestones.now c.args.tick c.args.state.x may (c.loop-left.left - 1) (omega arith) in
+    let count = c.loop-left.invariant.marked.count in
+    let as_many = may.as_many in
+    omega arith
+
+pub offset_bounds-releases-milestone : goal.offset_bounds-releases-milestone
+offset_bounds-releases-milestone c =
+    let may = releases_may_be_marked c.args.state c.args.tick c.args.releases.now c.args.entries.now c.args.milestones.now c.requires.milestones c.requires.in_turn in
+    let some = c.loop-left-test.true in
+    let within = c.loop-left.invariant.within in
+    let known = index_in (release_made c.args.state c.args.tick) (λ (r : Release). r.place) (λ (e : RouteNo × SectionNo × Option ℕ). e.2) c.args.releases.now c.args.entries.now no_release no_entry c.args.milestones.now c.args.tick c.args.state.x may (c.loop-left.left - 1) (omega arith) in
+    let count = c.loop-left.invariant.marked.count in
+    let as_many = may.as_many in
+    omega arith
+
+pub offset_bounds-entries-milestone : goal.offset_bounds-entries-milestone
+offset_bounds-entries-milestone c =
+    let may = releases_may_be_marked c.args.state c.args.tick c.args.releases.now c.args.entries.now c.args.milestones.now c.requires.milestones c.requires.in_turn in
+    let some = c.loop-left-test.true in
+    let within = c.loop-left.invariant.within in
+    let known = index_in (release_made c.args.state c.args.tick) (λ (r : Release). r.place) (λ (e : RouteNo × SectionNo × Option ℕ). e.2) c.args.releases.now c.args.entries.now no_release no_entry c.args.milestones.now c.args.tick c.args.state.x may (c.loop-left.left - 1) (omega arith) in
+    let count = c.loop-left.invariant.marked.count in
+    let as_many = may.as_many in
+    omega arith
+
+pub offset_bounds-entries-milestone-in-loop-left : goal.offset_bounds-entries-milestone-in-loop-left
+offset_bounds-entries-milestone-in-loop-left c =
+    let may = releases_may_be_marked c.args.state c.args.tick c.args.releases.now c.args.entries.now c.args.milestones.now c.requires.milestones c.requires.in_turn in
+    let some = c.loop-left-test.true in
+    let within = c.loop-left.invariant.within in
+    let known = index_in (release_made c.args.state c.args.tick) (λ (r : Release). r.place) (λ (e : RouteNo × SectionNo × Option ℕ). e.2) c.args.releases.now c.args.entries.now no_release no_entry c.args.milestones.now c.args.tick c.args.state.x may (c.loop-left.left - 1) (omega arith) in
+    let count = c.loop-left.invariant.marked.count in
+    let as_many = may.as_many in
+    omega arith
+
+pub returns-else-settled-milestones-clause-marked : goal.returns-else-settled-milestones-clause-marked
+returns-else-settled-milestones-clause-marked c =
+    let may = releases_may_be_marked c.args.state c.args.tick c.args.releases.now c.args.entries.now c.args.milestones.now c.requires.milestones c.requires.in_turn in
+    ends (release_made c.args.state c.args.tick) (λ (r : Release). r.place) (λ (e : RouteNo × SectionNo × Option ℕ). e.2) c.args.releases.now c.args.entries.now no_release no_entry c.args.milestones.now c.args.tick c.args.state.x may c.loop-left.left c.loop-left.settled c.loop-left.entries c.loop-left.invariant.marked c.loop-left.invariant.within
+    (λ some. let h = c.if-settled-milestones.false in omega arith)
+
+pub returns-after-loop-left-clause-marked : goal.returns-after-loop-left-clause-marked
+returns-after-loop-left-clause-marked c =
+    let may = releases_may_be_marked c.args.state c.args.tick c.args.releases.now c.args.entries.now c.args.milestones.now c.requires.milestones c.requires.in_turn in
+    ends (release_made c.args.state c.args.tick) (λ (r : Release). r.place) (λ (e : RouteNo × SectionNo × Option ℕ). e.2) c.args.releases.now c.args.entries.now no_release no_entry c.args.milestones.now c.args.tick c.args.state.x may c.loop-left.left c.loop-left.settled c.loop-left.entries c.loop-left.invariant.marked c.loop-left.invariant.within
+    (λ some. let h = c.loop-left-test.false in absurd (omega arith))

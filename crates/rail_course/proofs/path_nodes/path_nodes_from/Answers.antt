@@ -1,5 +1,9 @@
+use Rattle.rail_base.specs.declared.state.PathNode.{PathNode}
+use Rattle.rail_spec.specs.Visits.{path_nodes}
+use Rattle.rail_course.specs.Milestones.{ComeInTurn}
 use Rattle.rail_course.proofs.Granting.{laid_out}
-use Rattle.std.proofs.Common.{ap, ◌∙◌, arith}
+use Rattle.rail_course.proofs.InTurn.{first_and_later, nodes_in_turn}
+use Rattle.std.proofs.Common.{◌≡◌, ◌∷◌, ap, ◌∙◌, arith, subst, sym}
 use Rattle.std.proofs.lemmas.List.Sums.{sum_by-cons}
 use Rattle.rail_base.specs.declared.route.Route.{Route}
 use Rattle.rail_base.specs.Routes.{route_at, length_mm}
@@ -13,3 +17,12 @@ push_path_nodes-requires c =
     let sum = sum_by-cons length_mm route (routes_at c.args.interlocking.now.routes c.args.later.now) in
     let short = c.requires.short in
     fit_all 0 route c.as_slice.result.now (c.as_slice.ensures ∙ ap (λ (r : Route). r.nodes) c.route_at-route.ensures) ((laid_out c.args.interlocking.now).each c.args.first).nodes (omega arith)
+
+pub returns-clause-in_turn : goal.returns-clause-in_turn
+returns-clause-in_turn c =
+    let interlocking = c.args.interlocking.now in
+    let all : c.push_path_nodes_after.new.path_nodes.items ≡ path_nodes (routes_at interlocking.routes (c.args.first ∷ c.args.later.now)) =
+    first_and_later interlocking.routes c.args.first c.args.later.now _ _ _ _ _ c.new-path_nodes.ensures.items (c.as_slice.ensures ∙ ap (λ (r : Route). r.nodes) c.route_at-route.ensures)
+    (c.length_mm.ensures ∙ ap length_mm c.route_at-route.ensures) c.in_ok-push_path_nodes.ensures c.in_ok-push_path_nodes_after.ensures in
+    subst (ComeInTurn (λ (n : PathNode). n.offset) (λ (n : PathNode). n.command)) (sym all)
+    (nodes_in_turn interlocking.design.station interlocking.routes (laid_out interlocking) (c.args.first ∷ c.args.later.now))

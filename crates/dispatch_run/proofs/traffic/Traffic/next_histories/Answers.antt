@@ -1,52 +1,64 @@
-use Rattle.std.proofs.Common.{◌+◌, map, drop, get_or, length, refl, ap, sym, ◌∙◌, arith}
+use Rattle.std.proofs.Common.{◌≡◌, ℕ, suc, ◌+◌, get_or, length, map, set, ap, sym, ◌∙◌, arith}
+use Rattle.rail_base.specs.declared.history.TrainHistory.{TrainHistory}
 use Rattle.rail_base.proofs.Members.{map-map}
 use Rattle.dispatch_quiet.specs.Histories.{train_history}
 use Rattle.dispatch_run.specs.declared.traffic.Follower.{Follower}
-use Rattle.dispatch_run.proofs.Looping.{made_on}
-use Rattle.dispatch_run.proofs.Turning.{many_journeys, length-dropped, train_at, first_dropped, drop_once, comes_off}
+use Rattle.dispatch_run.proofs.Filling.{filled, none_filled, next_is, one_more, length-filled, all_made}
+use Rattle.dispatch_run.proofs.Turning.{many_journeys, train_at, comes_off}
 use Rattle.dispatch_run.proofs.traffic.Traffic.next_histories.Goals as goal
 
 pub loop-i-init : goal.loop-i-init
 loop-i-init g c =
-    let history = train_history c.args.self.now.interlocking.now.design.station c.args.self.now.interlocking.now.routes g.dispatch c.args.tick in
-    let items = c.new-told.ensures.items in
-    record {
-      left = refl;
-      told = rw items (sym (map-map history (λ (j : Follower). j.journey.now.train_path.now.train) c.args.self.now.followers.now) ∙ ap (map history) c.requires.0.followers.all);
-    }
+    none_filled (λ (f : Follower) (h : TrainHistory). train_history c.args.self.now.interlocking.now.design.station c.args.self.now.interlocking.now.routes g.dispatch c.args.tick f.journey.now.train_path.now.train) c.args.self.now.followers.now c.args.histories.items
 
-pub remove-old-requires : goal.remove-old-requires
-remove-old-requires g c =
-    let len = c.loop-i.olds.ok.0 in
-    let left = ap length c.loop-i.invariant.left in
+pub index_mut-requires : goal.index_mut-requires
+index_mut-requires g c =
+    let make : Follower → TrainHistory → TrainHistory = λ f h. train_history c.args.self.now.interlocking.now.design.station c.args.self.now.interlocking.now.routes g.dispatch c.args.tick f.journey.now.train_path.now.train in
+    let long = length-filled make c.loop-i.i c.args.self.now.followers.now c.args.histories.items in
+    let now = ap length c.loop-i.invariant in
+    let len = c.loop-i.next.ok.0 in
     let many = many_journeys c.args.self.now.interlocking.now.design.station c.args.self.now.followers.now c.requires.0.followers.all in
     let count = c.requires.1.count in
     let less = c.loop-i-test.true in
-    let some = length-dropped c.args.histories.items c.loop-i.i (omega arith) in
     omega arith
 
-pub next_history-requires : goal.next_history-requires
-next_history-requires g c =
+pub mark_history-requires : goal.mark_history-requires
+mark_history-requires g c =
     let d = c.args.self.now.interlocking.now.design.station in
+    let make : Follower → TrainHistory → TrainHistory = λ f h. train_history d c.args.self.now.interlocking.now.routes g.dispatch c.args.tick f.journey.now.train_path.now.train in
     let js = c.args.self.now.followers.now in
     let i = c.loop-i.i in
     let many = many_journeys d js c.requires.0.followers.all in
     let less = c.loop-i-test.true in
     let number = train_at d js i c.index-self-i.result c.requires.0.followers.all less in
-    let off = c.remove-old.ensures.value ∙ ap (λ hs. get_or hs 0 c.remove-old.result) c.loop-i.invariant.left ∙ first_dropped c.args.histories.items i c.remove-old.result in (
+    let off = c.index_mut.ensures.value ∙ ap (λ hs. get_or hs i c.index_mut.result.now) c.loop-i.invariant ∙ next_is make i js c.args.histories.items c.index_mut.result.now in (
       c.requires.0.followers.each i c.index-self-i.result less,
       (
         c.requires.1.some,
-        comes_off d c.args.self.now.interlocking.now.routes g.dispatch c.args.tick c.args.states.now c.args.looks.now c.args.histories.items i (get_or js i c.index-self-i.result).journey.now.train_path.now.train c.state_of.result c.look_of.result c.remove-old.result
+        comes_off d c.args.self.now.interlocking.now.routes g.dispatch c.args.tick c.args.states.now c.args.looks.now c.args.histories.items i (get_or js i c.index-self-i.result).journey.now.train_path.now.train c.state_of.result c.look_of.result c.index_mut.result.now
             c.requires.1 number (omega arith) c.state_of.ensures c.look_of.ensures off,
       ),
     )
 
 pub loop-i-preserved : goal.loop-i-preserved
 loop-i-preserved g c =
-    let history = train_history c.args.self.now.interlocking.now.design.station c.args.self.now.interlocking.now.routes g.dispatch c.args.tick in
-    let made = c.in_ok-push.ensures.items in
-    record {
-      left = c.remove-old.ensures.items ∙ ap (drop 1) c.loop-i.invariant.left ∙ drop_once c.args.histories.items c.loop-i.i (c.loop-i.i + 1) refl;
-      told = made_on (λ (j : Follower). history j.journey.now.train_path.now.train) c.loop-i.told.items c.push.new.self.items c.in_ok-next_history.field-0 c.args.self.now.followers.now c.loop-i.i (c.loop-i.i + 1) c.index-self-i.result _ c.loop-i-test.true refl made c.in_ok-next_history.ensures c.loop-i.invariant.told;
-    }
+    let d = c.args.self.now.interlocking.now.design.station in
+    let make : Follower → TrainHistory → TrainHistory = λ f h. train_history d c.args.self.now.interlocking.now.routes g.dispatch c.args.tick f.journey.now.train_path.now.train in
+    let js = c.args.self.now.followers.now in
+    let i = c.loop-i.i in
+    let many = many_journeys d js c.requires.0.followers.all in
+    let count = c.requires.1.count in
+    let less = c.loop-i-test.true in
+    let one : suc i ≡ i + 1 = omega arith in
+    ap (λ hs. set hs i c.mark_history.new.history) c.loop-i.invariant ∙ ap (set (filled make i js c.args.histories.items) i) c.in_ok-mark_history.ensures
+    ∙ one_more make i js c.args.histories.items c.index-self-i.result c.index_mut.result.now less (omega arith) ∙ ap (λ n. filled make n js c.args.histories.items) one
+
+pub returns : goal.returns
+returns g c =
+    let d = c.args.self.now.interlocking.now.design.station in
+    let history = train_history d c.args.self.now.interlocking.now.routes g.dispatch c.args.tick in
+    let js = c.args.self.now.followers.now in
+    let many = many_journeys d js c.requires.0.followers.all in
+    let count = c.requires.1.count in
+    c.loop-i.invariant ∙ all_made (λ (f : Follower). history f.journey.now.train_path.now.train) c.loop-i.i js c.args.histories.items c.loop-i-test.false (omega arith)
+    ∙ sym (map-map history (λ (f : Follower). f.journey.now.train_path.now.train) js) ∙ ap (map history) c.requires.0.followers.all

@@ -1,15 +1,15 @@
-use Rattle.std.proofs.Common.{◌≡◌, ◌++◌, drop, map}
-use Rattle.dispatch_quiet.specs.Histories.{history_at, train_history}
+use Rattle.std.proofs.Common.{◌≡◌, List}
+use Rattle.rail_base.specs.declared.history.TrainHistory.{TrainHistory}
+use Rattle.dispatch_quiet.specs.Histories.{train_history}
 use Rattle.dispatch_run.specs.declared.traffic.Follower.{Follower}
+use Rattle.dispatch_run.proofs.Filling.{filled}
 use Rattle.dispatch_run.proofs.traffic.Traffic.next_histories.Given as goal
 
+-- the first histories are those of the tick, and the others as they were
 abbrev pub invariant-loop-i : goal.invariant-loop-i
-invariant-loop-i g l = record {
-  left : l.olds.items ≡ drop l.i l.fn.histories.items;
-  told :
-      l.told.items ++ map (λ (j : Follower). train_history l.self.interlocking.now.design.station l.self.interlocking.now.routes g.dispatch l.tick j.journey.now.train_path.now.train) (drop l.i l.self.followers.now)
-      ≡ history_at l.self.interlocking.now.design.station l.self.interlocking.now.routes g.dispatch l.tick;
-}
+invariant-loop-i g l =
+    l.next.items
+    ≡ filled (λ (f : Follower) (h : TrainHistory). train_history l.self.interlocking.now.design.station l.self.interlocking.now.routes g.dispatch l.tick f.journey.now.train_path.now.train) l.i l.self.followers.now l.fn.histories.items
 
-abbrev pub ghost-next_history : goal.ghost-next_history
-ghost-next_history g a = g.dispatch
+abbrev pub ghost-mark_history : goal.ghost-mark_history
+ghost-mark_history g a = g.dispatch
