@@ -8,14 +8,14 @@ use Rattle.rail_spec.specs.Plans.{all_commands}
 use Rattle.rail_base.specs.Members.{all_pairs}
 use Rattle.rail_base.proofs.Members.{In, and_left, and_right, and_both, or_left, or_right, list_all_at}
 use Rattle.rail_base.proofs.Lists.{in_append, in_flat_map_back}
-use Rattle.rail_cone.specs.Validity as cone
-use Rattle.rail_cone.specs.Clauses.{Fact, Used, Before, Literal}
-use Rattle.rail_cone.proofs.Saying.{is_command_self}
+use Rattle.cone_spec.specs.Validity as cone
+use Rattle.cone_spec.specs.Clauses.{Fact, Used, Before, Literal}
+use Rattle.cone_spec.proofs.Saying.{is_command_self}
 use Rattle.cone_form.proofs.Sorted.{all_pairs_append, commands_sorted}
 use Rattle.cone_clause.proofs.ClauseOrder.{is_fact_before, is_literal_before}
-use Rattle.rail_bound.specs.declared.Bound.{Bound}
-use Rattle.rail_bound.specs.Clauses.{is_named, is_kept_out, is_before, is_kept_behind, used_literals, before_literals, clause_of_bound}
-use Rattle.rail_bound.specs.Validity.{in_design}
+use Rattle.bound_spec.specs.declared.Bound.{Bound}
+use Rattle.bound_spec.specs.Clauses.{is_named, is_kept_out, is_before, is_kept_behind, used_literals, before_literals, clause_of_bound}
+use Rattle.bound_spec.specs.Validity.{in_design}
 use Rattle.bound_clause.proofs.Known.{consistent, one_literal}
 
 -- lists of members in order, of which each is in order, make a list in order

@@ -9,26 +9,26 @@ use Rattle.rail_base.specs.Admission.{is_from}
 use Rattle.rail_base.specs.Stations.{IsTrain, within_of, order_of, no_within, no_order}
 use Rattle.rail_base.specs.Admitted.{IsAdmitted}
 use Rattle.rail_base.proofs.Lists.{in_entry}
-use Rattle.rail_bound.specs.declared.Requirement.{Requirement}
-use Rattle.rail_bound.specs.declared.Requirement.TheVariants as requirement
+use Rattle.bound_spec.specs.declared.Requirement.{Requirement}
+use Rattle.bound_spec.specs.declared.Requirement.TheVariants as requirement
 use Rattle.rail_base.specs.Routes.{IsRoute}
 use Rattle.rail_base.specs.Members.{In, all_neighbors}
 use Rattle.rail_base.proofs.Members.{and_left, and_right, list_all_at}
 use Rattle.rail_spec.specs.Plans.{is_train, contend, all_commands}
-use Rattle.plan_clauses.specs.Variables.{pairs}
-use Rattle.plan_clauses.proofs.Places.{pair_from}
-use Rattle.rail_cone.proofs.Saying.{in_all}
+use Rattle.clause_spec.specs.Variables.{pairs}
+use Rattle.clause_spec.proofs.Places.{pair_from}
+use Rattle.cone_spec.proofs.Saying.{in_all}
 use Rattle.cone_form.proofs.Ranges.{all_routes}
 use Rattle.cone_form.proofs.Orders.{member_at}
-use Rattle.rail_cone.specs.declared.Cone.{Cone}
-use Rattle.rail_cone.specs.Validity as cone
-use Rattle.rail_bound.specs.declared.Place.{Place}
-use Rattle.rail_bound.specs.declared.Place.TheVariants as place
-use Rattle.rail_bound.specs.declared.Leg.{Leg}
-use Rattle.rail_bound.specs.declared.Bound.{Bound}
-use Rattle.rail_bound.specs.declared.Origin.TheVariants as origin
-use Rattle.rail_bound.specs.Certificates.{VisitOf, routes_of_place, kept_out, first_of_places, last_of_places, first_of_leg, last_of_leg, visit_from, cone_at, cone_of, train_to}
-use Rattle.rail_bound.specs.Validity.{is_empty, are_increasing, most_places, places_of, last_leg, is_numbered, place_in_design, leg_in_design, contends_with, contend_where_they_meet, are_few_choices, requirement_in_design, origin_in_design, names_design}
+use Rattle.cone_spec.specs.declared.Cone.{Cone}
+use Rattle.cone_spec.specs.Validity as cone
+use Rattle.bound_spec.specs.declared.Place.{Place}
+use Rattle.bound_spec.specs.declared.Place.TheVariants as place
+use Rattle.bound_spec.specs.declared.Leg.{Leg}
+use Rattle.bound_spec.specs.declared.Bound.{Bound}
+use Rattle.bound_spec.specs.declared.Origin.TheVariants as origin
+use Rattle.bound_spec.specs.Certificates.{VisitOf, routes_of_place, kept_out, first_of_places, last_of_places, first_of_leg, last_of_leg, visit_from, cone_at, cone_of, train_to}
+use Rattle.bound_spec.specs.Validity.{is_empty, are_increasing, most_places, places_of, last_leg, is_numbered, place_in_design, leg_in_design, contends_with, contend_where_they_meet, are_few_choices, requirement_in_design, origin_in_design, names_design}
 use Rattle.bound_clause.specs.Spoken.{ContendAll}
 
 some_same : {X : Type 0} {a b : X} → Some a ≡ Some b → a ≡ b

@@ -11,23 +11,23 @@ use Rattle.rail_spec.specs.Track.{routes_of}
 use Rattle.rail_spec.specs.Feasible.{IsFeasible, IsInfeasible}
 use Rattle.sat_clause.specs.declared.lit.Lit.{Lit}
 use Rattle.sat_clause.specs.Clauses.{clause_holds}
-use Rattle.plan_clauses.specs.Models.{model_of}
+use Rattle.clause_spec.specs.Models.{model_of}
 use Rattle.cone_form.proofs.Sorted.{all_pairs_map}
-use Rattle.rail_cone.specs.declared.Cone.{Cone}
-use Rattle.rail_cone.specs.Validity.{is_valid_cone}
-use Rattle.rail_cone.specs.Clauses.{Literal}
-use Rattle.rail_cone.proofs.Refusing.{timed_of}
+use Rattle.cone_spec.specs.declared.Cone.{Cone}
+use Rattle.cone_spec.specs.Validity.{is_valid_cone}
+use Rattle.cone_spec.specs.Clauses.{Literal}
+use Rattle.cone_spec.proofs.Refusing.{timed_of}
 use Rattle.cone_clause.specs.Numbered.{variable_of, lit_of, numbered_clause}
-use Rattle.plan_clauses.specs.Variables.{number_of}
+use Rattle.clause_spec.specs.Variables.{number_of}
 use Rattle.cone_clause.proofs.ClauseOrder.{is_literal_before}
 use Rattle.cone_clause.proofs.Ordered.{facts_rise, weaken}
 use Rattle.cone_clause.proofs.Agreeing.{each_alike, short_enough, holds_of_feasible, all_append}
-use Rattle.alike_clauses.specs.Sorted.{AreSound, NoneSortedBy}
-use Rattle.alike_clauses.proofs.Holding.{none_sorted}
-use Rattle.rail_bound.specs.declared.Bound.{Bound}
-use Rattle.rail_bound.specs.Clauses.{clause_of_bound}
-use Rattle.rail_bound.specs.Validity.{in_design, covered, shown, first_fault, is_valid_bound}
-use Rattle.rail_bound.proofs.Certified.{true_of_feasible}
+use Rattle.alike_clause_spec.specs.Sorted.{AreSound, NoneSortedBy}
+use Rattle.alike_clause_spec.proofs.Holding.{none_sorted}
+use Rattle.bound_spec.specs.declared.Bound.{Bound}
+use Rattle.bound_spec.specs.Clauses.{clause_of_bound}
+use Rattle.bound_spec.specs.Validity.{in_design, covered, shown, first_fault, is_valid_bound}
+use Rattle.bound_spec.proofs.Certified.{true_of_feasible}
 use Rattle.bound_clause.specs.Numbered.{numbered_bound, clauses_shown}
 use Rattle.bound_clause.proofs.Known.{all_known}
 use Rattle.bound_clause.proofs.ClauseOrder.{clause_sorted}

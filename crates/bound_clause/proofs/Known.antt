@@ -9,20 +9,20 @@ use Rattle.rail_base.specs.Members.{all_neighbors}
 use Rattle.rail_base.proofs.Members.{In, and_left, and_right, and_both, either, list_all_at}
 use Rattle.rail_base.proofs.Lists.{in_append, in_flat_map_back}
 use Rattle.rail_laws.proofs.Given.{same_train}
-use Rattle.plan_clauses.proofs.Facts.{contend_sym}
-use Rattle.rail_cone.specs.Cones.{is_listed, is_free}
-use Rattle.rail_cone.specs.Validity as cone
-use Rattle.rail_cone.specs.Clauses.{Used, Before, Literal}
-use Rattle.rail_cone.proofs.Naming.{of_design, listed_is, has_route_in}
+use Rattle.clause_spec.proofs.Facts.{contend_sym}
+use Rattle.cone_spec.specs.Cones.{is_listed, is_free}
+use Rattle.cone_spec.specs.Validity as cone
+use Rattle.cone_spec.specs.Clauses.{Used, Before, Literal}
+use Rattle.cone_spec.proofs.Naming.{of_design, listed_is, has_route_in}
 use Rattle.cone_clause.proofs.Known.{IsKnown}
-use Rattle.rail_bound.specs.declared.Origin.{Origin}
-use Rattle.rail_bound.specs.declared.Origin.TheVariants as origin
-use Rattle.rail_bound.specs.declared.Leg.{Leg}
-use Rattle.rail_bound.specs.declared.Bound.{Bound}
-use Rattle.rail_bound.specs.Certificates.{VisitOf, routes_of_place, first_of_leg, last_of_leg, visit_from, cone_at, cone_of}
-use Rattle.rail_bound.specs.Clauses.{any_next, is_at, meet_named, are_where_they_meet, joins, may_join, begins_at_once, is_named, is_kept_out, is_before, is_kept_behind, used_literals, before_literals, clause_of_bound}
-use Rattle.rail_bound.specs.Validity.{contends_with, contend_where_they_meet, origin_in_design, is_consistent, in_design, are_few_choices, places_of, most_places, requirement_in_design, is_empty, leg_in_design, last_leg}
-use Rattle.rail_bound.specs.Certificates.{train_to}
+use Rattle.bound_spec.specs.declared.Origin.{Origin}
+use Rattle.bound_spec.specs.declared.Origin.TheVariants as origin
+use Rattle.bound_spec.specs.declared.Leg.{Leg}
+use Rattle.bound_spec.specs.declared.Bound.{Bound}
+use Rattle.bound_spec.specs.Certificates.{VisitOf, routes_of_place, first_of_leg, last_of_leg, visit_from, cone_at, cone_of}
+use Rattle.bound_spec.specs.Clauses.{any_next, is_at, meet_named, are_where_they_meet, joins, may_join, begins_at_once, is_named, is_kept_out, is_before, is_kept_behind, used_literals, before_literals, clause_of_bound}
+use Rattle.bound_spec.specs.Validity.{contends_with, contend_where_they_meet, origin_in_design, is_consistent, in_design, are_few_choices, places_of, most_places, requirement_in_design, is_empty, leg_in_design, last_leg}
+use Rattle.bound_spec.specs.Certificates.{train_to}
 
 -- two legs next to each other that pass the one test are in the other relation too
 any_meets : (test rel : Leg → Leg → Bool) (ls : List Leg) → any_next test ls ≡ true → all_neighbors rel ls ≡ true → (l : Leg) × (m : Leg) × (test l m ≡ true) × (rel l m ≡ true)

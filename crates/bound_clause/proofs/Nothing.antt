@@ -5,12 +5,12 @@ use Rattle.rail_base.specs.declared.route.Route.{Route}
 use Rattle.rail_base.specs.declared.plan.Command.{Command}
 use Rattle.rail_base.specs.declared.plan.Violation.{Violation}
 use Rattle.rail_spec.specs.Plans.{all_commands}
-use Rattle.rail_cone.specs.declared.Cone.{Cone}
-use Rattle.rail_bound.specs.declared.Origin.{Origin}
-use Rattle.rail_bound.specs.declared.Origin.TheVariants as origin
-use Rattle.rail_bound.specs.declared.Requirement.{Requirement}
-use Rattle.rail_bound.specs.Certificates.{cone_at, violation_of}
-use Rattle.rail_cone.specs.Clauses.{Used, Literal, is_closed, used_literals, before_literals, clause_of_cone}
+use Rattle.cone_spec.specs.declared.Cone.{Cone}
+use Rattle.bound_spec.specs.declared.Origin.{Origin}
+use Rattle.bound_spec.specs.declared.Origin.TheVariants as origin
+use Rattle.bound_spec.specs.declared.Requirement.{Requirement}
+use Rattle.bound_spec.specs.Certificates.{cone_at, violation_of}
+use Rattle.cone_spec.specs.Clauses.{Used, Literal, is_closed, used_literals, before_literals, clause_of_cone}
 
 nothing : {X Y : Type 0} (f : X → List Y) (xs : List X) → ((x : X) → f x ≡ []) → flat_map f xs ≡ []
 nothing f [] h = refl

@@ -7,7 +7,7 @@ use Rattle.rail_base.specs.declared.route.Route.{Route}
 use Rattle.rail_base.specs.declared.plan.Command.{Command}
 use Rattle.rail_base.specs.Members.{In}
 use Rattle.rail_base.specs.Numbering.{before_first}
-use Rattle.plan_clauses.specs.Variables.{pairs, is_pair}
+use Rattle.clause_spec.specs.Variables.{pairs, is_pair}
 use Rattle.cone_form.specs.declared.contention.Contention.{Contention}
 use Rattle.cone_form.proofs.Contending.{mirrored}
 use Rattle.cone_clause.proofs.Said.{one_place, place_inside}

@@ -2,8 +2,8 @@
 use Rattle.std.proofs.Common.{◌≡◌, ℕ, ◌+◌, ◌-◌, ◌≤◌, ◌<◌, List, [], ◌∷◌, ◌++◌, map, drop, get_or, length, refl, sym, ap, subst, ◌∙◌, arith, append-nil, length-drop}
 use Rattle.std.proofs.lemmas.List.{append_assoc, map-append}
 use Rattle.cone_clause.proofs.Gathering.{drop_next}
-use Rattle.rail_bound.specs.declared.Leg.{Leg}
-use Rattle.rail_cone.specs.Clauses.{Literal}
+use Rattle.bound_spec.specs.declared.Leg.{Leg}
+use Rattle.cone_spec.specs.Clauses.{Literal}
 use Rattle.bound_clause.specs.Said.{said_between, said_of_meetings}
 
 module _ {X L Z : Type 0} (f : X → L) (num : L → Z) where

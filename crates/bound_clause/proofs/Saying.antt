@@ -11,24 +11,24 @@ use Rattle.rail_base.proofs.Members.{In, and_left, and_right, and_both, either, 
 use Rattle.rail_base.proofs.Lists.{in_append, in_append_left, in_append_right, in_filter_back, in_map, in_map_back, in_flat_map, in_flat_map_back}
 use Rattle.rail_spec.specs.Plans.{route_at, is_train, is_command, contend, starts_in, commands_of, route_numbers, all_commands}
 use Rattle.rail_laws.proofs.Given.{same_train}
-use Rattle.plan_clauses.specs.Variables.{pairs}
-use Rattle.plan_clauses.proofs.Places.{command_of, pair_of, pair_from}
+use Rattle.clause_spec.specs.Variables.{pairs}
+use Rattle.clause_spec.proofs.Places.{command_of, pair_of, pair_from}
 use Rattle.cone_form.proofs.Contending.{mirrored}
-use Rattle.rail_cone.specs.Cones as cone
-use Rattle.rail_cone.specs.Cones.{has_route, is_free, is_listed, named}
-use Rattle.rail_cone.specs.Clauses as words
-use Rattle.rail_cone.specs.Clauses.{Used, Before, Literal, is_closed, goes_further, clause_of_cone}
-use Rattle.rail_cone.proofs.Naming.{has_route_in, in_has_route}
-use Rattle.rail_cone.proofs.Saying.{is_command_same, is_command_self}
-use Rattle.rail_bound.specs.declared.Origin.{Origin}
-use Rattle.rail_bound.specs.declared.Origin.TheVariants as origin
-use Rattle.rail_bound.specs.declared.Place.{Place}
-use Rattle.rail_bound.specs.declared.Place.TheVariants as place
-use Rattle.rail_bound.specs.declared.Leg.{Leg}
-use Rattle.rail_bound.specs.declared.Bound.{Bound}
-use Rattle.rail_bound.specs.Certificates.{VisitOf, routes_of_place, named_at, kept_out, first_of_leg, last_of_leg, visit_from, cone_of}
-use Rattle.rail_bound.specs.Clauses.{any_next, stands_in, is_at, meet_named, are_where_they_meet, joins, may_join, begins_at_once, is_named, is_past_cone, is_kept_out, is_before, is_kept_behind, used_literals, before_literals, clause_of_bound}
-use Rattle.rail_bound.specs.Validity.{names_design}
+use Rattle.cone_spec.specs.Cones as cone
+use Rattle.cone_spec.specs.Cones.{has_route, is_free, is_listed, named}
+use Rattle.cone_spec.specs.Clauses as words
+use Rattle.cone_spec.specs.Clauses.{Used, Before, Literal, is_closed, goes_further, clause_of_cone}
+use Rattle.cone_spec.proofs.Naming.{has_route_in, in_has_route}
+use Rattle.cone_spec.proofs.Saying.{is_command_same, is_command_self}
+use Rattle.bound_spec.specs.declared.Origin.{Origin}
+use Rattle.bound_spec.specs.declared.Origin.TheVariants as origin
+use Rattle.bound_spec.specs.declared.Place.{Place}
+use Rattle.bound_spec.specs.declared.Place.TheVariants as place
+use Rattle.bound_spec.specs.declared.Leg.{Leg}
+use Rattle.bound_spec.specs.declared.Bound.{Bound}
+use Rattle.bound_spec.specs.Certificates.{VisitOf, routes_of_place, named_at, kept_out, first_of_leg, last_of_leg, visit_from, cone_of}
+use Rattle.bound_spec.specs.Clauses.{any_next, stands_in, is_at, meet_named, are_where_they_meet, joins, may_join, begins_at_once, is_named, is_past_cone, is_kept_out, is_before, is_kept_behind, used_literals, before_literals, clause_of_bound}
+use Rattle.bound_spec.specs.Validity.{names_design}
 use Rattle.bound_clause.specs.Said.{used_by, not_used_by, said_of_place, said_of_leg, said_of_legs, said_of_pair, said_after, said_between, said_of_meetings, said_before, said_of_start, said_at, said_of_origin, said_literals}
 use Rattle.bound_clause.proofs.Fitting.{train_fits, place_fits, numbered_in, numbered_out, command_in, first_command, last_command, leg_fits}
 

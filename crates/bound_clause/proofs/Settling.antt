@@ -8,11 +8,11 @@ use Rattle.rail_base.proofs.Members.{In, and_both, false_unless}
 use Rattle.rail_base.proofs.Lists.{in_map, in_map_back, list_all_from}
 use Rattle.rail_spec.specs.Plans.{all_commands}
 use Rattle.sat_clause.specs.declared.lit.Lit.{Lit}
-use Rattle.rail_cone.specs.Clauses.{Fact, Used, Before, Literal}
+use Rattle.cone_spec.specs.Clauses.{Fact, Used, Before, Literal}
 use Rattle.cone_clause.specs.Numbered.{lit_of}
-use Rattle.rail_bound.specs.declared.Bound.{Bound}
-use Rattle.rail_bound.specs.Clauses.{is_named, is_kept_out, is_before, is_kept_behind, clause_of_bound}
-use Rattle.rail_bound.specs.Validity.{names_design, is_consistent}
+use Rattle.bound_spec.specs.declared.Bound.{Bound}
+use Rattle.bound_spec.specs.Clauses.{is_named, is_kept_out, is_before, is_kept_behind, clause_of_bound}
+use Rattle.bound_spec.specs.Validity.{names_design, is_consistent}
 use Rattle.bound_clause.specs.Numbered.{numbered_bound, clause_if_consistent}
 use Rattle.bound_clause.specs.Said.{said_literals}
 use Rattle.bound_clause.specs.Order.{BothSigns, IsPutInOrder}

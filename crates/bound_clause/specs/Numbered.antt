@@ -4,11 +4,11 @@ use Rattle.rail_base.specs.declared.station.Station.{Station}
 use Rattle.rail_base.specs.declared.route.Route.{Route}
 use Rattle.rail_spec.specs.Track.{routes_of}
 use Rattle.sat_clause.specs.declared.lit.Lit.{Lit}
-use Rattle.rail_cone.specs.declared.Cone.{Cone}
+use Rattle.cone_spec.specs.declared.Cone.{Cone}
 use Rattle.cone_clause.specs.Numbered.{lit_of, numbered_clause}
-use Rattle.rail_bound.specs.declared.Bound.{Bound}
-use Rattle.rail_bound.specs.Clauses.{clause_of_bound}
-use Rattle.rail_bound.specs.Validity.{is_consistent}
+use Rattle.bound_spec.specs.declared.Bound.{Bound}
+use Rattle.bound_spec.specs.Clauses.{clause_of_bound}
+use Rattle.bound_spec.specs.Validity.{is_consistent}
 
 -- the certificate's clause, with the numbers of the base
 abbrev pub numbered_bound : Station → List Route → ℕ → Bound → List Lit

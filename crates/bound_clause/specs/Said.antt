@@ -8,16 +8,16 @@ use Rattle.rail_base.specs.declared.route.RouteNo.{RouteNo}
 use Rattle.rail_base.specs.declared.plan.Command.{Command}
 use Rattle.rail_base.specs.Stations.{train_of, first_visit}
 use Rattle.rail_spec.specs.Plans.{route_at, is_command, starts_in, commands_of}
-use Rattle.plan_clauses.specs.Variables.{pairs}
-use Rattle.rail_cone.specs.Clauses.{Used, Before, Literal, clause_of_cone}
-use Rattle.rail_bound.specs.declared.Origin.{Origin}
-use Rattle.rail_bound.specs.declared.Origin.TheVariants as origin
-use Rattle.rail_bound.specs.declared.Place.{Place}
-use Rattle.rail_bound.specs.declared.Place.TheVariants as place
-use Rattle.rail_bound.specs.declared.Leg.{Leg}
-use Rattle.rail_bound.specs.declared.Bound.{Bound}
-use Rattle.rail_bound.specs.Certificates.{VisitOf, routes_of_place, first_of_leg, last_of_leg, visit_from, cone_of}
-use Rattle.rail_bound.specs.Clauses.{meet_named}
+use Rattle.clause_spec.specs.Variables.{pairs}
+use Rattle.cone_spec.specs.Clauses.{Used, Before, Literal, clause_of_cone}
+use Rattle.bound_spec.specs.declared.Origin.{Origin}
+use Rattle.bound_spec.specs.declared.Origin.TheVariants as origin
+use Rattle.bound_spec.specs.declared.Place.{Place}
+use Rattle.bound_spec.specs.declared.Place.TheVariants as place
+use Rattle.bound_spec.specs.declared.Leg.{Leg}
+use Rattle.bound_spec.specs.declared.Bound.{Bound}
+use Rattle.bound_spec.specs.Certificates.{VisitOf, routes_of_place, first_of_leg, last_of_leg, visit_from, cone_of}
+use Rattle.bound_spec.specs.Clauses.{meet_named}
 
 -- ---- the places of legs
 

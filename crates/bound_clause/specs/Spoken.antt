@@ -6,10 +6,10 @@ use Rattle.rail_base.specs.declared.route.RouteNo.{RouteNo}
 use Rattle.rail_base.specs.declared.station.Station.{Station}
 use Rattle.rail_base.specs.Members.{In}
 use Rattle.sat_clause.specs.declared.lit.Lit.{Lit}
-use Rattle.rail_cone.specs.Clauses.{Literal}
+use Rattle.cone_spec.specs.Clauses.{Literal}
 use Rattle.cone_clause.specs.Numbered.{lit_of}
-use Rattle.rail_bound.specs.declared.Leg.{Leg}
-use Rattle.rail_bound.specs.Certificates.{routes_of_place, first_of_leg, last_of_leg}
+use Rattle.bound_spec.specs.declared.Leg.{Leg}
+use Rattle.bound_spec.specs.Certificates.{routes_of_place, first_of_leg, last_of_leg}
 use Rattle.bound_clause.specs.declared.numbered.NumberedBound.{NumberedBound}
 
 -- the command stands in a pair with each with which the leg may begin

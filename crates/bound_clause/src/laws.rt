@@ -11,12 +11,12 @@ ghost use Rattle.sat_clause.specs.declared.lit.Lit.{Lit};
 ghost use Rattle.sat_clause.specs.Clauses.{clause_holds};
 ghost use Rattle.rail_spec.specs.Track.{routes_of};
 ghost use Rattle.rail_spec.specs.Feasible.{IsFeasible, IsInfeasible};
-ghost use Rattle.plan_clauses.specs.Models.{model_of};
-ghost use Rattle.alike_clauses.specs.Sorted.{NoneSortedBy};
-ghost use Rattle.rail_cone.specs.declared.Cone.{Cone};
-ghost use Rattle.rail_cone.specs.Validity.{is_valid_cone};
-ghost use Rattle.rail_bound.specs.declared.Bound.{Bound};
-ghost use Rattle.rail_bound.specs.Validity.{in_design, is_valid_bound};
+ghost use Rattle.clause_spec.specs.Models.{model_of};
+ghost use Rattle.alike_clause_spec.specs.Sorted.{NoneSortedBy};
+ghost use Rattle.cone_spec.specs.declared.Cone.{Cone};
+ghost use Rattle.cone_spec.specs.Validity.{is_valid_cone};
+ghost use Rattle.bound_spec.specs.declared.Bound.{Bound};
+ghost use Rattle.bound_spec.specs.Validity.{in_design, is_valid_bound};
 ghost use Rattle.bound_clause.specs.Numbered.{numbered_bound, clauses_shown};
 
 /// The clause of a valid certificate is true in the model of every feasible plan.

@@ -1,9 +1,9 @@
 //! How the clause of a certificate is made.
 
 ghost use Rattle.std.specs.Prelude.{◌≡◌, IfOk, option_map, true};
-ghost use Rattle.rail_bound.specs.Certificates.{cone_of};
-ghost use Rattle.rail_bound.specs.Validity.{names_design};
-ghost use Rattle.rail_cone.specs.Clauses.{clause_of_cone};
+ghost use Rattle.bound_spec.specs.Certificates.{cone_of};
+ghost use Rattle.bound_spec.specs.Validity.{names_design};
+ghost use Rattle.cone_spec.specs.Clauses.{clause_of_cone};
 ghost use Rattle.bound_clause.specs.Numbered.{clause_if_consistent};
 ghost use Rattle.bound_clause.specs.Said.{said_literals};
 ghost use Rattle.bound_clause.specs.Spoken.{numbered, routes_in, station_of};
@@ -13,7 +13,7 @@ use crate::order::{put_in_order, rises};
 use cone_clause::clause_of as clause_of_cone;
 use cone_form::Contention;
 use interlocking::Steps;
-use rail_bound::{Bound, Origin};
+use bound_spec::{Bound, Origin};
 use sat_clause::Lit;
 use std::alloc::{AllocError, Global};
 

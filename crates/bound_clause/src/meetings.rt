@@ -2,15 +2,15 @@
 
 ghost use Rattle.std.specs.Prelude.{◌≡◌, [], ◌∷◌, ◌++◌, OnOk};
 ghost use Rattle.rail_base.specs.Members.{In};
-ghost use Rattle.rail_bound.specs.Certificates.{first_of_leg, is_named_place, last_of_leg};
-ghost use Rattle.rail_bound.specs.Clauses.{meet_named};
+ghost use Rattle.bound_spec.specs.Certificates.{first_of_leg, is_named_place, last_of_leg};
+ghost use Rattle.bound_spec.specs.Clauses.{meet_named};
 ghost use Rattle.bound_clause.specs.Said.{said_after, said_between, said_of_meetings, said_of_pair};
 ghost use Rattle.bound_clause.specs.Spoken.{ContendAll, ContendWithAll, numbered, pairs_in};
 
 use crate::numbered::NumberedBound;
 use rail_base::plan::Command;
 use rail_base::route::RouteNo;
-use rail_bound::{Leg, Place, first_routes, last_routes};
+use bound_spec::{Leg, Place, first_routes, last_routes};
 use sat_clause::Lit;
 use std::alloc::AllocError;
 

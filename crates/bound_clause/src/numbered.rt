@@ -1,11 +1,11 @@
 //! Certificates over the variables of the base.
 
 ghost use Rattle.std.specs.Prelude.{◌≡◌, true};
-ghost use Rattle.rail_bound.specs.Validity.{names_design};
+ghost use Rattle.bound_spec.specs.Validity.{names_design};
 
 use cone_form::Contention;
 use interlocking::Steps;
-use rail_bound::Bound;
+use bound_spec::Bound;
 
 /// A certificate that speaks of the design, and how many steps the plans have that its clause is for.
 #[derive(Clone, Copy)]

@@ -3,7 +3,7 @@
 ghost use Rattle.std.specs.Prelude.{◌≡◌, ◌++◌, All, OnOk, map, true};
 ghost use Rattle.rail_base.specs.Routes.{IsRoute};
 ghost use Rattle.rail_base.specs.Stations.{IsTrain};
-ghost use Rattle.rail_bound.specs.Validity.{leg_in_design, place_in_design};
+ghost use Rattle.bound_spec.specs.Validity.{leg_in_design, place_in_design};
 ghost use Rattle.bound_clause.specs.Said.{said_of_leg, said_of_legs, said_of_place, used_by};
 ghost use Rattle.bound_clause.specs.Spoken.{numbered, routes_in, station_of};
 
@@ -11,7 +11,7 @@ use crate::numbered::NumberedBound;
 use rail_base::plan::Command;
 use rail_base::route::RouteNo;
 use rail_base::station::TrainNo;
-use rail_bound::{Leg, Place};
+use bound_spec::{Leg, Place};
 use sat_clause::Lit;
 use std::alloc::AllocError;
 

@@ -3,7 +3,7 @@
 ghost use Rattle.std.specs.Prelude.{◌≡◌, ◌++◌, OnOk, option_map};
 ghost use Rattle.rail_base.specs.Routes.{IsRoute, route_at};
 ghost use Rattle.rail_base.specs.Stations.{IsTrain, first_visit, train_of};
-ghost use Rattle.rail_bound.specs.Certificates.{visit_from};
+ghost use Rattle.bound_spec.specs.Certificates.{visit_from};
 ghost use Rattle.rail_spec.specs.Plans.{starts_in};
 ghost use Rattle.bound_clause.specs.Said.{said_before, said_of_origin, said_of_start, said_of_starts};
 ghost use Rattle.bound_clause.specs.Spoken.{numbered, pairs_in, routes_in, station_of};
@@ -13,7 +13,7 @@ use interlocking::has_node;
 use rail_base::plan::Command;
 use rail_base::route::{RouteNo, Start, route_at};
 use rail_base::station::TrainNo;
-use rail_bound::{Origin, Requirement};
+use bound_spec::{Origin, Requirement};
 use sat_clause::Lit;
 use std::alloc::{AllocError, Global};
 

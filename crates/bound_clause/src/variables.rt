@@ -4,7 +4,7 @@ ghost use Rattle.std.specs.Prelude.{◌≡◌, ◌≤◌};
 ghost use Rattle.rail_base.specs.Members.{In};
 ghost use Rattle.rail_base.specs.Routes.{IsRoute};
 ghost use Rattle.rail_base.specs.Stations.{IsTrain};
-ghost use Rattle.rail_cone.specs.Clauses.{Before, Used};
+ghost use Rattle.cone_spec.specs.Clauses.{Before, Used};
 ghost use Rattle.cone_clause.specs.Numbered.{lit_of};
 ghost use Rattle.bound_clause.specs.Spoken.{pairs_in, routes_in, station_of, used_count};
 

@@ -6,10 +6,10 @@ use Rattle.rail_base.specs.declared.station.TrainNo.{TrainNo}
 use Rattle.rail_base.specs.declared.route.Route.{Route}
 use Rattle.rail_base.proofs.Members.{and_left, and_right}
 use Rattle.interlocking.specs.declared.railway.Interlocking.{Interlocking}
-use Rattle.rail_bound.specs.declared.Leg.{Leg}
-use Rattle.rail_bound.specs.declared.Bound.{Bound}
-use Rattle.rail_bound.specs.Certificates.{nodes_of_visit}
-use Rattle.rail_bound.specs.Validity.{first_leg, is_empty, is_made_at_end, last_leg, leg_in_design, names_design, requirement_in_design}
+use Rattle.bound_spec.specs.declared.Leg.{Leg}
+use Rattle.bound_spec.specs.declared.Bound.{Bound}
+use Rattle.bound_spec.specs.Certificates.{nodes_of_visit}
+use Rattle.bound_spec.specs.Validity.{first_leg, is_empty, is_made_at_end, last_leg, leg_in_design, names_design, requirement_in_design}
 use Rattle.bound_design.specs.Covered.{is_made_where_it_exits}
 
 pub begun_first : (b x y r : Bool) → b ≡ true → r ≡ x → r ≡ (if b then x else y)

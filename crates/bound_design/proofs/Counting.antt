@@ -6,10 +6,10 @@ use Rattle.std.proofs.Math.Nat.{mul_assoc, mul-zero}
 use Rattle.rail_base.specs.declared.station.Station.{Station}
 use Rattle.rail_base.specs.declared.route.Route.{Route}
 use Rattle.rail_base.proofs.Members.{below_or_not}
-use Rattle.rail_bound.specs.declared.Place.{Place}
-use Rattle.rail_bound.specs.declared.Leg.{Leg}
-use Rattle.rail_bound.specs.Certificates.{routes_of_place}
-use Rattle.rail_bound.specs.Validity.{choices, places_of, are_few_choices}
+use Rattle.bound_spec.specs.declared.Place.{Place}
+use Rattle.bound_spec.specs.declared.Leg.{Leg}
+use Rattle.bound_spec.specs.Certificates.{routes_of_place}
+use Rattle.bound_spec.specs.Validity.{choices, places_of, are_few_choices}
 use Rattle.cone_form.proofs.Walks.{drop_next, drop_end}
 use Rattle.bound_design.specs.Named.{few_choices_before}
 

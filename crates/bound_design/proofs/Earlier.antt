@@ -3,8 +3,8 @@ use Rattle.std.proofs.Common.{◌≡◌, ℕ, zero, suc, ◌<◌, length, get_or
 use Rattle.std.specs.List.{list_all}
 use Rattle.rail_base.specs.Members.{all_neighbors}
 use Rattle.rail_base.proofs.Members.{and_left, and_right, same_bool}
-use Rattle.rail_bound.specs.declared.Leg.{Leg}
-use Rattle.rail_bound.specs.Validity.{legs_before_last}
+use Rattle.bound_spec.specs.declared.Leg.{Leg}
+use Rattle.bound_spec.specs.Validity.{legs_before_last}
 
 pub turned : (a b : ℕ) → (a == b) ≡ (b == a)
 turned a b = same_bool (a == b) (b == a) (λ h. eq-eqb b a (sym (eqb-true a b h))) (λ h. eq-eqb a b (sym (eqb-true b a h)))

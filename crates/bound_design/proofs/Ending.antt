@@ -2,9 +2,9 @@
 use Rattle.std.proofs.Common.{◌≡◌, suc, ◌-◌, Bool, true, not, List, [], ◌∷◌, length, get_or, ◌≤◌, refl, ap, ◌∙◌, arith}
 use Rattle.std.specs.List.{list_all}
 use Rattle.rail_base.proofs.Members.{and_left, and_right}
-use Rattle.rail_bound.specs.declared.Place.{Place}
-use Rattle.rail_bound.specs.Certificates.{first_of_places, last_of_places}
-use Rattle.rail_bound.specs.Validity.{is_empty}
+use Rattle.bound_spec.specs.declared.Place.{Place}
+use Rattle.bound_spec.specs.Certificates.{first_of_places, last_of_places}
+use Rattle.bound_spec.specs.Validity.{is_empty}
 
 pub first_passes : (test : Place → Bool) (ps : List Place) → not (is_empty ps) ≡ true → list_all test ps ≡ true → test (first_of_places ps) ≡ true
 first_passes test [] e h = absurd (cc)

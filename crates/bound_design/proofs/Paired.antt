@@ -11,15 +11,15 @@ use Rattle.rail_base.specs.Routes.{IsRoute}
 use Rattle.rail_base.specs.Stations.{IsTrain}
 use Rattle.rail_base.proofs.Members.{In, and_left, and_right, and_both, list_all_at}
 use Rattle.rail_spec.specs.Plans.{all_commands}
-use Rattle.plan_clauses.specs.Variables.{pairs}
-use Rattle.rail_cone.proofs.Saying.{in_all}
+use Rattle.clause_spec.specs.Variables.{pairs}
+use Rattle.cone_spec.proofs.Saying.{in_all}
 use Rattle.cone_form.proofs.Contending.{contending_is}
 use Rattle.cone_form.proofs.Ranges.{all_routes, from_bounds}
-use Rattle.rail_bound.specs.declared.Place.{Place}
-use Rattle.rail_bound.specs.declared.Place.TheVariants as place
-use Rattle.rail_bound.specs.declared.Leg.{Leg}
-use Rattle.rail_bound.specs.Certificates.{routes_of_place, first_of_leg, last_of_leg}
-use Rattle.rail_bound.specs.Validity.{is_empty, are_increasing, is_numbered, place_in_design, leg_in_design, contend_where_they_meet}
+use Rattle.bound_spec.specs.declared.Place.{Place}
+use Rattle.bound_spec.specs.declared.Place.TheVariants as place
+use Rattle.bound_spec.specs.declared.Leg.{Leg}
+use Rattle.bound_spec.specs.Certificates.{routes_of_place, first_of_leg, last_of_leg}
+use Rattle.bound_spec.specs.Validity.{is_empty, are_increasing, is_numbered, place_in_design, leg_in_design, contend_where_they_meet}
 use Rattle.bound_design.specs.Meeting.{are_paired_where_they_meet}
 use Rattle.bound_design.proofs.Ending.{first_passes, last_passes}
 

@@ -9,14 +9,14 @@ use Rattle.rail_base.specs.Members.{all_neighbors}
 use Rattle.rail_spec.specs.Plans.{exits, is_route, length_mm, route_at, route_numbers}
 use Rattle.rail_spec.specs.Visits.{may_visit}
 use Rattle.interlocking.specs.declared.railway.Interlocking.{Interlocking}
-use Rattle.rail_bound.specs.declared.Place.{Place}
-use Rattle.rail_bound.specs.declared.Place.TheVariants as place
-use Rattle.rail_bound.specs.declared.Bound.{Bound}
-use Rattle.rail_bound.specs.declared.Leg.{Leg}
-use Rattle.rail_bound.specs.declared.Requirement.{Requirement}
-use Rattle.rail_bound.specs.Certificates.{first_in, last_of_leg, visit_from, visit_to}
-use Rattle.rail_bound.specs.Validity.{begins_with, comes_before, covers, goes_on_to, is_first_route, is_used}
-use Rattle.rail_bound.specs.Validity.{is_visited, legs_before_last, may_be_earlier, origin_covered, reaches_target}
+use Rattle.bound_spec.specs.declared.Place.{Place}
+use Rattle.bound_spec.specs.declared.Place.TheVariants as place
+use Rattle.bound_spec.specs.declared.Bound.{Bound}
+use Rattle.bound_spec.specs.declared.Leg.{Leg}
+use Rattle.bound_spec.specs.declared.Requirement.{Requirement}
+use Rattle.bound_spec.specs.Certificates.{first_in, last_of_leg, visit_from, visit_to}
+use Rattle.bound_spec.specs.Validity.{begins_with, comes_before, covers, goes_on_to, is_first_route, is_used}
+use Rattle.bound_spec.specs.Validity.{is_visited, legs_before_last, may_be_earlier, origin_covered, reaches_target}
 
 module _ (i : Interlocking) where
   -- a train that uses a route of the second place has used one of the first just before

@@ -9,7 +9,7 @@ use Rattle.rail_base.specs.declared.route.Route.{Route}
 use Rattle.rail_base.specs.declared.route.RouteNo.{RouteNo}
 use Rattle.rail_base.specs.Numbering.{entry}
 use Rattle.rail_spec.specs.Plans.{goes_on, has_node, route_at, route_numbers}
-use Rattle.rail_cone.specs.Cones.{has_route}
+use Rattle.cone_spec.specs.Cones.{has_route}
 use Rattle.number_sets.specs.declared.set.NumberSet.{NumberSet}
 use Rattle.number_sets.specs.Sets.{contains}
 

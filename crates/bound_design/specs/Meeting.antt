@@ -4,9 +4,9 @@ use Rattle.std.specs.List.{list_any, list_all}
 use Rattle.rail_base.specs.declared.station.TrainNo.{TrainNo}
 use Rattle.rail_base.specs.declared.route.RouteNo.{RouteNo}
 use Rattle.rail_base.specs.declared.plan.Command.{Command}
-use Rattle.rail_cone.specs.Cones.{is_pair}
-use Rattle.rail_bound.specs.declared.Leg.{Leg}
-use Rattle.rail_bound.specs.Certificates.{routes_of_place, first_of_leg, last_of_leg}
+use Rattle.cone_spec.specs.Cones.{is_pair}
+use Rattle.bound_spec.specs.declared.Leg.{Leg}
+use Rattle.bound_spec.specs.Certificates.{routes_of_place, first_of_leg, last_of_leg}
 
 module _ (pairs : List (Command × Command)) where
   -- a command and each that gives the train one of the routes are one of the pairs

@@ -5,14 +5,14 @@ use Rattle.rail_base.specs.declared.station.TrainNo.{TrainNo}
 use Rattle.rail_base.specs.Members.{all_neighbors}
 use Rattle.rail_spec.specs.Plans.{is_train}
 use Rattle.interlocking.specs.declared.railway.Interlocking.{Interlocking}
-use Rattle.rail_bound.specs.declared.Requirement.{Requirement}
-use Rattle.rail_bound.specs.declared.Place.{Place}
-use Rattle.rail_bound.specs.declared.Leg.{Leg}
-use Rattle.rail_bound.specs.declared.Bound.{Bound}
-use Rattle.rail_bound.specs.Certificates.{VisitOf, routes_of_place, first_of_leg, train_to, visit_from}
-use Rattle.rail_bound.specs.Validity.{are_few_choices, choices, contend_where_they_meet, is_empty, last_leg}
-use Rattle.rail_bound.specs.Validity.{leg_in_design, most_choices, most_places, origin_in_design, place_in_design}
-use Rattle.rail_bound.specs.Validity.{places_of, requirement_in_design}
+use Rattle.bound_spec.specs.declared.Requirement.{Requirement}
+use Rattle.bound_spec.specs.declared.Place.{Place}
+use Rattle.bound_spec.specs.declared.Leg.{Leg}
+use Rattle.bound_spec.specs.declared.Bound.{Bound}
+use Rattle.bound_spec.specs.Certificates.{VisitOf, routes_of_place, first_of_leg, train_to, visit_from}
+use Rattle.bound_spec.specs.Validity.{are_few_choices, choices, contend_where_they_meet, is_empty, last_leg}
+use Rattle.bound_spec.specs.Validity.{leg_in_design, most_choices, most_places, origin_in_design, place_in_design}
+use Rattle.bound_spec.specs.Validity.{places_of, requirement_in_design}
 
 -- there are not too many choices on a leg, with those of the first place of the next leg, if there is one
 abbrev pub few_choices_before : Leg → List Leg → Bool

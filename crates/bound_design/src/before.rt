@@ -5,7 +5,7 @@ ghost use Rattle.std.specs.List.{list_all};
 ghost use Rattle.rail_base.specs.Members.{all_neighbors};
 ghost use Rattle.rail_base.specs.Routes.{IsRoute};
 ghost use Rattle.rail_spec.specs.Plans.{goes_on};
-ghost use Rattle.rail_cone.specs.Validity.{from_boundary};
+ghost use Rattle.cone_spec.specs.Validity.{from_boundary};
 ghost use Rattle.bound_design.specs.Covered.{comes_before_in, follows_among, follows_named, legs_follow};
 ghost use Rattle.bound_design.specs.Covering.{leads_into as leads};
 ghost use Rattle.bound_design.specs.Named.{leg_fits, place_fits};
@@ -14,7 +14,7 @@ use crate::tracks::{leads_into, open_routes, routes_of_numbers, starts_of};
 use interlocking::{Interlocking, goes_on};
 use number_sets::NumberSet;
 use rail_base::route::{Finish, Route, RouteNo, Start};
-use rail_bound::{Leg, Place, routes_of};
+use bound_spec::{Leg, Place, routes_of};
 use std::alloc::{AllocError, Global};
 
 /// Whether a route starts at a boundary.

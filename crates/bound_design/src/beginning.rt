@@ -5,9 +5,9 @@ ghost use Rattle.std.specs.List.{list_all};
 ghost use Rattle.rail_base.specs.Numbering.{after_first};
 ghost use Rattle.rail_spec.specs.Plans.{exits, length_mm};
 ghost use Rattle.rail_spec.specs.Visits.{may_visit};
-ghost use Rattle.rail_cone.specs.Validity.{from_boundary};
-ghost use Rattle.rail_bound.specs.Certificates.{first_in};
-ghost use Rattle.rail_bound.specs.Validity.{first_leg};
+ghost use Rattle.cone_spec.specs.Validity.{from_boundary};
+ghost use Rattle.bound_spec.specs.Certificates.{first_in};
+ghost use Rattle.bound_spec.specs.Validity.{first_leg};
 ghost use Rattle.bound_design.specs.Covered.{begins_at, is_made_where_it_exits, origin_covered_in};
 ghost use Rattle.bound_design.specs.Named.{leg_fits, place_fits, requirement_fits};
 
@@ -19,7 +19,7 @@ use crate::visit::{Visit, visit_of};
 use interlocking::Interlocking;
 use rail_base::route::Route;
 use rail_base::station::{NodeNo, TrainNo};
-use rail_bound::{Bound, Leg, Origin, Place, routes_of};
+use bound_spec::{Bound, Leg, Origin, Place, routes_of};
 use std::alloc::{AllocError, Global};
 
 /// Whether the first leg begins on a route of the visit from which the ticks are counted.

@@ -3,10 +3,10 @@
 ghost use Rattle.std.specs.Prelude.{◌≡◌, ◌≤◌, ◌*◌, List, min};
 ghost use Rattle.rail_base.specs.declared.station.Station.{Station};
 ghost use Rattle.rail_base.specs.declared.route.Route.{Route};
-ghost use Rattle.rail_bound.specs.Validity.{are_few_choices as few_choices, choices as many_choices};
+ghost use Rattle.bound_spec.specs.Validity.{are_few_choices as few_choices, choices as many_choices};
 ghost use Rattle.bound_design.specs.Named.{few_choices_before};
 
-use rail_bound::{Leg, Place, first_routes, routes_of};
+use bound_spec::{Leg, Place, first_routes, routes_of};
 
 /// Of a leg with more choices nothing is shown.
 const MOST_CHOICES: usize = 4096;

@@ -2,7 +2,7 @@
 
 ghost use Rattle.std.specs.Prelude.{◌≡◌, IfOk, not, true};
 ghost use Rattle.std.specs.List.{list_all};
-ghost use Rattle.rail_bound.specs.Validity.{covered, first_leg, is_empty, last_leg, names_design};
+ghost use Rattle.bound_spec.specs.Validity.{covered, first_leg, is_empty, last_leg, names_design};
 ghost use Rattle.bound_design.specs.Covered.{legs_covered};
 ghost use Rattle.bound_design.specs.Named.{leg_fits};
 
@@ -10,7 +10,7 @@ use crate::before::legs_follow;
 use crate::beginning::origin_covered;
 use crate::reaching::{reaches_target, uses_before_last};
 use interlocking::Interlocking;
-use rail_bound::{Bound, Leg};
+use bound_spec::{Bound, Leg};
 use std::alloc::{AllocError, Global};
 
 /// Whether at each place of a certificate the train can use no routes but those of the place and those that are kept

@@ -2,14 +2,14 @@
 
 ghost use Rattle.std.specs.Prelude.{◌≡◌, nat_le};
 ghost use Rattle.std.specs.List.{list_all};
-ghost use Rattle.rail_bound.specs.Validity.{most_places, places_of};
+ghost use Rattle.bound_spec.specs.Validity.{most_places, places_of};
 ghost use Rattle.bound_design.specs.Named.{leg_fits, place_fits};
 
 use crate::lists::is_empty;
 use crate::places::place_in_design;
 use crate::requirement::is_one_of;
 use interlocking::Interlocking;
-use rail_bound::{Leg, Place};
+use bound_spec::{Leg, Place};
 
 /// How many places all legs may have.
 const MOST_PLACES: usize = 64;

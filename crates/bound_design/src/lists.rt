@@ -1,7 +1,7 @@
 //! Lists of routes and others.
 
 ghost use Rattle.std.specs.Prelude.{◌≡◌};
-ghost use Rattle.rail_bound.specs.Validity.{are_increasing, is_empty};
+ghost use Rattle.bound_spec.specs.Validity.{are_increasing, is_empty};
 
 use rail_base::route::RouteNo;
 

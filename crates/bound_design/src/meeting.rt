@@ -11,7 +11,7 @@ use contending::ContendingPairs;
 use rail_base::plan::Command;
 use rail_base::route::RouteNo;
 use rail_base::station::TrainNo;
-use rail_bound::{Leg, first_routes, last_routes};
+use bound_spec::{Leg, first_routes, last_routes};
 
 /// Whether the first commands of each leg contend with the last of the leg before it, whatever the routes are.
 pub(crate) fn legs_meet(contention: &Contention, legs: &[Leg]) -> bool

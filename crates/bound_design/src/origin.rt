@@ -7,7 +7,7 @@ ghost use Rattle.bound_design.specs.Named.{first_visit, requirement_fits};
 use crate::requirement::first_visit;
 use cone_form::{Contention, is_in_design};
 use rail_base::station::TrainNo;
-use rail_bound::{Bound, Origin, first_train};
+use bound_spec::{Bound, Origin, first_train};
 use std::alloc::{AllocError, Global};
 
 /// Whether the origin goes with the requirement: two visits have one from which ticks are counted.

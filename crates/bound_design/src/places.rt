@@ -9,7 +9,7 @@ use crate::lists::{are_increasing, is_empty};
 use crate::requirement::is_one_of;
 use interlocking::Interlocking;
 use rail_base::route::{RouteNo, RouteTable};
-use rail_bound::Place;
+use bound_spec::Place;
 
 /// Whether the place names routes of the design, each once.
 pub(crate) fn place_in_design(interlocking: &Interlocking, place: &Place) -> bool

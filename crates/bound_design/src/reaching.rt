@@ -4,8 +4,8 @@ ghost use Rattle.std.specs.Prelude.{◌≡◌, List, IfOk, not, true};
 ghost use Rattle.rail_base.specs.declared.station.Station.{Station};
 ghost use Rattle.rail_base.specs.declared.route.Route.{Route};
 ghost use Rattle.std.specs.List.{list_all};
-ghost use Rattle.rail_bound.specs.Certificates.{first_of_leg, last_of_leg};
-ghost use Rattle.rail_bound.specs.Validity.{is_empty, is_just};
+ghost use Rattle.bound_spec.specs.Certificates.{first_of_leg, last_of_leg};
+ghost use Rattle.bound_spec.specs.Validity.{is_empty, is_just};
 ghost use Rattle.bound_design.specs.Covered.{is_used_last, reaches_in, uses_before_last};
 ghost use Rattle.bound_design.specs.Named.{leg_fits, requirement_fits};
 
@@ -13,7 +13,7 @@ use crate::requirement::{order_of, within_of};
 use crate::visits::{is_used, is_visited};
 use interlocking::Interlocking;
 use rail_base::route::RouteNo;
-use rail_bound::{Leg, Place, Requirement};
+use bound_spec::{Leg, Place, Requirement};
 use std::alloc::{AllocError, Global};
 
 /// The first place of a leg.

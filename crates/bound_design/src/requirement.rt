@@ -10,7 +10,7 @@ use interlocking::Interlocking;
 use rail_base::design::Design;
 use rail_base::plan::Command;
 use rail_base::station::{Order, Station, TrainNo, Within};
-use rail_bound::Requirement;
+use bound_spec::Requirement;
 
 /// Whether a number is one of `many`, counted from 1.
 pub(crate) fn is_one_of(number: u32, many: usize) -> bool

@@ -1,7 +1,7 @@
 //! Whether what a certificate names is there in a design.
 
 ghost use Rattle.std.specs.Prelude.{◌≡◌, true, IfOk};
-ghost use Rattle.rail_bound.specs.Validity.{names_design};
+ghost use Rattle.bound_spec.specs.Validity.{names_design};
 ghost use Rattle.bound_design.specs.Named.{is_chain, is_stated, names_fit};
 
 use crate::choices::are_few_choices;
@@ -13,7 +13,7 @@ use crate::requirement;
 use crate::requirement::requirement_in_design;
 use cone_form::Contention;
 use interlocking::Interlocking;
-use rail_bound::{Bound, last_train};
+use bound_spec::{Bound, last_train};
 use std::alloc::{AllocError, Global};
 
 /// Whether what a certificate names is there in the design, in order, and its legs can wait for each other.

@@ -5,8 +5,8 @@ ghost use Rattle.std.specs.List.{list_all, list_any};
 ghost use Rattle.rail_base.specs.Routes.{IsRoute};
 ghost use Rattle.rail_spec.specs.Requirements.{visit_numbers};
 ghost use Rattle.rail_spec.specs.Visits.{may_visit};
-ghost use Rattle.rail_bound.specs.Certificates.{nodes_of_visit};
-ghost use Rattle.rail_bound.specs.Validity.{ends_at_signal};
+ghost use Rattle.bound_spec.specs.Certificates.{nodes_of_visit};
+ghost use Rattle.bound_spec.specs.Validity.{ends_at_signal};
 ghost use Rattle.bound_design.specs.Covered.{is_used_among, is_used_in, is_visited_among, is_visited_named};
 ghost use Rattle.bound_design.specs.Covered.{is_visited_in};
 ghost use Rattle.bound_design.specs.Named.{place_fits};
@@ -17,7 +17,7 @@ use crate::visit::{Visit, visit_of, visits_of};
 use interlocking::Interlocking;
 use rail_base::route::{Finish, Route, RouteNo};
 use rail_base::station::{Station, TrainNo};
-use rail_bound::Place;
+use bound_spec::Place;
 use std::alloc::{AllocError, Global};
 
 /// Whether a train uses a route of a place: the named one, or else one of those on which it makes some visit.

@@ -9,7 +9,7 @@ use leg_targets::Visit;
 use rail_base::plan::Command;
 use rail_base::route::{Finish, RouteNo, Start};
 use rail_base::station::TrainNo;
-use rail_bound::Origin;
+use bound_spec::Origin;
 use std::alloc::AllocError;
 
 /// How far places are widened.

@@ -11,8 +11,8 @@ use rail_base::list::List;
 use rail_base::plan::{Command, Violation};
 use rail_base::route::RouteNo;
 use rail_base::station::TrainNo;
-use rail_bound::{Origin, Requirement};
-use rail_cone::{Cone, ConeTrain};
+use bound_spec::{Origin, Requirement};
+use cone_spec::{Cone, ConeTrain};
 use std::alloc::AllocError;
 
 /// No plan has more steps, so no path has more commands.

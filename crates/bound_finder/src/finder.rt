@@ -13,7 +13,7 @@ use cone_form::Contention;
 use rail_base::history::History;
 use rail_base::list::List;
 use rail_base::plan::{Plan, Violation};
-use rail_bound::{Bound, Leg, Origin};
+use bound_spec::{Bound, Leg, Origin};
 use std::alloc::{AllocError, Global};
 
 /// No leg gets more choices of one route for each place, in turn, until its ticks can still be followed.

@@ -6,7 +6,7 @@ use interlocking::Interlocking;
 use leg_targets::Visit;
 use rail_base::plan::{Command, Violation};
 use rail_base::station::{Order, TrainNo, Within};
-use rail_bound::Requirement;
+use bound_spec::Requirement;
 use std::alloc::{AllocError, Global};
 
 /// From where ticks are counted.

@@ -183,7 +183,7 @@ impl Search<'_> {
                 .visit(to.train, to.number)
                 .iter()
                 .any(|other| *other == route),
-            (None, rail_bound::Requirement::Grant { command }) => command.route == route,
+            (None, bound_spec::Requirement::Grant { command }) => command.route == route,
             (None, _) => false,
         }
     }

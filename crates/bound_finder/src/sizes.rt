@@ -6,8 +6,8 @@ use crate::links::Search;
 use cone_form::free_path;
 use interlocking::Interlocking;
 use rail_base::route::RouteNo;
-use rail_bound::{Bound, Leg, Origin, Place};
-use rail_cone::Cone;
+use bound_spec::{Bound, Leg, Origin, Place};
+use cone_spec::Cone;
 
 impl Search<'_> {
     /// How many literals a certificate's clause has, roughly.

@@ -10,7 +10,7 @@ use interlocking::Interlocking;
 use rail_base::list::List;
 use rail_base::route::{Finish, RouteNo};
 use rail_base::station::TrainNo;
-use rail_bound::{Leg, Place};
+use bound_spec::{Leg, Place};
 use std::alloc::{AllocError, Global};
 
 /// Each stretch of each track is looked at in each tick; of a certificate that asks for more looks fewer ticks are known.

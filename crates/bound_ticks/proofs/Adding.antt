@@ -5,13 +5,13 @@ use Rattle.rail_base.specs.declared.station.Station.{Station}
 use Rattle.rail_base.specs.declared.route.Route.{Route}
 use Rattle.rail_base.specs.declared.route.RouteNo.{RouteNo}
 use Rattle.rail_base.proofs.Members.{below_or_not}
-use Rattle.rail_cone.specs.Clauses.{goes_further}
+use Rattle.cone_spec.specs.Clauses.{goes_further}
 use Rattle.rail_course.specs.Tracks.{routes_at}
-use Rattle.rail_free.specs.Legs.{Leg, following, with_next}
-use Rattle.rail_bound.specs.Validity.{stretches_in, stretches_of_walk}
+use Rattle.free_spec.specs.Legs.{Leg, following, with_next}
+use Rattle.bound_spec.specs.Validity.{stretches_in, stretches_of_walk}
 use Rattle.std.proofs.Math.ListN.{drop_of_length-le}
-use Rattle.rail_bound.specs.declared.Leg.{Leg as BoundLeg}
-use Rattle.rail_bound.specs.Validity.{stretches_of_leg}
+use Rattle.bound_spec.specs.declared.Leg.{Leg as BoundLeg}
+use Rattle.bound_spec.specs.Validity.{stretches_of_leg}
 use Rattle.bound_ticks.specs.Looks.{cap, too_many}
 use Rattle.bound_ticks.specs.Walks.{walks_by_number}
 use Rattle.bound_ticks.proofs.Longer.{numbered}

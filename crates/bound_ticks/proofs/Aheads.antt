@@ -5,8 +5,8 @@ use Rattle.std.proofs.lemmas.List.{drop_more}
 use Rattle.std.proofs.Math.ListN.{drop_of_length-le}
 use Rattle.rail_base.specs.declared.route.RouteNo.{RouteNo}
 use Rattle.rail_course.specs.Tracks.{routes_at}
-use Rattle.rail_bound.specs.declared.Leg.{Leg}
-use Rattle.rail_bound.specs.Validity.{is_ahead}
+use Rattle.bound_spec.specs.declared.Leg.{Leg}
+use Rattle.bound_spec.specs.Validity.{is_ahead}
 use Rattle.bound_ticks.specs.declared.ahead.Between.{Between}
 use Rattle.bound_ticks.specs.Ahead.{ahead_on, ahead_on_all}
 use Rattle.leg_targets.specs.Visits.{visit_of}

@@ -5,12 +5,12 @@ use Rattle.rail_base.specs.declared.route.Route.{Route}
 use Rattle.rail_base.specs.declared.route.RouteNo.{RouteNo}
 use Rattle.rail_base.specs.Routes.{IsRoute, route_at}
 use Rattle.interlocking.specs.declared.railway.Interlocking.{Interlocking}
-use Rattle.rail_bound.specs.declared.Leg.{Leg}
-use Rattle.rail_bound.specs.declared.Place.{Place}
-use Rattle.rail_bound.specs.Certificates.{VisitOf, first_of_leg, first_of_places, ride_of, routes_of_place, target, visit_place}
-use Rattle.rail_bound.specs.Rides.{chain_ticks, first_place, least_route, on_ticks, release_place, run_ticks, wait_ticks}
-use Rattle.rail_bound.specs.Validity.{ticks_from_visit, ticks_to}
-use Rattle.rail_bound.specs.Walks.{least_walk, walks}
+use Rattle.bound_spec.specs.declared.Leg.{Leg}
+use Rattle.bound_spec.specs.declared.Place.{Place}
+use Rattle.bound_spec.specs.Certificates.{VisitOf, first_of_leg, first_of_places, ride_of, routes_of_place, target, visit_place}
+use Rattle.bound_spec.specs.Rides.{chain_ticks, first_place, least_route, on_ticks, release_place, run_ticks, wait_ticks}
+use Rattle.bound_spec.specs.Validity.{ticks_from_visit, ticks_to}
+use Rattle.bound_spec.specs.Walks.{least_walk, walks}
 use Rattle.bound_ticks.specs.Chains.{chain_of, end_ticks, leg_to_release, to_release, to_visit}
 use Rattle.bound_ticks.specs.Walks.{IsLeg, IsPlaceOf, first_routes}
 use Rattle.bound_ticks.proofs.Least.{least_walk_most}

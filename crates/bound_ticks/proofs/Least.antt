@@ -7,10 +7,10 @@ use Rattle.rail_base.specs.declared.route.Route.{Route}
 use Rattle.rail_base.specs.declared.route.RouteNo.{RouteNo}
 use Rattle.interlocking.specs.declared.railway.Interlocking.{Interlocking}
 use Rattle.rail_course.specs.Tracks.{routes_at}
-use Rattle.rail_bound.specs.Certificates.{VisitOf, ride_of}
-use Rattle.rail_bound.specs.declared.Leg.{Leg}
-use Rattle.rail_bound.specs.Rides.{least_route, release_place}
-use Rattle.rail_bound.specs.Walks.{least_walk, walks}
+use Rattle.bound_spec.specs.Certificates.{VisitOf, ride_of}
+use Rattle.bound_spec.specs.declared.Leg.{Leg}
+use Rattle.bound_spec.specs.Rides.{least_route, release_place}
+use Rattle.bound_spec.specs.Walks.{least_walk, walks}
 use Rattle.bound_ticks.specs.Walks.{walks_by_number}
 use Rattle.bound_ticks.proofs.Longer.{numbered}
 use Rattle.bound_ticks.specs.Chains.{ticks_on}

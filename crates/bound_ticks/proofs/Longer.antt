@@ -9,9 +9,9 @@ use Rattle.rail_base.specs.declared.route.Route.{Route}
 use Rattle.rail_base.specs.declared.route.RouteNo.{RouteNo}
 use Rattle.rail_base.specs.Routes.{IsRoute, route_at}
 use Rattle.rail_course.specs.Tracks.{routes_at}
-use Rattle.rail_bound.specs.declared.Place.{Place}
-use Rattle.rail_bound.specs.Certificates.{routes_of_place}
-use Rattle.rail_bound.specs.Walks.{goes_before, walks}
+use Rattle.bound_spec.specs.declared.Place.{Place}
+use Rattle.bound_spec.specs.Certificates.{routes_of_place}
+use Rattle.bound_spec.specs.Walks.{goes_before, walks}
 use Rattle.bound_ticks.specs.Walks.{IsWalk, precedes_walk, longer_by, walks_by_number}
 
 module _ (routes : List Route) where

@@ -9,19 +9,19 @@ use Rattle.rail_base.specs.Routes.{IsRoute}
 use Rattle.rail_base.proofs.Members.{and_left, and_right, list_all_at}
 use Rattle.rail_course.proofs.Granting.{all_from_in}
 use Rattle.interlocking.specs.declared.railway.Interlocking.{Interlocking}
-use Rattle.rail_cone.specs.declared.Cone.{Cone}
+use Rattle.cone_spec.specs.declared.Cone.{Cone}
 use Rattle.rail_spec.specs.Plans.{is_train}
-use Rattle.rail_cone.specs.Cones.{named}
-use Rattle.rail_cone.specs.Validity.{free_granted, holder_fits, cone_visit}
+use Rattle.cone_spec.specs.Cones.{named}
+use Rattle.cone_spec.specs.Validity.{free_granted, holder_fits, cone_visit}
 use Rattle.cone_form.specs.Fits.{fits}
 use Rattle.cone_run.specs.Runs.{visit_shown}
-use Rattle.rail_bound.specs.declared.Bound.{Bound}
-use Rattle.rail_bound.specs.declared.Leg.{Leg}
-use Rattle.rail_bound.specs.declared.Origin.TheVariants as origin
-use Rattle.rail_bound.specs.declared.Place.{Place}
-use Rattle.rail_bound.specs.declared.Place.TheVariants as place
-use Rattle.rail_bound.specs.Certificates.{VisitOf, cone_at, train_to}
-use Rattle.rail_bound.specs.Validity.{are_few_choices, are_increasing, contend_where_they_meet, is_empty, is_numbered, last_leg, leg_in_design, most_places, origin_in_design, place_in_design, places_of, requirement_in_design}
+use Rattle.bound_spec.specs.declared.Bound.{Bound}
+use Rattle.bound_spec.specs.declared.Leg.{Leg}
+use Rattle.bound_spec.specs.declared.Origin.TheVariants as origin
+use Rattle.bound_spec.specs.declared.Place.{Place}
+use Rattle.bound_spec.specs.declared.Place.TheVariants as place
+use Rattle.bound_spec.specs.Certificates.{VisitOf, cone_at, train_to}
+use Rattle.bound_spec.specs.Validity.{are_few_choices, are_increasing, contend_where_they_meet, is_empty, is_numbered, last_leg, leg_in_design, most_places, origin_in_design, place_in_design, places_of, requirement_in_design}
 use Rattle.bound_ticks.specs.Claims.{IsNamed, cone_shows_of, from_of, made_at, names_fit}
 use Rattle.bound_ticks.specs.Looks.{cap}
 use Rattle.bound_ticks.specs.Walks.{IsLeg, IsPlaceOf}

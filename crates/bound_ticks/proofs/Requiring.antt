@@ -9,8 +9,8 @@ use Rattle.rail_base.proofs.Admitting.{admitted}
 use Rattle.rail_base.proofs.Lists.{in_entry}
 use Rattle.rail_base.proofs.Members.{and_left, and_right}
 use Rattle.interlocking.specs.declared.railway.Interlocking.{Interlocking}
-use Rattle.rail_bound.specs.declared.Requirement.{Requirement}
-use Rattle.rail_bound.specs.declared.Requirement.TheVariants as requirement
+use Rattle.bound_spec.specs.declared.Requirement.{Requirement}
+use Rattle.bound_spec.specs.declared.Requirement.TheVariants as requirement
 use Rattle.bound_ticks.specs.Claims.{requirement_fits}
 
 value_or : {X : Type 0} → X → Option X → X

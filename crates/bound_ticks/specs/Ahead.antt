@@ -6,11 +6,11 @@ use Rattle.rail_base.specs.declared.route.RouteNo.{RouteNo}
 use Rattle.rail_base.specs.Routes.{route_at}
 use Rattle.rail_course.specs.Tracks.{routes_at}
 use Rattle.interlocking.specs.declared.railway.Interlocking.{Interlocking}
-use Rattle.rail_bound.specs.declared.Leg.{Leg}
-use Rattle.rail_bound.specs.Certificates.{ride_of}
-use Rattle.rail_bound.specs.Rides.{release_place}
-use Rattle.rail_bound.specs.Validity.{is_ahead}
-use Rattle.rail_bound.specs.Walks.{walks}
+use Rattle.bound_spec.specs.declared.Leg.{Leg}
+use Rattle.bound_spec.specs.Certificates.{ride_of}
+use Rattle.bound_spec.specs.Rides.{release_place}
+use Rattle.bound_spec.specs.Validity.{is_ahead}
+use Rattle.bound_spec.specs.Walks.{walks}
 use Rattle.bound_ticks.specs.declared.ahead.Between.{Between}
 use Rattle.leg_targets.specs.Visits.{visit_of}
 

@@ -5,10 +5,10 @@ use Rattle.rail_base.specs.declared.station.TrainNo.{TrainNo}
 use Rattle.rail_base.specs.declared.route.Route.{Route}
 use Rattle.rail_base.specs.declared.route.RouteNo.{RouteNo}
 use Rattle.rail_base.specs.Routes.{route_at}
-use Rattle.rail_bound.specs.declared.Leg.{Leg}
-use Rattle.rail_bound.specs.Certificates.{VisitOf, ride_of, target, visit_place}
-use Rattle.rail_bound.specs.Rides.{least_route, on_ticks, release_place, run_ticks}
-use Rattle.rail_bound.specs.Walks.{least_walk, walks}
+use Rattle.bound_spec.specs.declared.Leg.{Leg}
+use Rattle.bound_spec.specs.Certificates.{VisitOf, ride_of, target, visit_place}
+use Rattle.bound_spec.specs.Rides.{least_route, on_ticks, release_place, run_ticks}
+use Rattle.bound_spec.specs.Walks.{least_walk, walks}
 use Rattle.bound_ticks.specs.Walks.{first_routes}
 
 module _ (d : Station) (routes : List Route) (h : ℕ) where

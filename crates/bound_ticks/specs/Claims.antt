@@ -1,14 +1,14 @@
 -- What a certificate claims, held against an interlocking.
 use Rattle.std.specs.Prelude.{◌≡◌, ℕ, ◌≤◌, Bool, true, All, Option, Some, length}
 use Rattle.interlocking.specs.declared.railway.Interlocking.{Interlocking}
-use Rattle.rail_cone.specs.declared.Cone.{Cone}
-use Rattle.rail_bound.specs.declared.Bound.{Bound}
-use Rattle.rail_bound.specs.declared.Origin.{Origin}
-use Rattle.rail_bound.specs.declared.Origin.TheVariants as origin
-use Rattle.rail_bound.specs.declared.Requirement.{Requirement}
-use Rattle.rail_bound.specs.Certificates.{VisitOf, visit_from, visit_to}
-use Rattle.rail_bound.specs.Validity.{cone_shows, followed, is_made_at, is_shown, is_too_long, names_design}
-use Rattle.rail_bound.specs.Validity.{passes_between, requirement_in_design, ticks_from_visit, ticks_to}
+use Rattle.cone_spec.specs.declared.Cone.{Cone}
+use Rattle.bound_spec.specs.declared.Bound.{Bound}
+use Rattle.bound_spec.specs.declared.Origin.{Origin}
+use Rattle.bound_spec.specs.declared.Origin.TheVariants as origin
+use Rattle.bound_spec.specs.declared.Requirement.{Requirement}
+use Rattle.bound_spec.specs.Certificates.{VisitOf, visit_from, visit_to}
+use Rattle.bound_spec.specs.Validity.{cone_shows, followed, is_made_at, is_shown, is_too_long, names_design}
+use Rattle.bound_spec.specs.Validity.{passes_between, requirement_in_design, ticks_from_visit, ticks_to}
 use Rattle.cone_form.specs.Fits.{fits}
 use Rattle.bound_ticks.specs.Walks.{IsLeg}
 

@@ -6,10 +6,10 @@ use Rattle.rail_base.specs.Routes.{IsRoute, route_at}
 use Rattle.rail_base.specs.Stations.{IsTrain}
 use Rattle.rail_course.specs.Tracks.{routes_at}
 use Rattle.interlocking.specs.declared.railway.Interlocking.{Interlocking}
-use Rattle.rail_bound.specs.declared.Leg.{Leg}
-use Rattle.rail_bound.specs.declared.Place.{Place}
-use Rattle.rail_bound.specs.Certificates.{first_of_leg, routes_of_place}
-use Rattle.rail_bound.specs.Walks.{goes_before}
+use Rattle.bound_spec.specs.declared.Leg.{Leg}
+use Rattle.bound_spec.specs.declared.Place.{Place}
+use Rattle.bound_spec.specs.Certificates.{first_of_leg, routes_of_place}
+use Rattle.bound_spec.specs.Walks.{goes_before}
 
 module _ (routes : List Route) where
   -- the route may stand before the walk

@@ -3,7 +3,7 @@
 ghost use Rattle.std.specs.Prelude.{◌≡◌, ◌≤◌, All, IfOk, length};
 ghost use Rattle.rail_base.specs.Routes.{IsRoute};
 ghost use Rattle.rail_base.specs.Stations.{IsTrain};
-ghost use Rattle.rail_bound.specs.Validity.{are_ahead};
+ghost use Rattle.bound_spec.specs.Validity.{are_ahead};
 ghost use Rattle.leg_targets.specs.Visits.{visit_of};
 ghost use Rattle.bound_ticks.specs.Walks.{IsLeg};
 
@@ -12,7 +12,7 @@ use interlocking::Interlocking;
 use leg_targets::{Visit, release_place, target, visit_place};
 use rail_base::route::RouteNo;
 use rail_base::station::TrainNo;
-use rail_bound::Leg;
+use bound_spec::Leg;
 use std::alloc::{AllocError, Global};
 
 /// Two visits, from one of which ticks are counted to the other.

@@ -11,7 +11,7 @@ use crate::legs::Ride;
 use crate::walks::first_routes;
 use interlocking::Interlocking;
 use leg_targets::Visit;
-use rail_bound::Leg;
+use bound_spec::Leg;
 use std::alloc::{AllocError, Global};
 
 /// How many ticks of each leg are counted at the most, and to which visit: none where they end with a grant.

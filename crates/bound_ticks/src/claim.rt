@@ -4,7 +4,7 @@ ghost use Rattle.std.specs.Prelude.{◌≡◌, ◌≤◌};
 ghost use Rattle.bound_ticks.specs.Claims.{IsNamed, followed_of};
 
 use cone_form::Contention;
-use rail_bound::Bound;
+use bound_spec::Bound;
 
 /// A certificate that names what the design has, and how many ticks of each leg are counted.
 #[derive(Clone, Copy)]

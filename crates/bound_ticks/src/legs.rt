@@ -5,7 +5,7 @@ ghost use Rattle.std.specs.Option.{ForSome};
 ghost use Rattle.rail_base.specs.Routes.{IsRoute};
 ghost use Rattle.rail_base.specs.Stations.{IsTrain};
 ghost use Rattle.rail_course.specs.Tracks.{routes_at};
-ghost use Rattle.rail_bound.specs.Certificates.{VisitOf};
+ghost use Rattle.bound_spec.specs.Certificates.{VisitOf};
 ghost use Rattle.bound_ticks.specs.Chains.{leg_to_release, leg_to_visit, ticks_on, to_release, to_visit};
 ghost use Rattle.leg_targets.specs.Visits.{origin_of, visit_of};
 ghost use Rattle.bound_ticks.specs.Walks.{IsLeg};
@@ -15,7 +15,7 @@ use free_moves::{on_ticks, run_ticks};
 use interlocking::Interlocking;
 use leg_targets::{Visit, release_place, target, visit_place};
 use rail_base::route::RouteNo;
-use rail_bound::Leg;
+use bound_spec::Leg;
 use std::alloc::{AllocError, Global};
 
 /// From where the ticks of a leg are counted, and how many of them at the most.

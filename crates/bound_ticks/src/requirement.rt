@@ -4,15 +4,15 @@ ghost use Rattle.std.specs.Prelude.{◌≡◌, ◌≤◌, true, length};
 ghost use Rattle.std.specs.Option.{ForSome};
 ghost use Rattle.rail_base.specs.Stations.{IsTrain, order_of, within_of};
 ghost use Rattle.rail_spec.specs.Requirements.{most_ticks};
-ghost use Rattle.rail_bound.specs.Certificates.{visit_from, visit_to};
-ghost use Rattle.rail_bound.specs.Validity.{is_too_late, is_too_long, requirement_in_design};
+ghost use Rattle.bound_spec.specs.Certificates.{visit_from, visit_to};
+ghost use Rattle.bound_spec.specs.Validity.{is_too_late, is_too_long, requirement_in_design};
 ghost use Rattle.bound_ticks.specs.Claims.{requirement_fits};
 ghost use Rattle.leg_targets.specs.Visits.{origin_of};
 
 use interlocking::Interlocking;
 use leg_targets::Visit;
 use rail_base::station::{Order, Station, Within};
-use rail_bound::Requirement;
+use bound_spec::Requirement;
 
 /// The visit from which the ticks of a within or an order are counted.
 pub fn visit_from(interlocking: &Interlocking, requirement: Requirement) -> Option<Visit>

@@ -4,10 +4,10 @@ ghost use Rattle.std.specs.Prelude.{◌≡◌, ◌≤◌, true, IfOk, None, Some
 ghost use Rattle.std.specs.Option.{ForSome};
 ghost use Rattle.rail_base.specs.Stations.{IsTrain};
 ghost use Rattle.interlocking.specs.declared.railway.Interlocking.{Interlocking};
-ghost use Rattle.rail_cone.specs.declared.Cone.{Cone};
-ghost use Rattle.rail_bound.specs.declared.Bound.{Bound};
-ghost use Rattle.rail_bound.specs.declared.Origin.TheVariants as origin;
-ghost use Rattle.rail_bound.specs.Validity.{is_too_late, is_too_long, names_design, shown};
+ghost use Rattle.cone_spec.specs.declared.Cone.{Cone};
+ghost use Rattle.bound_spec.specs.declared.Bound.{Bound};
+ghost use Rattle.bound_spec.specs.declared.Origin.TheVariants as origin;
+ghost use Rattle.bound_spec.specs.Validity.{is_too_late, is_too_long, names_design, shown};
 ghost use Rattle.bound_ticks.specs.Claims.{cone_shows_of, from_of, made_at, passes_of, shown_by};
 ghost use Rattle.bound_ticks.specs.Claims.{ticks_between_of, ticks_of, to_of};
 ghost use Rattle.leg_targets.specs.Visits.{origin_of, visit_of};
@@ -20,8 +20,8 @@ use crate::stretches::{MOST_LOOKS, stretches_of, ticks_followed};
 use cone_form::Contention;
 use cone_run::visit_shown;
 use leg_targets::Visit;
-use rail_bound::{Bound, Origin};
-use rail_cone::Cone;
+use bound_spec::{Bound, Origin};
+use cone_spec::Cone;
 use std::alloc::{AllocError, Global};
 
 /// Whether a certificate shows that its requirement fails: the ticks that its legs take at the least are too many.

@@ -4,7 +4,7 @@ ghost use Rattle.std.specs.Prelude.{◌≡◌, ◌≤◌, ◌/◌, All, IfOk, mi
 ghost use Rattle.rail_base.specs.Routes.{IsRoute};
 ghost use Rattle.rail_base.specs.Stations.{horizon};
 ghost use Rattle.rail_course.specs.Tracks.{routes_at};
-ghost use Rattle.rail_bound.specs.Validity.{most_looks, stretches_in, stretches_of, stretches_of_leg, stretches_of_walk};
+ghost use Rattle.bound_spec.specs.Validity.{most_looks, stretches_in, stretches_of, stretches_of_leg, stretches_of_walk};
 ghost use Rattle.bound_ticks.specs.Looks.{cap};
 ghost use Rattle.bound_ticks.specs.Walks.{IsLeg};
 
@@ -12,7 +12,7 @@ use crate::walks::{first_routes, walks_of};
 use free_moves::goes_further;
 use interlocking::Interlocking;
 use rail_base::route::{RouteNo, RouteTable, route_at};
-use rail_bound::Leg;
+use bound_spec::Leg;
 use std::alloc::{AllocError, Global};
 
 /// No more stretches are looked at.

@@ -7,7 +7,7 @@ ghost use Rattle.bound_ticks.specs.Walks.{IsPlaceOf, IsWalk, first_routes, longe
 use interlocking::goes_on;
 use rail_base::list::List;
 use rail_base::route::{RouteNo, RouteTable, route_at};
-use rail_bound::{Leg, Place, routes_of};
+use bound_spec::{Leg, Place, routes_of};
 use std::alloc::{AllocError, Global};
 
 /// The routes of the first place of the first of some legs.

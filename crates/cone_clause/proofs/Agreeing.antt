@@ -9,20 +9,20 @@ use Rattle.rail_spec.specs.Plans.{commands, step_of, has_command, one_each, is_w
 use Rattle.rail_spec.specs.Feasible.{IsFeasible, IsInfeasible}
 use Rattle.rail_base.proofs.Members.{In, and_left, and_right, and_both}
 use Rattle.sat_clause.specs.Clauses.{lit_holds, clause_holds}
-use Rattle.plan_clauses.specs.Clauses.{base_clauses}
-use Rattle.plan_clauses.specs.Variables.{By, number_of}
+use Rattle.clause_spec.specs.Clauses.{base_clauses}
+use Rattle.clause_spec.specs.Variables.{By, number_of}
 use Rattle.rail_base.proofs.Lists.{list_all_from}
 use Rattle.cone_clause.specs.Laws.{NoneByCones}
-use Rattle.plan_clauses.specs.Models.{is_so, model_of}
-use Rattle.plan_clauses.proofs.Steps.{has_gives, step_high}
-use Rattle.plan_clauses.proofs.Places.{pair_from}
-use Rattle.plan_clauses.proofs.Numbers.{Known, model_says}
-use Rattle.plan_clauses.proofs.Theorems.{feasible_plans_are_models}
-use Rattle.rail_cone.specs.declared.Cone.{Cone}
-use Rattle.rail_cone.specs.Validity.{in_design, is_valid_cone}
-use Rattle.rail_cone.specs.Clauses.{Fact, Used, Before, Literal, holds_of, is_true_of, is_false_of, clause_of_cone}
-use Rattle.rail_cone.proofs.Failing.{IsTimed}
-use Rattle.rail_cone.proofs.Refusing.{true_of_feasible, holds_of_valid}
+use Rattle.clause_spec.specs.Models.{is_so, model_of}
+use Rattle.clause_spec.proofs.Steps.{has_gives, step_high}
+use Rattle.clause_spec.proofs.Places.{pair_from}
+use Rattle.clause_spec.proofs.Numbers.{Known, model_says}
+use Rattle.clause_spec.proofs.Theorems.{feasible_plans_are_models}
+use Rattle.cone_spec.specs.declared.Cone.{Cone}
+use Rattle.cone_spec.specs.Validity.{in_design, is_valid_cone}
+use Rattle.cone_spec.specs.Clauses.{Fact, Used, Before, Literal, holds_of, is_true_of, is_false_of, clause_of_cone}
+use Rattle.cone_spec.proofs.Failing.{IsTimed}
+use Rattle.cone_spec.proofs.Refusing.{true_of_feasible, holds_of_valid}
 use Rattle.cone_clause.specs.Numbered.{variable_of, lit_of, numbered_clause}
 use Rattle.cone_clause.proofs.Known.{IsKnown, all_known}
 

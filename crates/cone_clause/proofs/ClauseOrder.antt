@@ -3,14 +3,14 @@ use Rattle.std.proofs.Common.{◌≡◌, inl, inr, Bool, true, false, ◌&&◌, 
 use Rattle.rail_base.specs.declared.station.Station.{Station}
 use Rattle.rail_base.specs.declared.route.Route.{Route}
 use Rattle.rail_base.specs.declared.plan.Command.{Command}
-use Rattle.rail_cone.specs.declared.Cone.{Cone}
+use Rattle.cone_spec.specs.declared.Cone.{Cone}
 use Rattle.rail_spec.specs.Plans.{route_at, contend, all_commands}
 use Rattle.rail_base.specs.Members.{all_pairs}
 use Rattle.rail_base.proofs.Members.{In, and_both}
-use Rattle.rail_cone.specs.Cones.{is_named, is_listed, is_free, named}
-use Rattle.rail_cone.specs.Validity.{is_before, is_pair_before}
-use Rattle.rail_cone.specs.Clauses.{Fact, Used, Before, Literal, is_closed, goes_further, used_literals, before_literals, clause_of_cone}
-use Rattle.rail_cone.proofs.Saying.{is_command_self}
+use Rattle.cone_spec.specs.Cones.{is_named, is_listed, is_free, named}
+use Rattle.cone_spec.specs.Validity.{is_before, is_pair_before}
+use Rattle.cone_spec.specs.Clauses.{Fact, Used, Before, Literal, is_closed, goes_further, used_literals, before_literals, clause_of_cone}
+use Rattle.cone_spec.proofs.Saying.{is_command_self}
 use Rattle.cone_form.proofs.Sorted.{all_pairs_append, all_pairs_flat, commands_sorted}
 use Rattle.rail_base.proofs.Lists.{in_flat_map_back}
 

@@ -7,9 +7,9 @@ use Rattle.rail_base.specs.declared.station.Station.{Station}
 use Rattle.rail_base.specs.declared.station.TrainNo.{TrainNo}
 use Rattle.rail_base.proofs.Members.{and_left, and_right}
 use Rattle.rail_spec.specs.Plans.{is_start, goes_on, commands_of, route_numbers}
-use Rattle.rail_cone.specs.declared.Cone.{Cone}
-use Rattle.rail_cone.specs.Cones.{named, has_route}
-use Rattle.rail_cone.specs.Clauses.{Used, Literal, goes_further, is_closed, used_literals}
+use Rattle.cone_spec.specs.declared.Cone.{Cone}
+use Rattle.cone_spec.specs.Cones.{named, has_route}
+use Rattle.cone_spec.specs.Clauses.{Used, Literal, goes_further, is_closed, used_literals}
 use Rattle.cone_clause.proofs.Gathering.{drop_next}
 
 -- after routes of which the last goes on or not

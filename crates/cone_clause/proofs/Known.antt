@@ -3,14 +3,14 @@ use Rattle.std.proofs.Common.{◌≡◌, ◌⊎◌, inl, inr, Bool, true, false,
 use Rattle.rail_base.specs.declared.station.Station.{Station}
 use Rattle.rail_base.specs.declared.route.Route.{Route}
 use Rattle.rail_base.specs.declared.plan.Command.{Command}
-use Rattle.rail_cone.specs.declared.Cone.{Cone}
+use Rattle.cone_spec.specs.declared.Cone.{Cone}
 use Rattle.rail_spec.specs.Plans.{route_at, is_train, share, contend, all_commands}
 use Rattle.rail_base.proofs.Members.{In, and_right, and_both}
 use Rattle.rail_base.proofs.Lists.{in_append, in_flat_map_back}
-use Rattle.rail_cone.specs.Cones.{named, is_named, is_listed, is_free}
-use Rattle.rail_cone.specs.Validity.{in_design}
-use Rattle.rail_cone.specs.Clauses.{Fact, Used, Before, Literal, is_closed, goes_further, used_literals, before_literals, clause_of_cone}
-use Rattle.rail_cone.proofs.Naming.{of_design, listed_is}
+use Rattle.cone_spec.specs.Cones.{named, is_named, is_listed, is_free}
+use Rattle.cone_spec.specs.Validity.{in_design}
+use Rattle.cone_spec.specs.Clauses.{Fact, Used, Before, Literal, is_closed, goes_further, used_literals, before_literals, clause_of_cone}
+use Rattle.cone_spec.proofs.Naming.{of_design, listed_is}
 
 -- a command of the design, or two that contend
 abbrev pub IsKnown : Station → List Route → Fact → Type 0

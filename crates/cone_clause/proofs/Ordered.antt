@@ -9,15 +9,15 @@ use Rattle.rail_base.specs.Members.{all_pairs}
 use Rattle.rail_base.proofs.Members.{In, and_left, and_right, and_both, list_all_at, either}
 use Rattle.rail_spec.specs.Plans.{is_command, contend, all_commands}
 use Rattle.sat_clause.specs.declared.lit.Lit.{Lit}
-use Rattle.plan_clauses.specs.Variables.{pairs, is_pair, number_of}
+use Rattle.clause_spec.specs.Variables.{pairs, is_pair, number_of}
 use Rattle.std.proofs.Math.Nat.{suc-mul}
 use Rattle.rail_base.specs.declared.station.TrainNo.{TrainNo}
 use Rattle.rail_base.specs.declared.route.RouteNo.{RouteNo}
-use Rattle.plan_clauses.proofs.Steps.{is_command_same, is_command_self}
-use Rattle.plan_clauses.proofs.Places.{command_of, pair_from}
-use Rattle.rail_cone.specs.declared.Cone.{Cone}
-use Rattle.rail_cone.specs.Validity.{is_before, is_pair_before, in_design}
-use Rattle.rail_cone.specs.Clauses.{Fact, Used, Before, Literal, clause_of_cone}
+use Rattle.clause_spec.proofs.Steps.{is_command_same, is_command_self}
+use Rattle.clause_spec.proofs.Places.{command_of, pair_from}
+use Rattle.cone_spec.specs.declared.Cone.{Cone}
+use Rattle.cone_spec.specs.Validity.{is_before, is_pair_before, in_design}
+use Rattle.cone_spec.specs.Clauses.{Fact, Used, Before, Literal, clause_of_cone}
 use Rattle.cone_clause.proofs.ClauseOrder.{is_fact_before, is_literal_before, clause_sorted}
 use Rattle.cone_form.proofs.Sorted.{all_pairs_map, pairs_sorted}
 use Rattle.cone_clause.specs.Numbered.{variable_of, lit_of, numbered_clause}

@@ -4,9 +4,9 @@ use Rattle.rail_base.specs.declared.plan.Violation.TheVariants as violation
 use Rattle.sat_clause.specs.declared.lit.Lit.{Lit}
 use Rattle.rail_spec.specs.Track.{routes_of}
 use Rattle.rail_laws.proofs.Stations.{halt_within, follow_short, plan_one, plan_two, command}
-use Rattle.rail_cone.specs.declared.Cone.{Cone}
+use Rattle.cone_spec.specs.declared.Cone.{Cone}
 use Rattle.sat_clause.specs.Clauses.{clause_holds}
-use Rattle.plan_clauses.specs.Models.{model_of}
+use Rattle.clause_spec.specs.Models.{model_of}
 use Rattle.cone_clause.specs.Numbered.{numbered_clause}
 
 -- a literal as a whole number

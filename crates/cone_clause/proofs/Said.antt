@@ -12,14 +12,14 @@ use Rattle.rail_base.specs.declared.plan.Command.{Command}
 use Rattle.rail_base.proofs.Members.{In, in_filter, list_any_from, list_any_gives, false_unless, below_or_not, same_bool}
 use Rattle.rail_base.proofs.Lists.{in_filter_back, in_map, in_map_back}
 use Rattle.rail_spec.specs.Plans.{is_command, contend}
-use Rattle.plan_clauses.specs.Variables.{pairs}
-use Rattle.rail_cone.specs.declared.Cone.{Cone}
-use Rattle.rail_cone.specs.declared.ConeTrain.{ConeTrain}
-use Rattle.rail_cone.specs.Cones.{unnamed, first_named, free_path, is_free, is_listed, is_pair}
-use Rattle.rail_cone.specs.Validity.{in_design}
-use Rattle.rail_cone.specs.Clauses.{Before, Literal, before_literals}
-use Rattle.rail_cone.proofs.Naming.{IsNamed, named_or_not, has_route_in, in_has_route}
-use Rattle.rail_cone.proofs.Saying.{is_command_self}
+use Rattle.clause_spec.specs.Variables.{pairs}
+use Rattle.cone_spec.specs.declared.Cone.{Cone}
+use Rattle.cone_spec.specs.declared.ConeTrain.{ConeTrain}
+use Rattle.cone_spec.specs.Cones.{unnamed, first_named, free_path, is_free, is_listed, is_pair}
+use Rattle.cone_spec.specs.Validity.{in_design}
+use Rattle.cone_spec.specs.Clauses.{Before, Literal, before_literals}
+use Rattle.cone_spec.proofs.Naming.{IsNamed, named_or_not, has_route_in, in_has_route}
+use Rattle.cone_spec.proofs.Saying.{is_command_self}
 use Rattle.cone_form.proofs.Placed.{to_place, is_pair_same, pair_itself}
 use Rattle.sat_clause.specs.declared.lit.Lit.{Lit}
 use Rattle.rail_spec.specs.Plans.{all_commands}

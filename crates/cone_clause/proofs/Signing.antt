@@ -4,10 +4,10 @@ use Rattle.rail_base.specs.declared.station.Station.{Station}
 use Rattle.rail_base.specs.declared.route.Route.{Route}
 use Rattle.rail_base.specs.declared.plan.Command.{Command}
 use Rattle.rail_spec.specs.Plans.{route_at, contend}
-use Rattle.plan_clauses.specs.Variables.{Given, Before as BeforeIn, number_of}
-use Rattle.rail_cone.specs.declared.Cone.{Cone}
-use Rattle.rail_cone.specs.Cones.{named, is_named, is_listed, is_free}
-use Rattle.rail_cone.specs.Clauses.{Fact, Used, Before, is_closed, goes_further, used_literals, before_literals}
+use Rattle.clause_spec.specs.Variables.{Given, Before as BeforeIn, number_of}
+use Rattle.cone_spec.specs.declared.Cone.{Cone}
+use Rattle.cone_spec.specs.Cones.{named, is_named, is_listed, is_free}
+use Rattle.cone_spec.specs.Clauses.{Fact, Used, Before, is_closed, goes_further, used_literals, before_literals}
 use Rattle.cone_clause.specs.Numbered.{signed, variable_of, lit_of}
 
 module _ (d : Station) (routes : List Route) (n : ℕ) (k : Cone) where

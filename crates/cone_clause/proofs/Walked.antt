@@ -13,14 +13,14 @@ use Rattle.rail_base.specs.Routes.{IsRoute}
 use Rattle.rail_base.specs.Stations.{trains}
 use Rattle.rail_base.proofs.Members.{and_left, and_right, and_both, list_all_at, false_unless}
 use Rattle.rail_spec.specs.Plans.{route_at, is_train, is_route, commands_of, share, contend, all_commands}
-use Rattle.plan_clauses.specs.Variables.{pairs, pairs_of, is_pair}
-use Rattle.plan_clauses.proofs.Places.{pair_of}
-use Rattle.rail_cone.specs.declared.Cone.{Cone}
-use Rattle.rail_cone.specs.declared.ConeTrain.{ConeTrain}
-use Rattle.rail_cone.specs.Cones.{unnamed, first_named, named, is_named, is_listed, is_free}
-use Rattle.rail_cone.specs.Validity.{in_design, is_pair_before}
-use Rattle.rail_cone.specs.Clauses.{Before, Literal, used_literals, before_literals}
-use Rattle.rail_cone.proofs.Naming.{IsNamed, named_or_not, of_design, proper, listed_is}
+use Rattle.clause_spec.specs.Variables.{pairs, pairs_of, is_pair}
+use Rattle.clause_spec.proofs.Places.{pair_of}
+use Rattle.cone_spec.specs.declared.Cone.{Cone}
+use Rattle.cone_spec.specs.declared.ConeTrain.{ConeTrain}
+use Rattle.cone_spec.specs.Cones.{unnamed, first_named, named, is_named, is_listed, is_free}
+use Rattle.cone_spec.specs.Validity.{in_design, is_pair_before}
+use Rattle.cone_spec.specs.Clauses.{Before, Literal, used_literals, before_literals}
+use Rattle.cone_spec.proofs.Naming.{IsNamed, named_or_not, of_design, proper, listed_is}
 use Rattle.cone_form.proofs.Ranges.{all_routes}
 use Rattle.cone_form.proofs.Sorted.{pairs_sorted}
 use Rattle.cone_clause.specs.Numbered.{signed, lit_of}

@@ -4,9 +4,9 @@ use Rattle.std.specs.List.{list_all}
 use Rattle.rail_base.specs.declared.station.Station.{Station}
 use Rattle.rail_base.specs.declared.route.Route.{Route}
 use Rattle.sat_clause.specs.Clauses.{clause_holds}
-use Rattle.plan_clauses.specs.Clauses.{base_clauses}
-use Rattle.plan_clauses.specs.Variables.{By, number_of}
-use Rattle.rail_cone.specs.declared.Cone.{Cone}
+use Rattle.clause_spec.specs.Clauses.{base_clauses}
+use Rattle.clause_spec.specs.Variables.{By, number_of}
+use Rattle.cone_spec.specs.declared.Cone.{Cone}
 use Rattle.cone_clause.specs.Numbered.{numbered_clause}
 
 -- no values that make the base and the clauses of these cones true say that all is given by step k

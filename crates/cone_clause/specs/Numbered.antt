@@ -3,10 +3,10 @@ use Rattle.std.specs.Prelude.{ℕ, Bool, List, [], ◌∷◌, map, Option, None,
 use Rattle.rail_base.specs.declared.station.Station.{Station}
 use Rattle.rail_base.specs.declared.route.Route.{Route}
 use Rattle.interlocking.specs.declared.railway.Interlocking.{Interlocking}
-use Rattle.rail_cone.specs.declared.Cone.{Cone}
+use Rattle.cone_spec.specs.declared.Cone.{Cone}
 use Rattle.sat_clause.specs.declared.lit.Lit.{Lit}
-use Rattle.plan_clauses.specs.Variables.{Variable, Given, Before as BeforeIn, number_of}
-use Rattle.rail_cone.specs.Clauses.{Fact, Used, Before, Literal, clause_of_cone}
+use Rattle.clause_spec.specs.Variables.{Variable, Given, Before as BeforeIn, number_of}
+use Rattle.cone_spec.specs.Clauses.{Fact, Used, Before, Literal, clause_of_cone}
 
 -- a command is used where it is given by the last step
 abbrev pub variable_of : ℕ → Fact → Variable

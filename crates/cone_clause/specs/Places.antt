@@ -5,9 +5,9 @@ use Rattle.rail_base.specs.declared.plan.Command.{Command}
 use Rattle.rail_base.specs.declared.route.RouteNo.{RouteNo}
 use Rattle.rail_base.specs.declared.station.TrainNo.{TrainNo}
 use Rattle.rail_base.specs.Members.{In}
-use Rattle.rail_cone.specs.declared.Cone.{Cone}
-use Rattle.rail_cone.specs.declared.ConeTrain.{ConeTrain}
-use Rattle.rail_cone.specs.Cones.{free_path, is_free, is_listed}
+use Rattle.cone_spec.specs.declared.Cone.{Cone}
+use Rattle.cone_spec.specs.declared.ConeTrain.{ConeTrain}
+use Rattle.cone_spec.specs.Cones.{free_path, is_free, is_listed}
 
 -- exactly the numbers of which it holds are added
 pub record Adds (P : ℕ → Type 0) (old new : List ℕ) : Type 0 where

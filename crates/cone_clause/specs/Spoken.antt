@@ -8,9 +8,9 @@ use Rattle.rail_base.specs.declared.station.TrainNo.{TrainNo}
 use Rattle.rail_base.specs.Routes.{route_at}
 use Rattle.rail_spec.specs.Plans.{all_commands, commands_of}
 use Rattle.sat_clause.specs.declared.lit.Lit.{Lit}
-use Rattle.plan_clauses.specs.Variables.{Given, number_of}
-use Rattle.rail_cone.specs.Cones.{has_route}
-use Rattle.rail_cone.specs.Clauses.{Literal, before_literals, goes_further, used_literals}
+use Rattle.clause_spec.specs.Variables.{Given, number_of}
+use Rattle.cone_spec.specs.Cones.{has_route}
+use Rattle.cone_spec.specs.Clauses.{Literal, before_literals, goes_further, used_literals}
 use Rattle.cone_clause.specs.declared.numbered.NumberedCone.{NumberedCone}
 use Rattle.cone_clause.specs.Numbered.{lit_of}
 use Rattle.cone_clause.specs.Places.{Adds, AreListed, AreSaid, IsListedPlace, IsPlaceBefore, IsPlaceBeforeAny, IsPlaceBeforeFree}

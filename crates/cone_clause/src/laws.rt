@@ -11,10 +11,10 @@ ghost use Rattle.sat_clause.specs.declared.lit.Lit.{Lit};
 ghost use Rattle.sat_clause.specs.Clauses.{clause_holds};
 ghost use Rattle.rail_spec.specs.Track.{routes_of};
 ghost use Rattle.rail_spec.specs.Feasible.{IsFeasible, IsInfeasible, IsWellFormed};
-ghost use Rattle.plan_clauses.specs.Models.{model_of};
-ghost use Rattle.rail_cone.specs.declared.Cone.{Cone};
-ghost use Rattle.rail_cone.specs.Validity.{in_design, is_valid_cone};
-ghost use Rattle.rail_cone.specs.Clauses.{clause_of_cone, is_false_of};
+ghost use Rattle.clause_spec.specs.Models.{model_of};
+ghost use Rattle.cone_spec.specs.declared.Cone.{Cone};
+ghost use Rattle.cone_spec.specs.Validity.{in_design, is_valid_cone};
+ghost use Rattle.cone_spec.specs.Clauses.{clause_of_cone, is_false_of};
 ghost use Rattle.cone_clause.specs.Numbered.{numbered_clause};
 ghost use Rattle.cone_clause.specs.Laws.{NoneByCones};
 

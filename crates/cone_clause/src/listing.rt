@@ -7,7 +7,7 @@ ghost use Rattle.cone_clause.specs.Numbered.{clause_in};
 use crate::numbered::NumberedCone;
 use cone_form::Contention;
 use interlocking::Steps;
-use rail_cone::Cone;
+use cone_spec::Cone;
 use sat_clause::Lit;
 use std::alloc::{AllocError, Global};
 

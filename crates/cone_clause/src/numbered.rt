@@ -5,7 +5,7 @@ ghost use Rattle.cone_form.specs.Fits.{fits};
 
 use cone_form::Contention;
 use interlocking::Steps;
-use rail_cone::Cone;
+use cone_spec::Cone;
 
 /// A cone that speaks of the design, and how many steps the plans have that its clause is for.
 #[derive(Clone, Copy)]

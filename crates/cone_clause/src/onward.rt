@@ -3,18 +3,18 @@
 ghost use Rattle.std.specs.Prelude.{◌≡◌, List, All, false, map};
 ghost use Rattle.rail_base.specs.declared.station.Station.{Station};
 ghost use Rattle.rail_base.specs.declared.route.Route.{Route};
-ghost use Rattle.rail_cone.specs.declared.Cone.{Cone};
+ghost use Rattle.cone_spec.specs.declared.Cone.{Cone};
 ghost use Rattle.rail_base.specs.Routes.{IsRoute, route_at};
 ghost use Rattle.rail_spec.specs.Plans.{is_start};
-ghost use Rattle.rail_cone.specs.Cones.{all_free, named};
-ghost use Rattle.rail_cone.specs.Clauses.{goes_further, is_closed, is_path_violation};
+ghost use Rattle.cone_spec.specs.Cones.{all_free, named};
+ghost use Rattle.cone_spec.specs.Clauses.{goes_further, is_closed, is_path_violation};
 
 use cone_form::entry_of;
 use interlocking::goes_on;
 use rail_base::plan::Violation;
 use rail_base::route::{Route, RouteNo, RouteTable, Start, route_at};
 use rail_base::station::TrainNo;
-use rail_cone::Cone;
+use cone_spec::Cone;
 
 /// Whether the cone says that a train goes no further than its path.
 pub fn is_closed(cone: &Cone, train: TrainNo) -> bool

@@ -3,7 +3,7 @@
 ghost use Rattle.std.specs.Prelude.{◌≡◌, ◌≤◌, ◌++◌, All, OnOk};
 ghost use Rattle.rail_base.specs.Routes.{IsRoute};
 ghost use Rattle.rail_base.specs.Stations.{IsTrain};
-ghost use Rattle.rail_cone.specs.Cones.{named};
+ghost use Rattle.cone_spec.specs.Cones.{named};
 ghost use Rattle.cone_form.specs.Marks.{MarksPath};
 ghost use Rattle.cone_clause.specs.Spoken.{given_count, given_number, used_sign};
 ghost use Rattle.cone_clause.specs.Spoken.{routes_in, said_of_commands, said_of_train, station_of};

@@ -7,15 +7,15 @@ use Rattle.rail_base.specs.declared.route.Route.{Route}
 use Rattle.rail_base.specs.declared.plan.Command.{Command}
 use Rattle.rail_base.proofs.Members.{In, and_left, and_right, list_any_gives, list_any_from, list_all_at, same_bool}
 use Rattle.rail_spec.specs.Plans.{all_commands, contend}
-use Rattle.plan_clauses.specs.Variables.{pairs}
-use Rattle.plan_clauses.proofs.Facts.{contend_sym}
-use Rattle.plan_clauses.proofs.Places.{pair_of, pair_from}
-use Rattle.rail_cone.specs.declared.Cone.{Cone}
-use Rattle.rail_cone.specs.declared.ConeTrain.{ConeTrain}
-use Rattle.rail_cone.specs.Cones.{unnamed, first_named, named, is_named, is_pair}
-use Rattle.rail_cone.specs.Validity.{train_in_design, pair_in_design, violation_in_design, in_design, is_pair_before}
-use Rattle.rail_cone.proofs.Naming.{IsNamed, named_or_not, has_route_in, of_design}
-use Rattle.rail_cone.proofs.Saying.{in_all}
+use Rattle.clause_spec.specs.Variables.{pairs}
+use Rattle.clause_spec.proofs.Facts.{contend_sym}
+use Rattle.clause_spec.proofs.Places.{pair_of, pair_from}
+use Rattle.cone_spec.specs.declared.Cone.{Cone}
+use Rattle.cone_spec.specs.declared.ConeTrain.{ConeTrain}
+use Rattle.cone_spec.specs.Cones.{unnamed, first_named, named, is_named, is_pair}
+use Rattle.cone_spec.specs.Validity.{train_in_design, pair_in_design, violation_in_design, in_design, is_pair_before}
+use Rattle.cone_spec.proofs.Naming.{IsNamed, named_or_not, has_route_in, of_design}
+use Rattle.cone_spec.proofs.Saying.{in_all}
 use Rattle.cone_form.specs.Marks.{MarksCone, marked_pair}
 use Rattle.cone_form.proofs.Ranges.{named_routes, train_bounds}
 use Rattle.rail_base.specs.Members.{all_pairs, all_neighbors}

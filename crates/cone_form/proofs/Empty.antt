@@ -3,8 +3,8 @@ use Rattle.std.proofs.Common.{◌≡◌, ◌↔◌, IsTrue, Bool, true, false, L
 use Rattle.rail_base.specs.declared.station.Station.{Station}
 use Rattle.rail_base.specs.declared.route.Route.{Route}
 use Rattle.rail_base.specs.declared.plan.Command.{Command}
-use Rattle.rail_cone.specs.declared.Cone.{Cone}
-use Rattle.rail_cone.specs.Validity.{no_pairs}
+use Rattle.cone_spec.specs.declared.Cone.{Cone}
+use Rattle.cone_spec.specs.Validity.{no_pairs}
 
 pub empty_is : (d : Station) (routes : List Route) (k : Cone) (b : Bool) (ps : List (Command × Command)) → IsTrue b ↔ (ps ≡ []) → b ≡ no_pairs d routes k ps
 empty_is d routes k true [] h = refl

@@ -7,10 +7,10 @@ use Rattle.rail_base.specs.declared.route.Route.{Route}
 use Rattle.rail_base.specs.declared.plan.Command.{Command}
 use Rattle.rail_base.specs.Numbering.{entry}
 use Rattle.rail_base.proofs.Members.{below_or_not}
-use Rattle.rail_cone.specs.declared.Cone.{Cone}
-use Rattle.rail_cone.specs.Cones.{unnamed, first_named, named, has_route, is_named}
-use Rattle.rail_cone.specs.Validity.{train_in_design}
-use Rattle.rail_cone.proofs.Naming.{IsNamed, named_or_not}
+use Rattle.cone_spec.specs.declared.Cone.{Cone}
+use Rattle.cone_spec.specs.Cones.{unnamed, first_named, named, has_route, is_named}
+use Rattle.cone_spec.specs.Validity.{train_in_design}
+use Rattle.cone_spec.proofs.Naming.{IsNamed, named_or_not}
 use Rattle.cone_form.specs.Marks.{MarksPath, MarksCone, mark_of}
 use Rattle.cone_form.proofs.Ranges.{train_bounds}
 

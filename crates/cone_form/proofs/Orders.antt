@@ -6,8 +6,8 @@ use Rattle.rail_base.specs.Members.{all_pairs, all_neighbors}
 use Rattle.rail_base.proofs.Members.{In, and_left, and_right, and_both, either, or_left, or_right, list_all_at}
 use Rattle.rail_base.proofs.Lists.{list_all_from}
 use Rattle.rail_spec.specs.Plans.{is_command}
-use Rattle.rail_cone.specs.Validity.{is_before, is_pair_before}
-use Rattle.rail_cone.proofs.Saying.{is_command_same, is_command_self}
+use Rattle.cone_spec.specs.Validity.{is_before, is_pair_before}
+use Rattle.cone_spec.proofs.Saying.{is_command_same, is_command_self}
 
 -- what `is_before` says
 abbrev pub Less : Command → Command → Type 0

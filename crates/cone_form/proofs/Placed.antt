@@ -7,9 +7,9 @@ use Rattle.rail_base.specs.declared.plan.Command.{Command}
 use Rattle.rail_base.specs.Members.{all_pairs}
 use Rattle.rail_base.proofs.Members.{In, and_left, and_right, and_both, list_any_gives, list_any_from, false_unless, same_bool, below_or_not}
 use Rattle.rail_spec.specs.Plans.{is_command}
-use Rattle.rail_cone.specs.Cones.{is_pair}
-use Rattle.rail_cone.specs.Validity.{is_pair_before}
-use Rattle.rail_cone.proofs.Saying.{is_command_same, is_command_self}
+use Rattle.cone_spec.specs.Cones.{is_pair}
+use Rattle.cone_spec.specs.Validity.{is_pair_before}
+use Rattle.cone_spec.proofs.Saying.{is_command_same, is_command_self}
 use Rattle.cone_form.proofs.Orders.{pair_on, not_both_pairs, pairs_at}
 
 -- a place is before another, or it is the same

@@ -9,11 +9,11 @@ use Rattle.rail_base.specs.declared.plan.Command.{Command}
 use Rattle.rail_base.specs.Admission.{is_from}
 use Rattle.rail_base.specs.Routes.{IsRoute}
 use Rattle.rail_base.proofs.Members.{In, and_left, and_right, list_all_at}
-use Rattle.rail_cone.specs.declared.Cone.{Cone}
-use Rattle.rail_cone.specs.declared.ConeTrain.{ConeTrain}
-use Rattle.rail_cone.specs.Cones.{unnamed, first_named, named, is_named}
-use Rattle.rail_cone.specs.Validity.{train_in_design}
-use Rattle.rail_cone.proofs.Naming.{IsNamed, named_or_not, has_route_in}
+use Rattle.cone_spec.specs.declared.Cone.{Cone}
+use Rattle.cone_spec.specs.declared.ConeTrain.{ConeTrain}
+use Rattle.cone_spec.specs.Cones.{unnamed, first_named, named, is_named}
+use Rattle.cone_spec.specs.Validity.{train_in_design}
+use Rattle.cone_spec.proofs.Naming.{IsNamed, named_or_not, has_route_in}
 
 pub from_bounds : (a b n : ℕ) → is_from a b n ≡ true → (a ≤ n) × (n ≤ b)
 from_bounds a b n h = (leb-true _ _ (and_left (nat_le a n) (nat_le n b) h), leb-true _ _ (and_right (nat_le a n) (nat_le n b) h))

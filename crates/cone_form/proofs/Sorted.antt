@@ -10,8 +10,8 @@ use Rattle.rail_base.specs.Members.{all_pairs, all_neighbors}
 use Rattle.rail_spec.specs.Plans.{commands_of, route_numbers, all_commands}
 use Rattle.rail_base.specs.Stations.{trains}
 use Rattle.rail_base.proofs.Members.{In, and_left, and_right, and_both, list_all_at, or_left, or_right}
-use Rattle.rail_cone.specs.Validity.{is_before, is_pair_before}
-use Rattle.rail_cone.proofs.Saying.{is_command_self}
+use Rattle.cone_spec.specs.Validity.{is_before, is_pair_before}
+use Rattle.cone_spec.proofs.Saying.{is_command_self}
 use Rattle.rail_base.proofs.Lists.{list_all_from, in_append, in_filter_back, in_map_back, in_flat_map_back}
 
 pub pairs_neighbors : {X : Type 0} (test : X → X → Bool) (xs : List X) → all_pairs test xs ≡ true → all_neighbors test xs ≡ true

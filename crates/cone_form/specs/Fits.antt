@@ -7,9 +7,9 @@ use Rattle.rail_base.specs.Admission.{is_from}
 use Rattle.rail_base.specs.Members.{all_neighbors}
 use Rattle.rail_base.specs.Stations.{horizon}
 use Rattle.interlocking.specs.declared.railway.Interlocking.{Interlocking}
-use Rattle.rail_cone.specs.declared.Cone.{Cone}
-use Rattle.rail_cone.specs.declared.ConeTrain.{ConeTrain}
-use Rattle.rail_cone.specs.Validity.{in_design, holder_in_path, pair_in_design, train_in_design, violation_in_design}
+use Rattle.cone_spec.specs.declared.Cone.{Cone}
+use Rattle.cone_spec.specs.declared.ConeTrain.{ConeTrain}
+use Rattle.cone_spec.specs.Validity.{in_design, holder_in_path, pair_in_design, train_in_design, violation_in_design}
 
 module _ (i : Interlocking) where
   -- the train and its routes are there, and its horizon is at most the design's

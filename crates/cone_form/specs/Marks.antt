@@ -4,8 +4,8 @@ use Rattle.std.specs.List.{list_any}
 use Rattle.rail_base.specs.declared.plan.Command.{Command}
 use Rattle.rail_base.specs.declared.route.RouteNo.{RouteNo}
 use Rattle.rail_base.specs.Numbering.{entry}
-use Rattle.rail_cone.specs.declared.Cone.{Cone}
-use Rattle.rail_cone.specs.Cones.{has_route, is_named, is_pair}
+use Rattle.cone_spec.specs.declared.Cone.{Cone}
+use Rattle.cone_spec.specs.Cones.{has_route, is_named, is_pair}
 
 -- exactly the routes of the path are marked
 abbrev pub MarksPath : List RouteNo → List Bool → Type 0

@@ -1,13 +1,13 @@
 //! The contending commands of an interlocking.
 
 ghost use Rattle.std.specs.Prelude.{◌≡◌, ◌≤◌, length, true};
-ghost use Rattle.plan_clauses.specs.Variables.{pairs as contending};
+ghost use Rattle.clause_spec.specs.Variables.{pairs as contending};
 ghost use Rattle.cone_form.specs.Fits.{fits};
 
 use crate::pairs::SortedPairs;
 use contending::ContendingPairs;
 use interlocking::Interlocking;
-use rail_cone::Cone;
+use cone_spec::Cone;
 
 /// An interlocking with all pairs of commands that contend: of different trains, by routes that share a section.
 #[derive(Clone, Copy)]

@@ -22,7 +22,7 @@ pub use crate::pairs::SortedPairs;
 use crate::trains::{holders_in_paths, pairs_in_design, trains_in_design};
 use crate::violations::violation_in_design;
 use interlocking::Interlocking;
-use rail_cone::Cone;
+use cone_spec::Cone;
 use std::alloc::{AllocError, Global};
 
 /// Whether the cone speaks of the design: its trains and pairs stand in order, each path is one that a train can go,

@@ -2,12 +2,12 @@
 
 ghost use Rattle.std.specs.Prelude.{◌≡◌, MatchOption, find, option_map, take};
 ghost use Rattle.rail_spec.specs.Plans.{is_command, is_train};
-ghost use Rattle.rail_cone.specs.Cones.{free_path, has_route, is_free, is_named, named, unnamed};
+ghost use Rattle.cone_spec.specs.Cones.{free_path, has_route, is_free, is_named, named, unnamed};
 
 use rail_base::plan::Command;
 use rail_base::route::RouteNo;
 use rail_base::station::TrainNo;
-use rail_cone::{Cone, ConeTrain};
+use cone_spec::{Cone, ConeTrain};
 
 /// What the cone says of a train; None where it doesn't name it, so that its horizon is 0 and it has no command.
 pub fn entry_of(cone: &Cone, train: TrainNo) -> Option<&ConeTrain>

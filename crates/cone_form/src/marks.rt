@@ -11,7 +11,7 @@ use interlocking::Interlocking;
 use rail_base::plan::Command;
 use rail_base::route::{RouteNo, RouteTable};
 use rail_base::station::TrainNo;
-use rail_cone::Cone;
+use cone_spec::Cone;
 use std::alloc::{AllocError, Global};
 
 /// For each route, by its number, whether it is of the path; nothing for a path without routes.

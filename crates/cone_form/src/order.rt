@@ -2,11 +2,11 @@
 
 ghost use Rattle.std.specs.Prelude.{◌≡◌, nat_lt};
 ghost use Rattle.rail_base.specs.Members.{all_neighbors};
-ghost use Rattle.rail_cone.specs.Validity.{is_before, is_pair_before};
+ghost use Rattle.cone_spec.specs.Validity.{is_before, is_pair_before};
 
 use crate::lookup::is_command;
 use rail_base::plan::Command;
-use rail_cone::ConeTrain;
+use cone_spec::ConeTrain;
 
 /// Whether the trains stand in increasing order.
 pub fn trains_in_order(entries: &[ConeTrain]) -> bool

@@ -2,7 +2,7 @@
 
 ghost use Rattle.std.specs.Prelude.{◌≡◌, true};
 ghost use Rattle.rail_base.specs.Members.{all_pairs};
-ghost use Rattle.rail_cone.specs.Validity.{is_pair_before};
+ghost use Rattle.cone_spec.specs.Validity.{is_pair_before};
 
 use rail_base::plan::Command;
 

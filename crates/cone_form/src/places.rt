@@ -2,7 +2,7 @@
 
 ghost use Rattle.std.specs.Prelude.{◌≡◌, ◌≤◌, ℕ, Some, length, slice_get};
 ghost use Rattle.std.specs.List.{list_any};
-ghost use Rattle.rail_cone.specs.Cones.{is_pair};
+ghost use Rattle.cone_spec.specs.Cones.{is_pair};
 
 use crate::lookup::is_command;
 use crate::order::is_pair_before;

@@ -5,8 +5,8 @@ ghost use Rattle.std.specs.List.{list_all};
 ghost use Rattle.rail_base.specs.declared.station.Station.{Station};
 ghost use Rattle.rail_base.specs.Admission.{is_from};
 ghost use Rattle.rail_base.specs.declared.route.Route.{Route};
-ghost use Rattle.rail_cone.specs.declared.Cone.{Cone};
-ghost use Rattle.rail_cone.specs.Validity.{holder_in_path};
+ghost use Rattle.cone_spec.specs.declared.Cone.{Cone};
+ghost use Rattle.cone_spec.specs.Validity.{holder_in_path};
 ghost use Rattle.interlocking.specs.declared.railway.Interlocking.{Interlocking};
 ghost use Rattle.cone_form.specs.Fits.{each_holder_fits, each_pair_fits, each_train_fits, names_fit, train_fits};
 ghost use Rattle.cone_form.specs.Marks.{marked_pair};
@@ -19,7 +19,7 @@ use contending::ContendingPairs;
 use interlocking::Interlocking;
 use rail_base::plan::Command;
 use rail_base::route::{RouteNo, RouteTable};
-use rail_cone::{Cone, ConeTrain};
+use cone_spec::{Cone, ConeTrain};
 use std::alloc::{AllocError, Global};
 
 /// Whether what is said of each train is possible.

@@ -4,8 +4,8 @@ ghost use Rattle.std.specs.Prelude.{◌≡◌, List};
 ghost use Rattle.rail_base.specs.declared.station.Station.{Station};
 ghost use Rattle.rail_base.specs.declared.route.Route.{Route};
 ghost use Rattle.rail_base.specs.Admission.{is_visit};
-ghost use Rattle.rail_cone.specs.declared.Cone.{Cone};
-ghost use Rattle.rail_cone.specs.Validity.{only_path};
+ghost use Rattle.cone_spec.specs.declared.Cone.{Cone};
+ghost use Rattle.cone_spec.specs.Validity.{only_path};
 ghost use Rattle.cone_form.specs.Fits.{path_fits, violation_fits};
 
 use crate::lookup::path;
@@ -14,7 +14,7 @@ use interlocking::Interlocking;
 use rail_base::design::Design;
 use rail_base::plan::Violation;
 use rail_base::station::TrainNo;
-use rail_cone::{Cone, ConeTrain};
+use cone_spec::{Cone, ConeTrain};
 
 /// Whether the violation names what there is.
 pub fn violation_in_design(interlocking: &Interlocking, cone: &Cone) -> bool

@@ -5,7 +5,7 @@ ghost use Rattle.std.specs.List.{list_any};
 ghost use Rattle.rail_base.specs.Members.{all_neighbors, all_pairs};
 ghost use Rattle.rail_base.specs.Routes.{IsRoute, route_at};
 ghost use Rattle.rail_spec.specs.Plans.{goes_on, is_start};
-ghost use Rattle.rail_cone.specs.Validity.{from_boundary, is_walk};
+ghost use Rattle.cone_spec.specs.Validity.{from_boundary, is_walk};
 
 use interlocking::goes_on;
 use rail_base::route::{Route, RouteNo, RouteTable, Start, route_at};

@@ -6,10 +6,10 @@ use Rattle.rail_base.specs.Admitted.{IsAdmitted}
 use Rattle.rail_spec.specs.Track.{routes_of}
 use Rattle.rail_course.specs.Journeys.{IsJourney}
 use Rattle.rail_course.specs.Waits.{IsContending}
-use Rattle.rail_cone.specs.declared.Cone.{Cone}
-use Rattle.rail_cone.specs.Cones.{named, of_cone}
-use Rattle.rail_cone.specs.Validity.{in_design}
-use Rattle.rail_cone.proofs.Naming.{of_design, listed_is, waits_listed}
+use Rattle.cone_spec.specs.declared.Cone.{Cone}
+use Rattle.cone_spec.specs.Cones.{named, of_cone}
+use Rattle.cone_spec.specs.Validity.{in_design}
+use Rattle.cone_spec.proofs.Naming.{of_design, listed_is, waits_listed}
 use Rattle.dispatch_run.specs.declared.traffic.Follower.{Follower}
 use Rattle.dispatch_run.specs.Followers.{IsFollower, MayGo, follows}
 use Rattle.cone_run.proofs.Ranging.{cone_sound}

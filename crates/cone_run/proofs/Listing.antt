@@ -9,12 +9,12 @@ use Rattle.rail_base.specs.Members.{all_pairs}
 use Rattle.rail_base.proofs.Members.{In, and_left, and_right, and_both, in_filter, list_all_at, list_any_gives}
 use Rattle.rail_base.proofs.Lists.{in_map, in_filter_back, list_all_from}
 use Rattle.rail_spec.specs.Plans.{is_command}
-use Rattle.plan_clauses.specs.Variables.{pairs}
-use Rattle.rail_cone.specs.declared.Cone.{Cone}
-use Rattle.rail_cone.specs.Cones.{is_listed, is_pair, of_cone}
-use Rattle.rail_cone.specs.Validity.{in_design, is_before, is_pair_before}
-use Rattle.rail_cone.proofs.Naming.{listed_waits, waits_listed}
-use Rattle.rail_cone.proofs.Saying.{is_command_same, is_command_self}
+use Rattle.clause_spec.specs.Variables.{pairs}
+use Rattle.cone_spec.specs.declared.Cone.{Cone}
+use Rattle.cone_spec.specs.Cones.{is_listed, is_pair, of_cone}
+use Rattle.cone_spec.specs.Validity.{in_design, is_before, is_pair_before}
+use Rattle.cone_spec.proofs.Naming.{listed_waits, waits_listed}
+use Rattle.cone_spec.proofs.Saying.{is_command_same, is_command_self}
 use Rattle.rail_spec.specs.Plans.{contend}
 use Rattle.cone_form.proofs.Orders.{Less, less, from_less, not_both, PairLess, pair_less}
 use Rattle.cone_form.proofs.Sorted.{all_pairs_filter, all_pairs_map, pairs_sorted}

@@ -18,12 +18,12 @@ use Rattle.rail_spec.specs.Dispatches.{granted_after, speed_with, moved, of_plan
 use Rattle.rail_laws.proofs.MotionLaws.{permitted_after, next_speed_permitted}
 use Rattle.rail_laws.proofs.UnderWay.{IsSound, Travels, still}
 use Rattle.rail_course.specs.Tracks.{routes_at}
-use Rattle.rail_cone.specs.declared.Cone.{Cone}
-use Rattle.rail_cone.specs.declared.ConeTrain.{ConeTrain}
-use Rattle.rail_cone.specs.Cones.{named, free_path, of_cone}
-use Rattle.rail_cone.specs.Validity.{in_design}
-use Rattle.rail_cone.proofs.Naming.{of_design, proper}
-use Rattle.rail_cone.proofs.Running.{Moves, Idles, after_tick, idle_at_first, granted_after_most, granted_on_path}
+use Rattle.cone_spec.specs.declared.Cone.{Cone}
+use Rattle.cone_spec.specs.declared.ConeTrain.{ConeTrain}
+use Rattle.cone_spec.specs.Cones.{named, free_path, of_cone}
+use Rattle.cone_spec.specs.Validity.{in_design}
+use Rattle.cone_spec.proofs.Naming.{of_design, proper}
+use Rattle.cone_spec.proofs.Running.{Moves, Idles, after_tick, idle_at_first, granted_after_most, granted_on_path}
 use Rattle.dispatch_run.specs.Followers.{CanMove}
 use Rattle.cone_run.specs.Runs.{last_tick}
 use Rattle.cone_run.proofs.Pathing.{one_path, path_is}

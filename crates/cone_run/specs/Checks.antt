@@ -4,8 +4,8 @@ use Rattle.rail_base.specs.declared.station.Station.{Station}
 use Rattle.rail_base.specs.declared.route.Route.{Route}
 use Rattle.rail_base.specs.Routes.{IsRoute}
 use Rattle.rail_base.specs.Stations.{IsTrain}
-use Rattle.rail_cone.specs.declared.ConeTrain.{ConeTrain}
-use Rattle.rail_cone.specs.declared.Cone.{Cone}
+use Rattle.cone_spec.specs.declared.ConeTrain.{ConeTrain}
+use Rattle.cone_spec.specs.declared.Cone.{Cone}
 use Rattle.cone_run.specs.Runs.{last_tick}
 
 -- a horizon within the run, a train and routes that are there

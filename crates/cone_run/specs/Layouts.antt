@@ -18,10 +18,10 @@ use Rattle.rail_course.specs.declared.waits.Wait.{Wait}
 use Rattle.rail_course.specs.Itineraries.{wait_in}
 use Rattle.rail_course.specs.Itineraries as itineraries
 use Rattle.rail_course.specs.Journeys.{AreJourneys}
-use Rattle.rail_cone.specs.declared.ConeFault.{ConeFault}
-use Rattle.rail_cone.specs.declared.ConeTrain.{ConeTrain}
-use Rattle.rail_cone.specs.Cones.{named, of_cone}
-use Rattle.rail_cone.specs.Validity as validity
+use Rattle.cone_spec.specs.declared.ConeFault.{ConeFault}
+use Rattle.cone_spec.specs.declared.ConeTrain.{ConeTrain}
+use Rattle.cone_spec.specs.Cones.{named, of_cone}
+use Rattle.cone_spec.specs.Validity as validity
 use Rattle.dispatch_run.specs.declared.traffic.Follower.{Follower}
 use Rattle.dispatch_run.specs.Followers.{AreFollowers}
 use Rattle.cone_run.specs.declared.layout.ConeLayout.{ConeLayout}

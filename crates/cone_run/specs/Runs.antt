@@ -3,12 +3,12 @@ use Rattle.std.specs.Prelude.{ℕ, ◌&&◌, if◌then◌else◌, List, map, fol
 use Rattle.std.specs.List.{list_all}
 use Rattle.rail_base.specs.declared.station.TrainNo.{TrainNo}
 use Rattle.interlocking.specs.declared.railway.Interlocking.{Interlocking}
-use Rattle.rail_cone.specs.declared.ConeTrain.{ConeTrain}
-use Rattle.rail_cone.specs.declared.Cone.{Cone}
-use Rattle.rail_cone.specs.declared.ConeFault.{ConeFault}
-use Rattle.rail_cone.specs.Cones.{named, of_cone}
-use Rattle.rail_cone.specs.Validity.{fault_of, free_granted, holder_fits, cone_visit}
-use Rattle.dispatch_quiet.specs.Histories.{history_at}
+use Rattle.cone_spec.specs.declared.ConeTrain.{ConeTrain}
+use Rattle.cone_spec.specs.declared.Cone.{Cone}
+use Rattle.cone_spec.specs.declared.ConeFault.{ConeFault}
+use Rattle.cone_spec.specs.Cones.{named, of_cone}
+use Rattle.cone_spec.specs.Validity.{fault_of, free_granted, holder_fits, cone_visit}
+use Rattle.quiet_spec.specs.Histories.{history_at}
 use Rattle.rail_base.specs.declared.history.TrainHistory.{TrainHistory}
 
 -- the last tick of a cone's run: the greatest horizon

@@ -8,7 +8,7 @@ use crate::checked::ConeRun;
 use crate::layout::ConeLayout;
 use crate::paths::free_paths;
 use cone_form::{Contention, is_in_design};
-use rail_cone::{Cone, ConeFault};
+use cone_spec::{Cone, ConeFault};
 use rail_course::{Itineraries, TrainPaths};
 use std::alloc::{AllocError, Global};
 

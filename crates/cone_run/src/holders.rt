@@ -2,7 +2,7 @@
 
 ghost use Rattle.std.specs.Prelude.{◌≡◌, ◌≤◌, true, Some};
 ghost use Rattle.rail_base.specs.Routes.{IsRoute};
-ghost use Rattle.rail_cone.specs.Cones.{all_free, is_listed};
+ghost use Rattle.cone_spec.specs.Cones.{all_free, is_listed};
 ghost use Rattle.cone_run.specs.Runs.{last_tick};
 ghost use Rattle.cone_run.specs.Layouts.{all_granted, all_holders_fit, free_granted, has_cleared, holder_fits};
 ghost use Rattle.cone_run.specs.Layouts.{holder_needed, holds_up, just_granted, routes_in};
@@ -13,7 +13,7 @@ use crate::train::TrainRun;
 use crate::waits::horizon_of;
 use rail_base::plan::Command;
 use rail_base::route::{RouteNo, route_at};
-use rail_cone::ConeTrain;
+use cone_spec::ConeTrain;
 
 impl ConeRun<'_> {
     /// Whether all free commands are granted.

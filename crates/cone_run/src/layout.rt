@@ -3,10 +3,10 @@
 ghost use Rattle.std.specs.Prelude.{◌≡◌, true, map};
 ghost use Rattle.rail_base.specs.Stations.{trains};
 ghost use Rattle.cone_form.specs.Fits.{fits};
-ghost use Rattle.rail_cone.specs.Cones.{free_path};
+ghost use Rattle.cone_spec.specs.Cones.{free_path};
 
 use cone_form::Contention;
-use rail_cone::Cone;
+use cone_spec::Cone;
 use rail_course::TrainPaths;
 
 /// A cone that speaks of the design, and the courses that its free commands give the trains.

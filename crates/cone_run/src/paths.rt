@@ -2,7 +2,7 @@
 
 ghost use Rattle.std.specs.Prelude.{◌≡◌, true, IfOk};
 ghost use Rattle.rail_course.specs.Tracks.{ArePaths};
-ghost use Rattle.rail_cone.specs.Cones.{free_path};
+ghost use Rattle.cone_spec.specs.Cones.{free_path};
 ghost use Rattle.cone_form.specs.Fits.{fits};
 
 use cone_form::free_path;
@@ -10,7 +10,7 @@ use interlocking::Interlocking;
 use rail_base::list::List;
 use rail_base::route::RouteNo;
 use rail_base::station::TrainNo;
-use rail_cone::Cone;
+use cone_spec::Cone;
 use std::alloc::{AllocError, Global};
 
 /// The paths that a cone's free commands give all trains, in file order.

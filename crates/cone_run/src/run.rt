@@ -1,8 +1,8 @@
 //! The run of a cone, from event to event.
 
 ghost use Rattle.std.specs.Prelude.{◌≡◌, ◌≤◌, true, IfOk};
-ghost use Rattle.rail_cone.specs.Cones.{of_cone};
-ghost use Rattle.dispatch_quiet.specs.Histories.{history_at};
+ghost use Rattle.cone_spec.specs.Cones.{of_cone};
+ghost use Rattle.quiet_spec.specs.Histories.{history_at};
 ghost use Rattle.rail_spec.specs.Dispatches.{Dispatch};
 ghost use Rattle.dispatch_run.specs.Followers.{IsTraffic};
 ghost use Rattle.cone_form.specs.Fits.{fits};
@@ -15,7 +15,7 @@ use cone_form::Contention;
 use dispatch_run::Traffic;
 use rail_base::history::{History, TrainHistory};
 use rail_base::list::List;
-use rail_cone::Cone;
+use cone_spec::Cone;
 use rail_course::{Itineraries, TrainPaths};
 use std::alloc::{AllocError, Global};
 

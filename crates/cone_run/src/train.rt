@@ -3,7 +3,7 @@
 ghost use Rattle.cone_run.specs.Layouts.{IsEntryOf};
 
 use crate::checked::ConeRun;
-use rail_cone::ConeTrain;
+use cone_spec::ConeTrain;
 
 /// What a cone says of one of its trains, with the run of the cone.
 #[derive(Clone, Copy)]

@@ -12,7 +12,7 @@ use crate::paths::free_paths;
 use crate::waits::horizon_of;
 use cone_form::Contention;
 use rail_base::station::TrainNo;
-use rail_cone::Cone;
+use cone_spec::Cone;
 use rail_course::{Itineraries, TrainPaths};
 use std::alloc::{AllocError, Global};
 

@@ -3,14 +3,14 @@
 ghost use Rattle.std.specs.Prelude.{◌≡◌, IfOk, map};
 ghost use Rattle.rail_base.specs.Routes.{IsRoute};
 ghost use Rattle.rail_base.specs.Stations.{IsTrain};
-ghost use Rattle.rail_cone.specs.Cones.{named};
+ghost use Rattle.cone_spec.specs.Cones.{named};
 ghost use Rattle.cone_run.specs.Layouts.{AreFollowersOf, AreJourneysOf, train_waits_in, waits_in};
 
 use crate::layout::ConeLayout;
 use dispatch_run::Follower;
 use rail_base::plan::Command;
 use rail_base::station::TrainNo;
-use rail_cone::Cone;
+use cone_spec::Cone;
 use rail_course::{Journey, Wait};
 use std::alloc::{AllocError, Global};
 

@@ -10,8 +10,8 @@ use Rattle.rail_base.specs.declared.plan.Violation.TheVariants as violation
 use Rattle.rail_base.specs.Routes.{route_at, shared}
 use Rattle.rail_base.specs.Stations.{horizon, order_of, within_of}
 use Rattle.rail_spec.specs.Requirements.{most_ticks}
-use Rattle.rail_cone.specs.declared.Cone.{Cone}
-use Rattle.rail_cone.specs.declared.ConeTrain.{ConeTrain}
+use Rattle.cone_spec.specs.declared.Cone.{Cone}
+use Rattle.cone_spec.specs.declared.ConeTrain.{ConeTrain}
 use Rattle.rail_base.specs.Names.{section_name, train_name}
 use Rattle.cone_words.specs.Names.{makes_text, nodes_text}
 use Rattle.cone_words.specs.Phrases.{joined, sentence, ticks_text, path_text}

@@ -15,7 +15,7 @@ use rail_base::design::Design;
 use rail_base::names::train_name;
 use rail_base::plan::{Command, Violation};
 use rail_base::station::TrainNo;
-use rail_cone::{Cone, ConeTrain};
+use cone_spec::{Cone, ConeTrain};
 use rail_text::put_number;
 use std::alloc::{AllocError, Global};
 

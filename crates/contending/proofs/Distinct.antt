@@ -9,9 +9,9 @@ use Rattle.rail_base.specs.Members.{In, Pairs}
 use Rattle.rail_base.specs.Numbering.{before_first, entry, one_to}
 use Rattle.rail_base.proofs.Members.{below_or_not, false_unless, same_bool}
 use Rattle.rail_spec.specs.Plans.{is_command, is_route}
-use Rattle.plan_clauses.specs.Variables.{is_pair}
-use Rattle.plan_clauses.proofs.Steps.{is_command_same, is_command_self}
-use Rattle.plan_clauses.proofs.Lists.{Distinct, distinct_count, distinct_flat_map, distinct_map}
+use Rattle.clause_spec.specs.Variables.{is_pair}
+use Rattle.clause_spec.proofs.Steps.{is_command_same, is_command_self}
+use Rattle.clause_spec.proofs.Lists.{Distinct, distinct_count, distinct_flat_map, distinct_map}
 use Rattle.contending.specs.Rows.{command, commands_in, first_place, AreRising, pairs_by_rows, pairs_from, pairs_of_train, rivals, rivals_of_train}
 use Rattle.contending.proofs.Placed.{first_low, first_of, in_train, pair_itself, same_pair, train_of_first}
 use Rattle.contending.proofs.Blocks.{any_same}

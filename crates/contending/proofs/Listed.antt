@@ -11,7 +11,7 @@ use Rattle.rail_base.specs.Routes.{IsRoute}
 use Rattle.rail_base.specs.Stations.{trains}
 use Rattle.rail_base.proofs.Lists.{in_count_back}
 use Rattle.rail_spec.specs.Plans.{all_commands, commands_of, contend, route_numbers}
-use Rattle.plan_clauses.specs.Variables.{pairs, pairs_of}
+use Rattle.clause_spec.specs.Variables.{pairs, pairs_of}
 use Rattle.contending.specs.Rows.{command, commands_in, pairs_by_rows, pairs_from, pairs_of_train, rivals, rivals_of_train, sharing, sharing_rows}
 use Rattle.contending.proofs.Blocks.{flat_flat, flat_mapped, flat_same}
 use Rattle.contending.proofs.Sharing.{filter_parts, length_rows, rivals_none, rivals_some, row_is}

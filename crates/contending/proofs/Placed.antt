@@ -10,8 +10,8 @@ use Rattle.rail_base.specs.Numbering.{before_first, entry, one_to}
 use Rattle.rail_base.proofs.Lists.{in_count, in_count_back, in_flat_map, in_flat_map_back, in_map, in_map_back, length-map}
 use Rattle.rail_base.proofs.Members.{and_both, and_left, and_right, below_or_not, false_unless, is_false, list_any_from, list_any_gives, not_less}
 use Rattle.rail_spec.specs.Plans.{is_command, is_route, is_train}
-use Rattle.plan_clauses.specs.Variables.{is_pair}
-use Rattle.plan_clauses.proofs.Steps.{is_command_same, is_command_self}
+use Rattle.clause_spec.specs.Variables.{is_pair}
+use Rattle.clause_spec.proofs.Steps.{is_command_same, is_command_self}
 use Rattle.contending.specs.Blocks.{counted}
 use Rattle.contending.specs.Rows.{command, commands_in, first_place, others_before, pairs_by_rows, pairs_from, pairs_of_train, place_in, rivals, rivals_of_train}
 use Rattle.contending.proofs.Blocks.{before_mapped, counted_alike, counted_scaled, filter_all, filter_none, kept_block, length_blocks, place_block}

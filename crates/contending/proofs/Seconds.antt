@@ -8,7 +8,7 @@ use Rattle.rail_base.specs.Admission.{is_from}
 use Rattle.rail_base.specs.Routes.{IsRoute}
 use Rattle.rail_base.specs.Stations.{IsTrain}
 use Rattle.rail_spec.specs.Plans.{all_commands, contend, is_command}
-use Rattle.plan_clauses.specs.Variables.{pairs}
+use Rattle.clause_spec.specs.Variables.{pairs}
 use Rattle.contending.specs.Rows.{pairs_by_rows, pairs_from, rivals, sharing, sharing_rows}
 use Rattle.contending.proofs.Listed.{pairs_are, rivals_are}
 use Rattle.contending.proofs.Placed.{kept_from, kept_nothing, not_rowed, rowed}

@@ -7,7 +7,7 @@ use Rattle.rail_base.specs.Numbering.{entry, one_to}
 use Rattle.rail_base.proofs.Lists.{length-map, pairs_count, pairs_filter, pairs_map}
 use Rattle.rail_base.proofs.Members.{below_or_not}
 use Rattle.rail_spec.specs.Plans.{route_numbers}
-use Rattle.plan_clauses.proofs.Numbers.{length-count}
+use Rattle.clause_spec.proofs.Numbers.{length-count}
 use Rattle.contending.specs.Blocks.{counted}
 use Rattle.contending.specs.Rows.{AreRising, AreRows, shares, sharing, sharing_rows}
 use Rattle.contending.proofs.Blocks.{counted_few, counted_more}

@@ -1,7 +1,7 @@
 //! The pairs of commands that contend.
 
 ghost use Rattle.std.specs.Prelude.{◌≡◌, IfOk, length};
-ghost use Rattle.plan_clauses.specs.Variables.{pairs};
+ghost use Rattle.clause_spec.specs.Variables.{pairs};
 
 use crate::rows::sharing_rows;
 use crate::sums::{sums_of, total};

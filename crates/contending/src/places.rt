@@ -4,7 +4,7 @@ ghost use Rattle.std.specs.Prelude.{◌≡◌, ◌≤◌, ◌<◌, ℕ, ◌&&◌
 ghost use Rattle.std.specs.List.{list_any, slice_get};
 ghost use Rattle.rail_base.specs.Admission.{is_from};
 ghost use Rattle.rail_spec.specs.Plans.{is_command, is_route, is_train};
-ghost use Rattle.plan_clauses.specs.Variables.{is_pair};
+ghost use Rattle.clause_spec.specs.Variables.{is_pair};
 ghost use Rattle.contending.specs.Rows.{AreRows, AreRising, AreSums, first_place, others_before, pairs_by_rows};
 
 use crate::pairs::ContendingPairs;

@@ -6,7 +6,7 @@ ghost use Rattle.rail_base.specs.Stations.{IsTrain};
 ghost use Rattle.rail_base.specs.declared.station.Station.{Station};
 ghost use Rattle.rail_base.specs.declared.route.Route.{Route};
 ghost use Rattle.rail_spec.specs.Plans.{all_commands, contend, is_command};
-ghost use Rattle.plan_clauses.specs.Variables.{pairs as contending};
+ghost use Rattle.clause_spec.specs.Variables.{pairs as contending};
 ghost use Rattle.contending.specs.Rows.{commands_in, rivals};
 
 use crate::pairs::ContendingPairs;

@@ -1,7 +1,7 @@
 //! Cones over a station with a boundary, from which an edge leads to a dead end, and one train.
 
 ghost use Rattle.std.specs.Prelude.{◌≡◌, [], ◌∷◌, false, true, pos, IfOk};
-ghost use Rattle.plan_clauses.specs.Variables.{pairs};
+ghost use Rattle.clause_spec.specs.Variables.{pairs};
 ghost use Rattle.rail_base.specs.Admission.{is_admitted};
 ghost use Rattle.rail_base.specs.declared.route.Finish.TheVariants as finish;
 ghost use Rattle.rail_base.specs.declared.route.Start.TheVariants as start;
@@ -16,7 +16,7 @@ use rail_base::list::List;
 use rail_base::plan::{Command, Violation};
 use rail_base::route::{Finish, Route, RouteNo, RouteTable, Start};
 use rail_base::station::{EdgeNo, NodeNo, SectionNo, Station, TrainNo};
-use rail_cone::{Cone, ConeTrain};
+use cone_spec::{Cone, ConeTrain};
 use std::alloc::{AllocError, Global};
 
 /// A section of 10 m.

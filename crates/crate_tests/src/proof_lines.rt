@@ -4,7 +4,7 @@ use proof_log::{Head, Line, LineFault, read_head, read_line, write_head, write_l
 use rail_base::plan::Command;
 use rail_base::route::RouteNo;
 use rail_base::station::TrainNo;
-use rail_bound::{Evidence, Requirement};
+use bound_spec::{Evidence, Requirement};
 use std::alloc::AllocError;
 
 #[test]

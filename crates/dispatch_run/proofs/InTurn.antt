@@ -19,7 +19,7 @@ use Rattle.rail_base.proofs.Lists.{length-map}
 use Rattle.rail_base.proofs.Members.{and_left, and_right, and_both, below_or_not, false_unless, map-map}
 use Rattle.rail_spec.specs.Visits.{is_passed, has_passed, pass_tick, passed, path_nodes_of_train}
 use Rattle.rail_spec.specs.Dispatches.{Dispatch, state_of, state_at}
-use Rattle.dispatch_quiet.specs.Histories.{grant_tick, granted, released, train_history}
+use Rattle.quiet_spec.specs.Histories.{grant_tick, granted, released, train_history}
 use Rattle.rail_course.specs.declared.journey.Release.{Release}
 use Rattle.rail_course.specs.declared.milestones.Milestone.{Milestone}
 use Rattle.rail_course.specs.Milestones.{AreMilestones, ComeInTurn}

@@ -10,9 +10,9 @@ use Rattle.rail_spec.specs.Motion.{SpanSeen}
 use Rattle.rail_course.specs.declared.train_path.TrainPath.{TrainPath}
 use Rattle.rail_course.specs.TrainPaths.{IsTrainPath}
 use Rattle.rail_course.specs.Tracks.{routes_at}
-use Rattle.dispatch_quiet.specs.Forecasts.{IsSeen}
-use Rattle.dispatch_quiet.specs.Histories.{history_at, train_history}
-use Rattle.dispatch_quiet.specs.Quiet.{ComesNowhere, drift}
+use Rattle.quiet_spec.specs.Forecasts.{IsSeen}
+use Rattle.quiet_spec.specs.Histories.{history_at, train_history}
+use Rattle.quiet_spec.specs.Quiet.{ComesNowhere, drift}
 use Rattle.dispatch_run.specs.declared.looks.Look.{Look}
 use Rattle.dispatch_run.specs.declared.run.Progress.{Progress}
 use Rattle.dispatch_run.specs.declared.traffic.Follower.{Follower}

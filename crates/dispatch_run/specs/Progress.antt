@@ -3,7 +3,7 @@ use Rattle.std.specs.Prelude.{◌≡◌, List}
 use Rattle.rail_base.specs.declared.station.Station.{Station}
 use Rattle.rail_base.specs.declared.route.Route.{Route}
 use Rattle.rail_spec.specs.Dispatches.{Dispatch}
-use Rattle.dispatch_quiet.specs.Histories.{history_at}
+use Rattle.quiet_spec.specs.Histories.{history_at}
 use Rattle.dispatch_run.specs.declared.run.Progress.{Progress}
 use Rattle.dispatch_run.specs.Looks.{IsKnown}
 

@@ -7,15 +7,15 @@ use Rattle.rail_base.specs.declared.route.RouteNo.{RouteNo}
 use Rattle.rail_base.specs.Routes.{route_at, shared}
 use Rattle.rail_base.specs.Stations.{horizon, order_of, within_of}
 use Rattle.rail_spec.specs.Requirements.{most_ticks}
-use Rattle.rail_bound.specs.declared.Requirement.{Requirement}
-use Rattle.rail_bound.specs.declared.Requirement.TheVariants as requirement
-use Rattle.rail_bound.specs.declared.Origin.{Origin}
-use Rattle.rail_bound.specs.declared.Origin.TheVariants as origin
-use Rattle.rail_bound.specs.declared.Place.{Place}
-use Rattle.rail_bound.specs.declared.Leg.{Leg}
-use Rattle.rail_bound.specs.declared.Bound.{Bound}
-use Rattle.rail_bound.specs.Certificates.{VisitOf, routes_of_place, kept_out, last_of_leg, visit_from, visit_to}
-use Rattle.rail_bound.specs.Validity.{first_leg, followed}
+use Rattle.bound_spec.specs.declared.Requirement.{Requirement}
+use Rattle.bound_spec.specs.declared.Requirement.TheVariants as requirement
+use Rattle.bound_spec.specs.declared.Origin.{Origin}
+use Rattle.bound_spec.specs.declared.Origin.TheVariants as origin
+use Rattle.bound_spec.specs.declared.Place.{Place}
+use Rattle.bound_spec.specs.declared.Leg.{Leg}
+use Rattle.bound_spec.specs.declared.Bound.{Bound}
+use Rattle.bound_spec.specs.Certificates.{VisitOf, routes_of_place, kept_out, last_of_leg, visit_from, visit_to}
+use Rattle.bound_spec.specs.Validity.{first_leg, followed}
 use Rattle.bound_ticks.specs.Chains.{chain_of, leg_to_release}
 use Rattle.bound_ticks.specs.Walks.{first_routes}
 use Rattle.rail_base.specs.Names.{train_name}

@@ -2,10 +2,10 @@
 use Rattle.std.specs.Prelude.{◌≡◌, ℕ, List, ◌∷◌, Option, None, Some}
 use Rattle.rail_base.specs.declared.station.Station.{Station}
 use Rattle.rail_base.specs.declared.route.Route.{Route}
-use Rattle.rail_bound.specs.declared.Leg.{Leg}
-use Rattle.rail_bound.specs.Certificates.{VisitOf, ride_of}
-use Rattle.rail_bound.specs.Rides.{release_ticks}
-use Rattle.rail_bound.specs.Validity.{ticks_from_visit, ticks_to}
+use Rattle.bound_spec.specs.declared.Leg.{Leg}
+use Rattle.bound_spec.specs.Certificates.{VisitOf, ride_of}
+use Rattle.bound_spec.specs.Rides.{release_ticks}
+use Rattle.bound_spec.specs.Validity.{ticks_from_visit, ticks_to}
 use Rattle.bound_ticks.specs.Chains.{chain_of, leg_to_release}
 use Rattle.bound_ticks.specs.Walks.{first_routes}
 

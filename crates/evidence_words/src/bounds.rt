@@ -4,8 +4,8 @@ ghost use Rattle.std.specs.Prelude.{◌≡◌, ◌≤◌, ◌++◌, ◌∷◌, [
 ghost use Rattle.std.specs.Option.{ForSome};
 ghost use Rattle.rail_base.specs.Stations.{IsTrain};
 ghost use Rattle.rail_outside.specs.Lines.{lines_of};
-ghost use Rattle.rail_bound.specs.declared.Requirement.TheVariants as requirement;
-ghost use Rattle.rail_bound.specs.Validity.{names_design, followed};
+ghost use Rattle.bound_spec.specs.declared.Requirement.TheVariants as requirement;
+ghost use Rattle.bound_spec.specs.Validity.{names_design, followed};
 ghost use Rattle.leg_targets.specs.Visits.{origin_of, visit_of};
 ghost use Rattle.bound_ticks.specs.Walks.{IsLeg};
 ghost use Rattle.bound_ticks.specs.Claims.{requirement_fits};
@@ -28,7 +28,7 @@ use rail_base::design::Design;
 use rail_base::names::train_name;
 use rail_base::plan::Command;
 use rail_base::station::TrainNo;
-use rail_bound::{Bound, Leg, Origin, Requirement};
+use bound_spec::{Bound, Leg, Origin, Requirement};
 use rail_text::put_number;
 use std::alloc::{AllocError, Global};
 

@@ -14,7 +14,7 @@ use interlocking::Interlocking;
 use leg_targets::Visit;
 use rail_base::design::Design;
 use rail_base::names::train_name;
-use rail_bound::{Leg, first_train, last_routes};
+use bound_spec::{Leg, first_train, last_routes};
 use rail_text::put_number;
 use std::alloc::{AllocError, Global};
 

@@ -1,7 +1,7 @@
 //! The sentences about the places of legs. An error is want of memory.
 
 ghost use Rattle.std.specs.Prelude.{◌≡◌, ◌++◌, codes, IfOk, OnOk};
-ghost use Rattle.rail_bound.specs.Certificates.{kept_out};
+ghost use Rattle.bound_spec.specs.Certificates.{kept_out};
 ghost use Rattle.cone_words.specs.Phrases.{each_after, joined};
 ghost use Rattle.evidence_words.specs.Bounds.{leg_text, meeting_text, only, place_text, unused_text};
 
@@ -10,7 +10,7 @@ use interlocking::Interlocking;
 use rail_base::design::Design;
 use rail_base::names::train_name;
 use rail_base::route::RouteNo;
-use rail_bound::{Leg, Place, routes_of};
+use bound_spec::{Leg, Place, routes_of};
 use std::alloc::{AllocError, Global};
 
 /// A leg: its train, and its places.

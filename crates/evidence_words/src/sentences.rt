@@ -7,7 +7,7 @@ ghost use Rattle.evidence_words.specs.Told.{evidence_sentences, names_what_is_th
 use crate::bounds::push_bound;
 use cone_words::push_cone;
 use interlocking::Interlocking;
-use rail_bound::Evidence;
+use bound_spec::Evidence;
 use std::alloc::{AllocError, Global};
 
 /// Appends the sentences about a cone or a bound, each with its LF, that a file's line of this number gives. Of a bound the

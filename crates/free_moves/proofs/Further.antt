@@ -6,7 +6,7 @@ use Rattle.rail_base.specs.declared.route.RouteNo.{RouteNo}
 use Rattle.rail_base.specs.Routes.{route_at}
 use Rattle.rail_base.proofs.Members.{and_left, and_right}
 use Rattle.rail_spec.specs.Plans.{is_start, goes_on}
-use Rattle.rail_cone.specs.Clauses.{goes_further}
+use Rattle.cone_spec.specs.Clauses.{goes_further}
 
 -- after routes of which the last goes on or not
 abbrev pub further_after : Route → Bool → List Route → Bool

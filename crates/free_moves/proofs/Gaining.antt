@@ -6,8 +6,8 @@ use Rattle.rail_motion.specs.Track.{stretches_of, IsRising}
 use Rattle.rail_motion.proofs.Rising.{ends_rise}
 use Rattle.rail_base.specs.Numbering.{greatest}
 use Rattle.rail_spec.specs.Motion.{MotorSeen, SpanSeen}
-use Rattle.rail_free.specs.Free.{rise, behind, is_free, free}
-use Rattle.rail_free.proofs.Lower.{lower, rise_is}
+use Rattle.free_spec.specs.Free.{rise, behind, is_free, free}
+use Rattle.free_spec.proofs.Lower.{lower, rise_is}
 
 pub rise_found : (a u l gap : ℕ) → 1 ≤ a → gap ≡ u - (l + 1) → 2 * rise a u l + a * (gap / a * (gap / a + 1)) ≡ 2 * (gap / a * u)
 rise_found a u l gap gains same = subst (λ n. 2 * rise a u l + a * (n / a * (n / a + 1)) ≡ 2 * (n / a * u)) (sym same) (rise_is a u l gains)

@@ -14,12 +14,12 @@ use Rattle.interlocking.specs.declared.railway.Interlocking.{Interlocking}
 use Rattle.rail_spec.specs.Track.{routes_of}
 use Rattle.rail_laws.proofs.Admits.{entry_is}
 use Rattle.rail_laws.proofs.Small.{short_route}
-use Rattle.rail_cone.specs.Clauses.{goes_further}
+use Rattle.cone_spec.specs.Clauses.{goes_further}
 use Rattle.rail_course.specs.Tracks.{routes_at, path_length}
 use Rattle.rail_spec.specs.Motion.{MotorSeen, SpanSeen}
 use Rattle.rail_spec.specs.Dispatches.{rates, stretches}
-use Rattle.rail_free.specs.Free.{free, steps, steps_from_stop}
-use Rattle.rail_free.specs.Legs.{Leg, least_ticks, least_ticks_waited, least_over, least_whatever_follows, following, with_next}
+use Rattle.free_spec.specs.Free.{free, steps, steps_from_stop}
+use Rattle.free_spec.specs.Legs.{Leg, least_ticks, least_ticks_waited, least_over, least_whatever_follows, following, with_next}
 
 -- ---- lengths
 

@@ -1,7 +1,7 @@
 -- Counting the steps of free moves one at a time.
 use Rattle.std.proofs.Common.{◌≡◌, ℕ, zero, suc, ◌+◌, ◌-◌, ◌*◌, ◌/◌, ◌≤◌, ◌<◌, min, Bool, true, false, if◌then◌else◌, nat_le, refl, sym, ap, ap₂, ◌∙◌, arith, leb-true, mul-le-mul, le_refl}
-use Rattle.rail_free.specs.Free.{steps, steps_from_stop}
-use Rattle.rail_free.proofs.Lower.{stuck}
+use Rattle.free_spec.specs.Free.{steps, steps_from_stop}
+use Rattle.free_spec.proofs.Lower.{stuck}
 
 -- where it is not reached a test of it is not needed
 if_not_there : (b : Bool) (x y n : ℕ) → nat_le y x ≡ b → x < y → (if b then 0 else n) ≡ n

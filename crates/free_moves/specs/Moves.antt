@@ -2,7 +2,7 @@
 use Rattle.std.specs.Prelude.{ℕ, Bool}
 use Rattle.rail_motion.specs.Motor.{rates_of}
 use Rattle.rail_motion.specs.Track.{stretches_of, end_of}
-use Rattle.rail_free.specs.Free.{is_free, free}
+use Rattle.free_spec.specs.Free.{is_free, free}
 use Rattle.free_moves.specs.declared.moves.LegTrack.{LegTrack}
 
 -- whether a move from a place is free

@@ -1,6 +1,6 @@
 -- The ticks of a trip.
 use Rattle.std.specs.Prelude.{ℕ, if◌then◌else◌}
-use Rattle.rail_free.specs.Legs.{Leg, least_ticks, least_ticks_waited}
+use Rattle.free_spec.specs.Legs.{Leg, least_ticks, least_ticks_waited}
 use Rattle.free_moves.specs.declared.trips.Trip.{Trip}
 
 -- the least on a leg

@@ -4,9 +4,9 @@ ghost use Rattle.std.specs.Prelude.{◌≡◌, ◌<◌, ◌^◌, All, false, map
 ghost use Rattle.std.specs.List.{list_any};
 ghost use Rattle.rail_base.specs.Routes.{IsRoute, route_at, exits};
 ghost use Rattle.rail_spec.specs.Plans.{goes_on, is_start};
-ghost use Rattle.rail_cone.specs.Clauses.{goes_further};
-ghost use Rattle.rail_cone.specs.Validity.{from_boundary};
-ghost use Rattle.rail_free.specs.Legs.{is_dead};
+ghost use Rattle.cone_spec.specs.Clauses.{goes_further};
+ghost use Rattle.cone_spec.specs.Validity.{from_boundary};
+ghost use Rattle.free_spec.specs.Legs.{is_dead};
 ghost use Rattle.rail_course.specs.Tracks.{path_length};
 
 use interlocking::goes_on;

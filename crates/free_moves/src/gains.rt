@@ -2,7 +2,7 @@
 
 ghost use Rattle.std.specs.Prelude.{◌≡◌, ◌<◌, ◌≤◌, ◌+◌, ◌-◌, ◌^◌, not, ◌&&◌, ◌||◌, nat_abs, nat_lt, nat_le};
 ghost use Rattle.rail_motion.specs.Track.{IsRising, stretches_of};
-ghost use Rattle.rail_free.specs.Free.{behind, rise};
+ghost use Rattle.free_spec.specs.Free.{behind, rise};
 
 use rail_motion::Span;
 

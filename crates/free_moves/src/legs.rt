@@ -5,10 +5,10 @@ ghost use Rattle.std.specs.Option.{ForSome};
 ghost use Rattle.rail_motion.specs.Ranges.{IsPlace};
 ghost use Rattle.rail_motion.specs.Track.{end_of};
 ghost use Rattle.rail_base.specs.Routes.{IsRoute, route_at};
-ghost use Rattle.rail_cone.specs.Validity.{from_boundary};
+ghost use Rattle.cone_spec.specs.Validity.{from_boundary};
 ghost use Rattle.rail_course.specs.Tracks.{routes_at, path_length};
-ghost use Rattle.rail_free.specs.Free.{steps, steps_from_stop};
-ghost use Rattle.rail_free.specs.Legs.{following, least_over, least_whatever_follows, with_next};
+ghost use Rattle.free_spec.specs.Free.{steps, steps_from_stop};
+ghost use Rattle.free_spec.specs.Legs.{following, least_over, least_whatever_follows, with_next};
 ghost use Rattle.free_moves.specs.Moves.{free_on};
 ghost use Rattle.free_moves.specs.Trips.{trip_ticks};
 

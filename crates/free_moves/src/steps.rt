@@ -1,7 +1,7 @@
 //! Steps of free moves.
 
 ghost use Rattle.std.specs.Prelude.{◌≡◌, ◌<◌, ◌≤◌, ◌+◌, ◌^◌, nat_abs};
-ghost use Rattle.rail_free.specs.Free.{steps, steps_from_stop};
+ghost use Rattle.free_spec.specs.Free.{steps, steps_from_stop};
 ghost use Rattle.free_moves.specs.Moves.{free_on};
 
 use crate::moves::LegTrack;

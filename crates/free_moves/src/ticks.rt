@@ -3,7 +3,7 @@
 ghost use Rattle.std.specs.Prelude.{◌≡◌, ◌<◌, ◌≤◌, ◌^◌, All, IfOk, length};
 ghost use Rattle.rail_base.specs.Routes.{IsRoute};
 ghost use Rattle.rail_base.specs.Stations.{IsTrain};
-ghost use Rattle.rail_bound.specs.Rides.{on_ticks, run_ticks};
+ghost use Rattle.bound_spec.specs.Rides.{on_ticks, run_ticks};
 ghost use Rattle.rail_course.specs.Tracks.{routes_at};
 
 use crate::trips::Trip;

@@ -3,7 +3,7 @@ use Rattle.std.proofs.Common.{◌≡◌, ℕ, ◌≤◌, max, true, false, if◌
 use Rattle.rail_base.specs.declared.station.SectionNo.{SectionNo}
 use Rattle.rail_base.specs.declared.route.Route.{Route}
 use Rattle.rail_base.specs.Routes.{has_section}
-use Rattle.rail_bound.specs.Rides.{greatest_of}
+use Rattle.bound_spec.specs.Rides.{greatest_of}
 
 -- those of the parts that the other route has
 abbrev pub shared_of : Route → List (SectionNo × ℤ) → List SectionNo

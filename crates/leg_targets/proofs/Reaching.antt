@@ -15,8 +15,8 @@ use Rattle.rail_laws.proofs.Admits.{entry_is}
 use Rattle.rail_laws.proofs.Small.{short_route}
 use Rattle.rail_course.specs.Tracks.{routes_at}
 use Rattle.rail_course.proofs.Granting.{laid_out}
-use Rattle.rail_bound.specs.Certificates.{VisitOf, first_in, target, visit_offset}
-use Rattle.rail_bound.specs.Rides.{greatest_of, release_place}
+use Rattle.bound_spec.specs.Certificates.{VisitOf, first_in, target, visit_offset}
+use Rattle.bound_spec.specs.Rides.{greatest_of, release_place}
 use Rattle.leg_targets.proofs.Greatest.{greatest_most}
 use Rattle.leg_targets.proofs.Parts.{rest_is}
 

@@ -1,6 +1,6 @@
 -- Visits as the definitions have them.
 use Rattle.std.specs.Prelude.{Option, option_map}
-use Rattle.rail_bound.specs.Certificates.{VisitOf}
+use Rattle.bound_spec.specs.Certificates.{VisitOf}
 use Rattle.leg_targets.specs.declared.targets.Visit.{Visit}
 
 -- the visit of a train

@@ -7,8 +7,8 @@ ghost use Rattle.rail_base.specs.Routes.{IsRoute, release_offset, route_at, shar
 ghost use Rattle.rail_base.specs.Stations.{IsTrain};
 ghost use Rattle.rail_spec.specs.Plans.{has_node};
 ghost use Rattle.rail_course.specs.Tracks.{routes_at};
-ghost use Rattle.rail_bound.specs.Certificates.{first_in, nodes_of_visit, target, visit_offset, visit_place};
-ghost use Rattle.rail_bound.specs.Rides.{greatest_of, release_place};
+ghost use Rattle.bound_spec.specs.Certificates.{first_in, nodes_of_visit, target, visit_offset, visit_place};
+ghost use Rattle.bound_spec.specs.Rides.{greatest_of, release_place};
 ghost use Rattle.leg_targets.specs.Visits.{visit_of};
 
 use interlocking::{Interlocking, has_node};

@@ -1,12 +1,12 @@
 -- The reasons in words.
 use Rattle.std.specs.Prelude.{ℕ, List, codes}
-use Rattle.rail_bound.specs.declared.BoundFault.{BoundFault}
-use Rattle.rail_bound.specs.declared.BoundFault.TheVariants.{BoundNotInDesign, PlaceNotCovered, BoundNotShown}
-use Rattle.rail_bound.specs.declared.EvidenceFault.{EvidenceFault}
-use Rattle.rail_bound.specs.declared.EvidenceFault.TheVariants as of
-use Rattle.rail_cone.specs.declared.ConeFault.{ConeFault}
-use Rattle.rail_cone.specs.declared.ConeFault.TheVariants.{PathNotInDesign, CommandNotGranted, HolderNotValid}
-use Rattle.rail_cone.specs.declared.ConeFault.TheVariants.{ViolationNotShown}
+use Rattle.bound_spec.specs.declared.BoundFault.{BoundFault}
+use Rattle.bound_spec.specs.declared.BoundFault.TheVariants.{BoundNotInDesign, PlaceNotCovered, BoundNotShown}
+use Rattle.bound_spec.specs.declared.EvidenceFault.{EvidenceFault}
+use Rattle.bound_spec.specs.declared.EvidenceFault.TheVariants as of
+use Rattle.cone_spec.specs.declared.ConeFault.{ConeFault}
+use Rattle.cone_spec.specs.declared.ConeFault.TheVariants.{PathNotInDesign, CommandNotGranted, HolderNotValid}
+use Rattle.cone_spec.specs.declared.ConeFault.TheVariants.{ViolationNotShown}
 use Rattle.log_checker.specs.declared.check_result.Reason.{Reason}
 use Rattle.log_checker.specs.declared.check_result.Reason.TheVariants.{Text, HeadDiffers, BaseTooLarge, UnknownClause}
 use Rattle.log_checker.specs.declared.check_result.Reason.TheVariants.{HintNotUnit, NoConflict, DropRefused, NotRefuted, NoFinalLine}

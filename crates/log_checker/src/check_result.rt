@@ -3,8 +3,8 @@
 ghost use Rattle.std.specs.Prelude.{◌≡◌};
 ghost use Rattle.log_checker.specs.Words.{bound_words, cone_words, evidence_words, words_of};
 
-use rail_bound::{BoundFault, EvidenceFault};
-use rail_cone::ConeFault;
+use bound_spec::{BoundFault, EvidenceFault};
+use cone_spec::ConeFault;
 
 /// Why a line of a proof file is bad.
 #[derive(Clone, Copy, PartialEq, Eq, Debug)]

@@ -10,7 +10,7 @@ ghost use Rattle.log_checker.specs.declared.database.Fault.TheVariants.{Bad};
 
 use crate::check_result::Reason;
 use crate::refuter::{RefuteFault, Refuter};
-use rail_bound::Evidence;
+use bound_spec::Evidence;
 use rup_check::{Follow, Marks, follows};
 use sat_clause::{Arena, Lit};
 use std::alloc::{AllocError, Global};

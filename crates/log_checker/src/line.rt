@@ -12,7 +12,7 @@ use crate::check_result::Reason;
 use crate::database::{ClauseDatabase, Fault};
 use crate::refuter::Refuter;
 use proof_log::{Head, Line, LineFault, read_line};
-use rail_bound::Evidence;
+use bound_spec::Evidence;
 use rail_text::Piece;
 use rup_check::Marks;
 use sat_clause::Lit;

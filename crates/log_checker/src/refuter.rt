@@ -1,12 +1,12 @@
 //! Whoever says what cones and bounds show.
 
 ghost use Rattle.std.specs.Prelude.{◌≡◌, List, Result, IfOk, Ok, Err};
-ghost use Rattle.rail_bound.specs.declared.Evidence.{Evidence};
-ghost use Rattle.rail_bound.specs.declared.EvidenceFault.{EvidenceFault};
+ghost use Rattle.bound_spec.specs.declared.Evidence.{Evidence};
+ghost use Rattle.bound_spec.specs.declared.EvidenceFault.{EvidenceFault};
 ghost use Rattle.sat_clause.specs.declared.lit.Lit.{Lit};
 ghost use Rattle.log_checker.specs.declared.refuter.RefuteFault.TheVariants.{Memory, NotRefuted};
 
-use rail_bound::{Evidence, EvidenceFault};
+use bound_spec::{Evidence, EvidenceFault};
 use sat_clause::Lit;
 use std::alloc::{AllocError, Global};
 

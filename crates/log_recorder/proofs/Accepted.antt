@@ -8,8 +8,8 @@ use Rattle.sat_core.proofs.Forgets.{without-length}
 use Rattle.rail_text.specs.Pieces.{pieces, pieces_from}
 use Rattle.rail_text.specs.Pieces.{Line as Piece}
 use Rattle.sat_clause.specs.declared.lit.Lit.{Lit}
-use Rattle.rail_bound.specs.declared.Evidence.{Evidence}
-use Rattle.rail_bound.specs.declared.EvidenceFault.{EvidenceFault}
+use Rattle.bound_spec.specs.declared.Evidence.{Evidence}
+use Rattle.bound_spec.specs.declared.EvidenceFault.{EvidenceFault}
 use Rattle.proof_log.specs.declared.head.Head.{Head}
 use Rattle.sat_clause.specs.Clauses.{Store, live_clause, without}
 use Rattle.sat_trail.specs.Attached.{is_among}

@@ -1,7 +1,7 @@
 -- A log with more lines at its end.
 use Rattle.std.proofs.Common.{◌≡◌, ℕ, suc, ◌+◌, List, [], ◌∷◌, ◌++◌, map, flat_map, Result, inl, inr, refl, sym, ap, ◌∙◌, arith, append_assoc}
-use Rattle.rail_bound.specs.declared.Evidence.{Evidence}
-use Rattle.rail_bound.specs.declared.EvidenceFault.{EvidenceFault}
+use Rattle.bound_spec.specs.declared.Evidence.{Evidence}
+use Rattle.bound_spec.specs.declared.EvidenceFault.{EvidenceFault}
 use Rattle.proof_log.specs.declared.head.Head.{Head}
 use Rattle.sat_clause.specs.declared.lit.Lit.{Lit}
 use Rattle.sat_clause.specs.Clauses.{Store}

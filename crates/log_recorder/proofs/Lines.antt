@@ -10,20 +10,20 @@ use Rattle.rail_text.specs.Pieces.{is_lf, pieces_of_parts, pieces_from}
 use Rattle.rail_base.specs.declared.plan.Command.{Command}
 use Rattle.rail_base.specs.declared.plan.Violation.{Violation}
 use Rattle.rail_base.specs.declared.plan.Violation.TheVariants.{Path, Within, Order, Grant, Visit}
-use Rattle.rail_cone.specs.declared.Cone.{Cone}
-use Rattle.rail_cone.specs.declared.ConeTrain.{ConeTrain}
+use Rattle.cone_spec.specs.declared.Cone.{Cone}
+use Rattle.cone_spec.specs.declared.ConeTrain.{ConeTrain}
 use Rattle.sat_clause.specs.declared.lit.Lit.{Lit}
 use Rattle.rail_base.specs.declared.route.RouteNo.{RouteNo}
-use Rattle.rail_bound.specs.declared.Requirement.{Requirement}
-use Rattle.rail_bound.specs.declared.Requirement.TheVariants as requirements
-use Rattle.rail_bound.specs.declared.Origin.{Origin}
-use Rattle.rail_bound.specs.declared.Origin.TheVariants as origins
-use Rattle.rail_bound.specs.declared.Place.{Place}
-use Rattle.rail_bound.specs.declared.Place.TheVariants as places
-use Rattle.rail_bound.specs.declared.Leg.{Leg}
-use Rattle.rail_bound.specs.declared.Bound.{Bound}
-use Rattle.rail_bound.specs.declared.Evidence.{Evidence}
-use Rattle.rail_bound.specs.declared.Evidence.TheVariants as evidence
+use Rattle.bound_spec.specs.declared.Requirement.{Requirement}
+use Rattle.bound_spec.specs.declared.Requirement.TheVariants as requirements
+use Rattle.bound_spec.specs.declared.Origin.{Origin}
+use Rattle.bound_spec.specs.declared.Origin.TheVariants as origins
+use Rattle.bound_spec.specs.declared.Place.{Place}
+use Rattle.bound_spec.specs.declared.Place.TheVariants as places
+use Rattle.bound_spec.specs.declared.Leg.{Leg}
+use Rattle.bound_spec.specs.declared.Bound.{Bound}
+use Rattle.bound_spec.specs.declared.Evidence.{Evidence}
+use Rattle.bound_spec.specs.declared.Evidence.TheVariants as evidence
 use Rattle.proof_log.specs.declared.head.Head.{Head}
 use Rattle.proof_log.specs.declared.head.Head.TheVariants as heads
 use Rattle.proof_log.specs.Heads.{head_text, keeps_head}

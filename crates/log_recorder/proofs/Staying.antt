@@ -1,7 +1,7 @@
 -- What was not derived stays live.
 use Rattle.std.proofs.Common.{◌≡◌, ℕ, ◌+◌, ◌≤◌, true, List, [], ◌∷◌, ◌++◌, length, Some, Result, inl, inr, ◌∙◌, subst, arith, length-append}
-use Rattle.rail_bound.specs.declared.Evidence.{Evidence}
-use Rattle.rail_bound.specs.declared.EvidenceFault.{EvidenceFault}
+use Rattle.bound_spec.specs.declared.Evidence.{Evidence}
+use Rattle.bound_spec.specs.declared.EvidenceFault.{EvidenceFault}
 use Rattle.proof_log.specs.declared.head.Head.{Head}
 use Rattle.sat_clause.specs.declared.lit.Lit.{Lit}
 use Rattle.sat_clause.specs.Clauses.{Store, live_clause, without}

@@ -1,7 +1,7 @@
 -- What a search shows, finished or not.
 use Rattle.std.specs.Prelude.{ℕ, ◌≡◌, true, List, [], ◌∷◌, ◌++◌, Result, Some}
-use Rattle.rail_bound.specs.declared.Evidence.{Evidence}
-use Rattle.rail_bound.specs.declared.EvidenceFault.{EvidenceFault}
+use Rattle.bound_spec.specs.declared.Evidence.{Evidence}
+use Rattle.bound_spec.specs.declared.EvidenceFault.{EvidenceFault}
 use Rattle.proof_log.specs.declared.head.Head.{Head}
 use Rattle.proof_log.specs.Heads.{keeps_head}
 use Rattle.sat_clause.specs.declared.lit.Lit.{Lit}

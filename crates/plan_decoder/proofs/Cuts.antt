@@ -2,7 +2,7 @@
 use Rattle.std.proofs.Common.{◌≡◌, ℕ, zero, suc, ◌+◌, ◌-◌, Bool, true, false, List, [], ◌∷◌, ◌++◌, length, take, Some, refl, ap, sym, ◌∙◌, arith}
 use Rattle.std.specs.Prelude.{slice_get, IsTrue, IsFalse}
 use Rattle.rail_base.specs.declared.plan.Command.{Command}
-use Rattle.plan_clauses.specs.Models.{cut_off, with_step}
+use Rattle.clause_spec.specs.Models.{cut_off, with_step}
 
 -- an empty step more at the end is cut off
 cut_empty : (xs : List (List Command)) → cut_off (xs ++ [] ∷ []) ≡ cut_off xs

@@ -10,11 +10,11 @@ use Rattle.rail_base.proofs.Members.{In}
 use Rattle.rail_base.proofs.Lists.{in_map, in_count}
 use Rattle.sat_clause.specs.Clauses.{clause_holds}
 use Rattle.sat_core.specs.Models.{value_in}
-use Rattle.plan_clauses.specs.Variables.{Variable, Given, By, yes, no, number_of}
-use Rattle.plan_clauses.specs.Clauses.{Clause, base_clauses}
-use Rattle.plan_clauses.specs.Models.{given_by, given_in, with_step, cut_off, decoded}
-use Rattle.plan_clauses.proofs.Facts.{AllTrue, given_up_to, all_true}
-use Rattle.plan_clauses.proofs.Decoded.{New, new}
+use Rattle.clause_spec.specs.Variables.{Variable, Given, By, yes, no, number_of}
+use Rattle.clause_spec.specs.Clauses.{Clause, base_clauses}
+use Rattle.clause_spec.specs.Models.{given_by, given_in, with_step, cut_off, decoded}
+use Rattle.clause_spec.proofs.Facts.{AllTrue, given_up_to, all_true}
+use Rattle.clause_spec.proofs.Decoded.{New, new}
 use Rattle.plan_decoder.specs.Told.{EndsAsSaid}
 
 -- ---- steps past the first k

@@ -15,8 +15,8 @@ use Rattle.rail_spec.specs.Plans.{one_each}
 use Rattle.rail_spec.specs.Dispatches.{of_plan}
 use Rattle.rail_spec.specs.Visits.{visits_on, makes_visits}
 use Rattle.rail_spec.specs.Feasible.{IsInfeasible}
-use Rattle.plan_clauses.proofs.Feasibles.{meets_visits}
-use Rattle.plan_clauses.proofs.Places.{train_in}
+use Rattle.clause_spec.proofs.Feasibles.{meets_visits}
+use Rattle.clause_spec.proofs.Places.{train_in}
 
 not_on : (sets : List (List NodeNo)) → 1 ≤ length sets → list_all is_some (visits_on sets []) ≡ true → ⊥
 not_on [] some h = omega arith

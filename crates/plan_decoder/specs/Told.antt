@@ -3,8 +3,8 @@ use Rattle.std.specs.Prelude.{ℕ, ◌≡◌, ◌≤◌, ◌-◌, Bool, true, no
 use Rattle.rail_base.specs.declared.station.Station.{Station}
 use Rattle.rail_base.specs.declared.route.Route.{Route}
 use Rattle.rail_base.specs.declared.plan.Command.{Command}
-use Rattle.plan_clauses.specs.Variables.{Variable, By, number_of}
-use Rattle.plan_clauses.specs.Models.{given_by}
+use Rattle.clause_spec.specs.Variables.{Variable, By, number_of}
+use Rattle.clause_spec.specs.Models.{given_by}
 use Rattle.sat_core.specs.Models.{value_in}
 
 module _ (d : Station) (routes : List Route) (n : ℕ) (values : List Bool) where

@@ -8,9 +8,9 @@ ghost use Rattle.rail_spec.specs.Feasible.{IsRunnable};
 ghost use Rattle.rail_spec.specs.Plans.{commands_of};
 ghost use Rattle.sat_clause.specs.Clauses.{clause_holds};
 ghost use Rattle.sat_core.specs.Models.{value_in};
-ghost use Rattle.plan_clauses.specs.Clauses.{base_clauses};
-ghost use Rattle.plan_clauses.specs.Laws.{Agrees};
-ghost use Rattle.plan_clauses.specs.Models.{cut_off, decoded, given_by, given_in, model_of};
+ghost use Rattle.clause_spec.specs.Clauses.{base_clauses};
+ghost use Rattle.clause_spec.specs.Laws.{Agrees};
+ghost use Rattle.clause_spec.specs.Models.{cut_off, decoded, given_by, given_in, model_of};
 ghost use Rattle.plan_encoding.specs.Bases.{HasCommand, IsBaseOf};
 ghost use Rattle.plan_decoder.specs.Told.{EndsAsSaid, is_new, says};
 

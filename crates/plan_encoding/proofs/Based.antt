@@ -9,10 +9,10 @@ use Rattle.rail_base.specs.Numbering.{before_first}
 use Rattle.rail_base.specs.Members.{In}
 use Rattle.rail_base.proofs.Members.{and_left, and_right, and_both, list_any_gives, list_any_from, same_bool}
 use Rattle.rail_spec.specs.Plans.{all_commands, contend, is_command}
-use Rattle.plan_clauses.specs.Variables.{Before, is_pair, numbered, pairs, yes}
-use Rattle.plan_clauses.specs.Clauses.{base_clauses, past_limit}
-use Rattle.plan_clauses.proofs.Places.{command_from, pair_from, pair_of, route_in, train_in}
-use Rattle.plan_clauses.proofs.Steps.{is_command_same, is_command_self}
+use Rattle.clause_spec.specs.Variables.{Before, is_pair, numbered, pairs, yes}
+use Rattle.clause_spec.specs.Clauses.{base_clauses, past_limit}
+use Rattle.clause_spec.proofs.Places.{command_from, pair_from, pair_of, route_in, train_in}
+use Rattle.clause_spec.proofs.Steps.{is_command_same, is_command_self}
 use Rattle.plan_encoding.specs.declared.sink.BaseFault.{BaseFault}
 use Rattle.plan_encoding.specs.declared.sink.BaseFault.TheVariants.{TooLarge, Memory}
 use Rattle.plan_encoding.specs.Bases.{Numbered, HasCommand, IsBaseOf, IsRefused}

@@ -3,7 +3,7 @@ use Rattle.std.proofs.Common.{◌≡◌, List, All, sym, ap, subst}
 use Rattle.rail_base.specs.declared.station.TrainNo.{TrainNo}
 use Rattle.rail_base.specs.declared.route.RouteNo.{RouteNo}
 use Rattle.rail_base.specs.Routes.{IsRoute}
-use Rattle.alike_clauses.specs.Turns.{beginnings, begins, begun_always}
+use Rattle.alike_clause_spec.specs.Turns.{beginnings, begins, begun_always}
 use Rattle.plan_encoding.specs.declared.encoder.Encoder.{Encoder}
 use Rattle.plan_encoding.specs.Families.{begun_throughout}
 use Rattle.plan_encoding.specs.Encoders.{over, table}

@@ -11,8 +11,8 @@ use Rattle.rail_base.specs.declared.plan.Command.{Command}
 use Rattle.rail_base.specs.Numbering.{one_to}
 use Rattle.rail_base.specs.Routes.{IsRoute}
 use Rattle.rail_spec.specs.Plans.{route_at, exits, length_mm}
-use Rattle.plan_clauses.specs.Variables.{pairs_of}
-use Rattle.plan_clauses.specs.Clauses.{onward, chain_length, chains, clearing, waits_for, waits}
+use Rattle.clause_spec.specs.Variables.{pairs_of}
+use Rattle.clause_spec.specs.Clauses.{onward, chain_length, chains, clearing, waits_for, waits}
 use Rattle.plan_encoding.specs.Families.{waiting}
 use Rattle.plan_encoding.specs.Waiting.{waits_over}
 use Rattle.contending.proofs.Gathering.{drop_next}

@@ -5,9 +5,9 @@ use Rattle.std.proofs.lemmas.List.Sums.{sum_by-cons}
 use Rattle.sat_clause.specs.declared.lit.Lit.{Lit}
 use Rattle.rail_base.specs.declared.plan.Command.{Command}
 use Rattle.rail_base.proofs.Lists.{length-map}
-use Rattle.plan_clauses.specs.Clauses.{in_order, literals}
-use Rattle.plan_clauses.specs.Variables.{numbered}
-use Rattle.plan_clauses.proofs.Few.{literals_told, orders_literals}
+use Rattle.clause_spec.specs.Clauses.{in_order, literals}
+use Rattle.clause_spec.specs.Variables.{numbered}
+use Rattle.clause_spec.proofs.Few.{literals_told, orders_literals}
 use Rattle.plan_encoding.specs.declared.encoder.Encoder.{Encoder}
 use Rattle.plan_encoding.specs.Sinks.{SinkView, Emitted, TooMany, emitted, with_clause}
 use Rattle.plan_encoding.specs.Families.{each_with}

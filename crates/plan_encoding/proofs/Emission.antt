@@ -8,9 +8,9 @@ use Rattle.rail_base.specs.Numbering.{count_from}
 use Rattle.plan_encoding.specs.declared.sink.BaseFault.{BaseFault}
 use Rattle.plan_encoding.specs.declared.sink.BaseFault.TheVariants.{TooLarge, Memory}
 use Rattle.plan_encoding.specs.declared.encoder.Encoder.{Encoder}
-use Rattle.plan_clauses.specs.Clauses.{Clause, past_limit}
+use Rattle.clause_spec.specs.Clauses.{Clause, past_limit}
 use Rattle.plan_encoding.specs.Sinks.{SinkView, Emission, Emitted, TooMany, with_clause, emitted, FaultSays}
-use Rattle.plan_clauses.specs.Variables.{numbered}
+use Rattle.clause_spec.specs.Variables.{numbered}
 use Rattle.plan_encoding.specs.Encoders.{numbered_clauses}
 use Rattle.contending.proofs.Gathering.{count_next, drop_next}
 

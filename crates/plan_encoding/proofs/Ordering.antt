@@ -14,8 +14,8 @@ use Rattle.rail_base.specs.Stations.{trains}
 use Rattle.rail_base.proofs.Members.{and_left, and_right, and_both, false_unless}
 use Rattle.rail_base.proofs.Lists.{in_append, in_map_back, in_flat_map_back, length-map, pairs_across, pairs_count, pairs_filter, pairs_flat_map, pairs_map}
 use Rattle.rail_spec.specs.Plans.{all_commands, commands_of, contend, is_command, route_numbers}
-use Rattle.plan_clauses.specs.Variables.{Before, is_pair, number_of, pairs, pairs_of}
-use Rattle.plan_clauses.proofs.Steps.{is_command_same, is_command_self}
+use Rattle.clause_spec.specs.Variables.{Before, is_pair, number_of, pairs, pairs_of}
+use Rattle.clause_spec.proofs.Steps.{is_command_same, is_command_self}
 use Rattle.contending.proofs.Gathering.{drop_next}
 
 -- the members before the first that passes, which is named

@@ -5,13 +5,13 @@ use Rattle.std.proofs.lemmas.Grind.{flat_map-append}
 use Rattle.rail_base.specs.declared.station.Station.{Station}
 use Rattle.rail_base.specs.declared.route.Route.{Route}
 use Rattle.rail_spec.specs.Plans.{all_commands}
-use Rattle.plan_clauses.specs.Variables.{pairs, pairs_of}
+use Rattle.clause_spec.specs.Variables.{pairs, pairs_of}
 use Rattle.plan_encoding.specs.Waiting.{apart_once}
 use Rattle.plan_encoding.proofs.Emission.{emitted_next, next_fails}
 use Rattle.std.specs.Prelude.{Result, Ok, Err, OnOk, IfErr}
 use Rattle.plan_encoding.specs.declared.sink.BaseFault.{BaseFault}
 use Rattle.plan_encoding.specs.declared.encoder.Encoder.{Encoder}
-use Rattle.plan_clauses.specs.Clauses.{Clause, first_pairs, not_at_once}
+use Rattle.clause_spec.specs.Clauses.{Clause, first_pairs, not_at_once}
 use Rattle.plan_encoding.specs.Sinks.{SinkView, Emission, Emitted, emitted, FaultSays}
 use Rattle.plan_encoding.specs.Encoders.{numbered_clauses}
 

@@ -4,9 +4,9 @@ use Rattle.sat_clause.specs.declared.lit.Lit.{Lit}
 use Rattle.rail_base.specs.declared.station.Station.{Station}
 use Rattle.rail_base.specs.declared.route.Route.{Route}
 use Rattle.rail_alike.specs.Tests.{neighbors}
-use Rattle.plan_clauses.specs.Clauses.{base_clauses, past_limit}
-use Rattle.alike_clauses.specs.Turns.{turn_clauses}
-use Rattle.alike_clauses.specs.Sorted.{sorted_base}
+use Rattle.clause_spec.specs.Clauses.{base_clauses, past_limit}
+use Rattle.alike_clause_spec.specs.Turns.{turn_clauses}
+use Rattle.alike_clause_spec.specs.Sorted.{sorted_base}
 use Rattle.plan_encoding.specs.declared.sink.BaseFault.{BaseFault}
 use Rattle.plan_encoding.specs.declared.sink.BaseFault.TheVariants.{TooLarge, Memory}
 use Rattle.plan_encoding.specs.Bases.{IsRefused}

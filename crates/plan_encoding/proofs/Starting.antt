@@ -11,8 +11,8 @@ use Rattle.rail_base.specs.declared.plan.Command.{Command}
 use Rattle.rail_base.specs.Numbering.{one_to}
 use Rattle.rail_base.specs.Stations.{first_visit, train_of}
 use Rattle.rail_spec.specs.Plans.{has_node, route_at}
-use Rattle.plan_clauses.specs.Variables.{Given, no, if_given}
-use Rattle.plan_clauses.specs.Clauses.{leading_to, start_clause, starts_rightly}
+use Rattle.clause_spec.specs.Variables.{Given, no, if_given}
+use Rattle.clause_spec.specs.Clauses.{leading_to, start_clause, starts_rightly}
 
 abbrev no_one : {Y : Type 0} → List Y
 no_one = []

@@ -2,8 +2,8 @@
 use Rattle.std.proofs.Common.{◌≡◌, ℕ, zero, suc, ◌+◌, ◌-◌, ◌*◌, ◌≤◌, ◌<◌, ◌⊎◌, inl, inr, Bool, true, false, cond, ◌&&◌, List, [], ◌∷◌, ◌++◌, map, filter, flat_map, length, get_or, refl, sym, ap, subst, ◌∙◌, arith, drop, length-append}
 use Rattle.std.proofs.Math.Nat.{suc-mul}
 use Rattle.std.proofs.lemmas.Nat.{mul-le}
-use Rattle.plan_clauses.specs.Variables.{pairs_of}
-use Rattle.plan_clauses.specs.Clauses.{Clause, exclude, later_pairs}
+use Rattle.clause_spec.specs.Variables.{pairs_of}
+use Rattle.clause_spec.specs.Clauses.{Clause, exclude, later_pairs}
 use Rattle.std.proofs.lemmas.List.{append_assoc}
 use Rattle.contending.proofs.Gathering.{drop_next}
 use Rattle.plan_encoding.proofs.Emission.{Next}
@@ -20,7 +20,7 @@ use Rattle.rail_base.specs.Stations.{IsTrain, trains}
 use Rattle.rail_base.proofs.Members.{filter-append}
 use Rattle.rail_base.proofs.Lists.{in_append, in_map_back, in_flat_map_back, in_filter_back, in_count_back, length-map}
 use Rattle.rail_spec.specs.Plans.{all_commands, commands_of, contend, route_numbers}
-use Rattle.plan_clauses.proofs.Numbers.{length-count}
+use Rattle.clause_spec.proofs.Numbers.{length-count}
 use Rattle.plan_encoding.specs.declared.encoder.Encoder.{Encoder}
 use Rattle.plan_encoding.specs.declared.network.Network.{Network}
 use Rattle.plan_encoding.specs.declared.tables.Tables.{Tables}

@@ -8,7 +8,7 @@ use Rattle.rail_base.specs.declared.route.RouteNo.{RouteNo}
 use Rattle.rail_base.specs.Numbering.{after_first}
 use Rattle.rail_base.specs.Routes.{route_at}
 use Rattle.rail_spec.specs.Plans.{has_node}
-use Rattle.plan_clauses.specs.Clauses.{may_visit}
+use Rattle.clause_spec.specs.Clauses.{may_visit}
 use Rattle.number_sets.specs.declared.set.NumberSet.{NumberSet}
 use Rattle.number_sets.specs.Sets.{contains}
 use Rattle.plan_encoding.specs.Nodes.{IsNodeSet}

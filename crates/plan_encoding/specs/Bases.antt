@@ -4,8 +4,8 @@ use Rattle.sat_clause.specs.Clauses.{Store}
 use Rattle.rail_base.specs.declared.station.Station.{Station}
 use Rattle.rail_base.specs.declared.route.Route.{Route}
 use Rattle.rail_base.specs.declared.plan.Command.{Command}
-use Rattle.plan_clauses.specs.Variables.{pairs}
-use Rattle.plan_clauses.specs.Clauses.{base_clauses, past_limit}
+use Rattle.clause_spec.specs.Variables.{pairs}
+use Rattle.clause_spec.specs.Clauses.{base_clauses, past_limit}
 use Rattle.plan_encoding.specs.declared.sink.BaseFault.{BaseFault}
 use Rattle.plan_encoding.specs.declared.sink.BaseFault.TheVariants.{TooLarge, Memory}
 

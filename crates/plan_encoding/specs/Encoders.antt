@@ -6,8 +6,8 @@ use Rattle.rail_base.specs.declared.route.Route.{Route}
 use Rattle.rail_base.specs.declared.plan.Command.{Command}
 use Rattle.rail_base.specs.Routes.{IsRoute}
 use Rattle.rail_base.specs.Stations.{IsTrain}
-use Rattle.plan_clauses.specs.Variables.{numbered}
-use Rattle.plan_clauses.specs.Clauses.{Clause}
+use Rattle.clause_spec.specs.Variables.{numbered}
+use Rattle.clause_spec.specs.Clauses.{Clause}
 use Rattle.plan_encoding.specs.declared.sink.BaseFault.{BaseFault}
 use Rattle.plan_encoding.specs.declared.encoder.Encoder.{Encoder}
 use Rattle.plan_encoding.specs.Sinks.{SinkView, Emitted, emitted, FaultSays}

@@ -9,9 +9,9 @@ use Rattle.rail_base.specs.declared.plan.Command.{Command}
 use Rattle.rail_base.specs.Numbering.{one_to}
 use Rattle.rail_base.specs.Stations.{trains}
 use Rattle.rail_spec.specs.Plans.{all_commands, commands_of, contend, route_numbers}
-use Rattle.plan_clauses.specs.Variables.{Given, Before, By, yes, no, if_given, number_of, pairs}
-use Rattle.plan_clauses.specs.Clauses.{Clause, all_given, excluded, first_pairs, in_order, makes_visits, may_visit, not_at_once, starts_rightly, stays_given, waits}
-use Rattle.alike_clauses.specs.Turns.{in_turn}
+use Rattle.clause_spec.specs.Variables.{Given, Before, By, yes, no, if_given, number_of, pairs}
+use Rattle.clause_spec.specs.Clauses.{Clause, all_given, excluded, first_pairs, in_order, makes_visits, may_visit, not_at_once, starts_rightly, stays_given, waits}
+use Rattle.alike_clause_spec.specs.Turns.{in_turn}
 use Rattle.plan_encoding.specs.declared.encoder.Encoder.{Encoder}
 use Rattle.plan_encoding.specs.Encoders.{over, station, table}
 

@@ -1,8 +1,8 @@
 -- What the variables of pairs say.
 use Rattle.std.specs.Prelude.{ℕ, ◌-◌, List, [], ◌∷◌, map}
 use Rattle.rail_base.specs.Numbering.{one_to}
-use Rattle.plan_clauses.specs.Variables.{Given, Before, yes, no, if_given}
-use Rattle.plan_clauses.specs.Clauses.{Clause, in_order}
+use Rattle.clause_spec.specs.Variables.{Given, Before, yes, no, if_given}
+use Rattle.clause_spec.specs.Clauses.{Clause, in_order}
 use Rattle.plan_encoding.specs.declared.pair.Contenders.{Contenders}
 use Rattle.plan_encoding.specs.declared.pair.Pair.{Pair}
 use Rattle.plan_encoding.specs.Families.{each_with}

@@ -3,9 +3,9 @@ use Rattle.std.specs.Prelude.{ℕ, ◌≡◌, true, List, map, Some}
 use Rattle.rail_base.specs.declared.station.Station.{Station}
 use Rattle.rail_base.specs.declared.route.Route.{Route}
 use Rattle.rail_alike.specs.Tests.{neighbors}
-use Rattle.plan_clauses.specs.Clauses.{past_limit}
-use Rattle.alike_clauses.specs.Turns.{turn_clauses}
-use Rattle.alike_clauses.specs.Sorted.{sorted_base}
+use Rattle.clause_spec.specs.Clauses.{past_limit}
+use Rattle.alike_clause_spec.specs.Turns.{turn_clauses}
+use Rattle.alike_clause_spec.specs.Sorted.{sorted_base}
 use Rattle.plan_encoding.specs.Bases.{IsBaseOf}
 use Rattle.plan_encoding.specs.declared.sink.BaseFault.{BaseFault}
 use Rattle.plan_encoding.specs.declared.sink.BaseFault.TheVariants.{TooLarge, Memory}

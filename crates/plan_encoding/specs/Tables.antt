@@ -4,7 +4,7 @@ use Rattle.rail_base.specs.declared.route.Route.{Route}
 use Rattle.rail_base.specs.declared.route.RouteNo.{RouteNo}
 use Rattle.rail_base.specs.Routes.{IsRoute}
 use Rattle.rail_spec.specs.Plans.{goes_on, route_at, route_numbers}
-use Rattle.plan_clauses.specs.Clauses.{exclude, later_pairs, leading_to}
+use Rattle.clause_spec.specs.Clauses.{exclude, later_pairs, leading_to}
 
 -- the routes that go on where this one ends
 abbrev pub going_on : List Route → RouteNo → List RouteNo

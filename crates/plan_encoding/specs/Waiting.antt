@@ -5,7 +5,7 @@ use Rattle.rail_base.specs.declared.route.Route.{Route}
 use Rattle.rail_base.specs.declared.route.RouteNo.{RouteNo}
 use Rattle.rail_base.specs.declared.plan.Command.{Command}
 use Rattle.rail_base.specs.Numbering.{one_to}
-use Rattle.plan_clauses.specs.Clauses.{Clause, waits_for, not_at_once}
+use Rattle.clause_spec.specs.Clauses.{Clause, waits_for, not_at_once}
 
 module _ (d : Station) (routes : List Route) (n : ℕ) where
   -- the second command waits for the first, for each of these chains and each step

@@ -3,7 +3,7 @@ use Rattle.std.specs.Prelude.{ℕ, ◌-◌, List, map}
 use Rattle.rail_base.specs.declared.route.RouteNo.{RouteNo}
 use Rattle.rail_base.specs.declared.plan.Command.{Command}
 use Rattle.rail_base.specs.Numbering.{one_to}
-use Rattle.plan_clauses.specs.Clauses.{Clause, chains, waits}
+use Rattle.clause_spec.specs.Clauses.{Clause, chains, waits}
 use Rattle.plan_encoding.specs.declared.encoder.Encoder.{Encoder}
 use Rattle.plan_encoding.specs.declared.wait.Releasing.{Releasing}
 use Rattle.plan_encoding.specs.declared.wait.Wait.{Wait}

@@ -1,7 +1,7 @@
 //! Contending commands are not given in one step.
 
 ghost use Rattle.std.specs.Prelude.{◌≡◌, ◌≤◌, All, IfOk, OnOk, IfErr};
-ghost use Rattle.plan_clauses.specs.Clauses.{not_at_once};
+ghost use Rattle.clause_spec.specs.Clauses.{not_at_once};
 ghost use Rattle.plan_encoding.specs.Families.{all_apart, apart, each_with};
 ghost use Rattle.plan_encoding.specs.Encoders.{IsCommand, Emits, Stops, over, written};
 ghost use Rattle.plan_encoding.specs.Waiting.{apart_once};

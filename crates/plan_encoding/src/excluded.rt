@@ -2,7 +2,7 @@
 
 ghost use Rattle.std.specs.Prelude.{OnOk, IfErr};
 ghost use Rattle.rail_base.specs.Stations.{IsTrain};
-ghost use Rattle.plan_clauses.specs.Clauses.{excluded};
+ghost use Rattle.clause_spec.specs.Clauses.{excluded};
 ghost use Rattle.plan_encoding.specs.Families.{none_excluded};
 ghost use Rattle.plan_encoding.specs.Encoders.{Emits, Stops, over, station};
 

@@ -2,7 +2,7 @@
 
 ghost use Rattle.std.specs.Prelude.{◌≡◌, ◌&&◌, ◌||◌, ◌++◌, ◌∷◌, [], OnOk, cond};
 ghost use Rattle.rail_spec.specs.Plans.{is_start};
-ghost use Rattle.plan_clauses.specs.Clauses.{at_boundary, exclude};
+ghost use Rattle.clause_spec.specs.Clauses.{at_boundary, exclude};
 
 use interlocking::end_at_one_signal;
 use rail_base::route::{Route, Start};

@@ -1,7 +1,7 @@
 //! The literals and the commands of an encoder.
 
 ghost use Rattle.std.specs.Prelude.{◌≡◌, ◌≤◌, ◌++◌, IfOk, OnOk};
-ghost use Rattle.plan_clauses.specs.Variables.{Given, yes, no, if_given, number_of, numbered};
+ghost use Rattle.clause_spec.specs.Variables.{Given, yes, no, if_given, number_of, numbered};
 ghost use Rattle.rail_spec.specs.Plans.{all_commands, commands_of};
 ghost use Rattle.plan_encoding.specs.Encoders.{IsCommand, over, station, table, written};
 

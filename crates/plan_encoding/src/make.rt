@@ -1,7 +1,7 @@
 //! How the base of a design is made: all clauses are emitted twice, first to count their literals, then to keep them.
 
 ghost use Rattle.std.specs.Prelude.{◌≡◌, IfOk, OnOk, IfErr, None};
-ghost use Rattle.plan_clauses.specs.Clauses.{base_clauses, clauses, past_limit};
+ghost use Rattle.clause_spec.specs.Clauses.{base_clauses, clauses, past_limit};
 ghost use Rattle.plan_encoding.specs.Bases.{IsBaseOf, IsRefused};
 ghost use Rattle.plan_encoding.specs.Families.{alone, together, defining};
 ghost use Rattle.plan_encoding.specs.Encoders.{Emits, Stops, over};

@@ -4,7 +4,7 @@ ghost use Rattle.std.specs.Prelude.{◌≡◌, ℕ, ◌≤◌, List, Some, None,
 ghost use Rattle.rail_base.specs.declared.station.Station.{Station};
 ghost use Rattle.rail_base.specs.declared.route.Route.{Route};
 ghost use Rattle.rail_spec.specs.Plans.{contend};
-ghost use Rattle.plan_clauses.specs.Variables.{Given, Before, By, yes, numbered, variable_count};
+ghost use Rattle.clause_spec.specs.Variables.{Given, Before, By, yes, numbered, variable_count};
 ghost use Rattle.plan_encoding.specs.Bases.{HasCommand, IsBaseOf};
 
 use contending::ContendingPairs;

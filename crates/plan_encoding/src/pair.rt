@@ -1,7 +1,7 @@
 //! Pairs of commands that contend.
 
 ghost use Rattle.std.specs.Prelude.{◌≡◌, ◌<◌, ◌+◌, ◌^◌, All, length};
-ghost use Rattle.plan_clauses.specs.Variables.{Before, number_of};
+ghost use Rattle.clause_spec.specs.Variables.{Before, number_of};
 ghost use Rattle.plan_encoding.specs.Families.{Follow};
 ghost use Rattle.plan_encoding.specs.Encoders.{IsCommand, over};
 

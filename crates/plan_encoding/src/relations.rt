@@ -4,7 +4,7 @@ ghost use Rattle.std.specs.Prelude.{◌≡◌, ◌++◌, All, IfOk, OnOk, map, f
 ghost use Rattle.rail_base.specs.Routes.{IsRoute};
 ghost use Rattle.rail_base.specs.Stations.{trains};
 ghost use Rattle.rail_spec.specs.Plans.{route_numbers};
-ghost use Rattle.plan_clauses.specs.Clauses.{leading_to};
+ghost use Rattle.clause_spec.specs.Clauses.{leading_to};
 ghost use Rattle.plan_encoding.specs.Encoders.{station, table};
 ghost use Rattle.plan_encoding.specs.Tables.{exclude_both, exclusions, going_on, leading, rows_by};
 

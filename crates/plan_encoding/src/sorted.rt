@@ -1,8 +1,8 @@
 //! The base with the clauses that each train comes in turn with the next one that is like it.
 
 ghost use Rattle.std.specs.Prelude.{◌≡◌, IfOk, OnOk, IfErr, None};
-ghost use Rattle.plan_clauses.specs.Clauses.{past_limit};
-ghost use Rattle.alike_clauses.specs.Sorted.{sorted_base};
+ghost use Rattle.clause_spec.specs.Clauses.{past_limit};
+ghost use Rattle.alike_clause_spec.specs.Sorted.{sorted_base};
 ghost use Rattle.plan_encoding.specs.Sorted.{IsSortedBaseOf, IsSortedRefused};
 
 use crate::encoder::Encoder;

@@ -4,7 +4,7 @@ ghost use Rattle.std.specs.Prelude.{◌≡◌, ◌≤◌, All, IfOk, OnOk, IfErr
 ghost use Rattle.rail_base.specs.Routes.{IsRoute};
 ghost use Rattle.rail_base.specs.Stations.{IsTrain, first_visit, train_of};
 ghost use Rattle.rail_spec.specs.Plans.{has_node};
-ghost use Rattle.plan_clauses.specs.Clauses.{starts_rightly};
+ghost use Rattle.clause_spec.specs.Clauses.{starts_rightly};
 ghost use Rattle.plan_encoding.specs.Families.{all_start_rightly, led_clause, led_always, never_given};
 ghost use Rattle.plan_encoding.specs.Encoders.{IsCommand, Emits, Stops, over, station, table, written};
 ghost use Rattle.plan_encoding.specs.Tables.{leading};

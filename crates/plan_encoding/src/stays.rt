@@ -1,7 +1,7 @@
 //! What is given stays given, and by a step all may be given.
 
 ghost use Rattle.std.specs.Prelude.{◌≤◌, OnOk, IfErr};
-ghost use Rattle.plan_clauses.specs.Clauses.{all_given, stays_given};
+ghost use Rattle.clause_spec.specs.Clauses.{all_given, stays_given};
 ghost use Rattle.plan_encoding.specs.Families.{all_by_steps, all_stay};
 ghost use Rattle.plan_encoding.specs.Encoders.{IsCommand, Emits, Stops, over};
 

@@ -4,7 +4,7 @@ ghost use Rattle.std.specs.Prelude.{◌≡◌, ◌≤◌, All, IfOk, OnOk, IfErr
 ghost use Rattle.rail_base.specs.Routes.{IsRoute};
 ghost use Rattle.rail_base.specs.Stations.{IsTrain};
 ghost use Rattle.rail_alike.specs.Turns.{AreNamed};
-ghost use Rattle.alike_clauses.specs.Turns.{beginnings, begins, in_turn};
+ghost use Rattle.alike_clause_spec.specs.Turns.{beginnings, begins, in_turn};
 ghost use Rattle.plan_encoding.specs.Families.{all_in_turn, begun_clause, begun_throughout};
 ghost use Rattle.plan_encoding.specs.Encoders.{IsCommand, Emits, Stops, over, station, table, written};
 

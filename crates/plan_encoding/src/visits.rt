@@ -6,7 +6,7 @@ ghost use Rattle.number_sets.specs.Sets.{contains};
 ghost use Rattle.rail_base.specs.Numbering.{after_first};
 ghost use Rattle.rail_base.specs.Routes.{IsRoute};
 ghost use Rattle.rail_base.specs.Stations.{IsTrain};
-ghost use Rattle.plan_clauses.specs.Clauses.{makes_visits, may_visit};
+ghost use Rattle.clause_spec.specs.Clauses.{makes_visits, may_visit};
 ghost use Rattle.plan_encoding.specs.Families.{all_visits, visited_on};
 ghost use Rattle.plan_encoding.specs.Encoders.{Emits, Stops, over, station, table, written};
 

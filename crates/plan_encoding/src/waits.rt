@@ -5,7 +5,7 @@ ghost use Rattle.std.specs.List.{list_any};
 ghost use Rattle.rail_base.specs.Routes.{IsRoute, route_at};
 ghost use Rattle.rail_base.specs.Stations.{IsTrain};
 ghost use Rattle.rail_spec.specs.Plans.{is_start};
-ghost use Rattle.plan_clauses.specs.Clauses.{chain_length, onward, waits};
+ghost use Rattle.clause_spec.specs.Clauses.{chain_length, onward, waits};
 ghost use Rattle.plan_encoding.specs.Families.{all_wait, each_with, one_given, one_not_given};
 ghost use Rattle.plan_encoding.specs.Encoders.{IsCommand, Emits, Stops, station, table, written};
 ghost use Rattle.plan_encoding.specs.Waits.{frame_of, waits_at, waits_for_it, waits_in, waits_on};

@@ -4,7 +4,7 @@ use Rattle.bound_clause.specs.Numbered.{numbered_bound}
 use Rattle.bound_clause.proofs.Holding.{fits_design}
 use Rattle.bound_clause.proofs.Known.{all_known}
 use Rattle.cone_clause.proofs.Agreeing.{each_alike, short_enough}
-use Rattle.plan_clauses.specs.Models.{model_of}
+use Rattle.clause_spec.specs.Models.{model_of}
 use Rattle.proof_judge.specs.Judged.{refuted}
 use Rattle.proof_log.specs.declared.line.Line.TheVariants.{Refute}
 use Rattle.proof_log.specs.Lines.{line_of}
@@ -13,12 +13,12 @@ use Rattle.rail_base.specs.declared.history.TrainHistory.{TrainHistory}
 use Rattle.rail_base.specs.declared.plan.Command.{Command}
 use Rattle.rail_base.specs.declared.plan.Violation.{Violation}
 use Rattle.rail_base.specs.declared.station.Station.{Station}
-use Rattle.rail_bound.specs.declared.Bound.{Bound}
-use Rattle.rail_bound.specs.declared.Evidence.TheVariants as evidence
-use Rattle.rail_bound.specs.declared.EvidenceFault.TheVariants as of
-use Rattle.rail_bound.specs.Clauses.{clause_of_bound}
-use Rattle.rail_bound.specs.Validity.{fault_of, is_valid_bound}
-use Rattle.rail_cone.specs.Clauses.{is_false_of}
+use Rattle.bound_spec.specs.declared.Bound.{Bound}
+use Rattle.bound_spec.specs.declared.Evidence.TheVariants as evidence
+use Rattle.bound_spec.specs.declared.EvidenceFault.TheVariants as of
+use Rattle.bound_spec.specs.Clauses.{clause_of_bound}
+use Rattle.bound_spec.specs.Validity.{fault_of, is_valid_bound}
+use Rattle.cone_spec.specs.Clauses.{is_false_of}
 use Rattle.rail_spec.specs.Feasible.{IsRunnable}
 use Rattle.rail_spec.specs.Track.{routes_of}
 use Rattle.sat_clause.specs.declared.lit.Lit.{Lit}

@@ -1,8 +1,8 @@
 -- The clause of what shows that a plan fails is false in the plan's model.
 use Rattle.std.proofs.Common.{not, ap, ◌∙◌}
 use Rattle.cone_clause.proofs.Agreeing.{clause_alike, short_enough}
-use Rattle.rail_bound.specs.declared.Evidence.TheVariants as evidence
-use Rattle.rail_cone.proofs.Refusing.{holds_of_valid}
+use Rattle.bound_spec.specs.declared.Evidence.TheVariants as evidence
+use Rattle.cone_spec.proofs.Refusing.{holds_of_valid}
 use Rattle.rail_spec.specs.Track.{routes_of}
 use Rattle.timing_refuter.proofs.Failing.{kind_of, refutes_of}
 use Rattle.plan_exclusion.specs.Laws.{EvidenceDeniesItsPlan}

@@ -11,14 +11,14 @@ use Rattle.rail_base.specs.declared.plan.Violation.{Violation}
 use Rattle.rail_base.specs.declared.route.Route.{Route}
 use Rattle.rail_base.specs.declared.station.Station.{Station}
 use Rattle.rail_base.specs.Admitted.{IsAdmitted}
-use Rattle.rail_bound.specs.declared.Evidence.TheVariants as evidence
-use Rattle.rail_bound.specs.declared.EvidenceFault.TheVariants as of
-use Rattle.rail_cone.specs.declared.Cone.{Cone}
-use Rattle.rail_cone.specs.Laws.{Refutes}
-use Rattle.rail_cone.specs.Validity.{fault_of}
-use Rattle.rail_cone.proofs.Refusing.{holds_of_valid}
-use Rattle.rail_slice.specs.Holders.{GivesEach}
-use Rattle.rail_slice.specs.Leasts.{IsSliceOf}
+use Rattle.bound_spec.specs.declared.Evidence.TheVariants as evidence
+use Rattle.bound_spec.specs.declared.EvidenceFault.TheVariants as of
+use Rattle.cone_spec.specs.declared.Cone.{Cone}
+use Rattle.cone_spec.specs.Laws.{Refutes}
+use Rattle.cone_spec.specs.Validity.{fault_of}
+use Rattle.cone_spec.proofs.Refusing.{holds_of_valid}
+use Rattle.slice_spec.specs.Holders.{GivesEach}
+use Rattle.slice_spec.specs.Leasts.{IsSliceOf}
 use Rattle.rail_spec.specs.Feasible.{IsWellFormed, IsRunnable}
 use Rattle.rail_spec.specs.Histories.{verdict_of}
 use Rattle.rail_spec.specs.Track.{routes_of}

@@ -6,24 +6,24 @@ use Rattle.bound_clause.proofs.Holding.{fits_design}
 use Rattle.bound_clause.proofs.Known as bound
 use Rattle.cone_clause.specs.Numbered.{variable_of, lit_of, numbered_clause}
 use Rattle.cone_clause.proofs.Known.{IsKnown, all_known}
-use Rattle.plan_clauses.specs.Clauses.{base_clauses}
-use Rattle.plan_clauses.specs.Models.{decoded, model_of}
-use Rattle.plan_clauses.specs.Variables.{number_of}
-use Rattle.plan_clauses.proofs.Decode.{decoded_given, decoded_before}
-use Rattle.plan_clauses.proofs.Places.{pair_from}
+use Rattle.clause_spec.specs.Clauses.{base_clauses}
+use Rattle.clause_spec.specs.Models.{decoded, model_of}
+use Rattle.clause_spec.specs.Variables.{number_of}
+use Rattle.clause_spec.proofs.Decode.{decoded_given, decoded_before}
+use Rattle.clause_spec.proofs.Places.{pair_from}
 use Rattle.proof_judge.specs.Judged.{refuted}
 use Rattle.rail_base.specs.declared.station.Station.{Station}
 use Rattle.rail_base.proofs.Members.{In}
-use Rattle.rail_bound.specs.declared.Bound.{Bound}
-use Rattle.rail_bound.specs.declared.Evidence.{Evidence}
-use Rattle.rail_bound.specs.declared.Evidence.TheVariants as evidence
-use Rattle.rail_bound.specs.declared.EvidenceFault.TheVariants as of
-use Rattle.rail_bound.specs.Clauses.{clause_of_bound}
-use Rattle.rail_bound.specs.Validity as certificate
-use Rattle.rail_cone.specs.declared.Cone.{Cone}
-use Rattle.rail_cone.specs.Clauses.{Fact, Used, Before, Literal, clause_of_cone}
-use Rattle.rail_cone.specs.Validity as cone
-use Rattle.rail_cone.proofs.Refusing.{holds_of_valid}
+use Rattle.bound_spec.specs.declared.Bound.{Bound}
+use Rattle.bound_spec.specs.declared.Evidence.{Evidence}
+use Rattle.bound_spec.specs.declared.Evidence.TheVariants as evidence
+use Rattle.bound_spec.specs.declared.EvidenceFault.TheVariants as of
+use Rattle.bound_spec.specs.Clauses.{clause_of_bound}
+use Rattle.bound_spec.specs.Validity as certificate
+use Rattle.cone_spec.specs.declared.Cone.{Cone}
+use Rattle.cone_spec.specs.Clauses.{Fact, Used, Before, Literal, clause_of_cone}
+use Rattle.cone_spec.specs.Validity as cone
+use Rattle.cone_spec.proofs.Refusing.{holds_of_valid}
 use Rattle.rail_spec.specs.Track.{routes_of}
 use Rattle.sat_clause.specs.declared.lit.Lit.{Lit}
 use Rattle.sat_clause.specs.Clauses.{lit_holds, clause_holds}

@@ -1,7 +1,7 @@
 -- A clause is shown just where what shows it is valid.
 use Rattle.std.proofs.Common.{◌≡◌, true, List, is_none, Option, Some, None, Ok, refl}
 use Rattle.proof_judge.specs.Judged.{unless}
-use Rattle.rail_bound.specs.declared.EvidenceFault.{EvidenceFault}
+use Rattle.bound_spec.specs.declared.EvidenceFault.{EvidenceFault}
 use Rattle.sat_clause.specs.declared.lit.Lit.{Lit}
 
 pub valid_shows : {F : Type 0} (of : F → EvidenceFault) (found : Option F) (clause : List Lit) → is_none found ≡ true → unless of found clause ≡ Ok clause

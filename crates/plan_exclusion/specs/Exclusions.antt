@@ -1,7 +1,7 @@
 -- Lines that exclude plans.
 use Rattle.std.specs.Prelude.{ℕ, ◌≡◌, ◌≤◌, ◌<◌, true, List, Ok}
 use Rattle.log_checker.specs.Verdict.{may_stand}
-use Rattle.plan_clauses.specs.Variables.{variable_count}
+use Rattle.clause_spec.specs.Variables.{variable_count}
 use Rattle.proof_judge.specs.Judged.{refuted}
 use Rattle.proof_log.specs.declared.head.Head.{Head}
 use Rattle.proof_log.specs.declared.head.Head.TheVariants.{Named, Sorted}
@@ -9,7 +9,7 @@ use Rattle.proof_log.specs.declared.line.Line.TheVariants.{Refute}
 use Rattle.proof_log.specs.Text.{text_of_line, keeps_grammar}
 use Rattle.rail_base.specs.declared.plan.Command.{Command}
 use Rattle.rail_base.specs.declared.station.Station.{Station}
-use Rattle.rail_bound.specs.declared.Evidence.{Evidence}
+use Rattle.bound_spec.specs.declared.Evidence.{Evidence}
 use Rattle.rail_spec.specs.Track.{routes_of}
 use Rattle.sat_clause.specs.declared.lit.Lit.{Lit}
 use Rattle.sat_clause.specs.Hints.{is_assigned}

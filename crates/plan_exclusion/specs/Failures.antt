@@ -3,19 +3,19 @@ use Rattle.std.specs.Prelude.{ℕ, ◌≡◌, Bool, true, List}
 use Rattle.std.specs.List.{list_all}
 use Rattle.bound_clause.specs.Numbered.{numbered_bound}
 use Rattle.cone_clause.specs.Numbered.{numbered_clause}
-use Rattle.plan_clauses.specs.Clauses.{base_clauses}
-use Rattle.plan_clauses.specs.Models.{decoded}
+use Rattle.clause_spec.specs.Clauses.{base_clauses}
+use Rattle.clause_spec.specs.Models.{decoded}
 use Rattle.rail_base.specs.declared.history.TrainHistory.{TrainHistory}
 use Rattle.rail_base.specs.declared.history.Verdict.TheVariants.{Failed}
 use Rattle.rail_base.specs.declared.plan.Command.{Command}
 use Rattle.rail_base.specs.declared.plan.Violation.{Violation}
 use Rattle.rail_base.specs.declared.station.Station.{Station}
-use Rattle.rail_bound.specs.declared.Evidence.{Evidence}
-use Rattle.rail_bound.specs.declared.Evidence.TheVariants as evidence
-use Rattle.rail_bound.specs.Clauses.{clause_of_bound}
-use Rattle.rail_bound.specs.Validity.{is_valid_bound}
-use Rattle.rail_cone.specs.Clauses.{is_false_of}
-use Rattle.rail_slice.specs.Leasts.{IsSliceOf}
+use Rattle.bound_spec.specs.declared.Evidence.{Evidence}
+use Rattle.bound_spec.specs.declared.Evidence.TheVariants as evidence
+use Rattle.bound_spec.specs.Clauses.{clause_of_bound}
+use Rattle.bound_spec.specs.Validity.{is_valid_bound}
+use Rattle.cone_spec.specs.Clauses.{is_false_of}
+use Rattle.slice_spec.specs.Leasts.{IsSliceOf}
 use Rattle.rail_spec.specs.Histories.{verdict_of}
 use Rattle.rail_spec.specs.Track.{routes_of}
 use Rattle.sat_clause.specs.declared.lit.Lit.{Lit}

@@ -1,11 +1,11 @@
 -- What the evidence of a failure says of the plan's model.
 use Rattle.std.specs.Prelude.{ℕ, ◌≡◌, ◌≤◌, false, List}
-use Rattle.plan_clauses.specs.Models.{model_of}
+use Rattle.clause_spec.specs.Models.{model_of}
 use Rattle.rail_base.specs.declared.plan.Command.{Command}
 use Rattle.rail_base.specs.declared.station.Station.{Station}
 use Rattle.rail_base.specs.Admitted.{IsAdmitted}
-use Rattle.rail_bound.specs.declared.Evidence.{Evidence}
-use Rattle.rail_slice.specs.Holders.{GivesEach}
+use Rattle.bound_spec.specs.declared.Evidence.{Evidence}
+use Rattle.slice_spec.specs.Holders.{GivesEach}
 use Rattle.rail_spec.specs.Feasible.{IsRunnable}
 use Rattle.rail_spec.specs.Track.{routes_of}
 use Rattle.sat_clause.specs.Clauses.{clause_holds}

@@ -2,12 +2,12 @@
 use Rattle.std.proofs.Common.{◌≡◌, ℕ, Bool, true, false, ◌&&◌, if◌then◌else◌, List, Option, None, Some, Ok, Err, refl, sym, ap, ◌∙◌, subst}
 use Rattle.rail_base.specs.declared.station.Station.{Station}
 use Rattle.rail_base.specs.declared.route.Route.{Route}
-use Rattle.rail_bound.specs.declared.Bound.{Bound}
-use Rattle.rail_bound.specs.declared.BoundFault.{BoundFault}
-use Rattle.rail_bound.specs.declared.BoundFault.TheVariants.{BoundNotInDesign, PlaceNotCovered, BoundNotShown}
-use Rattle.rail_bound.specs.declared.Evidence.TheVariants as evidence
-use Rattle.rail_bound.specs.declared.EvidenceFault.TheVariants as of
-use Rattle.rail_bound.specs.Validity.{names_design, is_consistent, covered, shown, first_fault, fault_of}
+use Rattle.bound_spec.specs.declared.Bound.{Bound}
+use Rattle.bound_spec.specs.declared.BoundFault.{BoundFault}
+use Rattle.bound_spec.specs.declared.BoundFault.TheVariants.{BoundNotInDesign, PlaceNotCovered, BoundNotShown}
+use Rattle.bound_spec.specs.declared.Evidence.TheVariants as evidence
+use Rattle.bound_spec.specs.declared.EvidenceFault.TheVariants as of
+use Rattle.bound_spec.specs.Validity.{names_design, is_consistent, covered, shown, first_fault, fault_of}
 use Rattle.rail_spec.specs.Track.{routes_of}
 use Rattle.sat_clause.specs.declared.lit.Lit.{Lit}
 use Rattle.bound_clause.specs.Numbered.{numbered_bound, clause_if_consistent}

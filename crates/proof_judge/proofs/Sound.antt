@@ -2,9 +2,9 @@
 use Rattle.std.proofs.Common.{◌≡◌, ◌≤◌, ◌<◌, ◌+◌, ◌-◌, ℕ, Bool, true, false, not, ◌&&◌, ◌==◌, if◌then◌else◌, List, [], ◌∷◌, ◌++◌, refl, ap, sym, ◌∙◌, arith, le_refl, is_none, is_some, Option, Some, None, Ok}
 use Rattle.std.specs.List.{list_all}
 use Rattle.rail_text.specs.Pieces.{pieces}
-use Rattle.alike_clauses.specs.Sorted.{sorted_base, HasSortedModel}
-use Rattle.alike_clauses.specs.Turns.{turn_clauses}
-use Rattle.alike_clauses.proofs.Holding.{has_model}
+use Rattle.alike_clause_spec.specs.Sorted.{sorted_base, HasSortedModel}
+use Rattle.alike_clause_spec.specs.Turns.{turn_clauses}
+use Rattle.alike_clause_spec.proofs.Holding.{has_model}
 use Rattle.bound_clause.proofs.Holding.{bound_holds}
 use Rattle.bound_clause.specs.Numbered.{numbered_bound}
 use Rattle.cone_clause.specs.Numbered.{numbered_clause}
@@ -15,9 +15,9 @@ use Rattle.log_checker.specs.Laws.{Denies}
 use Rattle.log_checker.specs.Truth.{clauses_hold}
 use Rattle.log_checker.specs.Verdict.{head_in}
 use Rattle.log_checker.proofs.ShownSo.{shown-so}
-use Rattle.plan_clauses.specs.Clauses.{base_clauses, past_limit}
-use Rattle.plan_clauses.specs.Models.{model_of}
-use Rattle.plan_clauses.specs.Variables.{By, number_of, variable_count}
+use Rattle.clause_spec.specs.Clauses.{base_clauses, past_limit}
+use Rattle.clause_spec.specs.Models.{model_of}
+use Rattle.clause_spec.specs.Variables.{By, number_of, variable_count}
 use Rattle.proof_log.specs.declared.head.Head.{Head}
 use Rattle.proof_log.specs.declared.head.Head.TheVariants.{Plain, Named, Sorted}
 use Rattle.rail_alike.specs.Tests.{neighbors}
@@ -25,15 +25,15 @@ use Rattle.rail_base.specs.declared.plan.Command.{Command}
 use Rattle.rail_base.specs.declared.route.Route.{Route}
 use Rattle.rail_base.specs.declared.station.Station.{Station}
 use Rattle.rail_base.specs.Admitted.{IsAdmitted}
-use Rattle.rail_bound.specs.declared.Evidence.{Evidence}
-use Rattle.rail_bound.specs.declared.Evidence.TheVariants as evidence
-use Rattle.rail_bound.specs.declared.EvidenceFault.{EvidenceFault}
-use Rattle.rail_bound.specs.declared.EvidenceFault.TheVariants as of
-use Rattle.rail_bound.specs.Validity as bound
-use Rattle.rail_cone.specs.declared.Cone.{Cone}
-use Rattle.rail_cone.specs.declared.ConeFault.{ConeFault}
-use Rattle.rail_cone.specs.Validity as cone
-use Rattle.rail_cone.proofs.Refusing.{holds_of_valid, timed_of}
+use Rattle.bound_spec.specs.declared.Evidence.{Evidence}
+use Rattle.bound_spec.specs.declared.Evidence.TheVariants as evidence
+use Rattle.bound_spec.specs.declared.EvidenceFault.{EvidenceFault}
+use Rattle.bound_spec.specs.declared.EvidenceFault.TheVariants as of
+use Rattle.bound_spec.specs.Validity as bound
+use Rattle.cone_spec.specs.declared.Cone.{Cone}
+use Rattle.cone_spec.specs.declared.ConeFault.{ConeFault}
+use Rattle.cone_spec.specs.Validity as cone
+use Rattle.cone_spec.proofs.Refusing.{holds_of_valid, timed_of}
 use Rattle.rail_spec.specs.Feasible.{IsFeasible, IsInfeasible}
 use Rattle.rail_spec.specs.Track.{routes_of}
 use Rattle.sat_clause.specs.Clauses.{clause_holds}

@@ -1,16 +1,16 @@
 -- What a file shows under a head, by parts that were made of the design.
 use Rattle.std.proofs.Common.{◌≡◌, ℕ, true, false, not, ◌&&◌, ◌==◌, if◌then◌else◌, is_some, List, ◌++◌, Option, None, Some, Result, IfOk, sym, ap, ◌∙◌, subst}
 use Rattle.std.proofs.lemmas.List.{map-append}
-use Rattle.alike_clauses.specs.Sorted.{sorted_base}
+use Rattle.alike_clause_spec.specs.Sorted.{sorted_base}
 use Rattle.log_checker.specs.declared.check_result.CheckResult.{CheckResult}
 use Rattle.log_checker.specs.declared.check_result.CheckResult.TheVariants.{No}
 use Rattle.log_checker.specs.declared.check_result.Reason.TheVariants.{HeadDiffers, BaseTooLarge}
 use Rattle.log_checker.specs.Verdict.{log_verdict}
-use Rattle.plan_clauses.specs.Clauses.{base_clauses, past_limit}
-use Rattle.plan_clauses.specs.Variables.{variable_count}
+use Rattle.clause_spec.specs.Clauses.{base_clauses, past_limit}
+use Rattle.clause_spec.specs.Variables.{variable_count}
 use Rattle.plan_encoding.specs.Sorted.{IsSortedBaseOf}
 use Rattle.plan_encoding.specs.declared.sorted.SortedBase.{SortedBase}
-use Rattle.alike_clauses.specs.Turns.{turn_clauses}
+use Rattle.alike_clause_spec.specs.Turns.{turn_clauses}
 use Rattle.rail_alike.specs.Tests.{neighbors}
 use Rattle.proof_log.specs.declared.head.Head.{Head}
 use Rattle.proof_log.specs.declared.head.Head.TheVariants.{Named, Sorted}

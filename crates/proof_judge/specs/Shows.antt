@@ -1,7 +1,7 @@
 -- The clauses that cones and bounds of a design show.
 use Rattle.std.specs.Prelude.{List, Result}
-use Rattle.rail_bound.specs.declared.Evidence.{Evidence}
-use Rattle.rail_bound.specs.declared.EvidenceFault.{EvidenceFault}
+use Rattle.bound_spec.specs.declared.Evidence.{Evidence}
+use Rattle.bound_spec.specs.declared.EvidenceFault.{EvidenceFault}
 use Rattle.sat_clause.specs.declared.lit.Lit.{Lit}
 use Rattle.proof_judge.specs.declared.evidence.ByDesign.{ByDesign}
 use Rattle.proof_judge.specs.Judged.{refuted}

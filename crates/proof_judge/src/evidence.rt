@@ -1,8 +1,8 @@
 //! The clauses of the cones and bounds of a design.
 
 ghost use Rattle.std.specs.Prelude.{◌≡◌, IfOk, Ok, Err};
-ghost use Rattle.rail_bound.specs.declared.Evidence.TheVariants as evidence;
-ghost use Rattle.rail_bound.specs.declared.EvidenceFault.{EvidenceFault};
+ghost use Rattle.bound_spec.specs.declared.Evidence.TheVariants as evidence;
+ghost use Rattle.bound_spec.specs.declared.EvidenceFault.{EvidenceFault};
 ghost use Rattle.log_checker.specs.declared.refuter.RefuteFault.TheVariants.{NotRefuted};
 ghost use Rattle.proof_judge.specs.Judged.{refuted};
 
@@ -14,8 +14,8 @@ use cone_form::Contention;
 use cone_run::fault_of;
 use interlocking::Steps;
 use log_checker::{RefuteFault, Refuter};
-use rail_bound::{Bound, BoundFault, Evidence, EvidenceFault};
-use rail_cone::Cone;
+use bound_spec::{Bound, BoundFault, Evidence, EvidenceFault};
+use cone_spec::Cone;
 use sat_clause::Lit;
 use std::alloc::Global;
 

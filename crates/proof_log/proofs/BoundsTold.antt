@@ -5,14 +5,14 @@ use Rattle.std.specs.Str.{bytes_eq}
 use Rattle.std.proofs.lemmas.Bool.{eq-eqb}
 use Rattle.rail_base.specs.declared.plan.Command.{Command}
 use Rattle.rail_base.specs.declared.route.RouteNo.{RouteNo}
-use Rattle.rail_cone.specs.declared.ConeTrain.{ConeTrain}
-use Rattle.rail_bound.specs.declared.Requirement.{Requirement}
-use Rattle.rail_bound.specs.declared.Requirement.TheVariants as requirements
-use Rattle.rail_bound.specs.declared.Origin.TheVariants as origins
-use Rattle.rail_bound.specs.declared.Place.{Place}
-use Rattle.rail_bound.specs.declared.Place.TheVariants as place
-use Rattle.rail_bound.specs.declared.Leg.{Leg}
-use Rattle.rail_bound.specs.Certificates.{violation_of}
+use Rattle.cone_spec.specs.declared.ConeTrain.{ConeTrain}
+use Rattle.bound_spec.specs.declared.Requirement.{Requirement}
+use Rattle.bound_spec.specs.declared.Requirement.TheVariants as requirements
+use Rattle.bound_spec.specs.declared.Origin.TheVariants as origins
+use Rattle.bound_spec.specs.declared.Place.{Place}
+use Rattle.bound_spec.specs.declared.Place.TheVariants as place
+use Rattle.bound_spec.specs.declared.Leg.{Leg}
+use Rattle.bound_spec.specs.Certificates.{violation_of}
 use Rattle.proof_log.specs.Words.{greatest_clause_number, is_small, plain_number_of, route_of, members_of}
 use Rattle.proof_log.specs.Parts.{Reads, made, with_next, first_of, has_member, part_before, small_number, two_numbers, train_path, some_cone_trains, cone_pairs}
 use Rattle.proof_log.specs.ConeText.{route_word, list_words, train_words, pair_words, keeps_path, keeps_train, keeps_pair}

@@ -3,11 +3,11 @@ use Rattle.std.proofs.Common.{◌≡◌, ℕ, List, [], ◌∷◌, ◌++◌, app
 use Rattle.std.specs.List.{join_with_byte}
 use Rattle.sat_clause.specs.declared.lit.Lit.{Lit}
 use Rattle.rail_base.specs.declared.route.RouteNo.{RouteNo}
-use Rattle.rail_cone.specs.declared.Cone.{Cone}
-use Rattle.rail_bound.specs.declared.Origin.TheVariants as origins
-use Rattle.rail_bound.specs.declared.Place.TheVariants as place
-use Rattle.rail_bound.specs.declared.Leg.{Leg}
-use Rattle.rail_bound.specs.declared.Bound.{Bound}
+use Rattle.cone_spec.specs.declared.Cone.{Cone}
+use Rattle.bound_spec.specs.declared.Origin.TheVariants as origins
+use Rattle.bound_spec.specs.declared.Place.TheVariants as place
+use Rattle.bound_spec.specs.declared.Leg.{Leg}
+use Rattle.bound_spec.specs.declared.Bound.{Bound}
 use Rattle.proof_log.specs.declared.line.Line.TheVariants.{Derive, Forget}
 use Rattle.proof_log.specs.ConeText.{literal_word, route_word, list_words, train_words, pair_words, violation_words, cone_words}
 use Rattle.proof_log.specs.BoundText.{requirement_words, origin_words, place_words, leg_words, bound_words}

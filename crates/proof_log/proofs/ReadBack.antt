@@ -2,7 +2,7 @@
 use Rattle.std.proofs.Common.{◌≡◌, ℕ, true, ◌&&◌, List, [], ◌∷◌, ◌++◌, map, codes, decimal, Some, refl, sym, ap, ◌∙◌, lit<, append-nil}
 use Rattle.std.specs.List.{list_all}
 use Rattle.rail_text.specs.Laws.{NumbersReadBack}
-use Rattle.rail_bound.specs.declared.Evidence.TheVariants as evidence
+use Rattle.bound_spec.specs.declared.Evidence.TheVariants as evidence
 use Rattle.proof_log.specs.declared.line.Line.{Line}
 use Rattle.proof_log.specs.declared.line.Line.TheVariants.{Derive, Refute, Forget}
 use Rattle.proof_log.specs.Words.{greatest_variable, greatest_clause_number, is_from_1_to, words_of, literal_of, clause_number_of, members_of}

@@ -7,7 +7,7 @@ use Rattle.rail_base.specs.declared.plan.Command.{Command}
 use Rattle.rail_base.specs.declared.plan.Violation.{Violation}
 use Rattle.rail_base.specs.declared.plan.Violation.TheVariants.{Within, Order}
 use Rattle.rail_base.specs.declared.route.RouteNo.{RouteNo}
-use Rattle.rail_cone.specs.declared.ConeTrain.{ConeTrain}
+use Rattle.cone_spec.specs.declared.ConeTrain.{ConeTrain}
 use Rattle.proof_log.specs.Words.{greatest_variable, greatest_clause_number, is_from_1_to, is_small, plain_number_of, small_number_of, route_of, members_of}
 use Rattle.proof_log.specs.Parts.{Reads, made, with_next, first_of, has_member, if_any, part_before, parts_of, all_parts, small_number, two_numbers, command_by, command, path_by, grant_by, visit_by, violation_of, violation, is_nothing, holder_of, train_prefix, train_path, train_by, cone_train, pair, cone_by, cone}
 use Rattle.proof_log.specs.Lines.{if_all}

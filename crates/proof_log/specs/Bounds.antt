@@ -3,16 +3,16 @@ use Rattle.std.specs.Prelude.{ℕ, zero, suc, List, [], ◌∷◌, length, Optio
 use Rattle.std.specs.Str.{bytes_eq}
 use Rattle.rail_base.specs.declared.plan.Command.{Command}
 use Rattle.rail_base.specs.declared.route.RouteNo.{RouteNo}
-use Rattle.rail_cone.specs.declared.ConeTrain.{ConeTrain}
-use Rattle.rail_bound.specs.declared.Requirement.{Requirement}
-use Rattle.rail_bound.specs.declared.Requirement.TheVariants as requirements
-use Rattle.rail_bound.specs.declared.Origin.{Origin}
-use Rattle.rail_bound.specs.declared.Origin.TheVariants as origins
-use Rattle.rail_bound.specs.declared.Place.{Place}
-use Rattle.rail_bound.specs.declared.Place.TheVariants as place
-use Rattle.rail_bound.specs.declared.Leg.{Leg}
-use Rattle.rail_bound.specs.declared.Bound.{Bound}
-use Rattle.rail_bound.specs.Certificates.{violation_of}
+use Rattle.cone_spec.specs.declared.ConeTrain.{ConeTrain}
+use Rattle.bound_spec.specs.declared.Requirement.{Requirement}
+use Rattle.bound_spec.specs.declared.Requirement.TheVariants as requirements
+use Rattle.bound_spec.specs.declared.Origin.{Origin}
+use Rattle.bound_spec.specs.declared.Origin.TheVariants as origins
+use Rattle.bound_spec.specs.declared.Place.{Place}
+use Rattle.bound_spec.specs.declared.Place.TheVariants as place
+use Rattle.bound_spec.specs.declared.Leg.{Leg}
+use Rattle.bound_spec.specs.declared.Bound.{Bound}
+use Rattle.bound_spec.specs.Certificates.{violation_of}
 use Rattle.proof_log.specs.Words.{plain_number_of, route_of, members_of}
 use Rattle.proof_log.specs.Parts.{Reads, made, with_next, first_of, if_any, part_before, all_parts}
 use Rattle.proof_log.specs.Parts.{small_number, two_numbers, train_path, some_cone_trains, cone_pairs}

@@ -3,9 +3,9 @@ use Rattle.std.specs.Prelude.{ℕ, Bool, List, [], ◌∷◌, drop, nat_lt, Opti
 use Rattle.std.specs.List.{list_all, zip}
 use Rattle.std.specs.Str.{bytes_eq}
 use Rattle.sat_clause.specs.declared.lit.Lit.{Lit}
-use Rattle.rail_cone.specs.declared.Cone.{Cone}
-use Rattle.rail_bound.specs.declared.Bound.{Bound}
-use Rattle.rail_bound.specs.declared.Evidence.TheVariants as evidence
+use Rattle.cone_spec.specs.declared.Cone.{Cone}
+use Rattle.bound_spec.specs.declared.Bound.{Bound}
+use Rattle.bound_spec.specs.declared.Evidence.TheVariants as evidence
 use Rattle.proof_log.specs.declared.line.Line.{Line}
 use Rattle.proof_log.specs.declared.line.Line.TheVariants.{Derive, Refute, Forget}
 use Rattle.proof_log.specs.Words.{words_of, literal_of, clause_number_of, members_of}

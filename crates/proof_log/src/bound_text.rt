@@ -5,7 +5,7 @@ ghost use Rattle.proof_log.specs.Writing.{spaced};
 ghost use Rattle.proof_log.specs.BoundText.{requirement_words, origin_words, place_words, leg_words, bound_words};
 
 use crate::cone_text::{put_entry, put_kind, put_pairs, put_path, put_spaced, put_trains};
-use rail_bound::{Bound, Leg, Origin, Place, Requirement};
+use bound_spec::{Bound, Leg, Origin, Place, Requirement};
 use std::alloc::AllocError;
 
 /// Appends a bound.

@@ -9,7 +9,7 @@ use crate::legs::some_legs;
 use crate::line::LineFault;
 use crate::origins::origin;
 use crate::requirements::requirement;
-use rail_bound::Bound;
+use bound_spec::Bound;
 use std::alloc::Global;
 
 /// A bound, and the words after it.

@@ -7,7 +7,7 @@ ghost use Rattle.proof_log.specs.Writing.{spaced};
 
 use rail_base::plan::{Command, Violation};
 use rail_base::route::RouteNo;
-use rail_cone::{Cone, ConeTrain};
+use cone_spec::{Cone, ConeTrain};
 use rail_text::put_number;
 use std::alloc::AllocError;
 

@@ -14,7 +14,7 @@ use rail_base::list::List;
 use rail_base::plan::Command;
 use rail_base::route::RouteNo;
 use rail_base::station::TrainNo;
-use rail_cone::{Cone, ConeTrain};
+use cone_spec::{Cone, ConeTrain};
 use std::alloc::Global;
 
 /// The routes up to the word `0`, of which there is one.

@@ -15,7 +15,7 @@ use crate::words::first_word;
 use rail_base::list::List;
 use rail_base::route::RouteNo;
 use rail_base::station::TrainNo;
-use rail_bound::{Leg, Place};
+use bound_spec::{Leg, Place};
 use std::alloc::Global;
 
 /// The legs of a certificate, of which there is one.

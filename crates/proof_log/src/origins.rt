@@ -1,7 +1,7 @@
 //! Origins from the words of a line.
 
 ghost use Rattle.std.specs.Prelude.{◌≡◌, IfOk, Some, None, Err};
-ghost use Rattle.rail_bound.specs.Certificates.{violation_of};
+ghost use Rattle.bound_spec.specs.Certificates.{violation_of};
 ghost use Rattle.proof_log.specs.Parts.{made};
 ghost use Rattle.proof_log.specs.Reading.{words_left};
 ghost use Rattle.proof_log.specs.declared.line.LineFault.TheVariants.{Text};
@@ -12,8 +12,8 @@ use crate::line::LineFault;
 use crate::parts::horizon;
 use crate::words::first_word;
 use rail_base::plan::Violation;
-use rail_bound::{Origin, Requirement};
-use rail_cone::Cone;
+use bound_spec::{Origin, Requirement};
+use cone_spec::Cone;
 use std::alloc::Global;
 
 /// An origin for a requirement, and the words after it.

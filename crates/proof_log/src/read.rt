@@ -14,7 +14,7 @@ use crate::cones::cone;
 use crate::line::{Line, LineFault};
 use crate::members::{has_member, read_members};
 use crate::words::first_word;
-use rail_bound::Evidence;
+use bound_spec::Evidence;
 use sat_clause::Lit;
 use std::alloc::Global;
 

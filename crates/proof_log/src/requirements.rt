@@ -1,7 +1,7 @@
 //! Requirements from the words of a line.
 
 ghost use Rattle.std.specs.Prelude.{◌≡◌};
-ghost use Rattle.rail_bound.specs.declared.Requirement.TheVariants.{Within, Order};
+ghost use Rattle.bound_spec.specs.declared.Requirement.TheVariants.{Within, Order};
 ghost use Rattle.proof_log.specs.Parts.{made, small_number, two_numbers};
 ghost use Rattle.proof_log.specs.Reading.{words_left, with_words};
 ghost use Rattle.proof_log.specs.Bounds.{route, visit_by, grant_by, granted, requirement_of, requirement};
@@ -12,7 +12,7 @@ use crate::words::first_word;
 use rail_base::plan::Command;
 use rail_base::route::RouteNo;
 use rail_base::station::TrainNo;
-use rail_bound::Requirement;
+use bound_spec::Requirement;
 
 /// A route, from 1 on, and the words after it.
 pub fn route(text: Option<&[u8]>) -> Option<(RouteNo, Option<&[u8]>)>

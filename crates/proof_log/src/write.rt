@@ -10,8 +10,8 @@ ghost use Rattle.proof_log.specs.declared.line.Line.TheVariants.{Derive, Refute,
 use crate::bound_text::put_bound;
 use crate::cone_text::put_cone;
 use crate::line::Line;
-use rail_bound::{Bound, Evidence};
-use rail_cone::Cone;
+use bound_spec::{Bound, Evidence};
+use cone_spec::Cone;
 use rail_text::put_number;
 use sat_clause::Lit;
 use std::alloc::{AllocError, Global};

@@ -3,12 +3,12 @@ use Rattle.std.proofs.Common.{◌≡◌, ℕ, ◌+◌, Bool, true, false, not, �
 use Rattle.rail_base.specs.declared.station.Station.{Station}
 use Rattle.rail_base.specs.Numbering.{after_first}
 use Rattle.rail_base.proofs.Members.{and_left}
-use Rattle.rail_bound.specs.declared.BoundFault.{BoundFault}
-use Rattle.rail_bound.specs.declared.Evidence.{Evidence}
-use Rattle.rail_bound.specs.declared.Evidence.TheVariants as evidence
-use Rattle.rail_bound.specs.declared.EvidenceFault.{EvidenceFault}
-use Rattle.rail_bound.specs.declared.EvidenceFault.TheVariants as of
-use Rattle.rail_bound.specs.Validity.{covered, fault_of, first_fault, in_design, is_consistent, names_design, shown}
+use Rattle.bound_spec.specs.declared.BoundFault.{BoundFault}
+use Rattle.bound_spec.specs.declared.Evidence.{Evidence}
+use Rattle.bound_spec.specs.declared.Evidence.TheVariants as evidence
+use Rattle.bound_spec.specs.declared.EvidenceFault.{EvidenceFault}
+use Rattle.bound_spec.specs.declared.EvidenceFault.TheVariants as of
+use Rattle.bound_spec.specs.Validity.{covered, fault_of, first_fault, in_design, is_consistent, names_design, shown}
 use Rattle.rail_spec.specs.Track.{routes_of}
 use Rattle.rail_text.specs.Pieces.{pieces}
 use Rattle.rail_text.specs.Pieces.{Line as Piece}
@@ -19,8 +19,8 @@ use Rattle.log_checker.specs.declared.check_result.CheckResult.TheVariants.{Yes,
 use Rattle.log_checker.specs.declared.check_result.Reason.{Reason}
 use Rattle.log_checker.specs.declared.check_result.Reason.TheVariants.{HeadDiffers, BaseTooLarge, Text}
 use Rattle.log_checker.specs.Verdict.{SoFar, after_line, at_first, by_evidence, head_in, if_within, is_headed, may_stand, result_of, result_from, parsed, taken}
-use Rattle.plan_clauses.specs.Clauses.{past_limit}
-use Rattle.plan_clauses.specs.Variables.{variable_count}
+use Rattle.clause_spec.specs.Clauses.{past_limit}
+use Rattle.clause_spec.specs.Variables.{variable_count}
 use Rattle.proof_log.specs.declared.head.Head.{Head}
 use Rattle.proof_log.specs.declared.head.Head.TheVariants.{Plain, Named, Sorted}
 use Rattle.proof_log.specs.declared.line.Line.{Line}

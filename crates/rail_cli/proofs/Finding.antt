@@ -4,7 +4,7 @@ use Rattle.std.specs.List.{concat}
 use Rattle.std.proofs.lemmas.List.{append-nil}
 use Rattle.infra_reader.specs.Design.{design_of}
 use Rattle.log_checker.specs.declared.check_result.CheckResult.TheVariants.{Yes}
-use Rattle.plan_clauses.specs.Clauses.{past_limit}
+use Rattle.clause_spec.specs.Clauses.{past_limit}
 use Rattle.plan_exclusion.specs.declared.method.Method.{Method}
 use Rattle.plan_exclusion.specs.declared.method.Method.TheVariants.{Cones}
 use Rattle.proof_judge.specs.Judged.{judged}

@@ -11,7 +11,7 @@ use Rattle.rail_spec.specs.Feasible.{IsFeasible}
 use Rattle.rail_spec.specs.Histories.{decided}
 use Rattle.rail_spec.specs.Requirements.{cost, path_violation, violation_at}
 use Rattle.rail_spec.specs.Track.{routes_of}
-use Rattle.plan_clauses.specs.Clauses.{base_clauses, past_limit}
+use Rattle.clause_spec.specs.Clauses.{base_clauses, past_limit}
 use Rattle.plan_exclusion.specs.declared.method.Method.TheVariants.{Cones}
 use Rattle.rail_words.specs.Requests.{RequestSeen, simulate, routes, verify, check, trial, IsInRange}
 use Rattle.verify_loop.specs.declared.outcome.Budgets.{Budgets}

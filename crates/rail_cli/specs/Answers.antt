@@ -11,7 +11,7 @@ use Rattle.infra_reader.specs.Design.{design_of}
 use Rattle.log_checker.specs.declared.check_result.CheckResult.{CheckResult}
 use Rattle.log_checker.specs.declared.check_result.CheckResult.TheVariants as check_result
 use Rattle.proof_judge.specs.Judged.{judged}
-use Rattle.plan_clauses.specs.Clauses.{past_limit}
+use Rattle.clause_spec.specs.Clauses.{past_limit}
 use Rattle.plan_exclusion.specs.declared.method.Method.{Method}
 use Rattle.plan_exclusion.specs.declared.method.Method.TheVariants.{Cones, Bounds}
 use Rattle.rail_base.specs.declared.station.Station.{Station}

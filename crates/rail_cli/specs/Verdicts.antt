@@ -1,7 +1,7 @@
 -- Requests of which nothing is refused, and what a run of them comes to.
 use Rattle.std.specs.Prelude.{◌≡◌, ◌≤◌, ◌⊎◌, ℕ, ◌*◌, List, [], length, Option, None, Some, Ok}
 use Rattle.infra_reader.specs.Design.{design_of}
-use Rattle.plan_clauses.specs.Clauses.{literals}
+use Rattle.clause_spec.specs.Clauses.{literals}
 use Rattle.plan_exclusion.specs.declared.method.Method.{Method}
 use Rattle.plan_exclusion.specs.declared.method.Method.TheVariants.{Cones}
 use Rattle.rail_base.specs.declared.plan.Command.{Command}

@@ -20,7 +20,7 @@ use proof_judge::ByDesign;
 use proof_log::{Head, Line, write_head, write_line};
 use rail_base::history::Verdict;
 use rail_base::plan::Plan;
-use rail_bound::Evidence;
+use bound_spec::Evidence;
 use rail_plan::reading::read_plan;
 use sat_clause::Lit;
 use sat_core::{Answer, Assignment, Recorder, Solver};

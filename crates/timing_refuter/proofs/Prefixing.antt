@@ -6,11 +6,11 @@ use Rattle.rail_base.specs.declared.station.TrainNo.{TrainNo}
 use Rattle.rail_base.specs.declared.route.Route.{Route}
 use Rattle.rail_base.specs.declared.plan.Command.{Command}
 use Rattle.rail_base.specs.Stations.{trains}
-use Rattle.rail_cone.specs.declared.ConeTrain.{ConeTrain}
-use Rattle.rail_slice.specs.Holders.{count_at, is_holder, is_the}
+use Rattle.cone_spec.specs.declared.ConeTrain.{ConeTrain}
+use Rattle.slice_spec.specs.Holders.{count_at, is_holder, is_the}
 use Rattle.rail_spec.specs.Plans.{path}
-use Rattle.rail_slice.specs.Slices.{past_last, named_count, names, slice_train}
-use Rattle.rail_slice.proofs.Alone.{past_last-same}
+use Rattle.slice_spec.specs.Slices.{past_last, named_count, names, slice_train}
+use Rattle.slice_spec.proofs.Alone.{past_last-same}
 use Rattle.timing_refuter.specs.Prefixes.{holds_one, needed_count, prefix_of, prefixes_of}
 use Rattle.timing_refuter.specs.Raises.{seen_train}
 

@@ -2,9 +2,9 @@
 use Rattle.std.specs.Prelude.{ℕ, ◌+◌, max, Bool, if◌then◌else◌, List, map, filter, take, nat_le}
 use Rattle.std.specs.List.{list_any}
 use Rattle.rail_base.specs.declared.plan.Command.{Command}
-use Rattle.rail_cone.specs.declared.ConeTrain.{ConeTrain}
-use Rattle.rail_slice.specs.Holders.{is_the}
-use Rattle.rail_slice.specs.Slices.{past_last}
+use Rattle.cone_spec.specs.declared.ConeTrain.{ConeTrain}
+use Rattle.slice_spec.specs.Holders.{is_the}
+use Rattle.slice_spec.specs.Slices.{past_last}
 
 -- one of the trains is held up by the command
 abbrev pub holds_one : List ConeTrain → Command → Bool

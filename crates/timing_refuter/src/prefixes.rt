@@ -5,7 +5,7 @@ ghost use Rattle.timing_refuter.specs.Prefixes.{prefix_of, prefixes_of, holds_on
 
 use rail_base::list::List;
 use rail_base::plan::Command;
-use rail_cone::ConeTrain;
+use cone_spec::ConeTrain;
 use std::alloc::{AllocError, Global};
 
 /// The trains of which any commands are needed, with those commands.

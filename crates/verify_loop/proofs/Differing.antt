@@ -2,7 +2,7 @@
 use Rattle.std.proofs.Common.{◌≡◌, ℕ, ◌≤◌, true, false, ◌&&◌, List, [], ◌∷◌, ◌++◌, map, refl, inl, inr, sym, subst, ◌∙◌, true≢false}
 use Rattle.std.specs.List.{list_all}
 use Rattle.std.proofs.lemmas.List.Folds.{list_all-append}
-use Rattle.plan_clauses.specs.Models.{model_of}
+use Rattle.clause_spec.specs.Models.{model_of}
 use Rattle.plan_exclusion.specs.declared.method.Method.{Method}
 use Rattle.plan_exclusion.specs.Failures.{IsShownBy, clause_shown}
 use Rattle.plan_exclusion.proofs.Denying.{evidence_denies}
@@ -12,7 +12,7 @@ use Rattle.rail_base.specs.Admitted.{IsAdmitted}
 use Rattle.rail_base.specs.Members.{Differ}
 use Rattle.rail_base.proofs.Members.{In, and_right, list_all_at}
 use Rattle.rail_base.proofs.Lists.{in_append_left, in_append_right, in_map}
-use Rattle.rail_bound.specs.declared.Evidence.{Evidence}
+use Rattle.bound_spec.specs.declared.Evidence.{Evidence}
 use Rattle.rail_spec.specs.Track.{routes_of}
 use Rattle.sat_clause.specs.Clauses.{clause_holds}
 use Rattle.verify_loop.specs.Outcomes.{Refutal, plans_of, first_clauses, IsFound, AreRefuted}

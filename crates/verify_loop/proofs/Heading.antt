@@ -2,7 +2,7 @@
 use Rattle.std.proofs.Common.{◌≡◌, ℕ, ◌≤◌, true, not, ◌&&◌, ◌==◌, is_some, if◌then◌else◌, List, Some, None, refl, ap, ◌∙◌, eq-eqb, arith, le-leb}
 use Rattle.log_checker.specs.declared.check_result.CheckResult.TheVariants.{No}
 use Rattle.log_checker.specs.declared.check_result.Reason.TheVariants.{HeadDiffers, BaseTooLarge}
-use Rattle.plan_clauses.specs.Clauses.{past_limit}
+use Rattle.clause_spec.specs.Clauses.{past_limit}
 use Rattle.plan_exclusion.specs.declared.method.Method.{Method}
 use Rattle.plan_exclusion.specs.declared.method.Method.TheVariants.{Cones, Bounds}
 use Rattle.proof_judge.specs.Judged.{judged_by, judged_under}

@@ -1,6 +1,6 @@
 -- What the answers of a solver say of a search that goes on.
 use Rattle.std.proofs.Common.{◌≡◌, ℕ, ◌+◌, ◌-◌, ◌<◌, ◌≤◌, true, false, List, [], ◌∷◌, ◌++◌, map, flat_map, length, nat_le, Option, Some, None, ◌⊎◌, inl, inr, refl, sym, ap, subst, ◌∙◌, arith, append-nil, length-append}
-use Rattle.plan_clauses.specs.Clauses.{past_limit}
+use Rattle.clause_spec.specs.Clauses.{past_limit}
 use Rattle.plan_exclusion.specs.declared.method.Method.{Method}
 use Rattle.proof_log.specs.Heads.{keeps_head}
 use Rattle.std.proofs.lemmas.Bool.Decides.{nat_tests}

@@ -1,13 +1,13 @@
 -- Values that make the clauses of trains in turn true tell of a plan whose model does.
 use Rattle.std.proofs.Common.{◌≡◌, ℕ, ◌≤◌, inl, inr, Bool, true, List, map, flat_map, sym, ap, subst, ◌∙◌}
 use Rattle.std.specs.List.{list_all}
-use Rattle.alike_clauses.specs.Turns.{beginnings, has_begun, in_turn, turn_clauses}
-use Rattle.alike_clauses.proofs.Holding.{OfPair, of_pair, all_known}
-use Rattle.plan_clauses.specs.Clauses.{Clause, base_clauses}
-use Rattle.plan_clauses.specs.Models.{decoded, model_of}
-use Rattle.plan_clauses.specs.Variables.{Variable, Given, Before, By, Literal, yes, number_of, numbered}
-use Rattle.plan_clauses.proofs.Decode.{decoded_given}
-use Rattle.plan_clauses.proofs.Numbers.{Known, clause_says, holds_alike}
+use Rattle.alike_clause_spec.specs.Turns.{beginnings, has_begun, in_turn, turn_clauses}
+use Rattle.alike_clause_spec.proofs.Holding.{OfPair, of_pair, all_known}
+use Rattle.clause_spec.specs.Clauses.{Clause, base_clauses}
+use Rattle.clause_spec.specs.Models.{decoded, model_of}
+use Rattle.clause_spec.specs.Variables.{Variable, Given, Before, By, Literal, yes, number_of, numbered}
+use Rattle.clause_spec.proofs.Decode.{decoded_given}
+use Rattle.clause_spec.proofs.Numbers.{Known, clause_says, holds_alike}
 use Rattle.rail_alike.specs.Tests.{neighbors}
 use Rattle.rail_alike.proofs.Next.{neighbors_named}
 use Rattle.rail_base.specs.declared.route.RouteNo.{RouteNo}

@@ -5,7 +5,7 @@ use Rattle.plan_exclusion.specs.Exclusions.{IsExclusion}
 use Rattle.plan_exclusion.specs.Failures.{AreValuesOfPlan}
 use Rattle.rail_base.specs.declared.plan.Command.{Command}
 use Rattle.rail_base.specs.declared.station.Station.{Station}
-use Rattle.rail_bound.specs.declared.Evidence.{Evidence}
+use Rattle.bound_spec.specs.declared.Evidence.{Evidence}
 use Rattle.log_recorder.specs.Logs as logs
 use Rattle.sat_clause.specs.declared.lit.Lit.{Lit}
 use Rattle.sat_clause.specs.Clauses.{opposite}

@@ -1,7 +1,7 @@
 -- The clauses of which a search is made.
 use Rattle.std.specs.Prelude.{ℕ, ◌≡◌, ◌++◌, List, Some}
 use Rattle.interlocking.specs.declared.railway.Interlocking.{Interlocking}
-use Rattle.plan_clauses.specs.Clauses.{base_clauses, past_limit}
+use Rattle.clause_spec.specs.Clauses.{base_clauses, past_limit}
 use Rattle.plan_encoding.specs.Bases.{IsBaseOf, Numbered}
 use Rattle.plan_encoding.specs.declared.sink.BaseFault.{BaseFault}
 use Rattle.plan_encoding.specs.declared.sink.BaseFault.TheVariants.{TooLarge, Memory}

@@ -2,15 +2,15 @@
 use Rattle.std.specs.Prelude.{ℕ, ◌≡◌, ◌+◌, ◌<◌, ◌≤◌, ◌⊎◌, true, List, [], ◌∷◌, ◌++◌, map, length, None, Some, sum_by}
 use Rattle.std.specs.List.{list_all}
 use Rattle.log_checker.specs.declared.check_result.CheckResult.TheVariants.{Yes}
-use Rattle.plan_clauses.specs.Clauses.{past_limit}
-use Rattle.plan_clauses.specs.Models.{model_of}
-use Rattle.plan_clauses.specs.Variables.{variable_count}
+use Rattle.clause_spec.specs.Clauses.{past_limit}
+use Rattle.clause_spec.specs.Models.{model_of}
+use Rattle.clause_spec.specs.Variables.{variable_count}
 use Rattle.plan_exclusion.specs.declared.method.Method.{Method}
 use Rattle.plan_exclusion.specs.Exclusions.{head_for}
 use Rattle.plan_exclusion.specs.Failures.{IsShownBy, clause_shown}
 use Rattle.proof_judge.specs.Judged.{all_live, clauses_under, judged, refuted}
 use Rattle.proof_log.specs.declared.line.Line.TheVariants.{Refute}
-use Rattle.rail_bound.specs.declared.Evidence.{Evidence}
+use Rattle.bound_spec.specs.declared.Evidence.{Evidence}
 use Rattle.proof_log.specs.declared.head.Head.{Head}
 use Rattle.proof_log.specs.Heads.{head_text}
 use Rattle.proof_log.specs.Text.{text_of_line}

@@ -1,7 +1,7 @@
 //! A search, round after round.
 
 ghost use Rattle.std.specs.Prelude.{◌≡◌, ◌≤◌, ◌<◌, ◌+◌, [], ◌∷◌, IfOk, IfErr, None};
-ghost use Rattle.plan_clauses.specs.Clauses.{past_limit};
+ghost use Rattle.clause_spec.specs.Clauses.{past_limit};
 ghost use Rattle.verify_loop.specs.Bases.{IsBaseFor};
 ghost use Rattle.verify_loop.specs.Outcomes.{first_clauses};
 ghost use Rattle.verify_loop.specs.Searching.{state_in};

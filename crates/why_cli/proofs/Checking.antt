@@ -3,7 +3,7 @@ use Rattle.std.proofs.Common.{◌≡◌, ◌≢◌, ℕ, List, Some, None, Resul
 use Rattle.infra_reader.specs.Design.{design_of}
 use Rattle.log_checker.specs.declared.check_result.CheckResult.{CheckResult}
 use Rattle.log_checker.specs.declared.check_result.CheckResult.TheVariants.{Yes, No}
-use Rattle.plan_clauses.specs.Clauses.{base_clauses, past_limit}
+use Rattle.clause_spec.specs.Clauses.{base_clauses, past_limit}
 use Rattle.plan_exclusion.specs.declared.method.Method.TheVariants.{Cones}
 use Rattle.proof_judge.specs.Judged.{judged}
 use Rattle.proof_words.specs.Explained.{sentences_where_yes}

@@ -1,6 +1,6 @@
 use Rattle.std.proofs.Common.{nat_lt, List, sym, ap, ◌∙◌}
 use Rattle.rail_base.specs.Members.{all_neighbors}
-use Rattle.rail_cone.specs.declared.ConeTrain.{ConeTrain}
+use Rattle.cone_spec.specs.declared.ConeTrain.{ConeTrain}
 use Rattle.cone_form.proofs.Walks.{and_then}
 use Rattle.cone_form.proofs.Joined.{second_holds}
 use Rattle.cone_form.proofs.trains_fit.Goals as goal

@@ -1,8 +1,8 @@
 use Rattle.std.proofs.Common.{◌≡◌, ◌-◌, List, length, Some, ap, subst, ◌∙◌}
 use Rattle.std.specs.List.{slice_get}
-use Rattle.rail_bound.specs.declared.Place.{Place}
-use Rattle.rail_bound.specs.Certificates.{is_named_place}
-use Rattle.rail_bound.proofs.Ending.{last_place}
+use Rattle.bound_spec.specs.declared.Place.{Place}
+use Rattle.bound_spec.specs.Certificates.{is_named_place}
+use Rattle.bound_spec.proofs.Ending.{last_place}
 use Rattle.bound_clause.proofs.meetings.is_last_named.Goals as goal
 
 pub returns-in-Some : goal.returns-in-Some

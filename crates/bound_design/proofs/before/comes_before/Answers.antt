@@ -1,8 +1,8 @@
 use Rattle.std.proofs.Common.{All, List, sym, ap, subst, ◌∙◌}
 use Rattle.rail_base.specs.declared.route.RouteNo.{RouteNo}
 use Rattle.rail_base.specs.Routes.{IsRoute}
-use Rattle.rail_bound.specs.declared.Place.{Place}
-use Rattle.rail_bound.specs.Validity.{place_in_design}
+use Rattle.bound_spec.specs.declared.Place.{Place}
+use Rattle.bound_spec.specs.Validity.{place_in_design}
 use Rattle.bound_design.specs.Covered.{comes_before_in, follows_among}
 use Rattle.bound_design.proofs.Paired.{kept_there, routes_there}
 use Rattle.bound_design.proofs.before.comes_before.Goals as goal

@@ -2,8 +2,8 @@ use Rattle.std.proofs.Common.{List, [], ◌∷◌, Bor, ◌||◌, not, sym, ap, 
 use Rattle.std.specs.List.{list_all}
 use Rattle.rail_base.specs.declared.route.Route.{Route}
 use Rattle.rail_spec.specs.Plans.{route_at, route_numbers}
-use Rattle.rail_cone.specs.Cones.{has_route}
-use Rattle.rail_cone.specs.Validity.{from_boundary}
+use Rattle.cone_spec.specs.Cones.{has_route}
+use Rattle.cone_spec.specs.Validity.{from_boundary}
 use Rattle.cone_form.proofs.Walks.{and_then, and_else}
 use Rattle.bound_design.specs.Covering.{leads_into}
 use Rattle.bound_design.proofs.Paired.{all_same}

@@ -7,9 +7,9 @@ use Rattle.rail_base.specs.declared.route.RouteNo.{RouteNo}
 use Rattle.rail_base.proofs.Members.{false_unless}
 use Rattle.rail_spec.specs.Plans.{route_at}
 use Rattle.rail_spec.specs.Visits.{may_visit}
-use Rattle.rail_cone.specs.Validity.{from_boundary}
-use Rattle.rail_bound.specs.Certificates.{VisitOf, routes_of_place}
-use Rattle.rail_bound.specs.Validity.{can_visit, is_first_route, is_made_at_end}
+use Rattle.cone_spec.specs.Validity.{from_boundary}
+use Rattle.bound_spec.specs.Certificates.{VisitOf, routes_of_place}
+use Rattle.bound_spec.specs.Validity.{can_visit, is_first_route, is_made_at_end}
 use Rattle.bound_design.specs.Covered.{is_made_where_it_exits}
 use Rattle.bound_design.proofs.Begun.{begun_first, begun_not, begun_second, begun_last, made_end}
 use Rattle.bound_design.proofs.beginning.begins_with.Goals as goal

@@ -1,5 +1,5 @@
 use Rattle.std.proofs.Common.{◌≡◌, drop}
-use Rattle.rail_bound.specs.Certificates.{first_in}
+use Rattle.bound_spec.specs.Certificates.{first_in}
 use Rattle.bound_design.proofs.beginning.first_offset.Given as goal
 
 -- none of the nodes so far is in the set

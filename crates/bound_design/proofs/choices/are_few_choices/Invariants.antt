@@ -1,7 +1,7 @@
 use Rattle.std.proofs.Common.{◌≡◌, List, drop}
 use Rattle.rail_base.specs.declared.station.Station.{Station}
 use Rattle.rail_base.specs.declared.route.Route.{Route}
-use Rattle.rail_bound.specs.Validity.{are_few_choices}
+use Rattle.bound_spec.specs.Validity.{are_few_choices}
 use Rattle.bound_design.proofs.choices.are_few_choices.Given as goal
 
 -- there are not too many on those so far

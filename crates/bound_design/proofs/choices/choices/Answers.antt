@@ -1,8 +1,8 @@
 use Rattle.std.proofs.Common.{◌*◌, ◌+◌, min, List, drop, get_or, length, ap, sym, ◌∙◌, arith}
-use Rattle.rail_bound.specs.declared.Place.{Place}
+use Rattle.bound_spec.specs.declared.Place.{Place}
 use Rattle.rail_base.specs.declared.route.RouteNo.{RouteNo}
-use Rattle.rail_bound.specs.Certificates.{routes_of_place}
-use Rattle.rail_bound.specs.Validity.{choices}
+use Rattle.bound_spec.specs.Certificates.{routes_of_place}
+use Rattle.bound_spec.specs.Validity.{choices}
 use Rattle.bound_design.proofs.Counting.{capped_between, choices_step}
 use Rattle.bound_design.proofs.choices.choices.Goals as goal
 

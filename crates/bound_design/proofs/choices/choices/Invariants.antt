@@ -1,5 +1,5 @@
 use Rattle.std.proofs.Common.{◌≡◌, ◌≤◌, ◌*◌, min, drop}
-use Rattle.rail_bound.specs.Validity.{choices}
+use Rattle.bound_spec.specs.Validity.{choices}
 use Rattle.bound_design.proofs.choices.choices.Given as goal
 
 -- the choices of those so far, times those of the others, are all

@@ -1,6 +1,6 @@
 use Rattle.std.proofs.Common.{List, ap, ◌∙◌}
-use Rattle.rail_bound.specs.declared.Leg.{Leg}
-use Rattle.rail_bound.specs.Validity.{first_leg, last_leg}
+use Rattle.bound_spec.specs.declared.Leg.{Leg}
+use Rattle.bound_spec.specs.Validity.{first_leg, last_leg}
 use Rattle.bound_design.specs.Named.{leg_fits}
 use Rattle.bound_design.proofs.Begun.{has, first_leg_passes, last_leg_passes}
 use Rattle.bound_design.proofs.covering.is_covered.Goals as goal

@@ -1,5 +1,5 @@
 use Rattle.std.proofs.Common.{◌≡◌, ◌+◌, drop}
-use Rattle.rail_bound.specs.Validity.{places_of}
+use Rattle.bound_spec.specs.Validity.{places_of}
 use Rattle.bound_design.proofs.legs.are_few_places.Given as goal
 
 -- so many are left of 64 as those so far have not taken

@@ -1,5 +1,5 @@
 use Rattle.std.proofs.Common.{List, ◌-◌, length, get_or, ap, ◌∙◌}
-use Rattle.rail_bound.specs.declared.Place.{Place}
+use Rattle.bound_spec.specs.declared.Place.{Place}
 use Rattle.bound_design.proofs.Ending.{last_at}
 use Rattle.bound_design.proofs.reaching.last_place.Goals as goal
 

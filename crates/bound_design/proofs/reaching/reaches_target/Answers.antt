@@ -1,7 +1,7 @@
 use Rattle.std.proofs.Common.{List, sym, ap, ◌∙◌}
-use Rattle.rail_bound.specs.declared.Place.{Place}
-use Rattle.rail_bound.specs.declared.Requirement.{Requirement}
-use Rattle.rail_bound.specs.Validity.{is_just}
+use Rattle.bound_spec.specs.declared.Place.{Place}
+use Rattle.bound_spec.specs.declared.Requirement.{Requirement}
+use Rattle.bound_spec.specs.Validity.{is_just}
 use Rattle.bound_design.specs.Covered.{reaches_in}
 use Rattle.bound_design.specs.Named.{place_fits}
 use Rattle.bound_design.proofs.Ending.{last_passes}

@@ -1,5 +1,5 @@
 use Rattle.std.proofs.Common.{◌-◌, sym, ap, ◌∙◌, arith}
-use Rattle.rail_bound.specs.declared.Leg.{Leg}
+use Rattle.bound_spec.specs.declared.Leg.{Leg}
 use Rattle.cone_form.proofs.Walks.{neighbors_stop, neighbors_next, neighbors_end}
 use Rattle.bound_design.specs.Named.{leg_fits}
 use Rattle.bound_design.specs.Covered.{is_used_last}

@@ -1,6 +1,6 @@
 use Rattle.std.proofs.Common.{◌≡◌, ◌-◌, drop}
 use Rattle.rail_base.specs.Members.{all_neighbors}
-use Rattle.rail_bound.specs.declared.Leg.{Leg}
+use Rattle.bound_spec.specs.declared.Leg.{Leg}
 use Rattle.bound_design.specs.Covered.{is_used_last}
 use Rattle.bound_design.proofs.reaching.uses_before_last.Given as goal
 

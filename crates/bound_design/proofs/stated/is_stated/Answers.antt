@@ -1,6 +1,6 @@
 use Rattle.std.proofs.Common.{List, nat_le, ap, ◌∙◌}
-use Rattle.rail_bound.specs.declared.Leg.{Leg}
-use Rattle.rail_bound.specs.Validity.{are_few_choices, most_places, places_of}
+use Rattle.bound_spec.specs.declared.Leg.{Leg}
+use Rattle.bound_spec.specs.Validity.{are_few_choices, most_places, places_of}
 use Rattle.cone_form.proofs.Walks.{and_then}
 use Rattle.bound_design.proofs.stated.is_stated.Goals as goal
 

@@ -3,8 +3,8 @@ use Rattle.std.specs.List.{list_all}
 use Rattle.rail_base.specs.declared.route.Route.{Route}
 use Rattle.rail_spec.specs.Plans.{is_route, route_at, route_numbers}
 use Rattle.rail_spec.specs.Visits.{may_visit}
-use Rattle.rail_cone.specs.Validity.{from_boundary}
-use Rattle.rail_bound.specs.Validity.{ends_at_signal}
+use Rattle.cone_spec.specs.Validity.{from_boundary}
+use Rattle.bound_spec.specs.Validity.{ends_at_signal}
 use Rattle.bound_design.proofs.Paired.{all_same}
 use Rattle.bound_design.proofs.Earlier.{turned, all_true, never_earlier, earlier}
 use Rattle.bound_design.proofs.visits.is_visited_named.Goals as goal

@@ -3,7 +3,7 @@ use Rattle.std.specs.List.{list_all}
 use Rattle.rail_base.specs.declared.station.NodeNo.{NodeNo}
 use Rattle.rail_base.specs.Stations.{train_of}
 use Rattle.rail_spec.specs.Visits.{may_visit}
-use Rattle.rail_bound.specs.Certificates.{nodes_of_visit}
+use Rattle.bound_spec.specs.Certificates.{nodes_of_visit}
 use Rattle.bound_design.proofs.Openings.{any_stop, any_next}
 use Rattle.bound_design.proofs.visits.misses_some.Goals as goal
 

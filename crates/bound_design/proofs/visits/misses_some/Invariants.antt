@@ -2,7 +2,7 @@ use Rattle.std.proofs.Common.{not, length}
 use Rattle.std.specs.List.{list_all}
 use Rattle.rail_base.specs.Stations.{train_of}
 use Rattle.rail_spec.specs.Visits.{may_visit}
-use Rattle.rail_bound.specs.Certificates.{nodes_of_visit}
+use Rattle.bound_spec.specs.Certificates.{nodes_of_visit}
 use Rattle.bound_design.proofs.Openings.{MissesFrom}
 use Rattle.bound_design.proofs.visits.misses_some.Given as goal
 

@@ -1,6 +1,6 @@
 use Rattle.std.proofs.Common.{◌≤◌, ◌/◌, All, min, sym, ap, subst, ◌∙◌, arith}
 use Rattle.rail_base.specs.Stations.{horizon}
-use Rattle.rail_bound.specs.Validity.{most_looks, stretches_of}
+use Rattle.bound_spec.specs.Validity.{most_looks, stretches_of}
 use Rattle.bound_ticks.specs.Looks.{cap}
 use Rattle.bound_ticks.specs.Walks.{IsLeg}
 use Rattle.bound_ticks.proofs.Naming.{exact, is_named}

@@ -1,6 +1,6 @@
 use Rattle.std.proofs.Common.{◌≡◌, ◌+◌, ◌≤◌, drop}
 use Rattle.rail_course.specs.Tracks.{routes_at}
-use Rattle.rail_bound.specs.Validity.{stretches_of_walk}
+use Rattle.bound_spec.specs.Validity.{stretches_of_walk}
 use Rattle.bound_ticks.specs.Looks.{cap}
 use Rattle.bound_ticks.proofs.Adding.{stretches_after}
 use Rattle.bound_ticks.proofs.stretches.stretches_of_walk.Given as goal

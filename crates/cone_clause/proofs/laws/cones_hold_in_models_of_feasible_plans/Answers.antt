@@ -1,5 +1,5 @@
 use Rattle.std.proofs.Common.{le_refl}
-use Rattle.rail_cone.proofs.Refusing.{timed_of}
+use Rattle.cone_spec.proofs.Refusing.{timed_of}
 use Rattle.cone_clause.proofs.Agreeing.{holds_of_feasible}
 use Rattle.cone_clause.proofs.laws.cones_hold_in_models_of_feasible_plans.Goals as goal
 

@@ -1,4 +1,4 @@
-use Rattle.rail_cone.proofs.Refusing.{timed_of}
+use Rattle.cone_spec.proofs.Refusing.{timed_of}
 use Rattle.cone_clause.proofs.Agreeing.{none_feasible}
 use Rattle.cone_clause.proofs.laws.refuted_designs_are_infeasible.Goals as goal
 

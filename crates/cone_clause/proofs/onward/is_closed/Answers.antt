@@ -1,5 +1,5 @@
 use Rattle.std.proofs.Common.{◌||◌, sym, ap, ◌∙◌}
-use Rattle.rail_cone.specs.Clauses.{is_path_violation}
+use Rattle.cone_spec.specs.Clauses.{is_path_violation}
 use Rattle.cone_clause.proofs.onward.is_closed.Goals as goal
 
 pub returns-else-all_free : goal.returns-else-all_free

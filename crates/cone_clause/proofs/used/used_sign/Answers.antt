@@ -1,7 +1,7 @@
 use Rattle.std.proofs.Common.{map, sym, ap, ◌∙◌}
 use Rattle.rail_base.specs.declared.route.Route.{Route}
 use Rattle.rail_base.specs.Routes.{route_at}
-use Rattle.rail_cone.specs.Clauses.{goes_further}
+use Rattle.cone_spec.specs.Clauses.{goes_further}
 use Rattle.cone_clause.proofs.Signing.{closed_further, closed_only, not_closed}
 use Rattle.cone_clause.proofs.used.used_sign.Goals.{else-closed-via-then-closed+else-goes_further, else-closed-via-else-closed}
 use Rattle.cone_clause.proofs.used.used_sign.Goals as goal

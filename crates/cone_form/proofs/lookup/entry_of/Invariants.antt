@@ -1,7 +1,7 @@
 use Rattle.std.proofs.Common.{◌≡◌, drop, find}
 use Rattle.rail_spec.specs.Plans.{is_train}
-use Rattle.rail_cone.specs.declared.ConeTrain.{ConeTrain}
-use Rattle.rail_cone.specs.Cones.{first_named}
+use Rattle.cone_spec.specs.declared.ConeTrain.{ConeTrain}
+use Rattle.cone_spec.specs.Cones.{first_named}
 use Rattle.cone_form.proofs.lookup.entry_of.Given as goal
 
 -- none so far is of the train

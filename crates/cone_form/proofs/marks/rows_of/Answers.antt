@@ -4,7 +4,7 @@ use Rattle.rail_base.proofs.Lists.{length-map}
 use Rattle.rail_base.specs.Numbering.{entry}
 use Rattle.rail_base.specs.Routes.{IsRoute}
 use Rattle.rail_base.specs.declared.route.RouteNo.{RouteNo}
-use Rattle.rail_cone.specs.Cones.{named}
+use Rattle.cone_spec.specs.Cones.{named}
 use Rattle.cone_form.specs.Marks.{MarksPath}
 use Rattle.cone_form.proofs.Ranges.{path_in_range}
 use Rattle.cone_form.proofs.Marked.{row_more, rows_mark}

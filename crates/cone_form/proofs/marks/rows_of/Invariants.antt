@@ -1,6 +1,6 @@
 use Rattle.std.proofs.Common.{◌≡◌, ℕ, ◌+◌, ◌≤◌, ◌<◌, [], length, map}
 use Rattle.rail_base.specs.Numbering.{entry}
-use Rattle.rail_cone.specs.Cones.{named}
+use Rattle.cone_spec.specs.Cones.{named}
 use Rattle.cone_form.specs.Marks.{MarksPath}
 use Rattle.cone_form.proofs.marks.rows_of.Given as goal
 

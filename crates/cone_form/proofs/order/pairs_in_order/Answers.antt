@@ -1,5 +1,5 @@
 use Rattle.std.proofs.Common.{sym, ◌∙◌}
-use Rattle.rail_cone.specs.Validity.{is_pair_before}
+use Rattle.cone_spec.specs.Validity.{is_pair_before}
 use Rattle.cone_form.proofs.Walks.{neighbors_next, neighbors_end}
 use Rattle.cone_form.proofs.order.pairs_in_order.Goals as goal
 

@@ -1,6 +1,6 @@
 use Rattle.std.proofs.Common.{◌≡◌, ◌-◌, drop}
 use Rattle.rail_base.specs.Members.{all_neighbors}
-use Rattle.rail_cone.specs.Validity.{is_pair_before}
+use Rattle.cone_spec.specs.Validity.{is_pair_before}
 use Rattle.cone_form.proofs.order.pairs_in_order.Given as goal
 
 -- those so far stand in order

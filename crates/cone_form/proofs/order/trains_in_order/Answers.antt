@@ -1,6 +1,6 @@
 use Rattle.std.proofs.Common.{nat_lt, le-leb}
 use Rattle.rail_base.proofs.Members.{not_less}
-use Rattle.rail_cone.specs.declared.ConeTrain.{ConeTrain}
+use Rattle.cone_spec.specs.declared.ConeTrain.{ConeTrain}
 use Rattle.cone_form.proofs.Walks.{neighbors_stop, neighbors_next, neighbors_end}
 use Rattle.cone_form.proofs.order.trains_in_order.Goals as goal
 

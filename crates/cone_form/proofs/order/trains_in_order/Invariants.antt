@@ -1,6 +1,6 @@
 use Rattle.std.proofs.Common.{◌≡◌, nat_lt, ◌-◌, drop}
 use Rattle.rail_base.specs.Members.{all_neighbors}
-use Rattle.rail_cone.specs.declared.ConeTrain.{ConeTrain}
+use Rattle.cone_spec.specs.declared.ConeTrain.{ConeTrain}
 use Rattle.cone_form.proofs.order.trains_in_order.Given as goal
 
 -- those so far stand in order

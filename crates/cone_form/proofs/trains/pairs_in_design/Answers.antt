@@ -1,7 +1,7 @@
 use Rattle.std.proofs.Common.{Bool, Vec, Global, List, map, ap, ap₂, ◌∙◌}
 use Rattle.std.specs.List.{list_all}
 use Rattle.rail_base.specs.declared.plan.Command.{Command}
-use Rattle.plan_clauses.specs.Variables.{pairs}
+use Rattle.clause_spec.specs.Variables.{pairs}
 use Rattle.cone_form.specs.Marks.{marked_pair}
 use Rattle.cone_form.proofs.Contending.{pairs_are}
 use Rattle.cone_form.proofs.trains.pairs_in_design.Goals as goal

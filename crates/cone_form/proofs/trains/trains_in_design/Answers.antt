@@ -1,7 +1,7 @@
 use Rattle.std.proofs.Common.{List, sym, ap, ◌∙◌}
 use Rattle.std.specs.List.{list_all}
-use Rattle.rail_cone.specs.declared.ConeTrain.{ConeTrain}
-use Rattle.rail_cone.specs.Validity.{train_in_design}
+use Rattle.cone_spec.specs.declared.ConeTrain.{ConeTrain}
+use Rattle.cone_spec.specs.Validity.{train_in_design}
 use Rattle.cone_form.proofs.Walks.{all_stop, all_next}
 use Rattle.cone_form.proofs.trains.trains_in_design.Goals as goal
 

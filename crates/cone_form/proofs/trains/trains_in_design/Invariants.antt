@@ -1,6 +1,6 @@
 use Rattle.std.proofs.Common.{◌≡◌, drop}
 use Rattle.std.specs.List.{list_all}
-use Rattle.rail_cone.specs.Validity.{train_in_design}
+use Rattle.cone_spec.specs.Validity.{train_in_design}
 use Rattle.cone_form.proofs.trains.trains_in_design.Given as goal
 
 -- those so far are

@@ -1,6 +1,6 @@
 use Rattle.std.proofs.Common.{List, ap, ◌∙◌}
-use Rattle.rail_cone.specs.declared.ConeTrain.{ConeTrain}
-use Rattle.rail_cone.specs.Validity.{only_path, no_pairs}
+use Rattle.cone_spec.specs.declared.ConeTrain.{ConeTrain}
+use Rattle.cone_spec.specs.Validity.{only_path, no_pairs}
 use Rattle.cone_form.proofs.Walks.{and_then, and_else}
 use Rattle.cone_form.proofs.Empty.{empty_is}
 use Rattle.cone_form.proofs.violations.path_in_design.Goals as goal

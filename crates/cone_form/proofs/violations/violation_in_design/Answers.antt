@@ -1,6 +1,6 @@
 use Rattle.std.proofs.Common.{sym, ap, ◌∙◌}
 use Rattle.rail_base.specs.declared.plan.Violation.{Violation}
-use Rattle.rail_cone.specs.Validity.{violation_in_design}
+use Rattle.cone_spec.specs.Validity.{violation_in_design}
 use Rattle.cone_form.proofs.violations.violation_in_design.Goals as goal
 
 pub returns-in-Path : goal.returns-in-Path

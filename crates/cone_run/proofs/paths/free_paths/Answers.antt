@@ -2,7 +2,7 @@ use Rattle.std.proofs.Common.{◌+◌, ◌≤◌, ◌<◌, length, arith}
 use Rattle.rail_base.proofs.Admitting.{admitted}
 use Rattle.rail_course.proofs.Coursing.{paths_done, paths_step}
 use Rattle.rail_course.proofs.Granting.{paths_are}
-use Rattle.rail_cone.specs.Cones.{free_path}
+use Rattle.cone_spec.specs.Cones.{free_path}
 use Rattle.cone_run.proofs.Ranging.{cone_in_range}
 use Rattle.cone_run.proofs.paths.free_paths.Goals as goal
 

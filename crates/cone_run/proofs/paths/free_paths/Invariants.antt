@@ -1,7 +1,7 @@
 use Rattle.std.proofs.Common.{◌≡◌, ◌+◌, ◌-◌, ◌≤◌, ◌++◌, map, length}
 use Rattle.rail_base.specs.Stations.{trains}
 use Rattle.rail_course.proofs.Coursing.{numbered}
-use Rattle.rail_cone.specs.Cones.{free_path}
+use Rattle.cone_spec.specs.Cones.{free_path}
 use Rattle.cone_run.proofs.paths.free_paths.Given as goal
 
 abbrev pub invariant-loop-number : goal.invariant-loop-number

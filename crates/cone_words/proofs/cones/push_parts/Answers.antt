@@ -1,6 +1,6 @@
 use Rattle.std.proofs.Common.{List, ap, map}
 use Rattle.rail_base.specs.declared.plan.Command.{Command}
-use Rattle.rail_cone.specs.declared.ConeTrain.{ConeTrain}
+use Rattle.cone_spec.specs.declared.ConeTrain.{ConeTrain}
 use Rattle.rail_outside.specs.Lines.{lines_of}
 use Rattle.cone_words.specs.Phrases.{sentence}
 use Rattle.cone_words.specs.Cones.{train_text, pair_text}

@@ -1,5 +1,5 @@
 use Rattle.std.proofs.Common.{List, ◌≤◌, All, length, refl, subst, sym, arith}
-use Rattle.rail_bound.specs.declared.Leg.{Leg}
+use Rattle.bound_spec.specs.declared.Leg.{Leg}
 use Rattle.bound_ticks.specs.Chains.{chain_of}
 use Rattle.leg_targets.specs.Visits.{origin_of}
 use Rattle.bound_ticks.specs.Walks.{IsLeg}

@@ -1,8 +1,8 @@
 use Rattle.std.proofs.Common.{List, ap, sym, map}
 use Rattle.rail_base.specs.declared.route.Route.{Route}
-use Rattle.rail_bound.specs.Certificates.{ride_of}
-use Rattle.rail_bound.specs.Rides.{least_route, release_place, run_ticks}
-use Rattle.rail_bound.specs.Walks.{least_walk, walks}
+use Rattle.bound_spec.specs.Certificates.{ride_of}
+use Rattle.bound_spec.specs.Rides.{least_route, release_place, run_ticks}
+use Rattle.bound_spec.specs.Walks.{least_walk, walks}
 use Rattle.bound_ticks.proofs.Chained.{chain_from, chain_to, first_place_is}
 use Rattle.evidence_words.proofs.laws.ticks_are_those_of_bounds.Goals as goal
 

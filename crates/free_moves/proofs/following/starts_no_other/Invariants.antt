@@ -1,6 +1,6 @@
 use Rattle.std.proofs.Common.{◌≡◌, drop, map}
 use Rattle.rail_base.specs.Routes.{route_at}
-use Rattle.rail_cone.specs.Clauses.{goes_further}
+use Rattle.cone_spec.specs.Clauses.{goes_further}
 use Rattle.free_moves.proofs.Further.{further_after}
 use Rattle.free_moves.proofs.following.starts_no_other.Given as goal
 

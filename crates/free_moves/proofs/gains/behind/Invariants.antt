@@ -1,6 +1,6 @@
 use Rattle.std.proofs.Common.{◌≡◌, drop}
 use Rattle.rail_motion.specs.Track.{stretches_of}
-use Rattle.rail_free.specs.Free.{behind}
+use Rattle.free_spec.specs.Free.{behind}
 use Rattle.free_moves.proofs.gains.behind.Given as goal
 
 -- what is left of the spans decides

@@ -1,5 +1,5 @@
 use Rattle.std.proofs.Common.{◌≡◌, drop}
-use Rattle.rail_bound.specs.Certificates.{first_in}
+use Rattle.bound_spec.specs.Certificates.{first_in}
 use Rattle.leg_targets.proofs.targets.first_in.Given as goal
 
 -- those left decide

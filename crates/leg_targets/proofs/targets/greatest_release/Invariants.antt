@@ -1,6 +1,6 @@
 use Rattle.std.proofs.Common.{◌≡◌, drop, max}
 use Rattle.rail_base.specs.Routes.{release_offset, shared}
-use Rattle.rail_bound.specs.Rides.{greatest_of}
+use Rattle.bound_spec.specs.Rides.{greatest_of}
 use Rattle.leg_targets.proofs.Greatest.{shared_of}
 use Rattle.leg_targets.proofs.targets.greatest_release.Given as goal
 

@@ -1,5 +1,5 @@
 use Rattle.std.proofs.Common.{◌≡◌, length}
-use Rattle.plan_clauses.specs.Models.{cut_off}
+use Rattle.clause_spec.specs.Models.{cut_off}
 use Rattle.plan_decoder.proofs.decoding.cut_off.Given as goal
 
 abbrev pub invariant-cut : goal.invariant-cut

@@ -3,9 +3,9 @@ use Rattle.rail_base.specs.declared.plan.Command.{Command}
 use Rattle.rail_base.specs.Numbering.{one_to}
 use Rattle.rail_spec.specs.Feasible.{IsRunnable}
 use Rattle.sat_core.specs.Models.{value_in}
-use Rattle.plan_clauses.specs.Laws.{Agrees}
-use Rattle.plan_clauses.specs.Models.{cut_off, given_in, model_of}
-use Rattle.plan_clauses.proofs.Theorems.{models_are_plans}
+use Rattle.clause_spec.specs.Laws.{Agrees}
+use Rattle.clause_spec.specs.Models.{cut_off, given_in, model_of}
+use Rattle.clause_spec.proofs.Theorems.{models_are_plans}
 use Rattle.plan_decoder.specs.Told.{EndsAsSaid, says}
 use Rattle.plan_decoder.proofs.Ends.{ends_as_said}
 use Rattle.plan_decoder.proofs.Puts.{put_next, put_all}

@@ -2,7 +2,7 @@ use Rattle.std.proofs.Common.{◌≡◌, ℕ, ◌++◌, ◌+◌, ◌-◌, List, 
 use Rattle.rail_base.specs.Numbering.{count_from, one_to}
 use Rattle.rail_base.specs.declared.station.Station.{Station}
 use Rattle.rail_base.specs.declared.route.Route.{Route}
-use Rattle.plan_clauses.specs.Models.{given_in}
+use Rattle.clause_spec.specs.Models.{given_in}
 use Rattle.plan_encoding.specs.Bases.{IsBaseOf}
 use Rattle.plan_decoder.specs.Told.{says}
 use Rattle.plan_decoder.proofs.decoding.decode.Given as goal

@@ -1,7 +1,7 @@
 use Rattle.std.proofs.Common.{length, refl, sym, ap, subst, ◌∙◌, arith}
-use Rattle.plan_clauses.specs.Variables.{pairs}
-use Rattle.plan_clauses.specs.Clauses.{clauses}
-use Rattle.plan_clauses.proofs.Few.{few_pairs}
+use Rattle.clause_spec.specs.Variables.{pairs}
+use Rattle.clause_spec.specs.Clauses.{clauses}
+use Rattle.clause_spec.proofs.Few.{few_pairs}
 use Rattle.plan_encoding.specs.declared.encoder.Encoder.{Encoder}
 use Rattle.plan_encoding.specs.Bases.{IsBaseOf, IsRefused}
 use Rattle.plan_encoding.specs.Sinks.{SinkView}

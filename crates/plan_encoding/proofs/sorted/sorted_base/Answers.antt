@@ -1,10 +1,10 @@
 use Rattle.std.proofs.Common.{◌≡◌, true, ◌++◌, map, length, refl, sym, ap, subst, ◌∙◌, arith}
 use Rattle.rail_alike.specs.Turns.{AreNamed}
 use Rattle.rail_alike.proofs.Next.{neighbors_named}
-use Rattle.plan_clauses.specs.Variables.{pairs}
-use Rattle.plan_clauses.specs.Clauses.{clauses}
-use Rattle.plan_clauses.proofs.Few.{few_pairs}
-use Rattle.alike_clauses.specs.Turns.{turn_clauses}
+use Rattle.clause_spec.specs.Variables.{pairs}
+use Rattle.clause_spec.specs.Clauses.{clauses}
+use Rattle.clause_spec.proofs.Few.{few_pairs}
+use Rattle.alike_clause_spec.specs.Turns.{turn_clauses}
 use Rattle.rail_alike.specs.Tests.{neighbors}
 use Rattle.plan_encoding.specs.declared.encoder.Encoder.{Encoder}
 use Rattle.plan_encoding.specs.Bases.{IsBaseOf}

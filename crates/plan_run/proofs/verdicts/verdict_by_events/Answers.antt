@@ -7,7 +7,7 @@ use Rattle.rail_spec.specs.Requirements.{is_decided, is_done, violation_at}
 use Rattle.rail_require.specs.Ticks.{HasNumbers}
 use Rattle.rail_require.proofs.Numbered.{plans_have_numbers}
 use Rattle.tick_sim.proofs.Verdicting.{cost_is, failed_is, met_is, undecided_is, undecided_to}
-use Rattle.dispatch_quiet.specs.Histories as any
+use Rattle.quiet_spec.specs.Histories as any
 use Rattle.plan_run.specs.Due.{IsNotDue}
 use Rattle.plan_run.proofs.Deciding.{undecided_before, undue_less}
 use Rattle.plan_run.proofs.verdicts.verdict_by_events.Goals as goal

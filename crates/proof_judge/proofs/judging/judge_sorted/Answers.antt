@@ -1,6 +1,6 @@
 use Rattle.std.proofs.Common.{◌≡◌, None, Some, sym, subst, ◌∙◌}
-use Rattle.alike_clauses.specs.Sorted.{sorted_base}
-use Rattle.plan_clauses.specs.Clauses.{past_limit}
+use Rattle.alike_clause_spec.specs.Sorted.{sorted_base}
+use Rattle.clause_spec.specs.Clauses.{past_limit}
 use Rattle.plan_encoding.specs.declared.sink.BaseFault.{BaseFault}
 use Rattle.plan_encoding.specs.Sorted.{IsSortedRefused}
 use Rattle.proof_judge.proofs.Under.{own_steps, sorted_differs, too_large, under_sorted}

@@ -1,6 +1,6 @@
 use Rattle.std.proofs.Common.{List, ap, sym, subst, ◌∙◌}
 use Rattle.rail_base.specs.declared.route.Route.{Route}
-use Rattle.plan_clauses.specs.Clauses.{base_clauses, past_limit}
+use Rattle.clause_spec.specs.Clauses.{base_clauses, past_limit}
 use Rattle.plan_exclusion.specs.declared.method.Method.TheVariants.{Cones}
 use Rattle.plan_encoding.specs.Bases.{IsBaseOf, Numbered}
 use Rattle.rail_cli.proofs.Refusing.{ended_reads}

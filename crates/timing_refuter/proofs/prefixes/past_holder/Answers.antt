@@ -1,7 +1,7 @@
 use Rattle.std.proofs.Common.{ℕ, ◌+◌, Bool, drop, get_or, if◌then◌else◌, ap, sym, ◌∙◌}
 use Rattle.std.proofs.lemmas.List.{drop_more}
 use Rattle.rail_base.specs.declared.route.RouteNo.{RouteNo}
-use Rattle.rail_slice.specs.Slices.{past_last}
+use Rattle.slice_spec.specs.Slices.{past_last}
 use Rattle.timing_refuter.specs.Prefixes.{holds_one}
 use Rattle.timing_refuter.proofs.Prefixing.{or_last, or_last_next}
 use Rattle.timing_refuter.proofs.prefixes.past_holder.Goals as goal

@@ -1,5 +1,5 @@
 use Rattle.std.proofs.Common.{◌≡◌, drop}
-use Rattle.rail_slice.specs.Slices.{past_last}
+use Rattle.slice_spec.specs.Slices.{past_last}
 use Rattle.timing_refuter.specs.Prefixes.{holds_one, past_holder}
 use Rattle.timing_refuter.proofs.Prefixing.{or_last}
 use Rattle.timing_refuter.proofs.prefixes.past_holder.Given as goal

@@ -1,5 +1,5 @@
 use Rattle.std.proofs.Common.{◌≡◌, None, IfOk, IfErr, OnOk, sym, subst}
-use Rattle.plan_clauses.specs.Clauses.{past_limit}
+use Rattle.clause_spec.specs.Clauses.{past_limit}
 use Rattle.plan_exclusion.specs.declared.method.Method.{Method}
 use Rattle.verify_loop.specs.Outcomes.{first_clauses}
 use Rattle.verify_loop.specs.Bases.{IsStartFor, IsTooLarge}

@@ -1,5 +1,5 @@
 use Rattle.std.proofs.Common.{List, sym, ap, ◌∙◌}
-use Rattle.rail_cone.specs.Clauses.{Literal}
+use Rattle.cone_spec.specs.Clauses.{Literal}
 use Rattle.bound_clause.specs.Spoken.{station_of, routes_in, numbered}
 use Rattle.bound_clause.proofs.Fitting.{cone_fits}
 use Rattle.bound_clause.proofs.Nothing.{no_cone_at}

@@ -4,7 +4,7 @@ use Rattle.cone_clause.specs.Numbered.{lit_of}
 use Rattle.cone_clause.proofs.Gathering.{drop_next, drop_end}
 use Rattle.bound_clause.specs.Spoken.{station_of, routes_in, numbered, pairs_in}
 use Rattle.rail_base.specs.declared.plan.Command.{Command}
-use Rattle.rail_cone.specs.Clauses.{Before, Literal}
+use Rattle.cone_spec.specs.Clauses.{Before, Literal}
 use Rattle.rail_base.proofs.Members.{map-map}
 use Rattle.rail_spec.specs.Plans.{is_command}
 use Rattle.cone_form.proofs.Orders.{member_at}

@@ -1,6 +1,6 @@
 use Rattle.std.proofs.Common.{◌≡◌, ◌++◌, map, drop, false}
 use Rattle.rail_base.specs.declared.plan.Command.{Command}
-use Rattle.rail_cone.specs.Clauses.{Before}
+use Rattle.cone_spec.specs.Clauses.{Before}
 use Rattle.bound_clause.specs.Spoken.{numbered}
 use Rattle.bound_clause.proofs.numbered.NumberedBound.push_before.Given as goal
 

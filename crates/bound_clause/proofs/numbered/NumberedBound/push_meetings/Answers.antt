@@ -1,5 +1,5 @@
 use Rattle.std.proofs.Common.{◌-◌, ◌<◌, List, length, ◌++◌, get_or, refl, sym, ap, subst, ◌∙◌}
-use Rattle.rail_bound.specs.declared.Leg.{Leg}
+use Rattle.bound_spec.specs.declared.Leg.{Leg}
 use Rattle.cone_clause.specs.Numbered.{lit_of}
 use Rattle.bound_clause.specs.Said.{said_of_meetings}
 use Rattle.bound_clause.specs.Spoken.{ContendAll, station_of, routes_in, numbered}

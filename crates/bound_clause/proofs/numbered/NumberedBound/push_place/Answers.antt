@@ -1,8 +1,8 @@
 use Rattle.std.proofs.Common.{◌≡◌, List, All, true, sym, subst}
 use Rattle.rail_base.specs.Routes.{IsRoute}
 use Rattle.rail_base.specs.declared.route.RouteNo.{RouteNo}
-use Rattle.rail_bound.specs.declared.Place.{Place}
-use Rattle.rail_bound.specs.Validity.{place_in_design}
+use Rattle.bound_spec.specs.declared.Place.{Place}
+use Rattle.bound_spec.specs.Validity.{place_in_design}
 use Rattle.bound_clause.specs.Spoken.{station_of, routes_in}
 use Rattle.bound_clause.proofs.Fitting.{without_fits}
 use Rattle.bound_clause.proofs.numbered.NumberedBound.push_place.Goals as goal

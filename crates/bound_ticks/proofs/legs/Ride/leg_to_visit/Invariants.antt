@@ -1,6 +1,6 @@
 use Rattle.std.proofs.Common.{◌≡◌, drop, map}
 use Rattle.rail_course.specs.Tracks.{routes_at}
-use Rattle.rail_bound.specs.Walks.{least_walk}
+use Rattle.bound_spec.specs.Walks.{least_walk}
 use Rattle.bound_ticks.specs.Chains.{to_visit}
 use Rattle.leg_targets.specs.Visits.{origin_of, visit_of}
 use Rattle.bound_ticks.proofs.legs.Ride.leg_to_visit.Given as goal

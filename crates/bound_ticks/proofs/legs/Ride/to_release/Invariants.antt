@@ -1,6 +1,6 @@
 use Rattle.std.proofs.Common.{◌≡◌, drop, map}
 use Rattle.rail_base.specs.Routes.{route_at}
-use Rattle.rail_bound.specs.Rides.{least_route}
+use Rattle.bound_spec.specs.Rides.{least_route}
 use Rattle.leg_targets.specs.Visits.{origin_of}
 use Rattle.bound_ticks.proofs.Least.{release_of}
 use Rattle.bound_ticks.proofs.legs.Ride.to_release.Given as goal

@@ -1,5 +1,5 @@
 use Rattle.std.proofs.Common.{ℕ, List, subst}
-use Rattle.rail_cone.specs.declared.ConeTrain.{ConeTrain}
+use Rattle.cone_spec.specs.declared.ConeTrain.{ConeTrain}
 use Rattle.rail_base.proofs.Members.{In}
 use Rattle.cone_clause.specs.Places.{Adds, IsPlaceBeforeFree}
 use Rattle.cone_clause.proofs.Adding.{adds_none, adds_more, adds_all}

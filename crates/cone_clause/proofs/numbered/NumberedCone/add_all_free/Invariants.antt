@@ -1,4 +1,4 @@
-use Rattle.rail_cone.specs.declared.ConeTrain.{ConeTrain}
+use Rattle.cone_spec.specs.declared.ConeTrain.{ConeTrain}
 use Rattle.cone_clause.specs.Places.{Adds, IsPlaceBeforeFree}
 use Rattle.cone_clause.proofs.Adding.{OfPrefix}
 use Rattle.cone_clause.proofs.numbered.NumberedCone.add_all_free.Given as goal

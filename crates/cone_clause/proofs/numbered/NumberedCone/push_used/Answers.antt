@@ -2,7 +2,7 @@ use Rattle.std.proofs.Common.{ℕ, ◌+◌, ◌<◌, ◌++◌, Vec, Global, List
 use Rattle.sat_clause.specs.declared.lit.Lit.{Lit}
 use Rattle.rail_base.specs.declared.station.TrainNo.{TrainNo}
 use Rattle.rail_spec.specs.Plans.{commands_of}
-use Rattle.rail_cone.specs.Clauses.{Literal, used_literals}
+use Rattle.cone_spec.specs.Clauses.{Literal, used_literals}
 use Rattle.cone_clause.specs.Numbered.{lit_of}
 use Rattle.cone_clause.proofs.Gathering.{count_next, mapped_next}
 use Rattle.cone_clause.proofs.Walked.{path_routes, used_whole}

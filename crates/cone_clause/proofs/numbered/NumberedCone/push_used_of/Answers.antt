@@ -1,8 +1,8 @@
 use Rattle.std.proofs.Common.{◌≡◌, ℕ, ◌+◌, ◌-◌, ◌<◌, ◌++◌, flat_map, ◌&&◌, if◌then◌else◌, Bool, true, false, Some, None, List, length, map, ap, ap₂, ◌∙◌, arith}
 use Rattle.rail_base.specs.declared.plan.Command.{Command}
 use Rattle.rail_base.specs.declared.route.RouteNo.{RouteNo}
-use Rattle.rail_cone.specs.Clauses.{used_literals, goes_further}
-use Rattle.rail_cone.specs.Cones.{has_route}
+use Rattle.cone_spec.specs.Clauses.{used_literals, goes_further}
+use Rattle.cone_spec.specs.Cones.{has_route}
 use Rattle.rail_base.specs.Routes.{route_at}
 use Rattle.rail_base.specs.Numbering.{count_from}
 use Rattle.cone_clause.specs.Numbered.{lit_of}

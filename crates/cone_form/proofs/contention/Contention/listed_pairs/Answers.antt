@@ -1,7 +1,7 @@
 use Rattle.std.proofs.Common.{◌≡◌, true, List, sym, subst}
 use Rattle.rail_base.specs.declared.plan.Command.{Command}
 use Rattle.rail_base.specs.Members.{all_pairs}
-use Rattle.rail_cone.specs.Validity.{is_pair_before}
+use Rattle.cone_spec.specs.Validity.{is_pair_before}
 use Rattle.cone_form.proofs.Contending.{listed_sorted}
 use Rattle.cone_form.proofs.contention.Contention.listed_pairs.Goals as goal
 

@@ -1,7 +1,7 @@
 use Rattle.std.proofs.Common.{rules}
 use Rattle.std.proofs.lemmas.List.Sorted.{IsPartitionPoint-from_clause}
 use Rattle.rail_base.specs.declared.plan.Command.{Command}
-use Rattle.rail_cone.specs.Validity.{is_pair_before}
+use Rattle.cone_spec.specs.Validity.{is_pair_before}
 use Rattle.cone_form.proofs.Placed.{parted_pair, place_index}
 use Rattle.cone_form.proofs.pairs.SortedPairs.place_of.Goals as goal
 

@@ -1,6 +1,6 @@
 use Rattle.std.proofs.Common.{◌≡◌, drop}
 use Rattle.std.specs.List.{list_all}
-use Rattle.rail_cone.specs.Validity.{free_granted}
+use Rattle.cone_spec.specs.Validity.{free_granted}
 use Rattle.cone_run.proofs.checked.ConeRun.all_granted.Given as goal
 
 abbrev pub invariant-loop-entry : goal.invariant-loop-entry

@@ -2,7 +2,7 @@ use Rattle.std.proofs.Common.{ap, ap₂, ◌∙◌}
 use Rattle.std.specs.List.{list_all}
 use Rattle.rail_base.specs.Routes.{route_at, shared}
 use Rattle.rail_require.specs.Ticks.{history_of, is_by}
-use Rattle.rail_cone.specs.Cones.{of_cone}
+use Rattle.cone_spec.specs.Cones.{of_cone}
 use Rattle.cone_run.specs.Asked.{release_in}
 use Rattle.cone_run.specs.Runs.{last_tick}
 use Rattle.cone_run.proofs.Asking.{cleared_asked}

@@ -3,7 +3,7 @@ use Rattle.std.proofs.Common.{get_or}
 use Rattle.rail_base.specs.declared.station.Order.{Order}
 use Rattle.rail_base.specs.declared.station.Within.{Within}
 use Rattle.rail_base.proofs.Admitting.{admitted}
-use Rattle.rail_cone.specs.Validity.{shown}
+use Rattle.cone_spec.specs.Validity.{shown}
 use Rattle.cone_run.proofs.Looking.{entry_at, in_same, order_names, path_names, visit_names, within_names}
 use Rattle.cone_run.proofs.checked.ConeRun.is_shown.Goals as goal
 

@@ -3,7 +3,7 @@ use Rattle.rail_base.proofs.Admitting.{admitted}
 use Rattle.rail_base.specs.Routes.{IsRoute}
 use Rattle.rail_course.specs.Tracks.{path_length}
 use Rattle.rail_course.proofs.Granting.{all_from_in}
-use Rattle.rail_cone.specs.Cones.{named}
+use Rattle.cone_spec.specs.Cones.{named}
 use Rattle.cone_run.proofs.Ranging.{fair, paths_short}
 use Rattle.cone_run.proofs.checked.ConeRun.path_shown.Goals as goal
 

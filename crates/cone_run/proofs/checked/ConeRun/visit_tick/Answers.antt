@@ -1,6 +1,6 @@
 use Rattle.std.proofs.Common.{ap, ◌∙◌}
 use Rattle.rail_require.specs.Ticks.{visit_tick}
-use Rattle.rail_cone.specs.Cones.{of_cone}
+use Rattle.cone_spec.specs.Cones.{of_cone}
 use Rattle.cone_run.specs.Runs.{last_tick}
 use Rattle.cone_run.specs.Asked.{up_to}
 use Rattle.cone_run.proofs.Asking.{visit_asked}

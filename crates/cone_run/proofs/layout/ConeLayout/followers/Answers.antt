@@ -3,7 +3,7 @@ use Rattle.std.proofs.lemmas.List.Elements.{All-push}
 use Rattle.rail_course.specs.declared.journey.Journey.{Journey}
 use Rattle.rail_course.specs.Journeys.{IsJourney}
 use Rattle.rail_course.proofs.Coursing.{map_step}
-use Rattle.rail_cone.specs.Cones.{of_cone}
+use Rattle.cone_spec.specs.Cones.{of_cone}
 use Rattle.dispatch_run.specs.declared.traffic.Follower.{Follower}
 use Rattle.dispatch_run.specs.Followers.{IsFollower}
 use Rattle.cone_run.proofs.Leading.{follower_is}

@@ -1,7 +1,7 @@
 use Rattle.std.proofs.Common.{◌≡◌, ◌++◌, All, drop, map}
 use Rattle.rail_base.specs.Stations.{trains}
 use Rattle.rail_course.specs.declared.journey.Journey.{Journey}
-use Rattle.rail_cone.specs.Cones.{of_cone}
+use Rattle.cone_spec.specs.Cones.{of_cone}
 use Rattle.dispatch_run.specs.declared.traffic.Follower.{Follower}
 use Rattle.dispatch_run.specs.Followers.{IsFollower}
 use Rattle.cone_run.proofs.layout.ConeLayout.followers.Given as goal

@@ -1,7 +1,7 @@
 use Rattle.std.proofs.Common.{refl, sym, subst, arith}
 use Rattle.rail_base.proofs.Admitting.{admitted}
 use Rattle.interlocking.specs.declared.railway.Interlocking.{Interlocking}
-use Rattle.rail_cone.specs.Cones.{of_cone}
+use Rattle.cone_spec.specs.Cones.{of_cone}
 use Rattle.dispatch_run.specs.Followers.{AreFollowers}
 use Rattle.cone_run.proofs.Riding.{last_within}
 use Rattle.cone_run.proofs.Leading.{may_go}

@@ -8,7 +8,7 @@ use Rattle.rail_course.specs.Waits.{IsContending}
 use Rattle.rail_course.proofs.Coursing.{map_step, path_of_number}
 use Rattle.rail_course.proofs.Waiting.{all_waits_in}
 use Rattle.interlocking.specs.declared.railway.Interlocking.{Interlocking}
-use Rattle.rail_cone.specs.Cones.{free_path, of_cone}
+use Rattle.cone_spec.specs.Cones.{free_path, of_cone}
 use Rattle.cone_run.proofs.Leading.{contending}
 use Rattle.cone_run.proofs.Ranging.{no_free_path}
 use Rattle.cone_run.proofs.layout.ConeLayout.journeys.Goals as goal

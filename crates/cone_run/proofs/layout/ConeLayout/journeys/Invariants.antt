@@ -3,7 +3,7 @@ use Rattle.rail_base.specs.Stations.{trains}
 use Rattle.rail_course.specs.declared.train_path.TrainPath.{TrainPath}
 use Rattle.rail_course.specs.declared.journey.Journey.{Journey}
 use Rattle.rail_course.specs.Journeys.{IsJourney}
-use Rattle.rail_cone.specs.Cones.{of_cone}
+use Rattle.cone_spec.specs.Cones.{of_cone}
 use Rattle.cone_run.proofs.layout.ConeLayout.journeys.Given as goal
 
 abbrev pub invariant-loop-train_path : goal.invariant-loop-train_path

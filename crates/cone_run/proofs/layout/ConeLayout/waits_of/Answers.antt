@@ -2,13 +2,13 @@ use Rattle.std.proofs.Common.{◌≡◌, ◌+◌, ◌++◌, [], ◌∷◌, Bool,
 use Rattle.rail_base.specs.declared.plan.Command.{Command}
 use Rattle.rail_base.proofs.Members.{map-map}
 use Rattle.rail_spec.specs.Plans.{is_command}
-use Rattle.rail_cone.specs.Cones.{is_listed, is_pair}
+use Rattle.cone_spec.specs.Cones.{is_listed, is_pair}
 use Rattle.rail_course.specs.declared.waits.Wait.{Wait}
 use Rattle.std.specs.List.{list_any}
 use Rattle.interlocking.specs.declared.railway.Interlocking.{Interlocking}
 use Rattle.rail_course.specs.Tracks.{IsCommand}
 use Rattle.rail_course.specs.Itineraries.{wait_in}
-use Rattle.plan_clauses.specs.Variables.{pairs}
+use Rattle.clause_spec.specs.Variables.{pairs}
 use Rattle.cone_run.specs.Layouts.{waits_in}
 use Rattle.cone_run.proofs.Listing.{listed_rivals, listed_next, unlisted_next}
 use Rattle.cone_run.proofs.Looking.{listed_there as listed_commands}

@@ -1,6 +1,6 @@
 use Rattle.std.proofs.Common.{◌≡◌, ◌++◌, drop, filter, map}
 use Rattle.rail_course.specs.Itineraries.{wait_in}
-use Rattle.rail_cone.specs.Cones.{is_listed}
+use Rattle.cone_spec.specs.Cones.{is_listed}
 use Rattle.cone_run.specs.Layouts.{waits_in}
 use Rattle.cone_run.proofs.layout.ConeLayout.waits_of.Given as goal
 

@@ -1,6 +1,6 @@
 use Rattle.std.proofs.Common.{◌≤◌, ap, ◌∙◌, arith}
 use Rattle.rail_require.specs.Ticks.{grant_tick, is_by}
-use Rattle.rail_cone.specs.Cones.{of_cone}
+use Rattle.cone_spec.specs.Cones.{of_cone}
 use Rattle.cone_run.specs.Runs.{last_tick}
 use Rattle.cone_run.proofs.Asking.{grant_asked}
 use Rattle.cone_run.proofs.train.TrainRun.free_granted.Goals as goal

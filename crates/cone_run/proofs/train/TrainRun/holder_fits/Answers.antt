@@ -1,5 +1,5 @@
 use Rattle.std.proofs.Common.{◌≡◌, ◌<◌, ◌&&◌, true, length, slice_get, ap, sym, ◌∙◌, arith}
-use Rattle.rail_cone.specs.Validity.{holder_fits, holder_needed, holds_up}
+use Rattle.cone_spec.specs.Validity.{holder_fits, holder_needed, holds_up}
 use Rattle.cone_run.proofs.Looking.{entry_here, needed_waits}
 use Rattle.cone_run.proofs.train.TrainRun.holder_fits.Goals as goal
 

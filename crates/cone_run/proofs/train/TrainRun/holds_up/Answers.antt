@@ -1,7 +1,7 @@
 use Rattle.std.proofs.Common.{◌≡◌, ◌+◌, ◌≤◌, true, not, List, ap, sym, ◌∙◌, arith}
 use Rattle.std.specs.List.{list_any}
 use Rattle.rail_base.specs.declared.plan.Command.{Command}
-use Rattle.rail_cone.specs.Cones.{is_listed, is_pair, named}
+use Rattle.cone_spec.specs.Cones.{is_listed, is_pair, named}
 use Rattle.cone_run.proofs.Looking.{held_until_cleared}
 use Rattle.cone_run.proofs.train.TrainRun.holds_up.Goals as goal
 

@@ -1,5 +1,5 @@
 use Rattle.std.proofs.Common.{ap, ◌∙◌}
-use Rattle.plan_clauses.specs.Variables.{is_pair}
+use Rattle.clause_spec.specs.Variables.{is_pair}
 use Rattle.contending.specs.Rows.{first_place, pairs_by_rows}
 use Rattle.contending.proofs.Distinct.{place_low}
 use Rattle.contending.proofs.pairs.ContendingPairs.place.Goals as goal

@@ -1,7 +1,7 @@
 use Rattle.std.proofs.Common.{List, ◌≤◌, length, ap, subst, sym, ◌∙◌}
 use Rattle.rail_base.specs.declared.plan.Command.{Command}
-use Rattle.plan_clauses.specs.Variables.{is_pair}
-use Rattle.plan_clauses.proofs.Lists.{Distinct}
+use Rattle.clause_spec.specs.Variables.{is_pair}
+use Rattle.clause_spec.proofs.Lists.{Distinct}
 use Rattle.contending.specs.Rows.{first_place, pairs_by_rows}
 use Rattle.contending.proofs.Distinct.{distinct_pairs, place_index, place_or}
 use Rattle.contending.proofs.pairs.ContendingPairs.place_of.Goals as goal

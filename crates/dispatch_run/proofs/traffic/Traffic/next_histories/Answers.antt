@@ -1,7 +1,7 @@
 use Rattle.std.proofs.Common.{◌≡◌, ℕ, suc, ◌+◌, get_or, length, map, set, ap, sym, ◌∙◌, arith}
 use Rattle.rail_base.specs.declared.history.TrainHistory.{TrainHistory}
 use Rattle.rail_base.proofs.Members.{map-map}
-use Rattle.dispatch_quiet.specs.Histories.{train_history}
+use Rattle.quiet_spec.specs.Histories.{train_history}
 use Rattle.dispatch_run.specs.declared.traffic.Follower.{Follower}
 use Rattle.dispatch_run.proofs.Filling.{filled, none_filled, next_is, one_more, length-filled, all_made}
 use Rattle.dispatch_run.proofs.Turning.{many_journeys, train_at, comes_off}

@@ -1,6 +1,6 @@
 use Rattle.std.proofs.Common.{◌≡◌, List}
 use Rattle.rail_base.specs.declared.history.TrainHistory.{TrainHistory}
-use Rattle.dispatch_quiet.specs.Histories.{train_history}
+use Rattle.quiet_spec.specs.Histories.{train_history}
 use Rattle.dispatch_run.specs.declared.traffic.Follower.{Follower}
 use Rattle.dispatch_run.proofs.Filling.{filled}
 use Rattle.dispatch_run.proofs.traffic.Traffic.next_histories.Given as goal

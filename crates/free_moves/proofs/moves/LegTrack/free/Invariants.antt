@@ -1,7 +1,7 @@
 use Rattle.std.proofs.Common.{◌≡◌, ◌+◌, ◌-◌, ◌≤◌, ◌<◌, true, false, nat_abs}
 use Rattle.rail_motion.specs.Motor.{rates_of}
 use Rattle.rail_motion.specs.Track.{stretches_of, end_of}
-use Rattle.rail_free.specs.Free.{is_free}
+use Rattle.free_spec.specs.Free.{is_free}
 use Rattle.free_moves.proofs.moves.LegTrack.free.Given as goal
 
 -- what is sought lies from low up to high

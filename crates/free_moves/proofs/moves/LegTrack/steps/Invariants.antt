@@ -1,5 +1,5 @@
 use Rattle.std.proofs.Common.{◌≡◌, ◌+◌, ◌-◌, ◌≤◌}
-use Rattle.rail_free.specs.Free.{steps}
+use Rattle.free_spec.specs.Free.{steps}
 use Rattle.free_moves.specs.Moves.{free_on}
 use Rattle.free_moves.proofs.moves.LegTrack.steps.Given as goal
 

@@ -1,5 +1,5 @@
 use Rattle.std.proofs.Common.{◌≡◌, ◌+◌, ◌-◌, ◌≤◌, nat_abs}
-use Rattle.rail_free.specs.Free.{steps_from_stop}
+use Rattle.free_spec.specs.Free.{steps_from_stop}
 use Rattle.free_moves.specs.Moves.{free_on}
 use Rattle.free_moves.proofs.Stepping.{from_stop}
 use Rattle.free_moves.proofs.moves.LegTrack.steps_from_stop.Given as goal

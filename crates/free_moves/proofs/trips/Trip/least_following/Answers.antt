@@ -1,7 +1,7 @@
 use Rattle.std.proofs.Common.{◌+◌, ◌-◌, ◌<◌, drop, length, ap, ◌∙◌, arith}
 use Rattle.rail_base.specs.declared.route.RouteNo.{RouteNo}
 use Rattle.rail_base.specs.Routes.{route_at}
-use Rattle.rail_cone.specs.Clauses.{goes_further}
+use Rattle.cone_spec.specs.Clauses.{goes_further}
 use Rattle.rail_course.specs.Tracks.{routes_at}
 use Rattle.free_moves.specs.Trips.{trip_ticks}
 use Rattle.free_moves.proofs.Least.{routes_from, one_more, no_more}

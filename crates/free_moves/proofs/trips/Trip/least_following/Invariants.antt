@@ -1,6 +1,6 @@
 use Rattle.std.proofs.Common.{◌≡◌, ◌-◌, ◌≤◌, drop}
 use Rattle.rail_course.specs.Tracks.{routes_at}
-use Rattle.rail_free.specs.Legs.{following, least_over}
+use Rattle.free_spec.specs.Legs.{following, least_over}
 use Rattle.free_moves.specs.Trips.{trip_ticks}
 use Rattle.free_moves.proofs.trips.Trip.least_following.Given as goal
 

@@ -1,6 +1,6 @@
 use Rattle.std.proofs.Common.{◌≡◌, IfOk, sym, ap, ◌∙◌, subst}
 use Rattle.rail_course.specs.Tracks.{routes_at}
-use Rattle.rail_free.specs.Legs.{least_whatever_follows}
+use Rattle.free_spec.specs.Legs.{least_whatever_follows}
 use Rattle.free_moves.specs.Trips.{trip_ticks}
 use Rattle.free_moves.proofs.Least.{goes_on_further, some_routes}
 use Rattle.free_moves.proofs.trips.Trip.least_ticks.Goals as goal

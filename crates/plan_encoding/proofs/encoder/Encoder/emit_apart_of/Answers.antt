@@ -1,6 +1,6 @@
 use Rattle.std.proofs.Common.{◌≡◌, ℕ, ◌+◌, ◌-◌, ◌++◌, ◌∷◌, map, ap, ◌∙◌, arith}
 use Rattle.rail_base.specs.Numbering.{count_from}
-use Rattle.plan_clauses.specs.Variables.{Given, no, if_given}
+use Rattle.clause_spec.specs.Variables.{Given, no, if_given}
 use Rattle.plan_encoding.specs.Sinks.{emitted}
 use Rattle.plan_encoding.specs.Encoders.{numbered_clauses}
 use Rattle.plan_encoding.proofs.Emission.{next_one, next_one_fails, next_count_one, handed_on}

@@ -1,6 +1,6 @@
 use Rattle.std.proofs.Common.{◌≡◌, ◌+◌, ◌-◌, ◌∷◌, map, flat_map}
 use Rattle.rail_base.specs.Numbering.{count_from, one_to}
-use Rattle.plan_clauses.specs.Variables.{Given, no, if_given}
+use Rattle.clause_spec.specs.Variables.{Given, no, if_given}
 use Rattle.plan_encoding.specs.Sinks.{emitted}
 use Rattle.plan_encoding.specs.Encoders.{numbered_clauses}
 use Rattle.plan_encoding.proofs.encoder.Encoder.emit_led.Given as goal

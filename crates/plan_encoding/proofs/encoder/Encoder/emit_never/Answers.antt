@@ -1,5 +1,5 @@
 use Rattle.std.proofs.Common.{◌+◌, [], ◌∷◌, ap}
-use Rattle.plan_clauses.specs.Variables.{Given, no}
+use Rattle.clause_spec.specs.Variables.{Given, no}
 use Rattle.plan_encoding.proofs.Emission.{next_one, next_one_fails, next_count_one, handed_on}
 use Rattle.plan_encoding.proofs.encoder.Encoder.emit_never.Goals as goal
 

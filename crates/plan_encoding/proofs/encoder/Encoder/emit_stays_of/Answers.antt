@@ -1,5 +1,5 @@
 use Rattle.std.proofs.Common.{◌+◌, [], ◌∷◌}
-use Rattle.plan_clauses.specs.Variables.{Given, yes, no}
+use Rattle.clause_spec.specs.Variables.{Given, yes, no}
 use Rattle.plan_encoding.proofs.Emission.{next_one, next_one_fails, next_count_one, handed_on, two_lits}
 use Rattle.plan_encoding.proofs.encoder.Encoder.emit_stays_of.Goals as goal
 

@@ -1,7 +1,7 @@
 use Rattle.std.proofs.Common.{◌≡◌, ◌+◌, ◌-◌, [], ◌∷◌, map}
 use Rattle.rail_base.specs.Numbering.{count_from}
-use Rattle.plan_clauses.specs.Variables.{Given, yes, no}
-use Rattle.plan_clauses.specs.Clauses.{stays_given}
+use Rattle.clause_spec.specs.Variables.{Given, yes, no}
+use Rattle.clause_spec.specs.Clauses.{stays_given}
 use Rattle.plan_encoding.specs.Sinks.{emitted}
 use Rattle.plan_encoding.specs.Encoders.{numbered_clauses}
 use Rattle.plan_encoding.proofs.encoder.Encoder.emit_stays_of.Given as goal

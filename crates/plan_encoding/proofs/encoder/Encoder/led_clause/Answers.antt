@@ -1,5 +1,5 @@
 use Rattle.std.proofs.Common.{◌-◌}
-use Rattle.plan_clauses.specs.Variables.{if_given, numbered}
+use Rattle.clause_spec.specs.Variables.{if_given, numbered}
 use Rattle.contending.proofs.Gathering.{mapped_next}
 use Rattle.contending.proofs.Gathering.{drop_next}
 use Rattle.plan_encoding.proofs.encoder.Encoder.led_clause.Goals as goal

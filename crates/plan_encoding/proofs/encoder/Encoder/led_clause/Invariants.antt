@@ -1,5 +1,5 @@
 use Rattle.std.proofs.Common.{◌≡◌, ◌-◌, ◌++◌, ◌∷◌, map, flat_map, drop}
-use Rattle.plan_clauses.specs.Variables.{Given, no, if_given, numbered}
+use Rattle.clause_spec.specs.Variables.{Given, no, if_given, numbered}
 use Rattle.plan_encoding.proofs.encoder.Encoder.led_clause.Given as goal
 
 -- what is put and what is left to put make all of it

@@ -1,5 +1,5 @@
 use Rattle.std.proofs.Common.{◌++◌, [], ◌∷◌, ap, ◌∙◌}
-use Rattle.plan_clauses.specs.Variables.{Given, yes, numbered}
+use Rattle.clause_spec.specs.Variables.{Given, yes, numbered}
 use Rattle.contending.proofs.Gathering.{twice_next}
 use Rattle.contending.proofs.Gathering.{drop_next}
 use Rattle.plan_encoding.proofs.encoder.Encoder.push_all_given.Goals as goal

@@ -1,5 +1,5 @@
 use Rattle.std.proofs.Common.{◌≡◌, ◌++◌, map, drop}
-use Rattle.plan_clauses.specs.Variables.{Given, yes, numbered}
+use Rattle.clause_spec.specs.Variables.{Given, yes, numbered}
 use Rattle.plan_encoding.proofs.encoder.Encoder.push_all_given.Given as goal
 
 -- what is put and what is left to put make all of it

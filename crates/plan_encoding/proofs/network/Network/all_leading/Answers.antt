@@ -1,5 +1,5 @@
 use Rattle.std.proofs.Common.{[], ◌∷◌, ◌++◌, map, ap, ◌∙◌}
-use Rattle.plan_clauses.specs.Clauses.{leading_to}
+use Rattle.clause_spec.specs.Clauses.{leading_to}
 use Rattle.plan_encoding.specs.Tables.{leading}
 use Rattle.contending.proofs.Gathering.{drop_next, push_next}
 use Rattle.plan_encoding.proofs.Tabled.{known_routes}

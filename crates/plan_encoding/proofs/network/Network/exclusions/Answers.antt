@@ -1,5 +1,5 @@
 use Rattle.std.proofs.Common.{◌++◌, filter, ap, ◌∙◌, arith}
-use Rattle.plan_clauses.specs.Clauses.{later_pairs}
+use Rattle.clause_spec.specs.Clauses.{later_pairs}
 use Rattle.plan_encoding.specs.Tables.{exclude_both}
 use Rattle.plan_encoding.proofs.Tabled.{tail_known, exclusions_next, known_routes}
 use Rattle.plan_encoding.proofs.network.Network.exclusions.Goals as goal

@@ -1,7 +1,7 @@
 use Rattle.std.proofs.Common.{◌≡◌, ◌++◌, length, filter}
 use Rattle.std.specs.Prelude.{All}
 use Rattle.rail_base.specs.Routes.{IsRoute}
-use Rattle.plan_clauses.specs.Clauses.{later_pairs}
+use Rattle.clause_spec.specs.Clauses.{later_pairs}
 use Rattle.plan_encoding.specs.Encoders.{table}
 use Rattle.plan_encoding.specs.Tables.{exclude_both, exclusions}
 use Rattle.plan_encoding.proofs.network.Network.exclusions.Given as goal

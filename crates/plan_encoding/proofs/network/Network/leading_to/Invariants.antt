@@ -1,6 +1,6 @@
 use Rattle.std.proofs.Common.{◌≡◌, ◌++◌, drop, filter}
 use Rattle.rail_spec.specs.Plans.{route_at, goes_on}
-use Rattle.plan_clauses.specs.Clauses.{leading_to}
+use Rattle.clause_spec.specs.Clauses.{leading_to}
 use Rattle.plan_encoding.specs.Encoders.{table}
 use Rattle.plan_encoding.proofs.network.Network.leading_to.Given as goal
 

@@ -1,5 +1,5 @@
 use Rattle.std.proofs.Common.{arith}
-use Rattle.plan_clauses.specs.Clauses.{in_order}
+use Rattle.clause_spec.specs.Clauses.{in_order}
 use Rattle.plan_encoding.proofs.Emission.{emitted_next, next_fails, next_mapped, handed_on}
 use Rattle.plan_encoding.proofs.pair.Contenders.emit_orders_of.Goals as goal
 

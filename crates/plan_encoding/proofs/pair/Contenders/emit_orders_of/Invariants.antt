@@ -1,5 +1,5 @@
 use Rattle.std.proofs.Common.{◌≡◌, ◌+◌, drop}
-use Rattle.plan_clauses.specs.Clauses.{in_order}
+use Rattle.clause_spec.specs.Clauses.{in_order}
 use Rattle.plan_encoding.specs.Sinks.{emitted}
 use Rattle.plan_encoding.specs.Families.{each_with}
 use Rattle.plan_encoding.specs.Encoders.{numbered_clauses}

@@ -1,5 +1,5 @@
 use Rattle.std.proofs.Common.{◌++◌, [], ◌∷◌, true, ap, ◌∙◌}
-use Rattle.plan_clauses.specs.Variables.{Given, Before, yes, no}
+use Rattle.clause_spec.specs.Variables.{Given, Before, yes, no}
 use Rattle.plan_encoding.specs.Sinks.{emitted}
 use Rattle.plan_encoding.specs.Orders.{all_earlier, all_first, said_by}
 use Rattle.plan_encoding.specs.Encoders.{numbered_clauses}

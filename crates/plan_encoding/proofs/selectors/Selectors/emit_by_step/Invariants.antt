@@ -1,5 +1,5 @@
 use Rattle.std.proofs.Common.{◌≡◌, map, drop}
-use Rattle.plan_clauses.specs.Clauses.{all_given}
+use Rattle.clause_spec.specs.Clauses.{all_given}
 use Rattle.plan_encoding.specs.Sinks.{emitted}
 use Rattle.plan_encoding.specs.Families.{given_by}
 use Rattle.plan_encoding.specs.Encoders.{over, numbered_clauses}

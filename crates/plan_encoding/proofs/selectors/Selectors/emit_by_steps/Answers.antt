@@ -1,4 +1,4 @@
-use Rattle.plan_clauses.specs.Clauses.{all_given}
+use Rattle.clause_spec.specs.Clauses.{all_given}
 use Rattle.plan_encoding.specs.Encoders.{over}
 use Rattle.plan_encoding.proofs.Emission.{emitted_next, next_fails, next_count, handed_on}
 use Rattle.plan_encoding.proofs.selectors.Selectors.emit_by_steps.Goals as goal

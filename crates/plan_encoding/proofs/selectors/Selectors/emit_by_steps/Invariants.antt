@@ -1,6 +1,6 @@
 use Rattle.std.proofs.Common.{◌≡◌, ◌-◌, flat_map}
 use Rattle.rail_base.specs.Numbering.{count_from}
-use Rattle.plan_clauses.specs.Clauses.{all_given}
+use Rattle.clause_spec.specs.Clauses.{all_given}
 use Rattle.plan_encoding.specs.Sinks.{emitted}
 use Rattle.plan_encoding.specs.Families.{all_by_steps}
 use Rattle.plan_encoding.specs.Encoders.{over, numbered_clauses}

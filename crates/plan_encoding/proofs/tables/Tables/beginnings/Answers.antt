@@ -1,5 +1,5 @@
 use Rattle.std.proofs.Common.{◌++◌, filter, sym, ap, ◌∙◌}
-use Rattle.alike_clauses.specs.Turns.{begins}
+use Rattle.alike_clause_spec.specs.Turns.{begins}
 use Rattle.plan_encoding.specs.Encoders.{over}
 use Rattle.contending.proofs.Gathering.{kept_next, drop_next}
 use Rattle.plan_encoding.proofs.Tabled.{known_numbers}

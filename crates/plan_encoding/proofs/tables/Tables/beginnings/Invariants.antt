@@ -1,5 +1,5 @@
 use Rattle.std.proofs.Common.{◌≡◌, ◌++◌, drop, filter}
-use Rattle.alike_clauses.specs.Turns.{beginnings, begins}
+use Rattle.alike_clause_spec.specs.Turns.{beginnings, begins}
 use Rattle.plan_encoding.specs.Encoders.{over}
 use Rattle.plan_encoding.proofs.tables.Tables.beginnings.Given as goal
 

@@ -1,5 +1,5 @@
 use Rattle.std.proofs.Common.{flat_map, ap, ◌∙◌}
-use Rattle.plan_clauses.specs.Variables.{pairs_of}
+use Rattle.clause_spec.specs.Variables.{pairs_of}
 use Rattle.plan_encoding.specs.Waiting.{apart_once}
 use Rattle.plan_encoding.specs.Sinks.{emitted}
 use Rattle.plan_encoding.specs.Encoders.{over, numbered_clauses}

@@ -1,5 +1,5 @@
 use Rattle.std.proofs.Common.{◌≡◌, flat_map, drop}
-use Rattle.plan_clauses.specs.Clauses.{excluded}
+use Rattle.clause_spec.specs.Clauses.{excluded}
 use Rattle.plan_encoding.specs.Sinks.{emitted}
 use Rattle.plan_encoding.specs.Families.{none_excluded}
 use Rattle.plan_encoding.specs.Encoders.{over, numbered_clauses}

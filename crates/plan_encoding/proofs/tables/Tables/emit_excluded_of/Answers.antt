@@ -1,5 +1,5 @@
 use Rattle.std.proofs.Common.{[], ◌∷◌, map, ap, ◌∙◌}
-use Rattle.plan_clauses.specs.Clauses.{not_both}
+use Rattle.clause_spec.specs.Clauses.{not_both}
 use Rattle.plan_encoding.specs.Sinks.{emitted}
 use Rattle.plan_encoding.specs.Encoders.{over, numbered_clauses}
 use Rattle.plan_encoding.proofs.Emission.{next_one, next_one_fails, next_member_one, handed_on, two_lits}

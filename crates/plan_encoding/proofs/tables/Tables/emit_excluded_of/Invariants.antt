@@ -1,5 +1,5 @@
 use Rattle.std.proofs.Common.{◌≡◌, map, drop}
-use Rattle.plan_clauses.specs.Clauses.{excluded, not_both}
+use Rattle.clause_spec.specs.Clauses.{excluded, not_both}
 use Rattle.plan_encoding.specs.Sinks.{emitted}
 use Rattle.plan_encoding.specs.Encoders.{over, numbered_clauses}
 use Rattle.plan_encoding.proofs.tables.Tables.emit_excluded_of.Given as goal

@@ -6,14 +6,14 @@ use Rattle.plan_encoding.proofs.Ordering.{own_few}
 use Rattle.plan_encoding.proofs.Tabled.{commands_many}
 use Rattle.std.proofs.Common.{◌≡◌, ℕ, ◌+◌, ◌*◌, ◌≤◌, ◌<◌, length, filter, get_or, sym, ap, ◌∙◌, arith}
 use Rattle.rail_base.specs.declared.plan.Command.{Command}
-use Rattle.plan_clauses.specs.Clauses.{in_order}
+use Rattle.clause_spec.specs.Clauses.{in_order}
 use Rattle.plan_encoding.proofs.Emission.{emitted_next, next_fails, handed_on}
 use Rattle.rail_spec.specs.Plans.{all_commands, contend}
 use Rattle.plan_encoding.proofs.Ordering.{length-kept, pairs_more, pairs_to, number_is}
 use Rattle.plan_encoding.proofs.Tabled.{next_rivals, commands_few, known_commands, known_rivals}
 use Rattle.plan_encoding.specs.Sinks.{emitted}
 use Rattle.plan_encoding.specs.Encoders.{over, numbered_clauses}
-use Rattle.plan_clauses.specs.Variables.{pairs_of}
+use Rattle.clause_spec.specs.Variables.{pairs_of}
 use Rattle.plan_encoding.proofs.Sequences.{parts_parts}
 use Rattle.plan_encoding.proofs.tables.Tables.emit_orders.Goals as goal
 

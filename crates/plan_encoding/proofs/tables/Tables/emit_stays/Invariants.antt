@@ -1,5 +1,5 @@
 use Rattle.std.proofs.Common.{◌≡◌, flat_map, drop}
-use Rattle.plan_clauses.specs.Clauses.{stays_given}
+use Rattle.clause_spec.specs.Clauses.{stays_given}
 use Rattle.plan_encoding.specs.Sinks.{emitted}
 use Rattle.plan_encoding.specs.Families.{all_stay}
 use Rattle.plan_encoding.specs.Encoders.{over, numbered_clauses}

@@ -1,4 +1,4 @@
-use Rattle.alike_clauses.specs.Turns.{in_turn}
+use Rattle.alike_clause_spec.specs.Turns.{in_turn}
 use Rattle.plan_encoding.specs.Encoders.{over}
 use Rattle.plan_encoding.proofs.Emission.{emitted_next, next_fails, next_member, handed_on}
 use Rattle.plan_encoding.proofs.Tabled.{in_get}

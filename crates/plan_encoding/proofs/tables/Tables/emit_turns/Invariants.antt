@@ -1,5 +1,5 @@
 use Rattle.std.proofs.Common.{◌≡◌, flat_map, drop}
-use Rattle.alike_clauses.specs.Turns.{in_turn}
+use Rattle.alike_clause_spec.specs.Turns.{in_turn}
 use Rattle.plan_encoding.specs.Sinks.{emitted}
 use Rattle.plan_encoding.specs.Families.{all_in_turn}
 use Rattle.plan_encoding.specs.Encoders.{over, numbered_clauses}

@@ -1,5 +1,5 @@
 use Rattle.std.proofs.Common.{◌≡◌, flat_map, ap, subst, ◌∙◌}
-use Rattle.alike_clauses.specs.Turns.{begun_always}
+use Rattle.alike_clause_spec.specs.Turns.{begun_always}
 use Rattle.plan_encoding.specs.Sinks.{Emitted, emitted}
 use Rattle.plan_encoding.specs.Encoders.{Stops, over, numbered_clauses}
 use Rattle.plan_encoding.proofs.Beginning.{known_beginnings, turn_is}

@@ -1,5 +1,5 @@
 use Rattle.std.proofs.Common.{◌≡◌, flat_map, drop}
-use Rattle.alike_clauses.specs.Turns.{begun_always, in_turn}
+use Rattle.alike_clause_spec.specs.Turns.{begun_always, in_turn}
 use Rattle.plan_encoding.specs.Sinks.{emitted}
 use Rattle.plan_encoding.specs.Encoders.{over, numbered_clauses}
 use Rattle.plan_encoding.proofs.tables.Tables.emit_turns_of.Given as goal

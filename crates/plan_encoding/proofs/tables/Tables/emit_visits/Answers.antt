@@ -1,5 +1,5 @@
 use Rattle.std.proofs.Common.{flat_map, ap, ◌∙◌}
-use Rattle.plan_clauses.specs.Clauses.{makes_visits}
+use Rattle.clause_spec.specs.Clauses.{makes_visits}
 use Rattle.plan_encoding.specs.Sinks.{emitted}
 use Rattle.plan_encoding.specs.Encoders.{over, numbered_clauses}
 use Rattle.plan_encoding.proofs.Emission.{emitted_next, next_fails, next_member, handed_on}

@@ -1,7 +1,7 @@
 use Rattle.std.proofs.Common.{◌≡◌, ◌+◌, ◌-◌, [], map, length}
 use Rattle.rail_base.specs.Numbering.{count_from, entry}
 use Rattle.rail_base.specs.Stations.{train_of}
-use Rattle.plan_clauses.specs.Clauses.{makes_visits}
+use Rattle.clause_spec.specs.Clauses.{makes_visits}
 use Rattle.plan_encoding.specs.Sinks.{emitted}
 use Rattle.plan_encoding.specs.Families.{visited_on}
 use Rattle.plan_encoding.specs.Encoders.{over, station, numbered_clauses}

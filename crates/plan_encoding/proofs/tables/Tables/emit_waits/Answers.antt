@@ -1,6 +1,6 @@
 use Rattle.std.proofs.Common.{flat_map, sym, ap, ◌∙◌}
-use Rattle.plan_clauses.specs.Variables.{pairs_of}
-use Rattle.plan_clauses.specs.Clauses.{waits}
+use Rattle.clause_spec.specs.Variables.{pairs_of}
+use Rattle.clause_spec.specs.Clauses.{waits}
 use Rattle.plan_encoding.specs.Sinks.{emitted}
 use Rattle.plan_encoding.specs.Encoders.{over, numbered_clauses}
 use Rattle.plan_encoding.proofs.Emission.{emitted_next, next_fails, handed_on}

@@ -1,4 +1,4 @@
-use Rattle.plan_clauses.specs.Clauses.{waits}
+use Rattle.clause_spec.specs.Clauses.{waits}
 use Rattle.plan_encoding.proofs.Emission.{emitted_next, next_fails, next_mapped, handed_on}
 use Rattle.std.proofs.Common.{sym, ap, subst, ◌∙◌}
 use Rattle.rail_spec.specs.Plans.{exits}

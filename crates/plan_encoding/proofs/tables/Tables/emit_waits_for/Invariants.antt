@@ -1,5 +1,5 @@
 use Rattle.std.proofs.Common.{◌≡◌, map, flat_map, drop}
-use Rattle.plan_clauses.specs.Clauses.{waits}
+use Rattle.clause_spec.specs.Clauses.{waits}
 use Rattle.plan_encoding.specs.Sinks.{emitted}
 use Rattle.plan_encoding.specs.Encoders.{numbered_clauses}
 use Rattle.plan_encoding.proofs.tables.Tables.emit_waits_for.Given as goal

@@ -2,7 +2,7 @@ use Rattle.std.proofs.Common.{true, false, sym, ap, ◌∙◌, arith}
 use Rattle.std.specs.List.{list_any}
 use Rattle.rail_base.specs.Routes.{route_at}
 use Rattle.rail_spec.specs.Plans.{is_start}
-use Rattle.plan_clauses.specs.Clauses.{onward}
+use Rattle.clause_spec.specs.Clauses.{onward}
 use Rattle.plan_encoding.specs.Tables.{going_on}
 use Rattle.contending.proofs.Sharing.{length_rows, row_is}
 use Rattle.plan_encoding.proofs.Chained.{onward_none, onward_is, first_known, first_in, none_within, taken}

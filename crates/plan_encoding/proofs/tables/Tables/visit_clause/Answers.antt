@@ -1,6 +1,6 @@
 use Rattle.std.proofs.Common.{◌++◌, filter, sym, ap, ◌∙◌}
-use Rattle.plan_clauses.specs.Variables.{Given, yes, numbered}
-use Rattle.plan_clauses.specs.Clauses.{may_visit}
+use Rattle.clause_spec.specs.Variables.{Given, yes, numbered}
+use Rattle.clause_spec.specs.Clauses.{may_visit}
 use Rattle.plan_encoding.specs.Families.{one_given}
 use Rattle.plan_encoding.specs.Encoders.{over, written}
 use Rattle.contending.proofs.Gathering.{chosen_next, drop_next}

@@ -1,5 +1,5 @@
 use Rattle.std.proofs.Common.{◌≡◌, ◌++◌, drop, filter}
-use Rattle.plan_clauses.specs.Clauses.{may_visit}
+use Rattle.clause_spec.specs.Clauses.{may_visit}
 use Rattle.plan_encoding.specs.Families.{one_given, visited_on}
 use Rattle.plan_encoding.specs.Encoders.{over, written}
 use Rattle.plan_encoding.proofs.tables.Tables.visit_clause.Given as goal

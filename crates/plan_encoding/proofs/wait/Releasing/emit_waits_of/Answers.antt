@@ -1,10 +1,10 @@
 use Rattle.std.proofs.Common.{◌+◌, length, ap, ◌∙◌}
-use Rattle.plan_clauses.specs.Clauses.{waits}
+use Rattle.clause_spec.specs.Clauses.{waits}
 use Rattle.plan_encoding.specs.Sinks.{emitted}
 use Rattle.plan_encoding.specs.Encoders.{numbered_clauses}
 use Rattle.plan_encoding.specs.Waiting.{waits_over}
 use Rattle.plan_encoding.proofs.Sequences.{last_ok, last_err}
-use Rattle.plan_clauses.specs.Clauses.{chains, clearing}
+use Rattle.clause_spec.specs.Clauses.{chains, clearing}
 use Rattle.std.proofs.Common.{ap₂}
 use Rattle.rail_base.specs.Routes.{route_at}
 use Rattle.plan_encoding.proofs.wait.Releasing.emit_waits_of.Goals as goal

@@ -3,7 +3,7 @@ use Rattle.std.specs.Prelude.{All}
 use Rattle.rail_base.specs.declared.route.RouteNo.{RouteNo}
 use Rattle.rail_base.specs.Routes.{IsRoute}
 use Rattle.rail_spec.specs.Plans.{exits, length_mm}
-use Rattle.plan_clauses.specs.Clauses.{chain_length, chains, onward}
+use Rattle.clause_spec.specs.Clauses.{chain_length, chains, onward}
 use Rattle.plan_encoding.specs.Sinks.{emitted}
 use Rattle.plan_encoding.specs.Encoders.{over, numbered_clauses}
 use Rattle.plan_encoding.specs.Waiting.{waits_over}

@@ -1,5 +1,5 @@
 use Rattle.std.proofs.Common.{◌≡◌, ◌-◌, ◌++◌, [], ◌∷◌, drop, flat_map}
-use Rattle.plan_clauses.specs.Clauses.{chains}
+use Rattle.clause_spec.specs.Clauses.{chains}
 use Rattle.plan_encoding.specs.Sinks.{emitted}
 use Rattle.plan_encoding.specs.Encoders.{over, table, numbered_clauses}
 use Rattle.plan_encoding.specs.Waiting.{waits_over}

@@ -1,8 +1,8 @@
 use Rattle.std.proofs.Common.{◌≡◌, Option, Some, MatchOption, Vec, Global, sym, ap, subst, ◌∙◌}
 use Rattle.proof_log.specs.declared.line.Line.TheVariants.{Refute}
 use Rattle.proof_log.specs.Lines.{line_of}
-use Rattle.rail_bound.specs.declared.Bound.{Bound}
-use Rattle.rail_bound.specs.declared.Evidence.TheVariants as evidence
+use Rattle.bound_spec.specs.declared.Bound.{Bound}
+use Rattle.bound_spec.specs.declared.Evidence.TheVariants as evidence
 use Rattle.sat_clause.specs.declared.lit.Lit.{Lit}
 use Rattle.plan_exclusion.specs.Written.{DeniedBy, DeniesNothing, SpellsNoBound}
 use Rattle.plan_exclusion.proofs.Bounding.{bounded_so}

@@ -1,5 +1,5 @@
 use Rattle.rail_base.proofs.Admitting.{admitted}
-use Rattle.rail_cone.proofs.Refusing.{holds_of_valid}
+use Rattle.cone_spec.proofs.Refusing.{holds_of_valid}
 use Rattle.plan_exclusion.proofs.Failure.{formed_so, fails_so, refutes_so, excluded_so}
 use Rattle.plan_exclusion.proofs.exclusion.FailedPlan.by_cone.Goals as goal
 

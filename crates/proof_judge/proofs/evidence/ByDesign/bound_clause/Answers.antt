@@ -1,5 +1,5 @@
 use Rattle.std.proofs.Common.{◌≡◌, List, Option, Result, Err, Vec, Global, option_map, sym, ap, subst, ◌∙◌}
-use Rattle.rail_bound.specs.declared.EvidenceFault.{EvidenceFault}
+use Rattle.bound_spec.specs.declared.EvidenceFault.{EvidenceFault}
 use Rattle.sat_clause.specs.declared.lit.Lit.{Lit}
 use Rattle.proof_judge.proofs.Deciding.{both_ways, not_covered, not_shown, accepted}
 use Rattle.proof_judge.proofs.evidence.ByDesign.bound_clause.Goals as goal

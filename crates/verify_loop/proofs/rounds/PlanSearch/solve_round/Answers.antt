@@ -1,6 +1,6 @@
 use Rattle.std.proofs.Common.{◌≡◌, ℕ, ◌≤◌, ◌<◌, ◌+◌, ◌-◌, true, List, [], ◌⊎◌, refl, sym, ap, ◌∙◌, subst, arith}
 use Rattle.rail_base.proofs.Admitting.{admitted}
-use Rattle.plan_clauses.specs.Variables.{By, number_of}
+use Rattle.clause_spec.specs.Variables.{By, number_of}
 use Rattle.rail_spec.specs.Track.{routes_of}
 use Rattle.log_recorder.specs.Logs.{by_step}
 use Rattle.sat_trail.proofs.Members.{assigned-self}

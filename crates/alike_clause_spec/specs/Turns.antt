@@ -1,0 +1,39 @@
+-- Clauses that say of pairs of trains that the first is given its first command in a step no later than the other's.
+use Rattle.std.specs.Prelude.{ℕ, Bool, List, ◌∷◌, map, filter, flat_map}
+use Rattle.rail_base.specs.declared.station.Station.{Station}
+use Rattle.rail_base.specs.declared.station.TrainNo.{TrainNo}
+use Rattle.rail_base.specs.declared.route.Route.{Route}
+use Rattle.rail_base.specs.declared.route.RouteNo.{RouteNo}
+use Rattle.rail_base.specs.Numbering.{one_to}
+use Rattle.rail_base.specs.Stations.{train_of, first_visit}
+use Rattle.rail_spec.specs.Plans.{route_at, starts_in, route_numbers}
+use Rattle.sat_clause.specs.declared.lit.Lit.{Lit}
+use Rattle.clause_spec.specs.Variables.{Given, yes, no, numbered}
+use Rattle.clause_spec.specs.Clauses.{Clause}
+
+module _ (d : Station) (routes : List Route) (n : ℕ) where
+  -- the train may begin with the route
+  abbrev pub begins : TrainNo → RouteNo → Bool
+  begins t r = starts_in (first_visit (train_of d t)) (route_at routes r).start
+
+  -- the routes with which it may begin
+  abbrev pub beginnings : TrainNo → List RouteNo
+  beginnings t = filter (begins t) (route_numbers routes)
+
+  -- where the later train of a pair is given this route by a step, the earlier has begun by it
+  abbrev pub has_begun : TrainNo × TrainNo → RouteNo → ℕ → Clause
+  has_begun p q i =
+      no (Given (record { train = p.1; route = q }) i)
+      ∷ map (λ r. yes (Given (record { train = p.0; route = r }) i)) (beginnings p.0)
+
+  -- for each step
+  abbrev pub begun_always : TrainNo × TrainNo → RouteNo → List Clause
+  begun_always p q = map (has_begun p q) (one_to n)
+
+  -- for each route with which the later may begin
+  abbrev pub in_turn : TrainNo × TrainNo → List Clause
+  in_turn p = flat_map (begun_always p) (beginnings p.1)
+
+  -- for each pair, over numbers
+  abbrev pub turn_clauses : List (TrainNo × TrainNo) → List (List Lit)
+  turn_clauses pairs = map (map (numbered d routes n)) (flat_map in_turn pairs)

@@ -1,5 +1,0 @@
-use Rattle.alike_clauses.proofs.Holding.{none_sorted}
-use Rattle.alike_clauses.proofs.laws.none_sorted_is_infeasible.Goals as goal
-
-pub returns : goal.returns
-returns c = λ d n k more some within. none_sorted d n k some within more

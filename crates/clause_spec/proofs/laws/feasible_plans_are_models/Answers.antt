@@ -1,0 +1,5 @@
+use Rattle.clause_spec.proofs.Theorems.{feasible_plans_are_models}
+use Rattle.clause_spec.proofs.laws.feasible_plans_are_models.Goals as goal
+
+pub returns : goal.returns
+returns c = feasible_plans_are_models

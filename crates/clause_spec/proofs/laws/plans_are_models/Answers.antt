@@ -1,0 +1,5 @@
+use Rattle.clause_spec.proofs.Theorems.{plans_are_models}
+use Rattle.clause_spec.proofs.laws.plans_are_models.Goals as goal
+
+pub returns : goal.returns
+returns c = plans_are_models

@@ -1,0 +1,5 @@
+use Rattle.free_spec.proofs.Lower.{lower}
+use Rattle.free_spec.proofs.laws.lower_moves_are_free.Goals as goal
+
+pub returns : goal.returns
+returns c = lower

@@ -1,5 +1,0 @@
-use Rattle.plan_clauses.proofs.Theorems.{feasible_plans_are_models}
-use Rattle.plan_clauses.proofs.laws.feasible_plans_are_models.Goals as goal
-
-pub returns : goal.returns
-returns c = feasible_plans_are_models

@@ -1,5 +1,0 @@
-use Rattle.plan_clauses.proofs.Shown.{none_by_is_infeasible}
-use Rattle.plan_clauses.proofs.laws.none_by_is_infeasible.Goals as goal
-
-pub returns : goal.returns
-returns c = none_by_is_infeasible

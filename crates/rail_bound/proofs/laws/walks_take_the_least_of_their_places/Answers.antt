@@ -1,5 +1,0 @@
-use Rattle.rail_bound.proofs.Walks.{through_places}
-use Rattle.rail_bound.proofs.laws.walks_take_the_least_of_their_places.Goals as goal
-
-pub returns : goal.returns
-returns c = through_places

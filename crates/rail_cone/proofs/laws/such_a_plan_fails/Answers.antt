@@ -1,5 +1,0 @@
-use Rattle.rail_cone.proofs.Refusing.{refused, timed_of}
-use Rattle.rail_cone.proofs.laws.such_a_plan_fails.Goals as goal
-
-pub returns : goal.returns
-returns c = λ d admitted routes n k plan r. refused d routes n k plan r (timed_of d admitted)

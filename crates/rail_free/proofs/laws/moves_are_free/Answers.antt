@@ -1,5 +1,0 @@
-use Rattle.rail_free.proofs.Moves.{one_tick}
-use Rattle.rail_free.proofs.laws.moves_are_free.Goals as goal
-
-pub returns : goal.returns
-returns c d adm n plan well = one_tick d adm n plan well.formed

@@ -1,5 +1,0 @@
-use Rattle.rail_free.proofs.Following.{whatever_follows}
-use Rattle.rail_free.proofs.laws.walks_take_the_least_of_what_follows.Goals as goal
-
-pub returns : goal.returns
-returns c = whatever_follows
