@@ -134,6 +134,55 @@ def in_rows(lines, trains, steps, length, speed, behind):
     return design, starts
 
 
+def round_a_loop(rounds, edges, length, speed):
+    """A train that goes round a loop of many edges again and again, and another that waits until it is through. Where the loop begins
+    and ends a tree of switches joins as many tracks, each with a signal, so that the train comes by another one each time: the design,
+    and the starts of the first train's routes."""
+    design = Design(vehicle(speed, length))
+
+    def edge(start, end):
+        own = len(design.entries["edge"])
+        design.add("edge", **{"from": start}, from_side="b", to=end, to_side="a", length_mm=length, speed_mm_s=speed, section=f"section{own}")
+
+    def tree(leaves, join):
+        """Joins the leaves pair by pair; the root."""
+        while len(leaves) > 1:
+            pairs = [leaves[place:place + 2] for place in range(0, len(leaves), 2)]
+            leaves = [join(pair) if len(pair) == 2 else pair[0] for pair in pairs]
+        return leaves[0]
+
+    def joined(pair, after):
+        node = design.add("node", boundary=False)
+        for leaf in pair:
+            edge(*((node, leaf) if after else (leaf, node)))
+        return node
+
+    entry = design.add("node", boundary=True)
+    tracks = [design.add("node", boundary=False) for _ in range(rounds)]
+    for track in tracks:
+        design.add("signal", node=track, toward="b")
+    nodes = [tree([entry, *tracks], lambda pair: joined(pair, False))]
+    for _ in range(edges):
+        nodes.append(design.add("node", boundary=False))
+        edge(nodes[-2], nodes[-1])
+    edge(nodes[-1], tree(tracks, lambda pair: joined(pair, True)))
+    for _ in range(2):
+        design.add("train", vehicle="v", visits=[[entry], [nodes[1]]])
+    return design, [f"boundary:{entry}"] + [f"signal:{signal['name']}" for signal in design.entries["signal"]]
+
+
+def looped(program, folder, rounds, *track):
+    """The words of a simulation of a train that goes round a loop so often, each time by the next signal, and of one behind it."""
+    design, starts = round_a_loop(rounds, *track)
+    path = folder / "design.toml"
+    path.write_text(design.text())
+    listed = subprocess.run([program, "routes", path], stdout=subprocess.PIPE, text=True, check=True).stdout
+    numbers = {tuple(row.split()[2:4]): int(row.split()[1]) for row in listed.splitlines()}
+    steps = [[["train0", numbers[ends]]] for ends in zip(starts, starts[1:])] + [[["train1", numbers[starts[0], starts[1]]]]]
+    (folder / "plan.json").write_text(json.dumps({"steps": steps}))
+    return ["simulate", path, folder / "plan.json"]
+
+
 def plan(starts, numbers):
     """The plan in which each train is given its routes step by step, from its first step on."""
     steps = [[] for _ in range(max(routes + behind for _, _, routes, behind in starts))]
@@ -182,6 +231,7 @@ def commands(program, folder):
     yield "32 trains in turn over long edges, all demands", 2, "", simulated(program, folder, in_turn(32, 1_998, 100_000, 100_000))
     yield "128 trains in turn over 1,998 nodes each, all demands", 2, "met", simulated(program, folder, in_turn(128, 1_998, 1_000, 10_000))
     yield "128 trains in turn over long edges, all demands", 2, "fails", simulated(program, folder, in_turn(128, 1_998, 100_000, 100_000))
+    yield "a train 44 times round a loop of 1,850 edges", 2, "met", looped(program, folder, 44, 1_850, 20_000, 20_000)
     yield "128 trains in a row over up to 256 routes each", 2, "met", simulated(program, folder, in_rows(1, 128, 256, 10_000, 20_000, 2))
     yield "126 trains in three rows over up to 256 routes each", 2, "met", simulated(program, folder, in_rows(3, 126, 256, 10_000, 20_000, 2))
     refused = "plan refused P4 step 1 train train0 section section0"

@@ -26,14 +26,14 @@ use Rattle.alike_clause_spec.specs.Sorted.{AreSound, NoneSortedBy}
 use Rattle.alike_clause_spec.proofs.Holding.{none_sorted}
 use Rattle.bound_spec.specs.declared.Bound.{Bound}
 use Rattle.bound_spec.specs.Clauses.{clause_of_bound}
-use Rattle.bound_spec.specs.Validity.{in_design, covered, shown, first_fault, is_valid_bound}
+use Rattle.bound_spec.specs.Validity.{in_design, covered, shows_failure, first_fault, is_valid_bound}
 use Rattle.bound_spec.proofs.Certified.{true_of_feasible}
-use Rattle.bound_clause.specs.Numbered.{numbered_bound, clauses_shown}
+use Rattle.bound_clause.specs.Numbered.{numbered_bound, clauses_of_evidence}
 use Rattle.bound_clause.proofs.Known.{all_known}
 use Rattle.bound_clause.proofs.ClauseOrder.{clause_sorted}
 
 pub fits_design : (d : Station) (routes : List Route) (b : Bound) → is_valid_bound d routes b ≡ true → in_design d routes b ≡ true
-fits_design d routes b = go (in_design d routes b) (covered d routes b) (shown d routes b)
+fits_design d routes b = go (in_design d routes b) (covered d routes b) (shows_failure d routes b)
   where
     go : (x y z : Bool) → is_none (first_fault x y z) ≡ true → x ≡ true
     go true y z h = refl
@@ -49,7 +49,7 @@ clause_rises d routes n b some fits = all_pairs_map (λ (l m : Lit). nat_lt l.va
     (weaken d routes n some is_literal_before (λ (l m : Literal). nat_lt (number_of d routes n (variable_of n l.fact)) (number_of d routes n (variable_of n m.fact))) (clause_of_bound d routes b)
     (λ l m i j h. le-leb _ _ (facts_rise d routes n some l.fact m.fact (all_known d routes b fits l i) (all_known d routes b fits m j) h)) (clause_sorted d routes b fits))
 
-pub sound : (d : Station) → IsAdmitted d → (n : ℕ) (cones : List Cone) (bounds : List Bound) → 1 ≤ n → list_all (is_valid_cone d (routes_of d)) cones ≡ true → list_all (is_valid_bound d (routes_of d)) bounds ≡ true → AreSound d n (clauses_shown d n cones bounds)
+pub sound : (d : Station) → IsAdmitted d → (n : ℕ) (cones : List Cone) (bounds : List Bound) → 1 ≤ n → list_all (is_valid_cone d (routes_of d)) cones ≡ true → list_all (is_valid_bound d (routes_of d)) bounds ≡ true → AreSound d n (clauses_of_evidence d n cones bounds)
 sound d adm n cones bounds some valid valid_too plan f = all_append (clause_holds (model_of d (routes_of d) n plan)) (map (numbered_clause d (routes_of d) n) cones) (map (numbered_bound d (routes_of d) n) bounds) (each_cone cones valid) (each_bound bounds valid_too)
   where
     each_cone : (ks : List Cone) → list_all (is_valid_cone d (routes_of d)) ks ≡ true → list_all (clause_holds (model_of d (routes_of d) n plan)) (map (numbered_clause d (routes_of d) n) ks) ≡ true
@@ -61,5 +61,5 @@ sound d adm n cones bounds some valid valid_too plan f = all_append (clause_hold
     each_bound (b ∷ bs) h = and_both _ _ (bound_holds d adm n b plan some (and_left (is_valid_bound d (routes_of d) b) _ h) f) (each_bound bs (and_right (is_valid_bound d (routes_of d) b) _ h))
 
 pub refuted : (d : Station) → IsAdmitted d → (n k : ℕ) (cones : List Cone) (bounds : List Bound) → 1 ≤ k → k ≤ n → list_all (is_valid_cone d (routes_of d)) cones ≡ true → list_all (is_valid_bound d (routes_of d)) bounds ≡ true
-    → NoneSortedBy d n k (clauses_shown d n cones bounds) → IsInfeasible d k
-refuted d adm n k cones bounds some more valid valid_too none = none_sorted d n k some more (clauses_shown d n cones bounds) (sound d adm n cones bounds (omega arith) valid valid_too) none
+    → NoneSortedBy d n k (clauses_of_evidence d n cones bounds) → IsInfeasible d k
+refuted d adm n k cones bounds some more valid valid_too none = none_sorted d n k some more (clauses_of_evidence d n cones bounds) (sound d adm n cones bounds (omega arith) valid valid_too) none

@@ -10,7 +10,7 @@ use Rattle.rail_base.proofs.Members.{In, and_left, and_right, and_both, either, 
 use Rattle.rail_base.proofs.Lists.{in_append, in_flat_map_back}
 use Rattle.rail_laws.proofs.Given.{same_train}
 use Rattle.clause_spec.proofs.Facts.{contend_sym}
-use Rattle.cone_spec.specs.Cones.{is_listed, is_free}
+use Rattle.cone_spec.specs.Cones.{has_pair, is_free}
 use Rattle.cone_spec.specs.Validity as cone
 use Rattle.cone_spec.specs.Clauses.{Used, Before, Literal}
 use Rattle.cone_spec.proofs.Naming.{of_design, listed_is, has_route_in}
@@ -65,14 +65,14 @@ module _ (d : Station) (routes : List Route) (b : Bound) (fits : in_design d rou
       subst (λ t. contend routes (record { train = t; route = e.route }) c ≡ true) t (subst (λ u. contend routes (record { train = l.train; route = e.route }) (record { train = u; route = c.route }) ≡ true) u two)
 
   -- so do those that a cone lists
-  listed_contend : (e c : Command) → is_listed (cone_of b) e c ≡ true → contend routes e c ≡ true
+  listed_contend : (e c : Command) → has_pair (cone_of b) e c ≡ true → contend routes e c ≡ true
   listed_contend e c h = go b.origin refl (visit_from d b.requirement) refl origin_fits
     where
       of_cone : cone.in_design d routes (cone_of b) ≡ true → contend routes e c ≡ true
       of_cone fits = let one = listed_is d routes (cone_of b) (of_design d routes (cone_of b) fits) e c h in and_both (not (is_train e.train c.train)) (share (route_at routes e.route) (route_at routes c.route)) (ap not one.apart) one.sharing
 
-      none : (o : Origin) → b.origin ≡ o → is_listed (cone_at b.requirement o) e c ≡ false → contend routes e c ≡ true
-      none o eo unlisted = absurd (true≢false (sym h ∙ ap (λ o. is_listed (cone_at b.requirement o) e c) eo ∙ unlisted))
+      none : (o : Origin) → b.origin ≡ o → has_pair (cone_at b.requirement o) e c ≡ false → contend routes e c ≡ true
+      none o eo unlisted = absurd (true≢false (sym h ∙ ap (λ o. has_pair (cone_at b.requirement o) e c) eo ∙ unlisted))
 
       go : (o : Origin) → b.origin ≡ o → (v : Option VisitOf) → visit_from d b.requirement ≡ v → origin_in_design d routes b o v ≡ true → contend routes e c ≡ true
       go (origin.Cone k cone) eo (Some v) ev k' = of_cone k'
@@ -82,14 +82,14 @@ module _ (d : Station) (routes : List Route) (b : Bound) (fits : in_design d rou
       go origin.FirstTick eo v ev k' = none origin.FirstTick eo refl
 
   earlier_contend : (e c : Command) → is_before d routes b e c ≡ true → contend routes e c ≡ true
-  earlier_contend e c h = go (either (any_next (joins e c) b.legs) (is_listed (cone_of b) e c) h)
+  earlier_contend e c h = go (either (any_next (joins e c) b.legs) (has_pair (cone_of b) e c) h)
     where
-      go : (any_next (joins e c) b.legs ≡ true) ⊎ (is_listed (cone_of b) e c ≡ true) → contend routes e c ≡ true
+      go : (any_next (joins e c) b.legs ≡ true) ⊎ (has_pair (cone_of b) e c ≡ true) → contend routes e c ≡ true
       go (inr l) = listed_contend e c l
       go (inl j) = let a = any_meets (joins e c) (contend_where_they_meet d routes) b.legs j meet in meeting_contend e c a.0 a.1 (and_right (meet_named a.0 a.1) _ a.2) a.3
 
   behind_contend : (e c : Command) → is_kept_behind d routes b e c ≡ true → contend routes e c ≡ true
-  behind_contend e c h = go (either _ (not (is_listed (cone_of b) e c) && is_free (cone_of b) c && contend routes e c) h)
+  behind_contend e c h = go (either _ (not (has_pair (cone_of b) e c) && is_free (cone_of b) c && contend routes e c) h)
     where
       two : (any_next (may_join c e) b.legs ≡ true) ⊎ ((begins_at_once d routes b b.origin (visit_from d b.requirement) c && contend routes e c) ≡ true) → contend routes e c ≡ true
       two (inl j) =
@@ -97,9 +97,9 @@ module _ (d : Station) (routes : List Route) (b : Bound) (fits : in_design d rou
           contend_sym routes c e (meeting_contend c e a.0 a.1 (and_right (not (meet_named a.0 a.1)) _ a.2) a.3)
       two (inr k) = and_right (begins_at_once d routes b b.origin (visit_from d b.requirement) c) _ k
 
-      go : ((any_next (may_join c e) b.legs || (begins_at_once d routes b b.origin (visit_from d b.requirement) c && contend routes e c)) ≡ true) ⊎ ((not (is_listed (cone_of b) e c) && is_free (cone_of b) c && contend routes e c) ≡ true) → contend routes e c ≡ true
+      go : ((any_next (may_join c e) b.legs || (begins_at_once d routes b b.origin (visit_from d b.requirement) c && contend routes e c)) ≡ true) ⊎ ((not (has_pair (cone_of b) e c) && is_free (cone_of b) c && contend routes e c) ≡ true) → contend routes e c ≡ true
       go (inl k) = two (either (any_next (may_join c e) b.legs) _ k)
-      go (inr k) = and_right (not (is_listed (cone_of b) e c) && is_free (cone_of b) c) _ k
+      go (inr k) = and_right (not (has_pair (cone_of b) e c) && is_free (cone_of b) c) _ k
 
   -- ---- literals
 

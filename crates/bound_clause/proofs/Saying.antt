@@ -15,7 +15,7 @@ use Rattle.clause_spec.specs.Variables.{pairs}
 use Rattle.clause_spec.proofs.Places.{command_of, pair_of, pair_from}
 use Rattle.cone_form.proofs.Contending.{mirrored}
 use Rattle.cone_spec.specs.Cones as cone
-use Rattle.cone_spec.specs.Cones.{has_route, is_free, is_listed, named}
+use Rattle.cone_spec.specs.Cones.{has_route, is_free, has_pair, named}
 use Rattle.cone_spec.specs.Clauses as words
 use Rattle.cone_spec.specs.Clauses.{Used, Before, Literal, is_closed, goes_further, clause_of_cone}
 use Rattle.cone_spec.proofs.Naming.{has_route_in, in_has_route}
@@ -157,7 +157,7 @@ module _ (d : Station) (routes : List Route) (b : Bound) where
       one_used c m (inr (h, k, e)) = subst (λ l. In l clause) e (put_out c m (or_right (list_any (stands_in kept_out c) b.legs) _
           (and_both _ _ (and_both _ _ (ap not h) (and_left (is_closed d routes (cone_of b) c.train) _ k)) (and_right (is_closed d routes (cone_of b) c.train) _ k))))
 
-      one_before : (e c : Command) → In e (all_commands d routes) → In c (all_commands d routes) → ((is_listed (cone_of b) e c ≡ true) × (before e c true ≡ l)) ⊎ ((is_listed (cone_of b) e c ≡ false) × ((is_free (cone_of b) c && contend routes e c) ≡ true) × (before e c false ≡ l)) → In l clause
+      one_before : (e c : Command) → In e (all_commands d routes) → In c (all_commands d routes) → ((has_pair (cone_of b) e c ≡ true) × (before e c true ≡ l)) ⊎ ((has_pair (cone_of b) e c ≡ false) × ((is_free (cone_of b) c && contend routes e c) ≡ true) × (before e c false ≡ l)) → In l clause
       one_before e c i m (inl (h, s)) = subst (λ l. In l clause) s (put_before e c i m (or_right (any_next (joins e c) b.legs) _ h))
       one_before e c i m (inr (h, k, s)) = subst (λ l. In l clause) s (put_behind e c i m (or_right _ _
           (and_both _ _ (and_both _ _ (ap not h) (and_left (is_free (cone_of b) c) _ k)) (and_right (is_free (cone_of b) c) _ k))))
@@ -167,7 +167,7 @@ module _ (d : Station) (routes : List Route) (b : Bound) where
       go (inr j) =
           let e = in_flat_map_back (λ e. flat_map (words.before_literals d routes (cone_of b) e) (all_commands d routes)) (all_commands d routes) l j in
           let c = in_flat_map_back (words.before_literals d routes (cone_of b) e.0) (all_commands d routes) l e.2 in
-          one_before e.0 c.0 e.1 c.1 (either_if (is_listed (cone_of b) e.0 c.0) (is_free (cone_of b) c.0 && contend routes e.0 c.0) l (before e.0 c.0 true) (before e.0 c.0 false) c.2)
+          one_before e.0 c.0 e.1 c.1 (either_if (has_pair (cone_of b) e.0 c.0) (is_free (cone_of b) c.0 && contend routes e.0 c.0) l (before e.0 c.0 true) (before e.0 c.0 false) c.2)
 
   stands : (at : Place → List RouteNo) (g : Leg) → In g b.legs → (p : Place) → In p g.places → (r : RouteNo) → In r (at p) → list_any (stands_in at (record { train = g.train; route = r })) b.legs ≡ true
   stands at g i p j r k = list_any_from (stands_in at (record { train = g.train; route = r })) b.legs g i
@@ -319,14 +319,14 @@ module _ (d : Station) (routes : List Route) (b : Bound) where
           (and_both _ _ (and_right (not (cone.is_named (cone_of b) c)) _ closed) (and_right (not (cone.is_named (cone_of b) c) && is_closed d routes (cone_of b) c.train) (further c) k)))
 
   said_earlier : (e c : Command) → In e (all_commands d routes) → In c (all_commands d routes) → is_before d routes b e c ≡ true → of_said (before e c true)
-  said_earlier e c i m h = go (either (any_next (joins e c) b.legs) (is_listed (cone_of b) e c) h)
+  said_earlier e c i m h = go (either (any_next (joins e c) b.legs) (has_pair (cone_of b) e c) h)
     where
-      go : (any_next (joins e c) b.legs ≡ true) ⊎ (is_listed (cone_of b) e c ≡ true) → of_said (before e c true)
+      go : (any_next (joins e c) b.legs ≡ true) ⊎ (has_pair (cone_of b) e c ≡ true) → of_said (before e c true)
       go (inl j) =
           let f = any_meeting (before e c true) (joins e c) b.legs j in
           let named = and_left (meet_named f.0 f.1) _ f.2 in
           said_by_meetings (before e c true) (f.3 (subst (λ n. In (said_of_pair n e c) (said_between f.0 f.1)) named (in_between e c f.0 f.1 (and_right (meet_named f.0 f.1) _ f.2))))
-      go (inr k) = by_cone_before e c (before e c true) i m (if_first (is_listed (cone_of b) e c) (is_free (cone_of b) c && contend routes e c) (before e c true) (before e c false) k)
+      go (inr k) = by_cone_before e c (before e c true) i m (if_first (has_pair (cone_of b) e c) (is_free (cone_of b) c && contend routes e c) (before e c true) (before e c false) k)
 
   said_begins : (e c : Command) → In e (all_commands d routes) → In c (all_commands d routes) → contend routes e c ≡ true → (o : Origin) (v : Option VisitOf) → begins_at_once d routes b o v c ≡ true → In (before e c false) (said_at d routes o v)
   said_begins e c i m k origin.FirstTick (Some v) h =
@@ -343,7 +343,7 @@ module _ (d : Station) (routes : List Route) (b : Bound) where
   said_begins e c i m k (origin.Cone t k') v h = absurd (true≢false (sym h))
 
   said_behind : (e c : Command) → In e (all_commands d routes) → In c (all_commands d routes) → is_kept_behind d routes b e c ≡ true → of_said (before e c false)
-  said_behind e c i m h = go (either _ (not (is_listed (cone_of b) e c) && is_free (cone_of b) c && contend routes e c) h)
+  said_behind e c i m h = go (either _ (not (has_pair (cone_of b) e c) && is_free (cone_of b) c && contend routes e c) h)
     where
       two : (any_next (may_join c e) b.legs ≡ true) ⊎ ((begins_at_once d routes b b.origin (visit_from d b.requirement) c && contend routes e c) ≡ true) → of_said (before e c false)
       two (inl j) =
@@ -352,13 +352,13 @@ module _ (d : Station) (routes : List Route) (b : Bound) where
           said_by_meetings (before e c false) (f.3 (subst (λ n. In (said_of_pair n c e) (said_between f.0 f.1)) named (in_between c e f.0 f.1 (and_right (not (meet_named f.0 f.1)) _ f.2))))
       two (inr k) = said_by_origin (before e c false) (said_begins e c i m (and_right (begins_at_once d routes b b.origin (visit_from d b.requirement) c) _ k) b.origin (visit_from d b.requirement) (and_left (begins_at_once d routes b b.origin (visit_from d b.requirement) c) _ k))
 
-      go : ((any_next (may_join c e) b.legs || (begins_at_once d routes b b.origin (visit_from d b.requirement) c && contend routes e c)) ≡ true) ⊎ ((not (is_listed (cone_of b) e c) && is_free (cone_of b) c && contend routes e c) ≡ true) → of_said (before e c false)
+      go : ((any_next (may_join c e) b.legs || (begins_at_once d routes b b.origin (visit_from d b.requirement) c && contend routes e c)) ≡ true) ⊎ ((not (has_pair (cone_of b) e c) && is_free (cone_of b) c && contend routes e c) ≡ true) → of_said (before e c false)
       go (inl k) = two (either (any_next (may_join c e) b.legs) _ k)
       go (inr k) =
-          let free = and_left (not (is_listed (cone_of b) e c) && is_free (cone_of b) c) (contend routes e c) k in
-          by_cone_before e c (before e c false) i m (if_second (is_listed (cone_of b) e c) (is_free (cone_of b) c && contend routes e c) (before e c true) (before e c false)
-          (is_false (is_listed (cone_of b) e c) (and_left (not (is_listed (cone_of b) e c)) _ free))
-          (and_both _ _ (and_right (not (is_listed (cone_of b) e c)) _ free) (and_right (not (is_listed (cone_of b) e c) && is_free (cone_of b) c) (contend routes e c) k)))
+          let free = and_left (not (has_pair (cone_of b) e c) && is_free (cone_of b) c) (contend routes e c) k in
+          by_cone_before e c (before e c false) i m (if_second (has_pair (cone_of b) e c) (is_free (cone_of b) c && contend routes e c) (before e c true) (before e c false)
+          (is_false (has_pair (cone_of b) e c) (and_left (not (has_pair (cone_of b) e c)) _ free))
+          (and_both _ _ (and_right (not (has_pair (cone_of b) e c)) _ free) (and_right (not (has_pair (cone_of b) e c) && is_free (cone_of b) c) (contend routes e c) k)))
 
   pub in_said : (l : Literal) → In l clause → In l (said_literals d routes b)
   in_said l i = go (in_append l used_part before_part i)

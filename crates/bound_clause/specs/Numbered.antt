@@ -15,8 +15,8 @@ abbrev pub numbered_bound : Station → List Route → ℕ → Bound → List Li
 numbered_bound d routes n b = map (lit_of d routes n) (clause_of_bound d routes b)
 
 -- the clauses of these cones and certificates
-abbrev pub clauses_shown : Station → ℕ → List Cone → List Bound → List (List Lit)
-clauses_shown d n cones bounds =
+abbrev pub clauses_of_evidence : Station → ℕ → List Cone → List Bound → List (List Lit)
+clauses_of_evidence d n cones bounds =
     map (numbered_clause d (routes_of d) n) cones ++ map (numbered_bound d (routes_of d) n) bounds
 
 -- the clause, where nothing is taken for granted both ways

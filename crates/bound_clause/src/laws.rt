@@ -17,7 +17,7 @@ ghost use Rattle.cone_spec.specs.declared.Cone.{Cone};
 ghost use Rattle.cone_spec.specs.Validity.{is_valid_cone};
 ghost use Rattle.bound_spec.specs.declared.Bound.{Bound};
 ghost use Rattle.bound_spec.specs.Validity.{in_design, is_valid_bound};
-ghost use Rattle.bound_clause.specs.Numbered.{numbered_bound, clauses_shown};
+ghost use Rattle.bound_clause.specs.Numbered.{numbered_bound, clauses_of_evidence};
 
 /// The clause of a valid certificate is true in the model of every feasible plan.
 pub fn bounds_hold_in_models_of_feasible_plans()
@@ -38,5 +38,5 @@ pub fn refuted_designs_are_infeasible()
     ensures { (d : Station) → IsAdmitted d → (n k : ℕ) (cones : List Cone) (bounds : List Bound) → 1 ≤ k → k ≤ n
         → list_all (is_valid_cone d (routes_of d)) cones ≡ true
         → list_all (is_valid_bound d (routes_of d)) bounds ≡ true
-        → NoneSortedBy d n k (clauses_shown d n cones bounds) → IsInfeasible d k }
+        → NoneSortedBy d n k (clauses_of_evidence d n cones bounds) → IsInfeasible d k }
 {}

@@ -10,10 +10,10 @@ ghost use Rattle.bound_clause.specs.Spoken.{numbered, routes_in, station_of};
 
 use crate::numbered::NumberedBound;
 use crate::order::{put_in_order, rises};
+use bound_spec::{Bound, Origin};
 use cone_clause::clause_of as clause_of_cone;
 use cone_form::Contention;
 use interlocking::Steps;
-use bound_spec::{Bound, Origin};
 use sat_clause::Lit;
 use std::alloc::{AllocError, Global};
 

@@ -8,9 +8,9 @@ ghost use Rattle.bound_clause.specs.Said.{said_after, said_between, said_of_meet
 ghost use Rattle.bound_clause.specs.Spoken.{ContendAll, ContendWithAll, numbered, pairs_in};
 
 use crate::numbered::NumberedBound;
+use bound_spec::{Leg, Place, first_routes, last_routes};
 use rail_base::plan::Command;
 use rail_base::route::RouteNo;
-use bound_spec::{Leg, Place, first_routes, last_routes};
 use sat_clause::Lit;
 use std::alloc::AllocError;
 

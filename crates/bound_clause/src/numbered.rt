@@ -3,9 +3,9 @@
 ghost use Rattle.std.specs.Prelude.{◌≡◌, true};
 ghost use Rattle.bound_spec.specs.Validity.{names_design};
 
+use bound_spec::Bound;
 use cone_form::Contention;
 use interlocking::Steps;
-use bound_spec::Bound;
 
 /// A certificate that speaks of the design, and how many steps the plans have that its clause is for.
 #[derive(Clone, Copy)]

@@ -8,10 +8,10 @@ ghost use Rattle.bound_clause.specs.Said.{said_of_leg, said_of_legs, said_of_pla
 ghost use Rattle.bound_clause.specs.Spoken.{numbered, routes_in, station_of};
 
 use crate::numbered::NumberedBound;
+use bound_spec::{Leg, Place};
 use rail_base::plan::Command;
 use rail_base::route::RouteNo;
 use rail_base::station::TrainNo;
-use bound_spec::{Leg, Place};
 use sat_clause::Lit;
 use std::alloc::AllocError;
 

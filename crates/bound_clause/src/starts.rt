@@ -9,11 +9,11 @@ ghost use Rattle.bound_clause.specs.Said.{said_before, said_of_origin, said_of_s
 ghost use Rattle.bound_clause.specs.Spoken.{numbered, pairs_in, routes_in, station_of};
 
 use crate::numbered::NumberedBound;
+use bound_spec::{Origin, Requirement};
 use interlocking::has_node;
 use rail_base::plan::Command;
 use rail_base::route::{RouteNo, Start, route_at};
 use rail_base::station::TrainNo;
-use bound_spec::{Origin, Requirement};
 use sat_clause::Lit;
 use std::alloc::{AllocError, Global};
 

@@ -11,10 +11,10 @@ ghost use Rattle.bound_design.specs.Covering.{leads_into as leads};
 ghost use Rattle.bound_design.specs.Named.{leg_fits, place_fits};
 
 use crate::tracks::{leads_into, open_routes, routes_of_numbers, starts_of};
+use bound_spec::{Leg, Place, routes_of};
 use interlocking::{Interlocking, goes_on};
 use number_sets::NumberSet;
 use rail_base::route::{Finish, Route, RouteNo, Start};
-use bound_spec::{Leg, Place, routes_of};
 use std::alloc::{AllocError, Global};
 
 /// Whether a route starts at a boundary.

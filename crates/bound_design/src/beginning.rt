@@ -16,10 +16,10 @@ use crate::reaching::first_place;
 use crate::requirement::first_visit;
 use crate::tracks::{open_routes, routes_of_numbers};
 use crate::visit::{Visit, visit_of};
+use bound_spec::{Bound, Leg, Origin, Place, routes_of};
 use interlocking::Interlocking;
 use rail_base::route::Route;
 use rail_base::station::{NodeNo, TrainNo};
-use bound_spec::{Bound, Leg, Origin, Place, routes_of};
 use std::alloc::{AllocError, Global};
 
 /// Whether the first leg begins on a route of the visit from which the ticks are counted.
@@ -31,7 +31,7 @@ pub(crate) fn origin_covered(
 ) -> Result<bool, AllocError>
     requires requirement { requirement_fits interlocking.now bound.now.requirement ≡ true }
     requires leg { leg_fits interlocking.now first.now ≡ true }
-    requires first { first_leg bound.now.legs ≡ first.now }
+    requires first_leg { first_leg bound.now.legs ≡ first.now }
     ensures { IfOk result (λ b. b ≡ origin_covered_in interlocking.now bound.now) }
 {
     match &bound.origin {

@@ -9,8 +9,8 @@ ghost use Rattle.bound_design.specs.Named.{leg_fits};
 use crate::before::legs_follow;
 use crate::beginning::origin_covered;
 use crate::reaching::{reaches_target, uses_before_last};
-use interlocking::Interlocking;
 use bound_spec::{Bound, Leg};
+use interlocking::Interlocking;
 use std::alloc::{AllocError, Global};
 
 /// Whether at each place of a certificate the train can use no routes but those of the place and those that are kept

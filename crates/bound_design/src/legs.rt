@@ -8,8 +8,8 @@ ghost use Rattle.bound_design.specs.Named.{leg_fits, place_fits};
 use crate::lists::is_empty;
 use crate::places::place_in_design;
 use crate::requirement::is_one_of;
-use interlocking::Interlocking;
 use bound_spec::{Leg, Place};
+use interlocking::Interlocking;
 
 /// How many places all legs may have.
 const MOST_PLACES: usize = 64;

@@ -6,12 +6,12 @@ ghost use Rattle.rail_base.specs.Members.{all_neighbors};
 ghost use Rattle.bound_design.specs.Meeting.{is_paired_with, are_paired_where_they_meet};
 ghost use Rattle.bound_design.specs.Named.{contend_where_they_meet_in, leg_fits};
 
+use bound_spec::{Leg, first_routes, last_routes};
 use cone_form::Contention;
 use contending::ContendingPairs;
 use rail_base::plan::Command;
 use rail_base::route::RouteNo;
 use rail_base::station::TrainNo;
-use bound_spec::{Leg, first_routes, last_routes};
 
 /// Whether the first commands of each leg contend with the last of the leg before it, whatever the routes are.
 pub(crate) fn legs_meet(contention: &Contention, legs: &[Leg]) -> bool

@@ -5,9 +5,9 @@ ghost use Rattle.bound_design.specs.Named.{origin_fits, visit_said};
 ghost use Rattle.bound_design.specs.Named.{first_visit, requirement_fits};
 
 use crate::requirement::first_visit;
+use bound_spec::{Bound, Origin, first_train};
 use cone_form::{Contention, is_in_design};
 use rail_base::station::TrainNo;
-use bound_spec::{Bound, Origin, first_train};
 use std::alloc::{AllocError, Global};
 
 /// Whether the origin goes with the requirement: two visits have one from which ticks are counted.

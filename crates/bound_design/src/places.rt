@@ -7,9 +7,9 @@ ghost use Rattle.bound_design.specs.Named.{place_fits};
 
 use crate::lists::{are_increasing, is_empty};
 use crate::requirement::is_one_of;
+use bound_spec::Place;
 use interlocking::Interlocking;
 use rail_base::route::{RouteNo, RouteTable};
-use bound_spec::Place;
 
 /// Whether the place names routes of the design, each once.
 pub(crate) fn place_in_design(interlocking: &Interlocking, place: &Place) -> bool

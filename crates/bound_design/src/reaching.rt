@@ -11,9 +11,9 @@ ghost use Rattle.bound_design.specs.Named.{leg_fits, requirement_fits};
 
 use crate::requirement::{order_of, within_of};
 use crate::visits::{is_used, is_visited};
+use bound_spec::{Leg, Place, Requirement};
 use interlocking::Interlocking;
 use rail_base::route::RouteNo;
-use bound_spec::{Leg, Place, Requirement};
 use std::alloc::{AllocError, Global};
 
 /// The first place of a leg.

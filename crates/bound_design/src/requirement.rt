@@ -6,11 +6,11 @@ ghost use Rattle.rail_base.specs.Stations.{order_of, within_of};
 ghost use Rattle.rail_spec.specs.Feasible.{is_of};
 ghost use Rattle.bound_design.specs.Named.{first_visit, last_train, requirement_fits, visit_said};
 
+use bound_spec::Requirement;
 use interlocking::Interlocking;
 use rail_base::design::Design;
 use rail_base::plan::Command;
 use rail_base::station::{Order, Station, TrainNo, Within};
-use bound_spec::Requirement;
 
 /// Whether a number is one of `many`, counted from 1.
 pub(crate) fn is_one_of(number: u32, many: usize) -> bool

@@ -11,9 +11,9 @@ use crate::meeting::legs_meet;
 use crate::origin::origin_in_design;
 use crate::requirement;
 use crate::requirement::requirement_in_design;
+use bound_spec::{Bound, last_train};
 use cone_form::Contention;
 use interlocking::Interlocking;
-use bound_spec::{Bound, last_train};
 use std::alloc::{AllocError, Global};
 
 /// Whether what a certificate names is there in the design, in order, and its legs can wait for each other.

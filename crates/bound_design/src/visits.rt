@@ -14,10 +14,10 @@ ghost use Rattle.bound_design.specs.Named.{place_fits};
 use crate::before::is_first;
 use crate::tracks::open_routes;
 use crate::visit::{Visit, visit_of, visits_of};
+use bound_spec::Place;
 use interlocking::Interlocking;
 use rail_base::route::{Finish, Route, RouteNo};
 use rail_base::station::{Station, TrainNo};
-use bound_spec::Place;
 use std::alloc::{AllocError, Global};
 
 /// Whether a train uses a route of a place: the named one, or else one of those on which it makes some visit.

@@ -4,12 +4,12 @@ use crate::goals::Goal;
 use crate::known::{contend, leads_to, route, starts_at_boundary, starts_like};
 use crate::links::Search;
 use crate::paths::Span;
+use bound_spec::Origin;
 use cone_form::is_named;
 use leg_targets::Visit;
 use rail_base::plan::Command;
 use rail_base::route::{Finish, RouteNo, Start};
 use rail_base::station::TrainNo;
-use bound_spec::Origin;
 use std::alloc::AllocError;
 
 /// How far places are widened.

@@ -6,13 +6,13 @@ use crate::known::count_trains;
 use crate::links::Search;
 use crate::paths::Span;
 use crate::waits::Wait;
+use bound_spec::{Origin, Requirement};
+use cone_spec::{Cone, ConeTrain};
 use leg_targets::Visit;
 use rail_base::list::List;
 use rail_base::plan::{Command, Violation};
 use rail_base::route::RouteNo;
 use rail_base::station::TrainNo;
-use bound_spec::{Origin, Requirement};
-use cone_spec::{Cone, ConeTrain};
 use std::alloc::AllocError;
 
 /// No plan has more steps, so no path has more commands.
@@ -148,7 +148,7 @@ impl Search<'_> {
     fn cone_pairs(&self, all: &[Seen]) -> Result<List<(Command, Command)>, AllocError> {
         let mut pairs = Vec::new(self.alloc);
         for wait in self.waits.as_slice() {
-            if !is_listed(all, wait) {
+            if !has_wait(all, wait) {
                 continue;
             }
             if let (Some(other), Some(own)) = (
@@ -194,7 +194,7 @@ fn holds_up(seen: &Seen, wait: &Wait) -> bool {
 }
 
 /// Whether the cone says that a command waits for another.
-fn is_listed(all: &[Seen], wait: &Wait) -> bool {
+fn has_wait(all: &[Seen], wait: &Wait) -> bool {
     if !is_named(all, wait.own) || !is_named(all, wait.other) {
         return false;
     }

@@ -9,11 +9,11 @@ use crate::links::{Link, Search};
 use crate::paths::{Given, Paths, Span};
 use crate::tables::Tables;
 use crate::ticks::Ticks;
+use bound_spec::{Bound, Leg, Origin};
 use cone_form::Contention;
 use rail_base::history::History;
 use rail_base::list::List;
 use rail_base::plan::{Plan, Violation};
-use bound_spec::{Bound, Leg, Origin};
 use std::alloc::{AllocError, Global};
 
 /// No leg gets more choices of one route for each place, in turn, until its ticks can still be followed.

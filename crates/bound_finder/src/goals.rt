@@ -2,11 +2,11 @@
 
 use crate::known::is_train;
 use crate::paths::Paths;
+use bound_spec::Requirement;
 use interlocking::Interlocking;
 use leg_targets::Visit;
 use rail_base::plan::{Command, Violation};
 use rail_base::station::{Order, TrainNo, Within};
-use bound_spec::Requirement;
 use std::alloc::{AllocError, Global};
 
 /// From where ticks are counted.

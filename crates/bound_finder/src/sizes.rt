@@ -3,11 +3,11 @@
 use crate::goals::Goal;
 use crate::known::{count_routes, count_trains, share};
 use crate::links::Search;
+use bound_spec::{Bound, Leg, Origin, Place};
 use cone_form::free_path;
+use cone_spec::Cone;
 use interlocking::Interlocking;
 use rail_base::route::RouteNo;
-use bound_spec::{Bound, Leg, Origin, Place};
-use cone_spec::Cone;
 
 impl Search<'_> {
     /// How many literals a certificate's clause has, roughly.

@@ -1,4 +1,4 @@
-//! Which commands of a plan wait for which others, and what its run tells of them.
+//! Which commands of a plan wait for which others, and what its run says of them.
 
 use crate::known::{contend, route};
 use crate::links::Search;

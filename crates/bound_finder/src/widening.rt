@@ -6,11 +6,11 @@ use crate::choosing::{Breadth, Choice, Form, Meeting, Wide, has_route};
 use crate::known::{leads_to, route, starts_at_boundary};
 use crate::links::Search;
 use crate::paths::{Paths, Span};
+use bound_spec::{Leg, Place};
 use interlocking::Interlocking;
 use rail_base::list::List;
 use rail_base::route::{Finish, RouteNo};
 use rail_base::station::TrainNo;
-use bound_spec::{Leg, Place};
 use std::alloc::{AllocError, Global};
 
 /// Each stretch of each track is looked at in each tick; of a certificate that asks for more looks fewer ticks are known.

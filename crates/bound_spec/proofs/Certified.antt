@@ -51,7 +51,7 @@ use Rattle.bound_spec.specs.Walks.{walks}
 use Rattle.bound_spec.specs.Rides.{Ride, Rides, walk_of, first_of, reaches, granted_first, passes, first_target, Chained, arrives, waits_out, first_place, release_place}
 use Rattle.bound_spec.specs.Certificates.{VisitOf, routes_of_place, first_of_leg, last_of_leg, ride_of, visit_offset, visit_place, visit_from, visit_to, train_to, target, cone_of}
 use Rattle.bound_spec.specs.Clauses.{any_next, may_join, begins_at_once, clause_of_bound}
-use Rattle.bound_spec.specs.Validity.{most_looks, stretches_of, followed, is_empty, first_leg, last_leg, legs_before_last, leg_in_design, place_in_design, most_places, places_of, are_few_choices, contend_where_they_meet, requirement_in_design, can_visit, comes_before, is_used, is_visited, is_just, reaches_target, is_made_at_end, begins_with, is_first_route, is_ahead, are_ahead, ticks_to, ticks_from_visit, passes_between, is_too_long, is_too_late, origin_in_design, is_consistent, in_design, origin_covered, covered, is_made_at, cone_shows, is_shown, shown, first_fault, is_valid_bound}
+use Rattle.bound_spec.specs.Validity.{most_looks, stretches_of, followed, is_empty, first_leg, last_leg, legs_before_last, leg_in_design, place_in_design, most_places, places_of, are_few_choices, contend_where_they_meet, requirement_in_design, can_visit, comes_before, is_used, is_visited, is_just, reaches_target, is_made_at_end, begins_with, is_first_route, is_ahead, are_ahead, ticks_to, ticks_from_visit, passes_between, is_too_long, is_too_late, origin_in_design, is_consistent, in_design, origin_covered, covered, is_made_at, cone_shows, origin_shows, shows_failure, first_fault, is_valid_bound}
 use Rattle.bound_spec.proofs.Premises.{Premises, premises, cone_denied}
 use Rattle.bound_spec.proofs.Backwards.{Ridden, in_middle, first_splits, numbered}
 use Rattle.bound_spec.proofs.Visits.{path_length, MadeOn, made_on, first_made, second_by}
@@ -462,13 +462,13 @@ module _ (d : Station) (adm : IsAdmitted d) (n : ℕ) (b : Bound) (plan : List (
 record Holds (d : Station) (routes : List Route) (b : Bound) : Type 0 where
   in_design : in_design d routes b ≡ true
   covered : covered d routes b ≡ true
-  shown : shown d routes b ≡ true
+  shows_failure : shows_failure d routes b ≡ true
 
 holds_of_valid : (d : Station) (routes : List Route) (b : Bound) → is_valid_bound d routes b ≡ true → Holds d routes b
-holds_of_valid d routes b = go (in_design d routes b) (covered d routes b) (shown d routes b) refl refl refl
+holds_of_valid d routes b = go (in_design d routes b) (covered d routes b) (shows_failure d routes b) refl refl refl
   where
-    go : (x y z : Bool) → in_design d routes b ≡ x → covered d routes b ≡ y → shown d routes b ≡ z → is_none (first_fault x y z) ≡ true → Holds d routes b
-    go true true true f g h v = record { in_design = f; covered = g; shown = h }
+    go : (x y z : Bool) → in_design d routes b ≡ x → covered d routes b ≡ y → shows_failure d routes b ≡ z → is_none (first_fault x y z) ≡ true → Holds d routes b
+    go true true true f g h v = record { in_design = f; covered = g; shows_failure = h }
     go false y z f g h v = absurd (true≢false (sym v))
     go true false z f g h v = absurd (true≢false (sym v))
     go true true false f g h v = absurd (true≢false (sym v))
@@ -511,7 +511,7 @@ parts d routes b h =
 
 -- ---- the theorem
 
-module _ (d : Station) (adm : IsAdmitted d) (n : ℕ) (b : Bound) (plan : List (List Command)) (feasible : IsFeasible d n plan) (p : Premises d (routes_of d) b plan) (s : Parts d (routes_of d) b) (is : shown d (routes_of d) b ≡ true) where
+module _ (d : Station) (adm : IsAdmitted d) (n : ℕ) (b : Bound) (plan : List (List Command)) (feasible : IsFeasible d n plan) (p : Premises d (routes_of d) b plan) (s : Parts d (routes_of d) b) (is : shows_failure d (routes_of d) b ≡ true) where
   legs_proper : (l : Leg) → In l b.legs → Proper d adm n b plan feasible p l
   legs_proper l m =
       let own = list_all_at (leg_in_design d (routes_of d)) b.legs l s.legs m in
@@ -638,7 +638,7 @@ module _ (d : Station) (adm : IsAdmitted d) (n : ℕ) (b : Bound) (plan : List (
           after to y et makes = subst (λ legs. 1 + ticks_to d (routes_of d) most (Some to) legs ≤ y) (sym e) (visit_after d adm n b plan feasible p most to y l ls (to_last to y l ls e et makes))
 
           by_origin : (o : Origin) → b.origin ≡ o → (vf : Option VisitOf) → visit_from d b.requirement ≡ vf → (vt : Option VisitOf) → visit_to d b.requirement ≡ vt
-              → origin_in_design d (routes_of d) b o vf ≡ true → origin_covered d (routes_of d) b o vf ≡ true → is_shown d (routes_of d) b o vf vt ≡ true → ⊥
+              → origin_in_design d (routes_of d) b o vf ≡ true → origin_covered d (routes_of d) b o vf ≡ true → origin_shows d (routes_of d) b o vf vt ≡ true → ⊥
           by_origin origin.Visit eo (Some from) ef (Some to) et fits begins shows =
               let w = two from to ef et in
               let same : from.train ≡ l.train = sym (same_train (first_leg b.legs).train from.train fits) ∙ ap (λ ls. (first_leg ls).train) e in
@@ -683,4 +683,4 @@ module _ (d : Station) (adm : IsAdmitted d) (n : ℕ) (b : Bound) (plan : List (
 pub true_of_feasible : (d : Station) → IsAdmitted d → (n : ℕ) (b : Bound) (plan : List (List Command)) → is_valid_bound d (routes_of d) b ≡ true → IsFeasible d n plan → is_false_of plan (clause_of_bound d (routes_of d) b) ≡ false
 true_of_feasible d adm n b plan valid feasible = false_unless (is_false_of plan (clause_of_bound d (routes_of d) b)) (λ denies.
     let h = holds_of_valid d (routes_of d) b valid in
-    clash d adm n b plan feasible (premises d (routes_of d) b plan denies) (parts d (routes_of d) b h) h.shown)
+    clash d adm n b plan feasible (premises d (routes_of d) b plan denies) (parts d (routes_of d) b h) h.shows_failure)

@@ -2,7 +2,7 @@ pub mod Ending
 pub mod Clearing
 pub mod Links
 pub mod Hops
-pub mod Told
+pub mod HopLaws
 pub mod Walks
 pub mod Rides
 pub mod Visits

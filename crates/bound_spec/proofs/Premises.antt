@@ -9,7 +9,7 @@ use Rattle.rail_base.proofs.Members.{In, and_left, and_right, and_both, is_false
 use Rattle.rail_base.proofs.Lists.{list_all_from, in_flat_map_back}
 use Rattle.cone_spec.specs.declared.Cone.{Cone}
 use Rattle.cone_spec.specs.Cones as cone
-use Rattle.cone_spec.specs.Cones.{is_free, is_listed, named}
+use Rattle.cone_spec.specs.Cones.{is_free, has_pair, named}
 use Rattle.cone_spec.specs.Clauses.{is_closed, goes_further, Used, Before, Literal, holds_of, is_true_of, is_false_of, clause_of_cone}
 use Rattle.cone_spec.specs.Clauses as cone_clause
 use Rattle.cone_spec.proofs.Saying.{all_left, all_right, all_of_each, not_not}
@@ -63,11 +63,11 @@ module _ (d : Station) (routes : List Route) (b : Bound) (plan : List (List Comm
         go false ex false ey = refl
 
     before_fail : (e c : Command) → In e (all_commands d routes) → In c (all_commands d routes) → list_all fails (cone_clause.before_literals d routes k e c) ≡ true
-    before_fail e c m n = go (is_listed k e c) refl (is_free k c && contend routes e c) refl
+    before_fail e c m n = go (has_pair k e c) refl (is_free k c && contend routes e c) refl
       where
-        go : (x : Bool) → is_listed k e c ≡ x → (y : Bool) → (is_free k c && contend routes e c) ≡ y
+        go : (x : Bool) → has_pair k e c ≡ x → (y : Bool) → (is_free k c && contend routes e c) ≡ y
             → list_all fails (if x then record { fact = Before e c; negated = true } ∷ [] else if y then record { fact = Before e c; negated = false } ∷ [] else []) ≡ true
-        go true ex y ey = and_both _ _ (ap (λ z. not (not z)) (p.earlier e c m n (or_right _ (is_listed k e c) ex))) refl
+        go true ex y ey = and_both _ _ (ap (λ z. not (not z)) (p.earlier e c m n (or_right _ (has_pair k e c) ex))) refl
         go false ex true ey = and_both _ _ (ap not (p.not_earlier e c m n (or_right _ _ (and_both _ _ (and_both _ _ (ap not ex) (and_left (is_free k c) _ ey)) (and_right (is_free k c) _ ey))))) refl
         go false ex false ey = refl
 

@@ -109,7 +109,7 @@ module _ (d : Station) (adm : IsAdmitted d) (n : ℕ) (plan : List (List Command
       more = map f i.more;
       whole = split;
       shut = λ e. absurd (true≢false (sym e));
-      first = λ e. starts_there before_routes walk (map f i.more) (path_goes d adm n plan well r.train (before_routes ++ (walk ++ map f i.more)) split) e;
+      begins = λ e. starts_there before_routes walk (map f i.more) (path_goes d adm n plan well r.train (before_routes ++ (walk ++ map f i.more)) split) e;
     }
 
     end_is : sum_by length_mm (take (length i.before + 1 - 1) (path_routes (routes_of d) plan r.train)) ≡ sum_by length_mm before_routes

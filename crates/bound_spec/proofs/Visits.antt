@@ -22,7 +22,7 @@ use Rattle.rail_spec.specs.Visits.{path_nodes, path_nodes_of, path_nodes_after, 
 use Rattle.rail_spec.specs.Dispatches.{of_plan}
 use Rattle.rail_base.proofs.Members.{and_left, list_any_from}
 use Rattle.rail_base.proofs.Lists.{in_map, in_map_back, in_append}
-use Rattle.rail_laws.proofs.Told.{told}
+use Rattle.rail_laws.proofs.AsEdges.{told}
 use Rattle.rail_laws.proofs.Admits.{good_route, formed_path}
 use Rattle.free_spec.proofs.Following.{of_design, has_train}
 use Rattle.bound_spec.specs.Certificates.{first_in, nodes_of_visit, visit_offset}

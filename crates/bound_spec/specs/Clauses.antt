@@ -8,7 +8,7 @@ use Rattle.rail_base.specs.declared.plan.Command.{Command}
 use Rattle.rail_base.specs.Stations.{train_of, first_visit}
 use Rattle.rail_spec.specs.Plans.{route_at, is_train, starts_in, contend, all_commands}
 use Rattle.cone_spec.specs.Cones as cone
-use Rattle.cone_spec.specs.Cones.{has_route, is_free, is_listed, named}
+use Rattle.cone_spec.specs.Cones.{has_route, is_free, has_pair, named}
 use Rattle.cone_spec.specs.Clauses.{Used, Before, Literal, is_closed, goes_further}
 use Rattle.bound_spec.specs.declared.Origin.{Origin}
 use Rattle.bound_spec.specs.declared.Origin.TheVariants as origin
@@ -74,13 +74,13 @@ module _ (d : Station) (routes : List Route) (b : Bound) where
 
   -- that the first is given before the second
   abbrev pub is_before : Command → Command → Bool
-  is_before e c = any_next (joins e c) b.legs || is_listed (cone_of b) e c
+  is_before e c = any_next (joins e c) b.legs || has_pair (cone_of b) e c
 
   -- that it is not
   abbrev pub is_kept_behind : Command → Command → Bool
   is_kept_behind e c = any_next (may_join c e) b.legs
       || (begins_at_once b.origin (visit_from d b.requirement) c && contend routes e c)
-      || (not (is_listed (cone_of b) e c) && is_free (cone_of b) c && contend routes e c)
+      || (not (has_pair (cone_of b) e c) && is_free (cone_of b) c && contend routes e c)
 
   -- ---- the clause
 

@@ -98,8 +98,8 @@ ends_at_signal (finish.DeadEnd n) = false
 
 -- the first test that fails, as a reason
 abbrev pub first_fault : Bool → Bool → Bool → Option BoundFault
-first_fault false covered is_shown = Some fault.BoundNotInDesign
-first_fault true false is_shown = Some fault.PlaceNotCovered
+first_fault false covered origin_shows = Some fault.BoundNotInDesign
+first_fault true false origin_shows = Some fault.PlaceNotCovered
 first_fault true true false = Some fault.BoundNotShown
 first_fault true true true = None
 
@@ -337,26 +337,26 @@ module _ (d : Station) (routes : List Route) where
         && is_made_at k (cone_visit d routes (cone_of b) (named (cone_of b) v.train).horizon v.train v.number)
 
     -- by the origin the ticks from the one visit to the other, or from the start of the run, are too many
-    abbrev pub is_shown : Origin → Option VisitOf → Option VisitOf → Bool
-    is_shown origin.Visit (Some from) (Some to) =
+    abbrev pub origin_shows : Origin → Option VisitOf → Option VisitOf → Bool
+    origin_shows origin.Visit (Some from) (Some to) =
         passes_between (followed b.legs) from to b.legs (is_too_long b.requirement)
-    is_shown origin.FirstTick (Some from) to = is_too_long b.requirement (ticks_to (followed b.legs) to b.legs)
-    is_shown origin.Start None to = nat_lt (horizon d) (1 + ticks_to (followed b.legs) to b.legs)
-    is_shown (origin.Cone k c) (Some from) to =
+    origin_shows origin.FirstTick (Some from) to = is_too_long b.requirement (ticks_to (followed b.legs) to b.legs)
+    origin_shows origin.Start None to = nat_lt (horizon d) (1 + ticks_to (followed b.legs) to b.legs)
+    origin_shows (origin.Cone k c) (Some from) to =
         cone_shows k from && is_too_late b.requirement k (1 + ticks_to (followed b.legs) to b.legs)
-    is_shown origin.Visit (Some from) None = false
-    is_shown origin.Visit None to = false
-    is_shown origin.FirstTick None to = false
-    is_shown origin.Start (Some from) to = false
-    is_shown (origin.Cone k c) None to = false
+    origin_shows origin.Visit (Some from) None = false
+    origin_shows origin.Visit None to = false
+    origin_shows origin.FirstTick None to = false
+    origin_shows origin.Start (Some from) to = false
+    origin_shows (origin.Cone k c) None to = false
 
-    abbrev pub shown : Bool
-    shown = nat_le (stretches_of b.legs) most_looks
-        && is_shown b.origin (visit_from d b.requirement) (visit_to d b.requirement)
+    abbrev pub shows_failure : Bool
+    shows_failure = nat_le (stretches_of b.legs) most_looks
+        && origin_shows b.origin (visit_from d b.requirement) (visit_to d b.requirement)
 
     -- the first reason that holds
     abbrev pub fault_of : Option BoundFault
-    fault_of = first_fault in_design covered shown
+    fault_of = first_fault in_design covered shows_failure
 
     -- no reason holds against the certificate
     abbrev pub is_valid_bound : Bool

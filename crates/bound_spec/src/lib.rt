@@ -5,12 +5,12 @@
 pub mod laws;
 mod legs;
 
+use cone_spec::{Cone, ConeFault};
 pub use legs::{first_routes, first_train, last_routes, last_train, routes_of};
 use rail_base::list::List;
 use rail_base::plan::Command;
 use rail_base::route::RouteNo;
 use rail_base::station::TrainNo;
-use cone_spec::{Cone, ConeFault};
 
 /// What is shown to fail. Visits of a train, orders and withins are counted from 1.
 #[derive(Clone, Copy, Debug, PartialEq, Eq)]

@@ -14,7 +14,7 @@ use Rattle.rail_spec.specs.Plans.{is_train}
 use Rattle.cone_spec.specs.Cones.{named}
 use Rattle.cone_spec.specs.Validity.{free_granted, holder_fits, cone_visit}
 use Rattle.cone_form.specs.Fits.{fits}
-use Rattle.cone_run.specs.Runs.{visit_shown}
+use Rattle.cone_run.specs.Runs.{visit_in_run}
 use Rattle.bound_spec.specs.declared.Bound.{Bound}
 use Rattle.bound_spec.specs.declared.Leg.{Leg}
 use Rattle.bound_spec.specs.declared.Origin.TheVariants as origin
@@ -48,7 +48,7 @@ module _ (i : Interlocking) where
       record {
         train = from_is 1 (length i.design.station.trains) l.train.0 (and_left (is_from 1 (length i.design.station.trains) l.train.0) (not (is_empty l.places)) prefix);
         places = all_from_in (IsPlaceOf i.routes) l.places (λ p m. place_named p (list_all_at (place_in_design i.design.station i.routes) l.places p places m));
-        few = few;
+        at_most_64 = few;
       }
 
   some_places : (l : Leg) → leg_in_design i.design.station i.routes l ≡ true → 1 ≤ length l.places
@@ -85,7 +85,7 @@ module _ (i : Interlocking) where
       && made_at i b k (cone_visit i.design.station i.routes c (named c v.train).horizon v.train v.number)
 
   -- a visit made in the run of the cone is what the certificate's cone shows
-  pub cone_made : (b : Bound) (k : ℕ) (c : Cone) (v : VisitOf) → b.origin ≡ origin.Cone k c → made_at i b k (visit_shown i c v.train v.number) ≡ cone_shows_of i b k v
+  pub cone_made : (b : Bound) (k : ℕ) (c : Cone) (v : VisitOf) → b.origin ≡ origin.Cone k c → made_at i b k (visit_in_run i c v.train v.number) ≡ cone_shows_of i b k v
   cone_made b k c v at =
       made_if b k (list_all (free_granted i.design.station i.routes c) c.trains && list_all (λ t. holder_fits i.design.station i.routes c t t.holder) c.trains) (cone_visit i.design.station i.routes c (named c v.train).horizon v.train v.number)
       ∙ ap (shows b k v) (sym (ap (cone_at b.requirement) at))
@@ -113,7 +113,7 @@ module _ (i : Interlocking) where
       record {
         required = and_left required some h6;
         legs = all_from_in (IsLeg i) b.legs (λ l m. leg_named l (list_all_at (leg_in_design d i.routes) b.legs l all_legs m) (let p = in_sum l b.legs m in omega arith));
-        many = omega arith;
+        at_most_64 = omega arith;
         cone = cone_fits b (and_right (required && some && legs && small && few && meet && last) from h);
       }
 

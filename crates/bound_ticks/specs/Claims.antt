@@ -7,7 +7,7 @@ use Rattle.bound_spec.specs.declared.Origin.{Origin}
 use Rattle.bound_spec.specs.declared.Origin.TheVariants as origin
 use Rattle.bound_spec.specs.declared.Requirement.{Requirement}
 use Rattle.bound_spec.specs.Certificates.{VisitOf, visit_from, visit_to}
-use Rattle.bound_spec.specs.Validity.{cone_shows, followed, is_made_at, is_shown, is_too_long, names_design}
+use Rattle.bound_spec.specs.Validity.{cone_shows, followed, is_made_at, origin_shows, is_too_long, names_design}
 use Rattle.bound_spec.specs.Validity.{passes_between, requirement_in_design, ticks_from_visit, ticks_to}
 use Rattle.cone_form.specs.Fits.{fits}
 use Rattle.bound_ticks.specs.Walks.{IsLeg}
@@ -46,8 +46,8 @@ module _ (i : Interlocking) where
       passes_between d i.routes h from to b.legs (is_too_long d i.routes b.requirement)
 
   -- by an origin the ticks are too many
-  abbrev pub shown_by : Bound → Origin → Bool
-  shown_by b o = is_shown i.design.station i.routes b o (from_of b) (to_of b)
+  abbrev pub shows_by : Bound → Origin → Bool
+  shows_by b o = origin_shows i.design.station i.routes b o (from_of b) (to_of b)
 
   -- the cone of the certificate makes the visit at this tick
   abbrev pub cone_shows_of : Bound → ℕ → VisitOf → Bool
@@ -61,5 +61,5 @@ module _ (i : Interlocking) where
   pub record IsNamed (b : Bound) : Type 0 where
     pub required : requirement_fits b.requirement ≡ true
     pub legs : All (IsLeg i) b.legs
-    pub many : length b.legs ≤ 64
+    pub at_most_64 : length b.legs ≤ 64
     pub cone : (k : ℕ) (c : Cone) (v : VisitOf) → b.origin ≡ origin.Cone k c → from_of b ≡ Some v → fits i c ≡ true

@@ -38,7 +38,7 @@ module _ (routes : List Route) where
 pub record IsLeg (i : Interlocking) (l : Leg) : Type 0 where
   pub train : IsTrain i.design.station l.train
   pub places : All (IsPlaceOf i.routes) l.places
-  pub few : length l.places ≤ 64
+  pub at_most_64 : length l.places ≤ 64
 
 -- the routes of the first place of the first leg
 abbrev pub first_routes : List Leg → List RouteNo

@@ -8,11 +8,11 @@ ghost use Rattle.leg_targets.specs.Visits.{visit_of};
 ghost use Rattle.bound_ticks.specs.Walks.{IsLeg};
 
 use crate::walks::{first_routes, walks_of};
+use bound_spec::Leg;
 use interlocking::Interlocking;
 use leg_targets::{Visit, release_place, target, visit_place};
 use rail_base::route::RouteNo;
 use rail_base::station::TrainNo;
-use bound_spec::Leg;
 use std::alloc::{AllocError, Global};
 
 /// Two visits, from one of which ticks are counted to the other.
@@ -21,8 +21,8 @@ pub(crate) struct Between<'a> {
     pub interlocking: &'a Interlocking,
     pub from: Visit,
     pub to: Visit,
-    pub ghost first: { IsTrain interlocking.now.design.station from.train },
-    pub ghost second: { IsTrain interlocking.now.design.station to.train },
+    pub ghost from_is_train: { IsTrain interlocking.now.design.station from.train },
+    pub ghost to_is_train: { IsTrain interlocking.now.design.station to.train },
 }
 
 impl Between<'_> {

@@ -9,9 +9,9 @@ ghost use Rattle.bound_ticks.specs.Walks.{IsLeg};
 
 use crate::legs::Ride;
 use crate::walks::first_routes;
+use bound_spec::Leg;
 use interlocking::Interlocking;
 use leg_targets::Visit;
-use bound_spec::Leg;
 use std::alloc::{AllocError, Global};
 
 /// How many ticks of each leg are counted at the most, and to which visit: none where they end with a grant.
@@ -20,7 +20,7 @@ pub(crate) struct Chain<'a> {
     pub interlocking: &'a Interlocking,
     pub most: u64,
     pub to: Option<Visit>,
-    pub ghost few: { most ≤ 86400 },
+    pub ghost at_most_86400: { most ≤ 86400 },
     pub ghost end: { ForSome to (λ v. IsTrain interlocking.now.design.station v.train) },
 }
 

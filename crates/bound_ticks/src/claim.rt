@@ -3,8 +3,8 @@
 ghost use Rattle.std.specs.Prelude.{◌≡◌, ◌≤◌};
 ghost use Rattle.bound_ticks.specs.Claims.{IsNamed, followed_of};
 
-use cone_form::Contention;
 use bound_spec::Bound;
+use cone_form::Contention;
 
 /// A certificate that names what the design has, and how many ticks of each leg are counted.
 #[derive(Clone, Copy)]
@@ -14,5 +14,5 @@ pub(crate) struct Claim<'a> {
     pub most: u64,
     pub ghost named: { IsNamed contention.interlocking.now bound.now },
     pub ghost counted: { most ≡ followed_of contention.interlocking.now bound.now },
-    pub ghost few: { most ≤ 86400 },
+    pub ghost at_most_86400: { most ≤ 86400 },
 }

@@ -11,11 +11,11 @@ ghost use Rattle.leg_targets.specs.Visits.{origin_of, visit_of};
 ghost use Rattle.bound_ticks.specs.Walks.{IsLeg};
 
 use crate::walks::walks_of;
+use bound_spec::Leg;
 use free_moves::{on_ticks, run_ticks};
 use interlocking::Interlocking;
 use leg_targets::{Visit, release_place, target, visit_place};
 use rail_base::route::RouteNo;
-use bound_spec::Leg;
 use std::alloc::{AllocError, Global};
 
 /// From where the ticks of a leg are counted, and how many of them at the most.
@@ -28,7 +28,7 @@ pub struct Ride<'a> {
     pub most: u64,
     pub ghost legged: { IsLeg interlocking.now leg.now },
     pub ghost origin: { ForSome from (λ v. IsTrain interlocking.now.design.station v.train) },
-    pub ghost few: { most ≤ 86400 },
+    pub ghost at_most_86400: { most ≤ 86400 },
 }
 
 impl Ride<'_> {

@@ -6,14 +6,14 @@
 mod ahead;
 mod chain;
 mod claim;
+mod failure;
 mod legs;
 mod requirement;
-mod shown;
 mod stretches;
 mod walks;
 
+pub use failure::shows_failure;
 pub use legs::Ride;
 pub use requirement::{visit_from, visit_to};
-pub use shown::is_shown;
 pub use stretches::{stretches_of, ticks_followed};
 pub use walks::first_routes;

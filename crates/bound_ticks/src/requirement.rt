@@ -9,10 +9,10 @@ ghost use Rattle.bound_spec.specs.Validity.{is_too_late, is_too_long, requiremen
 ghost use Rattle.bound_ticks.specs.Claims.{requirement_fits};
 ghost use Rattle.leg_targets.specs.Visits.{origin_of};
 
+use bound_spec::Requirement;
 use interlocking::Interlocking;
 use leg_targets::Visit;
 use rail_base::station::{Order, Station, Within};
-use bound_spec::Requirement;
 
 /// The visit from which the ticks of a within or an order are counted.
 pub fn visit_from(interlocking: &Interlocking, requirement: Requirement) -> Option<Visit>

@@ -9,10 +9,10 @@ ghost use Rattle.bound_ticks.specs.Looks.{cap};
 ghost use Rattle.bound_ticks.specs.Walks.{IsLeg};
 
 use crate::walks::{first_routes, walks_of};
+use bound_spec::Leg;
 use free_moves::goes_further;
 use interlocking::Interlocking;
 use rail_base::route::{RouteNo, RouteTable, route_at};
-use bound_spec::Leg;
 use std::alloc::{AllocError, Global};
 
 /// No more stretches are looked at.

@@ -4,10 +4,10 @@ ghost use Rattle.std.specs.Prelude.{◌≡◌, ◌++◌, ◌∷◌, All, IfOk, O
 ghost use Rattle.rail_base.specs.Routes.{IsRoute};
 ghost use Rattle.bound_ticks.specs.Walks.{IsPlaceOf, IsWalk, first_routes, longer_by, precedes_walk, walks_by_number};
 
+use bound_spec::{Leg, Place, routes_of};
 use interlocking::goes_on;
 use rail_base::list::List;
 use rail_base::route::{RouteNo, RouteTable, route_at};
-use bound_spec::{Leg, Place, routes_of};
 use std::alloc::{AllocError, Global};
 
 /// The routes of the first place of the first of some legs.

@@ -1,4 +1,4 @@
--- A plan that true clauses tell of can be carried out.
+-- A plan that true clauses give can be carried out.
 use Rattle.std.proofs.Common.{◌≡◌, ℕ, zero, suc, ◌+◌, ◌-◌, ◌≤◌, ◌<◌, ◌⊎◌, inl, inr, Bool, true, false, not, ◌&&◌, ◌||◌, if◌then◌else◌, List, [], ◌∷◌, ◌++◌, map, flat_map, length, refl, sym, ap, subst, ◌∙◌, arith, true≢false, leb-false, le-leb, nat_le, nat_lt}
 use Rattle.std.specs.Prelude.{sum_by}
 use Rattle.std.specs.List.{list_any, list_all}
@@ -21,7 +21,7 @@ use Rattle.clause_spec.proofs.Facts.{AllTrue, given_up_to, Led, led, one_of, sta
 use Rattle.clause_spec.proofs.Numbers.{length-count}
 use Rattle.clause_spec.proofs.Decoded.{New}
 use Rattle.rail_base.proofs.Lists.{list_all_from, in_map, in_flat_map, in_filter_back, length-map, in_append_right, in_append}
-use Rattle.rail_laws.proofs.Told.{fold_above}
+use Rattle.rail_laws.proofs.AsEdges.{fold_above}
 
 module _ (d : Station) (routes : List Route) (n : ℕ) (says : Variable → Bool) (all : AllTrue d routes n says) (plan : List (List Command)) where
   -- each command of the plan is new in its step, and whatever is given is in the plan

@@ -1,4 +1,4 @@
--- The plan that a model of the base tells of is well formed and can be carried out, and its model agrees.
+-- The plan that a model of the base gives is well formed and can be carried out, and its model agrees.
 use Rattle.std.proofs.Common.{◌≡◌, ℕ, zero, suc, ◌+◌, ◌-◌, ◌≤◌, ◌⊎◌, inl, inr, Bool, true, false, not, ◌&&◌, List, [], ◌∷◌, ◌++◌, map, flat_map, length, refl, sym, ap, subst, ◌∙◌, arith, true≢false, leb-true, le-leb, nat_le, append-nil}
 use Rattle.std.specs.List.{list_all}
 use Rattle.rail_base.specs.declared.station.Station.{Station}

@@ -16,7 +16,7 @@ use Rattle.rail_spec.specs.Plans.{route_at, is_train, is_start, goes_on, end_at_
 use Rattle.rail_base.proofs.Members.{In, and_left, and_right, and_both, list_all_at, list_any_gives, list_any_from, in_filter, below_or_not, is_false, false_unless}
 use Rattle.sat_clause.specs.Clauses.{clause_holds}
 use Rattle.clause_spec.specs.Variables.{Variable, Given, Before, Literal, yes, no, if_given, pairs, numbered, number_of}
-use Rattle.clause_spec.specs.Clauses.{Clause, at_boundary, exclude, later_pairs, leading_to, onward, chains, start_clause, not_both, clearing, waits_for, clauses, base_clauses}
+use Rattle.clause_spec.specs.Clauses.{Clause, at_boundary, exclude, later_pairs, leading_to, onward, chains, start_clause, not_both, clearing, wait_clause, clauses, base_clauses}
 use Rattle.clause_spec.specs.Models.{literal_holds, holds, given_by}
 use Rattle.clause_spec.proofs.Lists.{in_later_from}
 use Rattle.clause_spec.proofs.Steps.{cmd}
@@ -247,9 +247,9 @@ module _ (d : Station) (routes : List Route) (n : ℕ) (says : Variable → Bool
         → In chain (chains routes (length routes) (clearing d routes n e c) [] e.route) → ((r : RouteNo) → In r chain.0 → says (Given (cmd e.train r) i) ≡ true)
         → says (Given c (i + 1)) ≡ true → says (Given c i) ≡ false → (w : RouteNo) × In w (onward routes chain.0 chain.1) × (says (Given (cmd e.train w) i) ≡ true)
     goes_further e c chain i a b con low high m g h x =
-        let t = all.waits (e, c) (pair_from d routes e c a b con) (waits_for d routes n e c chain i) (in_flat_map (λ chain. map (waits_for d routes n e c chain) (one_to (n - 1))) (chains routes (length routes) (clearing d routes n e c) [] e.route) chain (waits_for d routes n e c chain i) m
-        (in_map (waits_for d routes n e c chain) (one_to (n - 1)) i (in_count 1 (n - 1) i low (omega arith)))) in
-        go (some_true says (waits_for d routes n e c chain i) t)
+        let t = all.waits (e, c) (pair_from d routes e c a b con) (wait_clause d routes n e c chain i) (in_flat_map (λ chain. map (wait_clause d routes n e c chain) (one_to (n - 1))) (chains routes (length routes) (clearing d routes n e c) [] e.route) chain (wait_clause d routes n e c chain i) m
+        (in_map (wait_clause d routes n e c chain) (one_to (n - 1)) i (in_count 1 (n - 1) i low (omega arith)))) in
+        go (some_true says (wait_clause d routes n e c chain i) t)
       where
         at : (l : Literal) → In l (map (λ w. no (Given (cmd e.train w) i)) chain.0) ⊎ In l (no (Given c (i + 1)) ∷ yes (Given c i) ∷ map (λ w. yes (Given (cmd e.train w) i)) (onward routes chain.0 chain.1)) → literal_holds says l ≡ true
             → (w : RouteNo) × In w (onward routes chain.0 chain.1) × (says (Given (cmd e.train w) i) ≡ true)
@@ -258,7 +258,7 @@ module _ (d : Station) (routes : List Route) (n : ℕ) (says : Variable → Bool
         at l (inr (inr (inl y))) k = absurd (true≢false (sym (says_yes says (Given c i) l y k) ∙ x))
         at l (inr (inr (inr y))) k = let f = in_map_back (λ w. yes (Given (cmd e.train w) i)) (onward routes chain.0 chain.1) l y in (f.0, f.1, says_yes says (Given (cmd e.train f.0) i) l f.2 k)
 
-        go : (l : Literal) × In l (waits_for d routes n e c chain i) × (literal_holds says l ≡ true) → (w : RouteNo) × In w (onward routes chain.0 chain.1) × (says (Given (cmd e.train w) i) ≡ true)
+        go : (l : Literal) × In l (wait_clause d routes n e c chain i) × (literal_holds says l ≡ true) → (w : RouteNo) × In w (onward routes chain.0 chain.1) × (says (Given (cmd e.train w) i) ≡ true)
         go (l, y, k) = at l (in_append l (map (λ w. no (Given (cmd e.train w) i)) chain.0) (no (Given c (i + 1)) ∷ yes (Given c i) ∷ map (λ w. yes (Given (cmd e.train w) i)) (onward routes chain.0 chain.1)) y) k
 
     -- what is said to be before is

@@ -12,7 +12,7 @@ use Rattle.rail_base.specs.Stations.{trains, train_of, first_visit}
 use Rattle.rail_spec.specs.Plans.{route_at, exits, has_node, goes_on, route_numbers, all_commands}
 use Rattle.rail_base.proofs.Members.{In}
 use Rattle.clause_spec.specs.Variables.{Given, Before, By, Literal, yes, no, if_given, pairs}
-use Rattle.clause_spec.specs.Clauses.{Clause, exclude, later_pairs, leading_to, extends, onward, chain_length, chains, stays_given, start_clause, starts_rightly, not_both, excluded, not_at_once, first_pairs, clearing, waits_for, waits, may_visit, visited, makes_visits, in_order, all_given, clauses}
+use Rattle.clause_spec.specs.Clauses.{Clause, exclude, later_pairs, leading_to, extends, onward, chain_length, chains, stays_given, start_clause, starts_rightly, not_both, excluded, not_at_once, first_pairs, clearing, wait_clause, waits, may_visit, visited, makes_visits, in_order, all_given, clauses}
 use Rattle.clause_spec.proofs.Lists.{in_later}
 use Rattle.clause_spec.proofs.Steps.{cmd}
 use Rattle.clause_spec.proofs.Places.{IsOf, command_of, command_from, distinct_routes, IsPair, pair_of}
@@ -226,13 +226,13 @@ module _ (d : Station) (routes : List Route) (n : ℕ) where
   waits_known : (p : Command × Command) → In p (pairs d routes) → (cl : Clause) → In cl (waits d routes n p) → KnownAll cl
   waits_known p k cl m =
       let pair = pair_of d routes p k in
-      let f = in_flat_map_back (λ chain. map (waits_for d routes n p.0 p.1 chain) (one_to (n - 1))) (chains routes (length routes) (clearing d routes n p.0 p.1) [] p.0.route) cl m in
-      let g = in_map_back (waits_for d routes n p.0 p.1 f.0) (one_to (n - 1)) cl f.2 in
+      let f = in_flat_map_back (λ chain. map (wait_clause d routes n p.0 p.1 chain) (one_to (n - 1))) (chains routes (length routes) (clearing d routes n p.0 p.1) [] p.0.route) cl m in
+      let g = in_map_back (wait_clause d routes n p.0 p.1 f.0) (one_to (n - 1)) cl f.2 in
       let r = in_count_back 1 (n - 1) g.0 g.1 in
       let o = command_of d routes p.0 pair.one in
       subst KnownAll g.2 (go p.0 p.1 f.0 g.0 o pair.other (chains_known (length routes) (clearing d routes n p.0 p.1) [] p.0.route f.0 (λ q h. absurd h) o.route f.1) r.0 r.1)
     where
-      go : (e c : Command) (chain : List RouteNo × RouteNo) (i : ℕ) → IsOf d routes e → In c (all_commands d routes) → ((r : RouteNo) → In r chain.0 → In r (route_numbers routes)) → 1 ≤ i → i < 1 + (n - 1) → KnownAll (waits_for d routes n e c chain i)
+      go : (e c : Command) (chain : List RouteNo × RouteNo) (i : ℕ) → IsOf d routes e → In c (all_commands d routes) → ((r : RouteNo) → In r chain.0 → In r (route_numbers routes)) → 1 ≤ i → i < 1 + (n - 1) → KnownAll (wait_clause d routes n e c chain i)
       go e c chain i o b inside low high l m = at (in_append l (map (λ w. no (Given (cmd e.train w) i)) chain.0) (no (Given c (i + 1)) ∷ yes (Given c i) ∷ map (λ w. yes (Given (cmd e.train w) i)) (onward routes chain.0 chain.1)) m)
         where
           at : In l (map (λ w. no (Given (cmd e.train w) i)) chain.0) ⊎ In l (no (Given c (i + 1)) ∷ yes (Given c i) ∷ map (λ w. yes (Given (cmd e.train w) i)) (onward routes chain.0 chain.1)) → Known d routes n l.variable

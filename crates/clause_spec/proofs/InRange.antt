@@ -11,7 +11,7 @@ use Rattle.rail_spec.specs.Plans.{all_commands}
 use Rattle.sat_clause.specs.declared.lit.Lit.{Lit}
 use Rattle.clause_spec.specs.Variables.{Variable, Given, Before, By, Literal, yes, no, numbered, number_of, variable_count}
 use Rattle.clause_spec.specs.Clauses.{Clause, all_given, clauses}
-use Rattle.clause_spec.specs.Laws.{IsInRange}
+use Rattle.clause_spec.specs.Laws.{AreLiteralsInRange}
 use Rattle.clause_spec.proofs.Families.{clauses_known}
 use Rattle.clause_spec.proofs.Numbers.{Known, number_low}
 use Rattle.clause_spec.proofs.Plain.{IsPlain, of_plain}
@@ -73,7 +73,7 @@ module _ (d : Station) (routes : List Route) (n : ℕ) where
       let high = number_below some f.0.variable known early in
       (omega arith, omega arith)
 
-pub literals_in_range : (d : Station) (routes : List Route) (n : ℕ) → 1 ≤ n → IsInRange d routes n
+pub literals_in_range : (d : Station) (routes : List Route) (n : ℕ) → 1 ≤ n → AreLiteralsInRange d routes n
 literals_in_range d routes n some = λ c m l i. (
     let f = in_map_back (map (numbered d routes n)) (clauses d routes n) c m in
     in_range d routes n some f.0 f.1 l (subst (λ (x : List Lit). In l x) (sym f.2) i))

@@ -19,5 +19,5 @@ pub mod Variables
 pub mod Shown
 pub mod Plain
 pub mod InRange
-pub mod Retold
+pub mod DecodedModels
 pub mod Few

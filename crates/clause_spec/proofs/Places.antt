@@ -14,7 +14,7 @@ use Rattle.rail_base.specs.Numbering.{one_to}
 use Rattle.rail_base.specs.Stations.{trains}
 use Rattle.rail_spec.specs.Plans.{is_start, goes_on, end_at_one_signal, share, shared, sections, has_section, route_numbers, commands_of, all_commands, contend}
 use Rattle.rail_base.proofs.Members.{In, list_any_gives, in_filter}
-use Rattle.clause_spec.specs.Variables.{pairs, pairs_of}
+use Rattle.clause_spec.specs.Variables.{pairs, pairs_before}
 use Rattle.clause_spec.specs.Clauses.{at_boundary}
 use Rattle.clause_spec.proofs.Lists.{Distinct, distinct_count, distinct_map}
 use Rattle.clause_spec.proofs.Steps.{cmd}
@@ -108,14 +108,14 @@ pub record IsPair (d : Station) (routes : List Route) (e c : Command) : Type 0 w
 
 pub pair_of : (d : Station) (routes : List Route) (p : Command × Command) → In p (pairs d routes) → IsPair d routes p.0 p.1
 pair_of d routes p m =
-    let f = in_flat_map_back (pairs_of d routes) (all_commands d routes) p m in
+    let f = in_flat_map_back (pairs_before d routes) (all_commands d routes) p m in
     let g = in_map_back (λ (c : Command). (f.0, c)) (filter (contend routes f.0) (all_commands d routes)) p f.2 in
     let k = in_filter_back (contend routes f.0) (all_commands d routes) g.0 g.1 in
     subst (λ (q : Command × Command). IsPair d routes q.0 q.1) g.2 (record { one = f.1; other = k.0; contend = k.1 })
 
 pub pair_from : (d : Station) (routes : List Route) (e c : Command) → In e (all_commands d routes) → In c (all_commands d routes) → contend routes e c ≡ true → In (e, c) (pairs d routes)
 pair_from d routes e c m k h =
-    in_flat_map (pairs_of d routes) (all_commands d routes) e (e, c) m (in_map (λ (u : Command). (e, u)) (filter (contend routes e) (all_commands d routes)) c (in_filter (contend routes e) (all_commands d routes) c k h))
+    in_flat_map (pairs_before d routes) (all_commands d routes) e (e, c) m (in_map (λ (u : Command). (e, u)) (filter (contend routes e) (all_commands d routes)) c (in_filter (contend routes e) (all_commands d routes) c k h))
 
 -- ---- shared sections
 

@@ -13,7 +13,7 @@ use Rattle.rail_spec.specs.Plans.{route_at, has_node, route_numbers, all_command
 use Rattle.rail_base.proofs.Members.{In}
 use Rattle.rail_base.proofs.Lists.{in_map_back, in_flat_map_back, in_append}
 use Rattle.clause_spec.specs.Variables.{Variable, Given, Before, By, Literal, yes, no, if_given, pairs}
-use Rattle.clause_spec.specs.Clauses.{Clause, exclude, later_pairs, leading_to, onward, chains, stays_given, start_clause, starts_rightly, not_both, excluded, not_at_once, first_pairs, clearing, waits_for, waits, may_visit, visited, makes_visits, in_order, all_given, clauses}
+use Rattle.clause_spec.specs.Clauses.{Clause, exclude, later_pairs, leading_to, onward, chains, stays_given, start_clause, starts_rightly, not_both, excluded, not_at_once, first_pairs, clearing, wait_clause, waits, may_visit, visited, makes_visits, in_order, all_given, clauses}
 use Rattle.clause_spec.proofs.Steps.{cmd}
 use Rattle.clause_spec.proofs.Families.{by_family}
 
@@ -97,11 +97,11 @@ module _ (d : Station) (routes : List Route) (n : ℕ) where
 
   waits_plain : (p : Command × Command) → In p (pairs d routes) → (cl : Clause) → In cl (waits d routes n p) → PlainAll cl
   waits_plain p k cl m =
-      let f = in_flat_map_back (λ chain. map (waits_for d routes n p.0 p.1 chain) (one_to (n - 1))) (chains routes (length routes) (clearing d routes n p.0 p.1) [] p.0.route) cl m in
-      let g = in_map_back (waits_for d routes n p.0 p.1 f.0) (one_to (n - 1)) cl f.2 in
+      let f = in_flat_map_back (λ chain. map (wait_clause d routes n p.0 p.1 chain) (one_to (n - 1))) (chains routes (length routes) (clearing d routes n p.0 p.1) [] p.0.route) cl m in
+      let g = in_map_back (wait_clause d routes n p.0 p.1 f.0) (one_to (n - 1)) cl f.2 in
       subst PlainAll g.2 (go p.0 p.1 f.0 g.0)
     where
-      go : (e c : Command) (chain : List RouteNo × RouteNo) (i : ℕ) → PlainAll (waits_for d routes n e c chain i)
+      go : (e c : Command) (chain : List RouteNo × RouteNo) (i : ℕ) → PlainAll (wait_clause d routes n e c chain i)
       go e c chain i l m = at (in_append l (map (λ w. no (Given (cmd e.train w) i)) chain.0) (no (Given c (i + 1)) ∷ yes (Given c i) ∷ map (λ w. yes (Given (cmd e.train w) i)) (onward routes chain.0 chain.1)) m)
         where
           at : In l (map (λ w. no (Given (cmd e.train w) i)) chain.0) ⊎ In l (no (Given c (i + 1)) ∷ yes (Given c i) ∷ map (λ w. yes (Given (cmd e.train w) i)) (onward routes chain.0 chain.1)) → IsPlain l.variable

@@ -15,7 +15,7 @@ use Rattle.rail_base.specs.Stations.{train_length}
 use Rattle.rail_spec.specs.Plans.{route_at, path, commands, step_of, routes_given, is_train, is_start, can_clear, given_between, shared, release_offset, length_mm, exits, route_numbers, contend}
 use Rattle.rail_base.proofs.Members.{In, and_left, and_right, and_both, list_all_at, list_any_gives, in_filter, below_or_not, false_unless}
 use Rattle.clause_spec.specs.Variables.{Given, Literal, yes, no}
-use Rattle.clause_spec.specs.Clauses.{Clause, extends, onward, chain_length, chains, clearing, waits_for, waits}
+use Rattle.clause_spec.specs.Clauses.{Clause, extends, onward, chain_length, chains, clearing, wait_clause, waits}
 use Rattle.clause_spec.specs.Models.{holds, is_so}
 use Rattle.clause_spec.proofs.Lists.{Distinct, sum_among, sum_by-map, below_one, distinct_kept}
 use Rattle.clause_spec.proofs.Steps.{cmd, step_low, Placed, one_a_step}
@@ -153,12 +153,12 @@ module _ (d : Station) (routes : List Route) (n : ℕ) (plan : List (List Comman
 module _ (d : Station) (routes : List Route) (n : ℕ) (plan : List (List Command)) (fit : Fit d routes n plan) where
   pub waits_holds : (e c : Command) (cl : Clause) → contend routes e c ≡ true → In cl (waits d routes n (e, c)) → holds (is_so plan) cl ≡ true
   waits_holds e c cl con m =
-      let f = in_flat_map_back (λ chain. map (waits_for d routes n e c chain) (one_to (n - 1))) (chains routes (length routes) (clearing d routes n e c) [] e.route) cl m in
-      let g = in_map_back (waits_for d routes n e c f.0) (one_to (n - 1)) cl f.2 in
+      let f = in_flat_map_back (λ chain. map (wait_clause d routes n e c chain) (one_to (n - 1))) (chains routes (length routes) (clearing d routes n e c) [] e.route) cl m in
+      let g = in_map_back (wait_clause d routes n e c f.0) (one_to (n - 1)) cl f.2 in
       let found = chains_are routes (length routes) (clearing d routes n e c) [] e.route f.0 (record { stays = λ r k. absurd k; goes = λ r k. absurd k }) f.1 in
       at_clause (is_so plan) g.2 (λ h. stuck f.0 g.0 found h)
     where
-      stuck : (chain : List RouteNo × RouteNo) (i : ℕ) → Found routes (clearing d routes n e c) [] e.route chain → Fails (is_so plan) (waits_for d routes n e c chain i) → ⊥
+      stuck : (chain : List RouteNo × RouteNo) (i : ℕ) → Found routes (clearing d routes n e c) [] e.route chain → Fails (is_so plan) (wait_clause d routes n e c chain i) → ⊥
       stuck chain i found h =
           let before : List Literal = map (λ w. no (Given (cmd e.train w) i)) chain.0 in
           let after : List Literal = map (λ w. yes (Given (cmd e.train w) i)) (onward routes chain.0 chain.1) in

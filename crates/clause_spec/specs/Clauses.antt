@@ -120,15 +120,15 @@ module _ (d : Station) (routes : List Route) (n : ℕ) where
       fold max 0 (map (release_offset r) (shared r (route_at routes c.route))) + train_length d e.train
 
   -- where the train is given the chain and no route onward, the other command is not new in the next step
-  abbrev pub waits_for : Command → Command → List RouteNo × RouteNo → ℕ → Clause
-  waits_for e c chain i = map (λ w. no (Given (record { train = e.train; route = w }) i)) chain.0
+  abbrev pub wait_clause : Command → Command → List RouteNo × RouteNo → ℕ → Clause
+  wait_clause e c chain i = map (λ w. no (Given (record { train = e.train; route = w }) i)) chain.0
       ++ no (Given c (i + 1)) ∷ yes (Given c i)
       ∷ map (λ w. yes (Given (record { train = e.train; route = w }) i)) (onward routes chain.0 chain.1)
 
   -- for each chain that does not clear yet, and each step
   abbrev pub waits : Command × Command → List Clause
   waits p =
-      flat_map (λ chain. map (waits_for p.0 p.1 chain) (one_to (n - 1)))
+      flat_map (λ chain. map (wait_clause p.0 p.1 chain) (one_to (n - 1)))
       (chains routes (length routes) (clearing p.0 p.1) [] p.0.route)
 
   -- ---- each visit is on some route

@@ -33,7 +33,7 @@ pub record IsChain (routes : List Route) (bound : ℕ) (chain : List RouteNo) : 
   pub near : all_neighbors (λ r q. goes_on (route_at routes r).finish (route_at routes q).start) chain ≡ true
   pub apart : all_pairs (λ r q. not (is_start (route_at routes r).start (route_at routes q).start)) chain ≡ true
   pub stays : list_all (λ r. not (exits (route_at routes r))) chain ≡ true
-  pub short : chain_length routes chain < bound
+  pub below_bound : chain_length routes chain < bound
 
 -- no values that make the base true say that all is given by step k
 abbrev pub NoneBy : Station → List Route → ℕ → ℕ → Type 0
@@ -42,6 +42,6 @@ NoneBy d routes n k = (values : ℕ → Bool)
     → values (number_of d routes n (By k)) ≡ true → ⊥
 
 -- each literal of the base has a variable from 1 on, and none the last one, which says that all is given by step n
-abbrev pub IsInRange : Station → List Route → ℕ → Type 0
-IsInRange d routes n = (c : List Lit) → In c (base_clauses d routes n) → (l : Lit) → In l c
+abbrev pub AreLiteralsInRange : Station → List Route → ℕ → Type 0
+AreLiteralsInRange d routes n = (c : List Lit) → In c (base_clauses d routes n) → (l : Lit) → In l c
     → (1 ≤ l.var) × (l.var < variable_count d routes n)

@@ -54,6 +54,6 @@ module _ (d : Station) (routes : List Route) (n : ℕ) where
   abbrev pub given_in : (Variable → Bool) → ℕ → List Command
   given_in says i = filter (λ c. given_by says c i && not (given_by says c (i - 1))) (all_commands d routes)
 
-  -- the plan that a model tells of
+  -- the plan that a model gives
   abbrev pub decoded : (ℕ → Bool) → List (List Command)
   decoded values = cut_off (map (given_in (λ v. values (number_of d routes n v))) (one_to n))

@@ -38,12 +38,12 @@ is_pair d c p = is_command d p.0 && is_command c p.1
 
 module _ (d : Station) (routes : List Route) where
   -- the commands that contend with this one, each with it before
-  abbrev pub pairs_of : Command → List (Command × Command)
-  pairs_of e = map (λ c. (e, c)) (filter (contend routes e) (all_commands d routes))
+  abbrev pub pairs_before : Command → List (Command × Command)
+  pairs_before e = map (λ c. (e, c)) (filter (contend routes e) (all_commands d routes))
 
   -- all pairs that contend, by the first command and then the second
   abbrev pub pairs : List (Command × Command)
-  pairs = flat_map pairs_of (all_commands d routes)
+  pairs = flat_map pairs_before (all_commands d routes)
 
 module _ (d : Station) (routes : List Route) (n : ℕ) where
   -- the variables in the order of their numbers

@@ -11,7 +11,7 @@ ghost use Rattle.rail_spec.specs.Feasible.{IsFeasible, IsInfeasible, IsRunnable}
 ghost use Rattle.clause_spec.specs.Clauses.{base_clauses, past_limit};
 ghost use Rattle.clause_spec.specs.Models.{model_of, decoded};
 ghost use Rattle.clause_spec.specs.Variables.{pairs};
-ghost use Rattle.clause_spec.specs.Laws.{VisitsAll, Agrees, NoneBy, IsInRange};
+ghost use Rattle.clause_spec.specs.Laws.{VisitsAll, Agrees, NoneBy, AreLiteralsInRange};
 
 /// The model of a plan that can be carried out, and whose paths make all visits, makes the base true.
 pub fn plans_are_models()
@@ -26,7 +26,7 @@ pub fn feasible_plans_are_models()
         → list_all (clause_holds (model_of d (routes_of d) n plan)) (base_clauses d (routes_of d) n) ≡ true }
 {}
 
-/// Values that make the base true tell of a plan that can be carried out, and whose model has them.
+/// Values that make the base true give a plan that can be carried out, and whose model has them.
 pub fn models_are_plans()
     ensures { (d : Station) (routes : List Route) (n : ℕ) (values : ℕ → Bool) → 1 ≤ n
         → list_all (clause_holds values) (base_clauses d routes n) ≡ true
@@ -35,7 +35,7 @@ pub fn models_are_plans()
 {}
 
 /// Its model makes the base true, too.
-pub fn told_plans_are_models()
+pub fn decoded_plans_are_models()
     ensures { (d : Station) (routes : List Route) (n : ℕ) (values : ℕ → Bool) → 1 ≤ n
         → list_all (clause_holds values) (base_clauses d routes n) ≡ true
         → list_all (clause_holds (model_of d routes n (decoded d routes n values))) (base_clauses d routes n) ≡ true }
@@ -44,7 +44,7 @@ pub fn told_plans_are_models()
 /// The variables of the base are numbered from 1, and none of its clauses says by which step all is given at the
 /// latest.
 pub fn literals_are_in_range()
-    ensures { (d : Station) (routes : List Route) (n : ℕ) → 1 ≤ n → IsInRange d routes n }
+    ensures { (d : Station) (routes : List Route) (n : ℕ) → 1 ≤ n → AreLiteralsInRange d routes n }
 {}
 
 /// Where no values that make the base of n steps true say that all is given by step k, no plan of k steps is feasible.

@@ -7,7 +7,7 @@ use Rattle.cone_spec.specs.declared.Cone.{Cone}
 use Rattle.rail_spec.specs.Plans.{route_at, contend, all_commands}
 use Rattle.rail_base.specs.Members.{all_pairs}
 use Rattle.rail_base.proofs.Members.{In, and_both}
-use Rattle.cone_spec.specs.Cones.{is_named, is_listed, is_free, named}
+use Rattle.cone_spec.specs.Cones.{is_named, has_pair, is_free, named}
 use Rattle.cone_spec.specs.Validity.{is_before, is_pair_before}
 use Rattle.cone_spec.specs.Clauses.{Fact, Used, Before, Literal, is_closed, goes_further, used_literals, before_literals, clause_of_cone}
 use Rattle.cone_spec.proofs.Saying.{is_command_self}
@@ -36,7 +36,7 @@ module _ (d : Station) (routes : List Route) (k : Cone) where
       go false false e = absurd e
 
   one_before : (e c : Command) (l : Literal) → In l (before_literals d routes k e c) → l.fact ≡ Before e c
-  one_before e c l m = go (is_listed k e c) (is_free k c && contend routes e c) m
+  one_before e c l m = go (has_pair k e c) (is_free k c && contend routes e c) m
     where
       go : (a b : Bool) → In l (if a then record { fact = Before e c; negated = true } ∷ [] else if b then record { fact = Before e c; negated = false } ∷ [] else []) → l.fact ≡ Before e c
       go true b (inl e) = sym (ap (λ (l : Literal). l.fact) e)
@@ -54,7 +54,7 @@ module _ (d : Station) (routes : List Route) (k : Cone) where
       go false false = refl
 
   alone_before : (e c : Command) → all_pairs is_literal_before (before_literals d routes k e c) ≡ true
-  alone_before e c = go (is_listed k e c) (is_free k c && contend routes e c)
+  alone_before e c = go (has_pair k e c) (is_free k c && contend routes e c)
     where
       go : (a b : Bool) → all_pairs is_literal_before (if a then record { fact = Before e c; negated = true } ∷ [] else if b then record { fact = Before e c; negated = false } ∷ [] else []) ≡ true
       go true b = refl

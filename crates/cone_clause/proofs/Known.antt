@@ -7,7 +7,7 @@ use Rattle.cone_spec.specs.declared.Cone.{Cone}
 use Rattle.rail_spec.specs.Plans.{route_at, is_train, share, contend, all_commands}
 use Rattle.rail_base.proofs.Members.{In, and_right, and_both}
 use Rattle.rail_base.proofs.Lists.{in_append, in_flat_map_back}
-use Rattle.cone_spec.specs.Cones.{named, is_named, is_listed, is_free}
+use Rattle.cone_spec.specs.Cones.{named, is_named, has_pair, is_free}
 use Rattle.cone_spec.specs.Validity.{in_design}
 use Rattle.cone_spec.specs.Clauses.{Fact, Used, Before, Literal, is_closed, goes_further, used_literals, before_literals, clause_of_cone}
 use Rattle.cone_spec.proofs.Naming.{of_design, listed_is}
@@ -29,9 +29,9 @@ module _ (d : Station) (routes : List Route) (k : Cone) (fits : in_design d rout
       go false false e = absurd e
 
   before_known : (e c : Command) (l : Literal) → In e (all_commands d routes) → In c (all_commands d routes) → In l (before_literals d routes k e c) → IsKnown d routes l.fact
-  before_known e c l m n i = go (is_listed k e c) (is_free k c && contend routes e c) refl refl i
+  before_known e c l m n i = go (has_pair k e c) (is_free k c && contend routes e c) refl refl i
     where
-      go : (a b : Bool) → is_listed k e c ≡ a → (is_free k c && contend routes e c) ≡ b
+      go : (a b : Bool) → has_pair k e c ≡ a → (is_free k c && contend routes e c) ≡ b
           → In l (if a then record { fact = Before e c; negated = true } ∷ [] else if b then record { fact = Before e c; negated = false } ∷ [] else []) → IsKnown d routes l.fact
       go true b p q (inl s) =
           let one = listed_is d routes k (of_design d routes k fits) e c p in

@@ -15,7 +15,7 @@ use Rattle.rail_spec.specs.Plans.{is_command, contend}
 use Rattle.clause_spec.specs.Variables.{pairs}
 use Rattle.cone_spec.specs.declared.Cone.{Cone}
 use Rattle.cone_spec.specs.declared.ConeTrain.{ConeTrain}
-use Rattle.cone_spec.specs.Cones.{unnamed, first_named, free_path, is_free, is_listed, is_pair}
+use Rattle.cone_spec.specs.Cones.{unnamed, first_named, free_path, is_free, has_pair, is_pair}
 use Rattle.cone_spec.specs.Validity.{in_design}
 use Rattle.cone_spec.specs.Clauses.{Before, Literal, before_literals}
 use Rattle.cone_spec.proofs.Naming.{IsNamed, named_or_not, has_route_in, in_has_route}
@@ -26,7 +26,7 @@ use Rattle.rail_spec.specs.Plans.{all_commands}
 use Rattle.cone_clause.specs.Numbered.{lit_of}
 use Rattle.cone_clause.proofs.Gathering.{drop_next, drop_end}
 use Rattle.cone_clause.proofs.Walked.{walked, pair_step}
-use Rattle.cone_clause.specs.Places.{Adds, AreListed, AreSaid, IsPlaceOf, IsPlaceBefore, IsPlaceBeforeFree, IsSaid}
+use Rattle.cone_clause.specs.Places.{Adds, ArePlacesOfPairs, AreSaid, IsPlaceOf, IsPlaceBefore, IsPlaceBeforeFree, IsSaid}
 
 some_same : {X : Type 0} {a b : X} → Some a ≡ Some b → a ≡ b
 some_same h = cc
@@ -135,7 +135,7 @@ said_all ps k old mid new places none free listed moved rising = record {
 
 -- what is added for listed pairs alone, in order, is all of their places
 pub listed_all : (ps : List (Command × Command)) (k : Cone) (old new places : List ℕ) → old ≡ []
-    → Adds (λ i. (p : Command × Command) × In p k.pairs × IsPlaceOf ps p i) old new → IsPermutation new places → IsNonDecreasing places → AreListed ps k places
+    → Adds (λ i. (p : Command × Command) × In p k.pairs × IsPlaceOf ps p i) old new → IsPermutation new places → IsNonDecreasing places → ArePlacesOfPairs ps k places
 listed_all ps k old new places none listed moved rising = record {
   rising = rising;
   all = λ i h. at places i (sym (list_any-IsPermutation (λ j. j == i) new places moved) ∙ has new i (listed.added i h));
@@ -153,9 +153,9 @@ listed_all ps k old new places none listed moved rising = record {
     from i (inr l) = l
 
 -- a pair is listed where its place is one of those
-pub listed_at : (ps : List (Command × Command)) (k : Cone) (places : List ℕ) → AreListed ps k places → (i : ℕ) (other : Command × Command) → i < length ps
-    → list_any (λ j. j == i) places ≡ is_listed k (get_or ps i other).0 (get_or ps i other).1
-listed_at ps k places are i other inside = same_bool (list_any (λ j. j == i) places) (is_listed k q.0 q.1) to from
+pub listed_at : (ps : List (Command × Command)) (k : Cone) (places : List ℕ) → ArePlacesOfPairs ps k places → (i : ℕ) (other : Command × Command) → i < length ps
+    → list_any (λ j. j == i) places ≡ has_pair k (get_or ps i other).0 (get_or ps i other).1
+listed_at ps k places are i other inside = same_bool (list_any (λ j. j == i) places) (has_pair k q.0 q.1) to from
   where
     q : Command × Command
     q = get_or ps i other
@@ -163,14 +163,14 @@ listed_at ps k places are i other inside = same_bool (list_any (λ j. j == i) pl
     here : slice_get ps i ≡ Some q
     here = slice_get-get_or ps i other inside
 
-    to : list_any (λ j. j == i) places ≡ true → is_listed k q.0 q.1 ≡ true
+    to : list_any (λ j. j == i) places ≡ true → has_pair k q.0 q.1 ≡ true
     to h =
         let f = list_any_gives (λ j. j == i) places h in
         let l = are.only i (subst (λ j. In j places) (eqb-true f.0 i f.2) f.1) in
         let same : l.0 ≡ q = some_same (sym l.2 ∙ here) in
         list_any_from (is_pair q.0 q.1) k.pairs q (subst (λ (p : Command × Command). In p k.pairs) same l.1) (pair_itself q.0 q.1)
 
-    from : is_listed k q.0 q.1 ≡ true → list_any (λ j. j == i) places ≡ true
+    from : has_pair k q.0 q.1 ≡ true → list_any (λ j. j == i) places ≡ true
     from h =
         let f = list_any_gives (is_pair q.0 q.1) k.pairs h in
         let m : In q k.pairs = subst (λ (p : Command × Command). In p k.pairs) (is_pair_same q.0 q.1 f.0 f.2) f.1 in
@@ -182,7 +182,7 @@ module _ (d : Station) (routes : List Route) (k : Cone) (fits : in_design d rout
 
   -- nothing is said of a place that is not one of those
   quiet_at : (i : ℕ) (other : Command × Command) → i < length (pairs d routes) → (IsSaid (pairs d routes) k i → ⊥) → said_of (get_or (pairs d routes) i other) ≡ []
-  quiet_at i other l none = go (is_listed k p.0 p.1) (is_free k p.1) (false_unless (is_listed k p.0 p.1) (λ t. none (p, at, inl t))) (false_unless (is_free k p.1) (λ t. none (p, at, inr t)))
+  quiet_at i other l none = go (has_pair k p.0 p.1) (is_free k p.1) (false_unless (has_pair k p.0 p.1) (λ t. none (p, at, inl t))) (false_unless (is_free k p.1) (λ t. none (p, at, inr t)))
     where
       p : Command × Command
       p = get_or (pairs d routes) i other
@@ -212,9 +212,9 @@ module _ (d : Station) (routes : List Route) (k : Cone) (fits : in_design d rout
           ∙ (append-nil (flat_map said_of (take b (pairs d routes))) ∙ before f))))
 
   -- the literal of a place of which something is said
-  one_said : (n : ℕ) (i : ℕ) (other : Command × Command) → IsSaid (pairs d routes) k i → (v : ℕ) (negated : Bool) → v ≡ length d.trains * length routes * n + i + 1 → negated ≡ is_listed k (get_or (pairs d routes) i other).0 (get_or (pairs d routes) i other).1
+  one_said : (n : ℕ) (i : ℕ) (other : Command × Command) → IsSaid (pairs d routes) k i → (v : ℕ) (negated : Bool) → v ≡ length d.trains * length routes * n + i + 1 → negated ≡ has_pair k (get_or (pairs d routes) i other).0 (get_or (pairs d routes) i other).1
       → record { var = v; negated = negated } ∷ [] ≡ map (lit_of d routes n) (said_of (get_or (pairs d routes) i other))
-  one_said n i other (p, at, why) v negated is h = pair_step d routes k fits n (pairs d routes) refl i other inside v (Some negated) is (by negated (is_listed k q.0 q.1) (is_free k q.1) h (free_else why))
+  one_said n i other (p, at, why) v negated is h = pair_step d routes k fits n (pairs d routes) refl i other inside v (Some negated) is (by negated (has_pair k q.0 q.1) (is_free k q.1) h (free_else why))
     where
       inside : i < length (pairs d routes)
       inside = place_inside (pairs d routes) i p at
@@ -225,8 +225,8 @@ module _ (d : Station) (routes : List Route) (k : Cone) (fits : in_design d rout
       same : p ≡ q
       same = some_same (sym at ∙ slice_get-get_or (pairs d routes) i other inside)
 
-      free_else : (is_listed k p.0 p.1 ≡ true) ⊎ (is_free k p.1 ≡ true) → (is_listed k q.0 q.1 ≡ true) ⊎ (is_free k q.1 ≡ true)
-      free_else (inl t) = inl (subst (λ (x : Command × Command). is_listed k x.0 x.1 ≡ true) same t)
+      free_else : (has_pair k p.0 p.1 ≡ true) ⊎ (is_free k p.1 ≡ true) → (has_pair k q.0 q.1 ≡ true) ⊎ (is_free k q.1 ≡ true)
+      free_else (inl t) = inl (subst (λ (x : Command × Command). has_pair k x.0 x.1 ≡ true) same t)
       free_else (inr t) = inr (subst (λ (x : Command × Command). is_free k x.1 ≡ true) same t)
 
       by : (r a b : Bool) → r ≡ a → (a ≡ true) ⊎ (b ≡ true) → Some r ≡ (if a then Some true else if b then Some false else None)
@@ -242,7 +242,7 @@ module _ (d : Station) (routes : List Route) (k : Cone) (fits : in_design d rout
 
     abbrev More : List (Command × Command) → Type 0
     More ps = (next i : ℕ) (other : Command × Command) (now new : List Lit) → next ≤ i → IsSaid ps k i → ((j : ℕ) → next ≤ j → j < i → IsSaid ps k j → ⊥)
-        → (v : ℕ) (negated : Bool) → v ≡ length d.trains * length routes * n + i + 1 → negated ≡ is_listed k (get_or ps i other).0 (get_or ps i other).1
+        → (v : ℕ) (negated : Bool) → v ≡ length d.trains * length routes * n + i + 1 → negated ≡ has_pair k (get_or ps i other).0 (get_or ps i other).1
         → new ≡ now ++ record { var = v; negated = negated } ∷ [] → SaysUpTo ps next now → SaysUpTo ps (i + 1) new
 
     abbrev Whole : List (Command × Command) → Type 0

@@ -6,7 +6,7 @@ use Rattle.rail_base.specs.declared.plan.Command.{Command}
 use Rattle.rail_spec.specs.Plans.{route_at, contend}
 use Rattle.clause_spec.specs.Variables.{Given, Before as BeforeIn, number_of}
 use Rattle.cone_spec.specs.declared.Cone.{Cone}
-use Rattle.cone_spec.specs.Cones.{named, is_named, is_listed, is_free}
+use Rattle.cone_spec.specs.Cones.{named, is_named, has_pair, is_free}
 use Rattle.cone_spec.specs.Clauses.{Fact, Used, Before, is_closed, goes_further, used_literals, before_literals}
 use Rattle.cone_clause.specs.Numbered.{signed, variable_of, lit_of}
 
@@ -25,11 +25,11 @@ module _ (d : Station) (routes : List Route) (n : ℕ) (k : Cone) where
 
   -- and of the order of two that contend
   pub before_signed : (e c : Command) (v : ℕ) (s : Option Bool) → contend routes e c ≡ true → v ≡ number_of d routes n (BeforeIn e c)
-      → s ≡ (if is_listed k e c then Some true else if is_free k c then Some false else None)
+      → s ≡ (if has_pair k e c then Some true else if is_free k c then Some false else None)
       → signed v s ≡ map (lit_of d routes n) (before_literals d routes k e c)
   before_signed e c v s t m h =
-      ap (signed v) h ∙ (ap (λ b. signed v (if is_listed k e c then Some true else if b then Some false else None)) (with_it (is_free k c) (contend routes e c) t)
-      ∙ by_sign (Before e c) v (is_listed k e c) (is_free k c && contend routes e c) m)
+      ap (signed v) h ∙ (ap (λ b. signed v (if has_pair k e c then Some true else if b then Some false else None)) (with_it (is_free k c) (contend routes e c) t)
+      ∙ by_sign (Before e c) v (has_pair k e c) (is_free k c && contend routes e c) m)
     where
       with_it : (a b : Bool) → b ≡ true → a ≡ (a && b)
       with_it true b t = sym t

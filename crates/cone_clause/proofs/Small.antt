@@ -10,4 +10,4 @@ pub said_inside : (c : NumberedCone) (places : List ℕ) → AreSaid c.contentio
     → (get_or places i 0 < length c.contention.pairs.now) × (length c.contention.pairs.now ≤ 8000000)
 said_inside c places said i inside =
     let here = said.only (get_or places i 0) (member_at places i 0 inside) in
-    (place_inside c.contention.pairs.now (get_or places i 0) here.0 here.1, c.contention.few)
+    (place_inside c.contention.pairs.now (get_or places i 0) here.0 here.1, c.contention.at_most_8000000)

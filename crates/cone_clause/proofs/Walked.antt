@@ -1,4 +1,4 @@
--- A walk over the contending pairs tells what a cone's clause says of the order of all commands.
+-- A walk over the contending pairs says what a cone's clause says of the order of all commands.
 use Rattle.std.proofs.Common.{◌≡◌, ℕ, zero, suc, ◌+◌, ◌-◌, ◌*◌, ◌<◌, ◌⊎◌, inl, inr, Bool, true, false, cond, not, ◌&&◌, ◌||◌, if◌then◌else◌, List, [], ◌∷◌, ◌++◌, map, filter, flat_map, length, take, get_or, All, Option, Some, None, refl, sym, ap, ap₂, subst, ◌∙◌, arith, true≢false}
 use Rattle.std.specs.List.{list_all, list_any}
 use Rattle.std.proofs.lemmas.Grind.{flat_map-append}
@@ -13,11 +13,11 @@ use Rattle.rail_base.specs.Routes.{IsRoute}
 use Rattle.rail_base.specs.Stations.{trains}
 use Rattle.rail_base.proofs.Members.{and_left, and_right, and_both, list_all_at, false_unless}
 use Rattle.rail_spec.specs.Plans.{route_at, is_train, is_route, commands_of, share, contend, all_commands}
-use Rattle.clause_spec.specs.Variables.{pairs, pairs_of, is_pair}
+use Rattle.clause_spec.specs.Variables.{pairs, pairs_before, is_pair}
 use Rattle.clause_spec.proofs.Places.{pair_of}
 use Rattle.cone_spec.specs.declared.Cone.{Cone}
 use Rattle.cone_spec.specs.declared.ConeTrain.{ConeTrain}
-use Rattle.cone_spec.specs.Cones.{unnamed, first_named, named, is_named, is_listed, is_free}
+use Rattle.cone_spec.specs.Cones.{unnamed, first_named, named, is_named, has_pair, is_free}
 use Rattle.cone_spec.specs.Validity.{in_design, is_pair_before}
 use Rattle.cone_spec.specs.Clauses.{Before, Literal, used_literals, before_literals}
 use Rattle.cone_spec.proofs.Naming.{IsNamed, named_or_not, of_design, proper, listed_is}
@@ -53,7 +53,7 @@ module _ (d : Station) (routes : List Route) where
   contends i other h = (pair_of d routes (get_or (pairs d routes) i other) (got (pairs d routes) i other h)).contend
 
 module _ (d : Station) (routes : List Route) (k : Cone) (fits : in_design d routes k ≡ true) where
-  pub listed_named : (e c : Command) → is_listed k e c ≡ true → is_named k c ≡ true
+  pub listed_named : (e c : Command) → has_pair k e c ≡ true → is_named k c ≡ true
   listed_named e c h = (listed_is d routes k (of_design d routes k fits) e c h).second
 
   -- the routes of a path are in range
@@ -66,15 +66,15 @@ module _ (d : Station) (routes : List Route) (k : Cone) (fits : in_design d rout
 
   -- nothing is said of two commands that do not contend
   not_said : (e c : Command) → contend routes e c ≡ false → before_literals d routes k e c ≡ []
-  not_said e c f = go (is_listed k e c) (is_free k c && contend routes e c) not_listed (neither (is_free k c) (contend routes e c) f)
+  not_said e c f = go (has_pair k e c) (is_free k c && contend routes e c) not_listed (neither (is_free k c) (contend routes e c) f)
     where
-      apart : is_listed k e c ≡ true → ⊥
+      apart : has_pair k e c ≡ true → ⊥
       apart t =
           let one = listed_is d routes k (of_design d routes k fits) e c t in
           true≢false (sym (and_both (not (is_train e.train c.train)) (share (route_at routes e.route) (route_at routes c.route)) (ap not one.apart) one.sharing) ∙ f)
 
-      not_listed : is_listed k e c ≡ false
-      not_listed = false_unless (is_listed k e c) apart
+      not_listed : has_pair k e c ≡ false
+      not_listed = false_unless (has_pair k e c) apart
 
       neither : (a b : Bool) → b ≡ false → (a && b) ≡ false
       neither true b g = g
@@ -97,9 +97,9 @@ module _ (d : Station) (routes : List Route) (k : Cone) (fits : in_design d rout
       go true t h = ap (λ ls. before_literals d routes k e c ++ ls) h
       go false f h = ap (λ ls. ls ++ flat_map (before_literals d routes k e) cs) (not_said e c f) ∙ h
 
-  of_these : (cs : List Command) → flat_map (λ e. flat_map (before_literals d routes k e) (all_commands d routes)) cs ≡ flat_map said (flat_map (pairs_of d routes) cs)
+  of_these : (cs : List Command) → flat_map (λ e. flat_map (before_literals d routes k e) (all_commands d routes)) cs ≡ flat_map said (flat_map (pairs_before d routes) cs)
   of_these [] = refl
-  of_these (e ∷ cs) = ap₂ (λ xs ys. xs ++ ys) (of_one e (all_commands d routes)) (of_these cs) ∙ sym (flat_map-append said (pairs_of d routes e) (flat_map (pairs_of d routes) cs))
+  of_these (e ∷ cs) = ap₂ (λ xs ys. xs ++ ys) (of_one e (all_commands d routes)) (of_these cs) ∙ sym (flat_map-append said (pairs_before d routes e) (flat_map (pairs_before d routes) cs))
 
   -- what is said of all commands, two and two, is what is said of the pairs
   pub walked : flat_map (λ e. flat_map (before_literals d routes k e) (all_commands d routes)) (all_commands d routes) ≡ flat_map said (pairs d routes)
@@ -107,10 +107,10 @@ module _ (d : Station) (routes : List Route) (k : Cone) (fits : in_design d rout
 
   -- the literal of a pair
   pub pair_step : (n : ℕ) (ps : List (Command × Command)) → ps ≡ pairs d routes → (i : ℕ) (other : Command × Command) → i < length ps → (v : ℕ) (s : Option Bool) → v ≡ length d.trains * length routes * n + i + 1
-      → s ≡ (if is_listed k (get_or ps i other).0 (get_or ps i other).1 then Some true else if is_free k (get_or ps i other).1 then Some false else None) → signed v s ≡ map (lit_of d routes n) (said (get_or ps i other))
-  pair_step n ps e i other less v s m h = subst (λ (qs : List (Command × Command)). i < length qs → s ≡ (if is_listed k (get_or qs i other).0 (get_or qs i other).1 then Some true else if is_free k (get_or qs i other).1 then Some false else None) → signed v s ≡ map (lit_of d routes n) (said (get_or qs i other))) (sym e) go less h
+      → s ≡ (if has_pair k (get_or ps i other).0 (get_or ps i other).1 then Some true else if is_free k (get_or ps i other).1 then Some false else None) → signed v s ≡ map (lit_of d routes n) (said (get_or ps i other))
+  pair_step n ps e i other less v s m h = subst (λ (qs : List (Command × Command)). i < length qs → s ≡ (if has_pair k (get_or qs i other).0 (get_or qs i other).1 then Some true else if is_free k (get_or qs i other).1 then Some false else None) → signed v s ≡ map (lit_of d routes n) (said (get_or qs i other))) (sym e) go less h
     where
-      go : i < length (pairs d routes) → s ≡ (if is_listed k (get_or (pairs d routes) i other).0 (get_or (pairs d routes) i other).1 then Some true else if is_free k (get_or (pairs d routes) i other).1 then Some false else None)
+      go : i < length (pairs d routes) → s ≡ (if has_pair k (get_or (pairs d routes) i other).0 (get_or (pairs d routes) i other).1 then Some true else if is_free k (get_or (pairs d routes) i other).1 then Some false else None)
           → signed v s ≡ map (lit_of d routes n) (said (get_or (pairs d routes) i other))
       go l g =
           let p = get_or (pairs d routes) i other in
@@ -135,8 +135,8 @@ take_has test (suc n) (x ∷ xs) h = go (test x) h (take_has test n xs)
     go false t later = later t
 
 -- nothing is said of the order before a command that is not named
-pub unnamed_sign : (k : Cone) (e c : Command) → ((e c : Command) → is_listed k e c ≡ true → is_named k c ≡ true) → is_named k c ≡ false → None ≡ (if is_listed k e c then Some true else if is_free k c then Some false else None)
-unnamed_sign k e c named h = go (is_listed k e c) (is_free k c) (false_unless (is_listed k e c) (λ t. true≢false (sym (named e c t) ∙ h))) (false_unless (is_free k c) (λ t. true≢false (sym (take_has (λ q. is_route q c.route) (first_named c.train k.trains).free (first_named c.train k.trains).path t) ∙ h)))
+pub unnamed_sign : (k : Cone) (e c : Command) → ((e c : Command) → has_pair k e c ≡ true → is_named k c ≡ true) → is_named k c ≡ false → None ≡ (if has_pair k e c then Some true else if is_free k c then Some false else None)
+unnamed_sign k e c named h = go (has_pair k e c) (is_free k c) (false_unless (has_pair k e c) (λ t. true≢false (sym (named e c t) ∙ h))) (false_unless (is_free k c) (λ t. true≢false (sym (take_has (λ q. is_route q c.route) (first_named c.train k.trains).free (first_named c.train k.trains).path t) ∙ h)))
   where
     go : (a b : Bool) → a ≡ false → b ≡ false → None ≡ (if a then Some true else if b then Some false else None)
     go true b f g = absurd (true≢false f)

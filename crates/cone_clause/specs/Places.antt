@@ -7,7 +7,7 @@ use Rattle.rail_base.specs.declared.station.TrainNo.{TrainNo}
 use Rattle.rail_base.specs.Members.{In}
 use Rattle.cone_spec.specs.declared.Cone.{Cone}
 use Rattle.cone_spec.specs.declared.ConeTrain.{ConeTrain}
-use Rattle.cone_spec.specs.Cones.{free_path, is_free, is_listed}
+use Rattle.cone_spec.specs.Cones.{free_path, is_free, has_pair}
 
 -- exactly the numbers of which it holds are added
 pub record Adds (P : ℕ → Type 0) (old new : List ℕ) : Type 0 where
@@ -33,12 +33,12 @@ module _ (pairs : List (Command × Command)) where
   IsPlaceBeforeAny k i = (e : ConeTrain) × In e k.trains × IsPlaceBeforeFree k e.train i
 
   -- the place of a pair that is listed
-  abbrev pub IsListedPlace : Cone → ℕ → Type 0
-  IsListedPlace k i = (p : Command × Command) × In p k.pairs × IsPlaceOf p i
+  abbrev pub IsPairPlace : Cone → ℕ → Type 0
+  IsPairPlace k i = (p : Command × Command) × In p k.pairs × IsPlaceOf p i
 
   -- the clause says something of the pair of this place: it is listed, or its second command is free
   abbrev pub IsSaid : Cone → ℕ → Type 0
-  IsSaid k i = (p : Command × Command) × IsPlaceOf p i × ((is_listed k p.0 p.1 ≡ true) ⊎ (is_free k p.1 ≡ true))
+  IsSaid k i = (p : Command × Command) × IsPlaceOf p i × ((has_pair k p.0 p.1 ≡ true) ⊎ (is_free k p.1 ≡ true))
 
   -- the places of all such pairs, in order
   pub record AreSaid (k : Cone) (places : List ℕ) : Type 0 where
@@ -47,7 +47,7 @@ module _ (pairs : List (Command × Command)) where
     pub only : (i : ℕ) → In i places → IsSaid k i
 
   -- the places of all listed pairs, in order
-  pub record AreListed (k : Cone) (places : List ℕ) : Type 0 where
+  pub record ArePlacesOfPairs (k : Cone) (places : List ℕ) : Type 0 where
     pub rising : IsNonDecreasing places
-    pub all : (i : ℕ) → IsListedPlace k i → In i places
-    pub only : (i : ℕ) → In i places → IsListedPlace k i
+    pub all : (i : ℕ) → IsPairPlace k i → In i places
+    pub only : (i : ℕ) → In i places → IsPairPlace k i

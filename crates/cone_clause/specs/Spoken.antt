@@ -13,7 +13,7 @@ use Rattle.cone_spec.specs.Cones.{has_route}
 use Rattle.cone_spec.specs.Clauses.{Literal, before_literals, goes_further, used_literals}
 use Rattle.cone_clause.specs.declared.numbered.NumberedCone.{NumberedCone}
 use Rattle.cone_clause.specs.Numbered.{lit_of}
-use Rattle.cone_clause.specs.Places.{Adds, AreListed, AreSaid, IsListedPlace, IsPlaceBefore, IsPlaceBeforeAny, IsPlaceBeforeFree}
+use Rattle.cone_clause.specs.Places.{Adds, ArePlacesOfPairs, AreSaid, IsPairPlace, IsPlaceBefore, IsPlaceBeforeAny, IsPlaceBeforeFree}
 
 -- the sign of a route: negated where the path has it, not negated where a closed path goes on to it, and else none
 abbrev pub used_sign : List Route → List RouteNo → Bool → RouteNo → Option Bool
@@ -82,13 +82,13 @@ module _ (c : NumberedCone) where
   AddsAllFree = Adds (IsPlaceBeforeAny c.contention.pairs.now c.cone.now)
 
   -- those of the listed pairs are added
-  abbrev pub AddsListed : List ℕ → List ℕ → Type 0
-  AddsListed = Adds (IsListedPlace c.contention.pairs.now c.cone.now)
+  abbrev pub AddsPairs : List ℕ → List ℕ → Type 0
+  AddsPairs = Adds (IsPairPlace c.contention.pairs.now c.cone.now)
 
   -- these are all of them, in order
   abbrev pub ArePlaces : List ℕ → Type 0
   ArePlaces = AreSaid c.contention.pairs.now c.cone.now
 
   -- these are all places of listed pairs, in order
-  abbrev pub AreListedPlaces : List ℕ → Type 0
-  AreListedPlaces = AreListed c.contention.pairs.now c.cone.now
+  abbrev pub ArePairPlaces : List ℕ → Type 0
+  ArePairPlaces = ArePlacesOfPairs c.contention.pairs.now c.cone.now

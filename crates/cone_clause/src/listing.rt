@@ -6,8 +6,8 @@ ghost use Rattle.cone_clause.specs.Numbered.{clause_in};
 
 use crate::numbered::NumberedCone;
 use cone_form::Contention;
-use interlocking::Steps;
 use cone_spec::Cone;
+use interlocking::Steps;
 use sat_clause::Lit;
 use std::alloc::{AllocError, Global};
 

@@ -4,8 +4,8 @@ ghost use Rattle.std.specs.Prelude.{◌≡◌, true};
 ghost use Rattle.cone_form.specs.Fits.{fits};
 
 use cone_form::Contention;
-use interlocking::Steps;
 use cone_spec::Cone;
+use interlocking::Steps;
 
 /// A cone that speaks of the design, and how many steps the plans have that its clause is for.
 #[derive(Clone, Copy)]

@@ -10,11 +10,11 @@ ghost use Rattle.cone_spec.specs.Cones.{all_free, named};
 ghost use Rattle.cone_spec.specs.Clauses.{goes_further, is_closed, is_path_violation};
 
 use cone_form::entry_of;
+use cone_spec::Cone;
 use interlocking::goes_on;
 use rail_base::plan::Violation;
 use rail_base::route::{Route, RouteNo, RouteTable, Start, route_at};
 use rail_base::station::TrainNo;
-use cone_spec::Cone;
 
 /// Whether the cone says that a train goes no further than its path.
 pub fn is_closed(cone: &Cone, train: TrainNo) -> bool

@@ -16,7 +16,7 @@ impl NumberedCone<'_> {
         ensures { OnOk result (clause.new.items ≡ clause.old.items ++ said_of_pairs self.now) }
     {
         let used = self.used_count();
-        let listed = self.places_listed(alloc)?;
+        let listed = self.pair_places(alloc)?;
         let places = self.places_said(alloc)?;
         let mut next = 0;
         for place in &places {

@@ -1,7 +1,7 @@
 //! The places, among all contending pairs, of those of which the clause of a cone says something.
 
 ghost use Rattle.std.specs.Prelude.{IfOk, OnOk};
-ghost use Rattle.cone_clause.specs.Spoken.{AddsAllFree, AddsBefore, AddsFree, AddsListed, AreListedPlaces, ArePlaces};
+ghost use Rattle.cone_clause.specs.Spoken.{AddsAllFree, AddsBefore, AddsFree, AddsPairs, ArePairPlaces, ArePlaces};
 
 use crate::numbered::NumberedCone;
 use cone_form::free_path;
@@ -11,11 +11,11 @@ use std::alloc::{AllocError, Global};
 
 impl NumberedCone<'_> {
     /// The places of the cone's pairs, in order.
-    pub(crate) fn places_listed(&self, alloc: Global) -> Result<Vec<usize>, AllocError>
-        ensures { IfOk result (λ places. AreListedPlaces self.now places.items) }
+    pub(crate) fn pair_places(&self, alloc: Global) -> Result<Vec<usize>, AllocError>
+        ensures { IfOk result (λ places. ArePairPlaces self.now places.items) }
     {
         let mut places = Vec::new(alloc);
-        self.add_listed(&mut places)?;
+        self.add_pairs(&mut places)?;
         places.sort_unstable();
         Ok(places)
     }
@@ -26,7 +26,7 @@ impl NumberedCone<'_> {
     {
         let mut places = Vec::new(alloc);
         self.add_all_free(alloc, &mut places)?;
-        self.add_listed(&mut places)?;
+        self.add_pairs(&mut places)?;
         places.sort_unstable();
         Ok(places)
     }
@@ -79,8 +79,8 @@ impl NumberedCone<'_> {
     }
 
     /// Adds the places of the cone's pairs.
-    fn add_listed(&self, places: &mut Vec<usize>) -> Result<(), AllocError>
-        ensures { OnOk result (AddsListed self.now places.old.items places.new.items) }
+    fn add_pairs(&self, places: &mut Vec<usize>) -> Result<(), AllocError>
+        ensures { OnOk result (AddsPairs self.now places.old.items places.new.items) }
     {
         let pairs = self.contention.pairs;
         for pair in self.cone.pairs.as_slice() {

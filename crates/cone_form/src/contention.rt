@@ -5,9 +5,9 @@ ghost use Rattle.clause_spec.specs.Variables.{pairs as contending};
 ghost use Rattle.cone_form.specs.Fits.{fits};
 
 use crate::pairs::SortedPairs;
+use cone_spec::Cone;
 use contending::ContendingPairs;
 use interlocking::Interlocking;
-use cone_spec::Cone;
 
 /// An interlocking with all pairs of commands that contend: of different trains, by routes that share a section.
 #[derive(Clone, Copy)]
@@ -16,12 +16,12 @@ pub struct Contention<'a> {
     /// The pairs in the order of their variables.
     pub pairs: &'a ContendingPairs,
     pub ghost ordered: { pairs.now ≡ contending interlocking.now.design.station interlocking.now.routes },
-    pub ghost few: { length pairs.now ≤ 8000000 },
+    pub ghost at_most_8000000: { length pairs.now ≤ 8000000 },
 }
 
 impl<'a> Contention<'a> {
     /// The pairs of a cone that speaks of the design, which stand in increasing order.
-    pub fn listed_pairs<'b>(&self, cone: &'b Cone) -> SortedPairs<'b>
+    pub fn sorted_pairs<'b>(&self, cone: &'b Cone) -> SortedPairs<'b>
         requires { fits self.now.interlocking.now cone.now ≡ true }
         ensures { result.items.now ≡ cone.now.pairs }
     {

@@ -21,8 +21,8 @@ use crate::order::{pairs_in_order, trains_in_order};
 pub use crate::pairs::SortedPairs;
 use crate::trains::{holders_in_paths, pairs_in_design, trains_in_design};
 use crate::violations::violation_in_design;
-use interlocking::Interlocking;
 use cone_spec::Cone;
+use interlocking::Interlocking;
 use std::alloc::{AllocError, Global};
 
 /// Whether the cone speaks of the design: its trains and pairs stand in order, each path is one that a train can go,

@@ -4,15 +4,15 @@ ghost use Rattle.std.specs.Prelude.{◌≡◌, MatchOption, find, option_map, ta
 ghost use Rattle.rail_spec.specs.Plans.{is_command, is_train};
 ghost use Rattle.cone_spec.specs.Cones.{free_path, has_route, is_free, is_named, named, unnamed};
 
+use cone_spec::{Cone, ConeTrain};
 use rail_base::plan::Command;
 use rail_base::route::RouteNo;
 use rail_base::station::TrainNo;
-use cone_spec::{Cone, ConeTrain};
 
 /// What the cone says of a train; None where it doesn't name it, so that its horizon is 0 and it has no command.
 pub fn entry_of(cone: &Cone, train: TrainNo) -> Option<&ConeTrain>
     ensures entry { MatchOption result (named cone.now train ≡ unnamed train) (λ e. e.now ≡ named cone.now train) }
-    ensures first { option_map (λ e. e.now) result ≡ find (λ e. is_train e.train train) cone.now.trains }
+    ensures found { option_map (λ e. e.now) result ≡ find (λ e. is_train e.train train) cone.now.trains }
 {
     for entry in cone.trains.as_slice() {
         if entry.train == train {

@@ -7,11 +7,11 @@ ghost use Rattle.cone_form.specs.Fits.{each_train_fits};
 ghost use Rattle.cone_form.specs.Marks.{MarksCone, MarksPath, mark_of};
 
 use crate::lookup::path;
+use cone_spec::Cone;
 use interlocking::Interlocking;
 use rail_base::plan::Command;
 use rail_base::route::{RouteNo, RouteTable};
 use rail_base::station::TrainNo;
-use cone_spec::Cone;
 use std::alloc::{AllocError, Global};
 
 /// For each route, by its number, whether it is of the path; nothing for a path without routes.

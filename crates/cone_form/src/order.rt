@@ -5,8 +5,8 @@ ghost use Rattle.rail_base.specs.Members.{all_neighbors};
 ghost use Rattle.cone_spec.specs.Validity.{is_before, is_pair_before};
 
 use crate::lookup::is_command;
-use rail_base::plan::Command;
 use cone_spec::ConeTrain;
+use rail_base::plan::Command;
 
 /// Whether the trains stand in increasing order.
 pub fn trains_in_order(entries: &[ConeTrain]) -> bool

@@ -15,11 +15,11 @@ use crate::contention::Contention;
 use crate::lookup::is_named;
 use crate::marks::{is_marked, rows_of};
 use crate::walk::is_walk;
+use cone_spec::{Cone, ConeTrain};
 use contending::ContendingPairs;
 use interlocking::Interlocking;
 use rail_base::plan::Command;
 use rail_base::route::{RouteNo, RouteTable};
-use cone_spec::{Cone, ConeTrain};
 use std::alloc::{AllocError, Global};
 
 /// Whether what is said of each train is possible.

@@ -10,11 +10,11 @@ ghost use Rattle.cone_form.specs.Fits.{path_fits, violation_fits};
 
 use crate::lookup::path;
 use crate::trains::is_one_of;
+use cone_spec::{Cone, ConeTrain};
 use interlocking::Interlocking;
 use rail_base::design::Design;
 use rail_base::plan::Violation;
 use rail_base::station::TrainNo;
-use cone_spec::{Cone, ConeTrain};
 
 /// Whether the violation names what there is.
 pub fn violation_in_design(interlocking: &Interlocking, cone: &Cone) -> bool

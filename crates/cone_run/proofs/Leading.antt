@@ -10,13 +10,13 @@ use Rattle.cone_spec.specs.declared.Cone.{Cone}
 use Rattle.cone_spec.specs.Cones.{named, of_cone}
 use Rattle.cone_spec.specs.Validity.{in_design}
 use Rattle.cone_spec.proofs.Naming.{of_design, listed_is, waits_listed}
-use Rattle.dispatch_run.specs.declared.traffic.Follower.{Follower}
-use Rattle.dispatch_run.specs.Followers.{IsFollower, MayGo, follows}
+use Rattle.dispatch_run.specs.declared.traffic.FollowedTrain.{FollowedTrain}
+use Rattle.dispatch_run.specs.FollowedTrains.{IsFollowedTrain, MayGo, follows}
 use Rattle.cone_run.proofs.Ranging.{cone_sound}
 use Rattle.cone_run.proofs.Riding.{can_move_at, can_go_at}
 
-pub follower_is : (d : Station) (routes : List Route) (k : Cone) (f : Follower) → IsJourney d routes (of_cone k) f.journey.now → f.until ≡ Some (named k f.journey.now.train_path.now.train).horizon → IsFollower d routes (of_cone k) f
-follower_is d routes k f is ends = record { journey = is; following = λ i. ap (λ u. follows u i) (sym ends) }
+pub followed_train_is : (d : Station) (routes : List Route) (k : Cone) (f : FollowedTrain) → IsJourney d routes (of_cone k) f.journey.now → f.until ≡ Some (named k f.journey.now.train_path.now.train).horizon → IsFollowedTrain d routes (of_cone k) f
+followed_train_is d routes k f is ends = record { journey = is; following = λ i. ap (λ u. follows u i) (sym ends) }
 
 module _ (d : Station) (routes : List Route) (k : Cone) (known : in_design d routes k ≡ true) where
   pub contending : IsContending d routes (of_cone k)

@@ -11,7 +11,7 @@ use Rattle.rail_base.proofs.Lists.{in_map, in_filter_back, list_all_from}
 use Rattle.rail_spec.specs.Plans.{is_command}
 use Rattle.clause_spec.specs.Variables.{pairs}
 use Rattle.cone_spec.specs.declared.Cone.{Cone}
-use Rattle.cone_spec.specs.Cones.{is_listed, is_pair, of_cone}
+use Rattle.cone_spec.specs.Cones.{has_pair, is_pair, of_cone}
 use Rattle.cone_spec.specs.Validity.{in_design, is_before, is_pair_before}
 use Rattle.cone_spec.proofs.Naming.{listed_waits, waits_listed}
 use Rattle.cone_spec.proofs.Saying.{is_command_same, is_command_self}
@@ -91,18 +91,18 @@ module _ (d : Station) (routes : List Route) (k : Cone) (known : in_design d rou
   rivals = map (λ p. p.1) (filter (λ p. is_command p.0 c) (pairs d routes))
 
   -- those of them that are listed before it are all that it waits for
-  pub listed_rivals : filter (λ e. is_listed k e c) rivals ≡ (of_cone k).before c
-  listed_rivals = same_lists (filter (λ e. is_listed k e c) rivals) ((of_cone k).before c)
-      (all_pairs_filter is_before (λ e. is_listed k e c) rivals (seconds_sorted (pairs d routes) c (pairs_sorted d routes (contend routes))))
+  pub listed_rivals : filter (λ e. has_pair k e c) rivals ≡ (of_cone k).before c
+  listed_rivals = same_lists (filter (λ e. has_pair k e c) rivals) ((of_cone k).before c)
+      (all_pairs_filter is_before (λ e. has_pair k e c) rivals (seconds_sorted (pairs d routes) c (pairs_sorted d routes (contend routes))))
       (firsts_sorted k.pairs c (listed_sorted d routes k known))
-      (λ e m. listed_waits d routes k e c (in_filter_back (λ e. is_listed k e c) rivals e m).1) (λ e m. to e (waits_listed d routes k e c m))
+      (λ e m. listed_waits d routes k e c (in_filter_back (λ e. has_pair k e c) rivals e m).1) (λ e m. to e (waits_listed d routes k e c m))
     where
-      to : (e : Command) → is_listed k e c ≡ true → In e (filter (λ e. is_listed k e c) rivals)
+      to : (e : Command) → has_pair k e c ≡ true → In e (filter (λ e. has_pair k e c) rivals)
       to e l =
           let f = list_any_gives (is_pair e c) k.pairs l in
           let there = listed_there d routes k known (e, c) (subst (λ p. In p k.pairs) (is_pair_same e c f.0 f.2) f.1) in
           let turned = in_filter (λ p. is_command p.0 c) (pairs d routes) (c, e) (mirrored d routes e c there) (is_command_self c) in
-          in_filter (λ e. is_listed k e c) rivals e (in_map (λ p. p.1) (filter (λ p. is_command p.0 c) (pairs d routes)) (c, e) turned) l
+          in_filter (λ e. has_pair k e c) rivals e (in_map (λ p. p.1) (filter (λ p. is_command p.0 c) (pairs d routes)) (c, e) turned) l
 
 -- one more of the commands that contend with it, which is listed or is not
 module _ {W : Type 0} (wait : Command → W) (listed : Command → Bool) (run : List Command) (i : ℕ) (other : Command) (inside : i < length run) where

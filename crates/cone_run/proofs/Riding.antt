@@ -24,7 +24,7 @@ use Rattle.cone_spec.specs.Cones.{named, free_path, of_cone}
 use Rattle.cone_spec.specs.Validity.{in_design}
 use Rattle.cone_spec.proofs.Naming.{of_design, proper}
 use Rattle.cone_spec.proofs.Running.{Moves, Idles, after_tick, idle_at_first, granted_after_most, granted_on_path}
-use Rattle.dispatch_run.specs.Followers.{CanMove}
+use Rattle.dispatch_run.specs.FollowedTrains.{CanMove}
 use Rattle.cone_run.specs.Runs.{last_tick}
 use Rattle.cone_run.proofs.Pathing.{one_path, path_is}
 
@@ -146,7 +146,7 @@ module _ (d : Station) (routes : List Route) (k : Cone) where
   may_move adm sound n early t there g within next = record {
     within = within;
     braking = subst (λ ps. 1 ≤ g → permitted (rates d t) (stretches d (take g (routes_at routes ps))) (authority (take g (routes_at routes ps))) old.x old.v (old.v - (rates d t).brake) ≡ true) (same t) (go g next);
-    near = let x = small.x in let m : n * 100000 ≤ 86400 * 100000 = mul-le-mul early (le_refl 100000) in omega arith;
+    below_2_46 = let x = small.x in let m : n * 100000 ≤ 86400 * 100000 = mul-le-mul early (le_refl 100000) in omega arith;
     slow = small.v;
   }
     where

@@ -1,4 +1,4 @@
--- A cone with its courses: what its run is, and what is asked of it.
+-- A cone with its train paths: what its run is, and what is asked of it.
 use Rattle.std.specs.Prelude.{ℕ, ◌+◌, ◌-◌, Bool, ◌&&◌, List, map, nat_le, Option, is_none}
 use Rattle.std.specs.List.{list_all}
 use Rattle.rail_base.specs.declared.station.Station.{Station}
@@ -22,11 +22,11 @@ use Rattle.cone_spec.specs.declared.ConeFault.{ConeFault}
 use Rattle.cone_spec.specs.declared.ConeTrain.{ConeTrain}
 use Rattle.cone_spec.specs.Cones.{named, of_cone}
 use Rattle.cone_spec.specs.Validity as validity
-use Rattle.dispatch_run.specs.declared.traffic.Follower.{Follower}
-use Rattle.dispatch_run.specs.Followers.{AreFollowers}
+use Rattle.dispatch_run.specs.declared.traffic.FollowedTrain.{FollowedTrain}
+use Rattle.dispatch_run.specs.FollowedTrains.{AreFollowedTrains}
 use Rattle.cone_run.specs.declared.layout.ConeLayout.{ConeLayout}
 use Rattle.cone_run.specs.Checks.{IsEntry}
-use Rattle.cone_run.specs.Runs.{run_of, visit_shown}
+use Rattle.cone_run.specs.Runs.{run_of, visit_in_run}
 
 module _ (l : ConeLayout) where
   -- the station
@@ -56,10 +56,10 @@ module _ (l : ConeLayout) where
   AreJourneysOf = let i = l.train_paths.given.interlocking.now in
       AreJourneys i.design.station i.routes (of_cone l.cone.now)
 
-  -- these are the followers of all trains in the run, in file order
-  abbrev pub AreFollowersOf : List Follower → Type 0
-  AreFollowersOf = let i = l.train_paths.given.interlocking.now in
-      AreFollowers i.design.station i.routes (of_cone l.cone.now)
+  -- these are the followed trains of all trains in the run, in file order
+  abbrev pub AreFollowedTrainsOf : List FollowedTrain → Type 0
+  AreFollowedTrainsOf = let i = l.train_paths.given.interlocking.now in
+      AreFollowedTrains i.design.station i.routes (of_cone l.cone.now)
 
   -- ---- what is asked of it
 
@@ -116,13 +116,13 @@ module _ (l : ConeLayout) where
       && is_none (visit_in (tick - 1) o.first_train o.first_visit)
 
   -- the violation is certain
-  abbrev pub shown : Violation → Bool
-  shown = validity.shown station_of routes_in l.cone.now
+  abbrev pub shows_violation : Violation → Bool
+  shows_violation = validity.shows_violation station_of routes_in l.cone.now
 
   -- the first reason against the cone
   abbrev pub fault_in : Option ConeFault
   fault_in = validity.fault_of station_of routes_in l.cone.now
 
   -- the tick of a visit, where the cone's commands are granted or held up as it says
-  abbrev pub shown_visit : TrainNo → ℕ → Option ℕ
-  shown_visit = visit_shown l.contention.interlocking.now l.cone.now
+  abbrev pub visit_in_layout : TrainNo → ℕ → Option ℕ
+  visit_in_layout = visit_in_run l.contention.interlocking.now l.cone.now

@@ -12,5 +12,5 @@ pub(crate) struct ConeRun<'a> {
     pub layout: ConeLayout<'a>,
     pub history: &'a [TrainHistory],
     pub ghost entries: { All (IsEntryOf layout) layout.cone.now.trains },
-    pub ghost told: { history.now ≡ history_in layout },
+    pub ghost is_history: { history.now ≡ history_in layout },
 }

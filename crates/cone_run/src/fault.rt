@@ -54,7 +54,7 @@ impl ConeRun<'_> {
         if !self.all_holders_fit() {
             return Ok(Some(ConeFault::HolderNotValid));
         }
-        if !self.is_shown(alloc)? {
+        if !self.shows_violation(alloc)? {
             return Ok(Some(ConeFault::ViolationNotShown));
         }
         Ok(None)

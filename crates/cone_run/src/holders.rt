@@ -2,7 +2,7 @@
 
 ghost use Rattle.std.specs.Prelude.{◌≡◌, ◌≤◌, true, Some};
 ghost use Rattle.rail_base.specs.Routes.{IsRoute};
-ghost use Rattle.cone_spec.specs.Cones.{all_free, is_listed};
+ghost use Rattle.cone_spec.specs.Cones.{all_free, has_pair};
 ghost use Rattle.cone_run.specs.Runs.{last_tick};
 ghost use Rattle.cone_run.specs.Layouts.{all_granted, all_holders_fit, free_granted, has_cleared, holder_fits};
 ghost use Rattle.cone_run.specs.Layouts.{holder_needed, holds_up, just_granted, routes_in};
@@ -11,9 +11,9 @@ use crate::asked::{all_released, grant_tick, is_by};
 use crate::checked::ConeRun;
 use crate::train::TrainRun;
 use crate::waits::horizon_of;
+use cone_spec::ConeTrain;
 use rail_base::plan::Command;
 use rail_base::route::{RouteNo, route_at};
-use cone_spec::ConeTrain;
 
 impl ConeRun<'_> {
     /// Whether all free commands are granted.
@@ -52,7 +52,7 @@ impl ConeRun<'_> {
     fn has_cleared(&self, tick: u64, first: Command, second: Command) -> bool
         requires tick { tick ≤ last_tick self.now.layout.cone.now }
         requires second { IsRoute (routes_in self.now.layout) second.route }
-        requires listed { is_listed self.now.layout.cone.now first second ≡ true }
+        requires listed_pair { has_pair self.now.layout.cone.now first second ≡ true }
         ensures { result ≡ has_cleared self.now.layout tick second first }
     {
         let routes = &self.layout.contention.interlocking.routes;
@@ -124,7 +124,7 @@ impl TrainRun<'_> {
             train: self.said.train,
             route,
         };
-        let listed = layout.contention.listed_pairs(layout.cone);
+        let listed = layout.contention.sorted_pairs(layout.cone);
         if !listed.is_among(holder, waiting) {
             return false;
         }

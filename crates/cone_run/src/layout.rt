@@ -9,7 +9,7 @@ use cone_form::Contention;
 use cone_spec::Cone;
 use rail_course::TrainPaths;
 
-/// A cone that speaks of the design, and the courses that its free commands give the trains.
+/// A cone that speaks of the design, and the train paths that its free commands give the trains.
 #[derive(Clone, Copy)]
 pub(crate) struct ConeLayout<'a> {
     pub contention: Contention<'a>,

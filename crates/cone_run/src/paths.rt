@@ -6,11 +6,11 @@ ghost use Rattle.cone_spec.specs.Cones.{free_path};
 ghost use Rattle.cone_form.specs.Fits.{fits};
 
 use cone_form::free_path;
+use cone_spec::Cone;
 use interlocking::Interlocking;
 use rail_base::list::List;
 use rail_base::route::RouteNo;
 use rail_base::station::TrainNo;
-use cone_spec::Cone;
 use std::alloc::{AllocError, Global};
 
 /// The paths that a cone's free commands give all trains, in file order.

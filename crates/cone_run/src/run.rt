@@ -4,7 +4,7 @@ ghost use Rattle.std.specs.Prelude.{◌≡◌, ◌≤◌, true, IfOk};
 ghost use Rattle.cone_spec.specs.Cones.{of_cone};
 ghost use Rattle.quiet_spec.specs.Histories.{history_at};
 ghost use Rattle.rail_spec.specs.Dispatches.{Dispatch};
-ghost use Rattle.dispatch_run.specs.Followers.{IsTraffic};
+ghost use Rattle.dispatch_run.specs.FollowedTrains.{IsTraffic};
 ghost use Rattle.cone_form.specs.Fits.{fits};
 ghost use Rattle.cone_run.specs.Layouts.{history_in};
 ghost use Rattle.cone_run.specs.Runs.{last_tick, run_of};
@@ -12,10 +12,10 @@ ghost use Rattle.cone_run.specs.Runs.{last_tick, run_of};
 use crate::layout::ConeLayout;
 use crate::paths::free_paths;
 use cone_form::Contention;
+use cone_spec::Cone;
 use dispatch_run::Traffic;
 use rail_base::history::{History, TrainHistory};
 use rail_base::list::List;
-use cone_spec::Cone;
 use rail_course::{Itineraries, TrainPaths};
 use std::alloc::{AllocError, Global};
 
@@ -54,10 +54,10 @@ impl ConeLayout<'_> {
     {
         let interlocking = self.contention.interlocking;
         let journeys = self.journeys(alloc)?;
-        let followers = self.followers(alloc, journeys.as_slice())?;
+        let followed_trains = self.followed_trains(alloc, journeys.as_slice())?;
         let traffic = Traffic {
             interlocking,
-            followers: followers.as_slice(),
+            followed_trains: followed_trains.as_slice(),
         };
         history_of(&traffic, self.cone, alloc, last_tick(self.cone))
     }
@@ -84,7 +84,7 @@ fn history_of(
     ghost dispatch: { Dispatch }
     requires traffic { IsTraffic dispatch traffic.now }
     requires same { dispatch ≡ of_cone cone.now }
-    requires early { last ≤ 86400 }
+    requires at_most_86400 { last ≤ 86400 }
     ensures { IfOk result (λ h. h.items
         ≡ history_at traffic.now.interlocking.now.design.station traffic.now.interlocking.now.routes
         (of_cone cone.now) last) }

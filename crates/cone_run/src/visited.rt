@@ -3,16 +3,16 @@
 ghost use Rattle.std.specs.Prelude.{◌≡◌, true, IfOk};
 ghost use Rattle.rail_base.specs.Stations.{IsTrain};
 ghost use Rattle.cone_form.specs.Fits.{fits};
-ghost use Rattle.cone_run.specs.Layouts.{shown_visit, station_of};
-ghost use Rattle.cone_run.specs.Runs.{visit_shown};
+ghost use Rattle.cone_run.specs.Layouts.{visit_in_layout, station_of};
+ghost use Rattle.cone_run.specs.Runs.{visit_in_run};
 
 use crate::checked::ConeRun;
 use crate::layout::ConeLayout;
 use crate::paths::free_paths;
 use crate::waits::horizon_of;
 use cone_form::Contention;
-use rail_base::station::TrainNo;
 use cone_spec::Cone;
+use rail_base::station::TrainNo;
 use rail_course::{Itineraries, TrainPaths};
 use std::alloc::{AllocError, Global};
 
@@ -22,7 +22,7 @@ use std::alloc::{AllocError, Global};
 /// # Errors
 ///
 /// Want of memory alone.
-pub fn visit_shown<'a>(
+pub fn visit_in_run<'a>(
     alloc: Global,
     contention: &Contention<'a>,
     cone: &'a Cone,
@@ -31,7 +31,7 @@ pub fn visit_shown<'a>(
 ) -> Result<Option<u64>, AllocError>
     requires known { fits contention.now.interlocking.now cone.now ≡ true }
     requires train { IsTrain contention.now.interlocking.now.design.station train }
-    ensures { IfOk result (λ tick. tick ≡ visit_shown contention.now.interlocking.now cone.now train visit) }
+    ensures { IfOk result (λ tick. tick ≡ visit_in_run contention.now.interlocking.now cone.now train visit) }
 {
     let interlocking = contention.interlocking;
     let paths = free_paths(alloc, interlocking, cone)?;
@@ -56,7 +56,7 @@ impl ConeRun<'_> {
     /// The tick, up to the train's horizon, of a visit, where the cone's commands are granted or held up as it says.
     fn visit_made(&self, train: TrainNo, visit: u32) -> Option<u64>
         requires train { IsTrain (station_of self.now.layout) train }
-        ensures { result ≡ shown_visit self.now.layout train visit }
+        ensures { result ≡ visit_in_layout self.now.layout train visit }
     {
         if !self.all_granted() || !self.all_holders_fit() {
             return None;
@@ -74,7 +74,7 @@ impl ConeLayout<'_> {
         visit: u32,
     ) -> Result<Option<u64>, AllocError>
         requires train { IsTrain (station_of self.now) train }
-        ensures { IfOk result (λ tick. tick ≡ shown_visit self.now train visit) }
+        ensures { IfOk result (λ tick. tick ≡ visit_in_layout self.now train visit) }
     {
         let history = self.history(alloc)?;
         let run = ConeRun {

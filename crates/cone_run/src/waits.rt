@@ -4,13 +4,13 @@ ghost use Rattle.std.specs.Prelude.{◌≡◌, IfOk, map};
 ghost use Rattle.rail_base.specs.Routes.{IsRoute};
 ghost use Rattle.rail_base.specs.Stations.{IsTrain};
 ghost use Rattle.cone_spec.specs.Cones.{named};
-ghost use Rattle.cone_run.specs.Layouts.{AreFollowersOf, AreJourneysOf, train_waits_in, waits_in};
+ghost use Rattle.cone_run.specs.Layouts.{AreFollowedTrainsOf, AreJourneysOf, train_waits_in, waits_in};
 
 use crate::layout::ConeLayout;
-use dispatch_run::Follower;
+use cone_spec::Cone;
+use dispatch_run::FollowedTrain;
 use rail_base::plan::Command;
 use rail_base::station::TrainNo;
-use cone_spec::Cone;
 use rail_course::{Journey, Wait};
 use std::alloc::{AllocError, Global};
 
@@ -51,23 +51,23 @@ impl<'a> ConeLayout<'a> {
         Ok(journeys)
     }
 
-    /// The followers of all trains, in file order, each up to the horizon of its train.
-    pub(crate) fn followers<'b>(
+    /// The followed trains of all trains, in file order, each up to the horizon of its train.
+    pub(crate) fn followed_trains<'b>(
         &self,
         alloc: Global,
         journeys: &'b [Journey<'a>],
-    ) -> Result<Vec<Follower<'b>>, AllocError>
+    ) -> Result<Vec<FollowedTrain<'b>>, AllocError>
         requires { AreJourneysOf self.now journeys.now }
-        ensures { IfOk result (λ f. AreFollowersOf self.now f.items) }
+        ensures { IfOk result (λ f. AreFollowedTrainsOf self.now f.items) }
     {
-        let mut followers = Vec::new(alloc);
+        let mut followed_trains = Vec::new(alloc);
         for journey in journeys {
-            followers.push(Follower {
+            followed_trains.push(FollowedTrain {
                 journey,
                 until: Some(horizon_of(self.cone, journey.train_path.train)),
             })?;
         }
-        Ok(followers)
+        Ok(followed_trains)
     }
 
     /// The waits of a command for those that are listed before it. They are among those that contend with it.
@@ -75,7 +75,7 @@ impl<'a> ConeLayout<'a> {
         requires { IsRoute self.now.train_paths.given.interlocking.now.routes command.route }
         ensures { IfOk result (λ w. w.items ≡ waits_in self.now command) }
     {
-        let listed = self.contention.listed_pairs(self.cone);
+        let listed = self.contention.sorted_pairs(self.cone);
         let others = self.contention.pairs.rivals(alloc, command)?;
         let mut waits = Vec::new(alloc);
         for other in &others {

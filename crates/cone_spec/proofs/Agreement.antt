@@ -58,7 +58,7 @@ before_first-in {X} test (y ∷ ys) x m h = go (test y) refl m (λ k. before_fir
 module _ (d : Station) (routes : List Route) (p q : Dispatch) (h : TrainNo → ℕ) where
   -- ---- what has to hold of the two
 
-  -- the first command past the train's front waits, at tick k, for one that hasn't released a section of it
+  -- the first command past the train's prefix waits, at tick k, for one that hasn't released a section of it
   pub record Held (k : ℕ) (t : TrainNo) (w : RouteNo) : Type 0 where
     pub holder : Command
     pub section : SectionNo
@@ -72,10 +72,10 @@ module _ (d : Station) (routes : List Route) (p q : Dispatch) (h : TrainNo → �
     pub concerned : (k : ℕ) (t : TrainNo) → k ≤ h t → p.concerns k t ≡ true
     pub left : (k : ℕ) (t : TrainNo) → h t < k → p.concerns k t ≡ false
     pub always : (k : ℕ) (t : TrainNo) → q.concerns k t ≡ true
-    -- a train's path under the first is the front of its path under the second
+    -- a train's path under the first is the prefix of its path under the second
     pub rest : TrainNo → List RouteNo
     pub prefix : (t : TrainNo) → q.path t ≡ p.path t ++ rest t
-    -- the commands of the front wait for the same ones
+    -- the commands of the prefix wait for the same ones
     pub waits_for : (t : TrainNo) (r : RouteNo) (e : Command) → In r (p.path t) → In e (q.before (record { train = t; route = r })) → In e (p.before (record { train = t; route = r }))
     pub waits_too : (t : TrainNo) (r : RouteNo) (e : Command) → In r (p.path t) → In e (p.before (record { train = t; route = r })) → In e (q.before (record { train = t; route = r }))
 
@@ -84,12 +84,12 @@ module _ (d : Station) (routes : List Route) (p q : Dispatch) (h : TrainNo → �
     pub open meeting use *
     -- they are all granted by the horizon
     pub all_granted : (t : TrainNo) → length (p.path t) ≤ (state_of (state_at d routes p (h t)) t).granted
-    -- and what comes after the front is held up
+    -- and what comes after the prefix is held up
     pub holder_fits : (t : TrainNo) (w : RouteNo) (k : ℕ) → k < h t → slice_get (q.path t) (length (p.path t)) ≡ Some w → (state_of (state_at d routes p k) t).granted ≡ length (p.path t) → Held k t w
 
   -- ---- what follows
 
-  -- up to its horizon the train is in the same state; past it the second run goes on; and no command past the front is granted
+  -- up to its horizon the train is in the same state; past it the second run goes on; and no command past the prefix is granted
   pub record Agree (k : ℕ) (t : TrainNo) : Type 0 where
     pub same : k ≤ h t → state_of (state_at d routes q k) t ≡ state_of (state_at d routes p k) t
     pub later : Later d routes p (state_of (state_at d routes p k) t) (state_of (state_at d routes q k) t)
@@ -233,7 +233,7 @@ module _ (d : Station) (routes : List Route) (p q : Dispatch) (h : TrainNo → �
     -- ---- readiness
 
     module _ (k : ℕ) (agree : (t : TrainNo) → Agree k t) where
-      -- a command of the front that is ready under the second is so under the first, since it is granted there in the end
+      -- a command of the prefix that is ready under the second is so under the first, since it is granted there in the end
       ready_in_first : (t : TrainNo) (r : RouteNo) → k ≤ h t → In r (p.path t) → is_ready d routes q (state_at d routes q k) (record { train = t; route = r }) ≡ true → is_ready d routes p (state_at d routes p k) (record { train = t; route = r }) ≡ true
       ready_in_first t r near m ready =
           list_all_from _ (p.before (record { train = t; route = r })) (λ e i.

@@ -19,7 +19,7 @@ use Rattle.rail_base.proofs.Members.{and_left, and_right, and_both}
 use Rattle.rail_laws.proofs.Deciding.{visit_stays, visit_within, visit_at}
 use Rattle.rail_base.specs.Admission.{is_visit}
 use Rattle.cone_spec.specs.Cones.{unnamed, named, of_cone, all_free, first_named}
-use Rattle.cone_spec.specs.Validity.{cone_visit, at_its_tick, shown, violation_in_design, only_path}
+use Rattle.cone_spec.specs.Validity.{cone_visit, at_its_tick, shows_violation, violation_in_design, only_path}
 use Rattle.cone_spec.specs.Clauses.{is_path_violation}
 use Rattle.cone_spec.proofs.Naming.{IsNamed, named_or_not}
 use Rattle.cone_spec.proofs.Fitting.{Rests, ofd, proper_of, whole_path, few_free, fits, agrees}
@@ -95,7 +95,7 @@ module _ (d : Station) (routes : List Route) (n : ℕ) (k : Cone) (plan : List (
       or_right true b e = refl
       or_right false b e = e
 
-  pub certain_of : IsTimed d → (v : Violation) → k.violation ≡ v → shown d routes k v ≡ true → Certain v
+  pub certain_of : IsTimed d → (v : Violation) → k.violation ≡ v → shows_violation d routes k v ≡ true → Certain v
   certain_of timed (violation.Path t j) e h = record {
     at = 1;
     by_horizon = timed.some;

@@ -17,7 +17,7 @@ use Rattle.rail_spec.specs.Feasible.{is_of, names_only}
 use Rattle.rail_spec.specs.Dispatches.{state_of, state_at, has_released}
 use Rattle.rail_base.proofs.Members.{In, and_left, and_right, and_both, list_all_at, list_any_gives, in_filter, is_false, not_less}
 use Rattle.rail_spec.specs.Dispatches.{of_plan}
-use Rattle.cone_spec.specs.Cones.{unnamed, named, free_path, all_free, has_route, is_named, is_free, is_listed, of_cone}
+use Rattle.cone_spec.specs.Cones.{unnamed, named, free_path, all_free, has_route, is_named, is_free, has_pair, of_cone}
 use Rattle.cone_spec.specs.Validity.{from_boundary, in_design, granted_at, free_granted, just_granted, holds_up, holder_needed, holder_fits}
 use Rattle.cone_spec.specs.Clauses.{holds_of, Before, is_closed, is_path_violation, goes_further, clause_of_cone, is_false_of}
 use Rattle.cone_spec.proofs.Running.{run_up_to, released_up_to}
@@ -92,7 +92,7 @@ module _ (d : Station) (routes : List Route) (n : ℕ) (k : Cone) (plan : List (
     given : (c : Command) → is_named k c ≡ true → In c (commands plan)
     given c h = has_in plan c (den.used c (named_in_all d routes k ofd c h) h)
 
-    -- ---- the path in the cone is the front of the path in the plan
+    -- ---- the path in the cone is the prefix of the path in the plan
 
     pub whole_prefix : (t : TrainNo) → (rest : List RouteNo) × (path plan t ≡ (named k t).path ++ rest)
     whole_prefix t = go (named_or_not k.trains t)
@@ -147,8 +147,8 @@ module _ (d : Station) (routes : List Route) (n : ℕ) (k : Cone) (plan : List (
 
     -- ---- what precedes
 
-    pub precedes_listed : (e c : Command) → is_free k c ≡ true → is_named k c ≡ true → In e (preceding routes plan c) → is_listed k e c ≡ true
-    precedes_listed e c free name m = at (is_listed k e c) refl
+    pub precedes_listed : (e c : Command) → is_free k c ≡ true → is_named k c ≡ true → In e (preceding routes plan c) → has_pair k e c ≡ true
+    precedes_listed e c free name m = at (has_pair k e c) refl
       where
         member : In e (commands plan) × (precedes routes plan e c ≡ true)
         member = in_filter_back (precedes_c) (commands plan) e m
@@ -156,7 +156,7 @@ module _ (d : Station) (routes : List Route) (n : ℕ) (k : Cone) (plan : List (
             precedes_c : Command → Bool
             precedes_c e = precedes routes plan e c
 
-        at : (b : Bool) → is_listed k e c ≡ b → is_listed k e c ≡ true
+        at : (b : Bool) → has_pair k e c ≡ b → has_pair k e c ≡ true
         at true h = h
         at false h =
             let ab = and_left (not (is_train e.train c.train) && share (route_at routes e.route) (route_at routes c.route)) _ member.1 in
@@ -167,7 +167,7 @@ module _ (d : Station) (routes : List Route) (n : ℕ) (k : Cone) (plan : List (
             let not_there = den.unlisted e c (is_of_in_all d routes e (list_all_at (is_of d routes) (commands plan) e rests.names member.0)) (named_in_all d routes k ofd c name) h free apart sharing in
             absurd (true≢false (sym there ∙ not_there))
 
-    pub listed_precedes : (e c : Command) → is_listed k e c ≡ true → In e (preceding routes plan c)
+    pub listed_precedes : (e c : Command) → has_pair k e c ≡ true → In e (preceding routes plan c)
     listed_precedes e c h =
         let l = listed_is d routes k ofd e c h in
         let there = den.listed e c (named_in_all d routes k ofd e l.first) (named_in_all d routes k ofd c l.second) h in
@@ -210,16 +210,16 @@ module _ (d : Station) (routes : List Route) (n : ℕ) (k : Cone) (plan : List (
         go true r = absurd (true≢false (sym (released_up_to d routes (of_cone k) tick later e z l r) ∙ h))
 
     by_holder : (t : TrainNo) (w : RouteNo) (tick : ℕ) (e : Command) → (named k t).train ≡ t → tick < (named k t).horizon → holds_up d routes k (named k t) e (Some w) ≡ true → HeldUp tick t w
-    by_holder t w tick e same l h = go (list_any_gives _ (shared (route_at routes e.route) (route_at routes w)) (and_right (is_listed k e (record { train = (named k t).train; route = w }) && nat_le (named k t).horizon ((named k e.train).horizon + 1)) _ h))
+    by_holder t w tick e same l h = go (list_any_gives _ (shared (route_at routes e.route) (route_at routes w)) (and_right (has_pair k e (record { train = (named k t).train; route = w }) && nat_le (named k t).horizon ((named k e.train).horizon + 1)) _ h))
       where
-        ab : (is_listed k e (record { train = (named k t).train; route = w }) && nat_le (named k t).horizon ((named k e.train).horizon + 1)) ≡ true
-        ab = and_left (is_listed k e (record { train = (named k t).train; route = w }) && nat_le (named k t).horizon ((named k e.train).horizon + 1)) _ h
+        ab : (has_pair k e (record { train = (named k t).train; route = w }) && nat_le (named k t).horizon ((named k e.train).horizon + 1)) ≡ true
+        ab = and_left (has_pair k e (record { train = (named k t).train; route = w }) && nat_le (named k t).horizon ((named k e.train).horizon + 1)) _ h
 
-        listed : is_listed k e (record { train = t; route = w }) ≡ true
-        listed = subst (λ u. is_listed k e (record { train = u; route = w }) ≡ true) same (and_left (is_listed k e (record { train = (named k t).train; route = w })) _ ab)
+        listed : has_pair k e (record { train = t; route = w }) ≡ true
+        listed = subst (λ u. has_pair k e (record { train = u; route = w }) ≡ true) same (and_left (has_pair k e (record { train = (named k t).train; route = w })) _ ab)
 
         near : (named k t).horizon ≤ (named k e.train).horizon + 1
-        near = leb-true _ _ (and_right (is_listed k e (record { train = (named k t).train; route = w })) _ ab)
+        near = leb-true _ _ (and_right (has_pair k e (record { train = (named k t).train; route = w })) _ ab)
 
         go : (z : SectionNo) × In z (shared (route_at routes e.route) (route_at routes w)) × (not (has_released d routes (of_cone k) (state_at d routes (of_cone k) ((named k t).horizon - 1)) e z) ≡ true) → HeldUp tick t w
         go (z, m, r) = record {

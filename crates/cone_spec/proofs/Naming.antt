@@ -12,7 +12,7 @@ use Rattle.rail_spec.specs.Plans.{route_at, is_train, is_route, is_command, shar
 use Rattle.rail_base.specs.Members.{all_neighbors}
 use Rattle.rail_base.specs.Stations.{horizon}
 use Rattle.rail_base.proofs.Members.{In, and_left, and_right, and_both, list_all_at, list_any_gives, list_any_from, in_filter}
-use Rattle.cone_spec.specs.Cones.{unnamed, first_named, named, has_route, is_named, is_pair, is_listed, of_cone}
+use Rattle.cone_spec.specs.Cones.{unnamed, first_named, named, has_route, is_named, is_pair, has_pair, of_cone}
 use Rattle.cone_spec.specs.Validity.{is_walk, train_in_design, pair_in_design, holder_in_path, violation_in_design, in_design, is_pair_before}
 use Rattle.rail_base.specs.Admission.{is_from}
 use Rattle.cone_spec.proofs.Saying.{in_all, is_command_same, is_command_self}
@@ -117,7 +117,7 @@ module _ (d : Station) (routes : List Route) (k : Cone) where
     pub apart : is_train e.train c.train ≡ false
     pub sharing : share (route_at routes e.route) (route_at routes c.route) ≡ true
 
-  pub listed_is : OfDesign → (e c : Command) → is_listed k e c ≡ true → Listed e c
+  pub listed_is : OfDesign → (e c : Command) → has_pair k e c ≡ true → Listed e c
   listed_is o e c h = go (list_any_gives (is_pair e c) k.pairs h)
     where
       is_not : (b : Bool) → not b ≡ true → b ≡ false
@@ -142,7 +142,7 @@ module _ (d : Station) (routes : List Route) (k : Cone) where
           subst (λ x. Listed x c) a (subst (λ y. Listed p.0 y) b (from p.0 p.1 (list_all_at (pair_in_design d routes k) k.pairs p o.pairs m)))
 
   -- what is listed before a command is what it waits for in the cone's run
-  pub listed_waits : (e c : Command) → is_listed k e c ≡ true → In e ((of_cone k).before c)
+  pub listed_waits : (e c : Command) → has_pair k e c ≡ true → In e ((of_cone k).before c)
   listed_waits e c h = go (list_any_gives (is_pair e c) k.pairs h)
     where
       kept : (ps : List (Command × Command)) (p : Command × Command) → In p ps → is_command p.1 c ≡ true → In p (filter (λ p. is_command p.1 c) ps)
@@ -153,7 +153,7 @@ module _ (d : Station) (routes : List Route) (k : Cone) where
           subst (λ x. In x (map (λ p. p.0) (filter (λ p. is_command p.1 c) k.pairs))) (is_command_same p.0 e (and_left (is_command p.0 e) _ t))
           (in_map (λ p. p.0) (filter (λ p. is_command p.1 c) k.pairs) p (kept k.pairs p m (and_right (is_command p.0 e) _ t)))
 
-  pub waits_listed : (e c : Command) → In e ((of_cone k).before c) → is_listed k e c ≡ true
+  pub waits_listed : (e c : Command) → In e ((of_cone k).before c) → has_pair k e c ≡ true
   waits_listed e c m = go k.pairs m
     where
       step : (p : Command × Command) (rest : Bool) → p.0 ≡ e → is_command p.1 c ≡ true → (is_pair e c p || rest) ≡ true

@@ -1,4 +1,4 @@
--- A train's path in a cone is the front of its path in a plan that gives the train all these commands.
+-- A train's path in a cone is the prefix of its path in a plan that gives the train all these commands.
 use Rattle.std.proofs.Common.{◌≡◌, ℕ, zero, suc, ◌≤◌, ◌<◌, ◌⊎◌, inl, inr, Bool, true, false, not, List, [], ◌∷◌, ◌++◌, map, slice_get, Some, refl, sym, ap, ap₂, subst, ◌∙◌, arith, eqb-true, eq-eqb, true≢false}
 use Rattle.std.specs.List.{list_all}
 use Rattle.rail_base.specs.declared.station.NodeNo.{NodeNo}
@@ -63,7 +63,7 @@ place_below [] i y e = cc
 place_below (x ∷ xs) zero y e = (x, refl)
 place_below (x ∷ xs) (suc i) y e = place_below xs i y e
 
--- a list that has each member of a second at its place has the second as its front
+-- a list that has each member of a second at its place has the second as its prefix
 pub prefix_by_places : {X : Type 0} (xs ys : List X) → ((i : ℕ) (x : X) → slice_get xs i ≡ Some x → slice_get ys i ≡ Some x) → (rest : List X) × (ys ≡ xs ++ rest)
 prefix_by_places [] ys h = (ys, refl)
 prefix_by_places {X} (x ∷ xs) ys h = go ys (h 0 x refl) (λ i z e. h (suc i) z e) (λ zs. prefix_by_places xs zs)
@@ -73,7 +73,7 @@ prefix_by_places {X} (x ∷ xs) ys h = go ys (h 0 x refl) (λ i z e. h (suc i) z
     go [] e later again = cc
     go (y ∷ zs) e later again = let same : y ≡ x = cc in let k = again zs later in (k.0, ap₂ (λ a bs. a ∷ bs) same k.1)
 
--- ---- the front of a path
+-- ---- the prefix of a path
 
 module _ (f : RouteNo → Route) (set : List NodeNo) (xs ys : List RouteNo) where
   boundary_first : (rs : List Route) (r : Route) → from_boundary rs ≡ true → slice_get rs 0 ≡ Some r → (n : NodeNo) × (r.start ≡ start.Boundary n)

@@ -24,7 +24,7 @@ use Rattle.rail_base.proofs.Members.{In, and_left, and_right, list_all_at, below
 use Rattle.rail_laws.proofs.Deciding.{visit_stays, visit_at, visit_once}
 use Rattle.rail_base.specs.Admission.{is_visit}
 use Rattle.cone_spec.specs.Cones.{named}
-use Rattle.cone_spec.specs.Validity.{first_fault, is_valid_cone, in_design, free_granted, holder_fits, shown, violation_in_design, only_path}
+use Rattle.cone_spec.specs.Validity.{first_fault, is_valid_cone, in_design, free_granted, holder_fits, shows_violation, violation_in_design, only_path}
 use Rattle.rail_base.specs.Admission.{is_from}
 use Rattle.cone_spec.specs.Clauses.{clause_of_cone, is_false_of}
 use Rattle.cone_spec.proofs.Prefixes.{not_both}
@@ -156,7 +156,7 @@ module _ (d : Station) (routes : List Route) (n : ℕ) (k : Cone) (plan : List (
           let m : a * d.tick_ms + (within_of d w).max_ms < b * d.tick_ms = past d.tick_ms (within_of d w).max_ms a b timed.ticks (omega arith) in
           omega (arith, l, m)
 
-  pub not_met : shown d routes k k.violation ≡ true → meets d routes plan ≡ false
+  pub not_met : shows_violation d routes k k.violation ≡ true → meets d routes plan ≡ false
   not_met h = go (meets d routes plan) refl
     where
       go : (b : Bool) → meets d routes plan ≡ b → meets d routes plan ≡ false
@@ -171,14 +171,14 @@ module _ (d : Station) (routes : List Route) (k : Cone) where
     pub in_design : in_design d routes k ≡ true
     pub granted : list_all (free_granted d routes k) k.trains ≡ true
     pub holders : list_all (λ c. holder_fits d routes k c c.holder) k.trains ≡ true
-    pub shown : shown d routes k k.violation ≡ true
+    pub shows_violation : shows_violation d routes k k.violation ≡ true
 
   pub holds_of_valid : is_valid_cone d routes k ≡ true → Holds
-  holds_of_valid = go (in_design d routes k) (list_all (free_granted d routes k) k.trains) (list_all (λ c. holder_fits d routes k c c.holder) k.trains) (shown d routes k k.violation) refl refl refl refl
+  holds_of_valid = go (in_design d routes k) (list_all (free_granted d routes k) k.trains) (list_all (λ c. holder_fits d routes k c c.holder) k.trains) (shows_violation d routes k k.violation) refl refl refl refl
     where
-      go : (a b c e : Bool) → in_design d routes k ≡ a → list_all (free_granted d routes k) k.trains ≡ b → list_all (λ c. holder_fits d routes k c c.holder) k.trains ≡ c → shown d routes k k.violation ≡ e
+      go : (a b c e : Bool) → in_design d routes k ≡ a → list_all (free_granted d routes k) k.trains ≡ b → list_all (λ c. holder_fits d routes k c c.holder) k.trains ≡ c → shows_violation d routes k k.violation ≡ e
           → is_none (first_fault a b c e) ≡ true → Holds
-      go true true true true f g h s v = record { in_design = f; granted = g; holders = h; shown = s }
+      go true true true true f g h s v = record { in_design = f; granted = g; holders = h; shows_violation = s }
       go false b c e f g h s v = absurd (true≢false (sym v))
       go true false c e f g h s v = absurd (true≢false (sym v))
       go true true false e f g h s v = absurd (true≢false (sym v))
@@ -197,8 +197,8 @@ module _ (d : Station) (routes : List Route) (n : ℕ) (k : Cone) (plan : List (
         denies = r.denies;
       }
 
-  pub shown_of : shown d routes k k.violation ≡ true
-  shown_of = (holds_of_valid d routes k r.valid).shown
+  pub shown_of : shows_violation d routes k k.violation ≡ true
+  shown_of = (holds_of_valid d routes k r.valid).shows_violation
 
   -- a plan that is well formed, and of which the clause of a valid cone is false, doesn't meet the design
   pub refused : IsTimed d → meets d routes plan ≡ false

@@ -27,7 +27,7 @@ module _ (d : Station) (routes : List Route) (k : Cone) (plan : List (List Comma
   passed_same : (s : PathNode) → pass_tick d routes (of_plan routes plan) tick t s ≡ pass_tick d routes (of_cone k) tick t s
   passed_same s = least_same (has_passed d routes (of_plan routes plan) t s) (has_passed d routes (of_cone k) t s) tick (λ i m. ap (λ st. is_passed st s) (same i m))
 
-  -- a stop of a command past the front is not passed
+  -- a stop of a command past the prefix is not passed
   far_not_passed : (s : PathNode) → length (map (route_at routes) (free_path k t)) < s.command → pass_tick d routes (of_plan routes plan) tick t s ≡ None
   far_not_passed s far = least_none (has_passed d routes (of_plan routes plan) t s) tick (λ i m.
       let f = few i m in

@@ -11,7 +11,7 @@ use Rattle.rail_spec.specs.Plans.{route_at, is_train, is_command, contend, share
 use Rattle.rail_base.specs.Stations.{trains}
 use Rattle.rail_spec.specs.Feasible.{is_of}
 use Rattle.rail_base.proofs.Members.{In, and_left, and_right, and_both, list_any_gives, list_any_from, is_false}
-use Rattle.cone_spec.specs.Cones.{named, is_named, is_free, is_listed}
+use Rattle.cone_spec.specs.Cones.{named, is_named, is_free, has_pair}
 use Rattle.cone_spec.specs.Clauses.{is_closed, goes_further, Used, Before, Literal, holds_of, is_true_of, used_literals, before_literals, clause_of_cone, is_false_of}
 use Rattle.rail_base.proofs.Lists.{in_map, in_flat_map, in_count}
 
@@ -84,9 +84,9 @@ module _ (d : Station) (routes : List Route) (k : Cone) (plan : List (List Comma
     -- no train goes on where the cone says that it doesn't
     pub ends : (c : Command) → In c (all_commands d routes) → is_named k c ≡ false → is_closed d routes k c.train ≡ true → goes_further (map (route_at routes) (named k c.train).path) (route_at routes c.route) ≡ true → has_command plan c ≡ false
     -- the listed pairs are given in that order
-    pub listed : (e c : Command) → In e (all_commands d routes) → In c (all_commands d routes) → is_listed k e c ≡ true → holds_of plan (Before e c) ≡ true
+    pub listed : (e c : Command) → In e (all_commands d routes) → In c (all_commands d routes) → has_pair k e c ≡ true → holds_of plan (Before e c) ≡ true
     -- and no other command that shares a section with a free one is given before it
-    pub unlisted : (e c : Command) → In e (all_commands d routes) → In c (all_commands d routes) → is_listed k e c ≡ false → is_free k c ≡ true → is_train e.train c.train ≡ false → share (route_at routes e.route) (route_at routes c.route) ≡ true → holds_of plan (Before e c) ≡ false
+    pub unlisted : (e c : Command) → In e (all_commands d routes) → In c (all_commands d routes) → has_pair k e c ≡ false → is_free k c ≡ true → is_train e.train c.train ≡ false → share (route_at routes e.route) (route_at routes c.route) ≡ true → holds_of plan (Before e c) ≡ false
 
   pub denied : is_false_of plan (clause_of_cone d routes k) ≡ true → Denied
   denied h =
@@ -112,14 +112,14 @@ module _ (d : Station) (routes : List Route) (k : Cone) (plan : List (List Comma
           sym (ap₂ (λ b g. list_all fails (if b then record { fact = Used c; negated = true } ∷ [] else if g then record { fact = Used c; negated = false } ∷ [] else [])) n (and_both _ _ e f)) ∙ a in
           is_false (has_command plan c) (and_left _ _ b)
 
-      listed_of : (e c : Command) → is_listed k e c ≡ true → list_all fails (before_literals d routes k e c) ≡ true → holds_of plan (Before e c) ≡ true
+      listed_of : (e c : Command) → has_pair k e c ≡ true → list_all fails (before_literals d routes k e c) ≡ true → holds_of plan (Before e c) ≡ true
       listed_of e c n a =
           let b : list_all fails (record { fact = Before e c; negated = true } ∷ []) ≡ true =
           sym (ap (λ b. list_all fails (if b then record { fact = Before e c; negated = true } ∷ []
           else if is_free k c && contend routes e c then record { fact = Before e c; negated = false } ∷ [] else [])) n) ∙ a in
           not_not (holds_of plan (Before e c)) (and_left _ _ b)
 
-      unlisted_of : (e c : Command) → is_listed k e c ≡ false → is_free k c ≡ true → is_train e.train c.train ≡ false → share (route_at routes e.route) (route_at routes c.route) ≡ true → list_all fails (before_literals d routes k e c) ≡ true → holds_of plan (Before e c) ≡ false
+      unlisted_of : (e c : Command) → has_pair k e c ≡ false → is_free k c ≡ true → is_train e.train c.train ≡ false → share (route_at routes e.route) (route_at routes c.route) ≡ true → list_all fails (before_literals d routes k e c) ≡ true → holds_of plan (Before e c) ≡ false
       unlisted_of e c n f t s a =
           let b : list_all fails (record { fact = Before e c; negated = false } ∷ []) ≡ true =
           sym (ap₂ (λ b g. list_all fails (if b then record { fact = Before e c; negated = true } ∷ [] else if g then record { fact = Before e c; negated = false } ∷ [] else [])) n (and_both _ _ f (and_both _ _ (ap not t) s))) ∙ a in

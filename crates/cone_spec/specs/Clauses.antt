@@ -10,7 +10,7 @@ use Rattle.rail_base.specs.declared.plan.Violation.{Violation}
 use Rattle.rail_base.specs.declared.plan.Violation.TheVariants as violation
 use Rattle.cone_spec.specs.declared.Cone.{Cone}
 use Rattle.rail_spec.specs.Plans.{route_at, is_start, goes_on, contend, step_of, has_command, all_commands}
-use Rattle.cone_spec.specs.Cones.{named, all_free, is_named, is_free, is_listed}
+use Rattle.cone_spec.specs.Cones.{named, all_free, is_named, is_free, has_pair}
 
 -- a fact about a plan: a command is given, or one is given in an earlier step than another
 pub data Fact : Type 0 where
@@ -62,7 +62,7 @@ module _ (d : Station) (routes : List Route) (k : Cone) where
   -- what the clause says of the order of two commands
   abbrev pub before_literals : Command → Command → List Literal
   before_literals e c =
-      if is_listed k e c then record { fact = Before e c; negated = true } ∷ []
+      if has_pair k e c then record { fact = Before e c; negated = true } ∷ []
       else if is_free k c && contend routes e c then record { fact = Before e c; negated = false } ∷ []
       else []
 

@@ -52,8 +52,8 @@ abbrev pub is_pair : Command → Command → Command × Command → Bool
 is_pair d c p = is_command p.0 d && is_command p.1 c
 
 -- d is listed before c
-abbrev pub is_listed : Cone → Command → Command → Bool
-is_listed k d c = list_any (is_pair d c) k.pairs
+abbrev pub has_pair : Cone → Command → Command → Bool
+has_pair k d c = list_any (is_pair d c) k.pairs
 
 -- ---- its run
 

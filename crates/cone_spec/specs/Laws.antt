@@ -14,7 +14,7 @@ pub record Refutes (d : Station) (routes : List Route) (n : ℕ) (k : Cone) (pla
   pub valid : is_valid_cone d routes k ≡ true
   pub denies : is_false_of plan (clause_of_cone d routes k) ≡ true
 
--- a list is the front of another
+-- a list is the prefix of another
 pub record Begins {X : Type 0} (xs ys : List X) : Type 0 where
   pub rest : List X
   pub whole : ys ≡ xs ++ rest

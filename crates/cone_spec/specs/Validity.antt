@@ -23,7 +23,7 @@ use Rattle.rail_base.specs.Stations.{train_of, horizon, within_of, order_of}
 use Rattle.rail_spec.specs.Visits.{path_nodes, visits_on, visit_tick}
 use Rattle.rail_spec.specs.Dispatches.{state_of, state_at, has_released}
 use Rattle.rail_spec.specs.Requirements.{most_ticks}
-use Rattle.cone_spec.specs.Cones.{named, all_free, is_named, is_listed, of_cone}
+use Rattle.cone_spec.specs.Cones.{named, all_free, is_named, has_pair, of_cone}
 
 -- the first is less than the second by train, and by route where the trains are the same
 abbrev pub is_before : Command → Command → Bool
@@ -49,9 +49,9 @@ is_walk rs = from_boundary rs && all_neighbors (λ r q. goes_on r.finish q.start
 
 -- the first test that fails, as a reason
 abbrev pub first_fault : Bool → Bool → Bool → Bool → Option ConeFault
-first_fault false granted held_up is_shown = Some fault.PathNotInDesign
-first_fault true false held_up is_shown = Some fault.CommandNotGranted
-first_fault true true false is_shown = Some fault.HolderNotValid
+first_fault false granted held_up shows = Some fault.PathNotInDesign
+first_fault true false held_up shows = Some fault.CommandNotGranted
+first_fault true true false shows = Some fault.HolderNotValid
 first_fault true true true false = Some fault.ViolationNotShown
 first_fault true true true true = None
 
@@ -121,7 +121,7 @@ module _ (d : Station) (routes : List Route) (k : Cone) where
       let waiting : Command = record { train = c.train; route = w } in
       let states = state_at d routes (of_cone k) (c.horizon - 1) in
       let sections = shared (route_at routes h.route) (route_at routes w) in
-      is_listed k h waiting && nat_le c.horizon ((named k h.train).horizon + 1)
+      has_pair k h waiting && nat_le c.horizon ((named k h.train).horizon + 1)
       && list_any (λ z. not (has_released d routes (of_cone k) states h z)) sections
 
   -- a train with a waiting command has a holder exactly where it is needed, and any other train has none
@@ -145,27 +145,27 @@ module _ (d : Station) (routes : List Route) (k : Cone) where
   at_its_tick (Some a) rest = rest a
 
   -- the violation is certain in the cone's run
-  abbrev pub shown : Violation → Bool
-  shown (violation.Path t j) =
+  abbrev pub shows_violation : Violation → Bool
+  shows_violation (violation.Path t j) =
       let way = map (route_at routes) (named k t).path in
       is_none (entry None (visits_on (train_of d t).visits (path_nodes way)) j)
-  shown (violation.Within w) = let within = within_of d w in
+  shows_violation (violation.Within w) = let within = within_of d w in
       at_its_tick (cone_visit (named k within.from_train).horizon within.from_train within.from_visit) (λ a.
       nat_le (a + most_ticks d within) (named k within.to_train).horizon
       && is_none (cone_visit (a + most_ticks d within) within.to_train within.to_visit))
-  shown (violation.Order o) = let order = order_of d o in
+  shows_violation (violation.Order o) = let order = order_of d o in
       at_its_tick (cone_visit (named k order.then_train).horizon order.then_train order.then_visit) (λ a.
       nat_le a ((named k order.first_train).horizon + 1)
       && is_none (cone_visit (a - 1) order.first_train order.first_visit))
-  shown (violation.Grant t j) = ((named k t).horizon == horizon d) && nat_lt (named k t).free j
-  shown (violation.Visit t j) = ((named k t).horizon == horizon d) && is_none (cone_visit (horizon d) t j)
+  shows_violation (violation.Grant t j) = ((named k t).horizon == horizon d) && nat_lt (named k t).free j
+  shows_violation (violation.Visit t j) = ((named k t).horizon == horizon d) && is_none (cone_visit (horizon d) t j)
 
   -- the first reason that holds
   abbrev pub fault_of : Option ConeFault
   fault_of =
       let granted = list_all free_granted k.trains in
       let held_up = list_all (λ c. holder_fits c c.holder) k.trains in
-      first_fault in_design granted held_up (shown k.violation)
+      first_fault in_design granted held_up (shows_violation k.violation)
 
   -- no reason holds against the cone
   abbrev pub is_valid_cone : Bool

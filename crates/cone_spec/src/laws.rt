@@ -36,7 +36,7 @@ pub fn paths_begin_as_in_the_cone()
 {}
 
 /// Where the violation is that a path misses a visit, the train's path is the cone's.
-pub fn path_cones_tell_whole_paths()
+pub fn path_cones_name_whole_paths()
     ensures { (d : Station) (routes : List Route) (n : ℕ) (k : Cone) (plan : List (List Command)) (t : TrainNo) (j : ℕ)
         → Refutes d routes n k plan → k.violation ≡ violation.Path t j → path plan t ≡ (named k t).path }
 {}

@@ -1,4 +1,4 @@
--- Cones, told.
+-- Cones in sentences.
 use Rattle.std.specs.Prelude.{ℕ, List, [], ◌∷◌, ◌++◌, map, codes, decimal, Option, None, Some}
 use Rattle.rail_base.specs.declared.station.Station.{Station}
 use Rattle.rail_base.specs.declared.station.SectionNo.{SectionNo}

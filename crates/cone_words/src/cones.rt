@@ -10,12 +10,12 @@ ghost use Rattle.cone_words.specs.Cones.{missed_text, by_horizon_text, failure_t
 use crate::entries::{order_of, within_of};
 use crate::phrases::{most_ticks, put_makes, put_nodes, put_path, put_shared, put_ticks};
 use crate::sentences::push_sentence;
+use cone_spec::{Cone, ConeTrain};
 use interlocking::Interlocking;
 use rail_base::design::Design;
 use rail_base::names::train_name;
 use rail_base::plan::{Command, Violation};
 use rail_base::station::TrainNo;
-use cone_spec::{Cone, ConeTrain};
 use rail_text::put_number;
 use std::alloc::{AllocError, Global};
 

@@ -6,17 +6,17 @@ use Rattle.std.specs.List.{list_any}
 use Rattle.rail_base.specs.Numbering.{count_from, before_first}
 use Rattle.rail_base.specs.Members.{In}
 use Rattle.rail_base.proofs.Members.{filter-append}
-use Rattle.contending.specs.Blocks.{counted}
+use Rattle.contending.specs.Blocks.{member_count}
 
 -- ---- how many they are
 
 module _ {X : Type 0} (f : ℕ → List X) where
-  pub length_blocks : (a n : ℕ) → length (flat_map f (count_from a n)) ≡ counted f a n
+  pub length_blocks : (a n : ℕ) → length (flat_map f (count_from a n)) ≡ member_count f a n
   length_blocks a zero = refl
   length_blocks a (suc n) = length-append (f a) (flat_map f (count_from (a + 1) n)) ∙ ap (λ m. length (f a) + m) (length_blocks (a + 1) n)
 
   -- lists of one length
-  pub counted_alike : (size a n : ℕ) → ((i : ℕ) → a ≤ i → i < a + n → length (f i) ≡ size) → counted f a n ≡ n * size
+  pub counted_alike : (size a n : ℕ) → ((i : ℕ) → a ≤ i → i < a + n → length (f i) ≡ size) → member_count f a n ≡ n * size
   counted_alike size a zero h = omega arith
   counted_alike size a (suc n) h =
       let one = h a (omega arith) (omega arith) in
@@ -25,7 +25,7 @@ module _ {X : Type 0} (f : ℕ → List X) where
       omega arith
 
   -- short lists
-  pub counted_few : (size a n : ℕ) → ((i : ℕ) → length (f i) ≤ size) → counted f a n ≤ n * size
+  pub counted_few : (size a n : ℕ) → ((i : ℕ) → length (f i) ≤ size) → member_count f a n ≤ n * size
   counted_few size a zero h = omega arith
   counted_few size a (suc n) h =
       let one = h a in
@@ -34,13 +34,13 @@ module _ {X : Type 0} (f : ℕ → List X) where
       omega arith
 
   -- one list more
-  pub counted_more : (a n : ℕ) → counted f a (n + 1) ≡ counted f a n + length (f (a + n))
-  counted_more a n = ap (counted f a) (next n) ∙ go a n
+  pub counted_more : (a n : ℕ) → member_count f a (n + 1) ≡ member_count f a n + length (f (a + n))
+  counted_more a n = ap (member_count f a) (next n) ∙ go a n
     where
       next : (n : ℕ) → n + 1 ≡ suc n
       next n = omega arith
 
-      go : (a n : ℕ) → counted f a (suc n) ≡ counted f a n + length (f (a + n))
+      go : (a n : ℕ) → member_count f a (suc n) ≡ member_count f a n + length (f (a + n))
       go a zero = let e = ap (λ i. length (f i)) (same a) in omega arith
         where
           same : (a : ℕ) → a + 0 ≡ a
@@ -54,18 +54,18 @@ module _ {X : Type 0} (f : ℕ → List X) where
           shift a n = omega arith
 
   -- fewer lists have no more members
-  pub counted_rises : (a m n : ℕ) → m ≤ n → counted f a m ≤ counted f a n
+  pub counted_rises : (a m n : ℕ) → m ≤ n → member_count f a m ≤ member_count f a n
   counted_rises a zero n h = omega arith
   counted_rises a (suc m) zero h = omega arith
   counted_rises a (suc m) (suc n) h = let k = counted_rises (a + 1) m n (omega arith) in omega arith
 
 -- lists that are each so many times as long as others
-pub counted_scaled : {X Y : Type 0} (f : ℕ → List X) (g : ℕ → List Y) (by a n : ℕ) → ((i : ℕ) → length (f i) ≡ by * length (g i)) → counted f a n ≡ by * counted g a n
+pub counted_scaled : {X Y : Type 0} (f : ℕ → List X) (g : ℕ → List Y) (by a n : ℕ) → ((i : ℕ) → length (f i) ≡ by * length (g i)) → member_count f a n ≡ by * member_count g a n
 counted_scaled f g by a zero h = omega arith
 counted_scaled f g by a (suc n) h =
     let one = h a in
     let rest = counted_scaled f g by (a + 1) n h in
-    spread by (length (f a)) (length (g a)) (counted f (a + 1) n) (counted g (a + 1) n) one rest
+    spread by (length (f a)) (length (g a)) (member_count f (a + 1) n) (member_count g (a + 1) n) one rest
   where
     spread : (by x y z w : ℕ) → x ≡ by * y → z ≡ by * w → x + z ≡ by * (y + w)
     spread by x y z w e k = omega arith
@@ -93,7 +93,7 @@ before_past {X} test (x ∷ xs) ys h = go (test x) h (before_past test xs ys)
 -- it stands in the one list that has some
 module _ {X : Type 0} (test : X → Bool) (f : ℕ → List X) (m : ℕ) (others : (i : ℕ) → (i ≡ m → ⊥) → list_any test (f i) ≡ false) where
   pub place_block : (k a n : ℕ) → a + k ≡ m → k < n → list_any test (f m) ≡ true
-      → length (before_first test (flat_map f (count_from a n))) ≡ counted f a k + length (before_first test (f m))
+      → length (before_first test (flat_map f (count_from a n))) ≡ member_count f a k + length (before_first test (f m))
   place_block k a zero e l h = absurd (omega arith)
   place_block zero a (suc n) e l h =
       let is : a ≡ m = omega arith in

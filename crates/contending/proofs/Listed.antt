@@ -11,7 +11,7 @@ use Rattle.rail_base.specs.Routes.{IsRoute}
 use Rattle.rail_base.specs.Stations.{trains}
 use Rattle.rail_base.proofs.Lists.{in_count_back}
 use Rattle.rail_spec.specs.Plans.{all_commands, commands_of, contend, route_numbers}
-use Rattle.clause_spec.specs.Variables.{pairs, pairs_of}
+use Rattle.clause_spec.specs.Variables.{pairs, pairs_before}
 use Rattle.contending.specs.Rows.{command, commands_in, pairs_by_rows, pairs_from, pairs_of_train, rivals, rivals_of_train, sharing, sharing_rows}
 use Rattle.contending.proofs.Blocks.{flat_flat, flat_mapped, flat_same}
 use Rattle.contending.proofs.Sharing.{filter_parts, length_rows, rivals_none, rivals_some, row_is}
@@ -40,18 +40,18 @@ module _ (d : Station) (routes : List Route) where
   pub pairs_are : pairs_by_rows (length d.trains) (sharing_rows routes) ≡ pairs d routes
   pairs_are =
       let named : ℕ → TrainNo = λ n. record { 0 = n } in
-      flat_same (pairs_of_train (length d.trains) (sharing_rows routes)) (λ t. flat_map (pairs_of d routes) (commands_of routes (named t))) (one_to (length d.trains)) (λ t m. each t)
-      ∙ sym (flat_flat (pairs_of d routes) (commands_of routes) (trains d) ∙ flat_mapped (λ t. flat_map (pairs_of d routes) (commands_of routes t)) named (one_to (length d.trains)))
+      flat_same (pairs_of_train (length d.trains) (sharing_rows routes)) (λ t. flat_map (pairs_before d routes) (commands_of routes (named t))) (one_to (length d.trains)) (λ t m. each t)
+      ∙ sym (flat_flat (pairs_before d routes) (commands_of routes) (trains d) ∙ flat_mapped (λ t. flat_map (pairs_before d routes) (commands_of routes t)) named (one_to (length d.trains)))
     where
-      each : (t : ℕ) → pairs_of_train (length d.trains) (sharing_rows routes) t ≡ flat_map (pairs_of d routes) (commands_of routes (record { 0 = t }))
+      each : (t : ℕ) → pairs_of_train (length d.trains) (sharing_rows routes) t ≡ flat_map (pairs_before d routes) (commands_of routes (record { 0 = t }))
       each t =
           let numbered : ℕ → RouteNo = λ n. record { 0 = n } in
           let make : RouteNo → Command = λ r. record { train = record { 0 = t }; route = r } in
           ap (λ n. flat_map (λ r. pairs_from (length d.trains) (sharing_rows routes) (command t r)) (one_to n)) (length_rows routes (sharing routes) (sharing_rows routes) refl)
-          ∙ (flat_same (λ r. pairs_from (length d.trains) (sharing_rows routes) (command t r)) (λ r. pairs_of d routes (command t r)) (one_to (length routes)) (λ r m. of_command r m)
-          ∙ sym (flat_mapped (pairs_of d routes) make (route_numbers routes) ∙ flat_mapped (λ r. pairs_of d routes (make r)) numbered (one_to (length routes))))
+          ∙ (flat_same (λ r. pairs_from (length d.trains) (sharing_rows routes) (command t r)) (λ r. pairs_before d routes (command t r)) (one_to (length routes)) (λ r m. of_command r m)
+          ∙ sym (flat_mapped (pairs_before d routes) make (route_numbers routes) ∙ flat_mapped (λ r. pairs_before d routes (make r)) numbered (one_to (length routes))))
         where
-          of_command : (r : ℕ) → In r (one_to (length routes)) → pairs_from (length d.trains) (sharing_rows routes) (command t r) ≡ pairs_of d routes (command t r)
+          of_command : (r : ℕ) → In r (one_to (length routes)) → pairs_from (length d.trains) (sharing_rows routes) (command t r) ≡ pairs_before d routes (command t r)
           of_command r m =
               let range = in_count_back 1 (length routes) r m in
               let low = range.0 in

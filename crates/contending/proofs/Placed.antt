@@ -12,7 +12,7 @@ use Rattle.rail_base.proofs.Members.{and_both, and_left, and_right, below_or_not
 use Rattle.rail_spec.specs.Plans.{is_command, is_route, is_train}
 use Rattle.clause_spec.specs.Variables.{is_pair}
 use Rattle.clause_spec.proofs.Steps.{is_command_same, is_command_self}
-use Rattle.contending.specs.Blocks.{counted}
+use Rattle.contending.specs.Blocks.{member_count}
 use Rattle.contending.specs.Rows.{command, commands_in, first_place, others_before, pairs_by_rows, pairs_from, pairs_of_train, place_in, rivals, rivals_of_train}
 use Rattle.contending.proofs.Blocks.{before_mapped, counted_alike, counted_scaled, filter_all, filter_none, kept_block, length_blocks, place_block}
 
@@ -128,14 +128,14 @@ module _ (trains : ℕ) (rows : List (List RouteNo)) where
         ap (λ b. length (if b then [] else commands_in t (entry [] rows e.route.0))) (false_unless (e.train.0 == t) (λ h. apart (eqb-true e.train.0 t h)))
         ∙ length-map (λ (r : RouteNo). record { train = record { 0 = t }; route = r }) (entry [] rows e.route.0)
 
-    pub passed_none : (a k : ℕ) → (e.train.0 < a) ⊎ (a + k ≤ e.train.0) → counted (rivals_of_train trains rows e) a k ≡ k * length (entry [] rows e.route.0)
+    pub passed_none : (a k : ℕ) → (e.train.0 < a) ⊎ (a + k ≤ e.train.0) → member_count (rivals_of_train trains rows e) a k ≡ k * length (entry [] rows e.route.0)
     passed_none a k h = counted_alike (rivals_of_train trains rows e) (length (entry [] rows e.route.0)) a k (λ i l m. some_other i (apart h i l m))
       where
         apart : (e.train.0 < a) ⊎ (a + k ≤ e.train.0) → (i : ℕ) → a ≤ i → i < a + k → e.train.0 ≡ i → ⊥
         apart (inl x) i l m is = absurd (omega arith)
         apart (inr x) i l m is = absurd (omega arith)
 
-    pub passed_one : (a k : ℕ) → a ≤ e.train.0 → e.train.0 < a + k → counted (rivals_of_train trains rows e) a k ≡ (k - 1) * length (entry [] rows e.route.0)
+    pub passed_one : (a k : ℕ) → a ≤ e.train.0 → e.train.0 < a + k → member_count (rivals_of_train trains rows e) a k ≡ (k - 1) * length (entry [] rows e.route.0)
     passed_one a zero l h = absurd (omega arith)
     passed_one a (suc k) l h = go (below_or_not a e.train.0) (passed_one (a + 1) k)
       where
@@ -147,8 +147,8 @@ module _ (trains : ℕ) (rows : List (List RouteNo)) where
         more (suc k) x y size some p q = let z = ap (λ n. n * size) (less k) in let s = suc-mul k size in omega arith
 
         go : (a < e.train.0) ⊎ (e.train.0 ≤ a)
-            → (a + 1 ≤ e.train.0 → e.train.0 < a + 1 + k → counted (rivals_of_train trains rows e) (a + 1) k ≡ (k - 1) * length (entry [] rows e.route.0))
-            → counted (rivals_of_train trains rows e) a (suc k) ≡ (suc k - 1) * length (entry [] rows e.route.0)
+            → (a + 1 ≤ e.train.0 → e.train.0 < a + 1 + k → member_count (rivals_of_train trains rows e) (a + 1) k ≡ (k - 1) * length (entry [] rows e.route.0))
+            → member_count (rivals_of_train trains rows e) a (suc k) ≡ (suc k - 1) * length (entry [] rows e.route.0)
         go (inl x) on =
             more k _ _ (length (entry [] rows e.route.0)) (omega arith) (some_other a (λ is. absurd (omega arith))) (on (omega arith) (omega arith))
             ∙ ap (λ n. n * length (entry [] rows e.route.0)) (sym (less k))
@@ -166,10 +166,10 @@ module _ (trains : ℕ) (rows : List (List RouteNo)) where
     length_from low high = length-map (λ (c : Command). (e, c)) (rivals trains rows e) ∙ length_rivals low high
 
     -- those of trains before another one
-    pub passed_before : (u : ℕ) → 1 ≤ e.train.0 → 1 ≤ u → (e.train.0 ≡ u → ⊥) → counted (rivals_of_train trains rows e) 1 (u - 1) ≡ others_before e.train.0 u * length (entry [] rows e.route.0)
+    pub passed_before : (u : ℕ) → 1 ≤ e.train.0 → 1 ≤ u → (e.train.0 ≡ u → ⊥) → member_count (rivals_of_train trains rows e) 1 (u - 1) ≡ others_before e.train.0 u * length (entry [] rows e.route.0)
     passed_before u low some apart = go (below_or_not u e.train.0)
       where
-        go : (u < e.train.0) ⊎ (e.train.0 ≤ u) → counted (rivals_of_train trains rows e) 1 (u - 1) ≡ others_before e.train.0 u * length (entry [] rows e.route.0)
+        go : (u < e.train.0) ⊎ (e.train.0 ≤ u) → member_count (rivals_of_train trains rows e) 1 (u - 1) ≡ others_before e.train.0 u * length (entry [] rows e.route.0)
         go (inl x) = passed_none 1 (u - 1) (inr (omega arith)) ∙ ap (λ b. (if b then u - 1 else u - 2) * length (entry [] rows e.route.0)) (sym (le-leb _ _ x))
         go (inr x) =
             let over : e.train.0 < u = beyond u e.train.0 x apart in
@@ -181,14 +181,14 @@ module _ (trains : ℕ) (rows : List (List RouteNo)) where
             beyond : (u t : ℕ) → t ≤ u → (t ≡ u → ⊥) → t < u
             beyond u t l a = elim (below_or_not t u) [ inl y ↦ y | inr y ↦ absurd (a (omega arith)) ]
 
-  pub counted_routes : (t k : ℕ) → 1 ≤ t → t ≤ trains → counted (λ r. pairs_from trains rows (command t r)) 1 k ≡ (trains - 1) * counted (entry [] rows) 1 k
+  pub counted_routes : (t k : ℕ) → 1 ≤ t → t ≤ trains → member_count (λ r. pairs_from trains rows (command t r)) 1 k ≡ (trains - 1) * member_count (entry [] rows) 1 k
   counted_routes t k low high = counted_scaled (λ r. pairs_from trains rows (command t r)) (entry [] rows) (trains - 1) 1 k (λ r. length_from (command t r) low high)
 
-  pub counted_trains : (k : ℕ) → k ≤ trains → counted (pairs_of_train trains rows) 1 k ≡ k * ((trains - 1) * counted (entry [] rows) 1 (length rows))
-  counted_trains k h = counted_alike (pairs_of_train trains rows) ((trains - 1) * counted (entry [] rows) 1 (length rows)) 1 k
+  pub counted_trains : (k : ℕ) → k ≤ trains → member_count (pairs_of_train trains rows) 1 k ≡ k * ((trains - 1) * member_count (entry [] rows) 1 (length rows))
+  counted_trains k h = counted_alike (pairs_of_train trains rows) ((trains - 1) * member_count (entry [] rows) 1 (length rows)) 1 k
       (λ t l m. length_blocks (λ r. pairs_from trains rows (command t r)) 1 (length rows) ∙ counted_routes t (length rows) l (omega arith))
 
-  pub length_all : length (pairs_by_rows trains rows) ≡ trains * ((trains - 1) * counted (entry [] rows) 1 (length rows))
+  pub length_all : length (pairs_by_rows trains rows) ≡ trains * ((trains - 1) * member_count (entry [] rows) 1 (length rows))
   length_all = length_blocks (pairs_of_train trains rows) 1 trains ∙ counted_trains trains (omega arith)
 
   -- ---- the place of a pair
@@ -212,21 +212,21 @@ module _ (trains : ℕ) (rows : List (List RouteNo)) where
         let same = ap (λ (x : Command). x.train.0) (is_command_same c g.0 g.2) in
         absurd (apart (sym (in_train e i g.0 g.1).0 ∙ same)))
 
-    before_train : length (before_first (is_pair e c) (pairs_by_rows trains rows)) ≡ counted (pairs_of_train trains rows) 1 (e.train.0 - 1) + length (before_first (is_pair e c) (pairs_of_train trains rows e.train.0))
+    before_train : length (before_first (is_pair e c) (pairs_by_rows trains rows)) ≡ member_count (pairs_of_train trains rows) 1 (e.train.0 - 1) + length (before_first (is_pair e c) (pairs_of_train trains rows e.train.0))
     before_train =
         let low = s.first_train in
         let high = s.last_train in
         place_block (is_pair e c) (pairs_of_train trains rows) e.train.0 train_apart (e.train.0 - 1) 1 trains (omega arith) (omega arith)
         (list_any_from (is_pair e c) _ (e, c) (there_in_train e c s) (pair_itself e c))
 
-    before_route : length (before_first (is_pair e c) (pairs_of_train trains rows e.train.0)) ≡ counted (λ r. pairs_from trains rows (command e.train.0 r)) 1 (e.route.0 - 1) + length (before_first (is_pair e c) (pairs_from trains rows e))
+    before_route : length (before_first (is_pair e c) (pairs_of_train trains rows e.train.0)) ≡ member_count (λ r. pairs_from trains rows (command e.train.0 r)) 1 (e.route.0 - 1) + length (before_first (is_pair e c) (pairs_from trains rows e))
     before_route =
         let low = s.first_row in
         let high = s.last_row in
         place_block (is_pair e c) (λ r. pairs_from trains rows (command e.train.0 r)) e.route.0 route_apart (e.route.0 - 1) 1 (length rows) (omega arith) (omega arith)
         (list_any_from (is_pair e c) _ (e, c) (there_from e c s) (pair_itself e c))
 
-    before_rival : length (before_first (is_pair e c) (pairs_from trains rows e)) ≡ counted (rivals_of_train trains rows e) 1 (c.train.0 - 1) + length (before_first (is_command c) (rivals_of_train trains rows e c.train.0))
+    before_rival : length (before_first (is_pair e c) (pairs_from trains rows e)) ≡ member_count (rivals_of_train trains rows e) 1 (c.train.0 - 1) + length (before_first (is_command c) (rivals_of_train trains rows e c.train.0))
     before_rival =
         let low = s.rival.low in
         let high = s.rival.high in
@@ -245,7 +245,7 @@ module _ (trains : ℕ) (rows : List (List RouteNo)) where
         let high = s.last_train in
         before_train
         ∙ (ap₂ (λ x y. x + y) (counted_trains (e.train.0 - 1) (omega arith)) (before_route ∙ ap₂ (λ x y. x + y) (counted_routes e.train.0 (e.route.0 - 1) low high) (before_rival ∙ ap₂ (λ x y. x + y) (passed_before e c.train.0 low s.rival.low s.rival.apart) before_within))
-        ∙ together (e.train.0 - 1) (counted (entry [] rows) 1 (length rows)) (counted (entry [] rows) 1 (e.route.0 - 1)) (trains - 1) (others_before e.train.0 c.train.0 * length (entry [] rows e.route.0)) (length (before_first (is_route c.route) (entry [] rows e.route.0))))
+        ∙ together (e.train.0 - 1) (member_count (entry [] rows) 1 (length rows)) (member_count (entry [] rows) 1 (e.route.0 - 1)) (trains - 1) (others_before e.train.0 c.train.0 * length (entry [] rows e.route.0)) (length (before_first (is_route c.route) (entry [] rows e.route.0))))
       where
         together : (p all before others passed within : ℕ) → p * (others * all) + (others * before + (passed + within)) ≡ (p * all + before) * others + passed + within
         together p all before others passed within = omega arith

@@ -8,7 +8,7 @@ use Rattle.rail_base.proofs.Lists.{length-map, pairs_count, pairs_filter, pairs_
 use Rattle.rail_base.proofs.Members.{below_or_not}
 use Rattle.rail_spec.specs.Plans.{route_numbers}
 use Rattle.clause_spec.proofs.Numbers.{length-count}
-use Rattle.contending.specs.Blocks.{counted}
+use Rattle.contending.specs.Blocks.{member_count}
 use Rattle.contending.specs.Rows.{AreRising, AreRows, shares, sharing, sharing_rows}
 use Rattle.contending.proofs.Blocks.{counted_few, counted_more}
 use Rattle.contending.proofs.Sharing.{length_rows, row_is}
@@ -44,8 +44,8 @@ module _ (routes : List Route) where
   -- the rows of few routes are few, short and rising
   pub rows_are : (rows : List (List RouteNo)) → rows ≡ sharing_rows routes → length routes ≤ 2000 → AreRows rows
   rows_are rows is few = subst AreRows (sym is) (record {
-    few = (let e = length_rows routes (sharing routes) (sharing_rows routes) refl in omega arith);
-    short = each_row (λ row. length row ≤ 2000) (omega arith) short;
+    at_most_2000 = (let e = length_rows routes (sharing routes) (sharing_rows routes) refl in omega arith);
+    rows_at_most_2000 = each_row (λ row. length row ≤ 2000) (omega arith) short;
     rising = each_row AreRising tt rising;
   })
     where
@@ -66,16 +66,16 @@ module _ (routes : List Route) where
 -- ---- sums
 
 module _ (rows : List (List RouteNo)) (are : AreRows rows) where
-  pub sum_low : (k : ℕ) → k ≤ length rows → counted (entry [] rows) 1 k ≤ 4000000
+  pub sum_low : (k : ℕ) → k ≤ length rows → member_count (entry [] rows) 1 k ≤ 4000000
   sum_low k h =
-      let few = counted_few (entry [] rows) 2000 1 k are.short in
-      let size = are.few in
+      let few = counted_few (entry [] rows) 2000 1 k are.rows_at_most_2000 in
+      let size = are.at_most_2000 in
       let most : k * 2000 ≤ 2000 * 2000 = mul-le k 2000 2000 2000 (omega arith) (omega arith) in
       omega arith
 
   -- one row more
-  pub sum_more : (k : ℕ) (row : List RouteNo) → row ≡ get_or rows k row → k < length rows → counted (entry [] rows) 1 (k + 1) ≡ counted (entry [] rows) 1 k + length row
-  sum_more k row is l = counted_more (entry [] rows) 1 k ∙ ap (λ xs. counted (entry [] rows) 1 k + length xs) (ap (entry [] rows) (next k) ∙ (any_other rows k [] row l ∙ sym is))
+  pub sum_more : (k : ℕ) (row : List RouteNo) → row ≡ get_or rows k row → k < length rows → member_count (entry [] rows) 1 (k + 1) ≡ member_count (entry [] rows) 1 k + length row
+  sum_more k row is l = counted_more (entry [] rows) 1 k ∙ ap (λ xs. member_count (entry [] rows) 1 k + length xs) (ap (entry [] rows) (next k) ∙ (any_other rows k [] row l ∙ sym is))
     where
       next : (k : ℕ) → 1 + k ≡ suc k
       next k = omega arith

@@ -7,7 +7,7 @@ use Rattle.rail_base.specs.declared.plan.Command.{Command}
 use Rattle.rail_base.specs.Members.{Pairs}
 use Rattle.rail_base.specs.Numbering.{before_first, entry, one_to}
 use Rattle.rail_spec.specs.Plans.{route_at, route_numbers, share}
-use Rattle.contending.specs.Blocks.{counted}
+use Rattle.contending.specs.Blocks.{member_count}
 
 -- ---- rows
 
@@ -29,14 +29,14 @@ AreRising row = Pairs (λ (r q : RouteNo). r.0 < q.0) row
 
 -- the rows are few, short and rising
 pub record AreRows (rows : List (List RouteNo)) : Type 0 where
-  pub few : length rows ≤ 2000
-  pub short : (r : ℕ) → length (entry [] rows r) ≤ 2000
+  pub at_most_2000 : length rows ≤ 2000
+  pub rows_at_most_2000 : (r : ℕ) → length (entry [] rows r) ≤ 2000
   pub rising : (r : ℕ) → AreRising (entry [] rows r)
 
 -- how many stand in the rows before each one, and at last how many stand in all
 pub record AreSums (rows : List (List RouteNo)) (sums : List ℕ) : Type 0 where
   pub each : length sums ≡ length rows + 1
-  pub before : (k : ℕ) → k ≤ length rows → slice_index sums k ≡ counted (entry [] rows) 1 k
+  pub before : (k : ℕ) → k ≤ length rows → slice_index sums k ≡ member_count (entry [] rows) 1 k
 
 -- ---- pairs
 
@@ -77,7 +77,7 @@ others_before t u = if nat_lt u t then u - 1 else u - 2
 -- with the trains before its second
 abbrev pub place_in : ℕ → List (List RouteNo) → Command → Command → ℕ → ℕ
 place_in trains rows e c within =
-    ((e.train.0 - 1) * counted (entry [] rows) 1 (length rows) + counted (entry [] rows) 1 (e.route.0 - 1)) * (trains - 1)
+    ((e.train.0 - 1) * member_count (entry [] rows) 1 (length rows) + member_count (entry [] rows) 1 (e.route.0 - 1)) * (trains - 1)
     + others_before e.train.0 c.train.0 * length (entry [] rows e.route.0) + within
 
 -- the place of the first that passes, where one does

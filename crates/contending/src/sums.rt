@@ -2,7 +2,7 @@
 
 ghost use Rattle.std.specs.Prelude.{◌≡◌, [], IfOk, length};
 ghost use Rattle.rail_base.specs.Numbering.{entry};
-ghost use Rattle.contending.specs.Blocks.{counted};
+ghost use Rattle.contending.specs.Blocks.{member_count};
 ghost use Rattle.contending.specs.Rows.{AreRows, AreSums};
 
 use rail_base::list::List;
@@ -27,7 +27,7 @@ pub(crate) fn sums_of(alloc: Global, rows: &[List<RouteNo>]) -> Result<Vec<u32>,
 /// How many stand in all rows.
 pub(crate) fn total(rows: &[List<RouteNo>], sums: &[u32]) -> u32
     requires { AreSums rows.now sums.now }
-    ensures { result ≡ counted (entry [] rows.now) 1 (length rows.now) }
+    ensures { result ≡ member_count (entry [] rows.now) 1 (length rows.now) }
 {
     sums[rows.len()]
 }

@@ -9,6 +9,7 @@ ghost use Rattle.rail_spec.specs.Track.{routes_of};
 
 use crate::stations::{edge, name, node, one, train, two, vehicle};
 use cone_form::{Contention, SortedPairs, is_free, is_in_design};
+use cone_spec::{Cone, ConeTrain};
 use contending::ContendingPairs;
 use interlocking::Interlocking;
 use rail_base::design::Design;
@@ -16,7 +17,6 @@ use rail_base::list::List;
 use rail_base::plan::{Command, Violation};
 use rail_base::route::{Finish, Route, RouteNo, RouteTable, Start};
 use rail_base::station::{EdgeNo, NodeNo, SectionNo, Station, TrainNo};
-use cone_spec::{Cone, ConeTrain};
 use std::alloc::{AllocError, Global};
 
 /// A section of 10 m.

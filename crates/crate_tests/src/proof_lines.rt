@@ -1,10 +1,10 @@
 //! Lines and heads, read and written, and bytes that are none.
 
+use bound_spec::{Evidence, Requirement};
 use proof_log::{Head, Line, LineFault, read_head, read_line, write_head, write_line};
 use rail_base::plan::Command;
 use rail_base::route::RouteNo;
 use rail_base::station::TrainNo;
-use bound_spec::{Evidence, Requirement};
 use std::alloc::AllocError;
 
 #[test]

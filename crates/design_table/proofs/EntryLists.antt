@@ -10,11 +10,11 @@ use Rattle.design_table.specs.declared.fault.Code.{Code}
 use Rattle.design_table.specs.declared.fault.DesignFault.{DesignFault}
 use Rattle.design_table.specs.declared.fault.DesignFault.TheVariants as faults
 use Rattle.design_table.specs.declared.place.Place.{Place}
-use Rattle.design_table.specs.Forms.{listed}
+use Rattle.design_table.specs.Forms.{list_of_items}
 use Rattle.design_table.specs.Reads.{at, Fails}
 use Rattle.design_table.proofs.Walks.{fails_here}
 
-pub listed_view : (vs : List Value) → listed (items_view vs) ≡ map view vs
+pub listed_view : (vs : List Value) → list_of_items (items_view vs) ≡ map view vs
 listed_view [] = refl
 listed_view (v ∷ vs) = ap (λ ds. view v ∷ ds) (listed_view vs)
 

@@ -14,9 +14,9 @@ abbrev pub found : Key → Members → Option Data
 found key ms = get_member (key_text key) ms
 
 -- the items of an array as a list
-abbrev pub listed : Items → List Data
-listed no_items = []
-listed (item d ds) = d ∷ listed ds
+abbrev pub list_of_items : Items → List Data
+list_of_items no_items = []
+list_of_items (item d ds) = d ∷ list_of_items ds
 
 -- ---- names
 
@@ -94,22 +94,22 @@ flag_of _ = false
 
 -- the value is an array of names
 abbrev pub is_visit : Data → Bool
-is_visit (array ds) = list_all is_name_value (listed ds)
+is_visit (array ds) = list_all is_name_value (list_of_items ds)
 is_visit _ = false
 
 -- the names of an array
 abbrev pub visit_of : Data → List (List ℕ)
-visit_of (array ds) = map name_value (listed ds)
+visit_of (array ds) = map name_value (list_of_items ds)
 visit_of _ = []
 
 -- there is an array of such arrays
 abbrev pub is_visits : Option Data → Bool
-is_visits (Some (array ds)) = list_all is_visit (listed ds)
+is_visits (Some (array ds)) = list_all is_visit (list_of_items ds)
 is_visits _ = false
 
 -- the visits that are there
 abbrev pub visits_of : Option Data → List (List (List ℕ))
-visits_of (Some (array ds)) = map visit_of (listed ds)
+visits_of (Some (array ds)) = map visit_of (list_of_items ds)
 visits_of _ = []
 
 -- ---- arrays of entries, where an absent one is empty
@@ -122,7 +122,7 @@ is_array _ = false
 
 -- the values of the array that is there
 abbrev pub items_of : Option Data → List Data
-items_of (Some (array ds)) = listed ds
+items_of (Some (array ds)) = list_of_items ds
 items_of _ = []
 
 -- ---- unknown keys

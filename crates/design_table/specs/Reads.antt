@@ -30,14 +30,14 @@ Fails (faults.Refused c p) code places = (c ≡ code) × (first places ≡ Some 
 Fails faults.Memory code places = Unit {0}
 
 -- What was read, seen by view, is the value, and there is no place; or it is refused at the first place.
-abbrev pub Reads : {X Y : Type 0} → (X → Y) → Result X DesignFault → Code → List Place → Y → Type 0
-Reads view (Ok x) code places y = (places ≡ []) × (view x ≡ y)
-Reads view (Err e) code places y = Fails e code places
+abbrev pub ReadsOrRefuses : {X Y : Type 0} → (X → Y) → Result X DesignFault → Code → List Place → Y → Type 0
+ReadsOrRefuses view (Ok x) code places y = (places ≡ []) × (view x ≡ y)
+ReadsOrRefuses view (Err e) code places y = Fails e code places
 
 -- What was read, seen by view, is what the value spells, where this has the form; else it is D02 at the place.
-abbrev pub ReadsSpelled : {X Y V : Type 0} → (X → Y) → Result X DesignFault → (V → Bool) → (V → Y) → V → Place → Type 0
-ReadsSpelled view result has_form parsed value place =
-    Reads view result D02 (at (not (has_form value)) place) (parsed value)
+abbrev pub ReadsParsed : {X Y V : Type 0} → (X → Y) → Result X DesignFault → (V → Bool) → (V → Y) → V → Place → Type 0
+ReadsParsed view result has_form parsed value place =
+    ReadsOrRefuses view result D02 (at (not (has_form value)) place) (parsed value)
 
 -- The same, where a fact ties what was read to what it was read from.
 abbrev pub ReadsBy : {X D : Type 0} → (X → D → Type 0) → Result X DesignFault → Code → List Place → D → Type 0
@@ -57,6 +57,6 @@ Refuses (faults.Refused c p) reading = reading ≡ Err (c, p)
 Refuses faults.Memory reading = Unit {0}
 
 -- What was read, seen by view, is what reading gives.
-abbrev pub Gives : {X Y : Type 0} → (X → Y) → Result X DesignFault → Result Y (Code × Place) → Type 0
-Gives view (Ok x) reading = reading ≡ Ok (view x)
-Gives view (Err e) reading = Refuses e reading
+abbrev pub GivesOrRefuses : {X Y : Type 0} → (X → Y) → Result X DesignFault → Result Y (Code × Place) → Type 0
+GivesOrRefuses view (Ok x) reading = reading ≡ Ok (view x)
+GivesOrRefuses view (Err e) reading = Refuses e reading

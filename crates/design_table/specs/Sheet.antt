@@ -10,7 +10,7 @@ use Rattle.design_table.specs.declared.place.Place.TheVariants.{Top, Entry, Fiel
 use Rattle.design_table.specs.Forms.{found, is_name, name_of, is_side, side_of, is_whole, whole_of, is_flag, flag_of}
 use Rattle.design_table.specs.Forms.{is_visits, visits_of, is_array, items_of, has_unknown}
 use Rattle.design_table.specs.Keys.{kind_key}
-use Rattle.design_table.specs.Reads.{at, in_each, Reads}
+use Rattle.design_table.specs.Reads.{at, in_each, ReadsOrRefuses}
 use Rattle.design_table.specs.Parsed.{ParsedNode, ParsedEdge, ParsedSignal, ParsedVehicle, ParsedTrain}
 use Rattle.design_table.specs.Parsed.{ParsedOrder, ParsedWithin, ParsedSheet}
 use Rattle.design_table.specs.declared.fault.Code.TheVariants.{D02}
@@ -183,7 +183,7 @@ wrong_entry kind i _ = Entry kind i ∷ []
 -- What was read, seen by view, is the entry that a table spells; or it is D02 at the first field that is wrong.
 abbrev pub ReadsEntry : {X Y : Type 0} → (X → Y) → Result X DesignFault
     → EntryKind → ℕ → (Members → Y) → Members → Type 0
-ReadsEntry view result kind i parsed ms = Reads view result D02 (wrong_fields kind i ms) (parsed ms)
+ReadsEntry view result kind i parsed ms = ReadsOrRefuses view result D02 (wrong_fields kind i ms) (parsed ms)
 
 -- an array: the array itself, then its entries
 abbrev pub wrong_array : EntryKind → Members → List Place

@@ -4,8 +4,8 @@ ghost use Rattle.std.specs.Prelude.{◌≡◌, ℕ, List, map};
 ghost use Rattle.toml.specs.Data.{Members};
 ghost use Rattle.toml.specs.View.{view, table_view, items_view};
 ghost use Rattle.design_table.specs.declared.place.EntryKind.{EntryKind};
-ghost use Rattle.design_table.specs.Forms.{listed, found};
-ghost use Rattle.design_table.specs.Reads.{Reads, in_each};
+ghost use Rattle.design_table.specs.Forms.{list_of_items, found};
+ghost use Rattle.design_table.specs.Reads.{ReadsOrRefuses, in_each};
 ghost use Rattle.design_table.specs.Sheet.{wrong_fields, wrong_entry, wrong_array, entries_of, members_of, ReadsEntry};
 
 use crate::fault::{Code, DesignFault};
@@ -39,7 +39,7 @@ pub trait Entry<'a>: Drop {
 /// The entries of the array of this kind, in the order of the document. An absent array has none.
 pub fn read_array<'a, E: Entry<'a>>(alloc: Global, table: &'a Table) -> Result<Vec<E>, DesignFault>
     ensures { let members = table_view table.now in
-        Reads (λ v. map E.seen v.items) result Code.D02 (wrong_array E.kind members)
+        ReadsOrRefuses (λ v. map E.seen v.items) result Code.D02 (wrong_array E.kind members)
         (entries_of E.parsed E.kind members) }
 {
     match value_at(table, E::kind().key()) {
@@ -56,7 +56,7 @@ fn read_entry<'a, E: Entry<'a>>(
     value: &'a Value,
 ) -> Result<E, DesignFault>
     ensures { let entry = view value.now in
-        Reads E.seen result Code.D02 (wrong_entry E.kind number entry) (E.parsed (members_of entry)) }
+        ReadsOrRefuses E.seen result Code.D02 (wrong_entry E.kind number entry) (E.parsed (members_of entry)) }
 {
     match value {
         Value::Table(table) => E::read(alloc, number, table),
@@ -66,8 +66,8 @@ fn read_entry<'a, E: Entry<'a>>(
 
 /// The entries of an array, in order.
 fn read_entries<'a, E: Entry<'a>>(alloc: Global, values: &'a [Value]) -> Result<Vec<E>, DesignFault>
-    ensures { let entries = listed (items_view values.now) in
-        Reads (λ v. map E.seen v.items) result Code.D02 (in_each (wrong_entry E.kind) entries)
+    ensures { let entries = list_of_items (items_view values.now) in
+        ReadsOrRefuses (λ v. map E.seen v.items) result Code.D02 (in_each (wrong_entry E.kind) entries)
         (map (λ entry. E.parsed (members_of entry)) entries) }
 {
     let mut entries = Vec::new(alloc);

@@ -7,7 +7,7 @@ ghost use Rattle.toml.specs.View.{view, table_view, items_view};
 ghost use Rattle.design_table.specs.Keys.{key_text};
 ghost use Rattle.design_table.specs.Forms.{found, is_name_byte, is_name_text, is_name, name_of, is_side, side_of};
 ghost use Rattle.design_table.specs.Forms.{is_whole, whole_of, is_flag, flag_of, has_unknown, is_known};
-ghost use Rattle.design_table.specs.Reads.{Reads, at, ReadsSpelled};
+ghost use Rattle.design_table.specs.Reads.{ReadsOrRefuses, at, ReadsParsed};
 ghost use Rattle.design_table.specs.declared.fault.DesignFault.TheVariants.{Refused};
 
 use crate::fault::{Code, DesignFault};
@@ -42,7 +42,7 @@ pub fn is_name_of(text: &str) -> bool
 
 /// The name at a key.
 pub fn name_at<'a>(table: &'a Table, key: Key, place: Place) -> Result<&'a str, DesignFault>
-    ensures { ReadsSpelled (λ x. x.now) result is_name name_of (found key (table_view table.now)) place }
+    ensures { ReadsParsed (λ x. x.now) result is_name name_of (found key (table_view table.now)) place }
 {
     match value_at(table, key) {
         Some(Value::String(text)) => {
@@ -58,7 +58,7 @@ pub fn name_at<'a>(table: &'a Table, key: Key, place: Place) -> Result<&'a str, 
 
 /// The side at a key.
 pub fn side_at(table: &Table, key: Key, place: Place) -> Result<Side, DesignFault>
-    ensures { ReadsSpelled (λ x. x) result is_side side_of (found key (table_view table.now)) place }
+    ensures { ReadsParsed (λ x. x) result is_side side_of (found key (table_view table.now)) place }
 {
     match value_at(table, key) {
         Some(Value::String(text)) => {
@@ -76,7 +76,7 @@ pub fn side_at(table: &Table, key: Key, place: Place) -> Result<Side, DesignFaul
 
 /// The whole number at a key.
 pub fn whole_at(table: &Table, key: Key, place: Place) -> Result<i64, DesignFault>
-    ensures { ReadsSpelled (λ x. x) result is_whole whole_of (found key (table_view table.now)) place }
+    ensures { ReadsParsed (λ x. x) result is_whole whole_of (found key (table_view table.now)) place }
 {
     match value_at(table, key) {
         Some(Value::Integer(number)) => Ok(*number),
@@ -86,7 +86,7 @@ pub fn whole_at(table: &Table, key: Key, place: Place) -> Result<i64, DesignFaul
 
 /// The truth value at a key, which may be absent.
 pub fn flag_at(table: &Table, key: Key, place: Place) -> Result<bool, DesignFault>
-    ensures { ReadsSpelled (λ x. x) result is_flag flag_of (found key (table_view table.now)) place }
+    ensures { ReadsParsed (λ x. x) result is_flag flag_of (found key (table_view table.now)) place }
 {
     match value_at(table, key) {
         None => Ok(false),

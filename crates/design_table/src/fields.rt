@@ -5,7 +5,7 @@ ghost use Rattle.toml.specs.View.{table_view};
 ghost use Rattle.design_table.specs.Forms.{found, is_name, name_of, is_side, side_of, is_whole, whole_of, is_flag};
 ghost use Rattle.design_table.specs.Forms.{flag_of, is_visits, visits_of, has_unknown};
 ghost use Rattle.design_table.specs.declared.place.Place.TheVariants.{Field, UnknownField};
-ghost use Rattle.design_table.specs.Reads.{Reads, at, ReadsSpelled};
+ghost use Rattle.design_table.specs.Reads.{ReadsOrRefuses, at, ReadsParsed};
 ghost use Rattle.design_table.specs.Places.{place_in, value_in};
 ghost use Rattle.design_table.specs.Texts.{visits_seen};
 
@@ -29,35 +29,35 @@ pub struct Fields<'a> {
 impl<'a> Fields<'a> {
     /// The name at a key.
     pub fn name(self, key: Key) -> Result<&'a str, DesignFault>
-        ensures { ReadsSpelled (λ x. x.now) result is_name name_of (value_in self.entry key) (place_in self.entry key) }
+        ensures { ReadsParsed (λ x. x.now) result is_name name_of (value_in self.entry key) (place_in self.entry key) }
     {
         name_at(self.table, key, Place::Field(self.kind, self.number, key))
     }
 
     /// The side at a key.
     pub fn side(self, key: Key) -> Result<Side, DesignFault>
-        ensures { ReadsSpelled (λ x. x) result is_side side_of (value_in self.entry key) (place_in self.entry key) }
+        ensures { ReadsParsed (λ x. x) result is_side side_of (value_in self.entry key) (place_in self.entry key) }
     {
         side_at(self.table, key, Place::Field(self.kind, self.number, key))
     }
 
     /// The whole number at a key.
     pub fn whole(self, key: Key) -> Result<i64, DesignFault>
-        ensures { ReadsSpelled (λ x. x) result is_whole whole_of (value_in self.entry key) (place_in self.entry key) }
+        ensures { ReadsParsed (λ x. x) result is_whole whole_of (value_in self.entry key) (place_in self.entry key) }
     {
         whole_at(self.table, key, Place::Field(self.kind, self.number, key))
     }
 
     /// The truth value at a key, which may be absent.
     pub fn flag(self, key: Key) -> Result<bool, DesignFault>
-        ensures { ReadsSpelled (λ x. x) result is_flag flag_of (value_in self.entry key) (place_in self.entry key) }
+        ensures { ReadsParsed (λ x. x) result is_flag flag_of (value_in self.entry key) (place_in self.entry key) }
     {
         flag_at(self.table, key, Place::Field(self.kind, self.number, key))
     }
 
     /// The visits at a key.
     pub fn visits(self, alloc: Global, key: Key) -> Result<Vec<Vec<&'a str>>, DesignFault>
-        ensures { ReadsSpelled (λ v. visits_seen v.items) result is_visits visits_of
+        ensures { ReadsParsed (λ v. visits_seen v.items) result is_visits visits_of
             (value_in self.entry key) (place_in self.entry key) }
     {
         visits_at(
@@ -71,7 +71,7 @@ impl<'a> Fields<'a> {
     /// Refuses a key that is none of these.
     pub fn only(self, known: &[Key]) -> Result<(), DesignFault>
         ensures { let unknown = UnknownField self.entry.kind self.entry.number in
-            Reads (λ x. x) result Code.D02 (at (has_unknown known.now (table_view self.entry.table.now)) unknown) tt }
+            ReadsOrRefuses (λ x. x) result Code.D02 (at (has_unknown known.now (table_view self.entry.table.now)) unknown) tt }
     {
         if has_unknown_key(self.table, known) {
             Err(form_fault(Place::UnknownField(self.kind, self.number)))

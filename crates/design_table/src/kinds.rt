@@ -3,7 +3,7 @@
 ghost use Rattle.std.specs.Prelude.{◌≡◌};
 ghost use Rattle.toml.specs.View.{table_view};
 ghost use Rattle.design_table.specs.declared.place.EntryKind.TheVariants as kinds;
-ghost use Rattle.design_table.specs.Reads.{Reads};
+ghost use Rattle.design_table.specs.Reads.{ReadsOrRefuses};
 ghost use Rattle.design_table.specs.Sheet.{wrong_fields, node_of, edge_of, signal_of, vehicle_of, train_of, order_of};
 ghost use Rattle.design_table.specs.Sheet.{within_of, ReadsEntry};
 ghost use Rattle.design_table.specs.Parsed.{ParsedNode, ParsedEdge, ParsedSignal, ParsedVehicle, ParsedTrain};

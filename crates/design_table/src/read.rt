@@ -4,7 +4,7 @@ ghost use Rattle.std.specs.Prelude.{◌≡◌};
 ghost use Rattle.toml.specs.View.{table_view};
 ghost use Rattle.design_table.specs.declared.place.Place.TheVariants.{Unknown, Top};
 ghost use Rattle.design_table.specs.Forms.{found, whole_of, has_unknown, is_whole};
-ghost use Rattle.design_table.specs.Reads.{Reads, at, ReadsSpelled};
+ghost use Rattle.design_table.specs.Reads.{ReadsOrRefuses, at, ReadsParsed};
 ghost use Rattle.design_table.specs.Sheet.{wrong_whole, top_keys, form_fault, sheet_of};
 ghost use Rattle.design_table.specs.Views.{sheet_seen};
 
@@ -39,7 +39,7 @@ const TOP_KEYS: [Key; 10] = [
 /// takes the top keys in order; at an array the array itself and then its entries, each with its keys in order and
 /// then any unknown key; and last any unknown top key.
 pub fn read_sheet<'a>(alloc: Global, table: &'a Table) -> Result<Sheet<'a>, DesignFault>
-    ensures { Reads sheet_seen result Code.D02 (form_fault (table_view table.now)) (sheet_of (table_view table.now)) }
+    ensures { ReadsOrRefuses sheet_seen result Code.D02 (form_fault (table_view table.now)) (sheet_of (table_view table.now)) }
 {
     let version = read_whole(table, Key::Version)?;
     let tick_ms = read_whole(table, Key::TickMs)?;
@@ -68,14 +68,14 @@ pub fn read_sheet<'a>(alloc: Global, table: &'a Table) -> Result<Sheet<'a>, Desi
 
 /// The whole number at a key of the top.
 fn read_whole(table: &Table, key: Key) -> Result<i64, DesignFault>
-    ensures { ReadsSpelled (λ x. x) result is_whole whole_of (found key (table_view table.now)) (Top key) }
+    ensures { ReadsParsed (λ x. x) result is_whole whole_of (found key (table_view table.now)) (Top key) }
 {
     whole_at(table, key, Place::Top(key))
 }
 
 /// Refuses an unknown key at the top.
 fn refuse_unknown(table: &Table) -> Result<(), DesignFault>
-    ensures { Reads (λ x. x) result Code.D02 (at (has_unknown top_keys (table_view table.now)) Unknown) tt }
+    ensures { ReadsOrRefuses (λ x. x) result Code.D02 (at (has_unknown top_keys (table_view table.now)) Unknown) tt }
 {
     if has_unknown_key(table, &TOP_KEYS) {
         Err(form_fault(Place::Unknown))

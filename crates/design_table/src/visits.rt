@@ -3,9 +3,9 @@
 ghost use Rattle.std.specs.Prelude.{◌≡◌, map, not};
 ghost use Rattle.std.specs.List.{list_all};
 ghost use Rattle.toml.specs.View.{view, table_view, items_view};
-ghost use Rattle.design_table.specs.Forms.{found, listed, is_name_value, name_value, is_visit, visit_of, is_visits};
+ghost use Rattle.design_table.specs.Forms.{found, list_of_items, is_name_value, name_value, is_visit, visit_of, is_visits};
 ghost use Rattle.design_table.specs.Forms.{visits_of};
-ghost use Rattle.design_table.specs.Reads.{Reads, at, ReadsSpelled};
+ghost use Rattle.design_table.specs.Reads.{ReadsOrRefuses, at, ReadsParsed};
 ghost use Rattle.design_table.specs.Texts.{texts, visits_seen};
 
 use crate::fault::{Code, DesignFault};
@@ -22,7 +22,7 @@ pub fn visits_at<'a>(
     key: Key,
     place: Place,
 ) -> Result<Vec<Vec<&'a str>>, DesignFault>
-    ensures { ReadsSpelled (λ v. visits_seen v.items) result is_visits visits_of
+    ensures { ReadsParsed (λ v. visits_seen v.items) result is_visits visits_of
         (found key (table_view table.now)) place }
 {
     match value_at(table, key) {
@@ -33,7 +33,7 @@ pub fn visits_at<'a>(
 
 /// The name that is parsed from a value.
 fn read_name<'a>(value: &'a Value, place: Place) -> Result<&'a str, DesignFault>
-    ensures { ReadsSpelled (λ x. x.now) result is_name_value name_value (view value.now) place }
+    ensures { ReadsParsed (λ x. x.now) result is_name_value name_value (view value.now) place }
 {
     match value {
         Value::String(text) => {
@@ -52,8 +52,8 @@ fn read_names<'a>(
     values: &'a [Value],
     place: Place,
 ) -> Result<Vec<&'a str>, DesignFault>
-    ensures { ReadsSpelled (λ v. texts v.items) result (list_all is_name_value) (map name_value)
-        (listed (items_view values.now)) place }
+    ensures { ReadsParsed (λ v. texts v.items) result (list_all is_name_value) (map name_value)
+        (list_of_items (items_view values.now)) place }
 {
     let mut names = Vec::new(alloc);
     for value in values {
@@ -68,7 +68,7 @@ fn read_visit<'a>(
     value: &'a Value,
     place: Place,
 ) -> Result<Vec<&'a str>, DesignFault>
-    ensures { ReadsSpelled (λ v. texts v.items) result is_visit visit_of (view value.now) place }
+    ensures { ReadsParsed (λ v. texts v.items) result is_visit visit_of (view value.now) place }
 {
     match value {
         Value::Array(values) => read_names(alloc, values.as_slice(), place),
@@ -81,8 +81,8 @@ fn read_visits<'a>(
     values: &'a [Value],
     place: Place,
 ) -> Result<Vec<Vec<&'a str>>, DesignFault>
-    ensures { ReadsSpelled (λ v. visits_seen v.items) result (list_all is_visit) (map visit_of)
-        (listed (items_view values.now)) place }
+    ensures { ReadsParsed (λ v. visits_seen v.items) result (list_all is_visit) (map visit_of)
+        (list_of_items (items_view values.now)) place }
 {
     let mut visits = Vec::new(alloc);
     for value in values {

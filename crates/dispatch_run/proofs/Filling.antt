@@ -41,17 +41,6 @@ module _ {X Y : Type 0} (f : X → Y → Y) where
   length-filled (suc i) (x ∷ xs) [] = refl
   length-filled (suc i) (x ∷ xs) (y ∷ ys) = ap suc (length-filled i xs ys)
 
-  -- all of them
-  pub all_filled : (i : ℕ) (xs : List X) (ys : List Y) → length ys ≤ i → length ys ≤ length xs → filled i xs ys ≡ map (λ p. f p.0 p.1) (zip xs ys)
-  unfolding filled
-  all_filled zero [] [] h k = refl
-  all_filled zero (x ∷ xs) [] h k = refl
-  all_filled zero xs (y ∷ ys) h k = absurd (omega arith)
-  all_filled (suc i) [] [] h k = refl
-  all_filled (suc i) [] (y ∷ ys) h k = absurd (omega arith)
-  all_filled (suc i) (x ∷ xs) [] h k = refl
-  all_filled (suc i) (x ∷ xs) (y ∷ ys) h k = ap (λ zs. f x y ∷ zs) (all_filled i xs ys (omega arith) (omega arith))
-
 -- all of them, where each is made of the other list's alone
 pub all_made : {X Y : Type 0} (g : X → Y) (i : ℕ) (xs : List X) (ys : List Y) → length xs ≤ i → length ys ≡ length xs → filled (λ x y. g x) i xs ys ≡ map g xs
 unfolding filled

@@ -15,24 +15,24 @@ use Rattle.quiet_spec.specs.Histories.{history_at, train_history}
 use Rattle.quiet_spec.specs.Quiet.{ComesNowhere, drift}
 use Rattle.dispatch_run.specs.declared.looks.Look.{Look}
 use Rattle.dispatch_run.specs.declared.run.Progress.{Progress}
-use Rattle.dispatch_run.specs.declared.traffic.Follower.{Follower}
+use Rattle.dispatch_run.specs.declared.traffic.FollowedTrain.{FollowedTrain}
 use Rattle.dispatch_run.specs.declared.traffic.Traffic.{Traffic}
 use Rattle.dispatch_run.specs.Drifts.{going_with}
-use Rattle.dispatch_run.specs.Followers.{CanMove, IsFollower}
+use Rattle.dispatch_run.specs.FollowedTrains.{CanMove, IsFollowedTrain}
 use Rattle.dispatch_run.specs.Looks.{IsKnown}
 use Rattle.dispatch_run.specs.Progress.{IsProgress}
 use Rattle.dispatch_run.specs.Turns.{AreLookedAt, AreToBeMarked, IsLook, IsLookedAt, IsToBeMarked, IsTurn, looked_state}
 
--- the train that a follower is of
-abbrev pub followed_train : Follower → TrainNo
-followed_train f = f.journey.now.train_path.now.train
+-- the train that a followed train is of
+abbrev pub followed_train_no : FollowedTrain → TrainNo
+followed_train_no f = f.journey.now.train_path.now.train
 
 module _ (r : Traffic) where
-  -- the course is that of its train
+  -- the train path is that of its train
   abbrev pub IsTrainPathIn : TrainPath → Type 0
   IsTrainPathIn c = IsTrainPath r.interlocking.now.design.station r.interlocking.now.routes c.path.items c
 
-  -- the first routes of a course, so many of them
+  -- the first routes of a train path, so many of them
   abbrev pub first_routes : TrainPath → ℕ → List Route
   first_routes c granted = take granted (routes_at r.interlocking.now.routes c.path.items)
 
@@ -45,13 +45,13 @@ module _ (r : Traffic) where
   authority_given c granted = authority (first_routes c granted)
 
 module _ (r : Traffic) (dispatch : Dispatch) where
-  -- the follower is that of its train
-  abbrev pub IsFollowerIn : Follower → Type 0
-  IsFollowerIn = IsFollower r.interlocking.now.design.station r.interlocking.now.routes dispatch
+  -- the followed train is that of its train
+  abbrev pub IsFollowedTrainIn : FollowedTrain → Type 0
+  IsFollowedTrainIn = IsFollowedTrain r.interlocking.now.design.station r.interlocking.now.routes dispatch
 
   -- full braking is permitted by so many grants, and the numbers are in range
-  abbrev pub CanMoveIn : Follower → ℕ → TrainState → Type 0
-  CanMoveIn f = CanMove r.interlocking.now.design.station r.interlocking.now.routes dispatch (followed_train f)
+  abbrev pub CanMoveIn : FollowedTrain → ℕ → TrainState → Type 0
+  CanMoveIn f = CanMove r.interlocking.now.design.station r.interlocking.now.routes dispatch (followed_train_no f)
 
   -- ---- the run
 
@@ -60,38 +60,38 @@ module _ (r : Traffic) (dispatch : Dispatch) where
   states_in = state_at r.interlocking.now.design.station r.interlocking.now.routes dispatch
 
   -- a train at a tick
-  abbrev pub state_in : ℕ → Follower → TrainState
-  state_in tick f = state_of (states_in tick) (followed_train f)
+  abbrev pub state_in : ℕ → FollowedTrain → TrainState
+  state_in tick f = state_of (states_in tick) (followed_train_no f)
 
   -- a train after a tick in which it moves, and so many of its commands are granted
-  abbrev pub moved_in : Follower → TrainState → ℕ → TrainState
-  moved_in f = moved r.interlocking.now.design.station r.interlocking.now.routes dispatch (followed_train f)
+  abbrev pub moved_in : FollowedTrain → TrainState → ℕ → TrainState
+  moved_in f = moved r.interlocking.now.design.station r.interlocking.now.routes dispatch (followed_train_no f)
 
   -- the same after some ticks
-  abbrev pub going_in : Follower → ℕ → ℕ → TrainState → TrainState
-  going_in f = going_with r.interlocking.now.design.station r.interlocking.now.routes dispatch (followed_train f)
+  abbrev pub going_in : FollowedTrain → ℕ → ℕ → TrainState → TrainState
+  going_in f = going_with r.interlocking.now.design.station r.interlocking.now.routes dispatch (followed_train_no f)
 
   -- a train after some ticks from a tick on, in which it is granted nothing
-  abbrev pub drift_in : Follower → ℕ → ℕ → TrainState → TrainState
-  drift_in f = drift r.interlocking.now.design.station r.interlocking.now.routes dispatch (followed_train f)
+  abbrev pub drift_in : FollowedTrain → ℕ → ℕ → TrainState → TrainState
+  drift_in f = drift r.interlocking.now.design.station r.interlocking.now.routes dispatch (followed_train_no f)
 
   -- from one place to the other the train comes to no node and to no place at which it releases a section
-  abbrev pub ComesNowhereIn : Follower → ℕ → ℕ → Type 0
+  abbrev pub ComesNowhereIn : FollowedTrain → ℕ → ℕ → Type 0
   ComesNowhereIn f =
-      ComesNowhere r.interlocking.now.design.station r.interlocking.now.routes dispatch (followed_train f)
+      ComesNowhere r.interlocking.now.design.station r.interlocking.now.routes dispatch (followed_train_no f)
 
   -- so it is where the train moves for some ticks
-  abbrev pub IsClearFor : Follower → TrainState → ℕ → Type 0
+  abbrev pub IsClearFor : FollowedTrain → TrainState → ℕ → Type 0
   IsClearFor f s ticks = ComesNowhereIn f s.x (going_in f s.granted ticks s).x
 
   -- and where it goes on for some ticks from a tick on, in which it is granted nothing
-  abbrev pub IsIdleFor : Follower → ℕ → TrainState → ℕ → Type 0
+  abbrev pub IsIdleFor : FollowedTrain → ℕ → TrainState → ℕ → Type 0
   IsIdleFor f tick s ticks = ComesNowhereIn f s.x (drift_in f tick ticks s).x
 
   -- what has happened to a train by a tick
-  abbrev pub train_history_in : ℕ → Follower → TrainHistory
+  abbrev pub train_history_in : ℕ → FollowedTrain → TrainHistory
   train_history_in tick f =
-      train_history r.interlocking.now.design.station r.interlocking.now.routes dispatch tick (followed_train f)
+      train_history r.interlocking.now.design.station r.interlocking.now.routes dispatch tick (followed_train_no f)
 
   -- what has happened to each train by a tick
   abbrev pub history_in : ℕ → List TrainHistory
@@ -112,14 +112,14 @@ module _ (r : Traffic) (dispatch : Dispatch) where
   IsTurnIn = IsTurn r.interlocking.now.design.station r.interlocking.now.routes dispatch
 
   -- what is known of a train at a tick, of which nothing is granted since one tick and nowhere is come to before another
-  abbrev pub IsSeenIn : ℕ → Follower → TrainState → ℕ → ℕ → Type 0
-  IsSeenIn tick f = IsSeen r.interlocking.now.design.station r.interlocking.now.routes dispatch tick (followed_train f)
+  abbrev pub IsSeenIn : ℕ → FollowedTrain → TrainState → ℕ → ℕ → Type 0
+  IsSeenIn tick f = IsSeen r.interlocking.now.design.station r.interlocking.now.routes dispatch tick (followed_train_no f)
 
   -- a train that is to be looked at then has its state of the tick, and another the one that it had
-  abbrev pub looked_state_in : ℕ → List TrainState → List Look → Follower → TrainState
+  abbrev pub looked_state_in : ℕ → List TrainState → List Look → FollowedTrain → TrainState
   looked_state_in tick states looks f =
       looked_state r.interlocking.now.design.station r.interlocking.now.routes dispatch tick states looks
-      (followed_train f)
+      (followed_train_no f)
 
   -- so it is with all trains
   abbrev pub looked_states_in : ℕ → List TrainState → List Look → List TrainState
@@ -128,24 +128,24 @@ module _ (r : Traffic) (dispatch : Dispatch) where
       (trains r.interlocking.now.design.station)
 
   -- a train after the tick
-  abbrev pub IsLookedAtIn : ℕ → Follower → TrainState → Look → Type 0
+  abbrev pub IsLookedAtIn : ℕ → FollowedTrain → TrainState → Look → Type 0
   IsLookedAtIn tick f =
-      IsLookedAt r.interlocking.now.design.station r.interlocking.now.routes dispatch tick (followed_train f)
+      IsLookedAt r.interlocking.now.design.station r.interlocking.now.routes dispatch tick (followed_train_no f)
 
   -- all trains after the tick
   abbrev pub AreLookedAtIn : ℕ → List TrainState → List Look → Type 0
   AreLookedAtIn = AreLookedAt r.interlocking.now.design.station r.interlocking.now.routes dispatch
 
   -- what is known of the history of a train, before it is marked
-  abbrev pub IsToBeMarkedIn : ℕ → Follower → TrainState → Look → TrainHistory → Type 0
+  abbrev pub IsToBeMarkedIn : ℕ → FollowedTrain → TrainState → Look → TrainHistory → Type 0
   IsToBeMarkedIn tick f =
-      IsToBeMarked r.interlocking.now.design.station r.interlocking.now.routes dispatch tick (followed_train f)
+      IsToBeMarked r.interlocking.now.design.station r.interlocking.now.routes dispatch tick (followed_train_no f)
 
   -- of the histories of all trains
   abbrev pub AreToBeMarkedIn : ℕ → List TrainState → List Look → List TrainHistory → Type 0
   AreToBeMarkedIn = AreToBeMarked r.interlocking.now.design.station r.interlocking.now.routes dispatch
 
   -- the next look at a train is soon enough
-  abbrev pub IsLookIn : ℕ → List TrainState → Follower → Look → Type 0
+  abbrev pub IsLookIn : ℕ → List TrainState → FollowedTrain → Look → Type 0
   IsLookIn tick states f =
-      IsLook r.interlocking.now.design.station r.interlocking.now.routes dispatch tick states (followed_train f)
+      IsLook r.interlocking.now.design.station r.interlocking.now.routes dispatch tick states (followed_train_no f)

@@ -10,4 +10,4 @@ use Rattle.dispatch_run.specs.Looks.{IsKnown}
 -- what is known at the tick of all trains, and what has happened to them by then
 pub record IsProgress (d : Station) (routes : List Route) (dispatch : Dispatch) (g : Progress) : Type 0 where
   pub known : IsKnown d routes dispatch g.tick g.states.items g.looks.items
-  pub told : g.histories.items ≡ history_at d routes dispatch g.tick
+  pub recorded : g.histories.items ≡ history_at d routes dispatch g.tick

@@ -2,14 +2,14 @@
 
 ghost use Rattle.std.specs.Prelude.{◌≡◌, ◌-◌, ◌≤◌, IfOk};
 ghost use Rattle.rail_spec.specs.Dispatches.{Dispatch};
-ghost use Rattle.dispatch_run.specs.Followers.{IsTraffic};
-ghost use Rattle.dispatch_run.specs.InTraffic.{IsFollowerIn, history_in, state_in, states_in, train_history_in};
+ghost use Rattle.dispatch_run.specs.FollowedTrains.{IsTraffic};
+ghost use Rattle.dispatch_run.specs.InTraffic.{IsFollowedTrainIn, history_in, state_in, states_in, train_history_in};
 
 use crate::marks::{
     mark_grants, mark_passes, mark_releases, mark_visits, none_granted, none_passed, none_released,
     none_visited,
 };
-use crate::traffic::{Follower, Traffic};
+use crate::traffic::{FollowedTrain, Traffic};
 use rail_base::history::TrainHistory;
 use rail_base::list::List;
 use rail_base::state::TrainState;
@@ -24,8 +24,8 @@ impl Traffic<'_> {
         ensures { IfOk result (λ h. h.items ≡ history_in self.now dispatch 0) }
     {
         let mut histories = Vec::new(alloc);
-        for follower in self.followers {
-            histories.push(self.first_history(alloc, follower)?)?;
+        for followed_train in self.followed_trains {
+            histories.push(self.first_history(alloc, followed_train)?)?;
         }
         Ok(histories)
     }
@@ -37,7 +37,7 @@ impl Traffic<'_> {
         ensures { IfOk result (λ s. s.items ≡ states_in self.now dispatch 0) }
     {
         let mut states = Vec::new(alloc);
-        for _follower in self.followers {
+        for _followed_train in self.followed_trains {
             states.push(IDLE)?;
         }
         Ok(states)
@@ -47,19 +47,19 @@ impl Traffic<'_> {
     pub(crate) fn history_with(
         &self,
         alloc: Global,
-        follower: &Follower,
+        followed_train: &FollowedTrain,
         old: TrainHistory,
         state: TrainState,
         tick: u64,
     ) -> Result<TrainHistory, AllocError>
         ghost dispatch: { Dispatch }
-        requires follower { IsFollowerIn self.now dispatch follower.now }
+        requires followed_train { IsFollowedTrainIn self.now dispatch followed_train.now }
         requires at_least_one { 1 ≤ tick }
-        requires now { state ≡ state_in self.now dispatch tick follower.now }
-        requires before { old ≡ train_history_in self.now dispatch (tick - 1) follower.now }
-        ensures { IfOk result (λ h. h ≡ train_history_in self.now dispatch tick follower.now) }
+        requires now { state ≡ state_in self.now dispatch tick followed_train.now }
+        requires before { old ≡ train_history_in self.now dispatch (tick - 1) followed_train.now }
+        ensures { IfOk result (λ h. h ≡ train_history_in self.now dispatch tick followed_train.now) }
     {
-        let journey = follower.journey;
+        let journey = followed_train.journey;
         let train_path = journey.train_path;
         let TrainHistory {
             grants,
@@ -100,12 +100,16 @@ impl Traffic<'_> {
     }
 
     /// What has happened to a train before the first tick: nothing.
-    fn first_history(&self, alloc: Global, follower: &Follower) -> Result<TrainHistory, AllocError>
+    fn first_history(
+        &self,
+        alloc: Global,
+        followed_train: &FollowedTrain,
+    ) -> Result<TrainHistory, AllocError>
         ghost dispatch: { Dispatch }
-        requires { IsFollowerIn self.now dispatch follower.now }
-        ensures { IfOk result (λ h. h ≡ train_history_in self.now dispatch 0 follower.now) }
+        requires { IsFollowedTrainIn self.now dispatch followed_train.now }
+        ensures { IfOk result (λ h. h ≡ train_history_in self.now dispatch 0 followed_train.now) }
     {
-        let journey = follower.journey;
+        let journey = followed_train.journey;
         let train_path = journey.train_path;
         let grants = none_granted(alloc, train_path.path.as_slice())?;
         let passes = none_passed(alloc, train_path.path_nodes.as_slice())?;

@@ -2,7 +2,7 @@
 
 ghost use Rattle.std.specs.Prelude.{◌≡◌, ◌≤◌, ◌<◌, ℕ, IfOk};
 ghost use Rattle.rail_spec.specs.Dispatches.{Dispatch};
-ghost use Rattle.dispatch_run.specs.Followers.{IsTraffic};
+ghost use Rattle.dispatch_run.specs.FollowedTrains.{IsTraffic};
 ghost use Rattle.dispatch_run.specs.InTraffic.{IsProgressIn, history_in};
 
 use crate::looks::{Look, first_looks, next_tick};
@@ -48,10 +48,10 @@ impl Traffic<'_> {
         requires traffic { IsTraffic dispatch self.now }
         requires progress { IsProgressIn self.now dispatch progress }
         requires ahead { progress.tick < most }
-        requires early { most ≤ 86400 }
+        requires at_most_86400 { most ≤ 86400 }
         ensures after { IfOk result (λ g. progress.tick < g.tick) }
         ensures within { IfOk result (λ g. g.tick ≤ most) }
-        ensures first { IfOk result (λ g. progress.tick ≡ 0 → g.tick ≡ 1) }
+        ensures at_0 { IfOk result (λ g. progress.tick ≡ 0 → g.tick ≡ 1) }
         ensures is { IfOk result (λ g. IsProgressIn self.now dispatch g) }
         ensures quiet { IfOk result (λ g. (k : ℕ) → progress.tick ≤ k → k < g.tick
             → history_in self.now dispatch k ≡ progress.histories.items) }
@@ -83,7 +83,7 @@ impl Traffic<'_> {
     pub fn run(&self, alloc: Global, last: u64) -> Result<Progress, AllocError>
         ghost dispatch: { Dispatch }
         requires traffic { IsTraffic dispatch self.now }
-        requires early { last ≤ 86400 }
+        requires at_most_86400 { last ≤ 86400 }
         ensures tick { IfOk result (λ g. g.tick ≡ last) }
         ensures is { IfOk result (λ g. IsProgressIn self.now dispatch g) }
     {

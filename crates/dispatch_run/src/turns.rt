@@ -2,15 +2,15 @@
 
 ghost use Rattle.std.specs.Prelude.{◌≡◌, ◌≤◌, IfOk, OnOk};
 ghost use Rattle.rail_spec.specs.Dispatches.{Dispatch};
-ghost use Rattle.dispatch_run.specs.Followers.{IsTraffic};
-ghost use Rattle.dispatch_run.specs.InTraffic.{AreLookedAtIn, AreToBeMarkedIn, IsFollowerIn, IsKnownIn, IsLookIn};
+ghost use Rattle.dispatch_run.specs.FollowedTrains.{IsTraffic};
+ghost use Rattle.dispatch_run.specs.InTraffic.{AreLookedAtIn, AreToBeMarkedIn, IsFollowedTrainIn, IsKnownIn, IsLookIn};
 ghost use Rattle.dispatch_run.specs.InTraffic.{IsLookedAtIn, IsSeenIn, IsToBeMarkedIn, IsTurnIn, history_in};
 ghost use Rattle.dispatch_run.specs.InTraffic.{looked_state_in, looked_states_in, train_history_in};
 
 use crate::histories::nothing;
 use crate::looks::{Look, look_of};
 use crate::moves::is_followed;
-use crate::traffic::{Follower, Traffic};
+use crate::traffic::{FollowedTrain, Traffic};
 use rail_base::history::TrainHistory;
 use rail_base::state::TrainState;
 use rail_course::{granted_on, state_of};
@@ -35,8 +35,8 @@ impl Traffic<'_> {
         ensures { IfOk result (λ s. s.items ≡ looked_states_in self.now dispatch tick states.now looks.now) }
     {
         let mut next = Vec::new(alloc);
-        for follower in self.followers {
-            next.push(self.next_state(follower, states, looks, tick))?;
+        for followed_train in self.followed_trains {
+            next.push(self.next_state(followed_train, states, looks, tick))?;
         }
         Ok(next)
     }
@@ -52,16 +52,16 @@ impl Traffic<'_> {
     ) -> Result<Vec<TrainHistory>, AllocError>
         ghost dispatch: { Dispatch }
         requires traffic { IsTraffic dispatch self.now }
-        requires told { AreToBeMarkedIn self.now dispatch tick states.now looks.now histories.items }
+        requires to_be_marked { AreToBeMarkedIn self.now dispatch tick states.now looks.now histories.items }
         ensures { IfOk result (λ h. h.items ≡ history_in self.now dispatch tick) }
     {
         let mut next = histories;
-        for i in 0..self.followers.len() {
-            let follower = &self.followers[i];
-            let train = follower.journey.train_path.train;
+        for i in 0..self.followed_trains.len() {
+            let followed_train = &self.followed_trains[i];
+            let train = followed_train.journey.train_path.train;
             self.mark_history(
                 alloc,
-                follower,
+                followed_train,
                 &mut next[i],
                 state_of(states, train),
                 look_of(looks, train),
@@ -85,8 +85,8 @@ impl Traffic<'_> {
         ensures { IfOk result (λ looks. IsKnownIn self.now dispatch tick states.now looks.items) }
     {
         let mut next = Vec::new(alloc);
-        for follower in self.followers {
-            next.push(self.next_look(follower, states, looks, tick))?;
+        for followed_train in self.followed_trains {
+            next.push(self.next_look(followed_train, states, looks, tick))?;
         }
         Ok(next)
     }
@@ -95,64 +95,74 @@ impl Traffic<'_> {
     /// what they had come to by the tick before.
     fn next_state(
         &self,
-        follower: &Follower,
+        followed_train: &FollowedTrain,
         states: &[TrainState],
         looks: &[Look],
         tick: u64,
     ) -> TrainState
         ghost dispatch: { Dispatch }
         requires traffic { IsTraffic dispatch self.now }
-        requires follower { IsFollowerIn self.now dispatch follower.now }
+        requires followed_train { IsFollowedTrainIn self.now dispatch followed_train.now }
         requires turn { IsTurnIn self.now dispatch tick states.now looks.now }
-        ensures { result ≡ looked_state_in self.now dispatch tick states.now looks.now follower.now }
+        ensures { result ≡ looked_state_in self.now dispatch tick states.now looks.now followed_train.now }
     {
-        let train = follower.journey.train_path.train;
+        let train = followed_train.journey.train_path.train;
         let state = state_of(states, train);
         let look = look_of(looks, train);
         if look.until != tick {
             return state;
         }
-        let before = self.drift_on(follower, state, look.since, tick - 1 - look.since);
-        if !is_followed(follower.until, tick) {
+        let before = self.drift_on(followed_train, state, look.since, tick - 1 - look.since);
+        if !is_followed(followed_train.until, tick) {
             return before;
         }
-        let granted = granted_on(states, state.granted, follower.journey.waits.as_slice());
-        self.move_train(follower, before, granted)
+        let granted = granted_on(
+            states,
+            state.granted,
+            followed_train.journey.waits.as_slice(),
+        );
+        self.move_train(followed_train, before, granted)
     }
 
     /// Marks what has happened to a train by a tick, where the train is looked at then.
     fn mark_history(
         &self,
         alloc: Global,
-        follower: &Follower,
+        followed_train: &FollowedTrain,
         history: &mut TrainHistory,
         state: TrainState,
         look: Look,
         tick: u64,
     ) -> Result<(), AllocError>
         ghost dispatch: { Dispatch }
-        requires follower { IsFollowerIn self.now dispatch follower.now }
+        requires followed_train { IsFollowedTrainIn self.now dispatch followed_train.now }
         requires at_least_one { 1 ≤ tick }
-        requires told { IsToBeMarkedIn self.now dispatch tick follower.now state look history.old }
-        ensures { OnOk result (history.new ≡ train_history_in self.now dispatch tick follower.now) }
+        requires told { IsToBeMarkedIn self.now dispatch tick followed_train.now state look history.old }
+        ensures { OnOk result (history.new ≡ train_history_in self.now dispatch tick followed_train.now) }
     {
         if look.until != tick {
             return Ok(());
         }
         let old = replace(history, nothing(alloc));
-        *history = self.history_with(alloc, follower, old, state, tick)?;
+        *history = self.history_with(alloc, followed_train, old, state, tick)?;
         Ok(())
     }
 
     /// The next look at a train that is granted nothing in the next tick.
-    fn far_look(&self, follower: &Follower, state: TrainState, look: Look, tick: u64) -> Look
+    fn far_look(
+        &self,
+        followed_train: &FollowedTrain,
+        state: TrainState,
+        look: Look,
+        tick: u64,
+    ) -> Look
         ghost dispatch: { Dispatch }
         requires traffic { IsTraffic dispatch self.now }
-        requires follower { IsFollowerIn self.now dispatch follower.now }
+        requires followed_train { IsFollowedTrainIn self.now dispatch followed_train.now }
         requires at_least_one { 1 ≤ tick }
-        requires early { tick ≤ 86400 }
-        requires looked { IsLookedAtIn self.now dispatch tick follower.now state look }
-        ensures seen { IsSeenIn self.now dispatch tick follower.now state result.since result.until }
+        requires at_most_86400 { tick ≤ 86400 }
+        requires looked { IsLookedAtIn self.now dispatch tick followed_train.now state look }
+        ensures seen { IsSeenIn self.now dispatch tick followed_train.now state result.since result.until }
         ensures begun { 1 ≤ result.since }
     {
         if look.until != tick {
@@ -160,31 +170,36 @@ impl Traffic<'_> {
         }
         Look {
             since: tick,
-            until: tick + 1 + self.idle_ticks(follower, state, tick, LAST - tick),
+            until: tick + 1 + self.idle_ticks(followed_train, state, tick, LAST - tick),
         }
     }
 
     /// The next look at a train after a tick: at the next one, where it is granted a command then.
     fn next_look(
         &self,
-        follower: &Follower,
+        followed_train: &FollowedTrain,
         states: &[TrainState],
         looks: &[Look],
         tick: u64,
     ) -> Look
         ghost dispatch: { Dispatch }
         requires traffic { IsTraffic dispatch self.now }
-        requires follower { IsFollowerIn self.now dispatch follower.now }
+        requires followed_train { IsFollowedTrainIn self.now dispatch followed_train.now }
         requires looked { AreLookedAtIn self.now dispatch tick states.now looks.now }
-        ensures { IsLookIn self.now dispatch tick states.now follower.now result }
+        ensures { IsLookIn self.now dispatch tick states.now followed_train.now result }
     {
-        let train = follower.journey.train_path.train;
+        let train = followed_train.journey.train_path.train;
         let state = state_of(states, train);
-        let look = self.far_look(follower, state, look_of(looks, train), tick);
-        if !is_followed(follower.until, tick + 1) {
+        let look = self.far_look(followed_train, state, look_of(looks, train), tick);
+        if !is_followed(followed_train.until, tick + 1) {
             return look;
         }
-        if granted_on(states, state.granted, follower.journey.waits.as_slice()) == state.granted {
+        if granted_on(
+            states,
+            state.granted,
+            followed_train.journey.waits.as_slice(),
+        ) == state.granted
+        {
             return look;
         }
         Look {

@@ -20,7 +20,7 @@ use Rattle.rail_spec.specs.Plans.{is_train, is_route, commands, path, step_of, c
 use Rattle.rail_spec.specs.Dispatches.{of_plan, state_of, state_at, routes_before, is_granted, has_released, has_cleared, is_ready}
 use Rattle.rail_laws.proofs.Given.{same_train, command_in_path}
 use Rattle.rail_laws.proofs.Exclusion.{granted_cleared}
-use Rattle.rail_course.specs.Telling.{ShowTick}
+use Rattle.rail_course.specs.Ready.{ShowTick}
 use Rattle.dispatcher.specs.Queues.{last_on}
 use Rattle.dispatcher.specs.Waits.{is_free}
 use Rattle.dispatcher.proofs.Steps.{Stand, stand, stand_at, stands_later, step_is}

@@ -21,20 +21,20 @@ use Rattle.rail_spec.specs.Dispatches.{Dispatch, of_plan, has_released}
 use Rattle.rail_laws.proofs.Given.{same_train}
 use Rattle.rail_course.specs.declared.train_path.TrainPath.{TrainPath}
 use Rattle.rail_course.specs.declared.itineraries.Itineraries.{Itineraries}
-use Rattle.rail_course.specs.declared.planned.PlannedCourses.{PlannedCourses}
+use Rattle.rail_course.specs.declared.planned.PlannedTrainPaths.{PlannedTrainPaths}
 use Rattle.rail_course.specs.declared.waits.Wait.{Wait}
 use Rattle.rail_course.specs.Itineraries.{path_in}
 use Rattle.rail_course.specs.Releases.{release_for}
-use Rattle.rail_course.specs.Telling.{TellWhatIsReady}
+use Rattle.rail_course.specs.Ready.{GiveWhatIsReady}
 use Rattle.rail_course.specs.Waits.{is_over}
-use Rattle.rail_course.proofs.Coursing.{many_courses, path_of_number, train_at}
+use Rattle.rail_course.proofs.Numbered.{many_train_paths, path_of_number, train_at}
 use Rattle.rail_course.proofs.Granting.{no_path, plan_named}
 use Rattle.rail_course.proofs.Waiting.{list_all-same}
 use Rattle.dispatcher.specs.Queues.{last_on, on_section, queue_at, these_or}
 use Rattle.dispatcher.specs.Planned.{AreKnown, AreQueues, AreWaitsIn, own_waits}
 use Rattle.dispatcher.specs.Waits.{AreWaits, lets_pass, wait_in, wait_until}
 use Rattle.dispatcher.proofs.Last.{last_more, these_or-map}
-use Rattle.dispatcher.proofs.Telling.{orderly, waits_more, waits_tell}
+use Rattle.dispatcher.proofs.Ready.{orderly, waits_more, waits_tell}
 
 -- ---- routes given to a train
 
@@ -67,7 +67,7 @@ get_in [] i x h is = absurd (omega arith)
 get_in (y ∷ ys) zero x h is = inl (sym is)
 get_in (y ∷ ys) (suc i) x h is = inr (get_in ys i x (omega arith) is)
 
-module _ (p : PlannedCourses) where
+module _ (p : PlannedTrainPaths) where
   abbrev given : Itineraries
   given = p.train_paths.given
 
@@ -146,48 +146,48 @@ module _ (p : PlannedCourses) where
   -- ---- what is known after some steps
 
   pub nothing_queued : (queues : List (List Wait)) → length queues ≡ length station.sections → ((n : ℕ) → entry [] queues n ≡ []) → AreQueues p 0 queues
-  nothing_queued queues many none = record { many = many; each = λ z. none z.0 }
+  nothing_queued queues many none = record { queue_a_section = many; each = λ z. none z.0 }
 
   pub nothing_known : (waits : List (List (Vec Wait))) → length waits ≡ length station.trains → ((n : ℕ) → entry [] waits n ≡ []) → AreKnown p 0 waits
-  nothing_known waits many none = record { many = many; each = λ t is. subst (λ vs. AreWaitsIn p t [] (map (λ (v : Vec Wait). v.items) vs)) (sym (none t.0)) tt }
+  nothing_known waits many none = record { waits_a_train = many; each = λ t is. subst (λ vs. AreWaitsIn p t [] (map (λ (v : Vec Wait). v.items) vs)) (sym (none t.0)) tt }
 
   pub queues_turned : (n : ℕ) → n < length plan → (step : List Command) → step ≡ get_or plan n step → (old new : List (List Wait)) → AreQueues p n old → length new ≡ length old
       → ((z : SectionNo) → queue_at new z ≡ these_or (map (wait_in given z) (on_section routes z step)) (queue_at old z)) → AreQueues p (n + 1) new
   queues_turned n less step is old new are many turn = record {
-    many = many ∙ are.many;
+    queue_a_section = many ∙ are.queue_a_section;
     each = λ z. queue_more n less step is z (queue_at old z) (queue_at new z) (are.each z) (turn z);
   }
 
   pub step_known : (n : ℕ) → n < length plan → (step : List Command) → step ≡ get_or plan n step → (waits : List (List (Vec Wait))) → length waits ≡ length station.trains
       → ((t : TrainNo) → IsTrain station t → AreWaitsIn p t (path (take n plan) t ++ routes_given t step) (own_waits waits t)) → AreKnown p (n + 1) waits
   step_known n less step is waits many each = record {
-    many = many;
+    waits_a_train = many;
     each = λ t train. subst (λ rs. AreWaitsIn p t rs (own_waits waits t)) (sym (path_more plan n step t less is)) (each t train);
   }
 
-  pub all_told : (waits : List (List (Vec Wait))) → AreKnown p (length plan) waits → (t : TrainNo) → IsTrain station t → TellWhatIsReady station routes dispatch t (own_waits waits t)
+  pub all_told : (waits : List (List (Vec Wait))) → AreKnown p (length plan) waits → (t : TrainNo) → IsTrain station t → GiveWhatIsReady station routes dispatch t (own_waits waits t)
   all_told waits known t is =
       waits_tell station routes plan t (orderly given.interlocking.now plan p.formed) (own_waits waits t)
       (subst (λ steps. AreWaitsIn p t (path steps t) (own_waits waits t)) (take_all (length plan) plan (le_refl (length plan))) (known.each t is))
 
-  -- the waits at a course's place are those of its train
+  -- the waits at a train path's place are those of its train
   pub told_at : (waits : List (List (Vec Wait))) → AreKnown p (length plan) waits → (i : ℕ) → i < length p.train_paths.train_paths.now → (train_path : TrainPath) → train_path ≡ get_or p.train_paths.train_paths.now i train_path → (own : List (Vec Wait)) → own ≡ get_or waits i own
-      → TellWhatIsReady station routes dispatch train_path.train (map (λ (v : Vec Wait). v.items) own)
+      → GiveWhatIsReady station routes dispatch train_path.train (map (λ (v : Vec Wait). v.items) own)
   told_at waits known i less train_path here own is =
-      subst (λ u. TellWhatIsReady station routes dispatch u (map (λ (v : Vec Wait). v.items) own)) (sym number)
-      (subst (λ vs. TellWhatIsReady station routes dispatch t (map (λ (v : Vec Wait). v.items) vs)) waits_are (all_told waits known t train))
+      subst (λ u. GiveWhatIsReady station routes dispatch u (map (λ (v : Vec Wait). v.items) own)) (sym number)
+      (subst (λ vs. GiveWhatIsReady station routes dispatch t (map (λ (v : Vec Wait). v.items) vs)) waits_are (all_told waits known t train))
     where
       t : TrainNo
       t = record { 0 = suc i }
 
       many : length p.train_paths.train_paths.now ≡ length station.trains
-      many = many_courses station routes (path_in given) p.train_paths.train_paths.now p.train_paths.coursed
+      many = many_train_paths station routes (path_in given) p.train_paths.train_paths.now p.train_paths.are_train_paths
 
       train : IsTrain station t
       train = let m = many in (omega arith, omega arith)
 
       number : train_path.train ≡ t
-      number = ap (λ (c : TrainPath). c.train) here ∙ ap (λ k. (get_or p.train_paths.train_paths.now k train_path).train) (let e : i ≡ suc i - 1 = omega arith in e) ∙ train_at station routes (path_in given) p.train_paths.train_paths.now p.train_paths.coursed t train_path train
+      number = ap (λ (c : TrainPath). c.train) here ∙ ap (λ k. (get_or p.train_paths.train_paths.now k train_path).train) (let e : i ≡ suc i - 1 = omega arith in e) ∙ train_at station routes (path_in given) p.train_paths.train_paths.now p.train_paths.are_train_paths t train_path train
 
       waits_are : entry [] waits (suc i) ≡ own
-      waits_are = let m = many in let w = known.many in get_or_default waits i [] own (omega arith) ∙ sym is
+      waits_are = let m = many in let w = known.waits_a_train in get_or_default waits i [] own (omega arith) ∙ sym is

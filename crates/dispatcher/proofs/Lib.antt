@@ -1,7 +1,7 @@
 mod Steps
 mod Last
 mod Enough
-mod Telling
+mod Ready
 mod Gathering
 mod Entering
 mod Merging

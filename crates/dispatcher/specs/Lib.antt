@@ -1,4 +1,4 @@
--- Queues of commands by section, and the waits that they tell.
+-- Queues of commands by section, and the waits that they give.
 pub mod Queues
 pub mod Waits
 pub mod Planned

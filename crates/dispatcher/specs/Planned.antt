@@ -8,7 +8,7 @@ use Rattle.rail_base.specs.Numbering.{entry}
 use Rattle.rail_base.specs.Stations.{IsTrain}
 use Rattle.rail_spec.specs.Plans.{path}
 use Rattle.rail_spec.specs.Dispatches.{of_plan}
-use Rattle.rail_course.specs.declared.planned.PlannedCourses.{PlannedCourses}
+use Rattle.rail_course.specs.declared.planned.PlannedTrainPaths.{PlannedTrainPaths}
 use Rattle.rail_course.specs.declared.waits.Wait.{Wait}
 use Rattle.dispatcher.specs.Queues.{last_on, queue_at}
 use Rattle.dispatcher.specs.Waits.{AreWaitsOf, wait_in}
@@ -17,10 +17,10 @@ use Rattle.dispatcher.specs.Waits.{AreWaitsOf, wait_in}
 abbrev pub own_waits : List (List (Vec Wait)) → TrainNo → List (List Wait)
 own_waits waits t = map (λ v. v.items) (entry [] waits t.0)
 
-module _ (p : PlannedCourses) where
+module _ (p : PlannedTrainPaths) where
   -- the queues after the first n steps
   pub record AreQueues (n : ℕ) (queues : List (List Wait)) : Type 0 where
-    pub many : length queues ≡ length p.train_paths.given.interlocking.now.design.station.sections
+    pub queue_a_section : length queues ≡ length p.train_paths.given.interlocking.now.design.station.sections
     pub each : (z : SectionNo) → queue_at queues z
         ≡ map (wait_in p.train_paths.given z) (last_on p.train_paths.given.interlocking.now.routes z [] (take n p.plan.now.steps))
 
@@ -31,6 +31,6 @@ module _ (p : PlannedCourses) where
 
   -- the waits of each train's commands in the first n steps
   pub record AreKnown (n : ℕ) (waits : List (List (Vec Wait))) : Type 0 where
-    pub many : length waits ≡ length p.train_paths.given.interlocking.now.design.station.trains
+    pub waits_a_train : length waits ≡ length p.train_paths.given.interlocking.now.design.station.trains
     pub each : (t : TrainNo) → IsTrain p.train_paths.given.interlocking.now.design.station t
         → AreWaitsIn t (path (take n p.plan.now.steps) t) (own_waits waits t)

@@ -10,7 +10,7 @@ use crate::turns::turn;
 use crate::waits::waits_of;
 use rail_base::list::List;
 use rail_base::plan::Command;
-use rail_course::{Journey, PlannedCourses, Wait};
+use rail_course::{Journey, PlannedTrainPaths, Wait};
 use std::alloc::{AllocError, Global};
 
 /// The waits of each command of a train's path.
@@ -19,7 +19,7 @@ type Waits = List<Vec<Wait>>;
 /// The journeys of all trains, in file order.
 pub fn journeys<'a>(
     alloc: Global,
-    planned: &PlannedCourses<'a>,
+    planned: &PlannedTrainPaths<'a>,
 ) -> Result<Vec<Journey<'a>>, AllocError>
     ensures { IfOk result (λ js. ArePlannedJourneys planned.now js.items) }
 {
@@ -28,7 +28,7 @@ pub fn journeys<'a>(
 }
 
 /// The commands of a step, counted from 0.
-fn step_at<'a>(planned: &PlannedCourses<'a>, number: usize) -> &'a [Command]
+fn step_at<'a>(planned: &PlannedTrainPaths<'a>, number: usize) -> &'a [Command]
     requires { number < length planned.now.plan.now.steps }
     ensures step { result.now ≡ slice_index_or planned.now.plan.now.steps number [] }
     ensures named { All (IsCommandIn planned.now.train_paths.given) result.now }
@@ -38,7 +38,7 @@ fn step_at<'a>(planned: &PlannedCourses<'a>, number: usize) -> &'a [Command]
 
 /// Adds the waits of the commands of a step.
 fn push_step(
-    planned: &PlannedCourses,
+    planned: &PlannedTrainPaths,
     alloc: Global,
     waits: &mut Vec<Waits>,
     queues: &[List<Wait>],
@@ -60,7 +60,7 @@ fn push_step(
 
 /// For each train, in file order, the waits of each command of its path. Each command waits for those that stand last on its
 /// sections before its step.
-fn waits_of_all(planned: &PlannedCourses, alloc: Global) -> Result<Vec<Waits>, AllocError>
+fn waits_of_all(planned: &PlannedTrainPaths, alloc: Global) -> Result<Vec<Waits>, AllocError>
     ensures { IfOk result (λ waits. AreKnown planned.now (length planned.now.plan.now.steps) waits.items) }
 {
     let station = &planned.train_paths.given.interlocking.design.station;
@@ -80,7 +80,7 @@ fn waits_of_all(planned: &PlannedCourses, alloc: Global) -> Result<Vec<Waits>, A
 
 /// The journeys of all trains, in file order, with these waits.
 fn journeys_with<'a>(
-    planned: &PlannedCourses<'a>,
+    planned: &PlannedTrainPaths<'a>,
     alloc: Global,
     waits: Vec<Waits>,
 ) -> Result<Vec<Journey<'a>>, AllocError>

@@ -7,20 +7,20 @@ use Rattle.rail_cli.specs.declared.reply.Reply.{Reply}
 use Rattle.rail_cli.specs.declared.ending.Ending.{Ending}
 use Rattle.rail_cli.specs.declared.ending.Ending.TheVariants as ending
 use Rattle.rail_cli.specs.Answers.{ReplySeen}
-use Rattle.rail_cli.specs.Replies.{OnReply, Reads, reply_seen}
+use Rattle.rail_cli.specs.Replies.{OnReply, ReadsOrEnds, reply_seen}
 use Rattle.rail_outside.specs.Files.{Files}
-use Rattle.draw_cli.specs.Wanted.{Wanted, track, run, by_routes, by_simulate, command_words, or_else, wanted_of}
+use Rattle.draw_cli.specs.Wanted.{Wanted, track, run, by_routes, by_simulate, words_with_command, or_else, wanted_of}
 use Rattle.draw_cli.specs.Answers.{Answers, IsAnswerGiven, IsAnswerTo, IsRunAnswer, IsTrackAnswer, usage}
 use Rattle.draw_cli.specs.Replies.{RepliesSome}
 
 -- a reading that ends the work
-refused_here : {X Y : Type 0} (view : X → Y) (e : Ending) (reading : Result Y ReplySeen) (right : Y → ReplySeen → Type 0) → Reads view (Err e) reading → OnReply (Err e) (λ reply. Answers reading right (reply_seen reply))
+refused_here : {X Y : Type 0} (view : X → Y) (e : Ending) (reading : Result Y ReplySeen) (right : Y → ReplySeen → Type 0) → ReadsOrEnds view (Err e) reading → OnReply (Err e) (λ reply. Answers reading right (reply_seen reply))
 refused_here {Y = Y} view (ending.RefusedWith reply) reading right h = subst (λ (r : Result Y ReplySeen). Answers r right (reply_seen reply)) (sym h) refl
 refused_here view ending.Memory reading right h = tt
 refused_here view ending.ShelfFault reading right h = tt
 
 module _ (r : Result Reply Ending) where
-  pub refused_so : {X Y : Type 0} (view : X → Y) (e : Ending) (reading : Result Y ReplySeen) (right : Y → ReplySeen → Type 0) → r ≡ Err e → Reads view (Err e) reading → OnReply r (λ reply. Answers reading right (reply_seen reply))
+  pub refused_so : {X Y : Type 0} (view : X → Y) (e : Ending) (reading : Result Y ReplySeen) (right : Y → ReplySeen → Type 0) → r ≡ Err e → ReadsOrEnds view (Err e) reading → OnReply r (λ reply. Answers reading right (reply_seen reply))
   refused_so view e reading right is h = subst (λ (x : Result Reply Ending). OnReply x (λ reply. Answers reading right (reply_seen reply))) (sym is) (refused_here view e reading right h)
 
   -- memory was wanting
@@ -52,7 +52,7 @@ module _ (r : Result Reply Ending) where
   run_some w design plan is h = asked_some (Some w) (run design plan) (ap Some is) (record { design_bytes = h.0; plan_bytes = h.1; replies = h.2 })
 
 -- what the words ask for, by those with a command
-pub asks_for : (words routes simulate : List (List ℕ)) (w : Option Wanted) → routes ≡ command_words (codes "routes") words → simulate ≡ command_words (codes "simulate") words
+pub asks_for : (words routes simulate : List (List ℕ)) (w : Option Wanted) → routes ≡ words_with_command (codes "routes") words → simulate ≡ words_with_command (codes "simulate") words
     → or_else (by_routes (request_of routes)) (by_simulate (request_of simulate)) ≡ w → wanted_of words ≡ w
 asks_for words routes simulate w one other h = ap₂ (λ (a b : List (List ℕ)). or_else (by_routes (request_of a)) (by_simulate (request_of b))) (sym one) (sym other) ∙ h
 

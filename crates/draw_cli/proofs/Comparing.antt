@@ -14,11 +14,11 @@ use Rattle.rail_cli.specs.declared.input.InputFile.TheVariants as file
 use Rattle.rail_cli.specs.Statuses.{is_verdict}
 use Rattle.rail_cli.specs.Shows.{verdict_at_horizon}
 use Rattle.rail_cli.specs.Texts.{plan_refused_line}
-use Rattle.rail_cli.specs.Answers.{ReplySeen, one_line, within_limit, with_routes, and_then, design_in, plan_or_answer, plan_in, unless_refused, verdict_status, shown, planned, routes_answer}
+use Rattle.rail_cli.specs.Answers.{ReplySeen, one_line, within_limit, with_routes, and_then, design_in, plan_or_answer, plan_in, unless_refused, verdict_status, verdict_reply, planned, routes_answer}
 use Rattle.rail_cli.proofs.Passing.{passed, long_refuses, design_refuses}
 use Rattle.rail_cli.proofs.Refusing.{file_is}
 use Rattle.draw_cli.specs.Answers.{Answers, IsTrackDrawing, IsRunDrawing, TrackAnswers, PlanAnswers, RunAnswers}
-use Rattle.draw_cli.specs.Laws.{RefusesAsRoutes, DrawsWhereRoutesAreListed, RefusesAsSimulate, DrawsWhereThereIsAVerdict, NamesAreShown}
+use Rattle.draw_cli.specs.Laws.{RefusesAsRoutes, DrawsWhereRoutesAreListed, RefusesAsSimulate, DrawsWhereThereIsAVerdict, NamesAreDrawn}
 
 -- what is right for what is read
 answers_at : {X : Type 0} (reading : Result X ReplySeen) (x : X) (right : X → ReplySeen → Type 0) (a : ReplySeen) → reading ≡ Ok x → Answers reading right a → right x a
@@ -55,7 +55,7 @@ settled (Met history tick) = refl
 settled (Failed history tick violation) = refl
 settled Undecided = refl
 
-plan_or : (d : Station) (q : Result (List (List Command)) ReplySeen) (a : ReplySeen) → Answers q (IsRunDrawing d) a → is_verdict (unless_refused q (λ plan. shown d (verdict_at_horizon d plan))).status ≡ false → a ≡ unless_refused q (λ plan. shown d (verdict_at_horizon d plan))
+plan_or : (d : Station) (q : Result (List (List Command)) ReplySeen) (a : ReplySeen) → Answers q (IsRunDrawing d) a → is_verdict (unless_refused q (λ plan. verdict_reply d (verdict_at_horizon d plan))).status ≡ false → a ≡ unless_refused q (λ plan. verdict_reply d (verdict_at_horizon d plan))
 plan_or d (Ok plan) a h none = let verdict : is_verdict (verdict_status (verdict_at_horizon d plan)) ≡ true = settled (verdict_at_horizon d plan) in absurd (cc)
 plan_or d (Err x) a h none = h
 
@@ -92,7 +92,7 @@ draws_where_there_is_a_verdict design_bytes plan_bytes a h verdict =
     let two = passed (design_in one.read) (simulated_over plan_bytes) (design_refuses (and_then (design_of one.read) with_routes)) one.verdict in
     let d = two.read in
     let three = passed (within_limit file.Plan plan_bytes) (planned d) (long_refuses file.Plan plan_bytes) two.verdict in
-    let four = passed (plan_in d three.read) (λ plan. shown d (verdict_at_horizon d plan)) (plan_refuses d (plan_of d (routes_of d) three.read)) three.verdict in
+    let four = passed (plan_in d three.read) (λ plan. verdict_reply d (verdict_at_horizon d plan)) (plan_refuses d (plan_of d (routes_of d) three.read)) three.verdict in
     let text : design_bytes ≡ one.read = file_is file.Design design_bytes one.read one.is in
     let plan_text : plan_bytes ≡ three.read = file_is file.Plan plan_bytes three.read three.is in
     let at_text = answers_at (within_limit file.Design design_bytes) one.read (λ t b. Answers (design_in t) (RunAnswers plan_bytes) b) a one.is h in
@@ -102,12 +102,12 @@ draws_where_there_is_a_verdict design_bytes plan_bytes a h verdict =
       design = d;
       parsed = ap design_in text ∙ two.is;
       plan = four.read;
-      plan_spelled = ap (plan_in d) plan_text ∙ four.is;
+      plan_parsed = ap (plan_in d) plan_text ∙ four.is;
       drawn = answers_at (plan_in d three.read) four.read (IsRunDrawing d) a four.is at_plan;
     }
 
 -- ---- names
 
-pub names_are_shown : NamesAreShown
-names_are_shown words most a name drawing there =
+pub names_are_drawn : NamesAreDrawn
+names_are_drawn words most a name drawing there =
     words_are_in_lines drawing.picture a.lines name drawing.lines (subst (λ (ws : List (List ℕ)). In name ws) (sym drawing.words_are) there)

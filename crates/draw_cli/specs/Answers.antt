@@ -31,7 +31,7 @@ pub record IsDrawing (words : List (List ℕ)) (most : ℕ) (a : ReplySeen) : Ty
   pub picture : List Shape
   pub lines : IsDrawingOf picture a.lines
   pub words_are : words_in picture ≡ words
-  pub few : length picture ≤ most
+  pub within_limit : length picture ≤ most
 
 -- of a track: the names of all sections, nodes and signals
 abbrev pub IsTrackDrawing : Station → ReplySeen → Type 0

@@ -5,7 +5,7 @@ use Rattle.rail_base.specs.declared.station.Station.{Station}
 use Rattle.rail_base.specs.declared.plan.Command.{Command}
 use Rattle.rail_base.specs.Members.{In}
 use Rattle.rail_cli.specs.declared.status.Status.TheVariants.{Done}
-use Rattle.rail_cli.specs.Answers.{ReplySeen, design_in, plan_in, routes_listed, simulation_reply}
+use Rattle.rail_cli.specs.Answers.{ReplySeen, design_in, plan_in, routes_reply, simulation_reply}
 use Rattle.rail_cli.specs.Statuses.{is_verdict}
 use Rattle.rail_outside.specs.Files.{Files}
 use Rattle.draw_cli.specs.Wanted.{wanted_of}
@@ -14,7 +14,7 @@ use Rattle.draw_cli.specs.Answers.{IsAnswerTo, IsDrawing, IsRunAnswer, IsRunDraw
 -- where the routes of a design are not listed, the answer is the same, by status and line
 abbrev pub RefusesAsRoutes : Type 0
 RefusesAsRoutes = (design_bytes : List ℕ) (a : ReplySeen) → IsTrackAnswer design_bytes a
-    → (routes_listed design_bytes).status ≢ Done → a ≡ routes_listed design_bytes
+    → (routes_reply design_bytes).status ≢ Done → a ≡ routes_reply design_bytes
 
 -- the bytes spell a design, of whose track the answer is a drawing
 pub record DrawsTrack (design_bytes : List ℕ) (a : ReplySeen) : Type 0 where
@@ -25,7 +25,7 @@ pub record DrawsTrack (design_bytes : List ℕ) (a : ReplySeen) : Type 0 where
 -- where they are listed, the answer is a drawing
 abbrev pub DrawsWhereRoutesAreListed : Type 0
 DrawsWhereRoutesAreListed = (design_bytes : List ℕ) (a : ReplySeen) → IsTrackAnswer design_bytes a
-    → (routes_listed design_bytes).status ≡ Done → DrawsTrack design_bytes a
+    → (routes_reply design_bytes).status ≡ Done → DrawsTrack design_bytes a
 
 -- where a simulation comes to no verdict, the answer is the same, by status and line
 abbrev pub RefusesAsSimulate : Type 0
@@ -37,7 +37,7 @@ pub record DrawsRun (design_bytes plan_bytes : List ℕ) (a : ReplySeen) : Type 
   pub design : Station
   pub parsed : design_in design_bytes ≡ Ok design
   pub plan : List (List Command)
-  pub plan_spelled : plan_in design plan_bytes ≡ Ok plan
+  pub plan_parsed : plan_in design plan_bytes ≡ Ok plan
   pub drawn : IsRunDrawing design plan a
 
 -- where it comes to one, the answer is a drawing
@@ -46,8 +46,8 @@ DrawsWhereThereIsAVerdict = (design_bytes plan_bytes : List ℕ) (a : ReplySeen)
     → is_verdict (simulation_reply design_bytes plan_bytes).status ≡ true → DrawsRun design_bytes plan_bytes a
 
 -- in a drawing, each of its words is the text of a line
-abbrev pub NamesAreShown : Type 0
-NamesAreShown = (words : List (List ℕ)) (most : ℕ) (a : ReplySeen) (name : List ℕ) → IsDrawing words most a
+abbrev pub NamesAreDrawn : Type 0
+NamesAreDrawn = (words : List (List ℕ)) (most : ℕ) (a : ReplySeen) (name : List ℕ) → IsDrawing words most a
     → In name words → Shows a.lines name
 
 -- words that ask for nothing are answered by how the program is used, whatever the files are

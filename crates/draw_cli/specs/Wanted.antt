@@ -9,9 +9,9 @@ pub data Wanted : Type 0 where
   run : Text → Text → Wanted
 
 -- the words with a command after the program's name
-abbrev pub command_words : Text → List Text → List Text
-command_words command [] = []
-command_words command (program ∷ words) = program ∷ command ∷ words
+abbrev pub words_with_command : Text → List Text → List Text
+words_with_command command [] = []
+words_with_command command (program ∷ words) = program ∷ command ∷ words
 
 -- the drawing for a request to list routes
 abbrev pub by_routes : Option RequestSeen → Option Wanted
@@ -39,5 +39,5 @@ or_else None other = other
 -- what the words ask for: what `rcv routes` is asked for by the same words, or else `rcv simulate`
 abbrev pub wanted_of : List Text → Option Wanted
 wanted_of words =
-    or_else (by_routes (request_of (command_words (codes "routes") words)))
-    (by_simulate (request_of (command_words (codes "simulate") words)))
+    or_else (by_routes (request_of (words_with_command (codes "routes") words)))
+    (by_simulate (request_of (words_with_command (codes "simulate") words)))

@@ -8,7 +8,7 @@ mod run;
 mod wanted;
 
 pub use laws::{
-    draws_where_routes_are_listed, draws_where_there_is_a_verdict, names_are_shown,
+    draws_where_routes_are_listed, draws_where_there_is_a_verdict, names_are_drawn,
     refuses_as_routes, refuses_as_simulate, silence_is_usage,
 };
 pub use run::run_draw;

@@ -10,7 +10,7 @@ ghost use Rattle.draw_cli.specs.Replies.{PrintsAnswer, PrintsSome, RepliesSome};
 ghost use Rattle.draw_cli.specs.Wanted.{wanted_of};
 
 use crate::drawn::{reply_to, usage};
-use crate::wanted::{command_words, read_wanted};
+use crate::wanted::{read_wanted, words_with_command};
 use rail_cli::{Ending, Reply, Status, print};
 use rail_outside::{Shelf, Sink};
 use rail_words::WordsFault;
@@ -20,7 +20,7 @@ use std::alloc::Global;
 /// name from the shelf, and the plan if they name one, and prints a drawing of the track, or of the plan's run up to
 /// its deciding tick. All of its text is made before the first line is printed.
 ///
-/// Where the shelf tells what it holds, what is printed is an answer for these files: what `rcv routes` or `rcv
+/// Where the shelf's files are known, what is printed is an answer for these files: what `rcv routes` or `rcv
 /// simulate` answers where it refuses one of them, and else the status 0 and a drawing with the names of all sections,
 /// and of all nodes and signals or of all trains and visits. Want of memory or a fault of the shelf may come in its
 /// place, before anything is printed, or a fault of the sink or want of memory after a prefix of it.
@@ -34,7 +34,7 @@ pub fn run_draw<S: Shelf, O: Sink>(
         → PrintsAnswer (IsAnswerTo files (wanted_of (texts_of words.now))) result
         (O.written out.old) (O.written out.new) (O.puts out.old) (O.puts out.new) }
 
-    // Over any shelf, also one that tells nothing, such an answer for some bytes of the files is printed.
+    // Over any shelf, also one of which nothing is known, such an answer for some bytes of the files is printed.
     ensures for_some_files { PrintsSome (wanted_of (texts_of words.now)) result
         (O.written out.old) (O.written out.new) (O.puts out.old) (O.puts out.new) }
 
@@ -66,8 +66,8 @@ fn reply<S: Shelf>(alloc: Global, words: &[String], shelf: &mut S) -> Result<Rep
     ensures files_stay { S.known_files shelf.new ≡ S.known_files shelf.old }
     ensures asks { GrowsByPrefix (S.asked shelf.old) (S.asked shelf.new) (asks_to (wanted_of (texts_of words.now))) }
 {
-    let routes = command_words(alloc, "routes", words)?;
-    let simulate = command_words(alloc, "simulate", words)?;
+    let routes = words_with_command(alloc, "routes", words)?;
+    let simulate = words_with_command(alloc, "simulate", words)?;
     match read_wanted(alloc, routes.as_slice(), simulate.as_slice()) {
         Ok(wanted) => reply_to(alloc, shelf, wanted),
         Err(WordsFault::Usage) => {

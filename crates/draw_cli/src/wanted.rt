@@ -3,7 +3,7 @@
 ghost use Rattle.std.specs.Prelude.{◌≡◌, ◌++◌, IfOk, OnOk, Some, None, Err, option_map};
 ghost use Rattle.rail_words.specs.Requests.{request_of};
 ghost use Rattle.rail_words.specs.Words.{request_seen, texts_of};
-ghost use Rattle.draw_cli.specs.Wanted.{by_routes, by_simulate, command_words, or_else};
+ghost use Rattle.draw_cli.specs.Wanted.{by_routes, by_simulate, words_with_command, or_else};
 ghost use Rattle.draw_cli.specs.Words.{wanted_by};
 
 use rail_words::{Request, WordsFault, read_words};
@@ -19,12 +19,12 @@ pub(crate) enum Wanted<'a> {
 }
 
 /// The words with a command after the program's name. The error is want of memory.
-pub(crate) fn command_words(
+pub(crate) fn words_with_command(
     alloc: Global,
     command: &str,
     words: &[String],
 ) -> Result<Vec<String>, AllocError>
-    ensures { IfOk result (λ more. texts_of more.items ≡ command_words command.now (texts_of words.now)) }
+    ensures { IfOk result (λ more. texts_of more.items ≡ words_with_command command.now (texts_of words.now)) }
 {
     let mut more = Vec::new(alloc);
     match words {

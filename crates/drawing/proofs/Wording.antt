@@ -4,23 +4,23 @@ use Rattle.std.specs.List.{filter_map}
 use Rattle.std.proofs.lemmas.List.{append-nil, take_more, map-append, take_all}
 use Rattle.std.proofs.lemmas.List.Elements.{filter_map-append}
 use Rattle.drawing.specs.declared.shape.Shape.{Shape}
-use Rattle.drawing.specs.Drawing.{words_of, words_in}
+use Rattle.drawing.specs.Drawing.{shape_words, words_in}
 
 -- a shape with words
-pub one_word : (old : List Shape) (shape : Shape) (text : List ℕ) → words_of shape ≡ Some text → words_in (old ++ shape ∷ []) ≡ words_in old ++ text ∷ []
-one_word old shape text is = rw (filter_map-append words_of old (shape ∷ []), is) refl
+pub one_word : (old : List Shape) (shape : Shape) (text : List ℕ) → shape_words shape ≡ Some text → words_in (old ++ shape ∷ []) ≡ words_in old ++ text ∷ []
+one_word old shape text is = rw (filter_map-append shape_words old (shape ∷ []), is) refl
 
 -- a shape without
-pub no_word : (old : List Shape) (shape : Shape) → words_of shape ≡ None → words_in (old ++ shape ∷ []) ≡ words_in old
-no_word old shape is = rw (filter_map-append words_of old (shape ∷ []), is) (append-nil (words_in old))
+pub no_word : (old : List Shape) (shape : Shape) → shape_words shape ≡ None → words_in (old ++ shape ∷ []) ≡ words_in old
+no_word old shape is = rw (filter_map-append shape_words old (shape ∷ []), is) (append-nil (words_in old))
 
 -- the same, where there is memory for it
 module _ {A E : Type 0} where
-  pub adds_word : (r : Result A E) (old new : List Shape) (shape : Shape) (text : List ℕ) → words_of shape ≡ Some text → OnOk r (new ≡ old ++ shape ∷ []) → OnOk r (words_in new ≡ words_in old ++ text ∷ [])
+  pub adds_word : (r : Result A E) (old new : List Shape) (shape : Shape) (text : List ℕ) → shape_words shape ≡ Some text → OnOk r (new ≡ old ++ shape ∷ []) → OnOk r (words_in new ≡ words_in old ++ text ∷ [])
   adds_word (Ok x) old new shape text is h = ap words_in h ∙ one_word old shape text is
   adds_word (Err e) old new shape text is h = tt
 
-  pub adds_none : (r : Result A E) (old new : List Shape) (shape : Shape) → words_of shape ≡ None → OnOk r (new ≡ old ++ shape ∷ []) → OnOk r (words_in new ≡ words_in old)
+  pub adds_none : (r : Result A E) (old new : List Shape) (shape : Shape) → shape_words shape ≡ None → OnOk r (new ≡ old ++ shape ∷ []) → OnOk r (words_in new ≡ words_in old)
   adds_none (Ok x) old new shape is h = ap words_in h ∙ no_word old shape is
   adds_none (Err e) old new shape is h = tt
 

@@ -7,16 +7,16 @@ use Rattle.drawing.specs.declared.shape.Shape.TheVariants.{Line, Bar, Dot, Words
 use Rattle.drawing.specs.Lines.{end_line, ground_line, head_line, shape_line}
 
 -- the words of a shape
-abbrev pub words_of : Shape → Option (List ℕ)
-words_of (Line points color width) = None
-words_of (Bar corner width height color) = None
-words_of (Dot center radius color) = None
-words_of (Words place anchor color text) = Some text
-words_of (Note place anchor color text) = None
+abbrev pub shape_words : Shape → Option (List ℕ)
+shape_words (Line points color width) = None
+shape_words (Bar corner width height color) = None
+shape_words (Dot center radius color) = None
+shape_words (Words place anchor color text) = Some text
+shape_words (Note place anchor color text) = None
 
 -- the words of a picture, in order
 abbrev pub words_in : List Shape → List (List ℕ)
-words_in picture = filter_map words_of picture
+words_in picture = filter_map shape_words picture
 
 -- the lines of a drawing of a picture, of a size in px to the right and below
 abbrev pub drawing_of : Point → List Shape → List (List ℕ)

@@ -1,4 +1,4 @@
--- Bounds, told: legs one after the other, with the ticks that they take at the least.
+-- Bounds in sentences: legs one after the other, with the ticks that they take at the least.
 use Rattle.std.specs.Prelude.{ℕ, ◌+◌, if◌then◌else◌, nat_le, List, [], ◌∷◌, ◌++◌, codes, decimal, Option, None, Some}
 use Rattle.rail_base.specs.declared.station.Station.{Station}
 use Rattle.rail_base.specs.declared.station.TrainNo.{TrainNo}

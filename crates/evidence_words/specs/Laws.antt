@@ -1,4 +1,4 @@
--- The ticks that are told are those of the definitions of bounds.
+-- The ticks that are printed are those of the definitions of bounds.
 use Rattle.std.specs.Prelude.{◌≡◌, ℕ, List, ◌∷◌, Option, None, Some}
 use Rattle.rail_base.specs.declared.station.Station.{Station}
 use Rattle.rail_base.specs.declared.route.Route.{Route}

@@ -1,4 +1,4 @@
 -- What bounds mean, in sentences with the names of the design.
 pub mod Bounds
-pub mod Told
+pub mod Sentences
 pub mod Laws

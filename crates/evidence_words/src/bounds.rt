@@ -17,6 +17,7 @@ ghost use Rattle.evidence_words.specs.Bounds.{end_tick, first_tick, horizon_text
 ghost use Rattle.evidence_words.specs.Bounds.{made_text, origin_text, origin_tick, passed, since_text, start_text};
 
 use crate::legs::{Chain, put_moment};
+use bound_spec::{Bound, Leg, Origin, Requirement};
 use bound_ticks::{stretches_of, ticks_followed, visit_from, visit_to};
 use cone_words::{
     most_ticks, order_of, push_opening, push_parts, push_sentence, put_makes, put_nodes, put_ticks,
@@ -28,7 +29,6 @@ use rail_base::design::Design;
 use rail_base::names::train_name;
 use rail_base::plan::Command;
 use rail_base::station::TrainNo;
-use bound_spec::{Bound, Leg, Origin, Requirement};
 use rail_text::put_number;
 use std::alloc::{AllocError, Global};
 
@@ -159,7 +159,7 @@ fn counted_after(origin: &Origin, from: Option<Visit>) -> Option<Visit>
 /// The tick at which the first leg's first command is granted at the earliest.
 fn first_tick(after: Option<Visit>) -> u64
     ensures value { result ≡ first_tick (origin_of after) }
-    ensures small { result ≤ 1 }
+    ensures at_most_1 { result ≤ 1 }
 {
     match after {
         None => 1,

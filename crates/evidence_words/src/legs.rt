@@ -8,13 +8,13 @@ ghost use Rattle.leg_targets.specs.Visits.{origin_of};
 ghost use Rattle.evidence_words.specs.Bounds.{moment_text};
 
 use crate::places::{leg_text, put_meeting};
+use bound_spec::{Leg, first_train, last_routes};
 use bound_ticks::{Ride, first_routes};
 use cone_words::{push_sentence, put_any_route, put_makes, put_ticks};
 use interlocking::Interlocking;
 use leg_targets::Visit;
 use rail_base::design::Design;
 use rail_base::names::train_name;
-use bound_spec::{Leg, first_train, last_routes};
 use rail_text::put_number;
 use std::alloc::{AllocError, Global};
 
@@ -53,7 +53,7 @@ pub struct Chain<'a> {
     /// The visit after which ticks are counted, or none where they are ticks of the run.
     pub after: Option<Visit>,
     pub to: Option<Visit>,
-    pub ghost few: { most ≤ 86400 },
+    pub ghost at_most_86400: { most ≤ 86400 },
     pub ghost end: { ForSome to (λ v. IsTrain interlocking.now.design.station v.train) },
 }
 
@@ -75,7 +75,7 @@ impl Chain<'_> {
         lines: &mut Vec<Vec<u8>>,
     ) -> Result<u64, AllocError>
         requires legs { All (IsLeg self.now.interlocking.now) legs.now }
-        requires few { let i = self.now.interlocking.now in let d = i.design.station in
+        requires at_most_10_000_000 { let i = self.now.interlocking.now in let d = i.design.station in
             tick + chain_of d i.routes self.now.most (origin_of from) (origin_of self.now.to) legs.now ≤ 10000000 }
         requires from { ForSome from (λ v. IsTrain self.now.interlocking.now.design.station v.train) }
         ensures end { let i = self.now.interlocking.now in let d = i.design.station in

@@ -5,12 +5,12 @@ ghost use Rattle.bound_spec.specs.Certificates.{kept_out};
 ghost use Rattle.cone_words.specs.Phrases.{each_after, joined};
 ghost use Rattle.evidence_words.specs.Bounds.{leg_text, meeting_text, only, place_text, unused_text};
 
+use bound_spec::{Leg, Place, routes_of};
 use cone_words::{put_any_route, put_shared};
 use interlocking::Interlocking;
 use rail_base::design::Design;
 use rail_base::names::train_name;
 use rail_base::route::RouteNo;
-use bound_spec::{Leg, Place, routes_of};
 use std::alloc::{AllocError, Global};
 
 /// A leg: its train, and its places.

@@ -2,12 +2,12 @@
 
 ghost use Rattle.std.specs.Prelude.{◌≡◌, ◌++◌, true, OnOk};
 ghost use Rattle.rail_outside.specs.Lines.{lines_of};
-ghost use Rattle.evidence_words.specs.Told.{evidence_sentences, names_what_is_there};
+ghost use Rattle.evidence_words.specs.Sentences.{evidence_sentences, names_what_is_there};
 
 use crate::bounds::push_bound;
+use bound_spec::Evidence;
 use cone_words::push_cone;
 use interlocking::Interlocking;
-use bound_spec::Evidence;
 use std::alloc::{AllocError, Global};
 
 /// Appends the sentences about a cone or a bound, each with its LF, that a file's line of this number gives. Of a bound the

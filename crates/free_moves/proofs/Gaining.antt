@@ -1,4 +1,4 @@
--- The way of the speeds gained, and the greatest free move.
+-- The distance of the speeds gained, and the greatest free move.
 use Rattle.std.proofs.Common.{◌≡◌, ℕ, zero, suc, ◌+◌, ◌-◌, ◌*◌, ◌/◌, ◌≤◌, ◌<◌, max, nat_abs, Bool, true, false, not, ◌&&◌, ◌||◌, nat_lt, nat_le, if◌then◌else◌, List, [], ◌∷◌, drop, length, slice_index_or, Option, refl, sym, ap, subst, arith}
 use Rattle.std.proofs.lemmas.List.{get_or-drop, length-drop}
 use Rattle.rail_motion.specs.declared.Span.{Span}

@@ -54,7 +54,7 @@ pub(crate) fn exits(routes: &RouteTable, walk: &[RouteNo]) -> bool
 /// How long a walk is.
 pub(crate) fn length_of(routes: &RouteTable, path: &[RouteNo]) -> u64
     requires named { All (IsRoute routes.now) path.now }
-    requires short { path_length routes.now path.now < 2 ^ 47 }
+    requires below_2_47 { path_length routes.now path.now < 2 ^ 47 }
     ensures { result ≡ path_length routes.now path.now }
 {
     let mut length: u64 = 0;

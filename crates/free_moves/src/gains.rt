@@ -1,4 +1,4 @@
-//! The way on which a train gains its speed.
+//! The distance on which a train gains its speed.
 
 ghost use Rattle.std.specs.Prelude.{◌≡◌, ◌<◌, ◌≤◌, ◌+◌, ◌-◌, ◌^◌, not, ◌&&◌, ◌||◌, nat_abs, nat_lt, nat_le};
 ghost use Rattle.rail_motion.specs.Track.{IsRising, stretches_of};

@@ -18,6 +18,6 @@ pub(crate) struct Trip<'a> {
     /// Whether it could stop at the first place, since it waits for more track.
     pub waits: bool,
     pub ghost named: { IsTrain interlocking.now.design.station train },
-    pub ghost near: { to < 2 ^ 47 },
-    pub ghost few: { most ≤ 86400 },
+    pub ghost below_2_47: { to < 2 ^ 47 },
+    pub ghost at_most_86400: { most ≤ 86400 },
 }

@@ -139,7 +139,7 @@ module _ (d : Station) (adm : IsAdmitted d) (n : ℕ) (plan : List (List Command
             more = has.more;
             whole = whole;
             shut = λ s. (e, ap (list_any exits) (whole ∙ ap (λ zs. before ++ (r ∷ rs ++ zs)) e ∙ ap (λ zs. before ++ zs) (append-nil (r ∷ rs))) ∙ list_any-append exits before (r ∷ rs) ∙ ap (λ b. b || list_any exits (r ∷ rs)) none_before ∙ none);
-            first = has.first;
+            begins = has.begins;
           } in
           let a = by_leg (record { routes = r ∷ rs; closed = true; rest = rest }) own in
           let b = least_of_first f (f (record { routes = r ∷ rs; closed = true; rest = rest })) (following (routes_of d) (r ∷ rs) rest) in
@@ -168,7 +168,7 @@ module _ (d : Station) (adm : IsAdmitted d) (n : ℕ) (plan : List (List Command
                   ap (list_any exits) (one ∙ ap (λ zs. before ++ ((r ∷ rs ++ q ∷ []) ++ zs)) end ∙ ap (λ zs. before ++ zs) (append-nil (r ∷ rs ++ q ∷ []))) ∙ list_any-append exits before (r ∷ rs ++ q ∷ []) ∙ ap (λ b. b || list_any exits (r ∷ rs ++ q ∷ [])) none_before
                       ∙ list_any-append exits (r ∷ rs) (q ∷ []) ∙ ap (λ b. b || list_any exits (q ∷ [])) none ∙ ap (λ b. b || false) (dead_stays q dead),
                 );
-                first = has.first;
+                begins = has.begins;
               }
 
   -- what holds on each leg that the train can have holds on these routes, whatever follows them

@@ -335,7 +335,7 @@ module _ (d : Station) (adm : IsAdmitted d) (n : ℕ) (plan : List (List Command
             go : (b : Bool) → l.rest ≡ b → (not b || nat_le (rise a w 0) x) ≡ true
             go false e = refl
             go true e =
-                let none : o ≡ 0 = ap (sum_by length_mm) (has.first e) in
+                let none : o ≡ 0 = ap (sum_by length_mm) (has.begins e) in
                 let h = gap_held 0 0 t (at k t) (at (suc k) t) m (since 0 0 t (λ old new m past near. absurd (omega arith)) k) (omega arith) w in
                 let c = climb_more w w a w u 0 (le_refl w) slower in
                 le-leb _ _ (omega arith)

@@ -24,7 +24,7 @@ pub record HasLeg (routes : List Route) (plan : List (List Command)) (t : TrainN
   pub more : List Route
   pub whole : path_routes routes plan t ≡ before ++ (l.routes ++ more)
   pub shut : l.closed ≡ true → (more ≡ []) × (list_any exits (path_routes routes plan t) ≡ false)
-  pub first : l.rest ≡ true → before ≡ []
+  pub begins : l.rest ≡ true → before ≡ []
 
 -- how far a train can come in a tick from a place of the leg
 abbrev pub free_on : Station → TrainNo → Leg → ℕ → ℕ

@@ -58,7 +58,7 @@ pub fn no_steps_go_on_from_a_stop()
     ensures { (move : ℕ → ℕ) (h x y : ℕ) → move x ≡ 0 → x < y → steps move h x y ≡ suc h }
 {}
 
-/// The way gained above a speed is a sum of as many speeds as the gains that it takes to come there, less one.
+/// The distance gained above a speed is a sum of as many speeds as the gains that it takes to come there, less one.
 pub fn rises_are_sums()
     ensures { (a u l : ℕ) → 1 ≤ a → let c = (u - (l + 1)) / a in 2 * rise a u l + a * (c * (c + 1)) ≡ 2 * (c * u) }
 {}

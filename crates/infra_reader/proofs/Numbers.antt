@@ -7,7 +7,7 @@ use Rattle.design_table.specs.declared.fault.Code.TheVariants.{D04}
 use Rattle.design_table.specs.declared.fault.DesignFault.{DesignFault}
 use Rattle.design_table.specs.declared.fault.DesignFault.TheVariants as faults
 use Rattle.design_table.specs.declared.place.Place.{Place}
-use Rattle.design_table.specs.Reads.{Reads, first}
+use Rattle.design_table.specs.Reads.{ReadsOrRefuses, first}
 use Rattle.infra_reader.specs.Names.{number_in}
 use Rattle.infra_reader.specs.Unknown.{unless_among}
 
@@ -49,7 +49,7 @@ found_nowhere p xs h = go (nat_lt (position_or_len p xs) (length xs)) refl h
 
 module _ (names : List (List ℕ)) (name : List ℕ) where
   pub reads_number : (place : Place) (r : Result ℕ DesignFault) (i : ℕ) → position (bytes_eq name) names ≡ Some i → IfOk r (λ n. n ≡ i + 1) → IfErr r (λ e. e ≡ faults.Memory)
-      → Reads (λ x. x) r D04 (unless_among names name place) (number_in names name)
+      → ReadsOrRefuses (λ x. x) r D04 (unless_among names name place) (number_in names name)
   unfolding unless_among
   reads_number place (Ok n) i at ok err =
       let f = found_at (bytes_eq name) names i at in

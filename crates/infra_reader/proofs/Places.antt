@@ -4,7 +4,7 @@ use Rattle.design_table.specs.declared.place.Place.{Place}
 use Rattle.design_table.specs.declared.fault.Code.{Code}
 use Rattle.design_table.specs.declared.fault.DesignFault.{DesignFault}
 use Rattle.design_table.specs.declared.fault.DesignFault.TheVariants as faults
-use Rattle.design_table.specs.Reads.{first, Fails, Reads}
+use Rattle.design_table.specs.Reads.{first, Fails, ReadsOrRefuses}
 
 -- a part with a place has the first one
 pub first_here : (xs ys : List Place) (p : Place) → first xs ≡ Some p → first (xs ++ ys) ≡ Some p
@@ -39,10 +39,10 @@ fails_here faults.Memory code xs ys h = tt
 pub fails_later : (e : DesignFault) (code : Code) (xs ys : List Place) → xs ≡ [] → Fails e code ys → Fails e code (xs ++ ys)
 fails_later e code xs ys n h = rw n h
 
-pub reads_later : {X Y : Type 0} (view : X → Y) (r : Result X DesignFault) (code : Code) (xs ys : List Place) (y : Y) → xs ≡ [] → Reads view r code ys y → Reads view r code (xs ++ ys) y
+pub reads_later : {X Y : Type 0} (view : X → Y) (r : Result X DesignFault) (code : Code) (xs ys : List Place) (y : Y) → xs ≡ [] → ReadsOrRefuses view r code ys y → ReadsOrRefuses view r code (xs ++ ys) y
 reads_later view r code xs ys y n h = rw n h
 
-pub reads_failed : {X Y : Type 0} (view : X → Y) (r : Result X DesignFault) (e : DesignFault) (code : Code) (xs : List Place) (y : Y) → r ≡ Err e → Fails e code xs → Reads view r code xs y
+pub reads_failed : {X Y : Type 0} (view : X → Y) (r : Result X DesignFault) (e : DesignFault) (code : Code) (xs : List Place) (y : Y) → r ≡ Err e → Fails e code xs → ReadsOrRefuses view r code xs y
 reads_failed view r e code xs y is h = rw is h
 
 pub ruleset answers = (fails_here, fails_later, reads_later, none_in_both)

@@ -1,4 +1,4 @@
--- A design that bytes spell is admitted.
+-- A design in bytes is admitted.
 use Rattle.std.proofs.Common.{◌≡◌, true, List, [], ◌∷◌, Option, Some, None, Result, Ok, refl, subst}
 use Rattle.toml.specs.Data.{Members}
 use Rattle.design_table.specs.declared.fault.Code.{Code}

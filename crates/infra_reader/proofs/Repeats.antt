@@ -10,7 +10,7 @@ use Rattle.design_table.specs.declared.place.Place.TheVariants.{Field}
 use Rattle.design_table.specs.declared.key.Key.TheVariants.{Name}
 use Rattle.design_table.specs.declared.fault.Code.TheVariants.{D03}
 use Rattle.design_table.specs.declared.fault.DesignFault.{DesignFault}
-use Rattle.design_table.specs.Reads.{at, first, Reads}
+use Rattle.design_table.specs.Reads.{at, first, ReadsOrRefuses}
 use Rattle.infra_reader.proofs.Walking.{places_from}
 
 pub any_text : (n : List ℕ) (ks : List (Bor (List ℕ))) → list_any (bytes_eq n) (texts ks) ≡ list_any (λ k. bytes_eq n k.now) ks
@@ -78,8 +78,8 @@ texts_seen {X} name named seen same xs names is = rw is (go xs)
     go [] = refl
     go (x ∷ xs) = ap₂ (λ n ns. n ∷ ns) (same x) (go xs)
 
-pub reads_names : {X : Type 0} (view : X → List (List ℕ)) (r : Result X DesignFault) (kind : EntryKind) (names parsed : List (List ℕ)) → names ≡ parsed → Reads view r D03 (repeated kind names) names → Reads view r D03 (repeated kind parsed) parsed
-reads_names view r kind names parsed same h = subst (λ ns. Reads view r D03 (repeated kind ns) ns) same h
+pub reads_names : {X : Type 0} (view : X → List (List ℕ)) (r : Result X DesignFault) (kind : EntryKind) (names parsed : List (List ℕ)) → names ≡ parsed → ReadsOrRefuses view r D03 (repeated kind names) names → ReadsOrRefuses view r D03 (repeated kind parsed) parsed
+reads_names view r kind names parsed same h = subst (λ ns. ReadsOrRefuses view r D03 (repeated kind ns) ns) same h
 
 -- ---- each name once
 

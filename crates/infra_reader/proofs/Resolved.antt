@@ -6,7 +6,7 @@ use Rattle.design_table.specs.declared.fault.Code.{Code}
 use Rattle.design_table.specs.declared.fault.Code.TheVariants.{D02, D03, D04, D05, D06, D07, D08, D09, D10, D11}
 use Rattle.design_table.specs.declared.fault.DesignFault.{DesignFault}
 use Rattle.design_table.specs.declared.place.Place.{Place}
-use Rattle.design_table.specs.Reads.{Fails, Reads, unless_at, Refuses, Gives}
+use Rattle.design_table.specs.Reads.{Fails, ReadsOrRefuses, unless_at, Refuses, GivesOrRefuses}
 use Rattle.design_table.specs.Sheet.{sheet_of, form_fault}
 use Rattle.design_table.specs.Parsed.{ParsedSheet}
 use Rattle.design_table.specs.Toml.{toml_of}
@@ -46,7 +46,7 @@ module _ (d : Station) where
   abbrev from_d07 : Reading
   from_d07 = unless_at D07 (open_boundaries d) from_d08
 
-  pub last_rule : (r : Result ⊤ DesignFault) → crowded d ≡ [] → open_boundaries d ≡ [] → misplaced_signals d ≡ [] → zeros d ≡ [] → inner_starts d ≡ [] → Reads (λ x. x) r D11 (missing_visits d) tt
+  pub last_rule : (r : Result ⊤ DesignFault) → crowded d ≡ [] → open_boundaries d ≡ [] → misplaced_signals d ≡ [] → zeros d ≡ [] → inner_starts d ≡ [] → ReadsOrRefuses (λ x. x) r D11 (missing_visits d) tt
       → OnOk r (KeepsRules d) × IfErr r (λ fault. Refuses fault (ruled d))
   last_rule (Ok x) h6 h7 h8 h9 h10 h = (record { crowds = h6; ends = h7; signals = h8; moves = h9; starts = h10; visits = h.0 }, tt)
   last_rule (Err e) h6 h7 h8 h9 h10 h =
@@ -104,6 +104,6 @@ module _ (s : ParsedSheet) (d03 : repeated_names s ≡ []) where
 -- ---- the whole document
 
 module _ (bytes : List ℕ) (ms : Members) (s : ParsedSheet) (document : toml_of bytes ≡ Some ms) (d02 : form_fault ms ≡ []) (parsed : s ≡ sheet_of ms) where
-  pub gives_design : (r : Result Design DesignFault) → Gives (λ d. d.station) r (resolved s) → Gives (λ d. d.station) r (design_of bytes)
+  pub gives_design : (r : Result Design DesignFault) → GivesOrRefuses (λ d. d.station) r (resolved s) → GivesOrRefuses (λ d. d.station) r (design_of bytes)
   gives_design r h =
-      subst (λ reading. Gives (λ d. d.station) r reading) (ap resolved parsed ∙ sym (unless_later D02 (form_fault ms) (resolved (sheet_of ms)) d02) ∙ ap parsed_by (sym document)) h
+      subst (λ reading. GivesOrRefuses (λ d. d.station) r reading) (ap resolved parsed ∙ sym (unless_later D02 (form_fault ms) (resolved (sheet_of ms)) d02) ∙ ap parsed_by (sym document)) h

@@ -8,7 +8,7 @@ use Rattle.design_table.specs.declared.place.Place.{Place}
 use Rattle.design_table.specs.declared.fault.Code.{Code}
 use Rattle.design_table.specs.declared.fault.DesignFault.{DesignFault}
 use Rattle.design_table.specs.declared.fault.DesignFault.TheVariants as faults
-use Rattle.design_table.specs.Reads.{Fails, Reads}
+use Rattle.design_table.specs.Reads.{Fails, ReadsOrRefuses}
 use Rattle.infra_reader.proofs.Places.{fails_here}
 
 -- the places of entries of which each is seen as something, numbered from i on
@@ -51,7 +51,7 @@ pub no_places : {Y : Type 0} (i : ℕ) (ys : List Y) → flat_map (λ (e : ℕ �
 no_places i [] = refl
 no_places i (y ∷ ys) = no_places (i + 1) ys
 
-pub reads_nowhere : {X : Type 0} (r : Result X DesignFault) (code : Code) (places : List Place) (y : X) → places ≡ [] → Reads (λ x. x) r code places y → IfOk r (λ x. x ≡ y) × IfErr r (λ e. e ≡ faults.Memory)
+pub reads_nowhere : {X : Type 0} (r : Result X DesignFault) (code : Code) (places : List Place) (y : X) → places ≡ [] → ReadsOrRefuses (λ x. x) r code places y → IfOk r (λ x. x ≡ y) × IfErr r (λ e. e ≡ faults.Memory)
 reads_nowhere (Ok x) code places y none h = (h.1, tt)
 reads_nowhere (Err (faults.Refused c p)) code places y none h = let f = h.1 in absurd (cc)
 reads_nowhere (Err faults.Memory) code places y none h = (tt, refl)

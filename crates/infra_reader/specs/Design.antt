@@ -1,4 +1,4 @@
--- The design that a document spells, or the first refusal.
+-- The design in a document, or the first refusal.
 use Rattle.std.specs.Prelude.{ℕ, List, Option, Some, None, Result, Ok, Err}
 use Rattle.toml.specs.Data.{Members}
 use Rattle.design_table.specs.declared.fault.Code.{Code}
@@ -39,6 +39,6 @@ abbrev pub parsed_by : Option Members → Result Station (Code × Place)
 parsed_by None = Err (D01, File)
 parsed_by (Some ms) = unless_at D02 (form_fault ms) (resolved (sheet_of ms))
 
--- the design that the bytes spell, or the lowest code that holds anywhere, at its first place
+-- the design in the bytes, or the lowest code that holds anywhere, at its first place
 abbrev pub design_of : List ℕ → Result Station (Code × Place)
 design_of bytes = parsed_by (toml_of bytes)

@@ -1,4 +1,4 @@
--- The design that a document spells, or the first refusal: names, the station, and a list of places for each code.
+-- The design in a document, or the first refusal: names, the station, and a list of places for each code.
 pub mod Names
 pub mod Seen
 pub mod Unknown

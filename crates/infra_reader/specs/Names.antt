@@ -6,7 +6,7 @@ use Rattle.design_table.specs.declared.place.EntryKind.{EntryKind}
 use Rattle.design_table.specs.declared.place.EntryKind.TheVariants as kinds
 use Rattle.design_table.specs.declared.place.Place.{Place}
 use Rattle.design_table.specs.declared.place.Place.TheVariants.{Field}
-use Rattle.design_table.specs.Reads.{at, in_each, Reads}
+use Rattle.design_table.specs.Reads.{at, in_each, ReadsOrRefuses}
 use Rattle.design_table.specs.Parsed.{ParsedNode, ParsedEdge, ParsedSignal, ParsedVehicle, ParsedTrain}
 use Rattle.design_table.specs.Parsed.{ParsedSheet}
 use Rattle.design_table.specs.declared.fault.Code.TheVariants.{D03}
@@ -72,7 +72,7 @@ repeated kind names = in_each (λ i name. at (is_among (take (i - 1) names) name
 -- The names were read, seen by view, and none stands twice; or it is D03 at the first that stands already.
 abbrev pub ReadsDistinct : {X : Type 0} → (X → List (List ℕ)) → Result X DesignFault
     → EntryKind → List (List ℕ) → Type 0
-ReadsDistinct view result kind names = Reads view result D03 (repeated kind names) names
+ReadsDistinct view result kind names = ReadsOrRefuses view result D03 (repeated kind names) names
 
 -- names that stand twice in their array
 unfoldable pub repeated_names : ParsedSheet → List Place

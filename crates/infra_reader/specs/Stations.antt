@@ -1,4 +1,4 @@
--- The station that a sheet spells: names become numbers.
+-- The station in a sheet: names become numbers.
 use Rattle.std.specs.Prelude.{ℕ, ℤ, pos, negsuc, List, map, nat_lt, if◌then◌else◌}
 use Rattle.design_table.specs.declared.sheet.Side.TheVariants as parsed
 use Rattle.design_table.specs.declared.sheet.Side as table

@@ -1,7 +1,7 @@
 //! Designs from their documents.
 
 ghost use Rattle.std.specs.Prelude.{◌≡◌, OnOk, IfErr};
-ghost use Rattle.design_table.specs.Reads.{Gives, Refuses};
+ghost use Rattle.design_table.specs.Reads.{GivesOrRefuses, Refuses};
 ghost use Rattle.design_table.specs.Views.{sheet_seen};
 ghost use Rattle.rail_base.specs.declared.design.Design.{Design};
 ghost use Rattle.infra_reader.specs.Design.{ruled, resolved, design_of};
@@ -27,7 +27,7 @@ use std::alloc::Global;
 /// The lowest code that holds anywhere in the document, from D01 to D11, at its first place in the order of the
 /// walk; or `Memory`, which says nothing of the document.
 pub fn read_design(alloc: Global, bytes: &[u8]) -> Result<Design, DesignFault>
-    ensures { Gives (λ d. d.station) result (design_of bytes.now) }
+    ensures { GivesOrRefuses (λ d. d.station) result (design_of bytes.now) }
 {
     let table = toml_table(alloc, bytes)?;
     let sheet = read_sheet(alloc, &table)?;
@@ -50,7 +50,7 @@ fn refuse_broken(station: &Station) -> Result<(), DesignFault>
 /// The design that is parsed from a sheet of names.
 fn admit(alloc: Global, sheet: &Sheet) -> Result<Design, DesignFault>
     requires { HasNames (sheet_seen sheet.now) }
-    ensures { Gives (λ d. d.station) result (resolved (sheet_seen sheet.now)) }
+    ensures { GivesOrRefuses (λ d. d.station) result (resolved (sheet_seen sheet.now)) }
 {
     let names = read_names(alloc, sheet)?;
     let station = resolve(alloc, &names, sheet)?;

@@ -2,7 +2,7 @@
 
 ghost use Rattle.infra_reader.specs.Laws.{ParsedAreAdmitted};
 
-/// A design that bytes spell is admitted: its numbers are in range, its names are there, and its track holds together.
-pub fn spelled_designs_are_admitted()
+/// A design in bytes is admitted: its numbers are in range, its names are there, and its track holds together.
+pub fn parsed_designs_are_admitted()
     ensures { ParsedAreAdmitted }
 {}

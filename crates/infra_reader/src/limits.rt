@@ -2,7 +2,7 @@
 
 ghost use Rattle.std.specs.Prelude.{◌≡◌, ◌≤◌, ◌<◌, ◌&&◌, ◌/◌, pos, nat_abs, nat_le, int_le, not, length, map, IfOk};
 ghost use Rattle.std.specs.List.{list_all};
-ghost use Rattle.design_table.specs.Reads.{Reads, at};
+ghost use Rattle.design_table.specs.Reads.{ReadsOrRefuses, at};
 ghost use Rattle.design_table.specs.Parsed.{ParsedEdge, ParsedVehicle, ParsedTrain, ParsedWithin};
 ghost use Rattle.design_table.specs.Views.{edge_seen, vehicle_seen, train_seen, within_seen, sheet_seen};
 ghost use Rattle.rail_base.specs.Admission.{is_from};
@@ -20,7 +20,7 @@ use design_table::{
 /// Refuses numbers and counts that are out of range. Visit numbers are excepted.
 #[tactic(auto, using(crate::proofs::Places::walk), unfolding(crate::specs::Limits::out_of_range))]
 pub fn refuse_outside(sheet: &Sheet) -> Result<(), DesignFault>
-    ensures { Reads (λ x. x) result Code.D05 (out_of_range (sheet_seen sheet.now)) tt }
+    ensures { ReadsOrRefuses (λ x. x) result Code.D05 (out_of_range (sheet_seen sheet.now)) tt }
 {
     refuse_times(sheet)?;
     refuse_track(sheet)?;
@@ -29,7 +29,7 @@ pub fn refuse_outside(sheet: &Sheet) -> Result<(), DesignFault>
 
 /// Refuses a place where a number or a count is out of range.
 fn refuse_unless(is_good: bool, place: Place) -> Result<(), DesignFault>
-    ensures { Reads (λ x. x) result Code.D05 (at (not is_good) place) tt }
+    ensures { ReadsOrRefuses (λ x. x) result Code.D05 (at (not is_good) place) tt }
 {
     if is_good {
         Ok(())
@@ -106,7 +106,7 @@ impl<'a> Limited for VehicleEntry<'a> {
 /// Refuses a number that is not from `low` to `high`.
 #[tactic(auto, unfolding(crate::specs::Limits::unless_from))]
 fn refuse_unless_from(low: u32, high: u32, number: i64, place: Place) -> Result<(), DesignFault>
-    ensures { Reads (λ x. x) result Code.D05 (unless_from low high number place) tt }
+    ensures { ReadsOrRefuses (λ x. x) result Code.D05 (unless_from low high number place) tt }
 {
     refuse_unless(i64::from(low) <= number && number <= i64::from(high), place)
 }
@@ -184,7 +184,7 @@ fn is_horizon(horizon_ms: i64, tick_ms: i64) -> bool
 /// The version, the tick and the horizon.
 #[tactic(auto, using(crate::proofs::Places::walk), unfolding(crate::specs::Limits::times_outside))]
 fn refuse_times(sheet: &Sheet) -> Result<(), DesignFault>
-    ensures { Reads (λ x. x) result Code.D05 (times_outside (sheet_seen sheet.now)) tt }
+    ensures { ReadsOrRefuses (λ x. x) result Code.D05 (times_outside (sheet_seen sheet.now)) tt }
 {
     refuse_unless_from(1, 2, sheet.version, Place::Top(Key::Version))?;
     refuse_unless_from(100, 1000, sheet.tick_ms, Place::Top(Key::TickMs))?;
@@ -195,14 +195,14 @@ fn refuse_times(sheet: &Sheet) -> Result<(), DesignFault>
 /// Refuses too many nodes.
 #[tactic(auto, using(crate::proofs::Visits::count_seen))]
 fn refuse_nodes(sheet: &Sheet) -> Result<(), DesignFault>
-    ensures { Reads (λ x. x) result Code.D05 (count_outside 0 2000 Key.Node (sheet_seen sheet.now).nodes) tt }
+    ensures { ReadsOrRefuses (λ x. x) result Code.D05 (count_outside 0 2000 Key.Node (sheet_seen sheet.now).nodes) tt }
 {
     refuse_count(0, 2000, Key::Node, sheet.nodes.as_slice())
 }
 
 /// Refuses too many edges, and edges with numbers out of range.
 fn refuse_edges(sheet: &Sheet) -> Result<(), DesignFault>
-    ensures { Reads (λ x. x) result Code.D05
+    ensures { ReadsOrRefuses (λ x. x) result Code.D05
         (array_outside edge_outside 0 4000 Key.Edge (sheet_seen sheet.now).edges) tt }
 {
     refuse_array(0, 4000, Key::Edge, sheet.edges.as_slice())
@@ -211,14 +211,14 @@ fn refuse_edges(sheet: &Sheet) -> Result<(), DesignFault>
 /// Refuses too many signals.
 #[tactic(auto, using(crate::proofs::Visits::count_seen))]
 fn refuse_signals(sheet: &Sheet) -> Result<(), DesignFault>
-    ensures { Reads (λ x. x) result Code.D05 (count_outside 0 1000 Key.Signal (sheet_seen sheet.now).signals) tt }
+    ensures { ReadsOrRefuses (λ x. x) result Code.D05 (count_outside 0 1000 Key.Signal (sheet_seen sheet.now).signals) tt }
 {
     refuse_count(0, 1000, Key::Signal, sheet.signals.as_slice())
 }
 
 /// Refuses too many vehicles, and vehicles with numbers out of range.
 fn refuse_vehicles(sheet: &Sheet) -> Result<(), DesignFault>
-    ensures { Reads (λ x. x) result Code.D05
+    ensures { ReadsOrRefuses (λ x. x) result Code.D05
         (array_outside vehicle_outside 0 64 Key.Vehicle (sheet_seen sheet.now).vehicles) tt }
 {
     refuse_array(0, 64, Key::Vehicle, sheet.vehicles.as_slice())
@@ -226,7 +226,7 @@ fn refuse_vehicles(sheet: &Sheet) -> Result<(), DesignFault>
 
 /// Refuses no train or too many, and trains with too few or too many visits.
 fn refuse_trains(sheet: &Sheet) -> Result<(), DesignFault>
-    ensures { Reads (λ x. x) result Code.D05
+    ensures { ReadsOrRefuses (λ x. x) result Code.D05
         (array_outside train_outside 1 128 Key.Train (sheet_seen sheet.now).trains) tt }
 {
     refuse_array(1, 128, Key::Train, sheet.trains.as_slice())
@@ -235,14 +235,14 @@ fn refuse_trains(sheet: &Sheet) -> Result<(), DesignFault>
 /// Refuses too many orders.
 #[tactic(auto, using(crate::proofs::Visits::count_seen))]
 fn refuse_orders(sheet: &Sheet) -> Result<(), DesignFault>
-    ensures { Reads (λ x. x) result Code.D05 (count_outside 0 256 Key.Order (sheet_seen sheet.now).orders) tt }
+    ensures { ReadsOrRefuses (λ x. x) result Code.D05 (count_outside 0 256 Key.Order (sheet_seen sheet.now).orders) tt }
 {
     refuse_count(0, 256, Key::Order, sheet.orders.as_slice())
 }
 
 /// Refuses too many withins, and withins with numbers out of range.
 fn refuse_withins(sheet: &Sheet) -> Result<(), DesignFault>
-    ensures { Reads (λ x. x) result Code.D05
+    ensures { ReadsOrRefuses (λ x. x) result Code.D05
         (array_outside within_outside 0 256 Key.Within (sheet_seen sheet.now).withins) tt }
 {
     refuse_array(0, 256, Key::Within, sheet.withins.as_slice())
@@ -251,7 +251,7 @@ fn refuse_withins(sheet: &Sheet) -> Result<(), DesignFault>
 /// Refuses nodes, edges and signals.
 #[tactic(auto, using(crate::proofs::Places::walk), unfolding(crate::specs::Limits::track_outside))]
 fn refuse_track(sheet: &Sheet) -> Result<(), DesignFault>
-    ensures { Reads (λ x. x) result Code.D05 (track_outside (sheet_seen sheet.now)) tt }
+    ensures { ReadsOrRefuses (λ x. x) result Code.D05 (track_outside (sheet_seen sheet.now)) tt }
 {
     refuse_nodes(sheet)?;
     refuse_edges(sheet)?;
@@ -261,7 +261,7 @@ fn refuse_track(sheet: &Sheet) -> Result<(), DesignFault>
 /// Refuses vehicles and trains, orders and withins.
 #[tactic(auto, using(crate::proofs::Places::walk), unfolding(crate::specs::Limits::traffic_outside))]
 fn refuse_traffic(sheet: &Sheet) -> Result<(), DesignFault>
-    ensures { Reads (λ x. x) result Code.D05 (traffic_outside (sheet_seen sheet.now)) tt }
+    ensures { ReadsOrRefuses (λ x. x) result Code.D05 (traffic_outside (sheet_seen sheet.now)) tt }
 {
     refuse_vehicles(sheet)?;
     refuse_trains(sheet)?;

@@ -1,7 +1,7 @@
 //! The names of a sheet, and the numbers that they have.
 
 ghost use Rattle.std.specs.Prelude.{◌≡◌, ◌+◌, map, not, position, bytes_eq, IfOk, IfErr};
-ghost use Rattle.design_table.specs.Reads.{Reads, Fails, at};
+ghost use Rattle.design_table.specs.Reads.{ReadsOrRefuses, Fails, at};
 ghost use Rattle.design_table.specs.Views.{sheet_seen};
 ghost use Rattle.design_table.specs.declared.fault.DesignFault.TheVariants.{Memory};
 ghost use Rattle.infra_reader.specs.Unknown.{unless_among};
@@ -31,7 +31,7 @@ pub struct Names<'a> {
 #[tactic(auto, using(crate::proofs::Places::walk), unfolding(crate::specs::Names::repeated_names))]
 pub fn read_names<'a>(alloc: Global, sheet: &Sheet<'a>) -> Result<Names<'a>, DesignFault>
     ensures { let parsed = sheet_seen sheet.now in
-        Reads names_seen result Code.D03 (repeated_names parsed) (names_of parsed) }
+        ReadsOrRefuses names_seen result Code.D03 (repeated_names parsed) (names_of parsed) }
 {
     let nodes = node_names(alloc, sheet)?;
     edge_names(alloc, sheet)?;
@@ -50,7 +50,7 @@ pub fn read_names<'a>(alloc: Global, sheet: &Sheet<'a>) -> Result<Names<'a>, Des
 /// The number of a name, or the refusal of the place where it is none of these.
 pub fn number_at(names: &IndexSet<&str>, name: &str, place: Place) -> Result<u32, DesignFault>
     ensures { let known = texts names.now.keys in
-        Reads (λ x. x) result Code.D04 (unless_among known name.now place) (number_in known name.now) }
+        ReadsOrRefuses (λ x. x) result Code.D04 (unless_among known name.now place) (number_in known name.now) }
 {
     match place_of(names, name) {
         Some(index) => number_after(index),
@@ -79,7 +79,7 @@ fn distinct<'a>(
     kind: EntryKind,
     names: &[&'a str],
 ) -> Result<IndexSet<&'a str>, DesignFault>
-    ensures { Reads (λ s. texts s.keys) result Code.D03 (repeated kind (texts names.now)) (texts names.now) }
+    ensures { ReadsOrRefuses (λ s. texts s.keys) result Code.D03 (repeated kind (texts names.now)) (texts names.now) }
 {
     let mut seen = IndexSet::new(alloc);
     for (index, name) in names.iter().enumerate() {

@@ -2,7 +2,7 @@
 
 ghost use Rattle.std.specs.Prelude.{◌≡◌, ◌+◌, map, not, IfOk, IfErr, [], ◌++◌};
 ghost use Rattle.std.specs.List.{list_all};
-ghost use Rattle.design_table.specs.Reads.{Reads, at, in_each};
+ghost use Rattle.design_table.specs.Reads.{ReadsOrRefuses, at, in_each};
 ghost use Rattle.design_table.specs.Parsed.{ParsedNode, ParsedEdge, ParsedSignal, ParsedVehicle, ParsedTrain};
 ghost use Rattle.design_table.specs.Parsed.{ParsedOrder, ParsedWithin};
 ghost use Rattle.design_table.specs.Views.{node_seen, edge_seen, signal_seen, vehicle_seen, train_seen, order_seen};
@@ -35,7 +35,7 @@ use std::alloc::{AllocError, Global};
 #[tactic(auto, using(crate::proofs::Places::walk))]
 pub fn resolve(alloc: Global, names: &Names, sheet: &Sheet) -> Result<Station, DesignFault>
     ensures { let known = names_seen names.now in let parsed = sheet_seen sheet.now in
-        Reads (λ x. x) result Code.D04 (track_unknown known parsed ++ traffic_unknown known parsed)
+        ReadsOrRefuses (λ x. x) result Code.D04 (track_unknown known parsed ++ traffic_unknown known parsed)
         (station_in known parsed) }
 {
     let track = resolve_track(alloc, names, sheet)?;
@@ -190,7 +190,7 @@ fn visit_nodes(
     place: Place,
 ) -> Result<List<NodeNo>, DesignFault>
     ensures { let names = texts nodes.now.keys in let parsed = texts visit.now in
-        Reads (λ x. x) result Code.D04 (at (not (list_all (is_among names) parsed)) place) (nodes_in names parsed) }
+        ReadsOrRefuses (λ x. x) result Code.D04 (at (not (list_all (is_among names) parsed)) place) (nodes_in names parsed) }
 {
     let mut numbers = Vec::new(alloc);
     for name in visit {
@@ -286,7 +286,7 @@ fn visits_nodes(
     place: Place,
 ) -> Result<List<List<NodeNo>>, DesignFault>
     ensures { let names = texts nodes.now.keys in let parsed = visits_seen visits.now in
-        Reads (λ x. x) result Code.D04 (at (not (list_all (list_all (is_among names)) parsed)) place)
+        ReadsOrRefuses (λ x. x) result Code.D04 (at (not (list_all (list_all (is_among names)) parsed)) place)
         (map (nodes_in names) parsed) }
 {
     let mut numbers = Vec::new(alloc);
@@ -318,7 +318,7 @@ fn resolve_nodes(alloc: Global, names: &Names, sheet: &Sheet) -> Result<List<Nod
 /// The edges of the station.
 fn resolve_edges(alloc: Global, names: &Names, sheet: &Sheet) -> Result<List<Edge>, DesignFault>
     ensures { let known = names_seen names.now in let edges = (sheet_seen sheet.now).edges in
-        Reads (λ x. x) result Code.D04 (in_each (edge_unknown known) edges) (map (edge_in known) edges) }
+        ReadsOrRefuses (λ x. x) result Code.D04 (in_each (edge_unknown known) edges) (map (edge_in known) edges) }
 {
     resolve_each(alloc, names, sheet.edges.as_slice())
 }
@@ -326,7 +326,7 @@ fn resolve_edges(alloc: Global, names: &Names, sheet: &Sheet) -> Result<List<Edg
 /// The signals of the station.
 fn resolve_signals(alloc: Global, names: &Names, sheet: &Sheet) -> Result<List<Signal>, DesignFault>
     ensures { let known = names_seen names.now in let signals = (sheet_seen sheet.now).signals in
-        Reads (λ x. x) result Code.D04 (in_each (signal_unknown known) signals) (map (signal_in known) signals) }
+        ReadsOrRefuses (λ x. x) result Code.D04 (in_each (signal_unknown known) signals) (map (signal_in known) signals) }
 {
     resolve_each(alloc, names, sheet.signals.as_slice())
 }
@@ -347,7 +347,7 @@ fn resolve_vehicles(
 /// The trains of the station.
 fn resolve_trains(alloc: Global, names: &Names, sheet: &Sheet) -> Result<List<Train>, DesignFault>
     ensures { let known = names_seen names.now in let trains = (sheet_seen sheet.now).trains in
-        Reads (λ x. x) result Code.D04 (in_each (train_unknown known) trains) (map (train_in known) trains) }
+        ReadsOrRefuses (λ x. x) result Code.D04 (in_each (train_unknown known) trains) (map (train_in known) trains) }
 {
     resolve_each(alloc, names, sheet.trains.as_slice())
 }
@@ -355,7 +355,7 @@ fn resolve_trains(alloc: Global, names: &Names, sheet: &Sheet) -> Result<List<Tr
 /// The orders of the station.
 fn resolve_orders(alloc: Global, names: &Names, sheet: &Sheet) -> Result<List<Order>, DesignFault>
     ensures { let known = names_seen names.now in let orders = (sheet_seen sheet.now).orders in
-        Reads (λ x. x) result Code.D04 (in_each (order_unknown known) orders) (map (order_in known) orders) }
+        ReadsOrRefuses (λ x. x) result Code.D04 (in_each (order_unknown known) orders) (map (order_in known) orders) }
 {
     resolve_each(alloc, names, sheet.orders.as_slice())
 }
@@ -381,7 +381,7 @@ struct Traffic {
 /// The withins of the station.
 fn resolve_withins(alloc: Global, names: &Names, sheet: &Sheet) -> Result<List<Within>, DesignFault>
     ensures { let known = names_seen names.now in let withins = (sheet_seen sheet.now).withins in
-        Reads (λ x. x) result Code.D04 (in_each (within_unknown known) withins) (map (within_in known) withins) }
+        ReadsOrRefuses (λ x. x) result Code.D04 (in_each (within_unknown known) withins) (map (within_in known) withins) }
 {
     resolve_each(alloc, names, sheet.withins.as_slice())
 }
@@ -390,7 +390,7 @@ fn resolve_withins(alloc: Global, names: &Names, sheet: &Sheet) -> Result<List<W
 #[tactic(auto, using(crate::proofs::Places::walk), unfolding(crate::specs::Unknown::track_unknown))]
 fn resolve_track(alloc: Global, names: &Names, sheet: &Sheet) -> Result<Track, DesignFault>
     ensures { let known = names_seen names.now in let parsed = sheet_seen sheet.now in
-        Reads (λ x. x) result Code.D04 (track_unknown known parsed) (track_in known parsed) }
+        ReadsOrRefuses (λ x. x) result Code.D04 (track_unknown known parsed) (track_in known parsed) }
 {
     let nodes = resolve_nodes(alloc, names, sheet)?;
     let edges = resolve_edges(alloc, names, sheet)?;
@@ -408,7 +408,7 @@ fn resolve_track(alloc: Global, names: &Names, sheet: &Sheet) -> Result<Track, D
 #[tactic(auto, using(crate::proofs::Places::walk), unfolding(crate::specs::Unknown::traffic_unknown))]
 fn resolve_traffic(alloc: Global, names: &Names, sheet: &Sheet) -> Result<Traffic, DesignFault>
     ensures { let known = names_seen names.now in let parsed = sheet_seen sheet.now in
-        Reads (λ x. x) result Code.D04 (traffic_unknown known parsed) (traffic_in known parsed) }
+        ReadsOrRefuses (λ x. x) result Code.D04 (traffic_unknown known parsed) (traffic_in known parsed) }
 {
     let vehicles = resolve_vehicles(alloc, names, sheet)?;
     let trains = resolve_trains(alloc, names, sheet)?;

@@ -4,7 +4,7 @@ ghost use Rattle.std.specs.Prelude.{◌≡◌, ◌+◌, ◌*◌, ◌/◌, ◌-�
 ghost use Rattle.std.specs.Prelude.{length, not, take, count_by};
 ghost use Rattle.std.specs.List.{list_all, list_any};
 ghost use Rattle.std.specs.Option.{option_copied};
-ghost use Rattle.design_table.specs.Reads.{Reads, at, in_each};
+ghost use Rattle.design_table.specs.Reads.{ReadsOrRefuses, at, in_each};
 ghost use Rattle.design_table.specs.declared.place.Place.TheVariants.{Entry, Field, Top};
 ghost use Rattle.design_table.specs.declared.place.EntryKind.TheVariants as kinds;
 ghost use Rattle.design_table.specs.declared.key.Key.TheVariants as keys;
@@ -27,7 +27,7 @@ use rail_base::station::{
 /// Refuses nodes with too many edge ends, and then edges with both ends at one node.
 #[tactic(auto, using(crate::proofs::Places::walk), unfolding(crate::specs::Track::crowded))]
 pub fn refuse_crowded(station: &Station) -> Result<(), DesignFault>
-    ensures { Reads (λ x. x) result Code.D06 (crowded station.now) tt }
+    ensures { ReadsOrRefuses (λ x. x) result Code.D06 (crowded station.now) tt }
 {
     refuse_crowded_nodes(station)?;
     refuse_loops(station)
@@ -38,7 +38,7 @@ pub fn refuse_crowded(station: &Station) -> Result<(), DesignFault>
 /// Refuses boundaries that have not one edge end.
 #[tactic(auto, unfolding(crate::specs::Track::open_boundaries))]
 pub fn refuse_open_boundaries(station: &Station) -> Result<(), DesignFault>
-    ensures { Reads (λ x. x) result Code.D07 (open_boundaries station.now) tt }
+    ensures { ReadsOrRefuses (λ x. x) result Code.D07 (open_boundaries station.now) tt }
 {
     refuse_each::<OpenBoundaries, Node>(station, station.nodes.as_slice())
 }
@@ -46,7 +46,7 @@ pub fn refuse_open_boundaries(station: &Station) -> Result<(), DesignFault>
 /// Refuses signals at boundaries, and later ones for a node and side that have one.
 #[tactic(auto, unfolding(crate::specs::Track::misplaced_signals))]
 pub fn refuse_misplaced_signals(station: &Station) -> Result<(), DesignFault>
-    ensures { Reads (λ x. x) result Code.D08 (misplaced_signals station.now) tt }
+    ensures { ReadsOrRefuses (λ x. x) result Code.D08 (misplaced_signals station.now) tt }
 {
     refuse_each::<Misplaced, Signal>(station, station.signals.as_slice())
 }
@@ -54,7 +54,7 @@ pub fn refuse_misplaced_signals(station: &Station) -> Result<(), DesignFault>
 /// Refuses numbers that are 0 in a tick.
 #[tactic(auto, using(crate::proofs::Places::walk), unfolding(crate::specs::Traffic::zeros))]
 pub fn refuse_zeros(station: &Station) -> Result<(), DesignFault>
-    ensures { Reads (λ x. x) result Code.D09 (zeros station.now) tt }
+    ensures { ReadsOrRefuses (λ x. x) result Code.D09 (zeros station.now) tt }
 {
     refuse_no_tick(station)?;
     refuse_edge_zeros(station)?;
@@ -94,7 +94,7 @@ impl Rule<Edge> for Loops {
 /// Refuses trains whose first visit names a node that is no boundary.
 #[tactic(auto, unfolding(crate::specs::Traffic::inner_starts))]
 pub fn refuse_inner_starts(station: &Station) -> Result<(), DesignFault>
-    ensures { Reads (λ x. x) result Code.D10 (inner_starts station.now) tt }
+    ensures { ReadsOrRefuses (λ x. x) result Code.D10 (inner_starts station.now) tt }
 {
     refuse_each::<InnerStarts, Train>(station, station.trains.as_slice())
 }
@@ -102,7 +102,7 @@ pub fn refuse_inner_starts(station: &Station) -> Result<(), DesignFault>
 /// Refuses visit numbers that are none of that train's.
 #[tactic(auto, using(crate::proofs::Places::walk), unfolding(crate::specs::Traffic::missing_visits))]
 pub fn refuse_missing_visits(station: &Station) -> Result<(), DesignFault>
-    ensures { Reads (λ x. x) result Code.D11 (missing_visits station.now) tt }
+    ensures { ReadsOrRefuses (λ x. x) result Code.D11 (missing_visits station.now) tt }
 {
     refuse_orders_missing(station)?;
     refuse_withins_missing(station)
@@ -110,7 +110,7 @@ pub fn refuse_missing_visits(station: &Station) -> Result<(), DesignFault>
 
 /// Refuses a place where a rule is broken.
 fn refuse_if(is_broken: bool, code: Code, place: Place) -> Result<(), DesignFault>
-    ensures { Reads (λ x. x) result code (at is_broken place) tt }
+    ensures { ReadsOrRefuses (λ x. x) result code (at is_broken place) tt }
 {
     if is_broken {
         Err(DesignFault::Refused { code, place })
@@ -163,7 +163,7 @@ fn ends_at(station: &Station, node: u64, side: Side) -> usize
 
 /// Refuses nodes with too many edge ends.
 fn refuse_crowded_nodes(station: &Station) -> Result<(), DesignFault>
-    ensures { Reads (λ x. x) result Code.D06
+    ensures { ReadsOrRefuses (λ x. x) result Code.D06
         (in_each (λ i n. at (is_crowded station.now i) (Entry kinds.Node i)) station.now.nodes) tt }
 {
     refuse_each::<Crowded, Node>(station, station.nodes.as_slice())
@@ -171,7 +171,7 @@ fn refuse_crowded_nodes(station: &Station) -> Result<(), DesignFault>
 
 /// Refuses edges with both ends at one node.
 fn refuse_loops(station: &Station) -> Result<(), DesignFault>
-    ensures { Reads (λ x. x) result Code.D06
+    ensures { ReadsOrRefuses (λ x. x) result Code.D06
         (in_each (λ i e. at (is_loop e) (Entry kinds.Edge i)) station.now.edges) tt }
 {
     refuse_each::<Loops, Edge>(station, station.edges.as_slice())
@@ -294,7 +294,7 @@ fn is_constant(rate_mm_s2: u32, tick_ms: u32) -> bool
 
 /// Refuses a number that is 0 in a tick.
 fn refuse_zero(is_zero: bool, place: Place) -> Result<(), DesignFault>
-    ensures { Reads (λ x. x) result Code.D09 (at is_zero place) tt }
+    ensures { ReadsOrRefuses (λ x. x) result Code.D09 (at is_zero place) tt }
 {
     refuse_if(is_zero, Code::D09, place)
 }
@@ -302,7 +302,7 @@ fn refuse_zero(is_zero: bool, place: Place) -> Result<(), DesignFault>
 /// Refuses a horizon of no tick.
 #[tactic(auto, unfolding(crate::specs::Traffic::if_zero))]
 fn refuse_no_tick(station: &Station) -> Result<(), DesignFault>
-    ensures { Reads (λ x. x) result Code.D09 (if_zero (horizon station.now) (Top keys.HorizonMs)) tt }
+    ensures { ReadsOrRefuses (λ x. x) result Code.D09 (if_zero (horizon station.now) (Top keys.HorizonMs)) tt }
 {
     let is_zero = match station.horizon_ms.checked_div(station.tick_ms) {
         Some(ticks) => ticks == 0,
@@ -315,14 +315,14 @@ fn refuse_no_tick(station: &Station) -> Result<(), DesignFault>
 
 /// Refuses edges whose speed is 0 in a tick.
 fn refuse_edge_zeros(station: &Station) -> Result<(), DesignFault>
-    ensures { Reads (λ x. x) result Code.D09 (in_each (edge_zeros station.now) station.now.edges) tt }
+    ensures { ReadsOrRefuses (λ x. x) result Code.D09 (in_each (edge_zeros station.now) station.now.edges) tt }
 {
     refuse_each::<EdgeZeros, Edge>(station, station.edges.as_slice())
 }
 
 /// Refuses vehicles whose acceleration, braking or speed is 0 in a tick.
 fn refuse_vehicle_zeros(station: &Station) -> Result<(), DesignFault>
-    ensures { Reads (λ x. x) result Code.D09 (in_each (vehicle_zeros station.now) station.now.vehicles) tt }
+    ensures { ReadsOrRefuses (λ x. x) result Code.D09 (in_each (vehicle_zeros station.now) station.now.vehicles) tt }
 {
     refuse_each::<VehicleZeros, Vehicle>(station, station.vehicles.as_slice())
 }
@@ -421,21 +421,21 @@ fn refuse_missing(
     visit: u32,
     place: Place,
 ) -> Result<(), DesignFault>
-    ensures { Reads (λ x. x) result Code.D11 (unless_visit station.now train visit place) tt }
+    ensures { ReadsOrRefuses (λ x. x) result Code.D11 (unless_visit station.now train visit place) tt }
 {
     refuse_if(!is_visit(station, train, visit), Code::D11, place)
 }
 
 /// Refuses orders of visits that are not there.
 fn refuse_orders_missing(station: &Station) -> Result<(), DesignFault>
-    ensures { Reads (λ x. x) result Code.D11 (in_each (order_missing station.now) station.now.orders) tt }
+    ensures { ReadsOrRefuses (λ x. x) result Code.D11 (in_each (order_missing station.now) station.now.orders) tt }
 {
     refuse_each::<OrdersMissing, Order>(station, station.orders.as_slice())
 }
 
 /// Refuses withins of visits that are not there.
 fn refuse_withins_missing(station: &Station) -> Result<(), DesignFault>
-    ensures { Reads (λ x. x) result Code.D11 (in_each (within_missing station.now) station.now.withins) tt }
+    ensures { ReadsOrRefuses (λ x. x) result Code.D11 (in_each (within_missing station.now) station.now.withins) tt }
 {
     refuse_each::<WithinsMissing, Within>(station, station.withins.as_slice())
 }

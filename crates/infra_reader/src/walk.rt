@@ -3,7 +3,7 @@
 ghost use Rattle.std.specs.Prelude.{◌≡◌, ℕ, List, map};
 ghost use Rattle.design_table.specs.declared.fault.Code.{Code};
 ghost use Rattle.design_table.specs.declared.place.Place.{Place};
-ghost use Rattle.design_table.specs.Reads.{Reads, in_each};
+ghost use Rattle.design_table.specs.Reads.{ReadsOrRefuses, in_each};
 ghost use Rattle.rail_base.specs.declared.station.Station.{Station};
 ghost use Rattle.infra_reader.specs.Names.{Names};
 ghost use Rattle.infra_reader.specs.Limits.{count_outside, array_outside};
@@ -28,7 +28,7 @@ pub trait Limited {
 
     /// Refuses numbers out of range. Entries are counted from 1.
     fn refuse_outside(&self, number: u64) -> Result<(), DesignFault>
-        ensures { Reads (λ x. x) result Code.D05 (outside number (seen self.now)) tt };
+        ensures { ReadsOrRefuses (λ x. x) result Code.D05 (outside number (seen self.now)) tt };
 }
 
 /// Refuses an array that has not from `least` to `most` entries.
@@ -39,7 +39,7 @@ pub fn refuse_count<E>(
     key: Key,
     entries: &[E],
 ) -> Result<(), DesignFault>
-    ensures { Reads (λ x. x) result Code.D05 (count_outside least most key entries.now) tt }
+    ensures { ReadsOrRefuses (λ x. x) result Code.D05 (count_outside least most key entries.now) tt }
 {
     if least <= entries.len() && entries.len() <= most {
         Ok(())
@@ -58,7 +58,7 @@ pub fn refuse_array<E: Limited>(
     key: Key,
     entries: &[E],
 ) -> Result<(), DesignFault>
-    ensures { Reads (λ x. x) result Code.D05 (array_outside E.outside least most key (map E.seen entries.now)) tt }
+    ensures { ReadsOrRefuses (λ x. x) result Code.D05 (array_outside E.outside least most key (map E.seen entries.now)) tt }
 {
     refuse_count(least, most, key, entries)?;
     refuse_each_outside(entries)
@@ -66,7 +66,7 @@ pub fn refuse_array<E: Limited>(
 
 /// Refuses entries that break a rule.
 pub fn refuse_each<R: Rule<E>, E>(station: &Station, entries: &[E]) -> Result<(), DesignFault>
-    ensures { Reads (λ x. x) result R.code (in_each (R.places station.now) entries.now) tt }
+    ensures { ReadsOrRefuses (λ x. x) result R.code (in_each (R.places station.now) entries.now) tt }
 {
     for (index, entry) in entries.iter().enumerate() {
         R::check(station, index as u64 + 1, entry)?;
@@ -83,7 +83,7 @@ pub trait Rule<E> {
 
     /// Refuses an entry that breaks the rule. Entries are counted from 1.
     fn check(station: &Station, number: u64, entry: &E) -> Result<(), DesignFault>
-        ensures { Reads (λ x. x) result code (places station.now number entry.now) tt };
+        ensures { ReadsOrRefuses (λ x. x) result code (places station.now number entry.now) tt };
 }
 
 /// The entries, by the numbers of the names.
@@ -93,7 +93,7 @@ pub fn resolve_each<E: Resolve>(
     entries: &[E],
 ) -> Result<List<E::Resolved>, DesignFault>
     ensures { let known = names_seen names.now in let parsed = map E.seen entries.now in
-        Reads (λ x. x) result Code.D04 (in_each (E.unknown known) parsed) (map (E.resolved known) parsed) }
+        ReadsOrRefuses (λ x. x) result Code.D04 (in_each (E.unknown known) parsed) (map (E.resolved known) parsed) }
 {
     let mut resolved = Vec::new(alloc);
     for (index, entry) in entries.iter().enumerate() {
@@ -127,12 +127,12 @@ pub trait Resolve {
         number: u64,
     ) -> Result<Self::Resolved, DesignFault>
         ensures { let known = names_seen names.now in let parsed = seen self.now in
-            Reads (λ x. x) result Code.D04 (unknown known number parsed) (resolved known parsed) };
+            ReadsOrRefuses (λ x. x) result Code.D04 (unknown known number parsed) (resolved known parsed) };
 }
 
 /// Refuses entries with numbers out of range.
 fn refuse_each_outside<E: Limited>(entries: &[E]) -> Result<(), DesignFault>
-    ensures { Reads (λ x. x) result Code.D05 (in_each E.outside (map E.seen entries.now)) tt }
+    ensures { ReadsOrRefuses (λ x. x) result Code.D05 (in_each E.outside (map E.seen entries.now)) tt }
 {
     for (index, entry) in entries.iter().enumerate() {
         entry.refuse_outside(index as u64 + 1)?;

@@ -11,7 +11,7 @@ use Rattle.rail_base.specs.Numbering.{entry}
 use Rattle.rail_base.specs.Routes.{has_section, sections, share, shared, release_offset}
 use Rattle.rail_base.proofs.Lists.{in_map, in_map_back, in_filter_back}
 use Rattle.rail_base.proofs.Members.{in_filter, list_any_from, list_any_gives}
-use Rattle.rail_laws.proofs.Told.{fold_above, fold_reached}
+use Rattle.rail_laws.proofs.AsEdges.{fold_above, fold_reached}
 use Rattle.number_sets.specs.declared.set.NumberSet.{NumberSet}
 use Rattle.number_sets.specs.Sets.{contains}
 use Rattle.interlocking.specs.Sections.{IsSectionSet, last_release}

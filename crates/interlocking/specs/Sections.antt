@@ -14,7 +14,7 @@ IsSectionSet set r = (z : SectionNo) → contains set z.0 ≡ has_section r z
 
 -- for each route the set of its sections
 pub record AreSectionSets (routes : List Route) (sets : List NumberSet) : Type 0 where
-  pub many : length sets ≡ length routes
+  pub set_a_route : length sets ≡ length routes
   pub each : (r : RouteNo) (none : NumberSet) → IsRoute routes r
       → IsSectionSet (entry none sets r.0) (route_at routes r)
 

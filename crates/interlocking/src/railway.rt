@@ -15,6 +15,6 @@ pub struct Interlocking {
     pub routes: RouteTable,
     pub(crate) sets: Vec<NumberSet>,
     pub ghost table: { routes ≡ routes_of design.station },
-    pub ghost few: { length routes ≤ 2000 },
+    pub ghost at_most_2000: { length routes ≤ 2000 },
     pub ghost sections: { AreSectionSets routes sets.items },
 }

@@ -6,6 +6,6 @@ ghost use Rattle.std.specs.Prelude.{◌≤◌};
 #[derive(Clone, Copy, Debug)]
 pub struct Steps {
     pub count: u32,
-    pub ghost some: { 1 ≤ count },
-    pub ghost most: { count ≤ 256 },
+    pub ghost at_least_one: { 1 ≤ count },
+    pub ghost at_most_256: { count ≤ 256 },
 }

@@ -38,7 +38,7 @@ pub fn release_place(
     requires next { IsRoute interlocking.now.routes next }
     ensures place { let routes = interlocking.now.routes in let rs = routes_at routes walk.now in
         result ≡ release_place interlocking.now.design.station train rs (route_at routes next) }
-    ensures near { result ≤ length walk.now * 40000000000 + 4294967295 }
+    ensures within_walk { result ≤ length walk.now * 40000000000 + 4294967295 }
 {
     let routes = &interlocking.routes;
     match walk {
@@ -62,7 +62,7 @@ pub fn target(interlocking: &Interlocking, visit: Visit, walk: &[RouteNo]) -> u6
     requires at_most_64 { length walk.now ≤ 64 }
     ensures place { let rs = routes_at interlocking.now.routes walk.now in
         result ≡ target interlocking.now.design.station (visit_of visit) rs }
-    ensures near { result ≤ length walk.now * 40000000000 }
+    ensures within_walk { result ≤ length walk.now * 40000000000 }
 {
     let routes = &interlocking.routes;
     match walk {

@@ -21,14 +21,14 @@ negated-holds values l n h g = opposed (values l.var) (rw n at h) g
 
 -- the steps are among those asked for, and where the clause is true not all is given by then
 pub record ClauseDenies (vars steps : ℕ) (clause : List Lit) (k : ℕ) : Type 0 where
-  pub most : k ≤ steps
+  pub at_most_steps : k ≤ steps
   pub least : 0 < steps → 0 < k
   pub never : (values : ℕ → Bool) → clause_holds values clause ≡ true → values (vars - steps + k) ≡ true → ⊥
 
 pub clause-denies : (vars steps : ℕ) (clause : List Lit) (k : ℕ) → steps_denied vars steps clause ≡ Some k → ClauseDenies vars steps clause k
-clause-denies vars steps [] k e = let s : steps ≡ k = cc in record { most = omega arith; least = λ h. omega arith; never = λ values h g. cc }
+clause-denies vars steps [] k e = let s : steps ≡ k = cc in record { at_most_steps = omega arith; least = λ h. omega arith; never = λ values h g. cc }
 clause-denies vars steps (l ∷ []) k e =
     let t = tests l.negated steps (l.var - (vars - steps)) k e in
     let at : vars - steps + k ≡ l.var = omega (arith, t.1, t.3) in
-    record { most = omega (arith, t.2, t.3); least = λ h. omega (arith, t.1, t.3); never = λ values h g. negated-holds values l t.0 (or-false (lit_holds values l) h) (rw at at g) }
+    record { at_most_steps = omega (arith, t.2, t.3); least = λ h. omega (arith, t.1, t.3); never = λ values h g. negated-holds values l t.0 (or-false (lit_holds values l) h) (rw at at g) }
 clause-denies vars steps (l ∷ m ∷ more) k e = absurd (cc)

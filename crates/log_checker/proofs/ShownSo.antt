@@ -16,8 +16,8 @@ use Rattle.log_checker.specs.declared.check_result.CheckResult.TheVariants.{Yes,
 use Rattle.log_checker.specs.declared.check_result.Reason.{Reason}
 use Rattle.log_checker.specs.declared.check_result.Reason.TheVariants as reason
 use Rattle.log_checker.specs.Truth.{clauses_hold}
-use Rattle.log_checker.specs.Verdict.{SoFar, at_first, with_clause, is_derived, forgotten, parsed, by_follow, by_evidence, by_forget, taken, steps_denied, at_end, after_line, result_from, is_headed, result_of}
-use Rattle.log_checker.specs.Laws.{AllHold, Denies, ShownIsSo}
+use Rattle.log_checker.specs.Verdict.{SoFar, at_first, with_clause, is_derived, forgotten, parsed, by_follow, by_evidence, by_forget, taken, steps_denied, result_at_end, after_line, result_from, is_headed, result_of}
+use Rattle.log_checker.specs.Laws.{AllHold, Denies, CheckIsSound}
 use Rattle.log_checker.proofs.Kept.{follows-true, push-holds, without-holds}
 use Rattle.log_checker.proofs.Denied.{clause-denies}
 
@@ -50,7 +50,7 @@ module _ (head : Head) (refute : Evidence → Result (List Lit) EvidenceFault) (
   by-clause : (clause : List Lit) → ((values : ℕ → Bool) → AllHold refute values base → clause_holds values clause ≡ true) → (k : ℕ) → steps_denied vars steps clause ≡ Some k → Denies refute vars steps base k
   by-clause clause is_true k e =
       let d = clause-denies vars steps clause k e in
-      record { most = d.most; least = d.least; never = λ values h g. d.never values (is_true values h) g }
+      record { at_most_steps = d.at_most_steps; least = d.least; never = λ values h g. d.never values (is_true values h) g }
 
   followed : (s t : SoFar) (clause : List Lit) (hints : List ℕ) (answer : Follow) → IsSo s → follow_of s.store clause hints ≡ answer → by_follow s clause (steps_denied vars steps clause) answer ≡ Ok t → IsSo t
   followed s t clause hints follow.Yes so y e =
@@ -64,7 +64,7 @@ module _ (head : Head) (refute : Evidence → Result (List Lit) EvidenceFault) (
   refuted : (s t : SoFar) (e : Evidence) (r : Result (List Lit) EvidenceFault) → IsSo s → refute e ≡ r → by_evidence s r ≡ Ok t → IsSo t
   refuted s t shown (Ok clause) so r e =
       let same : with_clause s clause false None ≡ t = cc in
-      subst IsSo same (goes-on s clause false None so (λ values h. h.shown shown clause r) (λ k n. absurd (cc)))
+      subst IsSo same (goes-on s clause false None so (λ values h. h.holds_of_evidence shown clause r) (λ k n. absurd (cc)))
   refuted s t shown (Err fault) so r e = absurd (cc)
 
   forgot : (s t : SoFar) (ids : List ℕ) (r : Result Store Reason) → IsSo s → forgotten s.derived s.store ids ≡ r → by_forget s r ≡ Ok t → IsSo t
@@ -81,7 +81,7 @@ module _ (head : Head) (refute : Evidence → Result (List Lit) EvidenceFault) (
   takes s t (Some (Forget ids)) so e = forgot s t ids (forgotten s.derived s.store ids) so refl e
 
   module _ (k : ℕ) where
-    ended : (here : ℕ) (shown : Option ℕ) → ((j : ℕ) → shown ≡ Some j → Denies refute vars steps base j) → at_end here shown ≡ Yes k → Denies refute vars steps base k
+    ended : (here : ℕ) (shown : Option ℕ) → ((j : ℕ) → shown ≡ Some j → Denies refute vars steps base j) → result_at_end here shown ≡ Yes k → Denies refute vars steps base k
     ended here None denied e = absurd (cc)
     ended here (Some j) denied e = let same : j ≡ k = cc in subst (Denies refute vars steps base) same (denied j refl)
 
@@ -103,5 +103,5 @@ module _ (head : Head) (refute : Evidence → Result (List Lit) EvidenceFault) (
     lines-so [] e = absurd (cc)
     lines-so (first ∷ more) e = headed (is_headed head first) more e
 
-pub shown-so : ShownIsSo
+pub shown-so : CheckIsSound
 shown-so head refute vars steps base k bytes e = lines-so head refute vars steps base k (pieces bytes) e

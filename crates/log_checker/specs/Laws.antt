@@ -13,17 +13,17 @@ module _ (refute : Evidence → Result (List Lit) EvidenceFault) where
   -- the values make the clauses true, and each that a cone or a bound shows
   pub record AllHold (values : ℕ → Bool) (base : Store) : Type 0 where
     pub clauses : clauses_hold values base ≡ true
-    pub shown : (e : Evidence) (clause : List Lit) → refute e ≡ Ok clause → clause_holds values clause ≡ true
+    pub holds_of_evidence : (e : Evidence) (clause : List Lit) → refute e ≡ Ok clause → clause_holds values clause ≡ true
 
   -- a number of steps is among those asked for, and no such values say that all is given by then
   pub record Denies (vars steps : ℕ) (base : Store) (k : ℕ) : Type 0 where
-    pub most : k ≤ steps
+    pub at_most_steps : k ≤ steps
     pub least : 0 < steps → 0 < k
     pub never : (values : ℕ → Bool) → AllHold values base → values (vars - steps + k) ≡ true → ⊥
 
 -- what a file shows is so, whoever wrote it
-abbrev pub ShownIsSo : Type 0
-ShownIsSo = (head : Head) (refute : Evidence → Result (List Lit) EvidenceFault) (vars steps : ℕ)
+abbrev pub CheckIsSound : Type 0
+CheckIsSound = (head : Head) (refute : Evidence → Result (List Lit) EvidenceFault) (vars steps : ℕ)
     (base : Store) (k : ℕ) (bytes : List ℕ)
     → log_verdict head refute vars steps base bytes ≡ Yes k
     → Denies refute vars steps base k

@@ -18,7 +18,7 @@ use Rattle.proof_log.specs.declared.line.Line.TheVariants.{Derive, Refute, Forge
 use Rattle.proof_log.specs.declared.head.Head.{Head}
 use Rattle.proof_log.specs.declared.head.Head.TheVariants.{Plain, Named, Sorted}
 use Rattle.proof_log.specs.Heads.{head_of, head_text}
-use Rattle.proof_log.specs.Lines.{line_of}
+use Rattle.proof_log.specs.Lines.{line_in_bytes}
 use Rattle.log_checker.specs.declared.check_result.CheckResult.{CheckResult}
 use Rattle.log_checker.specs.declared.check_result.CheckResult.TheVariants.{Yes, No}
 use Rattle.log_checker.specs.declared.check_result.Reason.{Reason}
@@ -44,7 +44,7 @@ if_within head vars (Some (Forget ids)) = Some (Forget ids)
 
 -- the line that a piece of a file spells: an LF ends it, no variable is past the last one, and it may stand there
 abbrev pub parsed : Head → ℕ → Piece → Option Line
-parsed head vars piece = if piece.ended then if_within head vars (line_of piece.bytes) else None
+parsed head vars piece = if piece.ended then if_within head vars (line_in_bytes piece.bytes) else None
 
 -- ---- what the last line shows
 
@@ -124,9 +124,9 @@ after_line here (Err reason) next = No here reason
 after_line here (Ok s) next = next s
 
 -- the answer where no line is left, by what the last one shows
-abbrev pub at_end : ℕ → Option ℕ → CheckResult
-at_end here None = No here NoFinalLine
-at_end here (Some k) = Yes k
+abbrev pub result_at_end : ℕ → Option ℕ → CheckResult
+result_at_end here None = No here NoFinalLine
+result_at_end here (Some k) = Yes k
 
 -- the head of a file: what its first line spells, where an LF ends it
 abbrev pub head_in : List Piece → Option Head
@@ -149,7 +149,7 @@ module _ (head : Head) (refute : Evidence → Result (List Lit) EvidenceFault) (
 
   -- what the lines from this place on show
   abbrev pub result_from : ℕ → SoFar → List Piece → CheckResult
-  result_from here s [] = at_end here s.shown
+  result_from here s [] = result_at_end here s.shown
   result_from here s (piece ∷ more) =
       after_line here (taken s (parsed head vars piece)) (λ t. result_from (here + 1) t more)
 

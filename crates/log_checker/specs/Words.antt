@@ -12,30 +12,30 @@ use Rattle.log_checker.specs.declared.check_result.Reason.TheVariants.{Text, Hea
 use Rattle.log_checker.specs.declared.check_result.Reason.TheVariants.{HintNotUnit, NoConflict, DropRefused, NotRefuted, NoFinalLine}
 
 -- why a cone shows nothing
-abbrev pub cone_words : ConeFault → List ℕ
-cone_words PathNotInDesign = codes "path not in design"
-cone_words CommandNotGranted = codes "command not granted"
-cone_words HolderNotValid = codes "holder not valid"
-cone_words ViolationNotShown = codes "violation not shown"
+abbrev pub cone_fault_words : ConeFault → List ℕ
+cone_fault_words PathNotInDesign = codes "path not in design"
+cone_fault_words CommandNotGranted = codes "command not granted"
+cone_fault_words HolderNotValid = codes "holder not valid"
+cone_fault_words ViolationNotShown = codes "violation not shown"
 
 -- why a bound shows nothing
-abbrev pub bound_words : BoundFault → List ℕ
-bound_words BoundNotInDesign = codes "bound not in design"
-bound_words PlaceNotCovered = codes "place not covered"
-bound_words BoundNotShown = codes "bound not shown"
+abbrev pub bound_fault_words : BoundFault → List ℕ
+bound_fault_words BoundNotInDesign = codes "bound not in design"
+bound_fault_words PlaceNotCovered = codes "place not covered"
+bound_fault_words BoundNotShown = codes "bound not shown"
 
 -- why a cone or a bound shows nothing
-abbrev pub evidence_words : EvidenceFault → List ℕ
-evidence_words (of.Cone fault) = cone_words fault
-evidence_words (of.Bound fault) = bound_words fault
+abbrev pub evidence_fault_words : EvidenceFault → List ℕ
+evidence_fault_words (of.Cone fault) = cone_fault_words fault
+evidence_fault_words (of.Bound fault) = bound_fault_words fault
 
-abbrev pub words_of : Reason → List ℕ
-words_of Text = codes "text"
-words_of HeadDiffers = codes "head differs"
-words_of BaseTooLarge = codes "base too large"
-words_of UnknownClause = codes "unknown clause"
-words_of HintNotUnit = codes "hint not unit"
-words_of NoConflict = codes "no conflict"
-words_of DropRefused = codes "drop refused"
-words_of (NotRefuted fault) = evidence_words fault
-words_of NoFinalLine = codes "no final line"
+abbrev pub reason_words : Reason → List ℕ
+reason_words Text = codes "text"
+reason_words HeadDiffers = codes "head differs"
+reason_words BaseTooLarge = codes "base too large"
+reason_words UnknownClause = codes "unknown clause"
+reason_words HintNotUnit = codes "hint not unit"
+reason_words NoConflict = codes "no conflict"
+reason_words DropRefused = codes "drop refused"
+reason_words (NotRefuted fault) = evidence_fault_words fault
+reason_words NoFinalLine = codes "no final line"

@@ -1,7 +1,7 @@
 //! What a proof file shows.
 
 ghost use Rattle.std.specs.Prelude.{◌≡◌};
-ghost use Rattle.log_checker.specs.Words.{bound_words, cone_words, evidence_words, words_of};
+ghost use Rattle.log_checker.specs.Words.{bound_fault_words, cone_fault_words, evidence_fault_words, reason_words};
 
 use bound_spec::{BoundFault, EvidenceFault};
 use cone_spec::ConeFault;
@@ -32,7 +32,7 @@ pub enum Reason {
 impl Reason {
     /// The reason in words.
     pub fn words(self) -> &'static str
-        ensures { result.now ≡ words_of self }
+        ensures { result.now ≡ reason_words self }
     {
         match self {
             Reason::Text => "text",
@@ -42,15 +42,15 @@ impl Reason {
             Reason::HintNotUnit => "hint not unit",
             Reason::NoConflict => "no conflict",
             Reason::DropRefused => "drop refused",
-            Reason::NotRefuted(fault) => evidence_words(fault),
+            Reason::NotRefuted(fault) => evidence_fault_words(fault),
             Reason::NoFinalLine => "no final line",
         }
     }
 }
 
 /// Why a cone shows nothing, in words.
-fn cone_words(fault: ConeFault) -> &'static str
-    ensures { result.now ≡ cone_words fault }
+fn cone_fault_words(fault: ConeFault) -> &'static str
+    ensures { result.now ≡ cone_fault_words fault }
 {
     match fault {
         ConeFault::PathNotInDesign => "path not in design",
@@ -61,8 +61,8 @@ fn cone_words(fault: ConeFault) -> &'static str
 }
 
 /// Why a bound shows nothing, in words.
-fn bound_words(fault: BoundFault) -> &'static str
-    ensures { result.now ≡ bound_words fault }
+fn bound_fault_words(fault: BoundFault) -> &'static str
+    ensures { result.now ≡ bound_fault_words fault }
 {
     match fault {
         BoundFault::BoundNotInDesign => "bound not in design",
@@ -72,12 +72,12 @@ fn bound_words(fault: BoundFault) -> &'static str
 }
 
 /// Why a cone or a bound shows nothing, in words.
-fn evidence_words(fault: EvidenceFault) -> &'static str
-    ensures { result.now ≡ evidence_words fault }
+fn evidence_fault_words(fault: EvidenceFault) -> &'static str
+    ensures { result.now ≡ evidence_fault_words fault }
 {
     match fault {
-        EvidenceFault::Cone(fault) => cone_words(fault),
-        EvidenceFault::Bound(fault) => bound_words(fault),
+        EvidenceFault::Cone(fault) => cone_fault_words(fault),
+        EvidenceFault::Bound(fault) => bound_fault_words(fault),
     }
 }
 

@@ -10,5 +10,5 @@ mod refuter;
 
 pub use check_result::{CheckResult, Reason};
 pub use judge::{head_in, judge_log};
-pub use laws::shown_is_so;
+pub use laws::check_is_sound;
 pub use refuter::{RefuteFault, Refuter};

@@ -2,7 +2,7 @@
 
 ghost use Rattle.std.specs.Prelude.{◌≡◌, nat_le, IfOk, OnOk, Ok, Err, Some, None, if◌then◌else◌};
 ghost use Rattle.std.specs.List.{list_all};
-ghost use Rattle.rail_text.specs.Lines.{line_of};
+ghost use Rattle.rail_text.specs.Lines.{line_of_piece};
 ghost use Rattle.log_checker.specs.Verdict.{if_within, may_stand, parsed, steps_denied, taken};
 ghost use Rattle.log_checker.specs.declared.check_result.Reason.{Reason};
 ghost use Rattle.log_checker.specs.declared.check_result.Reason.TheVariants.{Text};
@@ -11,8 +11,8 @@ ghost use Rattle.log_checker.specs.declared.database.Fault.TheVariants.{Bad};
 use crate::check_result::Reason;
 use crate::database::{ClauseDatabase, Fault};
 use crate::refuter::Refuter;
-use proof_log::{Head, Line, LineFault, read_line};
 use bound_spec::Evidence;
+use proof_log::{Head, Line, LineFault, read_line};
 use rail_text::Piece;
 use rup_check::Marks;
 use sat_clause::Lit;
@@ -52,12 +52,12 @@ impl<R: Refuter> Judge<'_, R> {
     ) -> Result<(), Fault>
         ensures ok { OnOk result
             (taken self.now.head (R.refute self.now.refuter.now) self.now.vars self.now.steps database.old
-            (parsed self.now.head self.now.vars (line_of piece.now)) ≡ Ok database.new) }
+            (parsed self.now.head self.now.vars (line_of_piece piece.now)) ≡ Ok database.new) }
         ensures bad { (reason : Reason) → result ≡ Err (Bad reason)
             → taken self.now.head (R.refute self.now.refuter.now) self.now.vars self.now.steps database.old
-            (parsed self.now.head self.now.vars (line_of piece.now)) ≡ Err reason }
+            (parsed self.now.head self.now.vars (line_of_piece piece.now)) ≡ Err reason }
     {
-        match spell(self.alloc, self.head, self.vars, piece) {
+        match line_in(self.alloc, self.head, self.vars, piece) {
             Ok(line) => self.take(marks, database, &line),
             Err(fault) => Err(fault),
         }
@@ -95,10 +95,10 @@ fn is_within(head: Head, line: &Line, vars: u32) -> bool
 }
 
 /// The line that is parsed from a piece of a file.
-fn spell(alloc: Global, head: Head, vars: u32, piece: &Piece<'_>) -> Result<Line, Fault>
-    ensures ok { IfOk result (λ line. parsed head vars (line_of piece.now) ≡ Some line) }
+fn line_in(alloc: Global, head: Head, vars: u32, piece: &Piece<'_>) -> Result<Line, Fault>
+    ensures ok { IfOk result (λ line. parsed head vars (line_of_piece piece.now) ≡ Some line) }
     ensures bad { (reason : Reason) → result ≡ Err (Bad reason)
-        → (reason ≡ Text) × (parsed head vars (line_of piece.now) ≡ None) }
+        → (reason ≡ Text) × (parsed head vars (line_of_piece piece.now) ≡ None) }
 {
     if !piece.ended {
         return Err(Fault::Bad(Reason::Text));

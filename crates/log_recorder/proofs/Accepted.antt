@@ -13,19 +13,19 @@ use Rattle.bound_spec.specs.declared.EvidenceFault.{EvidenceFault}
 use Rattle.proof_log.specs.declared.head.Head.{Head}
 use Rattle.sat_clause.specs.Clauses.{Store, live_clause, without}
 use Rattle.sat_trail.specs.Attached.{is_among}
-use Rattle.sat_core.specs.Lines.{Derived, text_of}
+use Rattle.sat_core.specs.Lines.{Derived, derived_text}
 use Rattle.sat_core.specs.Texts.{ended}
 use Rattle.proof_log.specs.declared.line.Line.{Line}
 use Rattle.proof_log.specs.declared.line.Line.TheVariants.{Derive, Refute, Forget}
 use Rattle.proof_log.specs.Heads.{head_text, keeps_head}
 use Rattle.proof_log.proofs.Heads.{read-back}
 use Rattle.rail_text.specs.Laws.{NumbersReadBack}
-use Rattle.proof_log.specs.Lines.{line_of}
+use Rattle.proof_log.specs.Lines.{line_in_bytes}
 use Rattle.proof_log.specs.Laws.{LinesReadBack}
 use Rattle.proof_log.specs.Text.{text_of_line}
 use Rattle.log_checker.specs.declared.check_result.CheckResult.TheVariants.{Yes, No}
 use Rattle.log_checker.specs.declared.check_result.Reason.TheVariants.{Text}
-use Rattle.log_checker.specs.Verdict.{SoFar, at_first, with_clause, is_derived, forgotten, if_within, parsed, by_evidence, by_forget, taken, steps_denied, at_end, after_line, head_in, result_from, result_of}
+use Rattle.log_checker.specs.Verdict.{SoFar, at_first, with_clause, is_derived, forgotten, if_within, parsed, by_evidence, by_forget, taken, steps_denied, result_at_end, after_line, head_in, result_from, result_of}
 use Rattle.log_recorder.specs.Logs.{LogLine, Learnt, Forgot, Refuted, line_text, log_text, with_log, IsGoodLine, IsGoodForget, IsGoodEvidence, AllGoOn, IsLast}
 use Rattle.log_recorder.specs.Laws.{EndedRunsAreAccepted}
 use Rattle.log_recorder.proofs.Lines.{is_one_line, first-piece, line-apart, forget-apart, evidence-apart, head-apart}
@@ -126,13 +126,13 @@ module _ (head : Head) (refute : Evidence → Result (List Lit) EvidenceFault) (
   -- a good line is taken
   good-takes : (place : ℕ) (s : SoFar) (d : Derived) → IsGoodLine vars s.store d → taken head refute vars n s (parsed head vars (piece_of place (Derive d.0 d.1))) ≡ Ok (after s d)
   good-takes place s d g =
-      let read : line_of (text_of_line (Derive d.0 d.1)) ≡ Some (Derive d.0 d.1) = back (Derive d.0 d.1) g.written in
+      let read : line_in_bytes (text_of_line (Derive d.0 d.1)) ≡ Some (Derive d.0 d.1) = back (Derive d.0 d.1) g.written in
       ap (λ o. taken head refute vars n s (if_within head vars o)) read ∙ rw (g.within, g.follows) refl
 
   -- a good cone is taken
   cone-takes : (place : ℕ) (s : SoFar) (cone : Evidence) (clause : List Lit) → IsGoodEvidence head refute cone clause → taken head refute vars n s (parsed head vars (piece_of place (Refute cone))) ≡ Ok (after_cone s clause)
   cone-takes place s cone clause g =
-      let read : line_of (text_of_line (Refute cone)) ≡ Some (Refute cone) = back (Refute cone) g.written in
+      let read : line_in_bytes (text_of_line (Refute cone)) ≡ Some (Refute cone) = back (Refute cone) g.written in
       ap (λ o. taken head refute vars n s (if_within head vars o)) read ∙ ap (λ b. taken head refute vars n s (if b then Some (Refute cone) else None)) g.stands ∙ ap (by_evidence s) g.shows
 
   -- what is shown after a line that is taken is what the rest shows
@@ -144,7 +144,7 @@ module _ (head : Head) (refute : Evidence → Result (List Lit) EvidenceFault) (
 
   -- so it is with a good line
   good-step : (here place : ℕ) (s : SoFar) (d : Derived) (rest : List ℕ) → IsGoodLine vars s.store d
-      → result_from head refute vars n here s (pieces_from place (text_of d ++ rest)) ≡ result_from head refute vars n (here + 1) (after s d) (pieces_from (place + 1) rest)
+      → result_from head refute vars n here s (pieces_from place (derived_text d ++ rest)) ≡ result_from head refute vars n (here + 1) (after s d) (pieces_from (place + 1) rest)
   good-step here place s d rest g = taken-step here place s (after s d) (Derive d.0 d.1) rest (line-apart d.0 d.1 g.written) (good-takes place s d g)
 
   -- and with a good cone
@@ -160,7 +160,7 @@ module _ (head : Head) (refute : Evidence → Result (List Lit) EvidenceFault) (
   forget-takes : (place : ℕ) (s : SoFar) (learnt : List ℕ) (id : ℕ) → AreFlagged s.derived learnt s.store → IsGoodForget s.store learnt id
       → taken head refute vars n s (parsed head vars (piece_of place (Forget (id ∷ [])))) ≡ Ok (after_forget s id)
   forget-takes place s learnt id f g =
-      let read : line_of (text_of_line (Forget (id ∷ []))) ≡ Some (Forget (id ∷ [])) = back (Forget (id ∷ [])) g.written in
+      let read : line_in_bytes (text_of_line (Forget (id ∷ []))) ≡ Some (Forget (id ∷ [])) = back (Forget (id ∷ [])) g.written in
       ap (λ o. taken head refute vars n s (if_within head vars o)) read
       ∙ ap (by_forget s) (forgets-one s.derived s.store id g.may.is_live (f.flagged id g.may.is_learnt))
 
@@ -170,8 +170,8 @@ module _ (head : Head) (refute : Evidence → Result (List Lit) EvidenceFault) (
   forget-step here place s learnt id rest f g = taken-step here place s (after_forget s id) (Forget (id ∷ [])) rest (forget-apart (id ∷ []) g.written) (forget-takes place s learnt id f g)
 
   -- the last line alone
-  last-shown : (here place : ℕ) (s : SoFar) (d : Derived) → IsLast vars n s.store d → result_from head refute vars n here s (pieces_from place (text_of d ++ [])) ≡ Yes n
-  last-shown here place s d l = good-step here place s d [] l.good ∙ ap (at_end (here + 1)) l.last
+  last-shown : (here place : ℕ) (s : SoFar) (d : Derived) → IsLast vars n s.store d → result_from head refute vars n here s (pieces_from place (derived_text d ++ [])) ≡ Yes n
+  last-shown here place s d l = good-step here place s d [] l.good ∙ ap (result_at_end (here + 1)) l.last
 
   -- the lines, and then the last one
   all-shown : (here place : ℕ) (s : SoFar) (learnt : List ℕ) (lines : List LogLine) (d : Derived) → AreFlagged s.derived learnt s.store → AllGoOn head refute vars n s.store learnt lines → IsLast vars n (with_log s.store lines) d

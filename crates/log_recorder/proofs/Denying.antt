@@ -35,7 +35,7 @@ module _ (head : Head) (refute : Evidence → Result (List Lit) EvidenceFault) (
 pub denied : DenialsAreSo
 denied head refute vars n base lines id k clause a live denies =
     let d = clause-denies vars n clause k denies in record {
-      most = d.most;
+      at_most_steps = d.at_most_steps;
       least = d.least;
-      never = λ values h by. d.never values (live-holds values (with_log base lines) id clause (log-holds head refute vars n values h.shown base [] lines a h.clauses) live) by;
+      never = λ values h by. d.never values (live-holds values (with_log base lines) id clause (log-holds head refute vars n values h.holds_of_evidence base [] lines a h.clauses) live) by;
     }

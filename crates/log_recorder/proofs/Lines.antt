@@ -27,13 +27,13 @@ use Rattle.bound_spec.specs.declared.Evidence.TheVariants as evidence
 use Rattle.proof_log.specs.declared.head.Head.{Head}
 use Rattle.proof_log.specs.declared.head.Head.TheVariants as heads
 use Rattle.proof_log.specs.Heads.{head_text, keeps_head}
-use Rattle.proof_log.specs.BoundText.{requirement_words, origin_words, place_words, leg_words, bound_words, is_of, keeps_route, keeps_requirement, keeps_origin, keeps_place, keeps_leg, keeps_bound}
+use Rattle.proof_log.specs.BoundText.{requirement_words, origin_words, place_words, leg_words, bound_line_words, is_of, keeps_route, keeps_requirement, keeps_origin, keeps_place, keeps_leg, keeps_bound}
 use Rattle.sat_core.specs.Texts.{ended}
 use Rattle.proof_log.specs.declared.line.Line.TheVariants.{Derive, Refute, Forget}
 use Rattle.proof_log.specs.Words.{greatest_variable, greatest_clause_number, is_from_1_to, is_small}
 use Rattle.proof_log.specs.Parts.{has_member, is_nothing}
 use Rattle.proof_log.specs.Lines.{is_increasing}
-use Rattle.proof_log.specs.ConeText.{literal_word, route_word, list_words, command_words, violation_words, holder_words, train_words, pair_words, cone_words, keeps_command, keeps_violation, keeps_holder, keeps_path, keeps_train, keeps_pair, keeps_cone}
+use Rattle.proof_log.specs.ConeText.{literal_word, route_word, list_words, command_words, violation_words, holder_words, train_words, pair_words, cone_line_words, keeps_command, keeps_violation, keeps_holder, keeps_path, keeps_train, keeps_pair, keeps_cone}
 use Rattle.proof_log.specs.Text.{text_of_line, keeps_grammar}
 use Rattle.proof_log.proofs.Parsed.{own}
 
@@ -176,7 +176,7 @@ cone-apart k h =
     let c = both (has_member k.trains) (list_all keeps_train k.trains) b.0 in
     let trains : list_all is_one_line (flat_map train_words k.trains) ≡ true = parts-apart train_words keeps_train train-apart k.trains c.1 in
     let pairs : list_all is_one_line (flat_map pair_words k.pairs) ≡ true = parts-apart pair_words keeps_pair pair-apart k.pairs b.1 in
-    joined (codes "r") (cone_words k) refl
+    joined (codes "r") (cone_line_words k) refl
     (append-apart (violation_words k.violation) _ (violation-apart k.violation a.0) (append-apart (flat_map train_words k.trains) (flat_map pair_words k.pairs) trains pairs))
 
 -- ---- the line of a bound is one line
@@ -222,7 +222,7 @@ bound-apart b h =
     let p = both (keeps_requirement b.requirement) (keeps_origin b.requirement b.origin && (has_member b.legs && list_all keeps_leg b.legs)) h in
     let q = both (keeps_origin b.requirement b.origin) (has_member b.legs && list_all keeps_leg b.legs) p.1 in
     let r = both (has_member b.legs) (list_all keeps_leg b.legs) q.1 in
-    joined (codes "b") (bound_words b) refl
+    joined (codes "b") (bound_line_words b) refl
     (append-apart (requirement_words b.requirement) _ (requirement-apart b.requirement p.0)
     (append-apart (origin_words b.origin) _ (origin-apart b.requirement b.origin q.0) (parts-apart leg_words keeps_leg leg-apart b.legs r.1)))
 

@@ -23,7 +23,7 @@ use Rattle.proof_log.specs.Lines.{is_increasing}
 use Rattle.proof_log.specs.Text.{keeps_grammar}
 use Rattle.proof_log.specs.Words.{greatest_variable, greatest_clause_number, is_from_1_to}
 use Rattle.log_checker.specs.Verdict.{steps_denied, step_denied}
-use Rattle.log_recorder.specs.Logs.{LogLine, line_of, by_step, with_log, IsGoodLine, GoesOn, IsLast, IsGoodForget, AllGoOn, MayComeNext}
+use Rattle.log_recorder.specs.Logs.{LogLine, log_line_of, by_step, with_log, IsGoodLine, GoesOn, IsLast, IsGoodForget, AllGoOn, MayComeNext}
 
 -- ---- the hints of a clause that follows are numbers of clauses
 
@@ -300,7 +300,7 @@ module _ (vars n : ℕ) (most : vars ≤ greatest_variable) (some : 1 ≤ n) whe
   length-lines store (inr id ∷ es) = let r = length-lines (after_entry store (inr id)) es in let a = without-length store id in omega arith
 
   -- what a solver records goes on, whatever cones are refuted
-  pub all-go-on : (head : Head) (refute : Evidence → Result (List Lit) EvidenceFault) (assumptions : List Lit) (store : Store) (learnt : List ℕ) (more : List Entry) → length (with_lines store more) ≤ greatest_clause_number → AllBelow vars store → AllNew assumptions store learnt more → AllGoOn head refute vars n store learnt (map line_of more)
+  pub all-go-on : (head : Head) (refute : Evidence → Result (List Lit) EvidenceFault) (assumptions : List Lit) (store : Store) (learnt : List ℕ) (more : List Entry) → length (with_lines store more) ≤ greatest_clause_number → AllBelow vars store → AllNew assumptions store learnt more → AllGoOn head refute vars n store learnt (map log_line_of more)
   all-go-on head refute assumptions store learnt [] few a h = tt
   all-go-on head refute assumptions store learnt (inl d ∷ es) few a h =
       let size = length-lines store (inl d ∷ es) in (

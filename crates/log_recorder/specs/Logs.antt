@@ -10,7 +10,7 @@ use Rattle.sat_clause.specs.declared.follow.Follow.TheVariants.{Yes}
 use Rattle.sat_clause.specs.Clauses.{Store, live_clause, without}
 use Rattle.sat_clause.specs.Closed.{IsNew}
 use Rattle.sat_clause.specs.Hints.{follow_of}
-use Rattle.sat_core.specs.Lines.{Derived, Entry, MayForget, text_of}
+use Rattle.sat_core.specs.Lines.{Derived, Entry, MayForget, derived_text}
 use Rattle.sat_core.specs.Texts.{ended, forget_line}
 use Rattle.proof_log.specs.declared.line.Line.TheVariants.{Derive, Refute, Forget}
 use Rattle.proof_log.specs.declared.head.Head.{Head}
@@ -27,13 +27,13 @@ pub data LogLine : Type 0 where
   Refuted : Evidence → List Lit → LogLine
 
 -- the line of what a solver records
-abbrev pub line_of : Entry → LogLine
-line_of (inl d) = Learnt d
-line_of (inr id) = Forgot id
+abbrev pub log_line_of : Entry → LogLine
+log_line_of (inl d) = Learnt d
+log_line_of (inr id) = Forgot id
 
 -- its text, with its end
 abbrev pub line_text : LogLine → List ℕ
-line_text (Learnt d) = text_of d
+line_text (Learnt d) = derived_text d
 line_text (Forgot id) = forget_line id
 line_text (Refuted e clause) = ended (text_of_line (Refute e))
 

@@ -25,7 +25,7 @@ pub struct Text {
     arena: Arena,
     learnt: Vec<u64>,
     ghost within: { length bytes.items ≤ limit },
-    ghost few: { length arena ≤ greatest_clause_number },
+    ghost has_numbers: { length arena ≤ greatest_clause_number },
 }
 
 impl Text {

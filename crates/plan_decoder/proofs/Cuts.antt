@@ -9,7 +9,7 @@ cut_empty : (xs : List (List Command)) → cut_off (xs ++ [] ∷ []) ≡ cut_off
 cut_empty [] = refl
 cut_empty (x ∷ xs) = ap (with_step x) (cut_empty xs)
 
--- where the last step is empty, the others tell of all
+-- where the last step is empty, the others give all
 pub cut_next : (steps prefix : List (List Command)) → steps ≡ take (length steps - 1) steps ++ [] ∷ [] → prefix ≡ take (length steps - 1) steps → cut_off prefix ≡ cut_off steps
 cut_next steps prefix e h = ap cut_off h ∙ (sym (cut_empty (take (length steps - 1) steps)) ∙ sym (ap cut_off e))
 
@@ -35,7 +35,7 @@ pub kept : (xs : List (List Command)) (c : Command) (cs : List Command) → slic
 kept [] c cs e = refl
 kept (x ∷ xs) c cs e = kept_at (x ∷ xs) (length (x ∷ xs) - 1) c cs (omega arith) e
 
--- the same where a test tells whether the last step is empty
+-- the same where a test says whether the last step is empty
 pub kept_last : (xs : List (List Command)) (s : List Command) (b : Bool) → Some s ≡ slice_get xs (length xs - 1) → (s ≡ [] → IsTrue b) → IsFalse b → cut_off xs ≡ xs
 kept_last xs [] b e h f = absurd (not_both b (h refl) f)
   where

@@ -15,7 +15,7 @@ use Rattle.clause_spec.specs.Clauses.{Clause, base_clauses}
 use Rattle.clause_spec.specs.Models.{given_by, given_in, with_step, cut_off, decoded}
 use Rattle.clause_spec.proofs.Facts.{AllTrue, given_up_to, all_true}
 use Rattle.clause_spec.proofs.Decoded.{New, new}
-use Rattle.plan_decoder.specs.Told.{EndsAsSaid}
+use Rattle.plan_decoder.specs.Decoded.{EndsAsSaid}
 
 -- ---- steps past the first k
 

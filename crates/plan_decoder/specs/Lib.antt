@@ -1,3 +1,3 @@
--- What values of a base's variables tell of.
-pub mod Told
+-- What values of a base's variables give.
+pub mod Decoded
 pub mod Laws

@@ -12,7 +12,7 @@ ghost use Rattle.clause_spec.specs.Clauses.{base_clauses};
 ghost use Rattle.clause_spec.specs.Laws.{Agrees};
 ghost use Rattle.clause_spec.specs.Models.{cut_off, decoded, given_by, given_in, model_of};
 ghost use Rattle.plan_encoding.specs.Bases.{HasCommand, IsBaseOf};
-ghost use Rattle.plan_decoder.specs.Told.{EndsAsSaid, is_new, says};
+ghost use Rattle.plan_decoder.specs.Decoded.{EndsAsSaid, is_new, says};
 
 use plan_encoding::Base;
 use rail_base::list::List;
@@ -22,7 +22,7 @@ use rail_base::station::TrainNo;
 use sat_core::Assignment;
 use std::alloc::{AllocError, Global};
 
-/// The plan that values of a base's variables tell of: each step holds the commands that are given by it and not by the
+/// The plan that values of a base's variables give: each step holds the commands that are given by it and not by the
 /// one before, by train and then by route, and empty steps at the end are cut off. The time is linear in the trains
 /// times the routes times the steps.
 ///

@@ -1,4 +1,4 @@
-//! The plan that values of a base's variables tell of.
+//! The plan that values of a base's variables give.
 #![tactic(auto)]
 
 mod decoding;

@@ -1,4 +1,4 @@
--- What a base tells of its pairs, and what a sink that was listed tells of a base.
+-- What a base says of its pairs, and what a sink that was listed says of a base.
 use Rattle.std.proofs.Common.{◌≡◌, ℕ, ◌+◌, ◌*◌, ◌≤◌, Bool, true, false, if◌then◌else◌, List, [], ◌++◌, map, length, Option, Some, None, refl, sym, ap, ap₂, subst, ◌∙◌}
 use Rattle.std.specs.List.{list_any}
 use Rattle.sat_clause.specs.declared.lit.Lit.{Lit}

@@ -11,8 +11,8 @@ use Rattle.rail_base.specs.declared.plan.Command.{Command}
 use Rattle.rail_base.specs.Numbering.{one_to}
 use Rattle.rail_base.specs.Routes.{IsRoute}
 use Rattle.rail_spec.specs.Plans.{route_at, exits, length_mm}
-use Rattle.clause_spec.specs.Variables.{pairs_of}
-use Rattle.clause_spec.specs.Clauses.{onward, chain_length, chains, clearing, waits_for, waits}
+use Rattle.clause_spec.specs.Variables.{pairs_before}
+use Rattle.clause_spec.specs.Clauses.{onward, chain_length, chains, clearing, wait_clause, waits}
 use Rattle.plan_encoding.specs.Families.{waiting}
 use Rattle.plan_encoding.specs.Waiting.{waits_over}
 use Rattle.contending.proofs.Gathering.{drop_next}
@@ -65,7 +65,7 @@ module _ (table : List Route) (bound : ℕ) (before : List RouteNo) (w : RouteNo
       yes_both p q = grind arith
 
 module _ (d : Station) (table : List Route) (n : ℕ) (e c : Command) where
-  -- what is told of a chain, and then of those that go on from it
+  -- what is said of a chain, and then of those that go on from it
   pub next_chain : (bound more : ℕ) (before chain ws : List RouteNo) (w : RouteNo) → 1 ≤ more → exits (route_at table w) ≡ false → chain_length table before + length_mm (route_at table w) < bound → chain ≡ before ++ w ∷ [] → ws ≡ onward table chain w
       → Next (waits_over d table n e c (chains table more bound before w)) (map (waiting e c chain ws) (one_to (n - 1))) (waits_over d table n e c (flat_map (chains table (more - 1) bound (before ++ w ∷ [])) ws))
   next_chain bound more before chain ws w p x l is all = record {
@@ -74,13 +74,13 @@ module _ (d : Station) (table : List Route) (n : ℕ) (e c : Command) where
         ∙ ap (λ vs. map (waiting e c chain vs) (one_to (n - 1)) ++ waits_over d table n e c (flat_map (chains table (more - 1) bound (before ++ w ∷ [])) ws)) (sym all);
   }
 
-  -- what is told of the chains that go on with one route, and then of the others
+  -- what is said of the chains that go on with one route, and then of the others
   pub next_further : (bound more : ℕ) (long chain ws : List RouteNo) (i : ℕ) (other : RouteNo) → chain ≡ long → i < length ws
       → Next (waits_over d table n e c (flat_map (chains table more bound long) (drop i ws))) (waits_over d table n e c (chains table more bound chain (get_or ws i other))) (waits_over d table n e c (flat_map (chains table more bound long) (drop (i + 1) ws)))
   next_further bound more long chain ws i other is h = record {
     is =
         ap (λ vs. waits_over d table n e c (flat_map (chains table more bound long) vs)) (drop_next ws i other h)
-        ∙ (flat_map-append (λ ch. map (waits_for d table n e c ch) (one_to (n - 1))) (chains table more bound long (get_or ws i other)) (flat_map (chains table more bound long) (drop (i + 1) ws))
+        ∙ (flat_map-append (λ ch. map (wait_clause d table n e c ch) (one_to (n - 1))) (chains table more bound long (get_or ws i other)) (flat_map (chains table more bound long) (drop (i + 1) ws))
         ∙ ap (λ ch. waits_over d table n e c (chains table more bound ch (get_or ws i other)) ++ waits_over d table n e c (flat_map (chains table more bound long) (drop (i + 1) ws))) (sym is));
   }
 
@@ -93,9 +93,9 @@ all_longer table before w h k = All-append (IsRoute table) before (w ∷ []) h (
     one table w k (suc i) x l = absurd (omega arith)
 
 -- with one step a chain has no clause
-pub no_waits : (d : Station) (table : List Route) (cs : List Command) → flat_map (λ e. flat_map (waits d table 1) (pairs_of d table e)) cs ≡ []
+pub no_waits : (d : Station) (table : List Route) (cs : List Command) → flat_map (λ e. flat_map (waits d table 1) (pairs_before d table e)) cs ≡ []
 no_waits d table [] = refl
-no_waits d table (e ∷ cs) = ap (λ xs. xs ++ flat_map (λ e. flat_map (waits d table 1) (pairs_of d table e)) cs) (of (pairs_of d table e)) ∙ no_waits d table cs
+no_waits d table (e ∷ cs) = ap (λ xs. xs ++ flat_map (λ e. flat_map (waits d table 1) (pairs_before d table e)) cs) (of (pairs_before d table e)) ∙ no_waits d table cs
   where
     over : (e c : Command) (chs : List (List RouteNo × RouteNo)) → waits_over d table 1 e c chs ≡ []
     over e c [] = refl

@@ -14,7 +14,7 @@ use Rattle.rail_base.specs.Stations.{trains}
 use Rattle.rail_base.proofs.Members.{and_left, and_right, and_both, false_unless}
 use Rattle.rail_base.proofs.Lists.{in_append, in_map_back, in_flat_map_back, length-map, pairs_across, pairs_count, pairs_filter, pairs_flat_map, pairs_map}
 use Rattle.rail_spec.specs.Plans.{all_commands, commands_of, contend, is_command, route_numbers}
-use Rattle.clause_spec.specs.Variables.{Before, is_pair, number_of, pairs, pairs_of}
+use Rattle.clause_spec.specs.Variables.{Before, is_pair, number_of, pairs, pairs_before}
 use Rattle.clause_spec.proofs.Steps.{is_command_same, is_command_self}
 use Rattle.contending.proofs.Gathering.{drop_next}
 
@@ -78,7 +78,7 @@ module _ (d : Station) (routes : List Route) where
 
   -- the pairs of the first commands
   abbrev pub pairs_to : ℕ → List (Command × Command)
-  pairs_to i = flat_map (pairs_of d routes) (take i (all_commands d routes))
+  pairs_to i = flat_map (pairs_before d routes) (take i (all_commands d routes))
 
   module _ (i j : ℕ) (e c : Command) (other some : Command) (is : get_or (all_commands d routes) i other ≡ e) (within : i < length (all_commands d routes))
       (is_rival : get_or (filter (contend routes e) (all_commands d routes)) j some ≡ c) (rival : j < length (filter (contend routes e) (all_commands d routes))) where
@@ -89,24 +89,24 @@ module _ (d : Station) (routes : List Route) where
     rivals_parted = parted (filter (contend routes e) (all_commands d routes)) j some rival ∙ ap (λ x. take j (filter (contend routes e) (all_commands d routes)) ++ x ∷ drop (j + 1) (filter (contend routes e) (all_commands d routes))) is_rival
 
     abbrev earlier : List (Command × Command)
-    earlier = flat_map (pairs_of d routes) (take i (all_commands d routes))
+    earlier = flat_map (pairs_before d routes) (take i (all_commands d routes))
 
     abbrev nearer : List (Command × Command)
     nearer = map (λ x. (e, x)) (take j (filter (contend routes e) (all_commands d routes)))
 
     abbrev rest : List (Command × Command)
-    rest = map (λ x. (e, x)) (drop (j + 1) (filter (contend routes e) (all_commands d routes))) ++ flat_map (pairs_of d routes) (drop (i + 1) (all_commands d routes))
+    rest = map (λ x. (e, x)) (drop (j + 1) (filter (contend routes e) (all_commands d routes))) ++ flat_map (pairs_before d routes) (drop (i + 1) (all_commands d routes))
 
     pairs_parted : pairs d routes ≡ (earlier ++ nearer) ++ (e, c) ∷ rest
     pairs_parted =
-        ap (flat_map (pairs_of d routes)) commands_parted
-        ∙ (flat_map-append (pairs_of d routes) (take i (all_commands d routes)) (e ∷ drop (i + 1) (all_commands d routes))
-        ∙ (ap (λ ps. earlier ++ (ps ++ flat_map (pairs_of d routes) (drop (i + 1) (all_commands d routes)))) (ap (map (λ x. (e, x))) rivals_parted ∙ map-append (λ x. (e, x)) (take j (filter (contend routes e) (all_commands d routes))) (c ∷ drop (j + 1) (filter (contend routes e) (all_commands d routes))))
-        ∙ regroup earlier nearer (map (λ x. (e, x)) (drop (j + 1) (filter (contend routes e) (all_commands d routes)))) (flat_map (pairs_of d routes) (drop (i + 1) (all_commands d routes))) (e, c)))
+        ap (flat_map (pairs_before d routes)) commands_parted
+        ∙ (flat_map-append (pairs_before d routes) (take i (all_commands d routes)) (e ∷ drop (i + 1) (all_commands d routes))
+        ∙ (ap (λ ps. earlier ++ (ps ++ flat_map (pairs_before d routes) (drop (i + 1) (all_commands d routes)))) (ap (map (λ x. (e, x))) rivals_parted ∙ map-append (λ x. (e, x)) (take j (filter (contend routes e) (all_commands d routes))) (c ∷ drop (j + 1) (filter (contend routes e) (all_commands d routes))))
+        ∙ regroup earlier nearer (map (λ x. (e, x)) (drop (j + 1) (filter (contend routes e) (all_commands d routes)))) (flat_map (pairs_before d routes) (drop (i + 1) (all_commands d routes))) (e, c)))
 
     not_earlier : (p : Command × Command) → In p earlier → is_pair e c p ≡ true → ⊥
     not_earlier p m t =
-        let back = in_flat_map_back (pairs_of d routes) (take i (all_commands d routes)) p m in
+        let back = in_flat_map_back (pairs_before d routes) (take i (all_commands d routes)) p m in
         let made = in_map_back (λ (x : Command). (back.0, x)) (filter (contend routes back.0) (all_commands d routes)) p back.2 in
         let first : back.0 ≡ p.0 = ap (λ (q : Command × Command). q.0) made.2 in
         let same : p.0 ≡ e = is_command_same e p.0 (and_left (is_command e p.0) (is_command c p.1) t) in
@@ -140,10 +140,10 @@ module _ (d : Station) (routes : List Route) where
   pairs_more i other h =
       let e = get_or (all_commands d routes) i other in
       let pair : Command → Command × Command = λ x. (e, x) in
-      ap (λ cs. length (flat_map (pairs_of d routes) cs)) (taken_more (all_commands d routes) i other h)
-      ∙ (ap length (flat_map-append (pairs_of d routes) (take i (all_commands d routes)) (e ∷ []))
-      ∙ (length-append (flat_map (pairs_of d routes) (take i (all_commands d routes))) (pairs_of d routes e ++ [])
-      ∙ ap (λ m. length (pairs_to i) + m) (ap length (append-nil (pairs_of d routes e)) ∙ length-map pair (filter (contend routes e) (all_commands d routes)))))
+      ap (λ cs. length (flat_map (pairs_before d routes) cs)) (taken_more (all_commands d routes) i other h)
+      ∙ (ap length (flat_map-append (pairs_before d routes) (take i (all_commands d routes)) (e ∷ []))
+      ∙ (length-append (flat_map (pairs_before d routes) (take i (all_commands d routes))) (pairs_before d routes e ++ [])
+      ∙ ap (λ m. length (pairs_to i) + m) (ap length (append-nil (pairs_before d routes e)) ∙ length-map pair (filter (contend routes e) (all_commands d routes)))))
 
 -- the variables of commands are few
 pub own_few : (t r n : ℕ) → t ≤ 128 → r ≤ 2000 → n ≤ 256 → t * r * n ≤ 65536000

@@ -11,7 +11,7 @@ use Rattle.rail_base.specs.declared.route.Route.{Route}
 use Rattle.rail_base.specs.Members.{In}
 use Rattle.rail_base.proofs.Lists.{in_map, in_map_back, in_filter_back}
 use Rattle.rail_base.proofs.Members.{in_filter}
-use Rattle.rail_laws.proofs.Told.{fold_above, fold_reached}
+use Rattle.rail_laws.proofs.AsEdges.{fold_above, fold_reached}
 use Rattle.plan_encoding.specs.Releases.{offset_of, AreReleases}
 use Rattle.number_sets.specs.declared.set.NumberSet.{NumberSet}
 use Rattle.number_sets.specs.Sets.{contains}

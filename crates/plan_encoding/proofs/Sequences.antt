@@ -5,7 +5,7 @@ use Rattle.std.proofs.lemmas.Grind.{flat_map-append}
 use Rattle.rail_base.specs.declared.station.Station.{Station}
 use Rattle.rail_base.specs.declared.route.Route.{Route}
 use Rattle.rail_spec.specs.Plans.{all_commands}
-use Rattle.clause_spec.specs.Variables.{pairs, pairs_of}
+use Rattle.clause_spec.specs.Variables.{pairs, pairs_before}
 use Rattle.plan_encoding.specs.Waiting.{apart_once}
 use Rattle.plan_encoding.proofs.Emission.{emitted_next, next_fails}
 use Rattle.std.specs.Prelude.{Result, Ok, Err, OnOk, IfErr}
@@ -57,8 +57,8 @@ parts_parts g h [] = refl
 parts_parts g h (x ∷ xs) = flat_map-append g (h x) (flat_map h xs) ∙ ap (λ zs. flat_map g (h x) ++ zs) (parts_parts g h xs)
 
 -- the first pairs are those of which the first train is the earlier one
-pub apart_are : (d : Station) (routes : List Route) (n : ℕ) → flat_map (λ e. flat_map (apart_once d routes n) (pairs_of d routes e)) (all_commands d routes) ≡ flat_map (not_at_once d routes n) (first_pairs d routes n)
-apart_are d routes n = sym (parts_kept (not_at_once d routes n) (λ p. nat_lt p.0.train.0 p.1.train.0) (pairs d routes) ∙ parts_parts (apart_once d routes n) (pairs_of d routes) (all_commands d routes))
+pub apart_are : (d : Station) (routes : List Route) (n : ℕ) → flat_map (λ e. flat_map (apart_once d routes n) (pairs_before d routes e)) (all_commands d routes) ≡ flat_map (not_at_once d routes n) (first_pairs d routes n)
+apart_are d routes n = sym (parts_kept (not_at_once d routes n) (λ p. nat_lt p.0.train.0 p.1.train.0) (pairs d routes) ∙ parts_parts (apart_once d routes n) (pairs_before d routes) (all_commands d routes))
 
 -- the parts as they stand in all
 pub in_a_row : {X : Type 0} (a d e f g h : List X) → (a ++ (d ++ e)) ++ ((f ++ g) ++ h) ≡ ((((a ++ d) ++ e) ++ f) ++ g) ++ h

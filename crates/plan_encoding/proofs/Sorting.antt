@@ -1,4 +1,4 @@
--- What is told of the base and the clauses of neighbors, which are listed one after the other.
+-- What is said of the base and the clauses of neighbors, which are listed one after the other.
 use Rattle.std.proofs.Common.{◌≡◌, ℕ, ◌+◌, Bool, true, false, if◌then◌else◌, List, [], ◌∷◌, ◌++◌, length, nat_lt, Some, None, sym, ap, ◌∙◌}
 use Rattle.sat_clause.specs.declared.lit.Lit.{Lit}
 use Rattle.rail_base.specs.declared.station.Station.{Station}

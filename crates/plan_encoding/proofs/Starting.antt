@@ -1,4 +1,4 @@
--- What is told of how a route starts.
+-- What is said of how a route starts.
 use Rattle.std.proofs.Common.{◌≡◌, ℕ, ◌-◌, Bool, true, false, if◌then◌else◌, List, [], ◌∷◌, map, flat_map, refl, sym, ap, ◌∙◌}
 use Rattle.rail_base.specs.declared.station.Station.{Station}
 use Rattle.rail_base.specs.declared.station.NodeNo.{NodeNo}

@@ -2,7 +2,7 @@
 use Rattle.std.proofs.Common.{◌≡◌, ℕ, zero, suc, ◌+◌, ◌-◌, ◌*◌, ◌≤◌, ◌<◌, ◌⊎◌, inl, inr, Bool, true, false, cond, ◌&&◌, List, [], ◌∷◌, ◌++◌, map, filter, flat_map, length, get_or, refl, sym, ap, subst, ◌∙◌, arith, drop, length-append}
 use Rattle.std.proofs.Math.Nat.{suc-mul}
 use Rattle.std.proofs.lemmas.Nat.{mul-le}
-use Rattle.clause_spec.specs.Variables.{pairs_of}
+use Rattle.clause_spec.specs.Variables.{pairs_before}
 use Rattle.clause_spec.specs.Clauses.{Clause, exclude, later_pairs}
 use Rattle.std.proofs.lemmas.List.{append_assoc}
 use Rattle.contending.proofs.Gathering.{drop_next}
@@ -97,11 +97,11 @@ filter_both {X} one other (x ∷ xs) = go (one x) (filter_both one other xs)
 
 -- the part of a command's pairs, over its rivals
 pub next_rivals : (g : Command × Command → List Clause) (d : Station) (routes : List Route) (cs : List Command) (i : ℕ) (other : Command) → i < length cs → (rivals : List Command) → rivals ≡ filter (contend routes (get_or cs i other)) (all_commands d routes)
-    → Next (flat_map (λ e. flat_map g (pairs_of d routes e)) (drop i cs)) (flat_map g (map (λ c. (get_or cs i other, c)) rivals)) (flat_map (λ e. flat_map g (pairs_of d routes e)) (drop (i + 1) cs))
+    → Next (flat_map (λ e. flat_map g (pairs_before d routes e)) (drop i cs)) (flat_map g (map (λ c. (get_or cs i other, c)) rivals)) (flat_map (λ e. flat_map g (pairs_before d routes e)) (drop (i + 1) cs))
 next_rivals g d routes cs i other h rivals is = record {
   is =
-      ap (flat_map (λ e. flat_map g (pairs_of d routes e))) (drop_next cs i other h)
-      ∙ ap (λ rs. flat_map g (map (λ c. (get_or cs i other, c)) rs) ++ flat_map (λ e. flat_map g (pairs_of d routes e)) (drop (i + 1) cs)) (sym is);
+      ap (flat_map (λ e. flat_map g (pairs_before d routes e))) (drop_next cs i other h)
+      ∙ ap (λ rs. flat_map g (map (λ c. (get_or cs i other, c)) rs) ++ flat_map (λ e. flat_map g (pairs_before d routes e)) (drop (i + 1) cs)) (sym is);
 }
 
 -- all commands are few

@@ -17,7 +17,7 @@ pub record AreReleases (parts : List (SectionNo × ℤ)) (r : Route) : Type 0 wh
   pub moved : IsPermutation r.sections parts
   pub rising : IsNonDecreasingBy (λ p. nat_abs p.1) parts
 
--- the last of these parts that is in the set of another route's sections tells where
-abbrev pub TellReleases : List (SectionNo × ℤ) → Route → Type 0
-TellReleases parts r = (set : NumberSet) (q : Route) → IsSectionSet set q
+-- the last of these parts that is in the set of another route's sections says where
+abbrev pub AreReleasesOf : List (SectionNo × ℤ) → Route → Type 0
+AreReleasesOf parts r = (set : NumberSet) (q : Route) → IsSectionSet set q
     → offset_of (find (λ p. contains set p.0.0) (reverse parts)) ≡ last_release r q

@@ -31,7 +31,7 @@ emitted d (c ∷ cs) =
     let rest = emitted (with_clause d c) cs in
     if nat_lt 16000000 (d.literals + length c) then TooMany (d.literals + length c) else rest
 
--- the fault tells how many literals there are, where there are too many
+-- the fault says how many literals there are, where there are too many
 abbrev pub FaultSays : Emission → BaseFault → Type 0
 FaultSays l (TooLarge k) = l ≡ TooMany k
 FaultSays l Memory = Unit {0}

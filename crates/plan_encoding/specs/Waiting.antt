@@ -5,13 +5,13 @@ use Rattle.rail_base.specs.declared.route.Route.{Route}
 use Rattle.rail_base.specs.declared.route.RouteNo.{RouteNo}
 use Rattle.rail_base.specs.declared.plan.Command.{Command}
 use Rattle.rail_base.specs.Numbering.{one_to}
-use Rattle.clause_spec.specs.Clauses.{Clause, waits_for, not_at_once}
+use Rattle.clause_spec.specs.Clauses.{Clause, wait_clause, not_at_once}
 
 module _ (d : Station) (routes : List Route) (n : ℕ) where
   -- the second command waits for the first, for each of these chains and each step
   abbrev pub waits_over : Command → Command → List (List RouteNo × RouteNo) → List Clause
-  waits_over e c chains = flat_map (λ chain. map (waits_for d routes n e c chain) (one_to (n - 1))) chains
+  waits_over e c chains = flat_map (λ chain. map (wait_clause d routes n e c chain) (one_to (n - 1))) chains
 
-  -- two commands are not given in one step, told where the first one's train is the earlier of the two
+  -- two commands are not given in one step, said where the first one's train is the earlier of the two
   abbrev pub apart_once : Command × Command → List Clause
   apart_once p = cond (nat_lt p.0.train.0 p.1.train.0) (not_at_once d routes n p) []

@@ -14,7 +14,7 @@ use std::alloc::{AllocError, Global};
 impl Tables<'_> {
     /// Emits what the variables of all pairs say, and gives how many variables there are up to these.
     pub fn emit_orders(&self, alloc: Global, sink: &mut ClauseSink) -> Result<u32, BaseFault>
-        ensures last { IfOk result (λ last. last ≡ last_pair self.now.encoder) }
+        ensures last_pair { IfOk result (λ last. last ≡ last_pair self.now.encoder) }
         ensures bound { IfOk result (λ last. last ≤ 73536000) }
         ensures ok { OnOk result (Emits self.now.encoder (all_in_order self.now.encoder) sink.old sink.new) }
         ensures err { IfErr result (Stops self.now.encoder (all_in_order self.now.encoder) sink.old) }

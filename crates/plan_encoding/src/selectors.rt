@@ -11,5 +11,5 @@ pub struct Selectors<'a> {
     pub tables: &'a Tables<'a>,
     pub last: u32,
     pub ghost number: { last ≡ last_pair tables.now.encoder },
-    pub ghost low: { last ≤ 73536000 },
+    pub ghost at_most_73536000: { last ≤ 73536000 },
 }

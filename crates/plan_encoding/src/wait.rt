@@ -3,7 +3,7 @@
 ghost use Rattle.std.specs.Prelude.{◌≤◌, ◌^◌};
 ghost use Rattle.rail_base.specs.Routes.{route_at};
 ghost use Rattle.plan_encoding.specs.Encoders.{IsCommand, table};
-ghost use Rattle.plan_encoding.specs.Releases.{TellReleases};
+ghost use Rattle.plan_encoding.specs.Releases.{AreReleasesOf};
 
 use crate::tables::Tables;
 use rail_base::plan::Command;
@@ -16,7 +16,7 @@ pub struct Releasing<'a> {
     pub first: Command,
     pub parts: &'a [(SectionNo, i64)],
     pub ghost first_known: { IsCommand tables.now.encoder first },
-    pub ghost released: { TellReleases parts.now (route_at (table tables.now.encoder) first.route) },
+    pub ghost released: { AreReleasesOf parts.now (route_at (table tables.now.encoder) first.route) },
 }
 
 /// Two commands of which the second waits for the first, until track of so many mm is given to the first one's train.

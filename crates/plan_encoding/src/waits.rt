@@ -215,7 +215,7 @@ impl Wait<'_> {
     ) -> Result<(), BaseFault>
         requires chain { All (IsRoute (table (frame_of self.now))) chain.old.items }
         requires covered { covered ≡ chain_length (table (frame_of self.now)) chain.old.items }
-        requires short { covered ≤ self.now.bound }
+        requires within_bound { covered ≤ self.now.bound }
         requires route { IsRoute (table (frame_of self.now)) route }
         ensures same { OnOk result (chain.new.items ≡ chain.old.items) }
         ensures ok { OnOk result (Emits (frame_of self.now)

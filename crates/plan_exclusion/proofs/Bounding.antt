@@ -1,4 +1,4 @@
--- The exclusion of a plan by a bound whose clause is false by the values that tell of the plan.
+-- The exclusion of a plan by a bound whose clause is false by the values that give the plan.
 use Rattle.std.proofs.Common.{◌≡◌, ℕ, ◌≤◌, Bool, true, false, not, List, Some, Ok, refl, sym, ap, subst, ◌∙◌}
 use Rattle.bound_clause.specs.Numbered.{numbered_bound}
 use Rattle.bound_clause.proofs.Holding.{fits_design}
@@ -7,7 +7,7 @@ use Rattle.cone_clause.proofs.Agreeing.{each_alike, short_enough}
 use Rattle.clause_spec.specs.Models.{model_of}
 use Rattle.proof_judge.specs.Judged.{refuted}
 use Rattle.proof_log.specs.declared.line.Line.TheVariants.{Refute}
-use Rattle.proof_log.specs.Lines.{line_of}
+use Rattle.proof_log.specs.Lines.{line_in_bytes}
 use Rattle.proof_log.proofs.OneText.{one-text}
 use Rattle.rail_base.specs.declared.history.TrainHistory.{TrainHistory}
 use Rattle.rail_base.specs.declared.plan.Command.{Command}
@@ -48,17 +48,17 @@ module _ (d : Station) (n : ℕ) (some : 1 ≤ n) (plan : List (List Command)) (
     false_so b valid denied =
         let alike = bound_alike d n some (value_in values) told.holds b (fits_design d (routes_of d) b valid) in
         let own : clause_holds (model_of d (routes_of d) n plan) (numbered_bound d (routes_of d) n b) ≡ false =
-        ap (λ (p : List (List Command)). clause_holds (model_of d (routes_of d) n p) (numbered_bound d (routes_of d) n b)) told.told ∙ (alike ∙ denied) in
+        ap (λ (p : List (List Command)). clause_holds (model_of d (routes_of d) n p) (numbered_bound d (routes_of d) n b)) told.decoded ∙ (alike ∙ denied) in
         not_false (is_false_of plan (clause_of_bound d (routes_of d) b)) (sym (bound_says b valid) ∙ own)
 
     pub bounded_so : (history : List TrainHistory) (tick : ℕ) (violation : Violation) → FailsSo d plan history tick violation
-        → (b : Bound) (line : List ℕ) (clause : List Lit) → line_of line ≡ Some (Refute (evidence.Bound b)) → refuted d n (evidence.Bound b) ≡ Ok clause → clause_holds (value_in values) clause ≡ false → IsExclusion Bounds d n plan line clause
+        → (b : Bound) (line : List ℕ) (clause : List Lit) → line_in_bytes line ≡ Some (Refute (evidence.Bound b)) → refuted d n (evidence.Bound b) ≡ Ok clause → clause_holds (value_in values) clause ≡ false → IsExclusion Bounds d n plan line clause
     bounded_so history tick violation fails b line clause read shows denied =
         let s = shown_valid of.Bound (fault_of d (routes_of d) b) (numbered_bound d (routes_of d) n b) clause shows in
         let text = one-text line (Refute (evidence.Bound b)) read in
         record {
           evidence = evidence.Bound b;
-          shown_by = (record { history = history; tick = tick; violation = violation; fails = fails }, (s.0, false_so b s.0 (ap (clause_holds (value_in values)) s.1 ∙ denied)));
+          refuted_by = (record { history = history; tick = tick; violation = violation; fails = fails }, (s.0, false_so b s.0 (ap (clause_holds (value_in values)) s.1 ∙ denied)));
           shows = shows;
           clause_is = sym s.1;
           below = λ l h. bound-below d (routes_of d) n some b (fits_design d (routes_of d) b s.0) l (subst (λ (c : List Lit). is_assigned c l ≡ true) (sym s.1) h);

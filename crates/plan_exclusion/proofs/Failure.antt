@@ -62,7 +62,7 @@ module _ (d : Station) (n : ℕ) (routes : List Route) (table : routes ≡ route
         let told : clause ≡ numbered_clause d (routes_of d) n cone = same ∙ ap (λ (r : List Route). numbered_clause d r n cone) table in
         record {
           evidence = evidence.Cone cone;
-          shown_by = (record { history = history; tick = tick; violation = violation; fails = fails }, subst (λ (r : List Route). IsSliceOf d r plan tick violation cone) table is);
+          refuted_by = (record { history = history; tick = tick; violation = violation; fails = fails }, subst (λ (r : List Route). IsSliceOf d r plan tick violation cone) table is);
           shows = cone_shows d n plan cone own ∙ ap Ok (sym told);
           clause_is = told;
           below = λ l h. numbered-below d (routes_of d) n some cone (holds_of_valid d (routes_of d) cone own.valid).in_design l (subst (λ (c : List Lit). is_assigned c l ≡ true) told h);

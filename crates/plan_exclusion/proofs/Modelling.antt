@@ -1,4 +1,4 @@
--- Values that make the base true, and the model of the plan of which they tell, say the same of cones and bounds.
+-- Values that make the base true, and the model of the plan that they give, say the same of cones and bounds.
 use Rattle.std.proofs.Common.{◌≡◌, ℕ, ◌≤◌, inl, inr, Bool, true, cond, not, ◌||◌, List, [], ◌∷◌, map, Ok, refl, ap, ap₂, ◌∙◌, arith}
 use Rattle.std.specs.List.{list_all}
 use Rattle.bound_clause.specs.Numbered.{numbered_bound}
@@ -27,7 +27,7 @@ use Rattle.cone_spec.proofs.Refusing.{holds_of_valid}
 use Rattle.rail_spec.specs.Track.{routes_of}
 use Rattle.sat_clause.specs.declared.lit.Lit.{Lit}
 use Rattle.sat_clause.specs.Clauses.{lit_holds, clause_holds}
-use Rattle.plan_exclusion.specs.Failures.{clause_shown}
+use Rattle.plan_exclusion.specs.Failures.{clause_of_evidence}
 use Rattle.plan_exclusion.proofs.Showing.{shown_valid}
 
 module _ (d : Station) (n : ℕ) (some : 1 ≤ n) (values : ℕ → Bool) (true_ : list_all (clause_holds values) (base_clauses d (routes_of d) n) ≡ true) where
@@ -52,7 +52,7 @@ module _ (d : Station) (n : ℕ) (some : 1 ≤ n) (values : ℕ → Bool) (true_
   bound_alike b fits = each_alike (clause_of_bound d (routes_of d) b) (bound.all_known d (routes_of d) b fits)
 
   -- so of what is shown
-  pub shown_alike : (e : Evidence) (clause : List Lit) → refuted d n e ≡ Ok clause → clause_holds model (clause_shown d n e) ≡ clause_holds values clause
+  pub shown_alike : (e : Evidence) (clause : List Lit) → refuted d n e ≡ Ok clause → clause_holds model (clause_of_evidence d n e) ≡ clause_holds values clause
   shown_alike (evidence.Cone k) clause shows =
       let s = shown_valid of.Cone (cone.fault_of d (routes_of d) k) (numbered_clause d (routes_of d) n k) clause shows in
       cone_alike k (holds_of_valid d (routes_of d) k s.0).in_design ∙ ap (clause_holds values) s.1

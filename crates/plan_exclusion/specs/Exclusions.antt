@@ -15,7 +15,7 @@ use Rattle.sat_clause.specs.declared.lit.Lit.{Lit}
 use Rattle.sat_clause.specs.Hints.{is_assigned}
 use Rattle.plan_exclusion.specs.declared.method.Method.{Method}
 use Rattle.plan_exclusion.specs.declared.method.Method.TheVariants.{Cones, Bounds}
-use Rattle.plan_exclusion.specs.Failures.{IsShownBy, clause_shown}
+use Rattle.plan_exclusion.specs.Failures.{IsRefutedBy, clause_of_evidence}
 
 -- the head of the log, which names the design's version and n: bounds may stand only where trains that are alike come in turn
 abbrev pub head_for : Method → Station → ℕ → Head
@@ -26,9 +26,9 @@ head_for Bounds d n = Sorted d.version n
 pub record IsExclusion (m : Method) (d : Station) (n : ℕ) (plan : List (List Command))
     (line : List ℕ) (clause : List Lit) : Type 0 where
   pub evidence : Evidence
-  pub shown_by : IsShownBy d plan evidence
+  pub refuted_by : IsRefutedBy d plan evidence
   pub shows : refuted d n evidence ≡ Ok clause
-  pub clause_is : clause ≡ clause_shown d n evidence
+  pub clause_is : clause ≡ clause_of_evidence d n evidence
   pub below : (l : Lit) → is_assigned clause l ≡ true → (1 ≤ l.var) × (l.var < variable_count d (routes_of d) n)
   pub stands : may_stand (head_for m d n) evidence ≡ true
   pub written : keeps_grammar (Refute evidence) ≡ true

@@ -26,10 +26,10 @@ use Rattle.sat_core.specs.Models.{value_in}
 abbrev pub FailsSo : Station → List (List Command) → List TrainHistory → ℕ → Violation → Type 0
 FailsSo d plan history tick violation = verdict_of d (routes_of d) plan tick ≡ Failed history tick violation
 
--- values of the variables of n steps tell of the plan
+-- values of the variables of n steps give the plan
 pub record AreValuesOfPlan (d : Station) (n : ℕ) (values : List Bool) (plan : List (List Command)) : Type 0 where
   pub holds : list_all (clause_holds (value_in values)) (base_clauses d (routes_of d) n) ≡ true
-  pub told : plan ≡ decoded d (routes_of d) n (value_in values)
+  pub decoded : plan ≡ decoded d (routes_of d) n (value_in values)
 
 module _ (d : Station) where
   -- the plan fails
@@ -46,10 +46,10 @@ module _ (d : Station) where
       (is_valid_bound d (routes_of d) bound ≡ true) × (is_false_of plan (clause_of_bound d (routes_of d) bound) ≡ true)
 
   -- the plan fails, and this shows it
-  abbrev pub IsShownBy : List (List Command) → Evidence → Type 0
-  IsShownBy plan e = (f : Fails plan) × Shows plan f e
+  abbrev pub IsRefutedBy : List (List Command) → Evidence → Type 0
+  IsRefutedBy plan e = (f : Fails plan) × Shows plan f e
 
 -- the clause of a cone or a bound, over the variables of n steps
-abbrev pub clause_shown : Station → ℕ → Evidence → List Lit
-clause_shown d n (evidence.Cone cone) = numbered_clause d (routes_of d) n cone
-clause_shown d n (evidence.Bound bound) = numbered_bound d (routes_of d) n bound
+abbrev pub clause_of_evidence : Station → ℕ → Evidence → List Lit
+clause_of_evidence d n (evidence.Cone cone) = numbered_clause d (routes_of d) n cone
+clause_of_evidence d n (evidence.Bound bound) = numbered_bound d (routes_of d) n bound

@@ -2,7 +2,7 @@
 use Rattle.std.specs.Prelude.{◌≡◌, ℕ, false, List, Some, Ok}
 use Rattle.proof_judge.specs.Judged.{refuted}
 use Rattle.proof_log.specs.declared.line.Line.TheVariants.{Refute}
-use Rattle.proof_log.specs.Lines.{line_of}
+use Rattle.proof_log.specs.Lines.{line_in_bytes}
 use Rattle.proof_log.specs.Text.{text_of_line}
 use Rattle.bound_spec.specs.declared.Bound.{Bound}
 use Rattle.bound_spec.specs.declared.Evidence.{Evidence}
@@ -21,7 +21,7 @@ IsExclusionOf f m e =
     IsExclusion m f.contention.interlocking.now.design.station f.steps.count f.plan.now.steps
     e.line.items e.clause.items
 
--- the evidence shows the clause, which is false by the values that tell of the plan
+-- the evidence shows the clause, which is false by the values that give the plan
 abbrev pub DeniedBy : FailedPlan → Evidence → List Lit → Type 0
 DeniedBy f e clause = (refuted f.contention.interlocking.now.design.station f.steps.count e ≡ Ok clause)
     × (clause_holds (value_in f.values.now) clause ≡ false)
@@ -31,11 +31,11 @@ abbrev pub DeniesNothing : FailedPlan → Evidence → Type 0
 DeniesNothing f e = (clause : List Lit) → DeniedBy f e clause → ⊥
 
 -- the line is that of no bound
-abbrev pub SpellsNoBound : List ℕ → Type 0
-SpellsNoBound line = (b : Bound) → line_of line ≡ Some (Refute (evidence.Bound b)) → ⊥
+abbrev pub IsNoBoundLine : List ℕ → Type 0
+IsNoBoundLine line = (b : Bound) → line_in_bytes line ≡ Some (Refute (evidence.Bound b)) → ⊥
 
 -- no bound that its line spells shows such a clause
 abbrev pub ExcludesNothing : FailedPlan → Bound → Type 0
 ExcludesNothing f bound = (b : Bound)
-    → line_of (text_of_line (Refute (evidence.Bound bound))) ≡ Some (Refute (evidence.Bound b))
+    → line_in_bytes (text_of_line (Refute (evidence.Bound bound))) ≡ Some (Refute (evidence.Bound b))
     → DeniesNothing f (evidence.Bound b)

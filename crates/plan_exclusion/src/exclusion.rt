@@ -3,7 +3,7 @@
 ghost use Rattle.std.specs.Prelude.{◌≡◌, IfOk, MatchOption, Some};
 ghost use Rattle.std.specs.Option.{ForSome};
 ghost use Rattle.proof_log.specs.declared.line.Line.TheVariants.{Refute};
-ghost use Rattle.proof_log.specs.Lines.{line_of};
+ghost use Rattle.proof_log.specs.Lines.{line_in_bytes};
 ghost use Rattle.bound_spec.specs.declared.Evidence.TheVariants as evidence;
 ghost use Rattle.slice_spec.specs.Holders.{GivesEach};
 ghost use Rattle.rail_spec.specs.Feasible.{IsRunnable};
@@ -14,6 +14,7 @@ ghost use Rattle.plan_exclusion.specs.declared.method.Method.TheVariants as by;
 use crate::denied::is_denied;
 use crate::method::Method;
 use bound_finder::Finder;
+use bound_spec::{Bound, Evidence};
 use cone_clause::clause_of;
 use cone_form::Contention;
 use interlocking::Steps;
@@ -22,7 +23,6 @@ use proof_judge::ByDesign;
 use proof_log::{Line, LineFault, read_line, write_line};
 use rail_base::history::History;
 use rail_base::plan::{Plan, Violation};
-use bound_spec::{Bound, Evidence};
 use sat_clause::Lit;
 use sat_core::Assignment;
 use std::alloc::{AllocError, Global};
@@ -42,7 +42,7 @@ pub struct FailedPlan<'a, 'b> {
     /// It has no more steps.
     pub steps: Steps,
     pub plan: &'b Plan,
-    /// The values of the variables, from the first on, that tell of the plan.
+    /// The values of the variables, from the first on, that give the plan.
     pub values: &'b Assignment,
     /// Its history up to the tick at which it fails.
     pub history: &'b History,
@@ -52,11 +52,11 @@ pub struct FailedPlan<'a, 'b> {
         IsRunnable d (routes_of d) steps.count plan.now.steps },
     pub ghost each: { GivesEach contention.interlocking.now.design.station plan.now.steps },
     pub ghost fails: { FailsSo contention.interlocking.now.design.station plan.now.steps history.now tick violation },
-    pub ghost told: { AreValuesOfPlan contention.interlocking.now.design.station steps.count values.now plan.now.steps },
+    pub ghost decoded: { AreValuesOfPlan contention.interlocking.now.design.station steps.count values.now plan.now.steps },
 }
 
 impl FailedPlan<'_, '_> {
-    ghost use Rattle.plan_exclusion.specs.Written.{DeniedBy, DeniesNothing, ExcludesNothing, IsExclusionOf, SpellsNoBound};
+    ghost use Rattle.plan_exclusion.specs.Written.{DeniedBy, DeniesNothing, ExcludesNothing, IsExclusionOf, IsNoBoundLine};
 
     /// What excludes the plan: by the method of cones the cone of its failure, and by that of bounds one of the bounds that
     /// are found, or the cone where none of them excludes it.
@@ -112,8 +112,8 @@ impl FailedPlan<'_, '_> {
 
     /// The bound of a line as it is read back, or none where the line does not spell one.
     fn read_back(&self, alloc: Global, line: &[u8]) -> Result<Option<Bound>, AllocError>
-        ensures { IfOk result (λ read. MatchOption read (SpellsNoBound line.now)
-            (λ b. line_of line.now ≡ Some (Refute (evidence.Bound b)))) }
+        ensures { IfOk result (λ read. MatchOption read (IsNoBoundLine line.now)
+            (λ b. line_in_bytes line.now ≡ Some (Refute (evidence.Bound b)))) }
     {
         match read_line(alloc, line) {
             Ok(

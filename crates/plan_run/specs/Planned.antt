@@ -5,7 +5,7 @@ use Rattle.rail_spec.specs.Feasible.{IsWellFormed}
 use Rattle.rail_spec.specs.Dispatches.{Dispatch}
 use Rattle.rail_spec.specs.Dispatches.{of_plan}
 use Rattle.dispatch_run.specs.declared.traffic.Traffic.{Traffic}
-use Rattle.dispatch_run.specs.Followers.{IsTraffic}
+use Rattle.dispatch_run.specs.FollowedTrains.{IsTraffic}
 
 -- the dispatch is that of a well-formed plan, and the traffic its
 pub record IsPlanned (dispatch : Dispatch) (traffic : Traffic) (plan : List (List Command)) : Type 0 where

@@ -26,10 +26,12 @@ fn open_for(design: &Design, history: &[TrainHistory], within: &Within, tick: u6
     ensures within { result ≤ most }
     ensures undue { IsNotDue design.now.station history.now tick result within.now }
 {
-    let longest = u64::from(within.max_ms / design.station.tick_ms);
     match visit_tick(history, within.from_train, within.from_visit) {
         None => most,
-        Some(from) => ticks_before(from.saturating_add(longest), tick, most),
+        Some(from) => {
+            let longest = u64::from(within.max_ms / design.station.tick_ms);
+            ticks_before(from.saturating_add(longest), tick, most)
+        }
     }
 }
 

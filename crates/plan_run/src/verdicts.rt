@@ -11,15 +11,15 @@ ghost use Rattle.rail_spec.specs.Dispatches.{Dispatch};
 ghost use Rattle.plan_run.specs.Planned.{IsPlanned};
 
 use crate::due::next_due;
-use crate::planned::followers;
+use crate::planned::followed_trains;
 use dispatch_run::Traffic;
 use dispatcher::journeys;
 use interlocking::Interlocking;
 use rail_base::history::Verdict;
 use rail_base::list::List;
 use rail_base::plan::Plan;
-use rail_course::{Itineraries, PlannedCourses, TrainPaths, paths_of};
-use rail_require::{are_done, violation_shown};
+use rail_course::{Itineraries, PlannedTrainPaths, TrainPaths, paths_of};
+use rail_require::{are_done, violation_of_history};
 use std::alloc::{AllocError, Global};
 use tick_sim::Run;
 
@@ -69,7 +69,7 @@ fn verdict_by_events(
         let due = next_due(design, progress.histories.as_slice(), progress.tick, last);
         progress = traffic.advance(alloc, progress, due)?;
         let tick = progress.tick;
-        if let Some(violation) = violation_shown(design, progress.histories.as_slice(), tick) {
+        if let Some(violation) = violation_of_history(design, progress.histories.as_slice(), tick) {
             return Ok(Verdict::Failed {
                 history: List::from_vec(progress.histories),
                 tick,
@@ -93,10 +93,10 @@ fn verdict(run: &Run, alloc: Global, ticks: u64) -> Result<Verdict, AllocError>
         run.now.plan.now.steps ticks) }
 {
     let Some(violation) = run.path_violation() else {
-        let followers = followers(run, alloc)?;
+        let followed_trains = followed_trains(run, alloc)?;
         let traffic = Traffic {
             interlocking: run.interlocking,
-            followers: followers.as_slice(),
+            followed_trains: followed_trains.as_slice(),
         };
         return verdict_by_events(&traffic, run.plan, alloc, ticks);
     };
@@ -131,7 +131,7 @@ fn run_plan<'a>(
         given,
         train_paths: train_paths.as_slice(),
     };
-    let planned = PlannedCourses { train_paths, plan };
+    let planned = PlannedTrainPaths { train_paths, plan };
     let journeys = journeys(alloc, &planned)?;
     let run = Run {
         interlocking,

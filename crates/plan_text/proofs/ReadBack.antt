@@ -27,7 +27,7 @@ use Rattle.rail_spec.specs.Plans.{commands}
 use Rattle.rail_spec.specs.Feasible.{is_of, names_only, IsRunnable}
 use Rattle.rail_plan.specs.declared.fault.PlanCode.TheVariants.{P2, P3, P4}
 use Rattle.rail_plan.specs.declared.place.PlanPlace.TheVariants as place
-use Rattle.rail_plan.specs.Text.{Written, listed, of_all, with_others, command_of, step_of, text_steps}
+use Rattle.rail_plan.specs.Text.{Written, list_of_items, of_all, with_others, command_of, step_in, text_steps}
 use Rattle.rail_plan.specs.Reading.{train_names, train_named, route_numbered, known, missing, unknown, planned, unless, admitted_plan, plan_of_text, plan_of}
 use Rattle.rail_plan.specs.WellFormed.{misplaced}
 use Rattle.rail_plan.specs.Executable.{blocked}
@@ -41,7 +41,7 @@ use Rattle.plan_text.proofs.Plain.{IsPlain, plain_items, shallow, parsed}
 
 -- ---- the shape
 
-all_listed : (ds : List Data) → listed (items_of ds) ≡ ds
+all_listed : (ds : List Data) → list_of_items (items_of ds) ≡ ds
 all_listed [] = refl
 all_listed (d ∷ ds) = ap (λ es. d ∷ es) (all_listed ds)
 
@@ -56,11 +56,11 @@ module _ (d : Station) where
   abbrev written_step : List Command → List Written
   written_step step = map written (in_file_order d step)
 
-  step_spelled : (step : List Command) → step_of (step_value d step) ≡ Some (written_step step)
+  step_spelled : (step : List Command) → step_in (step_value d step) ≡ Some (written_step step)
   step_spelled step = ap (of_all command_of) (all_listed (map (command_value d) (in_file_order d step))) ∙ all_given command_of (command_value d) written (in_file_order d step) (λ c. refl)
 
   steps_spelled : (plan : List (List Command)) → text_steps (plan_value d plan) ≡ Some (map written_step plan)
-  steps_spelled plan = ap (of_all step_of) (all_listed (map (step_value d) plan)) ∙ all_given step_of (step_value d) written_step plan step_spelled
+  steps_spelled plan = ap (of_all step_in) (all_listed (map (step_value d) plan)) ∙ all_given step_in (step_value d) written_step plan step_spelled
 
 -- ---- trains by name
 

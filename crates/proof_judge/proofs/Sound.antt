@@ -85,17 +85,17 @@ named_hold (Sorted version steps) d n values h = h
 pub denied_infeasible : (d : Station) → IsAdmitted d → (head : Head) (n k : ℕ) → 1 ≤ n → Denies (refuted d n) (variable_count d (routes_of d) n) n (all_live (clauses_under head d n)) k → IsInfeasible d k
 denied_infeasible d admitted head n k some denies plan feasible =
     let first : 0 < k = denies.least (omega arith) in
-    let m : HasSortedModel d n k = has_model d n k (omega arith) denies.most plan feasible in
+    let m : HasSortedModel d n k = has_model d n k (omega arith) denies.at_most_steps plan feasible in
     let values : ℕ → Bool = model_of d (routes_of d) n m.plan in
     denies.never values (record {
       clauses = sym (live_hold values (clauses_under head d n)) ∙ named_hold head d n values m.holds;
-      shown = evidence_holds d admitted n some m.plan m.feasible;
+      holds_of_evidence = evidence_holds d admitted n some m.plan m.feasible;
     }) (ap values (sym (by_number d n k)) ∙ m.by)
 
 under_so : (d : Station) → IsAdmitted d → (head : Head) (n k : ℕ) (bytes : List ℕ) → 1 ≤ n → judged_under head d n bytes ≡ Yes k → (k ≤ n) × IsInfeasible d k
 under_so d admitted head n k bytes some e =
     let denies = shown-so head (refuted d n) (variable_count d (routes_of d) n) n (all_live (clauses_under head d n)) k bytes e in
-    (denies.most, denied_infeasible d admitted head n k some denies)
+    (denies.at_most_steps, denied_infeasible d admitted head n k some denies)
 
 by_so : (d : Station) → IsAdmitted d → (n k : ℕ) (bytes : List ℕ) → 1 ≤ n → (head : Option Head) → judged_by d n bytes head ≡ Yes k → (k ≤ n) × IsInfeasible d k
 by_so d admitted n k bytes some None e = under_so d admitted Plain n k bytes some e

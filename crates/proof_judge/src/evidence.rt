@@ -8,14 +8,14 @@ ghost use Rattle.proof_judge.specs.Judged.{refuted};
 
 use bound_clause::clause_of as clause_of_bound;
 use bound_design::{is_covered, names_design};
-use bound_ticks::is_shown;
+use bound_spec::{Bound, BoundFault, Evidence, EvidenceFault};
+use bound_ticks::shows_failure;
 use cone_clause::clause_of as clause_of_cone;
 use cone_form::Contention;
 use cone_run::fault_of;
+use cone_spec::Cone;
 use interlocking::Steps;
 use log_checker::{RefuteFault, Refuter};
-use bound_spec::{Bound, BoundFault, Evidence, EvidenceFault};
-use cone_spec::Cone;
 use sat_clause::Lit;
 use std::alloc::Global;
 
@@ -63,7 +63,7 @@ impl ByDesign<'_> {
         if !is_covered(alloc, self.contention.interlocking, bound)? {
             return Err(by_fault(BoundFault::PlaceNotCovered));
         }
-        if !is_shown(alloc, &self.contention, bound)? {
+        if !shows_failure(alloc, &self.contention, bound)? {
             return Err(by_fault(BoundFault::BoundNotShown));
         }
         Ok(clause)

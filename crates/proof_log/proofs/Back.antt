@@ -15,11 +15,11 @@ use Rattle.rail_base.specs.declared.route.RouteNo.{RouteNo}
 use Rattle.cone_spec.specs.declared.Cone.{Cone}
 use Rattle.cone_spec.specs.declared.ConeTrain.{ConeTrain}
 use Rattle.sat_clause.specs.declared.lit.Lit.{Lit}
-use Rattle.proof_log.specs.Words.{greatest_variable, greatest_clause_number, is_from_1_to, is_small, is_space, words_of, plain_number_of, if_small, small_number_of, if_from_1_to, variable_of, route_of, clause_number_of, literal_of, is_end, member_before, members_of}
-use Rattle.proof_log.specs.Parts.{Reads, made, with_next, first_of, has_member, if_any, parts_of, all_parts, small_number, two_numbers, command_by, command, violation, is_nothing, holder_of, train_prefix, train_path, train_by, cone_train, pair, cone}
-use Rattle.proof_log.specs.ConeText.{literal_word, route_word, list_words, command_words, violation_words, holder_words, train_words, pair_words, cone_words, keeps_command, keeps_violation, keeps_holder, keeps_path, keeps_train, keeps_pair, keeps_cone}
+use Rattle.proof_log.specs.Words.{greatest_variable, greatest_clause_number, is_from_1_to, is_small, is_space, line_words, plain_number_of, if_small, small_number_of, if_from_1_to, variable_of, route_of, clause_number_of, literal_of, is_end, member_before, members_of}
+use Rattle.proof_log.specs.Parts.{WithRest, made, with_next, first_of, has_member, if_any, parts_of, all_parts, small_number, two_numbers, command_by, command, violation, is_nothing, written_holder, train_prefix, train_path, train_by, cone_train, pair, cone}
+use Rattle.proof_log.specs.ConeText.{literal_word, route_word, list_words, command_words, violation_words, holder_words, train_words, pair_words, cone_line_words, keeps_command, keeps_violation, keeps_holder, keeps_path, keeps_train, keeps_pair, keeps_cone}
 use Rattle.proof_log.proofs.Parsed.{own}
-use Rattle.proof_log.proofs.Told.{stops, none-back, marked, after_mark, zero-word}
+use Rattle.proof_log.proofs.Written.{stops, none-back, marked, after_mark, zero-word}
 
 -- ---- numbers and literals
 
@@ -112,25 +112,25 @@ members-back member word_of good none back xs rest h = ap (members_of member) (a
 -- ---- parts of parts
 
 -- the words of what is in range are read back, whatever stands after them
-abbrev pub Back : {X : Type 0} → (X → List (List ℕ)) → (X → Bool) → Reads X → Type 0
+abbrev pub Back : {X : Type 0} → (X → List (List ℕ)) → (X → Bool) → WithRest X → Type 0
 Back {X} write good read = (x : X) (rest : List (List ℕ)) → good x ≡ true → read (write x ++ rest) ≡ Some (x, rest)
 
 pub first-back : {X : Type 0} (read : List ℕ → Option X) (word_of : X → List ℕ) (good : X → Bool) → ((x : X) → good x ≡ true → read (word_of x) ≡ Some x) → Back (λ x. word_of x ∷ []) good (first_of read)
 first-back read word_of good back x rest h = rw (back x h) refl
 
-pub next-back : {X Y : Type 0} (write : X → List (List ℕ)) (good : X → Bool) (read : Reads X) (writes : Y → List (List ℕ)) (goods : Y → Bool) (next : Reads Y) → Back write good read → Back writes goods next
+pub next-back : {X Y : Type 0} (write : X → List (List ℕ)) (good : X → Bool) (read : WithRest X) (writes : Y → List (List ℕ)) (goods : Y → Bool) (next : WithRest Y) → Back write good read → Back writes goods next
     → Back (λ p. write p.0 ++ writes p.1) (λ p. good p.0 && goods p.1) (λ w. with_next (read w) next)
 next-back write good read writes goods next here later (x, y) rest h =
     let p = both (good x) (goods y) h in
     let found : read ((write x ++ writes y) ++ rest) ≡ Some (x, writes y ++ rest) = ap read (append_assoc (write x) (writes y) rest) ∙ here x (writes y ++ rest) p.0 in
     rw found (rw (later y rest p.1) refl)
 
-any-back : {X : Type 0} (write : List X → List (List ℕ)) (good : List X → Bool) (read : Reads (List X)) → Back write good read → Back write (λ xs. has_member xs && good xs) (λ w. if_any (read w))
+any-back : {X : Type 0} (write : List X → List (List ℕ)) (good : List X → Bool) (read : WithRest (List X)) → Back write good read → Back write (λ xs. has_member xs && good xs) (λ w. if_any (read w))
 any-back write good read back xs rest h =
     let p = both (has_member xs) (good xs) h in
     rw (back xs rest p.1) (rw p.0 refl)
 
-made-back : {X Y : Type 0} (make : X → Y) (parts : Y → X) (write : X → List (List ℕ)) (good : X → Bool) (writes : Y → List (List ℕ)) (goods : Y → Bool) (read : Reads X)
+made-back : {X Y : Type 0} (make : X → Y) (parts : Y → X) (write : X → List (List ℕ)) (good : X → Bool) (writes : Y → List (List ℕ)) (goods : Y → Bool) (read : WithRest X)
     → ((y : Y) → goods y ≡ true → (make (parts y) ≡ y) × (writes y ≡ write (parts y)) × (good (parts y) ≡ true)) → Back write good read → Back writes goods (λ w. made make (read w))
 made-back make parts write good writes goods read same back y rest h =
     let s = same y h in
@@ -141,7 +141,7 @@ not-true : (b : Bool) → not b ≡ true → b ≡ false
 not-true true h = absurd (cc)
 not-true false h = refl
 
-parts-back : {X : Type 0} (mark : List ℕ) (part : Reads X) (write : X → List (List ℕ)) (good : X → Bool) → Back write good part
+parts-back : {X : Type 0} (mark : List ℕ) (part : WithRest X) (write : X → List (List ℕ)) (good : X → Bool) → Back write good part
     → (n : ℕ) (xs : List X) (rest : List (List ℕ)) → length xs ≤ n → stops mark rest ≡ true → list_all good xs ≡ true → parts_of mark part n (flat_map (λ x. mark ∷ write x) xs ++ rest) ≡ Some (xs, rest)
 parts-back mark part write good back n [] rest le s h = none-back mark part n rest s
 parts-back mark part write good back zero (x ∷ xs) rest le s h = absurd (omega arith)
@@ -160,7 +160,7 @@ enough mark write (x ∷ xs) rest =
     let same : length ((write x ++ after) ++ rest) ≡ length (write x ++ (after ++ rest)) = ap length (append_assoc (write x) after rest) in
     omega (arith, one, same, enough mark write xs rest)
 
-pub all-back : {X : Type 0} (mark : List ℕ) (part : Reads X) (write : X → List (List ℕ)) (good : X → Bool) → Back write good part
+pub all-back : {X : Type 0} (mark : List ℕ) (part : WithRest X) (write : X → List (List ℕ)) (good : X → Bool) → Back write good part
     → (xs : List X) (rest : List (List ℕ)) → stops mark rest ≡ true → list_all good xs ≡ true → all_parts mark part (flat_map (λ x. mark ∷ write x) xs ++ rest) ≡ Some (xs, rest)
 all-back mark part write good back xs rest s h = parts-back mark part write good back (length (flat_map (λ x. mark ∷ write x) xs ++ rest)) xs rest (enough mark write xs rest) s h
 
@@ -199,7 +199,7 @@ module _ (back : NumbersReadBack) where
   as_command None = record { train = record { 0 = 0 }; route = record { 0 = 0 } }
   as_command (Some c) = c
 
-  holder-parts : (o : Option Command) → keeps_holder o ≡ true → (holder_of (as_command o) ≡ o) × (holder_words o ≡ command_words (as_command o)) × (keeps_command (as_command o) ≡ true)
+  holder-parts : (o : Option Command) → keeps_holder o ≡ true → (written_holder (as_command o) ≡ o) × (holder_words o ≡ command_words (as_command o)) × (keeps_command (as_command o) ≡ true)
   holder-parts None h = (refl, rw zero-word refl, refl)
   holder-parts (Some c) h =
       let p = both (keeps_command c) (not (is_nothing c)) h in
@@ -235,13 +235,13 @@ module _ (back : NumbersReadBack) where
   pairs-stop [] = refl
   pairs-stop (p ∷ ps) = refl
 
-  pub cone-read : (k : Cone) → keeps_cone k ≡ true → cone (cone_words k) ≡ Some (k, [])
+  pub cone-read : (k : Cone) → keeps_cone k ≡ true → cone (cone_line_words k) ≡ Some (k, [])
   cone-read k h =
       let a = both (keeps_violation k.violation) ((has_member k.trains && list_all keeps_train k.trains) && list_all keeps_pair k.pairs) h in
       let b = both (has_member k.trains && list_all keeps_train k.trains) (list_all keeps_pair k.pairs) a.1 in
       let c = both (has_member k.trains) (list_all keeps_train k.trains) b.0 in
       let pairs_words : List (List ℕ) = flat_map pair_words k.pairs in
-      let first : violation (cone_words k) ≡ Some (k.violation, flat_map train_words k.trains ++ pairs_words) = violation-read k.violation (flat_map train_words k.trains ++ pairs_words) a.0 in
+      let first : violation (cone_line_words k) ≡ Some (k.violation, flat_map train_words k.trains ++ pairs_words) = violation-read k.violation (flat_map train_words k.trains ++ pairs_words) a.0 in
       let trains : all_parts (codes "t") cone_train (flat_map train_words k.trains ++ pairs_words) ≡ Some (k.trains, pairs_words) = all-back (codes "t") cone_train after_mark keeps_train train-read k.trains pairs_words (pairs-stop k.pairs) c.1 in
       let pairs : all_parts (codes "p") pair pairs_words ≡ Some (k.pairs, []) =
       ap (all_parts (codes "p") pair) (sym (append-nil pairs_words)) ∙ all-back (codes "p") pair (λ p. command_words p.0 ++ command_words p.1) keeps_pair pair-read k.pairs [] refl b.1 in
@@ -264,7 +264,7 @@ split-all (x ∷ xs) h =
     let p = both (not (is_space x)) (spaceless xs) h in
     rw (not-true (is_space x) p.0) (ap (onto_first x) (split-all xs p.1))
 
-pub split-back : (word : List ℕ) (more : List (List ℕ)) → spaceless word ≡ true → list_all spaceless more ≡ true → words_of (join_with_byte 32 (word ∷ more)) ≡ word ∷ more
+pub split-back : (word : List ℕ) (more : List (List ℕ)) → spaceless word ≡ true → list_all spaceless more ≡ true → line_words (join_with_byte 32 (word ∷ more)) ≡ word ∷ more
 split-back word [] h rest = split-all word h
 split-back word (next ∷ more) h rest =
     let p = both (spaceless next) (list_all spaceless more) rest in
@@ -343,7 +343,7 @@ pair-spaceless p h =
     let a = both (keeps_command p.0) (keeps_command p.1) h in
     append-spaceless (command_words p.0) (command_words p.1) (numbers-spaceless p.0.train.0 p.0.route.0 a.0) (numbers-spaceless p.1.train.0 p.1.route.0 a.1)
 
-pub cone-spaceless : (k : Cone) → keeps_cone k ≡ true → list_all spaceless (cone_words k) ≡ true
+pub cone-spaceless : (k : Cone) → keeps_cone k ≡ true → list_all spaceless (cone_line_words k) ≡ true
 cone-spaceless k h =
     let a = both (keeps_violation k.violation) ((has_member k.trains && list_all keeps_train k.trains) && list_all keeps_pair k.pairs) h in
     let b = both (has_member k.trains && list_all keeps_train k.trains) (list_all keeps_pair k.pairs) a.1 in

@@ -18,20 +18,20 @@ use Rattle.rail_base.specs.declared.plan.Violation.{Violation}
 use Rattle.rail_base.specs.declared.plan.Violation.TheVariants as violations
 use Rattle.bound_spec.specs.Certificates.{violation_of}
 use Rattle.proof_log.specs.Words.{greatest_variable, greatest_clause_number, is_small, plain_number_of, route_of, members_of}
-use Rattle.proof_log.specs.Parts.{Reads, made, has_member, parts_of, all_parts, small_number, train_path, cone_train, pair}
+use Rattle.proof_log.specs.Parts.{WithRest, made, has_member, parts_of, all_parts, small_number, train_path, cone_train, pair}
 use Rattle.proof_log.specs.ConeText.{route_word, list_words, command_words, train_words, pair_words, keeps_path, keeps_train, keeps_pair}
-use Rattle.proof_log.proofs.Told.{stops, none-back}
-use Rattle.proof_log.proofs.Told as told_of_cones
+use Rattle.proof_log.proofs.Written.{stops, none-back}
+use Rattle.proof_log.proofs.Written as written_of_cones
 use Rattle.proof_log.proofs.Back.{Back, both, first-back, next-back, all-back, small-read, numbers-read, pair-read, path-read, train-read, number-back, route-back, members-back}
 use Rattle.proof_log.proofs.Back.{spaceless, decimal-spaceless, number-spaceless, small-spaceless, list-spaceless, append-spaceless, parts-spaceless, numbers-spaceless, train-spaceless, pair-spaceless}
 use Rattle.proof_log.specs.Bounds.{route, granted, requirement, origin, among, place_of, parts_until, leg, bound}
-use Rattle.proof_log.specs.BoundText.{requirement_words, origin_words, place_words, leg_words, bound_words, keeps_route, keeps_requirement, is_of, keeps_origin, keeps_place, keeps_leg, keeps_bound}
+use Rattle.proof_log.specs.BoundText.{requirement_words, origin_words, place_words, leg_words, bound_line_words, keeps_route, keeps_requirement, is_of, keeps_origin, keeps_place, keeps_leg, keeps_bound}
 use Rattle.proof_log.proofs.BoundsGathering.{starts, none-until}
-use Rattle.proof_log.proofs.BoundsTold.{after_mark, place-some}
+use Rattle.proof_log.proofs.BoundsWritten.{after_mark, place-some}
 
 -- ---- parts up to a mark
 
-until-back : {X : Type 0} (mark : List ℕ) (part : List ℕ → Reads X) (write : X → List (List ℕ)) (good : X → Bool)
+until-back : {X : Type 0} (mark : List ℕ) (part : List ℕ → WithRest X) (write : X → List (List ℕ)) (good : X → Bool)
     → ((x : X) (rest : List (List ℕ)) (n : ℕ) → good x ≡ true → parts_until mark part (suc n) (write x ++ rest) ≡ made (λ xs. x ∷ xs) (parts_until mark part n rest))
     → (n : ℕ) (xs : List X) (rest : List (List ℕ)) → length xs ≤ n → starts mark rest ≡ true → list_all good xs ≡ true → parts_until mark part n (flat_map write xs ++ rest) ≡ Some (xs, rest)
 until-back mark part write good step n [] rest le s h = none-until mark part n rest s
@@ -129,7 +129,7 @@ module _ (back : NumbersReadBack) where
       let rest : List (List ℕ) = flat_map leg_words ls in
       let number : plain_number_of (decimal tick) ≡ Some tick = number-back back tick t.0 in
       let trains_back : all_parts (codes "t") cone_train ((first ++ second) ++ rest) ≡ Some (k.trains, second ++ rest) =
-      ap (all_parts (codes "t") cone_train) (append_assoc first second rest) ∙ all-back (codes "t") cone_train told_of_cones.after_mark keeps_train (train-read back) k.trains (second ++ rest) (pairs-stop k.pairs ls) c.1 in
+      ap (all_parts (codes "t") cone_train) (append_assoc first second rest) ∙ all-back (codes "t") cone_train written_of_cones.after_mark keeps_train (train-read back) k.trains (second ++ rest) (pairs-stop k.pairs ls) c.1 in
       let pairs_back : all_parts (codes "p") pair (second ++ rest) ≡ Some (k.pairs, rest) =
       all-back (codes "p") pair (λ p. command_words p.0 ++ command_words p.1) keeps_pair (pair-read back) k.pairs rest (legs-stop (codes "p") refl ls) b.1 in
       rw number (rw trains_back (rw c.0 (rw pairs_back (rw (is-of q k.violation a.0) refl))))
@@ -167,7 +167,7 @@ module _ (back : NumbersReadBack) where
       let same : length (flat_map leg_words ls ++ []) ≡ length (flat_map leg_words ls) = ap length (append-nil (flat_map leg_words ls)) in
       omega (arith, same, enough leg_words (λ l. omega arith) ls [])
 
-  pub bound-read : (b : Bound) → keeps_bound b ≡ true → bound (bound_words b) ≡ Some (b, [])
+  pub bound-read : (b : Bound) → keeps_bound b ≡ true → bound (bound_line_words b) ≡ Some (b, [])
   bound-read b h =
       let p = both (keeps_requirement b.requirement) (keeps_origin b.requirement b.origin && (has_member b.legs && list_all keeps_leg b.legs)) h in
       let q = both (keeps_origin b.requirement b.origin) (has_member b.legs && list_all keeps_leg b.legs) p.1 in
@@ -217,7 +217,7 @@ leg-spaceless l h =
     let b = both (has_member l.places) (list_all keeps_place l.places) a.1 in
     rw (small-spaceless l.train.0 a.0) (parts-spaceless place_words keeps_place place-spaceless l.places b.1)
 
-pub bound-spaceless : (b : Bound) → keeps_bound b ≡ true → list_all spaceless (bound_words b) ≡ true
+pub bound-spaceless : (b : Bound) → keeps_bound b ≡ true → list_all spaceless (bound_line_words b) ≡ true
 bound-spaceless b h =
     let p = both (keeps_requirement b.requirement) (keeps_origin b.requirement b.origin && (has_member b.legs && list_all keeps_leg b.legs)) h in
     let q = both (keeps_origin b.requirement b.origin) (has_member b.legs && list_all keeps_leg b.legs) p.1 in

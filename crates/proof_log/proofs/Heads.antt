@@ -6,16 +6,16 @@ use Rattle.std.proofs.lemmas.List.Splits.{join_with_byte-slice_split}
 use Rattle.rail_text.specs.Laws.{NumbersReadBack}
 use Rattle.proof_log.specs.declared.head.Head.{Head}
 use Rattle.proof_log.specs.declared.head.Head.TheVariants.{Plain, Named, Sorted}
-use Rattle.proof_log.specs.Words.{words_of}
+use Rattle.proof_log.specs.Words.{line_words}
 use Rattle.proof_log.specs.Parts.{made, two_numbers}
 use Rattle.proof_log.specs.Lines.{if_all}
 use Rattle.proof_log.specs.Heads.{head_words, head_text, keeps_head, named_by, sorted_by, head_of_version, head_after, head_of_words, head_of}
-use Rattle.proof_log.proofs.Told.{some-told, choose, named-told, numbers_words, keeps_numbers, numbers-told, all-told}
+use Rattle.proof_log.proofs.Written.{some-told, choose, named-told, numbers_words, keeps_numbers, numbers-told, all-told}
 use Rattle.proof_log.proofs.Back.{numbers-read, split-back, numbers-spaceless}
 
 -- ---- read back
 
-split-head : (h : Head) → keeps_head h ≡ true → words_of (head_text h) ≡ head_words h
+split-head : (h : Head) → keeps_head h ≡ true → line_words (head_text h) ≡ head_words h
 split-head Plain keeps = split-back (codes "rcvlog") (codes "1" ∷ []) refl refl
 split-head (Named version steps) keeps = split-back (codes "rcvlog") (codes "2" ∷ decimal version ∷ decimal steps ∷ []) refl (numbers-spaceless version steps keeps)
 split-head (Sorted version steps) keeps = split-back (codes "rcvlog") (codes "4" ∷ decimal version ∷ decimal steps ∷ []) refl (numbers-spaceless version steps keeps)
@@ -68,5 +68,5 @@ words-told (name ∷ more) h e =
 
 pub one-text : (bytes : List ℕ) (h : Head) → head_of bytes ≡ Some h → (head_text h ≡ bytes) × (keeps_head h ≡ true)
 one-text bytes h is =
-    let t = words-told (words_of bytes) h is in
+    let t = words-told (line_words bytes) h is in
     (ap (join_with_byte 32) (sym t.0) ∙ join_with_byte-slice_split 32 bytes, t.1)

@@ -9,8 +9,8 @@ use Rattle.bound_spec.specs.declared.Place.TheVariants as place
 use Rattle.bound_spec.specs.declared.Leg.{Leg}
 use Rattle.bound_spec.specs.declared.Bound.{Bound}
 use Rattle.proof_log.specs.declared.line.Line.TheVariants.{Derive, Forget}
-use Rattle.proof_log.specs.ConeText.{literal_word, route_word, list_words, train_words, pair_words, violation_words, cone_words}
-use Rattle.proof_log.specs.BoundText.{requirement_words, origin_words, place_words, leg_words, bound_words}
+use Rattle.proof_log.specs.ConeText.{literal_word, route_word, list_words, train_words, pair_words, violation_words, cone_line_words}
+use Rattle.proof_log.specs.BoundText.{requirement_words, origin_words, place_words, leg_words, bound_line_words}
 use Rattle.proof_log.specs.Text.{text_of_line}
 use Rattle.proof_log.specs.Writing.{spaced}
 
@@ -26,9 +26,9 @@ spaced-append (word ∷ words) more = ap (λ t. 32 ∷ t) (ap (λ t. word ++ t) 
 pub spaced-list : {X : Type 0} (word_of : X → List ℕ) (xs : List X) → spaced (list_words word_of xs) ≡ spaced (map word_of xs) ++ codes " 0"
 spaced-list word_of xs = spaced-append (map word_of xs) (codes "0" ∷ [])
 
-pub spaced-parts : {X : Type 0} (words_of : X → List (List ℕ)) (xs : List X) → spaced (flat_map words_of xs) ≡ flat_map (λ x. spaced (words_of x)) xs
-spaced-parts words_of [] = refl
-spaced-parts words_of (x ∷ xs) = spaced-append (words_of x) (flat_map words_of xs) ∙ ap (λ t. spaced (words_of x) ++ t) (spaced-parts words_of xs)
+pub spaced-parts : {X : Type 0} (line_words : X → List (List ℕ)) (xs : List X) → spaced (flat_map line_words xs) ≡ flat_map (λ x. spaced (line_words x)) xs
+spaced-parts line_words [] = refl
+spaced-parts line_words (x ∷ xs) = spaced-append (line_words x) (flat_map line_words xs) ∙ ap (λ t. spaced (line_words x) ++ t) (spaced-parts line_words xs)
 
 -- the text of a derive line, by its parts
 pub text-parts : (clause : List Lit) (hints : List ℕ) → text_of_line (Derive clause hints) ≡ codes "d" ++ spaced (map literal_word clause) ++ codes " 0" ++ spaced (map decimal hints) ++ codes " 0"
@@ -47,7 +47,7 @@ pub forget-parts : (clauses : List ℕ) → text_of_line (Forget clauses) ≡ co
 forget-parts clauses = join-spaced (codes "x") _ ∙ ap (λ t. 120 ∷ t) (spaced-list decimal clauses)
 
 -- the text of a cone, by its parts
-pub cone-parts : (k : Cone) → spaced (cone_words k) ≡ spaced (violation_words k.violation) ++ flat_map (λ c. spaced (train_words c)) k.trains ++ flat_map (λ p. spaced (pair_words p)) k.pairs
+pub cone-parts : (k : Cone) → spaced (cone_line_words k) ≡ spaced (violation_words k.violation) ++ flat_map (λ c. spaced (train_words c)) k.trains ++ flat_map (λ p. spaced (pair_words p)) k.pairs
 cone-parts k =
     let violation : List ℕ = spaced (violation_words k.violation) in
     let trains : List ℕ = flat_map (λ c. spaced (train_words c)) k.trains in
@@ -75,7 +75,7 @@ origin-parts tick k =
     spaced-append prefix (flat_map train_words k.trains ++ flat_map pair_words k.pairs) ∙ ap (λ t. spaced prefix ++ t) after ∙ sym (append_assoc (spaced prefix) trains pairs)
 
 -- the text of a bound, by its parts
-pub bound-parts : (b : Bound) → spaced (bound_words b) ≡ spaced (requirement_words b.requirement) ++ spaced (origin_words b.origin) ++ flat_map (λ l. spaced (leg_words l)) b.legs
+pub bound-parts : (b : Bound) → spaced (bound_line_words b) ≡ spaced (requirement_words b.requirement) ++ spaced (origin_words b.origin) ++ flat_map (λ l. spaced (leg_words l)) b.legs
 bound-parts b =
     let wanted : List ℕ = spaced (requirement_words b.requirement) in
     let from : List ℕ = spaced (origin_words b.origin) in

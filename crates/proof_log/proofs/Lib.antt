@@ -1,7 +1,7 @@
 pub mod Splitting
 pub mod Parsed
-pub mod Told
-pub mod BoundsTold
+pub mod Written
+pub mod BoundsWritten
 pub mod OneText
 pub mod Gathering
 pub mod BoundsGathering

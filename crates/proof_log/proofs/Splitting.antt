@@ -6,7 +6,7 @@ use Rattle.std.proofs.lemmas.List.Sums.{prefix_len-le-length}
 use Rattle.std.proofs.lemmas.Bool.{cases_Bool}
 use Rattle.std.proofs.lemmas.Bool.Decides.{nat_tests}
 use Rattle.std.proofs.lemmas.Grind.{common_steps}
-use Rattle.proof_log.specs.Words.{is_space, words_of}
+use Rattle.proof_log.specs.Words.{is_space, line_words}
 
 place_of_first : (text : List ℕ) (end : ℕ) → Some end ≡ position is_space text → (position_or_len is_space text ≡ end) × (end < length text)
 place_of_first text end is = grind (arith, nat_tests)
@@ -17,7 +17,7 @@ no_place text is =
     grind (arith, nat_tests, le)
 
 pub words-at : (text : List ℕ) (end : ℕ) → Some end ≡ position is_space text
-    → words_of text ≡ take end text ∷ words_of (take (length text - (end + 1)) (drop (end + 1) text))
+    → line_words text ≡ take end text ∷ line_words (take (length text - (end + 1)) (drop (end + 1) text))
 words-at text end is =
     let place = place_of_first text end is in
     let at : position_or_len is_space text ≡ end = place.0 in
@@ -35,5 +35,5 @@ whole_part (x ∷ xs) is = elim (cases_Bool (is_space x)) [
       slice_split-cons_no is_space x xs h ∙ ap (onto_first x) (whole_part xs rest)
 ]
 
-pub words-last : (text : List ℕ) → None ≡ position is_space text → words_of text ≡ text ∷ []
+pub words-last : (text : List ℕ) → None ≡ position is_space text → line_words text ≡ text ∷ []
 words-last text is = whole_part text (no_place text is)

@@ -44,8 +44,8 @@ abbrev pub leg_words : Leg → List (List ℕ)
 leg_words l = codes "l" ∷ decimal l.train.0 ∷ flat_map place_words l.places
 
 -- the requirement, the origin, and the legs
-abbrev pub bound_words : Bound → List (List ℕ)
-bound_words b = requirement_words b.requirement ++ (origin_words b.origin ++ flat_map leg_words b.legs)
+abbrev pub bound_line_words : Bound → List (List ℕ)
+bound_line_words b = requirement_words b.requirement ++ (origin_words b.origin ++ flat_map leg_words b.legs)
 
 -- ---- certificates of the grammar
 

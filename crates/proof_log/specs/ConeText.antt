@@ -54,8 +54,8 @@ abbrev pub pair_words : Command × Command → List (List ℕ)
 pair_words p = codes "p" ∷ (command_words p.0 ++ command_words p.1)
 
 -- the violation, the trains, the pairs
-abbrev pub cone_words : Cone → List (List ℕ)
-cone_words k = violation_words k.violation ++ (flat_map train_words k.trains ++ flat_map pair_words k.pairs)
+abbrev pub cone_line_words : Cone → List (List ℕ)
+cone_line_words k = violation_words k.violation ++ (flat_map train_words k.trains ++ flat_map pair_words k.pairs)
 
 -- ---- cones of the grammar
 

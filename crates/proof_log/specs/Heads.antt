@@ -4,7 +4,7 @@ use Rattle.std.specs.List.{join_with_byte}
 use Rattle.std.specs.Str.{bytes_eq}
 use Rattle.proof_log.specs.declared.head.Head.{Head}
 use Rattle.proof_log.specs.declared.head.Head.TheVariants.{Plain, Named, Sorted}
-use Rattle.proof_log.specs.Words.{words_of, is_small}
+use Rattle.proof_log.specs.Words.{line_words, is_small}
 use Rattle.proof_log.specs.Parts.{made, two_numbers}
 use Rattle.proof_log.specs.Lines.{if_all}
 
@@ -51,4 +51,4 @@ head_of_words (name ∷ more) = if bytes_eq name (codes "rcvlog") then head_afte
 
 -- the head that bytes spell
 abbrev pub head_of : List ℕ → Option Head
-head_of bytes = head_of_words (words_of bytes)
+head_of bytes = head_of_words (line_words bytes)

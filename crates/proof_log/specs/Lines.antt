@@ -8,8 +8,8 @@ use Rattle.bound_spec.specs.declared.Bound.{Bound}
 use Rattle.bound_spec.specs.declared.Evidence.TheVariants as evidence
 use Rattle.proof_log.specs.declared.line.Line.{Line}
 use Rattle.proof_log.specs.declared.line.Line.TheVariants.{Derive, Refute, Forget}
-use Rattle.proof_log.specs.Words.{words_of, literal_of, clause_number_of, members_of}
-use Rattle.proof_log.specs.Parts.{Reads, made, with_next, if_any, cone}
+use Rattle.proof_log.specs.Words.{line_words, literal_of, clause_number_of, members_of}
+use Rattle.proof_log.specs.Parts.{WithRest, made, with_next, if_any, cone}
 use Rattle.proof_log.specs.Bounds.{bound}
 
 -- each variable is below the next one
@@ -22,11 +22,11 @@ if_increasing None = None
 if_increasing (Some found) = if is_increasing found.0 then Some found else None
 
 -- the literals of a clause, `0`, the numbers of the hinted clauses, `0`
-abbrev pub derivation : Reads (List Lit × List ℕ)
+abbrev pub derivation : WithRest (List Lit × List ℕ)
 derivation words = with_next (if_increasing (members_of literal_of words)) (members_of clause_number_of)
 
 -- the numbers of clauses, one or more, and `0`
-abbrev pub clause_numbers : Reads (List ℕ)
+abbrev pub clause_numbers : WithRest (List ℕ)
 clause_numbers words = if_any (members_of clause_number_of words)
 
 -- what is found where no word is left after it
@@ -61,6 +61,6 @@ abbrev pub line_of_words : List (List ℕ) → Option Line
 line_of_words [] = None
 line_of_words (kind ∷ more) = line_of_kind kind more
 
--- the line that bytes spell
-abbrev pub line_of : List ℕ → Option Line
-line_of bytes = line_of_words (words_of bytes)
+-- the line in bytes
+abbrev pub line_in_bytes : List ℕ → Option Line
+line_in_bytes bytes = line_of_words (line_words bytes)

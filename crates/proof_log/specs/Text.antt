@@ -7,19 +7,19 @@ use Rattle.proof_log.specs.declared.line.Line.{Line}
 use Rattle.proof_log.specs.declared.line.Line.TheVariants.{Derive, Refute, Forget}
 use Rattle.proof_log.specs.Words.{greatest_variable, greatest_clause_number, is_from_1_to}
 use Rattle.proof_log.specs.Parts.{has_member}
-use Rattle.proof_log.specs.ConeText.{literal_word, list_words, cone_words, keeps_cone}
-use Rattle.proof_log.specs.BoundText.{bound_words, keeps_bound}
+use Rattle.proof_log.specs.ConeText.{literal_word, list_words, cone_line_words, keeps_cone}
+use Rattle.proof_log.specs.BoundText.{bound_line_words, keeps_bound}
 use Rattle.proof_log.specs.Lines.{is_increasing}
 
 -- `r` with a cone, or `b` with a bound
-abbrev pub evidence_words : Evidence → List (List ℕ)
-evidence_words (evidence.Cone cone) = codes "r" ∷ cone_words cone
-evidence_words (evidence.Bound bound) = codes "b" ∷ bound_words bound
+abbrev pub evidence_line_words : Evidence → List (List ℕ)
+evidence_line_words (evidence.Cone cone) = codes "r" ∷ cone_line_words cone
+evidence_line_words (evidence.Bound bound) = codes "b" ∷ bound_line_words bound
 
 -- `d` with the clause and the hints, `x` with the clauses
 abbrev pub words_of_line : Line → List (List ℕ)
 words_of_line (Derive clause hints) = codes "d" ∷ (map literal_word clause ++ codes "0" ∷ list_words decimal hints)
-words_of_line (Refute e) = evidence_words e
+words_of_line (Refute e) = evidence_line_words e
 words_of_line (Forget clauses) = codes "x" ∷ list_words decimal clauses
 
 -- the words, with a space between each and the next

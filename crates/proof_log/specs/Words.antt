@@ -11,8 +11,8 @@ abbrev pub is_space : ℕ → Bool
 is_space byte = byte == 32
 
 -- the words of a line, parted by one space each
-abbrev pub words_of : List ℕ → List (List ℕ)
-words_of line = slice_split is_space line
+abbrev pub line_words : List ℕ → List (List ℕ)
+line_words line = slice_split is_space line
 
 -- at most 18 bytes, and where there are two or more, the first isn't the digit 0
 abbrev pub is_short : List ℕ → Bool

@@ -2,7 +2,7 @@
 
 ghost use Rattle.std.specs.Prelude.{◌≡◌, ◌++◌, flat_map, OnOk};
 ghost use Rattle.proof_log.specs.Writing.{spaced};
-ghost use Rattle.proof_log.specs.BoundText.{requirement_words, origin_words, place_words, leg_words, bound_words};
+ghost use Rattle.proof_log.specs.BoundText.{requirement_words, origin_words, place_words, leg_words, bound_line_words};
 
 use crate::cone_text::{put_entry, put_kind, put_pairs, put_path, put_spaced, put_trains};
 use bound_spec::{Bound, Leg, Origin, Place, Requirement};
@@ -10,7 +10,7 @@ use std::alloc::AllocError;
 
 /// Appends a bound.
 pub fn put_bound(text: &mut Vec<u8>, bound: &Bound) -> Result<(), AllocError>
-    ensures { OnOk result (text.new.items ≡ text.old.items ++ spaced (bound_words bound.now)) }
+    ensures { OnOk result (text.new.items ≡ text.old.items ++ spaced (bound_line_words bound.now)) }
 {
     put_requirement(text, bound.requirement)?;
     put_origin(text, &bound.origin)?;

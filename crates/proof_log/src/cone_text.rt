@@ -2,12 +2,12 @@
 
 ghost use Rattle.std.specs.Prelude.{◌≡◌, ◌∷◌, ◌++◌, [], flat_map, map, decimal, codes, OnOk};
 ghost use Rattle.proof_log.specs.ConeText.{route_word, list_words, command_words, violation_words, holder_words};
-ghost use Rattle.proof_log.specs.ConeText.{train_words, pair_words, train_prefix_words, cone_words};
+ghost use Rattle.proof_log.specs.ConeText.{train_words, pair_words, train_prefix_words, cone_line_words};
 ghost use Rattle.proof_log.specs.Writing.{spaced};
 
+use cone_spec::{Cone, ConeTrain};
 use rail_base::plan::{Command, Violation};
 use rail_base::route::RouteNo;
-use cone_spec::{Cone, ConeTrain};
 use rail_text::put_number;
 use std::alloc::AllocError;
 
@@ -75,7 +75,7 @@ pub fn put_pairs(text: &mut Vec<u8>, pairs: &[(Command, Command)]) -> Result<(),
 
 /// Appends a cone.
 pub fn put_cone(text: &mut Vec<u8>, cone: &Cone) -> Result<(), AllocError>
-    ensures { OnOk result (text.new.items ≡ text.old.items ++ spaced (cone_words cone.now)) }
+    ensures { OnOk result (text.new.items ≡ text.old.items ++ spaced (cone_line_words cone.now)) }
 {
     put_violation(text, cone.violation)?;
     put_trains(text, cone.trains.as_slice())?;

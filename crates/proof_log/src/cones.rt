@@ -10,11 +10,11 @@ use crate::line::LineFault;
 use crate::members::{has_member, read_members};
 use crate::parts::{command, holder, pair, train_prefix, violation};
 use crate::words::first_word;
+use cone_spec::{Cone, ConeTrain};
 use rail_base::list::List;
 use rail_base::plan::Command;
 use rail_base::route::RouteNo;
 use rail_base::station::TrainNo;
-use cone_spec::{Cone, ConeTrain};
 use std::alloc::Global;
 
 /// The routes up to the word `0`, of which there is one.

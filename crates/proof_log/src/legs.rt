@@ -12,10 +12,10 @@ use crate::members::{has_member, read_members};
 use crate::parts::small_number;
 use crate::requirements::route;
 use crate::words::first_word;
+use bound_spec::{Leg, Place};
 use rail_base::list::List;
 use rail_base::route::RouteNo;
 use rail_base::station::TrainNo;
-use bound_spec::{Leg, Place};
 use std::alloc::Global;
 
 /// The legs of a certificate, of which there is one.

@@ -1,7 +1,7 @@
 //! Lines, and why bytes are none.
 
-use rail_base::list::List;
 use bound_spec::Evidence;
+use rail_base::list::List;
 use sat_clause::Lit;
 
 /// A line of a proof file.

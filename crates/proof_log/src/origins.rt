@@ -11,9 +11,9 @@ use crate::cones::{cone_pairs, some_trains};
 use crate::line::LineFault;
 use crate::parts::horizon;
 use crate::words::first_word;
-use rail_base::plan::Violation;
 use bound_spec::{Origin, Requirement};
 use cone_spec::Cone;
+use rail_base::plan::Violation;
 use std::alloc::Global;
 
 /// An origin for a requirement, and the words after it.

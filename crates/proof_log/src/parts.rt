@@ -4,7 +4,7 @@ ghost use Rattle.std.specs.Prelude.{◌≡◌};
 ghost use Rattle.rail_base.specs.declared.plan.Violation.TheVariants.{Within, Order};
 ghost use Rattle.proof_log.specs.Words.{plain_number_of};
 ghost use Rattle.proof_log.specs.Parts.{first_of, made, small_number, two_numbers, train_prefix, command, pair, path_by};
-ghost use Rattle.proof_log.specs.Parts.{grant_by, visit_by, violation, violation_of, holder_of};
+ghost use Rattle.proof_log.specs.Parts.{grant_by, visit_by, violation, violation_of, written_holder};
 ghost use Rattle.proof_log.specs.Reading.{words_left, with_words};
 
 use crate::words;
@@ -64,7 +64,7 @@ pub fn command(text: Option<&[u8]>) -> Option<(Command, Option<&[u8]>)>
 
 /// The holder that a command writes: train 0 with route 0 is none.
 pub fn holder(command: Command) -> Option<Command>
-    ensures { result ≡ holder_of command }
+    ensures { result ≡ written_holder command }
 {
     if command.train.0 == 0 && command.route.0 == 0 {
         None

@@ -3,7 +3,7 @@
 ghost use Rattle.std.specs.Prelude.{◌≡◌, IfOk, Some, None, Err};
 ghost use Rattle.proof_log.specs.Parts.{made, cone};
 ghost use Rattle.proof_log.specs.Bounds.{bound};
-ghost use Rattle.proof_log.specs.Lines.{is_increasing, derivation, clause_numbers, if_all, line_of_kind, line_of};
+ghost use Rattle.proof_log.specs.Lines.{is_increasing, derivation, clause_numbers, if_all, line_of_kind, line_in_bytes};
 ghost use Rattle.proof_log.specs.Lines.{derive_by, refute_by_cone, refute_by_bound};
 ghost use Rattle.proof_log.specs.Reading.{words_left};
 ghost use Rattle.proof_log.specs.declared.line.Line.TheVariants.{Forget};
@@ -23,8 +23,8 @@ use std::alloc::Global;
 /// Ticks, horizons and numbers of clauses have at most 18 digits, and all other numbers at most 32 bits.
 /// `Text` says that the bytes spell no line, `Memory` that memory ran out; an `Err` leaves nothing.
 pub fn read_line(alloc: Global, bytes: &[u8]) -> Result<Line, LineFault>
-    ensures line { IfOk result (λ line. line_of bytes.now ≡ Some line) }
-    ensures text { result ≡ Err Text → line_of bytes.now ≡ None }
+    ensures line { IfOk result (λ line. line_in_bytes bytes.now ≡ Some line) }
+    ensures text { result ≡ Err Text → line_in_bytes bytes.now ≡ None }
 {
     let (kind, after) = first_word(bytes);
     line_of_kind(alloc, kind, after)

@@ -9,10 +9,10 @@ ghost use Rattle.proof_log.specs.Bounds.{route, visit_by, grant_by, granted, req
 use crate::parts::{small_number, two_numbers};
 use crate::words;
 use crate::words::first_word;
+use bound_spec::Requirement;
 use rail_base::plan::Command;
 use rail_base::route::RouteNo;
 use rail_base::station::TrainNo;
-use bound_spec::Requirement;
 
 /// A route, from 1 on, and the words after it.
 pub fn route(text: Option<&[u8]>) -> Option<(RouteNo, Option<&[u8]>)>

@@ -2,7 +2,7 @@
 
 ghost use Rattle.std.specs.Prelude.{◌≡◌, ◌∷◌, position};
 ghost use Rattle.proof_log.specs.Reading.{words_left};
-ghost use Rattle.proof_log.specs.Words.{is_space, words_of, plain_number_of, small_number_of, variable_of, route_of};
+ghost use Rattle.proof_log.specs.Words.{is_space, line_words, plain_number_of, small_number_of, variable_of, route_of};
 ghost use Rattle.proof_log.specs.Words.{clause_number_of, literal_of};
 
 use rail_base::route::RouteNo;
@@ -14,7 +14,7 @@ const GREATEST: u64 = 999_999_999_999_999_999;
 
 /// The first word, and the text after the space that ends it. `None` after the last word.
 pub fn first_word(text: &[u8]) -> (&[u8], Option<&[u8]>)
-    ensures { words_of text.now ≡ result.0.now ∷ words_left result.1 }
+    ensures { line_words text.now ≡ result.0.now ∷ words_left result.1 }
 {
     match word_end(text) {
         Some(end) => (&text[..end], Some(&text[end + 1..])),

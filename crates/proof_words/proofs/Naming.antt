@@ -8,7 +8,7 @@ use Rattle.bound_spec.specs.declared.Evidence.{Evidence}
 use Rattle.bound_spec.specs.declared.Evidence.TheVariants as evidence
 use Rattle.bound_spec.specs.declared.EvidenceFault.{EvidenceFault}
 use Rattle.bound_spec.specs.declared.EvidenceFault.TheVariants as of
-use Rattle.bound_spec.specs.Validity.{covered, fault_of, first_fault, in_design, is_consistent, names_design, shown}
+use Rattle.bound_spec.specs.Validity.{covered, fault_of, first_fault, in_design, is_consistent, names_design, shows_failure}
 use Rattle.rail_spec.specs.Track.{routes_of}
 use Rattle.rail_text.specs.Pieces.{pieces}
 use Rattle.rail_text.specs.Pieces.{Line as Piece}
@@ -25,9 +25,9 @@ use Rattle.proof_log.specs.declared.head.Head.{Head}
 use Rattle.proof_log.specs.declared.head.Head.TheVariants.{Plain, Named, Sorted}
 use Rattle.proof_log.specs.declared.line.Line.{Line}
 use Rattle.proof_log.specs.declared.line.Line.TheVariants.{Derive, Refute, Forget}
-use Rattle.proof_log.specs.Lines.{line_of}
+use Rattle.proof_log.specs.Lines.{line_in_bytes}
 use Rattle.proof_judge.specs.Judged.{all_live, clauses_under, judged, judged_by, judged_under, refuted, unless}
-use Rattle.evidence_words.specs.Told.{names_what_is_there}
+use Rattle.evidence_words.specs.Sentences.{names_what_is_there}
 use Rattle.proof_words.specs.Named.{IsNamedPiece, names_line}
 
 -- ---- what shows a clause names what is there
@@ -45,7 +45,7 @@ pub names_there : (d : Station) (n : ℕ) (e : Evidence) (clause : List Lit) →
 names_there d n (evidence.Cone c) clause h = refl
 names_there d n (evidence.Bound b) clause h =
     let none = none_of (fault_of d (routes_of d) b) (numbered_bound d (routes_of d) n b) clause h in
-    and_left (names_design d (routes_of d) b) (is_consistent d (routes_of d) b) (no_fault (in_design d (routes_of d) b) (covered d (routes_of d) b) (shown d (routes_of d) b) none)
+    and_left (names_design d (routes_of d) b) (is_consistent d (routes_of d) b) (no_fault (in_design d (routes_of d) b) (covered d (routes_of d) b) (shows_failure d (routes_of d) b) none)
 
 -- ---- the lines that are taken
 
@@ -66,10 +66,10 @@ module _ (head : Head) (refute : Evidence → Result (List Lit) EvidenceFault) (
 
   -- each piece shows the clause of its cone or bound
   abbrev pub ShowsClause : Piece → Type 0
-  ShowsClause piece = (e : Evidence) → line_of piece.bytes ≡ Some (Refute e) → (clause : List Lit) × (refute e ≡ Ok clause)
+  ShowsClause piece = (e : Evidence) → line_in_bytes piece.bytes ≡ Some (Refute e) → (clause : List Lit) × (refute e ≡ Ok clause)
 
   piece_taken : (s t : SoFar) (piece : Piece) → taken head refute vars steps s (parsed head vars piece) ≡ Ok t → ShowsClause piece
-  piece_taken s t piece ok e is = evidence_taken s t piece.ended (line_of piece.bytes) e is ok
+  piece_taken s t piece ok e is = evidence_taken s t piece.ended (line_in_bytes piece.bytes) e is ok
 
   all_before : (p : Piece) (ps : List Piece) → ShowsClause p → All ShowsClause ps → All ShowsClause (p ∷ ps)
   all_before p ps first more zero other less = first

@@ -1,10 +1,10 @@
 -- The sentences about the lines of a proof file.
 use Rattle.std.specs.Prelude.{ℕ, List, [], Option, Some, None}
 use Rattle.std.specs.List.{flat_map}
-use Rattle.evidence_words.specs.Told.{evidence_sentences}
+use Rattle.evidence_words.specs.Sentences.{evidence_sentences}
 use Rattle.proof_log.specs.declared.line.Line.{Line}
 use Rattle.proof_log.specs.declared.line.Line.TheVariants.{Derive, Refute, Forget}
-use Rattle.proof_log.specs.Lines.{line_of}
+use Rattle.proof_log.specs.Lines.{line_in_bytes}
 use Rattle.rail_base.specs.declared.station.Station.{Station}
 use Rattle.rail_base.specs.Numbering.{after_first}
 use Rattle.rail_spec.specs.Track.{routes_of}
@@ -21,7 +21,7 @@ module _ (d : Station) where
 
   -- of a piece of the file
   abbrev pub piece_sentences : Piece → List (List ℕ)
-  piece_sentences piece = line_sentences piece.line (line_of piece.bytes)
+  piece_sentences piece = line_sentences piece.line (line_in_bytes piece.bytes)
 
   -- of all lines after the head, in order
   abbrev pub file_sentences : List ℕ → List (List ℕ)

@@ -3,10 +3,10 @@
 ghost use Rattle.std.specs.Prelude.{◌≡◌, ◌++◌, true, All, IfOk, OnOk, Some, flat_map};
 ghost use Rattle.rail_base.specs.Numbering.{after_first};
 ghost use Rattle.rail_outside.specs.Lines.{lines_of};
-ghost use Rattle.rail_text.specs.Lines.{line_of as piece_of};
+ghost use Rattle.rail_text.specs.Lines.{line_of_piece as piece_of};
 ghost use Rattle.rail_text.specs.Cursors.{lines_left};
 ghost use Rattle.rail_text.specs.Pieces.{pieces};
-ghost use Rattle.proof_log.specs.Lines.{line_of};
+ghost use Rattle.proof_log.specs.Lines.{line_in_bytes};
 ghost use Rattle.proof_words.specs.Meanings.{file_sentences, line_sentences, piece_sentences};
 ghost use Rattle.proof_words.specs.Named.{IsNamedPiece, names_line};
 

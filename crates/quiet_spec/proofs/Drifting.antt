@@ -22,7 +22,7 @@ use Rattle.rail_require.proofs.Agreeing.{is_a_train}
 use Rattle.rail_course.specs.declared.journey.Release.{Release}
 use Rattle.rail_course.proofs.Waiting.{list_all-same}
 use Rattle.rail_course.specs.Releases.{is_released, release_for, releases_of_route, releases_of_train}
-use Rattle.quiet_spec.specs.Quiet.{IsApart, IsQuiet, followed, drift_with, drift}
+use Rattle.quiet_spec.specs.Quiet.{IsNotReached, IsQuiet, followed, drift_with, drift}
 use Rattle.quiet_spec.proofs.Running.{Moves, Idles, after_tick, idle_at_first, granted_on_path}
 
 pub map-same : {X Y : Type 0} (f g : X → Y) (xs : List X) → ((x : X) → In x xs → f x ≡ g x) → map f xs ≡ map g xs
@@ -30,15 +30,15 @@ map-same f g [] h = refl
 map-same f g (x ∷ xs) h = ap₂ (λ y ys. y ∷ ys) (h x (inl refl)) (map-same f g xs (λ y m. h y (inr m)))
 
 -- a place that is not come to is as far behind or ahead as before
-apart_same : (x y z place : ℕ) → x ≤ y → y ≤ z → IsApart x z place → nat_le place y ≡ nat_le place x
+apart_same : (x y z place : ℕ) → x ≤ y → y ≤ z → IsNotReached x z place → nat_le place y ≡ nat_le place x
 apart_same x y z place forward short (inl behind) = le-leb place y (omega arith) ∙ sym (le-leb place x behind)
 apart_same x y z place forward short (inr ahead) = not_le place y (omega arith) ∙ sym (not_le place x (omega arith))
 
 -- what a state says of a release and of a node
-pub released_same : (s u : TrainState) (z : ℕ) (r : Release) → u.granted ≡ s.granted → s.x ≤ u.x → u.x ≤ z → IsApart s.x z r.place → is_released u r ≡ is_released s r
+pub released_same : (s u : TrainState) (z : ℕ) (r : Release) → u.granted ≡ s.granted → s.x ≤ u.x → u.x ≤ z → IsNotReached s.x z r.place → is_released u r ≡ is_released s r
 released_same s u z r same forward short apart = ap₂ (λ g b. nat_lt r.number g && b) same (apart_same s.x u.x z r.place forward short apart)
 
-pub passed_same : (s u : TrainState) (z : ℕ) (p : PathNode) → u.granted ≡ s.granted → s.x ≤ u.x → u.x ≤ z → IsApart s.x z p.offset → is_passed u p ≡ is_passed s p
+pub passed_same : (s u : TrainState) (z : ℕ) (p : PathNode) → u.granted ≡ s.granted → s.x ≤ u.x → u.x ≤ z → IsNotReached s.x z p.offset → is_passed u p ≡ is_passed s p
 passed_same s u z p same forward short apart = ap₂ (λ g b. nat_le p.command g && b) same (apart_same s.x u.x z p.offset forward short apart)
 
 -- a route is on a path, or all routes of the path are before it

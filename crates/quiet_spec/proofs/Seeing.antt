@@ -19,14 +19,14 @@ use Rattle.quiet_spec.specs.Histories.{train_history}
 use Rattle.rail_course.specs.declared.journey.Release.{Release}
 use Rattle.rail_course.specs.Releases.{releases_of_train}
 use Rattle.rail_course.specs.Releases.{is_released, release_for}
-use Rattle.rail_course.specs.Telling.{ShowTick}
-use Rattle.quiet_spec.specs.Quiet.{IsApart, ComesNowhere, IsGrantedNothing, IsQuietFor, IsQuiet, followed, drift_with, drift}
+use Rattle.rail_course.specs.Ready.{ShowTick}
+use Rattle.quiet_spec.specs.Quiet.{IsNotReached, ComesNowhere, IsGrantedNothing, IsQuietFor, IsQuiet, followed, drift_with, drift}
 use Rattle.quiet_spec.specs.Forecasts.{IsSeen, AreSeen}
 use Rattle.quiet_spec.proofs.Drifting.{released_same, passed_same, released_by_path, drift_granted, drift_within, go_on, granted_after_same, by_train, by_rule, without}
 use Rattle.quiet_spec.proofs.Running.{granted_on_path}
 use Rattle.quiet_spec.proofs.Staying.{train_same, train_as_tested}
 
-apart_less : (x a y z place : ℕ) → x ≤ a → y ≤ z → IsApart x z place → IsApart a y place
+apart_less : (x a y z place : ℕ) → x ≤ a → y ≤ z → IsNotReached x z place → IsNotReached a y place
 apart_less x a y z place later less (inl behind) = inl (omega arith)
 apart_less x a y z place later less (inr ahead) = inr (omega arith)
 
@@ -132,7 +132,7 @@ module _ (d : Station) (routes : List Route) (dispatch : Dispatch) where
 
     -- so the looks show what is granted and released
     shows_since : (m : ℕ) → m < n → k ≤ m → ((t : TrainNo) → IsTrain d t → state_of (state_at d routes dispatch m) t ≡ drift d routes dispatch t (since t) (m - since t) (look t)) → ShowTick d routes dispatch m states
-    shows_since m less more so = shows_tick m states seen.many
+    shows_since m less more so = shows_tick m states seen.state_a_train
         (λ t is. record { granted = sym (ap (λ s. s.granted) (so t is) ∙ drift_granted d routes dispatch t (look t).granted (since t) (m - since t) (look t) refl); released = λ r i. sym (same_since m (state_at d routes dispatch m) less more so t is r i) })
 
     -- and what could be granted is as they have it

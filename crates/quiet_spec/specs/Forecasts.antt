@@ -20,6 +20,6 @@ module _ (d : Station) (routes : List Route) (p : Dispatch) where
 
   -- so is each train, and it is granted nothing before it is looked at
   pub record AreSeen (k : ℕ) (states : List TrainState) (since until : TrainNo → ℕ) : Type 0 where
-    pub many : length states ≡ length d.trains
+    pub state_a_train : length states ≡ length d.trains
     pub each : (t : TrainNo) → IsTrain d t → IsSeen k t (state_of states t) (since t) (until t)
     pub grants : (t : TrainNo) → IsTrain d t → IsGrantedNothing d routes p states k (until t - 1) t

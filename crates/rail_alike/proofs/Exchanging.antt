@@ -81,7 +81,7 @@ module _ (t u : TrainNo) where
   untouched : (x : TrainNo) → is_train x t ≡ false → is_train x u ≡ false → exchange t u x ≡ x
   untouched x p q = ap₂ (λ (a b : Bool). cond a u (cond b t x)) p q
 
-  -- it doesn't matter which is told first
+  -- it doesn't matter which is said first
   either_way : (x : TrainNo) → exchange u t x ≡ exchange t u x
   either_way x = go (is_train x t) refl (is_train x u) refl
     where

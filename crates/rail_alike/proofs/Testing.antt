@@ -17,7 +17,7 @@ use Rattle.rail_alike.specs.Alike.{exchange, AreAlike}
 use Rattle.rail_alike.specs.Tests.{are_same, is_node, is_order, is_within, is_named, same_vehicle, same_visits, orders_stay, withins_stay, are_alike}
 use Rattle.rail_alike.proofs.Equivariant.{same_train}
 
--- ---- what the tests tell
+-- ---- what the tests say
 
 members_told : {X : Type 0} (same : X → X → Bool) → ((x y : X) → same x y ≡ true → x ≡ y) → (xs ys : List X) → length xs ≡ length ys → list_all (λ p. same p.0 p.1) (zip xs ys) ≡ true → xs ≡ ys
 members_told same h [] [] n e = refl

@@ -91,7 +91,7 @@ cross m k a b l h =
 
 -- ---- the measure
 
--- the first steps of all trains, those of earlier trains told more often
+-- the first steps of all trains, those of earlier trains counted more often
 abbrev pub counted : Station → List (List Command) → ℕ → ℕ
 counted d plan i = (length d.trains - i) * first_step plan (record { 0 = i })
 

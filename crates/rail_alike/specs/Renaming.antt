@@ -37,7 +37,7 @@ renamed_within other w = record {
   max_ms = w.max_ms;
 }
 
--- the design tells nothing of a train that it doesn't tell of the train with the other number, but for its name
+-- the design says nothing of a train that it doesn't say of the train with the other number, but for its name
 pub record Renames (d : Station) (other : TrainNo → TrainNo) : Type 0 where
   pub back : (t : TrainNo) → other (other t) ≡ t
   pub named : (t : TrainNo) → IsTrain d t → IsTrain d (other t)

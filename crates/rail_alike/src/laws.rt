@@ -45,7 +45,7 @@ pub fn likeness_goes_on()
 /// Where there is a feasible plan, there is one in which of each pair of trains that are alike the earlier is given its
 /// first command in a step no later than the other's. So where no plan that does so is feasible, none is.
 pub fn pairs_come_in_turn()
-    ensures some { (d : Station) (n : ℕ) (pairs : List (TrainNo × TrainNo)) → ArePairs d pairs → ComeInTurn d n pairs }
+    ensures of_pairs { (d : Station) (n : ℕ) (pairs : List (TrainNo × TrainNo)) → ArePairs d pairs → ComeInTurn d n pairs }
     ensures named { (d : Station) (pairs : List (TrainNo × TrainNo)) → ArePairs d pairs → AreNamed d pairs }
     ensures none { (d : Station) (n : ℕ) (pairs : List (TrainNo × TrainNo)) → ArePairs d pairs
         → NoneInTurn d n pairs → IsInfeasible d n }

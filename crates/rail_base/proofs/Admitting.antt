@@ -156,12 +156,12 @@ module _ (d : Station) where
   good_order : (o : Order) → is_good_order d o ≡ true → IsGoodOrder d o
   good_order o h =
       let f = two (is_visit d o.first_train o.first_visit) (is_visit d o.then_train o.then_visit) h in
-      record { first = has_visit o.first_train o.first_visit f.0; after = has_visit o.then_train o.then_visit f.1 }
+      record { first_names = has_visit o.first_train o.first_visit f.0; after = has_visit o.then_train o.then_visit f.1 }
 
   good_within : (w : Within) → is_good_within d w ≡ true → IsGoodWithin d w
   good_within w h =
       let f = three (is_visit d w.from_train w.from_visit) (is_visit d w.to_train w.to_visit) (nat_le w.max_ms 86400000) h in
-      record { from = has_visit w.from_train w.from_visit f.0; to = has_visit w.to_train w.to_visit f.1; most = up_to w.max_ms 86400000 f.2 }
+      record { from = has_visit w.from_train w.from_visit f.0; to = has_visit w.to_train w.to_visit f.1; at_most_a_day = up_to w.max_ms 86400000 f.2 }
 
   one_signal : all_pairs are_apart d.signals ≡ true → (s q : SignalNo) → IsSignal d s → IsSignal d q → (signal_of d s).node ≡ (signal_of d q).node → (signal_of d s).toward ≡ (signal_of d q).toward → s ≡ q
   one_signal h s q k l n t = go (ordered s.0 q.0)

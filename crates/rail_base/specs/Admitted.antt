@@ -73,14 +73,14 @@ pub record IsGoodTrain (d : Station) (t : Train) : Type 0 where
 
 -- an order is between visits
 pub record IsGoodOrder (d : Station) (o : Order) : Type 0 where
-  pub first : HasVisit d o.first_train o.first_visit
+  pub first_names : HasVisit d o.first_train o.first_visit
   pub after : HasVisit d o.then_train o.then_visit
 
 -- a within is between visits
 pub record IsGoodWithin (d : Station) (w : Within) : Type 0 where
   pub from : HasVisit d w.from_train w.from_visit
   pub to : HasVisit d w.to_train w.to_visit
-  pub most : w.max_ms ≤ 86400000
+  pub at_most_a_day : w.max_ms ≤ 86400000
 
 -- the design is one that the reader answers
 pub record IsAdmitted (d : Station) : Type 0 where

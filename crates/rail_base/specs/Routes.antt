@@ -1,4 +1,4 @@
--- Routes: their lengths, their sections and where these are released. A route is told in mm from its start.
+-- Routes: their lengths, their sections and where these are released. A route is measured in mm from its start.
 use Rattle.std.specs.Prelude.{ℕ, ◌≤◌, Bool, true, false, ◌==◌, List, [], map, filter, length, pos, nat_abs, fold, max}
 use Rattle.std.specs.List.{list_any}
 use Rattle.rail_base.specs.declared.station.SectionNo.{SectionNo}

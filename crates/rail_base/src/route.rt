@@ -25,7 +25,7 @@ pub enum Finish {
     DeadEnd(NodeNo),
 }
 
-/// A way along edges from a start to the first place where a route ends. Offsets are in mm from its start.
+/// A walk along edges from a start to the first place where a route ends. Offsets are in mm from its start.
 #[derive(Drop)]
 pub struct Route {
     pub start: Start,

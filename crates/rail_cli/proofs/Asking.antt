@@ -12,11 +12,11 @@ grown-nothing (Some xs) = ap (λ ys. Some ys) (sym (append-nil xs))
 pub none_of : {A : Type 0} (reply_for : Option (List A)) (all : List A) → GrowsByPrefix reply_for reply_for all
 none_of reply_for all = ([], (all, refl), grown-nothing reply_for)
 
--- a front of the first is one of both
+-- a prefix of the first is one of both
 pub first_of_two : {A : Type 0} (a b : A) (old new : Option (List A)) → GrowsByPrefix old new (a ∷ []) → GrowsByPrefix old new (a ∷ b ∷ [])
 first_of_two a b old new h = (h.0, (h.1.0 ++ b ∷ [], sym (append_assoc h.0 h.1.0 (b ∷ [])) ∙ ap (λ t. t ++ b ∷ []) h.1.1), h.2)
 
--- the first, and a front of the second
+-- the first, and a prefix of the second
 pub second_of_two : {A : Type 0} (a b : A) (old mid new : Option (List A)) → mid ≡ grown old (a ∷ []) → GrowsByPrefix mid new (b ∷ []) → GrowsByPrefix old new (a ∷ b ∷ [])
 second_of_two a b old mid new first h =
     let prefix = h.0 in

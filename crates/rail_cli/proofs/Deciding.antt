@@ -13,12 +13,12 @@ use Rattle.rail_cli.specs.declared.ending.Ending.{Ending}
 use Rattle.rail_cli.specs.declared.ending.Ending.TheVariants as ending
 use Rattle.rail_cli.specs.declared.input.InputFile.TheVariants as file
 use Rattle.rail_cli.specs.Statuses.{is_refusal, is_answered}
-use Rattle.rail_cli.specs.Answers.{ReplySeen, within_limit, design_in, plan_or_answer, plan_in, verdict_status, unless_refused, planned, shown, simulation_reply, answer_to, answer_of}
+use Rattle.rail_cli.specs.Answers.{ReplySeen, within_limit, design_in, plan_or_answer, plan_in, verdict_status, unless_refused, planned, verdict_reply, simulation_reply, answer_to, answer_of}
 use Rattle.rail_cli.specs.Shows.{verdict_at_horizon}
 use Rattle.rail_cli.specs.Replies.{reply_seen, Replies, RefusesFile, OnReply, DecidesPlan, Decides, DecidesRequest}
-use Rattle.rail_cli.specs.Simulations.{Settles, Simulates, TellsFeasible, DoneWhereFeasible}
+use Rattle.rail_cli.specs.Simulations.{Settles, Simulates, ReportsFeasible, DoneWhereFeasible}
 use Rattle.rail_cli.specs.Prints.{Prints}
-use Rattle.rail_cli.proofs.Refusing.{routes_listed, design_read, file_fits, file_is}
+use Rattle.rail_cli.proofs.Refusing.{routes_can_be_listed, design_read, file_fits, file_is}
 use Rattle.rail_cli.proofs.Showing.{verdict_refuses_nothing, no_unless_done, met_first, done_begins, met_done, first_done}
 
 -- ---- one reading after the other
@@ -71,17 +71,17 @@ decides_so design_bytes plan_bytes design_text plan_text d (Err e) fits_design f
 
 module _ (files : Files) (words : List (List ℕ)) (d : Station) (plan : List (List Command)) (s : Simulates files words d plan) where
   pub reads_design : design_in (files s.design_name) ≡ Ok d
-  reads_design = design_read (files s.design_name) d s.spells_design (routes_listed d s.once s.few)
+  reads_design = design_read (files s.design_name) d s.parses_design (routes_can_be_listed d s.once s.at_most_2000)
 
   pub reads_plan : plan_in d (files s.plan_name) ≡ Ok plan
-  reads_plan = ap (plan_or_answer d) s.spells_plan
+  reads_plan = ap (plan_or_answer d) s.parses_plan
 
-  pub simulated_so : simulation_reply (files s.design_name) (files s.plan_name) ≡ shown d (verdict_at_horizon d plan)
+  pub simulated_so : simulation_reply (files s.design_name) (files s.plan_name) ≡ verdict_reply d (verdict_at_horizon d plan)
   simulated_so =
       planned_so (files s.design_name) (files s.plan_name) (files s.design_name) (file_fits file.Design (files s.design_name) s.short_design) d reads_design (files s.plan_name) (file_fits file.Plan (files s.plan_name) s.short_plan)
-      ∙ answered_next (plan_in d (files s.plan_name)) plan (λ p. shown d (verdict_at_horizon d p)) reads_plan
+      ∙ answered_next (plan_in d (files s.plan_name)) plan (λ p. verdict_reply d (verdict_at_horizon d p)) reads_plan
 
-  pub answered_so : (found : Outcome) → answer_of files found words ≡ shown d (verdict_at_horizon d plan)
+  pub answered_so : (found : Outcome) → answer_of files found words ≡ verdict_reply d (verdict_at_horizon d plan)
   answered_so found = ap (answer_to files found) s.asked ∙ simulated_so
 
   -- the request names its files
@@ -104,7 +104,7 @@ module _ (files : Files) (words : List (List ℕ)) (d : Station) (plan : List (L
 
     pub not_refused : (r : Reply) → simulation_reply (files design_name) (files plan_name) ≡ reply_seen r → is_refusal r.status ≡ true → ⊥
     not_refused r e refuses =
-        let seen : shown d (verdict_at_horizon d plan) ≡ reply_seen r = sym simulated_so ∙ ap (λ n. simulation_reply (files n) (files s.plan_name)) same_design ∙ ap (λ n. simulation_reply (files design_name) (files n)) same_plan ∙ e in
+        let seen : verdict_reply d (verdict_at_horizon d plan) ≡ reply_seen r = sym simulated_so ∙ ap (λ n. simulation_reply (files n) (files s.plan_name)) same_design ∙ ap (λ n. simulation_reply (files design_name) (files n)) same_plan ∙ e in
         let kind : verdict_status (verdict_at_horizon d plan) ≡ r.status = ap (λ (a : ReplySeen). a.status) seen in
         verdict_refuses_nothing (verdict_at_horizon d plan) (ap is_refusal kind ∙ refuses)
 
@@ -148,7 +148,7 @@ done_where_feasible files found words (trial seed size) (Err ending.ShelfFault) 
 
 -- what is printed then
 pub tells_feasible : (files : Files) (found : Outcome) (words : List (List ℕ)) (d : Station) (plan : List (List Command)) (t : Status) (text new_text : Option (List ℕ)) (pieces new_pieces : Option (List (List ℕ)))
-    → Prints (answer_of files found words) t text new_text pieces new_pieces → DoneWhereFeasible files words t → Simulates files words d plan → is_answered t ≡ true → TellsFeasible d plan t text new_text
+    → Prints (answer_of files found words) t text new_text pieces new_pieces → DoneWhereFeasible files words t → Simulates files words d plan → is_answered t ≡ true → ReportsFeasible d plan t text new_text
 tells_feasible files found words d plan t text new_text pieces new_pieces prints exact s answered =
     let so = answered_so files words d plan s found in
     let settled = exact d plan s in
@@ -176,7 +176,7 @@ module _ (answer : ReplySeen) (reply : Reply) (t : Status) (text new_text : Opti
 
 -- what is printed of it
 pub tells_of_reply : (files : Files) (found : Outcome) (words : List (List ℕ)) (d : Station) (plan : List (List Command)) (reply : Reply) (t : Status) (text new_text : Option (List ℕ)) (pieces new_pieces : Option (List (List ℕ)))
-    → answer_of files found words ≡ reply_seen reply → DoneWhereFeasible files words reply.status → Prints (reply_seen reply) t text new_text pieces new_pieces → Simulates files words d plan → is_answered t ≡ true → TellsFeasible d plan t text new_text
+    → answer_of files found words ≡ reply_seen reply → DoneWhereFeasible files words reply.status → Prints (reply_seen reply) t text new_text pieces new_pieces → Simulates files words d plan → is_answered t ≡ true → ReportsFeasible d plan t text new_text
 tells_of_reply files found words d plan reply t text new_text pieces new_pieces replies done prints s answered =
     tells_feasible files found words d plan t text new_text pieces new_pieces (prints_answer (answer_of files found words) reply t text new_text pieces new_pieces replies prints) (subst (DoneWhereFeasible files words) (sym (prints.status answered)) done) s answered
 

@@ -20,12 +20,12 @@ use Rattle.rail_base.specs.declared.history.Verdict.{Verdict}
 use Rattle.rail_outside.specs.Files.{Files}
 use Rattle.rail_outside.specs.Growth.{grown}
 use Rattle.rail_spec.specs.Feasible.{IsFeasible}
-use Rattle.rail_words.specs.Requests.{RequestSeen, simulate, routes, verify, check, trial, request_of, IsInRange}
+use Rattle.rail_words.specs.Requests.{RequestSeen, simulate, routes, verify, check, trial, request_of, IsRequestInRange}
 use Rattle.rail_words.proofs.Ranges.{requests_in_range}
 use Rattle.verify_loop.specs.declared.outcome.Budgets.{Budgets}
 use Rattle.verify_loop.specs.declared.outcome.Outcome.{Outcome}
 use Rattle.verify_loop.specs.declared.outcome.Outcome.TheVariants as outcome
-use Rattle.verify_loop.specs.Outcomes.{Says, Fits, first_clauses}
+use Rattle.verify_loop.specs.Outcomes.{IsOutcome, Fits, first_clauses}
 use Rattle.rail_cli.specs.declared.status.Status.{Status}
 use Rattle.rail_cli.specs.declared.status.Status.TheVariants as statuses
 use Rattle.rail_cli.specs.declared.input.InputFile.TheVariants as file
@@ -36,10 +36,10 @@ use Rattle.rail_cli.specs.Statuses.{is_answered, is_verdict}
 use Rattle.rail_cli.specs.Texts.{limit_of, usage_line, too_large_line, yes_line, infeasible_line}
 use Rattle.rail_cli.specs.Answers.{ReplySeen, one_line, within_limit, with_routes, design_in, and_then, unless_too_large, with_clauses, unless_refused, reply_for, checked_against, with_proof, check_reply, reply_for_plan, reply_for_outcome, searched_in, method_of, search_reply, answer_to, answer_of}
 use Rattle.rail_cli.specs.Shows.{verdict_at_horizon}
-use Rattle.rail_cli.specs.Replies.{reply_seen, Reads, RefusesFile, OnlyFails, Replies, EndsIn, EndsWith, RepliesSo, RepliesTrial}
-use Rattle.rail_cli.specs.Searches.{budgets_of, Finds, HoldsLog, HoldsProof, SearchLeaves, Leaves, Searches, TellsPlan, TellsNone}
-use Rattle.rail_cli.specs.Checks.{Checks, TellsInfeasible}
-use Rattle.rail_cli.specs.Simulations.{Simulates, TellsFeasible, DoneWhereFeasible}
+use Rattle.rail_cli.specs.Replies.{reply_seen, ReadsOrEnds, RefusesFile, OnlyFails, Replies, EndsIn, EndsWith, RepliesSo, RepliesTrial}
+use Rattle.rail_cli.specs.Searches.{budgets_of, Finds, HoldsLog, HoldsProof, SearchLeaves, Leaves, Searches, ReportsPlan, ReportsNone}
+use Rattle.rail_cli.specs.Checks.{Checks, ReportsInfeasible}
+use Rattle.rail_cli.specs.Simulations.{Simulates, ReportsFeasible, DoneWhereFeasible}
 use Rattle.rail_cli.specs.Prints.{Prints}
 use Rattle.rail_cli.proofs.Passing.{passed, long_refuses, design_refuses, clauses_refuse, read-same}
 use Rattle.rail_cli.proofs.Refusing.{file_is, file_fits}
@@ -58,20 +58,20 @@ may_want files (Some (check n design proof)) = tt
 may_want files (Some (trial seed size)) = (tt, tt)
 may_want files (Some (verify n conflicts ticks bounds design proof)) = inl refl
 
--- the outcome says what it is to say of the design that the file spells
+-- the outcome says what it is to say of the design in the file
 pub finds_so : (files : Files) (asked : Option RequestSeen) (found : Outcome) → EndsWith files asked found → Finds files asked found
 finds_so files None found ends = tt
 finds_so files (Some (simulate design plan)) found ends = tt
 finds_so files (Some (routes design)) found ends = tt
 finds_so files (Some (check n design proof)) found ends = tt
 finds_so files (Some (trial seed size)) found ends = ends
-finds_so files (Some (verify n conflicts ticks bounds design proof)) found (inl same) = λ d parsed. subst (λ (o : Outcome). Says (method_of bounds) d n (budgets_of conflicts ticks) o × Fits (method_of bounds) d n o) (sym same) (tt, tt)
+finds_so files (Some (verify n conflicts ticks bounds design proof)) found (inl same) = λ d parsed. subst (λ (o : Outcome). IsOutcome (method_of bounds) d n (budgets_of conflicts ticks) o × Fits (method_of bounds) d n o) (sym same) (tt, tt)
 finds_so files (Some (verify n conflicts ticks bounds design proof)) found (inr e) = λ d parsed.
     (let one : Ok e.design.station ≡ Ok d = sym e.parsed ∙ parsed in
     let same : e.design.station ≡ d = cc in
-    subst (λ (x : Station). Says (method_of bounds) x n (budgets_of conflicts ticks) found × Fits (method_of bounds) x n found) same (e.says, e.fits))
+    subst (λ (x : Station). IsOutcome (method_of bounds) x n (budgets_of conflicts ticks) found × Fits (method_of bounds) x n found) same (e.says, e.fits))
 
--- ---- what is told of it
+-- ---- what is said of it
 
 -- a reply is no answer for want of memory
 never_memory : (r : Result Reply Ending) (want answer : ReplySeen) → want.status ≡ statuses.Memory → Replies r want → Replies r answer
@@ -80,9 +80,9 @@ never_memory (Err (ending.RefusedWith reply)) want answer is h = (let kind : is_
 never_memory (Err ending.Memory) want answer is h = tt
 never_memory (Err ending.ShelfFault) want answer is h = tt
 
--- for any way to tell an outcome that tells too many clauses as the refusal
+-- for any texts of outcomes, that for too many clauses being the refusal
 module _ (m : Method) (d : Station) (n : ℕ) (b : Budgets) (make_reply : Outcome → ReplySeen) (large : (literals : ℕ) → make_reply (outcome.TooLarge literals) ≡ one_line statuses.DesignRefused too_large_line) (want : (make_reply outcome.Memory).status ≡ statuses.Memory) where
-  -- what is told, unless the clauses are too many
+  -- what is said, unless the clauses are too many
   abbrev unless_many : Outcome → ReplySeen
   unless_many found = unless_refused (with_clauses m n d) (λ same. make_reply found)
 
@@ -93,7 +93,7 @@ module _ (m : Method) (d : Station) (n : ℕ) (b : Budgets) (make_reply : Outcom
   many_told literals many = answered_refusal (with_clauses m n d) _ (λ same. make_reply (outcome.TooLarge literals)) (too_large_refused m n d literals many) ∙ sym (large literals)
 
   -- the reply to the end of a search is one to the search
-  pub reply_unless_many : (r : Result Reply Ending) (found : Outcome) → Says m d n b found → Fits m d n found → Replies r (make_reply found) → Replies r (unless_many found)
+  pub reply_unless_many : (r : Result Reply Ending) (found : Outcome) → IsOutcome m d n b found → Fits m d n found → Replies r (make_reply found) → Replies r (unless_many found)
   reply_unless_many r outcome.Memory says fits h = never_memory r _ _ want h
   reply_unless_many r (outcome.TooLarge literals) says fits h = subst (Replies r) (sym (many_told literals says)) h
   reply_unless_many r (outcome.Plan plan verdict) says fits h = subst (Replies r) (sym (few_told (outcome.Plan plan verdict) fits)) h
@@ -103,11 +103,11 @@ module _ (m : Method) (d : Station) (n : ℕ) (b : Budgets) (make_reply : Outcom
   reply_unless_many r (outcome.LogSpent log bytes next) says fits h = subst (Replies r) (sym (few_told (outcome.LogSpent log bytes next) fits)) h
 
 module _ (d : Station) (n : ℕ) (b : Budgets) where
-  -- what is told, where the clauses are few
+  -- what is said, where the clauses are few
   abbrev outcome_told : Outcome → ReplySeen
   outcome_told found = reply_for_outcome d n b.conflicts b.ticks found
 
-  pub searched_so : (m : Method) (r : Result Reply Ending) (found : Outcome) → Says m d n b found → Fits m d n found → Replies r (outcome_told found) → Replies r (searched_in m d n b.conflicts b.ticks found)
+  pub searched_so : (m : Method) (r : Result Reply Ending) (found : Outcome) → IsOutcome m d n b found → Fits m d n found → Replies r (outcome_told found) → Replies r (searched_in m d n b.conflicts b.ticks found)
   searched_so m r found says fits h = reply_unless_many m d n b outcome_told (λ literals. refl) refl r found says fits h
 
   -- it is never that the words ask for nothing
@@ -124,10 +124,10 @@ module _ (d : Station) (n : ℕ) (b : Budgets) where
   told_no_usage found reply seen e = outcome_no_usage found (ap (λ (a : ReplySeen). a.status) (sym seen) ∙ e)
 
 -- a plan comes with what its run shows
-pub comes_shown : (d : Station) (n : ℕ) (b : Budgets) (found : Outcome) (plan : Plan) (verdict : Verdict) → found ≡ outcome.Plan plan verdict → (m : Method) × Says m d n b found → verdict ≡ verdict_at_horizon d plan.steps
-comes_shown d n b found plan verdict is h = (subst (λ (o : Outcome). Says h.0 d n b o) is h.1).2
+pub comes_shown : (d : Station) (n : ℕ) (b : Budgets) (found : Outcome) (plan : Plan) (verdict : Verdict) → found ≡ outcome.Plan plan verdict → (m : Method) × IsOutcome m d n b found → verdict ≡ verdict_at_horizon d plan.steps
+comes_shown d n b found plan verdict is h = (subst (λ (o : Outcome). IsOutcome h.0 d n b o) is h.1).2
 
--- a store that failed tells nothing
+-- a store that failed says nothing
 pub failed_so : (e : Ending) (r : Result Reply Ending) (answer : ReplySeen) → r ≡ Err e → OnlyFails {X = Unit {0}} (Err e) → Replies r answer
 failed_so (ending.RefusedWith reply) r answer is h = absurd h
 failed_so ending.Memory r answer is h = subst (λ (x : Result Reply Ending). Replies x answer) (sym is) tt
@@ -145,7 +145,7 @@ module _ (m : Method) (n conflicts ticks : ℕ) (design_bytes : List ℕ) (found
   abbrev with_text : List ℕ → ReplySeen
   with_text text = unless_refused (design_in text) (λ d. searched_in m d n conflicts ticks found)
 
-  pub unfetched : (view : Vec ℕ Global → List ℕ) (e : Ending) → Reads view (Err e) (within_limit file.Design design_bytes) → Replies (Err e) (search_reply m n conflicts ticks design_bytes found)
+  pub unfetched : (view : Vec ℕ Global → List ℕ) (e : Ending) → ReadsOrEnds view (Err e) (within_limit file.Design design_bytes) → Replies (Err e) (search_reply m n conflicts ticks design_bytes found)
   unfetched view (ending.RefusedWith reply) h = answered_refusal (within_limit file.Design design_bytes) (reply_seen reply) with_text h
   unfetched view ending.Memory h = tt
   unfetched view ending.ShelfFault h = tt
@@ -154,7 +154,7 @@ module _ (m : Method) (n conflicts ticks : ℕ) (design_bytes : List ℕ) (found
     fetched_so : search_reply m n conflicts ticks design_bytes found ≡ with_text text
     fetched_so = answered_next (within_limit file.Design design_bytes) text with_text fits
 
-    pub unread : {X : Type 0} (view : X → Station) (e : Ending) → Reads view (Err e) (design_in text) → Replies (Err e) (search_reply m n conflicts ticks design_bytes found)
+    pub unread : {X : Type 0} (view : X → Station) (e : Ending) → ReadsOrEnds view (Err e) (design_in text) → Replies (Err e) (search_reply m n conflicts ticks design_bytes found)
     unread view (ending.RefusedWith reply) h = fetched_so ∙ answered_refusal (design_in text) (reply_seen reply) (λ d. searched_in m d n conflicts ticks found) h
     unread view ending.Memory h = tt
     unread view ending.ShelfFault h = tt
@@ -164,12 +164,12 @@ module _ (m : Method) (n conflicts ticks : ℕ) (design_bytes : List ℕ) (found
 
 -- ---- the replies to a search
 
-pub within_budgets : (m : Method) (d : Station) (n : ℕ) (b : Budgets) (found : Outcome) → b.log_bytes ≡ limit_of file.Proof → Says m d n b found → Says m d n (budgets_of b.conflicts b.ticks) found
-within_budgets m d n b found room says = subst (λ (k : ℕ). Says m d n (record { conflicts = b.conflicts; ticks = b.ticks; log_bytes = k }) found) room says
+pub within_budgets : (m : Method) (d : Station) (n : ℕ) (b : Budgets) (found : Outcome) → b.log_bytes ≡ limit_of file.Proof → IsOutcome m d n b found → IsOutcome m d n (budgets_of b.conflicts b.ticks) found
+within_budgets m d n b found room says = subst (λ (k : ℕ). IsOutcome m d n (record { conflicts = b.conflicts; ticks = b.ticks; log_bytes = k }) found) room says
 
 -- the reply to a search in a design by a method, for an outcome with which it may end
 abbrev pub RepliesBy : Result Reply Ending → Station → ℕ → Budgets → Method → Type 0
-RepliesBy r d n b m = (found : Outcome) × Says m d n b found × Fits m d n found × Replies r (searched_in m d n b.conflicts b.ticks found)
+RepliesBy r d n b m = (found : Outcome) × IsOutcome m d n b found × Fits m d n found × Replies r (searched_in m d n b.conflicts b.ticks found)
 
 module _ (files : Files) (n : ℕ) (bounds : Bool) (b : Budgets) (design proof : List ℕ) where
   -- what is asked
@@ -180,11 +180,11 @@ module _ (files : Files) (n : ℕ) (bounds : Bool) (b : Budgets) (design proof :
   abbrev by : Method
   by = method_of bounds
 
-  pub unfetched_so : (view : Vec ℕ Global → List ℕ) (e : Ending) (r : Result Reply Ending) → r ≡ Err e → Reads view (Err e) (within_limit file.Design (files design)) → RepliesSo r files search_asked
+  pub unfetched_so : (view : Vec ℕ Global → List ℕ) (e : Ending) (r : Result Reply Ending) → r ≡ Err e → ReadsOrEnds view (Err e) (within_limit file.Design (files design)) → RepliesSo r files search_asked
   unfetched_so view e r is h = subst (λ (x : Result Reply Ending). RepliesSo x files search_asked) (sym is) (outcome.Memory, inl refl, unfetched by n b.conflicts b.ticks (files design) outcome.Memory view e h)
 
   module _ (text : List ℕ) (fits : within_limit file.Design (files design) ≡ Ok text) where
-    pub unread_so : {X : Type 0} (view : X → Station) (e : Ending) (r : Result Reply Ending) → r ≡ Err e → Reads view (Err e) (design_in text) → RepliesSo r files search_asked
+    pub unread_so : {X : Type 0} (view : X → Station) (e : Ending) (r : Result Reply Ending) → r ≡ Err e → ReadsOrEnds view (Err e) (design_in text) → RepliesSo r files search_asked
     unread_so view e r is h = subst (λ (x : Result Reply Ending). RepliesSo x files search_asked) (sym is) (outcome.Memory, inl refl, unread by n b.conflicts b.ticks (files design) outcome.Memory text fits view e h)
 
     -- the name spells the design
@@ -226,8 +226,8 @@ pub want_so : (r : Result Reply Ending) (files : Files) (asked : Option RequestS
 want_so r files asked is = subst (λ (x : Result Reply Ending). RepliesSo x files asked) (sym is) (outcome.Memory, may_want files asked, tt)
 
 -- what a search was asked for, from a request that is in range
-pub search_steps : (asked : RequestSeen) (n conflicts ticks : ℕ) (bounds : Bool) (design proof : List ℕ) → asked ≡ verify n conflicts ticks bounds design proof → IsInRange asked → (1 ≤ n) × (n ≤ 256)
-search_steps asked n conflicts ticks bounds design proof is range = subst IsInRange is range
+pub search_steps : (asked : RequestSeen) (n conflicts ticks : ℕ) (bounds : Bool) (design proof : List ℕ) → asked ≡ verify n conflicts ticks bounds design proof → IsRequestInRange asked → (1 ≤ n) × (n ≤ 256)
+search_steps asked n conflicts ticks bounds design proof is range = subst IsRequestInRange is range
 
 -- ---- runs
 
@@ -241,16 +241,16 @@ module _ (files : Files) (words : List (List ℕ)) (reply : Reply) (t : Status) 
   run_so h prints = (h.0, finds_so files (request_of words) h.0 h.1, prints_answer (answer_of files h.0 words) reply t text new_text pieces new_pieces h.2 prints)
 
   -- of a check
-  pub run_infeasible : (n : ℕ) (d : Station) → RepliesSo (Ok reply) files (request_of words) → Prints (reply_seen reply) t text new_text pieces new_pieces → Checks files words n d → t ≡ statuses.Done → TellsInfeasible n d text new_text
+  pub run_infeasible : (n : ℕ) (d : Station) → RepliesSo (Ok reply) files (request_of words) → Prints (reply_seen reply) t text new_text pieces new_pieces → Checks files words n d → t ≡ statuses.Done → ReportsInfeasible n d text new_text
   run_infeasible n d h prints checks done = tells_infeasible files h.0 words n d t text new_text pieces new_pieces (prints_answer (answer_of files h.0 words) reply t text new_text pieces new_pieces h.2 prints) checks done
 
   -- of a simulation
-  pub run_met : RepliesSo (Ok reply) files (request_of words) → DoneWhereFeasible files words reply.status → Prints (reply_seen reply) t text new_text pieces new_pieces → (d : Station) (plan : List (List Command)) → Simulates files words d plan → is_answered t ≡ true → TellsFeasible d plan t text new_text
+  pub run_met : RepliesSo (Ok reply) files (request_of words) → DoneWhereFeasible files words reply.status → Prints (reply_seen reply) t text new_text pieces new_pieces → (d : Station) (plan : List (List Command)) → Simulates files words d plan → is_answered t ≡ true → ReportsFeasible d plan t text new_text
   run_met h done prints d plan s answered = tells_of_reply files h.0 words d plan reply t text new_text pieces new_pieces h.2 done prints s answered
 
 -- ---- where the answer is yes or no
 
--- the design was read, its clauses are few, and the end of the search is told
+-- the design was read, its clauses are few, and the end of the search is said
 record Searched (m : Method) (n conflicts ticks : ℕ) (design_bytes : List ℕ) (found : Outcome) (d : Station) : Type 0 where
   fits : within_limit file.Design design_bytes ≡ Ok design_bytes
   reads : design_in design_bytes ≡ Ok d
@@ -319,7 +319,7 @@ module _ (files : Files) (words : List (List ℕ)) (n : ℕ) (d : Station) (s : 
   answer_here = sym replies.2 ∙ ap (answer_to files found_here) s.asked
 
   searched_here : is_answered t ≡ true → is_verdict t ≡ true → Searched by_here n s.conflicts s.ticks (files s.design_name) found_here d
-  searched_here answered verdict = was_searched by_here n s.conflicts s.ticks (files s.design_name) found_here d s.spells_design (ap (λ (a : ReplySeen). is_verdict a.status) (sym answer_here) ∙ (ap is_verdict (sym (prints.status answered)) ∙ verdict))
+  searched_here answered verdict = was_searched by_here n s.conflicts s.ticks (files s.design_name) found_here d s.parses_design (ap (λ (a : ReplySeen). is_verdict a.status) (sym answer_here) ∙ (ap is_verdict (sym (prints.status answered)) ∙ verdict))
 
   told_here : is_answered t ≡ true → is_verdict t ≡ true → reply_seen reply ≡ reply_for_outcome d n s.conflicts s.ticks found_here
   told_here answered verdict = answer_here ∙ (searched_here answered verdict).answer
@@ -327,8 +327,8 @@ module _ (files : Files) (words : List (List ℕ)) (n : ℕ) (d : Station) (s : 
   ends_here : EndsWith files (Some (verify n s.conflicts s.ticks s.bounds s.design_name s.proof_name)) found_here
   ends_here = subst (λ (a : Option RequestSeen). EndsWith files a found_here) s.asked replies.1
 
-  -- status 0 tells a plan
-  pub tells_plan : t ≡ statuses.Done → TellsPlan n d text new_text
+  -- status 0 says that there is a plan
+  pub tells_plan : t ≡ statuses.Done → ReportsPlan n d text new_text
   tells_plan done =
       let answered : is_answered t ≡ true = rw done refl in
       let verdict : is_verdict t ≡ true = rw done refl in
@@ -339,7 +339,7 @@ module _ (files : Files) (words : List (List ℕ)) (n : ℕ) (d : Station) (s : 
       let one : Ok e.design.station ≡ Ok d = sym e.parsed ∙ q.reads in
       let same : e.design.station ≡ d = cc in
       let good = admitted d (subst (λ (x : Station). is_admitted x ≡ true) same e.design.admitted) in
-      let says = subst (λ (o : Outcome). Says by_here d n (budgets_of s.conflicts s.ticks) o) p.is (subst (λ (x : Station). Says by_here x n (budgets_of s.conflicts s.ticks) found_here) same e.says) in
+      let says = subst (λ (o : Outcome). IsOutcome by_here d n (budgets_of s.conflicts s.ticks) o) p.is (subst (λ (x : Station). IsOutcome by_here x n (budgets_of s.conflicts s.ticks) found_here) same e.says) in
       let feasible : IsFeasible d n p.plan.steps = says.0 in
       let lines : reply_seen reply ≡ reply_for_plan d p.plan.steps = reply_for ∙ ap (reply_for_outcome d n s.conflicts s.ticks) p.is in
       record {
@@ -360,8 +360,8 @@ module _ (files : Files) (words : List (List ℕ)) (n : ℕ) (d : Station) (s : 
       ∙ (answered_next (within_limit file.Proof log) log (checked_against d n) (file_fits file.Proof log short)
       ∙ ap reply_for shows)))
 
-  -- status 1 tells that there is none, and such a log is stored
-  pub tells_none : (old new : Option Files) → old ≡ Some files → Leaves (request_of words) t old new → t ≡ statuses.No → TellsNone files s.design_name s.proof_name n d text new_text new
+  -- status 1 says that there is none, and such a log is stored
+  pub tells_none : (old new : Option Files) → old ≡ Some files → Leaves (request_of words) t old new → t ≡ statuses.No → ReportsNone files s.design_name s.proof_name n d text new_text new
   tells_none old new told_files leaves ends =
       let answered : is_answered t ≡ true = rw ends refl in
       let verdict : is_verdict t ≡ true = rw ends refl in
@@ -376,7 +376,7 @@ module _ (files : Files) (words : List (List ℕ)) (n : ℕ) (d : Station) (s : 
       let some : 1 ≤ n = (requests_in_range words (verify n s.conflicts s.ticks s.bounds s.design_name s.proof_name) s.asked).0 in
       record {
         text = prints.written answered ∙ (ap (λ (a : ReplySeen). grown text (concat a.lines)) line ∙ ap (grown text) (append-nil (infeasible_line n)));
-        none = (yes_infeasible d (spelled_admitted (files s.design_name) d s.spells_design) n n log.log some log.proves.shows).1;
+        none = (yes_infeasible d (spelled_admitted (files s.design_name) d s.parses_design) n n log.log some log.proves.shows).1;
         stored = log;
-        passes = log_passes q log.log log.proves.short log.proves.shows;
+        passes = log_passes q log.log log.proves.within_limit log.proves.shows;
       }

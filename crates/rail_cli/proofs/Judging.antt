@@ -17,7 +17,7 @@ use Rattle.rail_outside.specs.Files.{Files}
 use Rattle.rail_outside.specs.Growth.{grown}
 use Rattle.rail_spec.specs.Feasible.{IsInfeasible}
 use Rattle.rail_spec.specs.Track.{routes_of}
-use Rattle.rail_words.specs.Requests.{RequestSeen, check, IsInRange}
+use Rattle.rail_words.specs.Requests.{RequestSeen, check, IsRequestInRange}
 use Rattle.rail_words.proofs.Ranges.{requests_in_range}
 use Rattle.rail_cli.specs.declared.status.Status.{Status}
 use Rattle.rail_cli.specs.declared.status.Status.TheVariants.{Done, DesignRefused}
@@ -25,7 +25,7 @@ use Rattle.rail_cli.specs.declared.input.InputFile.TheVariants as file
 use Rattle.rail_cli.specs.Statuses.{is_answered, is_verdict}
 use Rattle.rail_cli.specs.Texts.{too_large_line, yes_line}
 use Rattle.rail_cli.specs.Answers.{ReplySeen, one_line, within_limit, with_routes, and_then, design_in, unless_too_large, with_clauses, reply_for, checked_against, with_proof, unless_refused, check_reply, answer_to, answer_of}
-use Rattle.rail_cli.specs.Checks.{Checks, TellsInfeasible}
+use Rattle.rail_cli.specs.Checks.{Checks, ReportsInfeasible}
 use Rattle.rail_cli.specs.Prints.{Prints}
 use Rattle.rail_cli.specs.Replies.{reply_seen}
 use Rattle.rail_cli.specs.declared.reply.Reply.{Reply}
@@ -79,13 +79,13 @@ checked_shows n design_bytes proof_bytes d some spells done =
 
 -- what is printed of it
 pub tells_infeasible : (files : Files) (found : Outcome) (words : List (List ℕ)) (n : ℕ) (d : Station) (t : Status) (text new_text : Option (List ℕ)) (pieces new_pieces : Option (List (List ℕ)))
-    → Prints (answer_of files found words) t text new_text pieces new_pieces → Checks files words n d → t ≡ Done → TellsInfeasible n d text new_text
+    → Prints (answer_of files found words) t text new_text pieces new_pieces → Checks files words n d → t ≡ Done → ReportsInfeasible n d text new_text
 tells_infeasible files found words n d t text new_text pieces new_pieces prints c done =
     let answered : is_answered t ≡ true = rw done refl in
     let so : answer_of files found words ≡ check_reply n (files c.design_name) (files c.proof_name) = ap (answer_to files found) c.asked in
     let some : 1 ≤ n = (requests_in_range words (check n c.design_name c.proof_name) c.asked).0 in
     let status : (check_reply n (files c.design_name) (files c.proof_name)).status ≡ Done = ap (λ (a : ReplySeen). a.status) (sym so) ∙ (sym (prints.status answered) ∙ done) in
-    let shows = checked_shows n (files c.design_name) (files c.proof_name) d some c.spells_design status in
+    let shows = checked_shows n (files c.design_name) (files c.proof_name) d some c.parses_design status in
     record {
       steps = shows.steps;
       within = shows.within;
@@ -101,7 +101,7 @@ too_large_refused m n d k e = ap (unless_too_large d) e
 pub small_passes : (m : Method) (n : ℕ) (d : Station) → past_limit 16000000 0 (first_clauses m d n) ≡ None → with_clauses m n d ≡ Ok d
 small_passes m n d e = ap (unless_too_large d) e
 
--- the front of clauses that fit fits
+-- the prefix of clauses that fit fits
 prefix_fits : {X : Type 0} (limit sum : ℕ) (prefix more : List (List X)) → past_limit limit sum (prefix ++ more) ≡ None → past_limit limit sum prefix ≡ None
 prefix_fits limit sum [] more h = refl
 prefix_fits limit sum (c ∷ cs) more h = go (nat_lt limit (sum + length c)) (prefix_fits limit (sum + length c) cs more) h
@@ -128,7 +128,7 @@ pub refused_so : (n : ℕ) (d : Station) (routes : List Route) (fault : BaseFaul
 refused_so n d routes (TooLarge j) k table same e = too_large_refused Cones n d j (ap (λ (r : List Route). past_limit 16000000 0 (base_clauses d r n)) (sym table) ∙ e)
 refused_so n d routes Memory k table same e = absurd (cc)
 
--- ---- what is told of the proof
+-- ---- what is said of the proof
 
 pub proof_shown : (n : ℕ) (d : Station) (proof_bytes text : List ℕ) (shown : CheckResult) (reply : Reply) → with_clauses Cones n d ≡ Ok d → within_limit file.Proof proof_bytes ≡ Ok text → shown ≡ judged d n text → reply_seen reply ≡ reply_for shown → with_proof n d proof_bytes ≡ reply_seen reply
 proof_shown n d proof_bytes text shown reply clauses fits is seen =
@@ -136,5 +136,5 @@ proof_shown n d proof_bytes text shown reply clauses fits is seen =
     ∙ (ap (λ q. unless_refused q (checked_against d n)) fits ∙ (ap reply_for (sym is) ∙ sym seen))
 
 -- the steps that are asked for
-pub asked_steps : (a : RequestSeen) (n : ℕ) (design proof : List ℕ) → a ≡ check n design proof → IsInRange a → (1 ≤ n) × (n ≤ 256)
-asked_steps a n design proof same range = subst IsInRange same range
+pub asked_steps : (a : RequestSeen) (n : ℕ) (design proof : List ℕ) → a ≡ check n design proof → IsRequestInRange a → (1 ≤ n) × (n ≤ 256)
+asked_steps a n design proof same range = subst IsRequestInRange same range

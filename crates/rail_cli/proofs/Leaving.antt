@@ -7,7 +7,7 @@ use Rattle.rail_words.specs.Requests.{RequestSeen, simulate, routes, verify, che
 use Rattle.verify_loop.specs.declared.outcome.Budgets.{Budgets}
 use Rattle.verify_loop.specs.declared.outcome.Outcome.{Outcome}
 use Rattle.verify_loop.specs.declared.outcome.Outcome.TheVariants as outcome
-use Rattle.verify_loop.specs.Outcomes.{Says}
+use Rattle.verify_loop.specs.Outcomes.{IsOutcome}
 use Rattle.rail_cli.specs.declared.status.Status.{Status}
 use Rattle.rail_cli.specs.declared.status.Status.TheVariants.{Done, No, Usage, DesignRefused, PlanRefused, ConflictsSpent, Memory, ShelfFault, SinkFault, TicksSpent, LogSpent, TooLong}
 use Rattle.rail_cli.specs.declared.input.InputFile.TheVariants as file
@@ -81,11 +81,11 @@ module _ (files : Files) (n : ℕ) (design proof : List ℕ) (known_files : Opti
       go ending.Memory refuses = inr same
       go ending.ShelfFault refuses = inr same
 
-  -- what a search in the design that the file spells leaves
+  -- what a search in the design in the file leaves
   module _ (m : Method) (d : Station) (parsed : design_in (files design) ≡ Ok d) (b : Budgets) (room : b.log_bytes ≡ limit_of file.Proof) where
     -- the log of a search shows that there is no plan
-    log_shows : (log : Vec ℕ Global) → Says m d n b (outcome.Infeasible log) → ShowsNone d n log.items
-    log_shows log says = record { short = rw (← room) says.2; shows = says.1.accepted }
+    log_shows : (log : Vec ℕ Global) → IsOutcome m d n b (outcome.Infeasible log) → ShowsNone d n log.items
+    log_shows log says = record { within_limit = rw (← room) says.2; shows = says.1.accepted }
 
     -- it was not stored
     unstored_leaves : (e : Ending) (log : List ℕ) → ShowsNone d n log → StoresFile {X = Unit {0}} (Err e) files proof log known_files → OnEnd (Err e) left
@@ -93,7 +93,7 @@ module _ (files : Files) (n : ℕ) (design proof : List ℕ) (known_files : Opti
     unstored_leaves ending.Memory log shows h = inr h
     unstored_leaves ending.ShelfFault log shows h = inl (d, parsed, record { log = log; proves = shows; some = h.0; holds = h.1 })
 
-    unkept_leaves : (e : Ending) (found : Outcome) → Says m d n b found → KeepsLog {X = Unit {0}} (Err e) files proof found known_files → OnEnd (Err e) left
+    unkept_leaves : (e : Ending) (found : Outcome) → IsOutcome m d n b found → KeepsLog {X = Unit {0}} (Err e) files proof found known_files → OnEnd (Err e) left
     unkept_leaves e (outcome.Infeasible log) says h = unstored_leaves e log.items (log_shows log says) h
     unkept_leaves e (outcome.Plan plan verdict) says h = absurd (let no = h.0 in cc)
     unkept_leaves e (outcome.ConflictsSpent log clause hints) says h = absurd (let no = h.0 in cc)
@@ -102,11 +102,11 @@ module _ (files : Files) (n : ℕ) (design proof : List ℕ) (known_files : Opti
     unkept_leaves e (outcome.TooLarge literals) says h = absurd (let no = h.0 in cc)
     unkept_leaves e outcome.Memory says h = absurd (let no = h.0 in cc)
 
-    pub failed_leaves : (r : Result Reply Ending) (e : Ending) (found : Outcome) → r ≡ Err e → Says m d n b found → KeepsLog {X = Unit {0}} (Err e) files proof found known_files → OnEnd r left
+    pub failed_leaves : (r : Result Reply Ending) (e : Ending) (found : Outcome) → r ≡ Err e → IsOutcome m d n b found → KeepsLog {X = Unit {0}} (Err e) files proof found known_files → OnEnd r left
     failed_leaves r e found is says h = subst (λ (x : Result Reply Ending). OnEnd x left) (sym is) (unkept_leaves e found says h)
 
-    -- what the search ended with is told, and a log that shows that there is no plan is stored
-    told_leaves : (found : Outcome) → Says m d n b found → KeepsLog {X = Unit {0}} (Ok tt) files proof found known_files → is_answered (reply_for_outcome d n b.conflicts b.ticks found).status ≡ true → left (reply_for_outcome d n b.conflicts b.ticks found).status
+    -- what the search ended with is said, and a log that shows that there is no plan is stored
+    told_leaves : (found : Outcome) → IsOutcome m d n b found → KeepsLog {X = Unit {0}} (Ok tt) files proof found known_files → is_answered (reply_for_outcome d n b.conflicts b.ticks found).status ≡ true → left (reply_for_outcome d n b.conflicts b.ticks found).status
     told_leaves (outcome.Infeasible log) says kept answered = (d, parsed, record { log = log.items; proves = log_shows log says; holds = kept })
     told_leaves (outcome.Plan plan verdict) says kept answered = kept.1
     told_leaves (outcome.ConflictsSpent log clause hints) says kept answered = kept.1
@@ -115,7 +115,7 @@ module _ (files : Files) (n : ℕ) (design proof : List ℕ) (known_files : Opti
     told_leaves (outcome.TooLarge literals) says kept answered = kept.1
     told_leaves outcome.Memory says kept answered = absurd (cc)
 
-    pub settled_leaves : (found : Outcome) (reply : Reply) → Says m d n b found → KeepsLog {X = Unit {0}} (Ok tt) files proof found known_files → reply_seen reply ≡ reply_for_outcome d n b.conflicts b.ticks found → left reply.status
+    pub settled_leaves : (found : Outcome) (reply : Reply) → IsOutcome m d n b found → KeepsLog {X = Unit {0}} (Ok tt) files proof found known_files → reply_seen reply ≡ reply_for_outcome d n b.conflicts b.ticks found → left reply.status
     settled_leaves found reply says kept seen =
         let status : reply.status ≡ (reply_for_outcome d n b.conflicts b.ticks found).status = ap (λ (a : ReplySeen). a.status) seen in
         subst left (sym status) (told_leaves found says kept (ap is_answered (sym status) ∙ reply.answered))

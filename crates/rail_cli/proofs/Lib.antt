@@ -9,6 +9,6 @@ pub mod Judging
 pub mod Leaving
 pub mod Stored
 pub mod Finding
-pub mod Untold
+pub mod AnyShelf
 pub mod Trying
 pub mod Verdicts

@@ -1,4 +1,4 @@
--- Lines told one by one, each with its number.
+-- Lines written one by one, each with its number.
 use Rattle.std.proofs.Common.{◌≡◌, ℕ, ◌+◌, ◌<◌, ◌≤◌, List, [], ◌∷◌, ◌++◌, length, take, map, get_or, Vec, Global, refl, ap, sym, ◌∙◌, arith, add_comm}
 use Rattle.std.specs.List.{enumerate_from}
 use Rattle.std.proofs.lemmas.List.{take_more, map_push, map-append, take_all}
@@ -6,7 +6,7 @@ use Rattle.std.proofs.lemmas.List.FromFn.{length-enumerate_from, get_or-enumerat
 use Rattle.rail_outside.specs.Lines.{lines_of}
 
 module _ {X : Type 0} (make_reply : ℕ × X → List ℕ) (xs : List X) (i : ℕ) where
-  -- the line of the entry at place i is told
+  -- the line of the entry at place i is written
   pub one_listed : (x : X) (vs : List (Vec ℕ Global)) (v : Vec ℕ Global) → i < length xs → x ≡ get_or xs i x → lines_of vs ≡ map make_reply (take i (enumerate_from 1 xs)) → v.items ≡ make_reply (i + 1, x)
       → lines_of (vs ++ v ∷ []) ≡ map make_reply (take (i + 1) (enumerate_from 1 xs))
   one_listed x vs v lt is before line =

@@ -19,7 +19,7 @@ use Rattle.rail_cli.specs.declared.reply.Reply.{Reply}
 use Rattle.rail_cli.specs.declared.input.InputFile.{InputFile}
 use Rattle.rail_cli.specs.Texts.{limit_of}
 use Rattle.rail_cli.specs.Answers.{ReplySeen, within_limit, with_routes, edge_place, design_or_answer, and_then, design_in}
-use Rattle.rail_cli.specs.Replies.{reply_seen, ending_of, Reads}
+use Rattle.rail_cli.specs.Replies.{reply_seen, ending_of, ReadsOrEnds}
 
 -- ---- routes
 
@@ -42,8 +42,8 @@ routes_answer d [] true e f = absurd (cc)
 routes_answer d (x ∷ xs) many e f = absurd (cc)
 
 -- no path does, and few close
-pub routes_listed : (d : Station) → edges_met_again d ≡ [] → length (all_walks d) ≤ 2000 → with_routes d ≡ Ok d
-routes_listed d once few = routes_answer d (edges_met_again d) (nat_le 2001 (length (all_walks d))) once (lt-leb 2001 (length (all_walks d)) (omega arith))
+pub routes_can_be_listed : (d : Station) → edges_met_again d ≡ [] → length (all_walks d) ≤ 2000 → with_routes d ≡ Ok d
+routes_can_be_listed d once few = routes_answer d (edges_met_again d) (nat_le 2001 (length (all_walks d))) once (lt-leb 2001 (length (all_walks d)) (omega arith))
 
 -- ---- a design and its routes
 
@@ -65,6 +65,6 @@ file_is f bytes text e = fitting f (nat_lt (limit_of f) (length bytes)) bytes te
 -- ---- endings
 
 -- the ending with the answer that a reading gives
-pub ended_reads : {X Y : Type 0} (view : X → Y) (r : Result Reply AllocError) (answer : ReplySeen) (reading : Result Y ReplySeen) → IfOk r (λ reply. reply_seen reply ≡ answer) → reading ≡ Err answer → Reads view (Err (ending_of r)) reading
+pub ended_reads : {X Y : Type 0} (view : X → Y) (r : Result Reply AllocError) (answer : ReplySeen) (reading : Result Y ReplySeen) → IfOk r (λ reply. reply_seen reply ≡ answer) → reading ≡ Err answer → ReadsOrEnds view (Err (ending_of r)) reading
 ended_reads view (Ok reply) answer reading seen e = e ∙ ap (λ a. Err a) (sym seen)
 ended_reads view (Err x) answer reading seen e = tt

@@ -25,7 +25,7 @@ use Rattle.timetable.specs.Timetable.{timetable_of, timetable_text}
 use Rattle.rail_cli.specs.declared.status.Status.{Status}
 use Rattle.rail_cli.specs.declared.status.Status.TheVariants as statuses
 use Rattle.rail_cli.specs.Statuses.{is_verdict, is_refusal, is_answered}
-use Rattle.rail_cli.specs.Answers.{verdict_status, shown}
+use Rattle.rail_cli.specs.Answers.{verdict_status, verdict_reply}
 use Rattle.rail_cli.specs.Shows.{verdict_at_horizon}
 use Rattle.rail_cli.specs.Simulations.{BeginsWith, RunsSafely}
 
@@ -93,7 +93,7 @@ first_line d routes plan false None None e = (_, refl)
 pub met_first : (d : Station) (plan : List (List Command)) → verdict_status (verdict_at_horizon d plan) ≡ statuses.Done → (more : List (List ℕ)) × (timetable_of d (verdict_at_horizon d plan) ≡ met_line (cost d (routes_of d) plan) ∷ more)
 met_first d plan e = first_line d (routes_of d) plan (nat_lt (horizon d) (cost d (routes_of d) plan)) (path_violation d (routes_of d) plan) (violation_at d (routes_of d) plan (cost d (routes_of d) plan)) e
 
--- ---- the front of its text
+-- ---- the prefix of its text
 
 abbrev first : List ℕ → ℕ
 first [] = 0
@@ -128,5 +128,5 @@ first_done d v k more e = begins_done d v (ap (λ (lines : List (List ℕ)). fir
 
 -- ---- the reply
 
-pub shown_so : (d : Station) (s : Status) (lines : List (List ℕ)) (v w : Verdict) → s ≡ verdict_status v → lines ≡ timetable_of d v → v ≡ w → record { status = s; lines = lines } ≡ shown d w
-shown_so d s lines v w e f same = ap₂ (λ (a : Status) (b : List (List ℕ)). record { status = a; lines = b }) e f ∙ ap (shown d) same
+pub shown_so : (d : Station) (s : Status) (lines : List (List ℕ)) (v w : Verdict) → s ≡ verdict_status v → lines ≡ timetable_of d v → v ≡ w → record { status = s; lines = lines } ≡ verdict_reply d w
+shown_so d s lines v w e f same = ap₂ (λ (a : Status) (b : List (List ℕ)). record { status = a; lines = b }) e f ∙ ap (verdict_reply d) same

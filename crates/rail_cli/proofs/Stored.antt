@@ -37,5 +37,5 @@ verify_asked true = bounds_read
 pub passes_words : VerifyPassesCheck
 passes_words files left program steps conflicts ticks design proof bounds n c t d old new n_is c_is t_is plain_design plain_proof differ spells tells found =
     let asked = verify_asked bounds program steps conflicts ticks design proof n c t n_is c_is t_is plain_design plain_proof in
-    let search : Searches files (verify_words program steps conflicts ticks bounds design proof) n d = record { conflicts = c; ticks = t; bounds = bounds; design_name = design; proof_name = proof; asked = asked; spells_design = spells } in
+    let search : Searches files (verify_words program steps conflicts ticks bounds design proof) n d = record { conflicts = c; ticks = t; bounds = bounds; design_name = design; proof_name = proof; asked = asked; parses_design = spells } in
     passes_asked files left design proof n d old new (tells search) differ found _ (check_read program steps design proof n n_is plain_design plain_proof)

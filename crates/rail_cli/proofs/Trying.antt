@@ -1,4 +1,4 @@
--- Trials: their replies, and what is told of the station that is made.
+-- Trials: their replies, and what is said of the station that is made.
 use Rattle.std.proofs.Common.{◌≡◌, ℕ, ◌≤◌, ◌*◌, Bool, true, false, List, Option, None, Some, Result, Ok, Err, nat_lt, if◌then◌else◌, refl, ap, sym, ◌∙◌, subst}
 use Rattle.rail_base.specs.declared.route.Route.{Route}
 use Rattle.rail_base.specs.declared.plan.Command.{Command}
@@ -13,11 +13,11 @@ use Rattle.rail_spec.specs.Requirements.{cost, path_violation, violation_at}
 use Rattle.rail_spec.specs.Track.{routes_of}
 use Rattle.clause_spec.specs.Clauses.{base_clauses, past_limit}
 use Rattle.plan_exclusion.specs.declared.method.Method.TheVariants.{Cones}
-use Rattle.rail_words.specs.Requests.{RequestSeen, simulate, routes, verify, check, trial, IsInRange}
+use Rattle.rail_words.specs.Requests.{RequestSeen, simulate, routes, verify, check, trial, IsRequestInRange}
 use Rattle.verify_loop.specs.declared.outcome.Budgets.{Budgets}
 use Rattle.verify_loop.specs.declared.outcome.Outcome.{Outcome}
 use Rattle.verify_loop.specs.declared.outcome.Outcome.TheVariants as outcome
-use Rattle.verify_loop.specs.Outcomes.{Says, Fits}
+use Rattle.verify_loop.specs.Outcomes.{IsOutcome, Fits}
 use Rattle.workload.specs.Made.{made}
 use Rattle.rail_cli.specs.declared.status.Status.{Status}
 use Rattle.rail_cli.specs.declared.status.Status.TheVariants as statuses
@@ -27,10 +27,10 @@ use Rattle.rail_cli.specs.declared.ending.Ending.TheVariants as ending
 use Rattle.rail_cli.specs.Statuses.{is_answered, is_verdict}
 use Rattle.rail_cli.specs.Answers.{ReplySeen, with_routes, design_or_answer, with_clauses, unless_refused, verdict_status, trial_conflicts, trial_ticks, reply_for_trial, tried_in, tried}
 use Rattle.rail_cli.specs.Shows.{verdict_at_horizon}
-use Rattle.rail_cli.specs.Replies.{reply_seen, deciding_tick, Reads, Replies, RepliesTrial, Tries}
+use Rattle.rail_cli.specs.Replies.{reply_seen, deciding_tick, ReadsOrEnds, Replies, RepliesTrial, Tries}
 use Rattle.rail_cli.specs.Searches.{budgets_of, EndsTrial}
 use Rattle.rail_cli.specs.Prints.{Prints}
-use Rattle.rail_cli.specs.Trials.{TellsTrial}
+use Rattle.rail_cli.specs.Trials.{ReportsTrial}
 use Rattle.rail_cli.proofs.Deciding.{answered_next, answered_refusal}
 use Rattle.rail_cli.proofs.Finding.{reply_unless_many}
 use Rattle.rail_cli.proofs.Passing.{passed, design_refuses, clauses_refuse, routes_answer-same}
@@ -65,23 +65,23 @@ module _ (seed size : ℕ) where
   want_trial r is = subst (λ (x : Result Reply Ending). RepliesTrial x seed size) (sym is) (outcome.Memory, (tt, tt), tt)
 
   -- the routes were not listed
-  unlisted : {X : Type 0} (view : X → Station) (d : Station) (e : Ending) → Reads view (Err e) (design_or_answer (with_routes d)) → Replies (Err e) (of_station d outcome.Memory)
+  unlisted : {X : Type 0} (view : X → Station) (d : Station) (e : Ending) → ReadsOrEnds view (Err e) (design_or_answer (with_routes d)) → Replies (Err e) (of_station d outcome.Memory)
   unlisted view d (ending.RefusedWith reply) h = answered_refusal (design_or_answer (with_routes d)) (reply_seen reply) (λ e. tried_in seed size e outcome.Memory) h
   unlisted view d ending.Memory h = tt
   unlisted view d ending.ShelfFault h = tt
 
-  pub unlisted_so : {X : Type 0} (view : X → Station) (d : Station) (e : Ending) (r : Result Reply Ending) → d ≡ made seed size → r ≡ Err e → Reads view (Err e) (design_or_answer (with_routes d)) → RepliesTrial r seed size
+  pub unlisted_so : {X : Type 0} (view : X → Station) (d : Station) (e : Ending) (r : Result Reply Ending) → d ≡ made seed size → r ≡ Err e → ReadsOrEnds view (Err e) (design_or_answer (with_routes d)) → RepliesTrial r seed size
   unlisted_so view d e r same is h =
       let here : Replies (Err e) (tried seed size outcome.Memory) = subst (λ (x : Station). Replies (Err e) (of_station x outcome.Memory)) same (unlisted view d e h) in
       subst (λ (x : Result Reply Ending). RepliesTrial x seed size) (sym is) (outcome.Memory, (tt, tt), here)
 
   -- the search came to its end
-  pub listed_so : {X : Type 0} (view : X → Station) (d : Station) (x : X) (reply : Reply) → d ≡ made seed size → view x ≡ d → Reads view (Ok x) (design_or_answer (with_routes d))
-      → (found : Outcome) × Says Cones d (2 * size) trial_budgets found × Fits Cones d (2 * size) found × (reply_seen reply ≡ reply_for_trial seed size d found)
+  pub listed_so : {X : Type 0} (view : X → Station) (d : Station) (x : X) (reply : Reply) → d ≡ made seed size → view x ≡ d → ReadsOrEnds view (Ok x) (design_or_answer (with_routes d))
+      → (found : Outcome) × IsOutcome Cones d (2 * size) trial_budgets found × Fits Cones d (2 * size) found × (reply_seen reply ≡ reply_for_trial seed size d found)
       → RepliesTrial (Ok reply) seed size
   listed_so view d x reply same is reads h =
       let found = h.0 in
-      let ends : Says Cones (made seed size) (2 * size) trial_budgets found × Fits Cones (made seed size) (2 * size) found = subst (λ (e : Station). Says Cones e (2 * size) trial_budgets found × Fits Cones e (2 * size) found) same (h.1, h.2) in
+      let ends : IsOutcome Cones (made seed size) (2 * size) trial_budgets found × Fits Cones (made seed size) (2 * size) found = subst (λ (e : Station). IsOutcome Cones e (2 * size) trial_budgets found × Fits Cones e (2 * size) found) same (h.1, h.2) in
       let few : tried_in seed size d found ≡ reply_seen reply = reply_unless_many Cones d (2 * size) trial_budgets (reply_for_trial seed size d) (λ literals. refl) refl (Ok reply) found h.1 h.2 (sym h.3) in
       let here : of_station d found ≡ reply_seen reply = answered_next (design_or_answer (with_routes d)) d (λ e. tried_in seed size e found) (reads ∙ ap (λ (e : Station). Ok e) is) ∙ few in
       (found, ends, subst (λ (e : Station). of_station e found ≡ reply_seen reply) same here)
@@ -113,23 +113,23 @@ pub tries_want : (r : Result Reply Ending) (asked : Option RequestSeen) → r �
 tries_want r asked is = subst (Tries asked) (sym is) (no_memory asked)
 
 -- what a trial was asked for, from a request that is in range
-pub trial_size : (asked : RequestSeen) (seed size : ℕ) → asked ≡ trial seed size → IsInRange asked → (1 ≤ size) × (size ≤ 6)
-trial_size asked seed size is range = let all = subst IsInRange is range in (all.1, all.2)
+pub trial_size : (asked : RequestSeen) (seed size : ℕ) → asked ≡ trial seed size → IsRequestInRange asked → (1 ≤ size) × (size ≤ 6)
+trial_size asked seed size is range = let all = subst IsRequestInRange is range in (all.1, all.2)
 
 -- the reply of an ending
 pub told_trial_reply : (e : Ending) (reply : Reply) (seed size : ℕ) → e ≡ ending.RefusedWith reply → RepliesTrial (Err e) seed size → RepliesTrial (Ok reply) seed size
 told_trial_reply e reply seed size is h = subst (λ (x : Ending). RepliesTrial (Err x) seed size) is h
 
--- ---- what is told
+-- ---- what is said
 
--- a run that ends with neither yes nor no tells nothing
-pub tells_nothing : (seed size : ℕ) (t : Status) (text new_text : Option (List ℕ)) → is_verdict t ≡ false → TellsTrial seed size t text new_text
+-- a run that ends with neither yes nor no says nothing
+pub tells_nothing : (seed size : ℕ) (t : Status) (text new_text : Option (List ℕ)) → is_verdict t ≡ false → ReportsTrial seed size t text new_text
 tells_nothing seed size t text new_text neither = record { planned = λ e. (let kind : is_verdict t ≡ true = ap is_verdict e in absurd (cc)); none = λ e. (let kind : is_verdict t ≡ true = ap is_verdict e in absurd (cc)) }
 
 module _ (seed size : ℕ) (t : Status) (text new_text : Option (List ℕ)) (pieces new_pieces : Option (List (List ℕ))) where
-  -- this is told of the station
+  -- this is said of the station
   abbrev tells : Type 0
-  tells = TellsTrial seed size t text new_text
+  tells = ReportsTrial seed size t text new_text
 
   -- the answer is neither yes nor no
   no_verdict : (a : ReplySeen) → is_verdict a.status ≡ false → Prints a t text new_text pieces new_pieces → tells

@@ -17,18 +17,18 @@ use Rattle.rail_words.specs.Requests.{RequestSeen, simulate, routes, verify, che
 use Rattle.verify_loop.specs.declared.outcome.Budgets.{Budgets}
 use Rattle.verify_loop.specs.declared.outcome.Outcome.{Outcome}
 use Rattle.verify_loop.specs.declared.outcome.Outcome.TheVariants as outcome
-use Rattle.verify_loop.specs.Outcomes.{Says, Fits, first_clauses}
+use Rattle.verify_loop.specs.Outcomes.{IsOutcome, Fits, first_clauses}
 use Rattle.workload.specs.Made.{made}
 use Rattle.rail_cli.specs.declared.status.Status.{Status}
 use Rattle.rail_cli.specs.declared.status.Status.TheVariants as statuses
 use Rattle.rail_cli.specs.declared.input.InputFile.TheVariants as file
 use Rattle.rail_cli.specs.Statuses.{is_answered}
 use Rattle.rail_cli.specs.Texts.{limit_of}
-use Rattle.rail_cli.specs.Answers.{ReplySeen, within_limit, with_routes, design_or_answer, design_in, plan_or_answer, plan_in, shown, verdict_status, simulation_reply, routes_answer, routes_listed, with_clauses, reply_for, checked_against, with_proof, check_reply, reply_for_outcome, method_of, search_reply, trial_conflicts, trial_ticks, reply_for_trial, tried_in, tried, unless_refused, answer_to, answer_of}
+use Rattle.rail_cli.specs.Answers.{ReplySeen, within_limit, with_routes, design_or_answer, design_in, plan_or_answer, plan_in, verdict_reply, verdict_status, simulation_reply, routes_answer, routes_reply, with_clauses, reply_for, checked_against, with_proof, check_reply, reply_for_outcome, method_of, search_reply, trial_conflicts, trial_ticks, reply_for_trial, tried_in, tried, unless_refused, answer_to, answer_of}
 use Rattle.rail_cli.specs.Shows.{verdict_at_horizon}
 use Rattle.rail_cli.specs.Searches.{budgets_of, Finds}
 use Rattle.rail_cli.specs.Prints.{Prints}
-use Rattle.rail_cli.specs.Verdicts.{HasRoutes, HasFewClauses, SpellsDesign, SpellsPlan, IsUnrefused, IsVerdict, SpendsBudget, HasVerdict}
+use Rattle.rail_cli.specs.Verdicts.{HasRoutes, HasFewClauses, IsDesignText, IsPlanText, IsUnrefused, IsVerdict, SpendsBudget, HasVerdict}
 use Rattle.rail_cli.proofs.Deciding.{answered_next, planned_so}
 use Rattle.rail_cli.proofs.Finding.{read_so}
 use Rattle.rail_cli.proofs.Judging.{small_passes}
@@ -49,23 +49,23 @@ few_pass : (m : Method) (d : Station) (n : ℕ) → HasFewClauses m d n → with
 few_pass m d n few = small_passes m n d (few_fit m d n few)
 
 routes_pass : (d : Station) → HasRoutes d → with_routes d ≡ Ok d
-routes_pass d has = refusing.routes_listed d has.once has.few
+routes_pass d has = refusing.routes_can_be_listed d has.once has.at_most_2000
 
-module _ (bytes : List ℕ) (d : Station) (s : SpellsDesign bytes d) where
+module _ (bytes : List ℕ) (d : Station) (s : IsDesignText bytes d) where
   fits : within_limit file.Design bytes ≡ Ok bytes
-  fits = refusing.file_fits file.Design bytes s.short
+  fits = refusing.file_fits file.Design bytes s.within_limit
 
   reads : design_in bytes ≡ Ok d
-  reads = refusing.design_read bytes d s.spells (routes_pass d s.routes)
+  reads = refusing.design_read bytes d s.parses (routes_pass d s.routes)
 
   -- ---- the answers to what is not refused
 
-  simulated_so : (plan_bytes : List ℕ) (p : SpellsPlan d plan_bytes) → simulation_reply bytes plan_bytes ≡ shown d (verdict_at_horizon d p.plan)
+  simulated_so : (plan_bytes : List ℕ) (p : IsPlanText d plan_bytes) → simulation_reply bytes plan_bytes ≡ verdict_reply d (verdict_at_horizon d p.plan)
   simulated_so plan_bytes p =
-      planned_so bytes plan_bytes bytes fits d reads plan_bytes (refusing.file_fits file.Plan plan_bytes p.short)
-      ∙ answered_next (plan_in d plan_bytes) p.plan (λ plan. shown d (verdict_at_horizon d plan)) (ap (plan_or_answer d) p.spells)
+      planned_so bytes plan_bytes bytes fits d reads plan_bytes (refusing.file_fits file.Plan plan_bytes p.within_limit)
+      ∙ answered_next (plan_in d plan_bytes) p.plan (λ plan. verdict_reply d (verdict_at_horizon d plan)) (ap (plan_or_answer d) p.parses)
 
-  listed_so : routes_listed bytes ≡ routes_answer d
+  listed_so : routes_reply bytes ≡ routes_answer d
   listed_so = answered_next (within_limit file.Design bytes) bytes (λ text. unless_refused (design_in text) routes_answer) fits ∙ answered_next (design_in bytes) d routes_answer reads
 
   searched_so : (m : Method) (n conflicts ticks : ℕ) (found : Outcome) → HasFewClauses m d n → search_reply m n conflicts ticks bytes found ≡ reply_for_outcome d n conflicts ticks found
@@ -125,7 +125,7 @@ trial_status seed size d outcome.Memory = refl
 
 -- a search with few clauses ends with a verdict or a budget spent, unless memory was wanting
 module _ (m : Method) (d : Station) (n : ℕ) (b : Budgets) (few : HasFewClauses m d n) (s : Status) (answered : is_answered s ≡ true) where
-  ends_so : (found : Outcome) → Says m d n b found × Fits m d n found → s ≡ status_of found → IsVerdict s ⊎ SpendsBudget m d n b s
+  ends_so : (found : Outcome) → IsOutcome m d n b found × Fits m d n found → s ≡ status_of found → IsVerdict s ⊎ SpendsBudget m d n b s
   ends_so (outcome.Plan plan verdict) ends is = inl (inl is)
   ends_so (outcome.Infeasible log) ends is = inl (inr is)
   ends_so (outcome.ConflictsSpent log clause hints) ends is = inr (record { found = outcome.ConflictsSpent log clause hints; spent = is; says = ends.0; fits = ends.1 })
@@ -150,7 +150,7 @@ comes_so files (Some (simulate design plan)) found s finds is u answered =
     subst IsVerdict (sym (status_so _ _ s is (simulated_so (files design) u.0 u.1 (files plan) u.2))) (shown_verdict (verdict_at_horizon u.0 u.2.plan))
 comes_so files (Some (routes design)) found s finds is u answered = status_so _ _ s is (listed_so (files design) u.0 u.1)
 comes_so files (Some (verify n conflicts ticks bounds design proof)) found s finds is u answered =
-    spent_in (method_of bounds) u.0 (files design) n (budgets_of conflicts ticks) s u.1.spells
+    spent_in (method_of bounds) u.0 (files design) n (budgets_of conflicts ticks) s u.1.parses
     (ends_so (method_of bounds) u.0 n (budgets_of conflicts ticks) u.2 s answered found (finds u.0 (reads (files design) u.0 u.1)) (status_so _ _ s is (searched_so (files design) u.0 u.1 (method_of bounds) n conflicts ticks found u.2) ∙ search_status u.0 n conflicts ticks found))
 comes_so files (Some (check n design proof)) found s finds is u answered =
     subst IsVerdict (sym (status_so _ _ s is (checked_so (files design) u.0 u.1 n (files proof) u.2 u.3))) (told_verdict (judged u.0 n (files proof)))

@@ -78,7 +78,7 @@ abbrev pub and_then : {X Y R : Type 0} → Result X R → (X → Result Y R) →
 and_then (Ok x) next = next x
 and_then (Err r) next = Err r
 
--- the design that the bytes spell, whose routes can be listed
+-- the design in the bytes, whose routes can be listed
 abbrev pub design_in : List ℕ → Result Station ReplySeen
 design_in bytes = design_or_answer (and_then (design_of bytes) with_routes)
 
@@ -87,7 +87,7 @@ abbrev pub plan_or_answer : Station → Result (List (List Command)) Refusal →
 plan_or_answer d (Ok plan) = Ok plan
 plan_or_answer d (Err refusal) = Err (one_line status.PlanRefused (plan_refused_line d refusal.0 refusal.1))
 
--- the plan over a design that the bytes spell
+-- the plan over a design in the bytes
 abbrev pub plan_in : Station → List ℕ → Result (List (List Command)) ReplySeen
 plan_in d bytes = plan_or_answer d (plan_of d (routes_of d) bytes)
 
@@ -100,8 +100,8 @@ verdict_status (verdict.Failed history tick violation) = status.No
 verdict_status verdict.Undecided = status.No
 
 -- the timetable of what a run shows
-abbrev pub shown : Station → Verdict → ReplySeen
-shown d v = record { status = verdict_status v; lines = timetable_of d v }
+abbrev pub verdict_reply : Station → Verdict → ReplySeen
+verdict_reply d v = record { status = verdict_status v; lines = timetable_of d v }
 
 -- what comes of what is read, or the answer that refuses it
 abbrev pub unless_refused : {X : Type 0} → Result X ReplySeen → (X → ReplySeen) → ReplySeen
@@ -110,7 +110,7 @@ unless_refused (Err answer) next = answer
 
 -- the answer for a design and the bytes of a plan
 abbrev pub planned : Station → List ℕ → ReplySeen
-planned d plan_text = unless_refused (plan_in d plan_text) (λ plan. shown d (verdict_at_horizon d plan))
+planned d plan_text = unless_refused (plan_in d plan_text) (λ plan. verdict_reply d (verdict_at_horizon d plan))
 
 -- the answer to a simulation, for the bytes of the design and of the plan
 abbrev pub simulation_reply : List ℕ → List ℕ → ReplySeen
@@ -125,8 +125,8 @@ abbrev pub routes_answer : Station → ReplySeen
 routes_answer d = record { status = status.Done; lines = routes_text d (routes_of d) }
 
 -- the answer that lists routes, for the bytes of the design
-abbrev pub routes_listed : List ℕ → ReplySeen
-routes_listed design_bytes =
+abbrev pub routes_reply : List ℕ → ReplySeen
+routes_reply design_bytes =
     unless_refused (within_limit file.Design design_bytes) (λ design_text.
     unless_refused (design_in design_text) routes_answer)
 
@@ -209,7 +209,7 @@ trial_ticks = 1000000000
 abbrev pub three_lines : ℕ → ℕ → Station → Status → List ℕ → ReplySeen
 three_lines seed size d s last = record { status = s; lines = trial_line seed size ∷ counts_line d ∷ last ∷ [] }
 
--- what a trial tells of a station, by what its search ended with; a refusal is told alone
+-- what a trial says of a station, by what its search ended with; a refusal is said alone
 abbrev pub reply_for_trial : ℕ → ℕ → Station → Outcome → ReplySeen
 reply_for_trial seed size d (outcome.Plan plan verdict) =
     three_lines seed size d status.Done (plan_tick_line (length plan.steps) (cost d (routes_of d) plan.steps))
@@ -236,7 +236,7 @@ tried seed size found =
 abbrev pub answer_to : Files → Outcome → Option RequestSeen → ReplySeen
 answer_to files found None = one_line status.Usage usage_line
 answer_to files found (Some (simulate design plan)) = simulation_reply (files design) (files plan)
-answer_to files found (Some (routes design)) = routes_listed (files design)
+answer_to files found (Some (routes design)) = routes_reply (files design)
 answer_to files found (Some (verify n conflicts ticks bounds design proof)) =
     search_reply (method_of bounds) n conflicts ticks (files design) found
 answer_to files found (Some (check n design proof)) = check_reply n (files design) (files proof)
@@ -246,7 +246,7 @@ answer_to files found (Some (trial seed size)) = tried seed size found
 abbrev pub answer_given : List ℕ → List ℕ → Outcome → Option RequestSeen → ReplySeen
 answer_given design_bytes other_bytes found None = one_line status.Usage usage_line
 answer_given design_bytes other_bytes found (Some (simulate design plan)) = simulation_reply design_bytes other_bytes
-answer_given design_bytes other_bytes found (Some (routes design)) = routes_listed design_bytes
+answer_given design_bytes other_bytes found (Some (routes design)) = routes_reply design_bytes
 answer_given design_bytes other_bytes found (Some (verify n conflicts ticks bounds design proof)) =
     search_reply (method_of bounds) n conflicts ticks design_bytes found
 answer_given design_bytes other_bytes found (Some (check n design proof)) = check_reply n design_bytes other_bytes

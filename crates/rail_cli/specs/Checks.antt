@@ -13,10 +13,10 @@ pub record Checks (files : Files) (words : List (List ℕ)) (n : ℕ) (d : Stati
   pub design_name : List ℕ
   pub proof_name : List ℕ
   pub asked : request_of words ≡ Some (check n design_name proof_name)
-  pub spells_design : design_of (files design_name) ≡ Ok d
+  pub parses_design : design_of (files design_name) ≡ Ok d
 
 -- what is printed is `yes steps <k>`, and no plan of k steps is feasible
-pub record TellsInfeasible (n : ℕ) (d : Station) (old new : Option (List ℕ)) : Type 0 where
+pub record ReportsInfeasible (n : ℕ) (d : Station) (old new : Option (List ℕ)) : Type 0 where
   pub steps : ℕ
   pub within : steps ≤ n
   pub text : new ≡ grown old (yes_line steps)

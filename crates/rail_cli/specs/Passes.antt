@@ -9,7 +9,7 @@ use Rattle.verify_loop.specs.declared.outcome.Outcome.{Outcome}
 use Rattle.rail_cli.specs.declared.status.Status.TheVariants.{Done}
 use Rattle.rail_cli.specs.Texts.{yes_line}
 use Rattle.rail_cli.specs.Answers.{one_line, answer_of}
-use Rattle.rail_cli.specs.Searches.{Searches, TellsNone}
+use Rattle.rail_cli.specs.Searches.{Searches, ReportsNone}
 
 -- the answer `yes steps <n>`
 abbrev pub Passes : Files → Outcome → ℕ → List (List ℕ) → Type 0
@@ -18,7 +18,7 @@ Passes files found n words = answer_of files found words ≡ one_line Done (yes_
 -- where a search has found that there is no plan of n steps and has left these files, all words that ask for a check of n steps with the same two names pass
 abbrev pub StoredProofsPass : Type 0
 StoredProofsPass = (files left : Files) (design proof : List ℕ) (n : ℕ) (d : Station) (old new : Option (List ℕ))
-    → TellsNone files design proof n d old new (Some left) → design ≢ proof
+    → ReportsNone files design proof n d old new (Some left) → design ≢ proof
     → (found : Outcome) (words : List (List ℕ)) → request_of words ≡ Some (check n design proof)
     → Passes left found n words
 
@@ -37,7 +37,7 @@ verify_words program steps conflicts ticks bounds design proof =
 abbrev pub check_words : List ℕ → List ℕ → List ℕ → List ℕ → List (List ℕ)
 check_words program steps design proof = program ∷ codes "check" ∷ codes "--steps" ∷ steps ∷ design ∷ proof ∷ []
 
--- where the words of `verify`, without the flag or with it, have told that there is no plan and have left these files, the words of `check` with the same N, DESIGN and PROOF pass; the numbers are in range, and the names differ and are plain
+-- where the words of `verify`, without the flag or with it, have said that there is no plan and have left these files, the words of `check` with the same N, DESIGN and PROOF pass; the numbers are in range, and the names differ and are plain
 abbrev pub VerifyPassesCheck : Type 0
 VerifyPassesCheck =
     (files left : Files) (program steps conflicts ticks design proof : List ℕ) (bounds : Bool) (n c t : ℕ) (d : Station)
@@ -45,5 +45,5 @@ VerifyPassesCheck =
     → steps_of steps ≡ Some n → conflicts_of conflicts ≡ Some c → ticks_of ticks ≡ Some t
     → is_plain design ≡ true → is_plain proof ≡ true → design ≢ proof → design_of (files design) ≡ Ok d
     → ((s : Searches files (verify_words program steps conflicts ticks bounds design proof) n d)
-    → TellsNone files s.design_name s.proof_name n d old new (Some left))
+    → ReportsNone files s.design_name s.proof_name n d old new (Some left))
     → (found : Outcome) → Passes left found n (check_words program steps design proof)

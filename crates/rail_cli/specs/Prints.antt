@@ -10,7 +10,7 @@ use Rattle.verify_loop.specs.declared.outcome.Outcome.{Outcome}
 use Rattle.rail_cli.specs.Answers.{ReplySeen, answer_given}
 use Rattle.rail_cli.specs.Searches.{FindsGiven}
 
--- the run ends with the answer's status and has printed its lines, one piece each; for want of memory it may end after some of the lines, and by a fault of the sink after a front of the text
+-- the run ends with the answer's status and has printed its lines, one piece each; for want of memory it may end after some of the lines, and by a fault of the sink after a prefix of the text
 pub record Prints (answer : ReplySeen) (s : Status) (text new_text : Option (List ℕ))
     (pieces new_pieces : Option (List (List ℕ))) : Type 0 where
   pub status : is_answered s ≡ true → s ≡ answer.status

@@ -13,7 +13,7 @@ use Rattle.rail_words.specs.Requests.{RequestSeen, simulate, routes, verify, che
 use Rattle.plan_exclusion.specs.declared.method.Method.{Method}
 use Rattle.verify_loop.specs.declared.outcome.Outcome.{Outcome}
 use Rattle.verify_loop.specs.declared.outcome.Outcome.TheVariants as outcome
-use Rattle.verify_loop.specs.Outcomes.{Says, Fits}
+use Rattle.verify_loop.specs.Outcomes.{IsOutcome, Fits}
 use Rattle.rail_cli.specs.declared.status.Status.{Status}
 use Rattle.rail_cli.specs.declared.status.Status.TheVariants as statuses
 use Rattle.rail_cli.specs.declared.reply.Reply.{Reply}
@@ -38,11 +38,11 @@ ending_of (Ok reply) = ending.RefusedWith reply
 ending_of (Err e) = ending.Memory
 
 -- what was read, seen by view, is what reading gives; or reading gives the answer that refuses it; want of memory and a fault of the shelf are free
-abbrev pub Reads : {X Y : Type 0} → (X → Y) → Result X Ending → Result Y ReplySeen → Type 0
-Reads view (Ok x) reading = reading ≡ Ok (view x)
-Reads view (Err (ending.RefusedWith reply)) reading = reading ≡ Err (reply_seen reply)
-Reads view (Err ending.Memory) reading = Unit {0}
-Reads view (Err ending.ShelfFault) reading = Unit {0}
+abbrev pub ReadsOrEnds : {X Y : Type 0} → (X → Y) → Result X Ending → Result Y ReplySeen → Type 0
+ReadsOrEnds view (Ok x) reading = reading ≡ Ok (view x)
+ReadsOrEnds view (Err (ending.RefusedWith reply)) reading = reading ≡ Err (reply_seen reply)
+ReadsOrEnds view (Err ending.Memory) reading = Unit {0}
+ReadsOrEnds view (Err ending.ShelfFault) reading = Unit {0}
 
 -- where nothing was read, a file is refused, unless memory was wanting or the shelf failed
 abbrev pub RefusesFile : {X : Type 0} → Result X Ending → Type 0
@@ -120,7 +120,7 @@ pub record EndsIn (files : Files) (m : Method) (n conflicts ticks : ℕ) (design
     : Type 0 where
   pub design : Design
   pub parsed : design_in (files design_name) ≡ Ok design.station
-  pub says : Says m design.station n (budgets_of conflicts ticks) found
+  pub says : IsOutcome m design.station n (budgets_of conflicts ticks) found
   pub fits : Fits m design.station n found
 
 -- where a search is asked for, it ends so, or for want of memory; a trial too

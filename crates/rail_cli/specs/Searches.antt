@@ -18,7 +18,7 @@ use Rattle.timetable.specs.Lines.{met_line}
 use Rattle.timetable.specs.Timetable.{timetable_of}
 use Rattle.verify_loop.specs.declared.outcome.Budgets.{Budgets}
 use Rattle.verify_loop.specs.declared.outcome.Outcome.{Outcome}
-use Rattle.verify_loop.specs.Outcomes.{Says, Fits}
+use Rattle.verify_loop.specs.Outcomes.{IsOutcome, Fits}
 use Rattle.workload.specs.Made.{made}
 use Rattle.rail_cli.specs.declared.status.Status.{Status}
 use Rattle.rail_cli.specs.declared.status.Status.TheVariants.{Done, No, Memory, ShelfFault, SinkFault}
@@ -37,13 +37,13 @@ budgets_of conflicts ticks = record { conflicts = conflicts; ticks = ticks; log_
 -- the outcome says what it is to say of the station that the seed and the size make, for twice as many steps as its size; want of memory says nothing
 abbrev pub EndsTrial : ℕ → ℕ → Outcome → Type 0
 EndsTrial seed size found =
-    Says Cones (made seed size) (2 * size) (budgets_of trial_conflicts trial_ticks) found
+    IsOutcome Cones (made seed size) (2 * size) (budgets_of trial_conflicts trial_ticks) found
     × Fits Cones (made seed size) (2 * size) found
 
 -- where the bytes spell a design, the outcome says what it is to say of that design and n, within the budgets
 abbrev pub EndsSearch : Method → List ℕ → ℕ → ℕ → ℕ → Outcome → Type 0
 EndsSearch m design_bytes n conflicts ticks found = (d : Station) → design_in design_bytes ≡ Ok d
-    → Says m d n (budgets_of conflicts ticks) found × Fits m d n found
+    → IsOutcome m d n (budgets_of conflicts ticks) found × Fits m d n found
 
 -- a search that is asked for ends so for the design's file, and a trial for the station that is made
 abbrev pub Finds : Files → Option RequestSeen → Outcome → Type 0
@@ -63,7 +63,7 @@ FindsGiven design_bytes _ found = Unit {0}
 
 -- the log is no longer than a proof may be, and shows that the design has no plan of n steps
 pub record ShowsNone (d : Station) (n : ℕ) (log : List ℕ) : Type 0 where
-  pub short : length log ≤ limit_of file.Proof
+  pub within_limit : length log ≤ limit_of file.Proof
   pub shows : judged d n log ≡ Yes n
 
 -- the shelf holds these files with such a log under the proof's name
@@ -79,11 +79,11 @@ pub record SpoilsLog (files : Files) (proof : List ℕ) (d : Station) (n : ℕ) 
   pub some : List ℕ
   pub holds : known_files ≡ Some (updated files proof some)
 
--- the design that the file spelled has no plan of n steps, and the shelf holds a log that shows it
+-- the design in the file has no plan of n steps, and the shelf holds a log that shows it
 abbrev pub HoldsProof : Files → ℕ → List ℕ → List ℕ → Option Files → Type 0
 HoldsProof files n design proof known_files = (d : Station) × (design_in (files design) ≡ Ok d) × HoldsLog files proof d n known_files
 
--- the design that the file spelled has no plan of n steps, and the store of a log that shows it has failed
+-- the design in the file has no plan of n steps, and the store of a log that shows it has failed
 abbrev pub SpoilsProof : Files → ℕ → List ℕ → List ℕ → Option Files → Type 0
 SpoilsProof files n design proof known_files =
     (d : Station) × (design_in (files design) ≡ Ok d) × SpoilsLog files proof d n known_files
@@ -114,10 +114,10 @@ pub record Searches (files : Files) (words : List (List ℕ)) (n : ℕ) (d : Sta
   pub design_name : List ℕ
   pub proof_name : List ℕ
   pub asked : request_of words ≡ Some (verify n conflicts ticks bounds design_name proof_name)
-  pub spells_design : design_of (files design_name) ≡ Ok d
+  pub parses_design : design_of (files design_name) ≡ Ok d
 
 -- the lines printed are `plan steps <number of steps>`, the plan and its timetable; the plan is feasible for n steps, and none of fewer steps is; and its run is safe
-pub record TellsPlan (n : ℕ) (d : Station) (old new : Option (List ℕ)) : Type 0 where
+pub record ReportsPlan (n : ℕ) (d : Station) (old new : Option (List ℕ)) : Type 0 where
   pub plan : List (List Command)
   pub text : new ≡ grown old (concat (reply_for_plan d plan).lines)
   pub feasible : IsFeasible d n plan
@@ -126,7 +126,7 @@ pub record TellsPlan (n : ℕ) (d : Station) (old new : Option (List ℕ)) : Typ
   pub safe : RunsSafely d plan
 
 -- what is printed is `infeasible steps <n>`; no plan of n steps is feasible; and the shelf holds a log under the proof's name, every other name as before, to which with the design's bytes a check answers `yes steps <n>`
-pub record TellsNone (files : Files) (design proof : List ℕ) (n : ℕ) (d : Station) (old new : Option (List ℕ))
+pub record ReportsNone (files : Files) (design proof : List ℕ) (n : ℕ) (d : Station) (old new : Option (List ℕ))
     (known_files : Option Files) : Type 0 where
   pub text : new ≡ grown old (infeasible_line n)
   pub none : IsInfeasible d n

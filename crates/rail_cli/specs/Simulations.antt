@@ -25,10 +25,10 @@ pub record Simulates (files : Files) (words : List (List ℕ)) (d : Station) (pl
   pub asked : request_of words ≡ Some (simulate design_name plan_name)
   pub short_design : length (files design_name) ≤ 8388608
   pub short_plan : length (files plan_name) ≤ 8388608
-  pub spells_design : design_of (files design_name) ≡ Ok d
+  pub parses_design : design_of (files design_name) ≡ Ok d
   pub once : edges_met_again d ≡ []
-  pub few : length (all_walks d) ≤ 2000
-  pub spells_plan : plan_of d (routes_of d) (files plan_name) ≡ Ok plan
+  pub at_most_2000 : length (all_walks d) ≤ 2000
+  pub parses_plan : plan_of d (routes_of d) (files plan_name) ≡ Ok plan
 
 -- in the run of the plan, past the horizon too, no two trains ever hold one section or stand on one; each train keeps to its end of authority and its limits; and each command is granted in time
 pub record RunsSafely (d : Station) (plan : List (List Command)) : Type 0 where
@@ -41,7 +41,7 @@ abbrev pub BeginsWith : List ℕ → List ℕ → Type 0
 BeginsWith prefix text = (rest : List ℕ) × (text ≡ prefix ++ rest)
 
 -- the status is 0 exactly where the plan is feasible, and else 1; the text is the timetable, whose first line is `met tick <k>` at the deciding tick exactly in the first case, and which begins with `met tick` in no other; and the run is safe
-pub record TellsFeasible (d : Station) (plan : List (List Command)) (s : Status) (old new : Option (List ℕ))
+pub record ReportsFeasible (d : Station) (plan : List (List Command)) (s : Status) (old new : Option (List ℕ))
     : Type 0 where
   pub done : (s ≡ statuses.Done) ↔ IsFeasible d 256 plan
   pub failed : (s ≡ statuses.No) ↔ (IsFeasible d 256 plan → ⊥)

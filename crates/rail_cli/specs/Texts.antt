@@ -7,7 +7,7 @@ use Rattle.design_table.specs.declared.place.Place.{Place}
 use Rattle.design_table.specs.declared.place.Place.TheVariants as place
 use Rattle.design_table.specs.Keys.{key_text, kind_key}
 use Rattle.log_checker.specs.declared.check_result.Reason.{Reason}
-use Rattle.log_checker.specs.Words.{words_of}
+use Rattle.log_checker.specs.Words.{reason_words}
 use Rattle.plan_text.specs.Text.{plan_text}
 use Rattle.rail_base.specs.declared.plan.Command.{Command}
 use Rattle.rail_base.specs.declared.station.Station.{Station}
@@ -97,7 +97,7 @@ yes_line k = codes "yes steps " ++ decimal k ++ codes "\n"
 
 -- `no line <number> <reason>`
 abbrev pub no_line : ℕ → Reason → List ℕ
-no_line line reason = codes "no line " ++ decimal line ++ codes " " ++ words_of reason ++ codes "\n"
+no_line line reason = codes "no line " ++ decimal line ++ codes " " ++ reason_words reason ++ codes "\n"
 
 -- ---- a search
 

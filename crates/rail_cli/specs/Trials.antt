@@ -12,25 +12,25 @@ use Rattle.rail_cli.specs.declared.status.Status.TheVariants.{Done, No}
 use Rattle.rail_cli.specs.Texts.{plan_tick_line, infeasible_line}
 use Rattle.rail_cli.specs.Answers.{three_lines, ReplySeen}
 
--- the answer that tells a plan, with its number of steps and its deciding tick
-abbrev pub trial_plan_told : ℕ → ℕ → List (List Command) → ReplySeen
-trial_plan_told seed size plan =
+-- the answer with a plan, with its number of steps and its deciding tick
+abbrev pub trial_plan_reply : ℕ → ℕ → List (List Command) → ReplySeen
+trial_plan_reply seed size plan =
     let d = made seed size in
     three_lines seed size d Done (plan_tick_line (length plan) (cost d (routes_of d) plan))
 
 -- the last line is `plan steps <s> tick <k>`: a plan of s steps is feasible for twice as many steps as the size, and none of fewer steps is; and k is its deciding tick
-pub record TellsTrialPlan (seed size : ℕ) (old new : Option (List ℕ)) : Type 0 where
+pub record ReportsTrialPlan (seed size : ℕ) (old new : Option (List ℕ)) : Type 0 where
   pub plan : List (List Command)
-  pub text : new ≡ grown old (concat (trial_plan_told seed size plan).lines)
+  pub text : new ≡ grown old (concat (trial_plan_reply seed size plan).lines)
   pub feasible : IsFeasible (made seed size) (2 * size) plan
   pub fewest : (s : ℕ) → s < length plan → IsInfeasible (made seed size) s
 
 -- the last line is `infeasible steps <n>`: no plan of n steps is feasible, which are twice as many as the size
-pub record TellsTrialNone (seed size : ℕ) (old new : Option (List ℕ)) : Type 0 where
+pub record ReportsTrialNone (seed size : ℕ) (old new : Option (List ℕ)) : Type 0 where
   pub text : new ≡ grown old (concat (three_lines seed size (made seed size) No (infeasible_line (2 * size))).lines)
   pub none : IsInfeasible (made seed size) (2 * size)
 
 -- what the text of a trial says of the station that the seed and the size make, where its status is 0 or 1
-pub record TellsTrial (seed size : ℕ) (s : Status) (old new : Option (List ℕ)) : Type 0 where
-  pub planned : s ≡ Done → TellsTrialPlan seed size old new
-  pub none : s ≡ No → TellsTrialNone seed size old new
+pub record ReportsTrial (seed size : ℕ) (s : Status) (old new : Option (List ℕ)) : Type 0 where
+  pub planned : s ≡ Done → ReportsTrialPlan seed size old new
+  pub none : s ≡ No → ReportsTrialNone seed size old new

@@ -13,7 +13,7 @@ use Rattle.rail_words.specs.Requests.{RequestSeen, simulate, routes, verify, che
 use Rattle.verify_loop.specs.declared.outcome.Budgets.{Budgets}
 use Rattle.verify_loop.specs.declared.outcome.Outcome.{Outcome}
 use Rattle.verify_loop.specs.declared.outcome.Outcome.TheVariants as outcome
-use Rattle.verify_loop.specs.Outcomes.{Says, Fits, first_clauses}
+use Rattle.verify_loop.specs.Outcomes.{IsOutcome, Fits, first_clauses}
 use Rattle.workload.specs.Made.{made}
 use Rattle.rail_cli.specs.declared.status.Status.{Status}
 use Rattle.rail_cli.specs.declared.status.Status.TheVariants as status
@@ -27,34 +27,34 @@ use Rattle.rail_cli.specs.Searches.{budgets_of}
 -- the routes of the design can be listed: no path of the first 2,001 meets an edge again, and at most 2,000 paths close
 pub record HasRoutes (d : Station) : Type 0 where
   pub once : edges_met_again d ≡ []
-  pub few : length (all_walks d) ≤ 2000
+  pub at_most_2000 : length (all_walks d) ≤ 2000
 
 -- the clauses that a search by the method for plans of n steps begins with have at most 16,000,000 literals
 abbrev pub HasFewClauses : Method → Station → ℕ → Type 0
 HasFewClauses m d n = literals (first_clauses m d n) ≤ 16000000
 
 -- the file is within its limit and spells this design, whose routes can be listed
-pub record SpellsDesign (bytes : List ℕ) (d : Station) : Type 0 where
-  pub short : length bytes ≤ limit_of file.Design
-  pub spells : design_of bytes ≡ Ok d
+pub record IsDesignText (bytes : List ℕ) (d : Station) : Type 0 where
+  pub within_limit : length bytes ≤ limit_of file.Design
+  pub parses : design_of bytes ≡ Ok d
   pub routes : HasRoutes d
 
 -- the file is within its limit and spells a plan over the design
-pub record SpellsPlan (d : Station) (bytes : List ℕ) : Type 0 where
-  pub short : length bytes ≤ limit_of file.Plan
+pub record IsPlanText (d : Station) (bytes : List ℕ) : Type 0 where
+  pub within_limit : length bytes ≤ limit_of file.Plan
   pub plan : List (List Command)
-  pub spells : plan_of d (routes_of d) bytes ≡ Ok plan
+  pub parses : plan_of d (routes_of d) bytes ≡ Ok plan
 
 -- something is asked for, and nothing of it is refused: each file that is read is within its limit, they spell a design and a plan, and the clauses of a search, a check or a trial are few; a trial reads no file
 abbrev pub IsUnrefused : Files → Option RequestSeen → Type 0
 IsUnrefused files None = ⊥
 IsUnrefused files (Some (simulate design plan)) =
-    (d : Station) × SpellsDesign (files design) d × SpellsPlan d (files plan)
-IsUnrefused files (Some (routes design)) = (d : Station) × SpellsDesign (files design) d
+    (d : Station) × IsDesignText (files design) d × IsPlanText d (files plan)
+IsUnrefused files (Some (routes design)) = (d : Station) × IsDesignText (files design) d
 IsUnrefused files (Some (verify n conflicts ticks bounds design proof)) =
-    (d : Station) × SpellsDesign (files design) d × HasFewClauses (method_of bounds) d n
+    (d : Station) × IsDesignText (files design) d × HasFewClauses (method_of bounds) d n
 IsUnrefused files (Some (check n design proof)) =
-    (d : Station) × SpellsDesign (files design) d × HasFewClauses Cones d n
+    (d : Station) × IsDesignText (files design) d × HasFewClauses Cones d n
     × (length (files proof) ≤ limit_of file.Proof)
 IsUnrefused files (Some (trial seed size)) =
     HasRoutes (made seed size) × HasFewClauses Cones (made seed size) (2 * size)
@@ -76,7 +76,7 @@ IsSpent _ s = ⊥
 pub record SpendsBudget (m : Method) (d : Station) (n : ℕ) (budgets : Budgets) (s : Status) : Type 0 where
   pub found : Outcome
   pub spent : IsSpent found s
-  pub says : Says m d n budgets found
+  pub says : IsOutcome m d n budgets found
   pub fits : Fits m d n found
 
 -- a run comes to a verdict, and one that lists routes to yes; a search or a trial may have spent a budget in its place

@@ -9,7 +9,7 @@ ghost use Rattle.plan_exclusion.specs.declared.method.Method.TheVariants.{Cones}
 ghost use Rattle.plan_encoding.specs.Bases.{IsBaseOf};
 ghost use Rattle.rail_cli.specs.Statuses.{is_verdict};
 ghost use Rattle.rail_cli.specs.Answers.{with_clauses, reply_for, with_proof, check_reply};
-ghost use Rattle.rail_cli.specs.Replies.{Reads, RefusesFile, OnlyRefuses, Replies, RepliesSome, RepliesWith};
+ghost use Rattle.rail_cli.specs.Replies.{ReadsOrEnds, RefusesFile, OnlyRefuses, Replies, RepliesSome, RepliesWith};
 ghost use Rattle.rail_words.specs.Requests.{check};
 
 use crate::ending::Ending;
@@ -27,10 +27,10 @@ use rail_base::design::Design;
 use rail_outside::Shelf;
 use std::alloc::{AllocError, Global};
 
-/// The clauses of a design, for plans of up to so many steps. The ending tells that they are too many, or is want of memory.
+/// The clauses of a design, for plans of up to so many steps. The ending says that they are too many, or is want of memory.
 pub fn encode(alloc: Global, interlocking: &Interlocking, steps: Steps) -> Result<Base, Ending>
     ensures reads { let d = interlocking.now.design.station in
-        Reads (λ _. d) result (with_clauses Cones steps.count d) }
+        ReadsOrEnds (λ _. d) result (with_clauses Cones steps.count d) }
     ensures refuses { OnlyRefuses result }
     ensures base { let d = interlocking.now.design.station in IfOk result (IsBaseOf d (routes_of d) steps.count) }
 {

@@ -8,7 +8,7 @@ ghost use Rattle.rail_outside.specs.Growth.{Rose, GrowsByPrefix};
 ghost use Rattle.rail_outside.specs.Lines.{lines_of};
 ghost use Rattle.rail_words.specs.Requests.{routes};
 ghost use Rattle.rail_cli.specs.Statuses.{is_verdict};
-ghost use Rattle.rail_cli.specs.Answers.{routes_answer, routes_listed};
+ghost use Rattle.rail_cli.specs.Answers.{routes_answer, routes_reply};
 ghost use Rattle.rail_cli.specs.Listings.{start_text, finish_text, release_text, route_line, routes_text};
 ghost use Rattle.rail_cli.specs.Replies.{RefusesFile, Replies, RepliesSome, RepliesWith};
 
@@ -27,13 +27,13 @@ use rail_text::put_number;
 use std::alloc::{AllocError, Global};
 
 /// The reply that lists routes, by the name of the design's file.
-pub(crate) fn routes_listed<S: Shelf>(
+pub(crate) fn routes_reply<S: Shelf>(
     alloc: Global,
     shelf: &mut S,
     design: &str,
 ) -> Result<Reply, Ending>
     ensures replies { (files : Files) → S.known_files shelf.old ≡ Some files
-        → Replies result (routes_listed (files design.now)) }
+        → Replies result (routes_reply (files design.now)) }
     ensures for_some_files { RepliesSome result (Some (routes design.now)) }
     ensures verdict { IfOk result (λ reply. is_verdict reply.status ≡ true) }
     ensures refuses { RefusesFile result }

@@ -5,7 +5,7 @@ ghost use Rattle.rail_outside.specs.Asks.{fetched};
 ghost use Rattle.rail_outside.specs.Files.{Files};
 ghost use Rattle.rail_outside.specs.Growth.{Rose, grown, GrowsByPrefix};
 ghost use Rattle.rail_cli.specs.Answers.{within_limit, design_in, with_routes, design_or_answer};
-ghost use Rattle.rail_cli.specs.Replies.{Reads, RefusesFile, OnlyRefuses};
+ghost use Rattle.rail_cli.specs.Replies.{ReadsOrEnds, RefusesFile, OnlyRefuses};
 ghost use Rattle.infra_reader.specs.Design.{design_of};
 
 use crate::ending::Ending;
@@ -19,7 +19,7 @@ use rail_outside::{FetchFault, Shelf};
 use rail_routes::{RouteFault, interlocking};
 use std::alloc::Global;
 
-/// The bytes of a file within its limit. The ending tells that there are more, or is want of memory or a fault of the shelf.
+/// The bytes of a file within its limit. The ending says that there are more, or is want of memory or a fault of the shelf.
 pub fn fetch<S: Shelf>(
     alloc: Global,
     shelf: &mut S,
@@ -27,8 +27,8 @@ pub fn fetch<S: Shelf>(
     name: &str,
 ) -> Result<Vec<u8>, Ending>
     ensures reads { (files : Files) → S.known_files shelf.old ≡ Some files
-        → Reads (λ v. v.items) result (within_limit file (files name.now)) }
-    ensures for_some_bytes { (bytes : List ℕ) × Reads (λ v. v.items) result (within_limit file bytes) }
+        → ReadsOrEnds (λ v. v.items) result (within_limit file (files name.now)) }
+    ensures for_some_bytes { (bytes : List ℕ) × ReadsOrEnds (λ v. v.items) result (within_limit file bytes) }
     ensures refuses { RefusesFile result }
     ensures cause { result ≡ Err Ending.ShelfFault → Rose (S.fault_count shelf.old) (S.fault_count shelf.new) }
     ensures never_falls { S.fault_count shelf.old ≤ S.fault_count shelf.new }
@@ -44,9 +44,9 @@ pub fn fetch<S: Shelf>(
     }
 }
 
-/// The design that is parsed from the bytes, with its routes. The ending tells why it is refused, or is want of memory.
+/// The design that is parsed from the bytes, with its routes. The ending says why it is refused, or is want of memory.
 pub fn admit(alloc: Global, bytes: &[u8]) -> Result<Interlocking, Ending>
-    ensures reads { Reads (λ i. i.design.station) result (design_in bytes.now) }
+    ensures reads { ReadsOrEnds (λ i. i.design.station) result (design_in bytes.now) }
     ensures refuses { OnlyRefuses result }
 {
     interlock(alloc, read(alloc, bytes)?)
@@ -54,7 +54,7 @@ pub fn admit(alloc: Global, bytes: &[u8]) -> Result<Interlocking, Ending>
 
 /// A design with its routes.
 pub(crate) fn interlock(alloc: Global, design: Design) -> Result<Interlocking, Ending>
-    ensures reads { Reads (λ i. i.design.station) result (design_or_answer (with_routes design.station)) }
+    ensures reads { ReadsOrEnds (λ i. i.design.station) result (design_or_answer (with_routes design.station)) }
     ensures refuses { OnlyRefuses result }
     ensures same { IfOk result (λ i. i.design ≡ design) }
 {
@@ -73,7 +73,7 @@ pub(crate) fn interlock(alloc: Global, design: Design) -> Result<Interlocking, E
 
 /// The design that is parsed from the bytes, before its routes are found.
 fn read(alloc: Global, bytes: &[u8]) -> Result<Design, Ending>
-    ensures reads { Reads (λ d. d.station) result (design_or_answer (design_of bytes.now)) }
+    ensures reads { ReadsOrEnds (λ d. d.station) result (design_or_answer (design_of bytes.now)) }
     ensures refuses { OnlyRefuses result }
 {
     match read_design(alloc, bytes) {

@@ -5,24 +5,24 @@ ghost use Rattle.rail_base.specs.declared.station.Station.{Station};
 ghost use Rattle.rail_base.specs.declared.plan.Command.{Command};
 ghost use Rattle.rail_outside.specs.Files.{Files};
 ghost use Rattle.rail_outside.specs.Growth.{Rose, GrowsByPrefix};
-ghost use Rattle.rail_words.specs.Requests.{IsInRange, request_of, trial};
+ghost use Rattle.rail_words.specs.Requests.{IsRequestInRange, request_of, trial};
 ghost use Rattle.rail_words.specs.Laws.{AsksForNothing};
 ghost use Rattle.rail_words.specs.Words.{texts_of, request_seen};
 ghost use Rattle.verify_loop.specs.declared.outcome.Outcome.{Outcome};
 ghost use Rattle.rail_cli.specs.Statuses.{is_answered};
 ghost use Rattle.rail_cli.specs.Answers.{answer_of, asks_to, asks_of};
-ghost use Rattle.rail_cli.specs.Checks.{Checks, TellsInfeasible};
+ghost use Rattle.rail_cli.specs.Checks.{Checks, ReportsInfeasible};
 ghost use Rattle.rail_cli.specs.Prints.{Prints, PrintsSome};
 ghost use Rattle.rail_cli.specs.Replies.{reply_seen, OnEnd, OnReply, RefusesFile, RepliesSo, RepliesSome};
 ghost use Rattle.rail_cli.specs.Replies.{DecidesRequest, Tries};
-ghost use Rattle.rail_cli.specs.Searches.{Finds, Leaves, Searches, TellsNone, TellsPlan};
-ghost use Rattle.rail_cli.specs.Simulations.{Simulates, TellsFeasible, DoneWhereFeasible};
-ghost use Rattle.rail_cli.specs.Trials.{TellsTrial};
+ghost use Rattle.rail_cli.specs.Searches.{Finds, Leaves, Searches, ReportsNone, ReportsPlan};
+ghost use Rattle.rail_cli.specs.Simulations.{Simulates, ReportsFeasible, DoneWhereFeasible};
+ghost use Rattle.rail_cli.specs.Trials.{ReportsTrial};
 ghost use Rattle.rail_cli.specs.Verdicts.{IsUnrefused, HasVerdict};
 
 use crate::checking::check_reply;
 use crate::ending::Ending;
-use crate::listing::routes_listed;
+use crate::listing::routes_reply;
 use crate::refusals::usage;
 use crate::reply::Reply;
 use crate::searching::{budgets, search_reply};
@@ -33,7 +33,7 @@ use rail_outside::{Shelf, Sink, SinkFault, put_lines};
 use rail_words::{Request, WordsFault, read_words};
 use std::alloc::Global;
 
-/// Prints a reply line by line, and tells how the run ends: by the status of the reply, want of memory or a fault of the sink.
+/// Prints a reply line by line, and says how the run ends: by the status of the reply, want of memory or a fault of the sink.
 pub fn print<O: Sink>(reply: &Reply, out: &mut O) -> Status
     ensures prints { Prints (reply_seen reply.now) result
         (O.written out.old) (O.written out.new) (O.puts out.old) (O.puts out.new) }
@@ -51,7 +51,7 @@ pub fn print<O: Sink>(reply: &Reply, out: &mut O) -> Status
 /// Does what the words of a command line ask for, the first of which is the program's name: reads the files that they
 /// name from the shelf, and prints the answer. All of its text is made before the first line is printed.
 ///
-/// Where the shelf tells what it holds, the status and the text are those of the answer that these files give; want of
+/// Where the shelf's files are known, the status and the text are those of the answer that these files give; want of
 /// memory, a fault of the shelf or a fault of the sink may come in its place.
 pub fn run_words<S: Shelf, O: Sink>(
     alloc: Global,
@@ -64,29 +64,29 @@ pub fn run_words<S: Shelf, O: Sink>(
         × Prints (answer_of files found (texts_of words.now)) result
         (O.written out.old) (O.written out.new) (O.puts out.old) (O.puts out.new) }
 
-    // Over any shelf, also one that tells nothing, that answer is printed for some bytes of the files.
+    // Over any shelf, also one of which nothing is known, that answer is printed for some bytes of the files.
     ensures for_some_files { PrintsSome (request_of (texts_of words.now)) result
         (O.written out.old) (O.written out.new) (O.puts out.old) (O.puts out.new) }
 
     // A simulation answers yes exactly where the plan is feasible, and a check only where the design has no plan.
     ensures met { (files : Files) → S.known_files shelf.old ≡ Some files → (d : Station) (plan : List (List Command))
         → Simulates files (texts_of words.now) d plan → is_answered result ≡ true
-        → TellsFeasible d plan result (O.written out.old) (O.written out.new) }
+        → ReportsFeasible d plan result (O.written out.old) (O.written out.new) }
     ensures infeasible { (files : Files) → S.known_files shelf.old ≡ Some files → (n : ℕ) (d : Station)
         → Checks files (texts_of words.now) n d → result ≡ Status.Done
-        → TellsInfeasible n d (O.written out.old) (O.written out.new) }
+        → ReportsInfeasible n d (O.written out.old) (O.written out.new) }
 
     // A search prints a plan only where it is feasible, and that there is none only where there is none.
     ensures planned { (files : Files) → S.known_files shelf.old ≡ Some files → (n : ℕ) (d : Station)
         → Searches files (texts_of words.now) n d → result ≡ Status.Done
-        → TellsPlan n d (O.written out.old) (O.written out.new) }
+        → ReportsPlan n d (O.written out.old) (O.written out.new) }
     ensures proven { (files : Files) → S.known_files shelf.old ≡ Some files → (n : ℕ) (d : Station)
         → (s : Searches files (texts_of words.now) n d) → result ≡ Status.No
-        → TellsNone files s.design_name s.proof_name n d (O.written out.old) (O.written out.new) (S.known_files shelf.new) }
+        → ReportsNone files s.design_name s.proof_name n d (O.written out.old) (O.written out.new) (S.known_files shelf.new) }
 
     // A trial asks nothing of the shelf, so this holds over any.
     ensures tried { (seed size : ℕ) → request_of (texts_of words.now) ≡ Some (trial seed size)
-        → TellsTrial seed size result (O.written out.old) (O.written out.new) }
+        → ReportsTrial seed size result (O.written out.old) (O.written out.new) }
 
     // Where nothing is refused, a run comes to a verdict, unless a search has spent a budget.
     ensures has_verdict { (files : Files) → S.known_files shelf.old ≡ Some files
@@ -118,7 +118,7 @@ fn request_reply<S: Shelf>(
     shelf: &mut S,
     request: Request<'_>,
 ) -> Result<Reply, Ending>
-    requires range { IsInRange (request_seen request) }
+    requires range { IsRequestInRange (request_seen request) }
     ensures replies { (files : Files) → S.known_files shelf.old ≡ Some files
         → RepliesSo result files (Some (request_seen request.entry)) }
     ensures for_some_files { RepliesSome result (Some (request_seen request.entry)) }
@@ -134,7 +134,7 @@ fn request_reply<S: Shelf>(
 {
     match request {
         Request::Simulate { design, plan } => simulation_reply(alloc, shelf, design, plan),
-        Request::Routes { design } => routes_listed(alloc, shelf, design),
+        Request::Routes { design } => routes_reply(alloc, shelf, design),
         Request::Verify {
             steps,
             conflicts,

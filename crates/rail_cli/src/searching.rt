@@ -8,7 +8,7 @@ ghost use Rattle.rail_outside.specs.Lines.{lines_of};
 ghost use Rattle.rail_words.specs.Requests.{verify};
 ghost use Rattle.plan_exclusion.specs.declared.method.Method.{Method};
 ghost use Rattle.verify_loop.specs.declared.outcome.Outcome.{Outcome};
-ghost use Rattle.verify_loop.specs.Outcomes.{Says, Fits};
+ghost use Rattle.verify_loop.specs.Outcomes.{IsOutcome, Fits};
 ghost use Rattle.rail_cli.specs.Answers.{design_in, method_of, one_line, reply_for_plan, searched_in, reply_for_outcome};
 ghost use Rattle.rail_cli.specs.Shows.{verdict_at_horizon};
 ghost use Rattle.rail_cli.specs.Replies.{KeepsLog, OnEnd, OnlyFails, RefusesFile, Replies, RepliesSo};
@@ -166,7 +166,7 @@ fn make_reply(
     budgets: Budgets,
     found: &Outcome,
 ) -> Result<Reply, AllocError>
-    requires { (m : Method) × Says m design.now.station steps budgets found.now }
+    requires { (m : Method) × IsOutcome m design.now.station steps budgets found.now }
     ensures { RepliesWith result (reply_for_outcome design.now.station steps budgets.conflicts budgets.ticks found.now) }
 {
     match found {
@@ -222,7 +222,7 @@ fn settle<S: Shelf>(
     proof: &str,
     found: &Outcome,
 ) -> Result<Reply, Ending>
-    requires says { (m : Method) × Says m design.now.station steps budgets found.now }
+    requires says { (m : Method) × IsOutcome m design.now.station steps budgets found.now }
     requires room { budgets.log_bytes ≡ limit_of InputFile.Proof }
     ensures replies { Replies result (reply_for_outcome design.now.station steps budgets.conflicts budgets.ticks found.now) }
     ensures no_usage { IfOk result (λ reply. reply.status ≢ Status.Usage) }
@@ -250,7 +250,7 @@ fn searched_in<S: Shelf>(
     proof: &str,
 ) -> Result<Reply, Ending>
     requires room { budgets.log_bytes ≡ limit_of InputFile.Proof }
-    ensures replies { (found : Outcome) × Says method interlocking.now.design.station steps.count budgets found
+    ensures replies { (found : Outcome) × IsOutcome method interlocking.now.design.station steps.count budgets found
         × Fits method interlocking.now.design.station steps.count found
         × Replies result
         (searched_in method interlocking.now.design.station steps.count budgets.conflicts budgets.ticks found) }

@@ -8,10 +8,10 @@ ghost use Rattle.rail_spec.specs.Feasible.{IsRunnable, IsFeasible};
 ghost use Rattle.rail_spec.specs.Track.{routes_of};
 ghost use Rattle.rail_cli.specs.Statuses.{is_verdict};
 ghost use Rattle.rail_cli.specs.Answers.{plan_in, planned};
-ghost use Rattle.rail_cli.specs.Answers.{shown, verdict_status, simulation_reply};
+ghost use Rattle.rail_cli.specs.Answers.{verdict_reply, verdict_status, simulation_reply};
 ghost use Rattle.rail_cli.specs.Shows.{verdict_at_horizon};
 ghost use Rattle.rail_cli.specs.Simulations.{RunsSafely};
-ghost use Rattle.rail_cli.specs.Replies.{Reads, RefusesFile, OnlyRefuses, Replies, RepliesSome};
+ghost use Rattle.rail_cli.specs.Replies.{ReadsOrEnds, RefusesFile, OnlyRefuses, Replies, RepliesSome};
 ghost use Rattle.rail_cli.specs.Replies.{DecidesPlan, Decides, RepliesWith};
 ghost use Rattle.rail_words.specs.Requests.{simulate};
 
@@ -32,9 +32,9 @@ use rail_plan::reading::read_plan;
 use std::alloc::{AllocError, Global};
 use timetable::timetable_lines;
 
-/// The plan over a design that is parsed from the bytes. The ending tells why it is refused, or is want of memory.
+/// The plan over a design that is parsed from the bytes. The ending says why it is refused, or is want of memory.
 pub fn read_steps(alloc: Global, interlocking: &Interlocking, bytes: &[u8]) -> Result<Plan, Ending>
-    ensures reads { Reads (λ p. p.steps) result (plan_in interlocking.now.design.station bytes.now) }
+    ensures reads { ReadsOrEnds (λ p. p.steps) result (plan_in interlocking.now.design.station bytes.now) }
     ensures refuses { OnlyRefuses result }
     ensures runnable { let d = interlocking.now.design.station in
         IfOk result (λ p. IsRunnable d (routes_of d) 256 p.steps) }
@@ -86,7 +86,7 @@ fn status_of(verdict: &Verdict) -> Status
 /// The timetable of a plan's run up to the horizon.
 fn show(alloc: Global, interlocking: &Interlocking, plan: &Plan) -> Result<Reply, AllocError>
     requires runnable { let d = interlocking.now.design.station in IsRunnable d (routes_of d) 256 plan.now.steps }
-    ensures shown { let d = interlocking.now.design.station in RepliesWith result (shown d (verdict_at_horizon d plan.now.steps)) }
+    ensures reply { let d = interlocking.now.design.station in RepliesWith result (verdict_reply d (verdict_at_horizon d plan.now.steps)) }
     ensures verdict { IfOk result (λ reply. is_verdict reply.status ≡ true) }
     ensures exactly { IfOk result (λ reply. (reply.status ≡ Status.Done)
         ↔ IsFeasible interlocking.now.design.station 256 plan.now.steps) }

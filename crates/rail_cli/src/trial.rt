@@ -6,7 +6,7 @@ ghost use Rattle.rail_spec.specs.Requirements.{cost};
 ghost use Rattle.rail_spec.specs.Track.{routes_of};
 ghost use Rattle.plan_exclusion.specs.declared.method.Method.TheVariants.{Cones};
 ghost use Rattle.verify_loop.specs.declared.outcome.Outcome.{Outcome};
-ghost use Rattle.verify_loop.specs.Outcomes.{Says, Fits};
+ghost use Rattle.verify_loop.specs.Outcomes.{IsOutcome, Fits};
 ghost use Rattle.rail_cli.specs.Statuses.{is_answered};
 ghost use Rattle.rail_cli.specs.Answers.{trial_conflicts, trial_ticks, three_lines, reply_for_trial};
 ghost use Rattle.rail_cli.specs.Shows.{verdict_at_horizon};
@@ -91,7 +91,7 @@ fn found_line(
     verdict: &Verdict,
 ) -> Result<Vec<u8>, AllocError>
     requires feasible { IsFeasible design.now.station steps plan.now.steps }
-    requires shown { verdict.now ≡ verdict_at_horizon design.now.station plan.now.steps }
+    requires verdict { verdict.now ≡ verdict_at_horizon design.now.station plan.now.steps }
     ensures { let d = design.now.station in IfOk result (λ line. line.items
         ≡ plan_tick_line (length plan.now.steps) (cost d (routes_of d) plan.now.steps)) }
 {
@@ -107,7 +107,7 @@ fn make_reply(
     found: &Outcome,
 ) -> Result<Reply, AllocError>
     requires at_most_six { size ≤ 6 }
-    requires says { Says Cones interlocking.now.design.station (2 * size)
+    requires says { IsOutcome Cones interlocking.now.design.station (2 * size)
         (budgets_of trial_conflicts trial_ticks) found.now }
     ensures replies { RepliesWith result (reply_for_trial seed size interlocking.now.design.station found.now) }
     ensures no_usage { IfOk result (λ reply. reply.status ≢ Status.Usage) }
@@ -155,7 +155,7 @@ fn tried_in(
     requires at_least_one { 1 ≤ size }
     requires at_most_six { size ≤ 6 }
     ensures replies { (found : Outcome)
-        × Says Cones interlocking.now.design.station (2 * size) (budgets_of trial_conflicts trial_ticks) found
+        × IsOutcome Cones interlocking.now.design.station (2 * size) (budgets_of trial_conflicts trial_ticks) found
         × Fits Cones interlocking.now.design.station (2 * size) found
         × RepliesWith result (reply_for_trial seed size interlocking.now.design.station found) }
     ensures no_usage { IfOk result (λ reply. reply.status ≢ Status.Usage) }

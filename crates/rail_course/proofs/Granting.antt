@@ -24,8 +24,8 @@ use Rattle.rail_laws.proofs.RouteLaws.{walk_edges, route_is}
 use Rattle.rail_laws.proofs.Admits.{entry_is, good_route}
 use Rattle.rail_laws.proofs.Standing.{in_path}
 use Rattle.rail_laws.proofs.Small.{short_path, short_route}
-use Rattle.rail_course.specs.Tracks.{HasLimit, AreLaid, ArePaths, IsCommand, IsInRange, routes_at, edges_of, path_length}
-use Rattle.rail_course.proofs.Coursing.{many_trains}
+use Rattle.rail_course.specs.Tracks.{HasLimit, AreLaid, ArePaths, IsCommand, IsPathInRange, routes_at, edges_of, path_length}
+use Rattle.rail_course.proofs.Numbered.{many_trains}
 use Rattle.rail_course.proofs.Rating.{speed_small}
 
 pub all_from_in : {X : Type 0} (P : X → Type 0) (xs : List X) → ((x : X) → In x xs → P x) → All P xs
@@ -92,10 +92,10 @@ module _ (d : Station) (adm : IsAdmitted d) where
     pub named : All (λ step. All (IsCommand d (routes_of d)) step) plan
     named = all_from_in (λ step. All (IsCommand d (routes_of d)) step) plan (λ step m. all_from_in (IsCommand d (routes_of d)) step (λ c i. command_is c (in_flat_map (λ (s : List Command). s) plan step c m i)))
 
-    pub in_range : (t : TrainNo) → IsInRange (routes_of d) (path plan t)
+    pub in_range : (t : TrainNo) → IsPathInRange (routes_of d) (path plan t)
     in_range t = record {
       named = all_from_in (IsRoute (routes_of d)) (path plan t) (λ r m. (command_is (record { train = t; route = r }) (in_path t plan r m)).1);
-      short = (let s = short_path d adm n plan formed many t in omega arith);
+      below_2_47 = (let s = short_path d adm n plan formed many t in omega arith);
     }
 
 -- ---- over an interlocking
@@ -124,20 +124,20 @@ module _ (i : Interlocking) where
     there = subst (λ rs. IsWellFormed station rs 256 plan) i.table formed
 
     few : length (routes_of station) ≤ 2000
-    few = subst (λ rs. length rs ≤ 2000) i.table i.few
+    few = subst (λ rs. length rs ≤ 2000) i.table i.at_most_2000
 
     pub plan_named : All (λ step. All (IsCommand station i.routes) step) plan
     plan_named = subst (λ rs. All (λ step. All (IsCommand station rs) step) plan) (sym i.table) (named station adm 256 plan there few)
 
-    pub plan_in_range : (t : TrainNo) → IsInRange i.routes (path plan t)
-    plan_in_range = subst (λ rs. (t : TrainNo) → IsInRange rs (path plan t)) (sym i.table) (in_range station adm 256 plan there few)
+    pub plan_in_range : (t : TrainNo) → IsPathInRange i.routes (path plan t)
+    plan_in_range = subst (λ rs. (t : TrainNo) → IsPathInRange rs (path plan t)) (sym i.table) (in_range station adm 256 plan there few)
 
 -- paths in range are those of all trains
-pub paths_are : (d : Station) (routes : List Route) (f : TrainNo → List RouteNo) → ((t : TrainNo) → IsInRange routes (f t)) → (paths : List (List RouteNo)) → paths ≡ map f (trains d) → ArePaths d routes f paths
+pub paths_are : (d : Station) (routes : List Route) (f : TrainNo → List RouteNo) → ((t : TrainNo) → IsPathInRange routes (f t)) → (paths : List (List RouteNo)) → paths ≡ map f (trains d) → ArePaths d routes f paths
 paths_are d routes f range paths all = record {
   all = all;
-  many = ap length all ∙ length-map f (trains d) ∙ many_trains d;
-  range = subst (All (IsInRange routes)) (sym all) (all_from_in (IsInRange routes) (map f (trains d)) (λ ps m. let k = in_map_back f (trains d) ps m in subst (IsInRange routes) k.2 (range k.0)));
+  path_a_train = ap length all ∙ length-map f (trains d) ∙ many_trains d;
+  range = subst (All (IsPathInRange routes)) (sym all) (all_from_in (IsPathInRange routes) (map f (trains d)) (λ ps m. let k = in_map_back f (trains d) ps m in subst (IsPathInRange routes) k.2 (range k.0)));
 }
 
 -- who is no train has no path in a plan whose commands name trains

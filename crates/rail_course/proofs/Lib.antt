@@ -5,7 +5,7 @@ pub mod Rises
 pub mod Granting
 pub mod Parting
 pub mod Waiting
-pub mod Coursing
+pub mod Numbered
 pub mod Prefixing
 pub mod InTurn
 pub mod Sorting

@@ -17,7 +17,7 @@ use Rattle.rail_base.proofs.Lists.{in_map, in_map_back}
 use Rattle.rail_spec.specs.Track.{first_occurrences, routes_of}
 use Rattle.rail_laws.proofs.Admits.{entry_is}
 use Rattle.rail_laws.proofs.RouteLaws.{route_is, walk_edges}
-use Rattle.rail_laws.proofs.Told.{first_in, told}
+use Rattle.rail_laws.proofs.AsEdges.{first_in, told}
 use Rattle.interlocking.specs.declared.railway.Interlocking.{Interlocking}
 use Rattle.rail_course.specs.declared.journey.Release.{Release}
 use Rattle.rail_course.proofs.Granting.{laid_out}

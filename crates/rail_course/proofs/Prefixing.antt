@@ -1,4 +1,4 @@
--- The track ahead of a train is the front of its path that is granted to it.
+-- The track ahead of a train is the prefix of its path that is granted to it.
 use Rattle.std.proofs.Common.{◌≡◌, ℕ, zero, suc, ◌+◌, ◌≤◌, ◌<◌, ◌^◌, List, [], ◌∷◌, ◌++◌, map, flat_map, length, take, drop, get_or, refl, sym, ap, ◌∙◌, arith, append_assoc, length-append}
 use Rattle.std.proofs.lemmas.List.{get_or-take}
 use Rattle.rail_base.specs.declared.station.Station.{Station}
@@ -20,7 +20,7 @@ use Rattle.rail_course.specs.declared.prefixes.PathPrefix.{PathPrefix}
 use Rattle.rail_course.specs.Prefixes.{prefix_of}
 use Rattle.rail_course.specs.TrainPaths.{IsTrainPath}
 use Rattle.rail_course.specs.Tracks.{routes_at}
-use Rattle.rail_course.proofs.Coursing.{prefix_at, many_prefixes, take-map, length_within}
+use Rattle.rail_course.proofs.Numbered.{prefix_at, many_prefixes, take-map, length_within}
 
 -- ---- the first edges of a path
 
@@ -59,7 +59,7 @@ length_of-take zero xs h = refl
 length_of-take (suc n) [] h = absurd (omega arith)
 length_of-take (suc n) (x ∷ xs) h = ap suc (length_of-take n xs (omega arith))
 
--- ---- the front of a course
+-- ---- the prefix of a train path
 
 module _ (d : Station) (routes : List Route) (path : List RouteNo) (train_path : TrainPath) (is : IsTrainPath d routes path train_path) (g : ℕ) (within : g ≤ length path) where
   abbrev rs : List Route
@@ -84,7 +84,7 @@ module _ (d : Station) (routes : List Route) (path : List RouteNo) (train_path :
   spans_are = sym (take-map stretch_of (prefix_of (take g rs)).spans train_path.spans.items) ∙ ap (take (prefix_of (take g rs)).spans) is.track ∙ stretches_first d rs g
 
   pub prefix_short : (prefix_of (take g rs)).length < 2 ^ 47
-  prefix_short = let h = is.range.short in let l = length_within routes g path in omega arith
+  prefix_short = let h = is.range.below_2_47 in let l = length_within routes g path in omega arith
 
 -- ---- a move
 

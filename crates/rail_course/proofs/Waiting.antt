@@ -21,7 +21,7 @@ use Rattle.rail_spec.specs.Dispatches.{of_plan}
 use Rattle.rail_course.specs.declared.itineraries.Itineraries.{Itineraries}
 use Rattle.rail_course.specs.declared.waits.Wait.{Wait}
 use Rattle.rail_course.specs.Itineraries.{path_in, train_waits_in}
-use Rattle.rail_course.specs.Telling.{ShowTick, TellWhatIsReady}
+use Rattle.rail_course.specs.Ready.{ShowTick, GiveWhatIsReady}
 use Rattle.rail_course.specs.Waits.{IsContending, is_over, wait_for, waits_of, waits_of_train}
 
 pub list_all-same : {X : Type 0} (p q : X → Bool) (xs : List X) → ((x : X) → In x xs → p x ≡ q x) → list_all p xs ≡ list_all q xs
@@ -82,12 +82,12 @@ plan_contending d routes plan c e m =
     let both = and_left (contend routes e c) (nat_lt (step_of plan e) (step_of plan c)) before in
     and_right _ (share (route_at routes e.route) (route_at routes c.route)) both
 
--- ---- all waits of a command tell whether it is ready
+-- ---- all waits of a command say whether it is ready
 
 module _ (d : Station) (routes : List Route) (p : Dispatch) where
-  pub all_waits_tell : IsContending d routes p → (t : TrainNo) (waits : List (List Wait)) → waits ≡ waits_of_train d routes p t → TellWhatIsReady d routes p t waits
+  pub all_waits_tell : IsContending d routes p → (t : TrainNo) (waits : List (List Wait)) → waits ≡ waits_of_train d routes p t → GiveWhatIsReady d routes p t waits
   all_waits_tell contending t waits same = record {
-    many = ap length same ∙ length-map (λ r. waits_of d routes p (record { train = t; route = r })) (p.path t);
+    waits_a_route = ap length same ∙ length-map (λ r. waits_of d routes p (record { train = t; route = r })) (p.path t);
     next = λ k s shows r own here there.
         (let g = (state_of s t).granted in
         let found : Some (waits_of d routes p (record { train = t; route = r })) ≡ Some own =
@@ -100,7 +100,7 @@ module _ (d : Station) (routes : List Route) (p : Dispatch) where
 
 -- so do those that are worked out over its paths
 pub all_waits_in : (i : Itineraries) (p : Dispatch) → IsContending i.interlocking.now.design.station i.interlocking.now.routes p → path_in i ≡ p.path → (t : TrainNo) (waits : List (List Wait)) → waits ≡ train_waits_in i p.before t
-    → TellWhatIsReady i.interlocking.now.design.station i.interlocking.now.routes p t waits
+    → GiveWhatIsReady i.interlocking.now.design.station i.interlocking.now.routes p t waits
 all_waits_in i p contending same t waits are =
     let d = i.interlocking.now.design.station in
     let routes = i.interlocking.now.routes in
@@ -117,9 +117,9 @@ both_there (x ∷ xs) [] g e P none some = absurd (omega arith)
 both_there (x ∷ xs) (y ∷ ys) zero e P none some = some x y refl refl
 both_there (x ∷ xs) (y ∷ ys) (suc g) e P none some = both_there xs ys g (omega arith) P none some
 
--- there is no next command, or its waits tell whether it is ready
-pub next_told : (d : Station) (routes : List Route) (p : Dispatch) (t : TrainNo) (waits : List (List Wait)) → TellWhatIsReady d routes p t waits → (k : ℕ) (s : List TrainState) → ShowTick d routes p k s → (P : Option RouteNo → Option (List Wait) → Type 0) → P None None
+-- there is no next command, or its waits say whether it is ready
+pub next_told : (d : Station) (routes : List Route) (p : Dispatch) (t : TrainNo) (waits : List (List Wait)) → GiveWhatIsReady d routes p t waits → (k : ℕ) (s : List TrainState) → ShowTick d routes p k s → (P : Option RouteNo → Option (List Wait) → Type 0) → P None None
     → ((r : RouteNo) (own : List Wait) → list_all (is_over s) own ≡ is_ready d routes p s (record { train = t; route = r }) → P (Some r) (Some own))
     → P (slice_get (p.path t) (state_of s t).granted) (slice_get waits (state_of s t).granted)
 next_told d routes p t waits tell k s shows P none some =
-    both_there (p.path t) waits (state_of s t).granted tell.many P none (λ r own here there. some r own (tell.next k s shows r own here there))
+    both_there (p.path t) waits (state_of s t).granted tell.waits_a_route P none (λ r own here there. some r own (tell.next k s shows r own here there))

@@ -15,7 +15,7 @@ use Rattle.rail_course.specs.declared.waits.Wait.{Wait}
 use Rattle.rail_course.specs.TrainPaths.{AreTrainPaths, IsTrainPath}
 use Rattle.rail_course.specs.Journeys.{IsJourney}
 use Rattle.rail_course.specs.Releases.{release_for, releases_of_route, releases_of_train}
-use Rattle.rail_course.specs.Telling.{TellWhatIsReady}
+use Rattle.rail_course.specs.Ready.{GiveWhatIsReady}
 use Rattle.rail_course.specs.Tracks.{IsCommand}
 use Rattle.rail_course.specs.Waits.{wait_for}
 
@@ -32,11 +32,11 @@ module _ (i : Itineraries) where
   abbrev pub IsCommandIn : Command → Type 0
   IsCommandIn = IsCommand i.interlocking.now.design.station i.interlocking.now.routes
 
-  -- the course is that of its train
+  -- the train path is that of its train
   abbrev pub IsTrainPathIn : TrainPath → Type 0
   IsTrainPathIn c = IsTrainPath i.interlocking.now.design.station i.interlocking.now.routes (path_in c.train) c
 
-  -- these are the courses of all trains, in file order
+  -- these are the train paths of all trains, in file order
   abbrev pub AreTrainPathsIn : List TrainPath → Type 0
   AreTrainPathsIn = AreTrainPaths i.interlocking.now.design.station i.interlocking.now.routes path_in
 
@@ -65,8 +65,8 @@ module _ (i : Itineraries) where
   abbrev pub releases_in : TrainNo → List Release
   releases_in = releases_of_train i.interlocking.now.design.station i.interlocking.now.routes going_in
 
-  -- the journey is that of its train in each dispatch with these paths in which these waits tell what is ready
+  -- the journey is that of its train in each dispatch with these paths in which these waits say what is ready
   abbrev pub IsJourneyIn : TrainPath → List (List Wait) → Journey → Type 0
   IsJourneyIn c waits j = (p : Dispatch) → path_in ≡ p.path
-      → TellWhatIsReady i.interlocking.now.design.station i.interlocking.now.routes p c.train waits
+      → GiveWhatIsReady i.interlocking.now.design.station i.interlocking.now.routes p c.train waits
       → IsJourney i.interlocking.now.design.station i.interlocking.now.routes p j

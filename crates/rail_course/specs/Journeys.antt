@@ -7,13 +7,13 @@ use Rattle.rail_spec.specs.Dispatches.{Dispatch}
 use Rattle.rail_course.specs.declared.journey.Journey.{Journey}
 use Rattle.rail_course.specs.Milestones.{AreMilestones, ComeInTurn}
 use Rattle.rail_course.specs.TrainPaths.{IsTrainPath}
-use Rattle.rail_course.specs.Telling.{TellWhatIsReady}
+use Rattle.rail_course.specs.Ready.{GiveWhatIsReady}
 use Rattle.rail_course.specs.Releases.{releases_of_train}
 
 -- the journey is that of its train
 pub record IsJourney (d : Station) (routes : List Route) (p : Dispatch) (j : Journey) : Type 0 where
   pub train_path : IsTrainPath d routes (p.path j.train_path.now.train) j.train_path.now
-  pub telling : TellWhatIsReady d routes p j.train_path.now.train (map (λ v. v.items) j.waits.items)
+  pub telling : GiveWhatIsReady d routes p j.train_path.now.train (map (λ v. v.items) j.waits.items)
   pub releasing : j.releases.items ≡ releases_of_train d routes p j.train_path.now.train
   pub milestones : AreMilestones (map (λ r. r.place) j.releases.items) j.release_milestones.items
   pub in_turn : ComeInTurn (λ r. r.place) (λ r. r.number) j.releases.items

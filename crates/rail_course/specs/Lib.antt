@@ -6,7 +6,7 @@ pub mod Milestones
 pub mod TrainPaths
 pub mod Waits
 pub mod Granting
-pub mod Telling
+pub mod Ready
 pub mod Releases
 pub mod Journeys
 pub mod Itineraries

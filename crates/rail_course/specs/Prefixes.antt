@@ -1,4 +1,4 @@
--- The fronts of a path: its first routes, so many at a time.
+-- The prefixes of a path: its first routes, so many at a time.
 use Rattle.std.specs.Prelude.{◌+◌, false, ◌||◌, List, [], ◌∷◌, length, flat_map, sum_by}
 use Rattle.std.specs.List.{list_any}
 use Rattle.rail_base.specs.declared.route.Route.{Route}
@@ -13,15 +13,15 @@ prefix_of rs = record {
   exits = list_any exits rs;
 }
 
--- a front with one more route
+-- a prefix with one more route
 abbrev pub longer : PathPrefix → Route → PathPrefix
 longer f r = record { spans = f.spans + length r.edges; length = f.length + length_mm r; exits = f.exits || exits r }
 
--- a front, and those with one, two and more of these routes behind it
+-- a prefix, and those with one, two and more of these routes behind it
 abbrev pub prefixes_from : PathPrefix → List Route → List PathPrefix
 prefixes_from f [] = f ∷ []
 prefixes_from f (r ∷ rs) = f ∷ prefixes_from (longer f r) rs
 
--- the front of no route
+-- the prefix of no route
 abbrev pub no_prefix : PathPrefix
 no_prefix = record { spans = 0; length = 0; exits = false }

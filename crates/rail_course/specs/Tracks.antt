@@ -45,13 +45,13 @@ abbrev pub path_length : List Route → List RouteNo → ℕ
 path_length routes path = sum_by length_mm (routes_at routes path)
 
 -- what a run takes for granted of a path: its routes are there, and it is short enough
-pub record IsInRange (routes : List Route) (path : List RouteNo) : Type 0 where
+pub record IsPathInRange (routes : List Route) (path : List RouteNo) : Type 0 where
   pub named : All (IsRoute routes) path
-  pub short : path_length routes path < 2 ^ 47
+  pub below_2_47 : path_length routes path < 2 ^ 47
 
 -- these are the paths of all trains, in file order
 pub record ArePaths (d : Station) (routes : List Route) (path : TrainNo → List RouteNo)
     (paths : List (List RouteNo)) : Type 0 where
   pub all : paths ≡ map path (trains d)
-  pub many : length paths ≡ length d.trains
-  pub range : All (IsInRange routes) paths
+  pub path_a_train : length paths ≡ length d.trains
+  pub range : All (IsPathInRange routes) paths

@@ -12,14 +12,14 @@ use Rattle.rail_spec.specs.Visits.{path_nodes, visits_on}
 use Rattle.rail_course.specs.declared.train_path.TrainPath.{TrainPath}
 use Rattle.rail_course.specs.Milestones.{AreMilestones, ComeInTurn}
 use Rattle.rail_course.specs.Prefixes.{no_prefix, prefixes_from}
-use Rattle.rail_course.specs.Tracks.{IsInRange, routes_at}
+use Rattle.rail_course.specs.Tracks.{IsPathInRange, routes_at}
 
 -- the train path is that of its train on this path
 pub record IsTrainPath (d : Station) (routes : List Route) (path : List RouteNo) (c : TrainPath) : Type 0 where
   pub train : IsTrain d c.train
   pub long : c.length ≡ train_length d c.train
   pub motor : rates_of c.motor ≡ rates d c.train
-  pub range : IsInRange routes path
+  pub range : IsPathInRange routes path
   pub given : c.path.items ≡ path
   pub parts : c.prefixes.items ≡ prefixes_from no_prefix (routes_at routes path)
   pub rising : IsRising c.spans.items

@@ -1,7 +1,7 @@
 //! Paths that can be run.
 
 ghost use Rattle.std.specs.Prelude.{◌≡◌, All, length};
-ghost use Rattle.rail_course.specs.Tracks.{IsInRange};
+ghost use Rattle.rail_course.specs.Tracks.{IsPathInRange};
 
 use interlocking::Interlocking;
 use rail_base::list::List;
@@ -12,6 +12,6 @@ use rail_base::route::RouteNo;
 pub struct Itineraries<'a> {
     pub interlocking: &'a Interlocking,
     pub paths: &'a [List<RouteNo>],
-    pub ghost many: { length paths.now ≡ length interlocking.now.design.station.trains },
-    pub ghost range: { All (IsInRange interlocking.now.routes) paths.now },
+    pub ghost path_a_train: { length paths.now ≡ length interlocking.now.design.station.trains },
+    pub ghost range: { All (IsPathInRange interlocking.now.routes) paths.now },
 }

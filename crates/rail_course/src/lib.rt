@@ -21,7 +21,7 @@ pub use journey::{Journey, Release};
 pub use milestones::Milestone;
 pub use motor::motor_of;
 pub use path_nodes::{path_nodes_of, visits_of};
-pub use planned::{PlannedCourses, paths_of};
+pub use planned::{PlannedTrainPaths, paths_of};
 pub use prefixes::PathPrefix;
 pub use spans::spans_of;
 pub use train_path::TrainPath;

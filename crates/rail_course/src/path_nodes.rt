@@ -23,7 +23,7 @@ pub fn path_nodes_of(
     path: &[RouteNo],
 ) -> Result<Vec<PathNode>, AllocError>
     requires named { All (IsRoute interlocking.now.routes) path.now }
-    requires short { path_length interlocking.now.routes path.now < 2 ^ 47 }
+    requires below_2_47 { path_length interlocking.now.routes path.now < 2 ^ 47 }
     ensures nodes { IfOk result (λ s. s.items ≡ path_nodes (routes_at interlocking.now.routes path.now)) }
     ensures in_turn { IfOk result (λ s. ComeInTurn (λ n. n.offset) (λ n. n.command) s.items) }
 {
@@ -94,7 +94,7 @@ fn push_path_nodes_after(
     begin: u64,
 ) -> Result<(), AllocError>
     requires named { All (IsRoute interlocking.now.routes) path.now }
-    requires short { begin + path_length interlocking.now.routes path.now < 2 ^ 47 }
+    requires below_2_47 { begin + path_length interlocking.now.routes path.now < 2 ^ 47 }
     ensures { OnOk result (path_nodes.new.items
         ≡ path_nodes.old.items ++ path_nodes_after begin 2 (routes_at interlocking.now.routes path.now)) }
 {
@@ -123,7 +123,7 @@ fn path_nodes_from(
 ) -> Result<Vec<PathNode>, AllocError>
     requires first { IsRoute interlocking.now.routes first }
     requires later { All (IsRoute interlocking.now.routes) later.now }
-    requires short { path_length interlocking.now.routes (first ∷ later.now) < 2 ^ 47 }
+    requires below_2_47 { path_length interlocking.now.routes (first ∷ later.now) < 2 ^ 47 }
     ensures nodes { IfOk result (λ s. s.items ≡ path_nodes (routes_at interlocking.now.routes (first ∷ later.now))) }
     ensures in_turn { IfOk result (λ s. ComeInTurn (λ n. n.offset) (λ n. n.command) s.items) }
 {

@@ -1,4 +1,4 @@
-//! The paths that a plan gives the trains, and their courses.
+//! The paths that a plan gives the trains, and their train paths.
 
 ghost use Rattle.std.specs.Prelude.{◌≡◌, IfOk, map};
 ghost use Rattle.rail_base.specs.Stations.{trains};
@@ -33,9 +33,9 @@ pub fn paths_of(
     Ok(paths)
 }
 
-/// A well-formed plan, and the courses that it gives the trains.
+/// A well-formed plan, and the train paths that it gives the trains.
 #[derive(Clone, Copy)]
-pub struct PlannedCourses<'a> {
+pub struct PlannedTrainPaths<'a> {
     pub train_paths: TrainPaths<'a>,
     pub plan: &'a Plan,
     pub ghost formed: { IsWellFormed train_paths.given.interlocking.now.design.station train_paths.given.interlocking.now.routes

@@ -1,4 +1,4 @@
-//! The fronts of a path.
+//! The prefixes of a path.
 
 ghost use Rattle.std.specs.Prelude.{◌≡◌, ◌+◌, ◌<◌, ◌^◌, All, IfOk, length, map};
 ghost use Rattle.rail_base.specs.Routes.{IsRoute};
@@ -20,7 +20,7 @@ pub struct PathPrefix {
     pub exits: bool,
 }
 
-/// The fronts of a path: of none of its routes, of the first, of the first two, up to all.
+/// The prefixes of a path: of none of its routes, of the first, of the first two, up to all.
 pub fn prefixes_of(
     alloc: Global,
     routes: &RouteTable,
@@ -28,7 +28,7 @@ pub fn prefixes_of(
 ) -> Result<Vec<PathPrefix>, AllocError>
     requires named { All (IsRoute routes.now) path.now }
     requires spans { length (edges_of routes.now path.now) < 2 ^ 47 }
-    requires short { path_length routes.now path.now < 2 ^ 47 }
+    requires below_2_47 { path_length routes.now path.now < 2 ^ 47 }
     ensures { IfOk result (λ prefixes. prefixes.items ≡ prefixes_from no_prefix (routes_at routes.now path.now)) }
 {
     let mut prefixes = Vec::new(alloc);
@@ -48,7 +48,7 @@ pub fn prefixes_of(
 /// A prefix with one more route.
 fn longer(prefix: PathPrefix, route: &Route) -> PathPrefix
     requires spans { prefix.spans + length route.now.edges < 2 ^ 47 }
-    requires short { prefix.length + length_mm route.now < 2 ^ 47 }
+    requires below_2_47 { prefix.length + length_mm route.now < 2 ^ 47 }
     ensures { result ≡ longer prefix route.now }
 {
     let exits = prefix.exits || route.exits();

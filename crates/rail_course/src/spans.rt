@@ -23,7 +23,7 @@ pub fn spans_of(
     path: &[RouteNo],
 ) -> Result<Vec<Span>, AllocError>
     requires named { All (IsRoute interlocking.now.routes) path.now }
-    requires short { path_length interlocking.now.routes path.now < 2 ^ 47 }
+    requires below_2_47 { path_length interlocking.now.routes path.now < 2 ^ 47 }
     ensures track { IfOk result (λ spans. stretches_of spans.items
         ≡ stretches interlocking.now.design.station (routes_at interlocking.now.routes path.now)) }
     ensures rising { IfOk result (λ spans. IsRising spans.items) }
@@ -54,7 +54,7 @@ fn push_spans(
     begin: u64,
 ) -> Result<(), AllocError>
     requires edges { All (HasLimit design.now.station) edges.now }
-    requires short { begin + sum_by (length_of design.now.station) edges.now < 2 ^ 47 }
+    requires below_2_47 { begin + sum_by (length_of design.now.station) edges.now < 2 ^ 47 }
     ensures { OnOk result (stretches_of spans.new.items ≡ stretches_of spans.old.items
         ++ map (stretch design.now.station) (edge_ends design.now.station begin edges.now)) }
 {

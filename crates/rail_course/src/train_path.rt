@@ -3,7 +3,7 @@
 ghost use Rattle.std.specs.Prelude.{◌≡◌, IfOk};
 ghost use Rattle.rail_base.specs.Stations.{IsTrain};
 ghost use Rattle.rail_course.specs.Itineraries.{AreTrainPathsIn, IsTrainPathIn, path_in};
-ghost use Rattle.rail_course.specs.Tracks.{IsInRange};
+ghost use Rattle.rail_course.specs.Tracks.{IsPathInRange};
 
 use crate::itineraries::Itineraries;
 use crate::milestones::{Milestone, node_milestones};
@@ -45,7 +45,7 @@ impl<'a> Itineraries<'a> {
     {
         let mut train_paths = Vec::new(alloc);
         for number in 1..self.interlocking.design.station.trains.len() as u32 + 1 {
-            train_paths.push(self.course_of(alloc, TrainNo(number))?)?;
+            train_paths.push(self.train_path_of(alloc, TrainNo(number))?)?;
         }
         Ok(train_paths)
     }
@@ -54,13 +54,13 @@ impl<'a> Itineraries<'a> {
     fn path(&self, train: TrainNo) -> &'a [RouteNo]
         requires { IsTrain self.now.interlocking.now.design.station train }
         ensures path { result.now ≡ path_in self.now train }
-        ensures range { IsInRange self.now.interlocking.now.routes result.now }
+        ensures range { IsPathInRange self.now.interlocking.now.routes result.now }
     {
         self.paths[train.0 as usize - 1].as_slice()
     }
 
     /// The train path of a train.
-    fn course_of(&self, alloc: Global, train: TrainNo) -> Result<TrainPath, AllocError>
+    fn train_path_of(&self, alloc: Global, train: TrainNo) -> Result<TrainPath, AllocError>
         requires train { IsTrain self.now.interlocking.now.design.station train }
         ensures train_path { IfOk result (IsTrainPathIn self.now) }
         ensures train { IfOk result (λ c. c.train ≡ train) }

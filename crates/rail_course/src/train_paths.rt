@@ -1,4 +1,4 @@
-//! The courses of all trains.
+//! The train paths of all trains.
 
 ghost use Rattle.std.specs.Prelude.{◌≡◌};
 ghost use Rattle.rail_base.specs.Stations.{IsTrain};
@@ -8,12 +8,12 @@ use crate::itineraries::Itineraries;
 use crate::train_path::TrainPath;
 use rail_base::station::TrainNo;
 
-/// The courses that itineraries give the trains, in file order.
+/// The train paths that itineraries give the trains, in file order.
 #[derive(Clone, Copy)]
 pub struct TrainPaths<'a> {
     pub given: Itineraries<'a>,
     pub train_paths: &'a [TrainPath],
-    pub ghost coursed: { AreTrainPathsIn given train_paths.now },
+    pub ghost are_train_paths: { AreTrainPathsIn given train_paths.now },
 }
 
 impl<'a> TrainPaths<'a> {

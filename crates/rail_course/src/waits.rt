@@ -48,7 +48,7 @@ impl TrainPaths<'_> {
         requires { IsTrain self.now.given.interlocking.now.design.station command.train }
         ensures number { result.number ≡ length (before_in self.now.given command) }
         ensures length { result.length ≡ sum_by length_mm (before_in self.now.given command) }
-        ensures short { result.length < 2 ^ 47 }
+        ensures below_2_47 { result.length < 2 ^ 47 }
     {
         let train_path = self.train_path(command.train);
         let number = number_of(train_path.path.as_slice(), command.route);

@@ -14,7 +14,7 @@ use std::{fs, io};
 /// How many names a part may have.
 const PARTS: u32 = 100;
 
-/// A shelf over the files of a runtime, which tells no content. Each call that fails raises the count.
+/// A shelf over the files of a runtime, of whose content nothing is known. Each call that fails raises the count.
 ///
 /// A store of `NAME` writes a new file, `NAME.rcv-part`, and where there is one already `NAME.rcv-part2` and so on up to
 /// `NAME.rcv-part100`; it then takes the place of `NAME`. Where all of these names are taken the store fails. No file but

@@ -6,7 +6,7 @@ use crate::bytes::write_whole;
 use rail_outside::{Sink, SinkFault};
 use std::io::Write;
 
-/// A sink over a writer, as standard output, which tells no content. Each put that fails raises the count.
+/// A sink over a writer, as standard output, of whose content nothing is known. Each put that fails raises the count.
 #[derive(Drop)]
 pub struct OutSink<W: Write + Drop> {
     out: W,

@@ -19,14 +19,14 @@ use Rattle.rail_base.specs.Members.{In, Differ, all_pairs, all_neighbors}
 use Rattle.rail_spec.specs.Track.{edge_ends, routes_of}
 use Rattle.rail_base.specs.Stations.{length_of, section_of, trains, train_of, first_visit, IsTrain}
 use Rattle.rail_spec.specs.Plans.{is_well_formed, is_executable, no_route, route_at, has_section, release_offset, length_mm, exits, is_route, is_start, goes_on, end_at_one_signal, begins_in, is_path, one_each, commands, path, path_routes}
-use Rattle.rail_laws.specs.Elementary.{IsTold}
+use Rattle.rail_laws.specs.Elementary.{IsAsItsEdges}
 use Rattle.rail_base.specs.Admitted.{IsAdmitted}
 use Rattle.rail_spec.specs.Feasible.{names_only, IsWellFormed}
 use Rattle.rail_spec.specs.Feasible as feasible
 use Rattle.rail_spec.specs.Safety.{Clash}
 use Rattle.rail_base.proofs.Members.{and_left, and_right, list_all_at, list_any_from, in_filter}
 use Rattle.rail_base.proofs.Lists.{in_map, in_map_back, in_count, in_filter_back}
-use Rattle.rail_laws.proofs.Told.{told, edge_of_end, fold_above, fold_reached}
+use Rattle.rail_laws.proofs.AsEdges.{told, edge_of_end, fold_above, fold_reached}
 use Rattle.rail_laws.proofs.UnderWay.{IsSound}
 use Rattle.rail_laws.proofs.Standing.{HasSections, in_path, no_clash}
 
@@ -111,7 +111,7 @@ module _ (d : Station) (adm : IsAdmitted d) where
   abbrev is_of : SectionNo → SectionNo × ℤ → Bool
   is_of z p = p.0.0 == z.0
 
-  good_told : (r : Route) → IsTold d r → IsGood r
+  good_told : (r : Route) → IsAsItsEdges d r → IsGood r
   good_told r t = record {
     whole = sym long;
     section = λ e m. let s = t.section_of_edge e.0 (edge_of_end d 0 r.edges e.0 e.1 m) in list_any_from (is_of (section_of d e.0)) r.sections (section_of d e.0, s.0) s.1 (eq-eqb (section_of d e.0).0 (section_of d e.0).0 refl);

@@ -19,7 +19,7 @@ use Rattle.rail_spec.specs.Dispatches.{state_of, of_plan, state_at}
 use Rattle.rail_base.specs.declared.state.PathNode.{PathNode}
 use Rattle.rail_spec.specs.Visits.{path_nodes_of, path_nodes_after, path_nodes, visits_at, visits_on, has_passed, pass_tick}
 use Rattle.rail_spec.specs.Visits.{path_nodes_of_train, visits_of_train}
-use Rattle.rail_spec.specs.Requirements.{visit_numbers, command_numbers, granted_by, visited_by, is_done, is_certain, path_failures, path_violation, violation_at, ways_to_fail, cost}
+use Rattle.rail_spec.specs.Requirements.{visit_numbers, command_numbers, granted_by, visited_by, is_done, is_certain, path_failures, path_violation, violation_at, possible_violations, cost}
 use Rattle.rail_base.specs.Admitted.{IsAdmitted}
 use Rattle.rail_spec.specs.Feasible.{IsRunnable}
 use Rattle.rail_laws.specs.Progress.{last_grant}
@@ -158,7 +158,7 @@ module _ (d : Station) (adm : IsAdmitted d) (n : ℕ) (plan : List (List Command
       path_fails : ((t : TrainNo) × In t (trains d) × In v (map (violation.Path t) (visit_numbers d t))) → ⊥
       path_fails (t, m, i) = path_at t (in_map_back (violation.Path t) (visit_numbers d t) v i)
 
-      no_time : last_grant d (routes_of d) plan ≤ horizon d → path_violation d (routes_of d) plan ≡ None → (k : ℕ) (w : Violation) → In w (ways_to_fail d (routes_of d) plan) → IsForTime w → is_certain d (routes_of d) plan k w ≡ true → ⊥
+      no_time : last_grant d (routes_of d) plan ≤ horizon d → path_violation d (routes_of d) plan ≡ None → (k : ℕ) (w : Violation) → In w (possible_violations d (routes_of d) plan) → IsForTime w → is_certain d (routes_of d) plan k w ≡ true → ⊥
       no_time late none k = each_way d (routes_of d) plan adm (λ w. IsForTime w → is_certain d (routes_of d) plan k w ≡ true → ⊥) (λ w m f c. f) (λ o m f c. f)
           (λ t j m i f c. no_grant t j m i (and_left (k == horizon d) (not (granted_by d (routes_of d) plan k t j)) c) (and_right (k == horizon d) (not (granted_by d (routes_of d) plan k t j)) c))
           (λ t j m i f c. no_visit t j m i (and_left (k == horizon d) (not (visited_by d (routes_of d) plan k t j)) c) (and_right (k == horizon d) (not (visited_by d (routes_of d) plan k t j)) c))
@@ -173,7 +173,7 @@ module _ (d : Station) (adm : IsAdmitted d) (n : ℕ) (plan : List (List Command
           no_visit t j m i e f = true≢false (sym f ∙ ap not (subst (λ l. visited_by d (routes_of d) plan l t j ≡ true) (sym (eqb-true k (horizon d) e)) (done_visits d (routes_of d) plan adm (horizon d) done t m j i)))
 
       at : last_grant d (routes_of d) plan ≤ horizon d → (o : Option Violation) → path_violation d (routes_of d) plan ≡ o → or_else o (violation_at d (routes_of d) plan (cost d (routes_of d) plan)) ≡ Some v → ⊥
-      at late None e k = no_time late e (cost d (routes_of d) plan) v (found_in (is_certain d (routes_of d) plan (cost d (routes_of d) plan)) (ways_to_fail d (routes_of d) plan) v k) time (found_passes (is_certain d (routes_of d) plan (cost d (routes_of d) plan)) (ways_to_fail d (routes_of d) plan) v k)
+      at late None e k = no_time late e (cost d (routes_of d) plan) v (found_in (is_certain d (routes_of d) plan (cost d (routes_of d) plan)) (possible_violations d (routes_of d) plan) v k) time (found_passes (is_certain d (routes_of d) plan (cost d (routes_of d) plan)) (possible_violations d (routes_of d) plan) v k)
       at late (Some w) e k = path_fails (in_flat_map_back (λ t. map (violation.Path t) (visit_numbers d t)) (trains d) v (found_in (is_certain d (routes_of d) plan 1) (path_failures d (routes_of d) plan) v (e ∙ k)))
 
       go : (b : Bool) → nat_le (last_grant d (routes_of d) plan) (horizon d) ≡ b → horizon d < last_grant d (routes_of d) plan

@@ -3,7 +3,7 @@ pub mod Counting
 pub mod Walk
 pub mod RouteLaws
 pub mod BadWalk
-pub mod Told
+pub mod AsEdges
 pub mod Exclusion
 pub mod UnderWay
 pub mod Deciding

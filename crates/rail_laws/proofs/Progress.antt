@@ -26,7 +26,7 @@ use Rattle.rail_base.proofs.Lists.{in_map, in_map_back, in_filter_back, in_count
 use Rattle.rail_laws.proofs.Sums.{sum_by-map, sum_by-add, sum_by-le, sum_by-less, sum_by-none, sum_by-filter, between, filter-after, list_all_fails, in_get, get_in, get_below, get_map, get_take, take_map, one_place}
 use Rattle.rail_laws.proofs.Exclusion.{state_of-tick, by_tick, run_later, granted_after_more, idle_at_first, is_granted_later}
 use Rattle.rail_laws.proofs.Standing.{in_path}
-use Rattle.rail_laws.proofs.Told.{edge_of_end}
+use Rattle.rail_laws.proofs.AsEdges.{edge_of_end}
 use Rattle.rail_laws.proofs.Admits.{once_from}
 use Rattle.rail_laws.proofs.Given.{same_train, path_is, command_in_path, steps_rise}
 use Rattle.rail_laws.proofs.Moving.{moves_on}

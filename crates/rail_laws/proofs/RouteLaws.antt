@@ -175,11 +175,11 @@ module _ (d : Station) where
       go (s, k, i) = let l = in_from s r i in record { start = s; path = l.0; finish = l.1; starts_there = k; closed = l.2; is = l.3 }
 
   pub route_is : IsAdmitted d → (r : Route) → In r (routes_of d) → IsRouteOf d r
-  route_is adm r m = let l = listed_at r m in subst (IsRouteOf d) l.is (record { start = starts_tell l.start l.starts_there; elementary = elementary adm l.start l.path l.finish l.closed; told = refl })
+  route_is adm r m = let l = listed_at r m in subst (IsRouteOf d) l.is (record { start = starts_tell l.start l.starts_there; elementary = elementary adm l.start l.path l.finish l.closed; is_route_of = refl })
 
   pub is_route : IsAdmitted d → (r : Route) → IsRouteOf d r → In r (routes_of d)
   is_route adm r h =
-      subst (λ q. In q (routes_of d)) h.told
+      subst (λ q. In q (routes_of d)) h.is_route_of
       (in_flat_map routes_from (starts d) r.start (route_of d r.start r.edges r.finish) (starts_from adm r.start h.start)
       (in_flat_map (route_from d r.start) (walks_from d r.start) (Whole r.edges r.finish) (route_of d r.start r.edges r.finish) (closes adm r.start r.edges r.finish h.start h.elementary) (inl refl)))
 

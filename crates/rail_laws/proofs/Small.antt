@@ -21,7 +21,7 @@ use Rattle.rail_base.proofs.Members.{and_left, and_right, list_all_at}
 use Rattle.rail_base.proofs.Lists.{in_map_back, length-map}
 use Rattle.rail_laws.proofs.RouteLaws.{walk_edges, few_edges, route_is}
 use Rattle.rail_laws.proofs.Counting.{at_most}
-use Rattle.rail_laws.proofs.Told.{told}
+use Rattle.rail_laws.proofs.AsEdges.{told}
 use Rattle.rail_laws.proofs.Exclusion.{by_tick, idle_at_first}
 use Rattle.rail_laws.proofs.Standing.{in_path}
 use Rattle.rail_laws.proofs.Admits.{entry_is, path_differs}

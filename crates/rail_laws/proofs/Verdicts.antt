@@ -16,7 +16,7 @@ use Rattle.rail_base.specs.Stations.{train_of, trains, horizon, order_of, within
 use Rattle.rail_spec.specs.Dispatches.{state_of, of_plan, state_at}
 use Rattle.rail_spec.specs.Visits.{pass_tick, visits_of_train, visit_tick}
 use Rattle.rail_base.specs.declared.state.PathNode.{PathNode}
-use Rattle.rail_spec.specs.Requirements.{both, visit_numbers, most_ticks, is_after, command_numbers, granted_by, visited_by, is_done, keeps_order, keeps_within, meets, is_certain, ways_to_fail, path_failures, violation_at, path_violation, is_decided, cost}
+use Rattle.rail_spec.specs.Requirements.{both, visit_numbers, most_ticks, is_after, command_numbers, granted_by, visited_by, is_done, keeps_order, keeps_within, meets, is_certain, possible_violations, path_failures, violation_at, path_violation, is_decided, cost}
 use Rattle.rail_base.specs.Admitted.{IsAdmitted}
 use Rattle.rail_spec.specs.Verdict.{or_else, failure, IsVerdict}
 use Rattle.rail_base.proofs.Members.{and_left, and_right, and_both, list_all_at, below_or_not, false_unless}
@@ -180,18 +180,18 @@ module _ (d : Station) (routes : List Route) (plan : List (List Command)) (adm :
   abbrev visits_fail : List Violation
   visits_fail = flat_map (λ t. map (violation.Visit t) (visit_numbers d t)) (trains d)
 
-  way_within : (n : ℕ) → In n (one_to (length d.withins)) → In (violation.Within n) (ways_to_fail d routes plan)
+  way_within : (n : ℕ) → In n (one_to (length d.withins)) → In (violation.Within n) (possible_violations d routes plan)
   way_within n m = in_append_left (violation.Within n) (withins_fail ++ orders_fail ++ grants_fail) visits_fail (in_append_left (violation.Within n) (withins_fail ++ orders_fail) grants_fail (in_append_left (violation.Within n) withins_fail orders_fail (in_map violation.Within (one_to (length d.withins)) n m)))
 
-  way_order : (n : ℕ) → In n (one_to (length d.orders)) → In (violation.Order n) (ways_to_fail d routes plan)
+  way_order : (n : ℕ) → In n (one_to (length d.orders)) → In (violation.Order n) (possible_violations d routes plan)
   way_order n m = in_append_left (violation.Order n) (withins_fail ++ orders_fail ++ grants_fail) visits_fail (in_append_left (violation.Order n) (withins_fail ++ orders_fail) grants_fail (in_append_right (violation.Order n) withins_fail orders_fail (in_map violation.Order (one_to (length d.orders)) n m)))
 
-  way_grant : (t : TrainNo) (j : ℕ) → In t (trains d) → In j (command_numbers d routes plan t) → In (violation.Grant t j) (ways_to_fail d routes plan)
+  way_grant : (t : TrainNo) (j : ℕ) → In t (trains d) → In j (command_numbers d routes plan t) → In (violation.Grant t j) (possible_violations d routes plan)
   way_grant t j m i =
       in_append_left (violation.Grant t j) (withins_fail ++ orders_fail ++ grants_fail) visits_fail (in_append_right (violation.Grant t j) (withins_fail ++ orders_fail) grants_fail
       (in_flat_map (λ t. map (violation.Grant t) (command_numbers d routes plan t)) (trains d) t (violation.Grant t j) m (in_map (violation.Grant t) (command_numbers d routes plan t) j i)))
 
-  way_visit : (t : TrainNo) (j : ℕ) → In t (trains d) → In j (visit_numbers d t) → In (violation.Visit t j) (ways_to_fail d routes plan)
+  way_visit : (t : TrainNo) (j : ℕ) → In t (trains d) → In j (visit_numbers d t) → In (violation.Visit t j) (possible_violations d routes plan)
   way_visit t j m i =
       in_append_right (violation.Visit t j) (withins_fail ++ orders_fail ++ grants_fail) visits_fail
       (in_flat_map (λ t. map (violation.Visit t) (visit_numbers d t)) (trains d) t (violation.Visit t j) m (in_map (violation.Visit t) (visit_numbers d t) j i))
@@ -199,7 +199,7 @@ module _ (d : Station) (routes : List Route) (plan : List (List Command)) (adm :
   -- what holds of each way holds of all
   pub each_way : (P : Violation → Type 0) → ((n : ℕ) → In n (one_to (length d.withins)) → P (violation.Within n)) → ((n : ℕ) → In n (one_to (length d.orders)) → P (violation.Order n))
       → ((t : TrainNo) (j : ℕ) → In t (trains d) → In j (command_numbers d routes plan t) → P (violation.Grant t j)) → ((t : TrainNo) (j : ℕ) → In t (trains d) → In j (visit_numbers d t) → P (violation.Visit t j))
-      → (v : Violation) → In v (ways_to_fail d routes plan) → P v
+      → (v : Violation) → In v (possible_violations d routes plan) → P v
   each_way P w o g i v m = first (in_append v (withins_fail ++ orders_fail ++ grants_fail) visits_fail m)
     where
       within : ((n : ℕ) × In n (one_to (length d.withins)) × (violation.Within n ≡ v)) → P v
@@ -277,7 +277,7 @@ module _ (d : Station) (routes : List Route) (plan : List (List Command)) (adm :
             let late = and_right (is_after 0 (visit_tick d routes (of_plan routes plan) k o.then_train o.then_visit) k) (not (visited_by d routes plan (k - 1) o.first_train o.first_visit)) h in
             let other = is_after_at 0 (visit_tick d routes (of_plan routes plan) k o.then_train o.then_visit) k now in
             let other_end = at_later k (horizon d) o.then_train o.then_visit other.0 near other.1 in
-            let first = made (horizon d) o.first_train o.first_visit (done_visit (horizon d) done_at_end o.first_train o.first_visit (adm.order o i).first) in
+            let first = made (horizon d) o.first_train o.first_visit (done_visit (horizon d) done_at_end o.first_train o.first_visit (adm.order o i).first_names) in
             let kept = list_all_at (keeps_order d routes plan (horizon d)) d.orders o orders_kept i in
             let both_there : nat_lt first.0 other.0 ≡ true = sym (ap₂ (both nat_lt) first.1 other_end) ∙ kept in
             let sooner = leb-true _ _ both_there in
@@ -286,7 +286,7 @@ module _ (d : Station) (routes : List Route) (plan : List (List Command)) (adm :
 
     -- no way to fail is certain by the horizon
     nothing_certain : (k : ℕ) → k ≤ horizon d → violation_at d routes plan k ≡ None
-    nothing_certain k near = find_none (is_certain d routes plan k) (ways_to_fail d routes plan) (each_way (λ v. is_certain d routes plan k v ≡ false) (λ n m. no_within k n near m) (λ n m. no_order k n near m) (λ t j m i. no_grant t j m i (k == horizon d) refl) (λ t j m i. no_visit t j m i (k == horizon d) refl))
+    nothing_certain k near = find_none (is_certain d routes plan k) (possible_violations d routes plan) (each_way (λ v. is_certain d routes plan k v ≡ false) (λ n m. no_within k n near m) (λ n m. no_order k n near m) (λ t j m i. no_grant t j m i (k == horizon d) refl) (λ t j m i. no_visit t j m i (k == horizon d) refl))
       where
         no_grant : (t : TrainNo) (j : ℕ) → In t (trains d) → In j (command_numbers d routes plan t) → (b : Bool) → (k == horizon d) ≡ b → is_certain d routes plan k (violation.Grant t j) ≡ false
         no_grant t j m i false e = ap (λ c. c && not (granted_by d routes plan k t j)) e
@@ -332,12 +332,12 @@ module _ (d : Station) (routes : List Route) (plan : List (List Command)) (adm :
       or_first : (a b : Bool) → a ≡ true → (a || b) ≡ true
       or_first a b e = ap (λ c. c || b) e
 
-      some : (v : Violation) → In v (ways_to_fail d routes plan) → is_certain d routes plan (horizon d) v ≡ true → is_some (violation_at d routes plan (horizon d)) ≡ true
+      some : (v : Violation) → In v (possible_violations d routes plan) → is_certain d routes plan (horizon d) v ≡ true → is_some (violation_at d routes plan (horizon d)) ≡ true
       some v m h = look (violation_at d routes plan (horizon d)) refl
         where
           look : (o : Option Violation) → violation_at d routes plan (horizon d) ≡ o → is_some o ≡ true
           look (Some w) e = refl
-          look None e = absurd (true≢false (sym h ∙ none_found (is_certain d routes plan (horizon d)) (ways_to_fail d routes plan) e v m))
+          look None e = absurd (true≢false (sym h ∙ none_found (is_certain d routes plan (horizon d)) (possible_violations d routes plan) e v m))
 
       at_end : (b : Bool) → b ≡ false → ((horizon d == horizon d) && not b) ≡ true
       at_end b e = and_both (horizon d == horizon d) (not b) (eq-eqb (horizon d) (horizon d) refl) (ap not e)
@@ -419,15 +419,15 @@ module _ (d : Station) (routes : List Route) (plan : List (List Command)) (adm :
     near : cost d routes plan ≤ horizon d
     near = let l = (least_gives (is_decided d routes plan) (horizon d) at_tick.tick at_tick.first).last in let c = at_tick.costs in omega arith
 
-    never : (v : Violation) → In v (ways_to_fail d routes plan) → (i : ℕ) → 1 ≤ i → i ≤ cost d routes plan → is_certain d routes plan i v ≡ false
-    never v m i low high = none_found (is_certain d routes plan i) (ways_to_fail d routes plan) (none_up_to i low high) v m
+    never : (v : Violation) → In v (possible_violations d routes plan) → (i : ℕ) → 1 ≤ i → i ≤ cost d routes plan → is_certain d routes plan i v ≡ false
+    never v m i low high = none_found (is_certain d routes plan i) (possible_violations d routes plan) (none_up_to i low high) v m
 
     end_order : (o : Order) → In o d.orders → keeps_order d routes plan (horizon d) o ≡ true
     end_order o m = go (in_get d.orders o m)
       where
         later : keeps_order d routes plan (cost d routes plan) o ≡ true → keeps_order d routes plan (horizon d) o ≡ true
         later h =
-            let a = made (cost d routes plan) o.first_train o.first_visit (done_visit (cost d routes plan) done_now o.first_train o.first_visit (adm.order o m).first) in
+            let a = made (cost d routes plan) o.first_train o.first_visit (done_visit (cost d routes plan) done_now o.first_train o.first_visit (adm.order o m).first_names) in
             let b = made (cost d routes plan) o.then_train o.then_visit (done_visit (cost d routes plan) done_now o.then_train o.then_visit (adm.order o m).after) in
             let n = near in
             ap₂ (both nat_lt) (at_later (cost d routes plan) (horizon d) o.first_train o.first_visit a.0 n a.1) (at_later (cost d routes plan) (horizon d) o.then_train o.then_visit b.0 n b.1) ∙ sym (ap₂ (both nat_lt) a.1 b.1) ∙ h
@@ -436,7 +436,7 @@ module _ (d : Station) (routes : List Route) (plan : List (List Command)) (adm :
         go (i, e) =
             let same : order_of d (suc i) ≡ o = entry_get _ d.orders i o e in
             let within = get_within d.orders i o e in
-            let first = done_visit (cost d routes plan) done_now o.first_train o.first_visit (adm.order o m).first in
+            let first = done_visit (cost d routes plan) done_now o.first_train o.first_visit (adm.order o m).first_names in
             let after = done_visit (cost d routes plan) done_now o.then_train o.then_visit (adm.order o m).after in
             later (subst (λ p. keeps_order d routes plan (cost d routes plan) p ≡ true) same
             (order_kept d routes plan (cost d routes plan) (suc i) (subst (λ (p : Order). visited_by d routes plan (cost d routes plan) p.first_train p.first_visit ≡ true) (sym same) first)
@@ -490,5 +490,5 @@ module _ (d : Station) (routes : List Route) (plan : List (List Command)) (adm :
       bounds None e = let w = decided e in let c = w.costs in let l = least_gives (is_decided d routes plan) (horizon d) w.tick w.first in let a = l.first in let b = l.last in (omega arith, omega arith)
 
       fails : (v : Violation) (o : Option Violation) → path_violation d routes plan ≡ o → or_else o (violation_at d routes plan (cost d routes plan)) ≡ Some v → is_certain d routes plan (cost d routes plan) v ≡ true
-      fails v None e h = found_passes (is_certain d routes plan (cost d routes plan)) (ways_to_fail d routes plan) v h
+      fails v None e h = found_passes (is_certain d routes plan (cost d routes plan)) (possible_violations d routes plan) v h
       fails v (Some w) e h = let same : path_violation d routes plan ≡ Some v = e ∙ h in subst (λ k. is_certain d routes plan k v ≡ true) (sym (path_cost w e)) (found_passes (is_certain d routes plan 1) (path_failures d routes plan) v same)

@@ -77,7 +77,7 @@ pub record IsElementary (d : Station) (s : Start) (edges : List EdgeNo) (f : Fin
 pub record IsRouteOf (d : Station) (r : Route) : Type 0 where
   pub start : IsStart d r.start
   pub elementary : IsElementary d r.start r.edges r.finish
-  pub told : route_of d r.start r.edges r.finish ≡ r
+  pub is_route_of : route_of d r.start r.edges r.finish ≡ r
 
 -- these edges lead from this start, no route ending on the way, to where this edge of them comes next
 pub record ClosesBadly (d : Station) (s : Start) (edges : List EdgeNo) (e : EdgeNo) : Type 0 where
@@ -115,7 +115,7 @@ IsBefore (e ∷ es) [] = ⊥
 abbrev pub RouteBefore : Station → Route → Route → Type 0
 RouteBefore d r q = StartsBefore d r.start q.start ⊎ ((r.start ≡ q.start) × IsBefore r.edges q.edges)
 
--- ---- what is told of a route
+-- ---- what is said of a route
 
 -- the last edge of a section, by where it ends
 pub record EndsLast (d : Station) (edges : List EdgeNo) (z : SectionNo) (o : ℕ) : Type 0 where
@@ -125,7 +125,7 @@ pub record EndsLast (d : Station) (edges : List EdgeNo) (z : SectionNo) (o : ℕ
   pub last : (g : EdgeNo) (p : ℕ) → In (g, p) (edge_ends d 0 edges) → section_of d g ≡ z → p ≤ o
 
 -- length, sections and nodes of a route are as its edges give them
-pub record IsTold (d : Station) (r : Route) : Type 0 where
+pub record IsAsItsEdges (d : Station) (r : Route) : Type 0 where
   pub length_is : r.length ≡ pos (sum_by (length_of d) r.edges)
   pub long : 1 ≤ sum_by (length_of d) r.edges
   -- its sections are those of its edges, each once, with where its last edge ends

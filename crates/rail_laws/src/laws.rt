@@ -17,7 +17,7 @@ ghost use Rattle.rail_spec.specs.Safety.{holds, Clash, KeepsToTrack};
 ghost use Rattle.rail_base.specs.Members.{In, Pairs, Differ};
 ghost use Rattle.rail_spec.specs.Track.{routes_of, all_walks, RepeatsEdge};
 ghost use Rattle.rail_laws.specs.Tails.{KeepsUnderTrain};
-ghost use Rattle.rail_laws.specs.Elementary.{IsRouteOf, IsStart, ClosesBadly, RouteBefore, IsTold};
+ghost use Rattle.rail_laws.specs.Elementary.{IsRouteOf, IsStart, ClosesBadly, RouteBefore, IsAsItsEdges};
 ghost use Rattle.rail_base.specs.Admitted.{IsAdmitted};
 ghost use Rattle.rail_spec.specs.Feasible.{IsRunnable, IsWellFormed};
 ghost use Rattle.rail_laws.specs.Progress.{MayMove, IsGrantedInTime, HasComeThrough, last_grant};
@@ -94,8 +94,8 @@ pub fn paths_close_badly_where_an_edge_is_met_again()
 {}
 
 /// A route's length, nodes and sections are those of its edges.
-pub fn routes_tell_their_edges()
-    ensures { (d : Station) → IsAdmitted d → (r : Route) → In r (routes_of d) → IsTold d r }
+pub fn routes_are_as_their_edges()
+    ensures { (d : Station) → IsAdmitted d → (r : Route) → In r (routes_of d) → IsAsItsEdges d r }
 {}
 
 /// In no run of a well-formed, executable plan of an admitted design do two trains hold one section or stand on one.

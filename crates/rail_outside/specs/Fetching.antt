@@ -12,7 +12,7 @@ FetchGives (Err (TooLong read)) bytes limit = limit < length bytes
 FetchGives (Err Failed) bytes limit = Unit {0}
 FetchGives (Err Memory) bytes limit = Unit {0}
 
--- whatever is told: at most the limit is given, and of a file that is too long one more was read
+-- whatever is given: at most the limit is given, and of a file that is too long one more was read
 abbrev pub FetchFits : Result (Vec ℕ Global) FetchFault → ℕ → Type 0
 FetchFits (Ok v) limit = length v.items ≤ limit
 FetchFits (Err (TooLong read)) limit = read ≡ limit + 1

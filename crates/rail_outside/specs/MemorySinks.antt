@@ -23,7 +23,7 @@ faults_in sink = sink.faults
 abbrev pub next_failure : MemorySink → Option Failure
 next_failure sink = find (λ failure. failure.call == length sink.pieces.items + 1) (failures_of sink)
 
--- what a put writes: its piece, or as much of its front as the failure lets out
+-- what a put writes: its piece, or as much of its prefix as the failure lets out
 abbrev pub put_bytes : {X : Type 0} → Option Failure → Result X SinkFault → List ℕ → List ℕ
 put_bytes failure (Err Memory) bytes = []
 put_bytes None result bytes = bytes

@@ -4,7 +4,7 @@ use Rattle.rail_outside.specs.Growth.{Rose, grown, GrowsByPrefix}
 use Rattle.rail_outside.specs.declared.sink.SinkFault.{SinkFault}
 use Rattle.rail_outside.specs.declared.sink.SinkFault.TheVariants.{Failed, Memory}
 
--- all of the piece is written, or after a failure a front of it, or for want of memory nothing
+-- all of the piece is written, or after a failure a prefix of it, or for want of memory nothing
 abbrev pub PutLeaves : {X : Type 0} → Result X SinkFault → Option (List ℕ) → Option (List ℕ) → List ℕ → Type 0
 PutLeaves (Ok x) old new bytes = new ≡ grown old bytes
 PutLeaves (Err Failed) old new bytes = GrowsByPrefix old new bytes

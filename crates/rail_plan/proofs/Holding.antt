@@ -1,4 +1,4 @@
--- The holds tell what keeps a command from a section: where no command was blocked, one train at most can't leave it.
+-- The holds say what keeps a command from a section: where no command was blocked, one train at most can't leave it.
 use Rattle.std.proofs.Common.{◌≡◌, ℕ, ◌+◌, ◌≤◌, ◌<◌, ◌⊎◌, inl, inr, max, Bool, true, false, not, ◌&&◌, ◌||◌, ◌==◌, nat_le, if◌then◌else◌, List, [], ◌∷◌, ◌++◌, map, refl, sym, ap, ap₂, subst, ◌∙◌, arith, leb-true, eqb-true, eq-eqb, true≢false}
 use Rattle.std.specs.List.{list_any}
 use Rattle.std.proofs.lemmas.List.{append-nil, map-append}
@@ -176,7 +176,7 @@ module _ (d : Station) (routes : List Route) (t : TrainNo) (z : SectionNo) where
         go (inl l) rest = or_left (list_any (stops d routes (s ∷ ss) t z) s) (is_stopped d routes t z ss []) (stop_in (s ∷ ss) s l)
         go (inr l) rest = or_right (list_any (stops d routes (s ∷ ss) t z) s) (is_stopped d routes t z ss []) (rest l)
 
-  -- so the hold tells it
+  -- so the hold says it
   pub kept_out_is : (before : List (List Command)) (h : Hold) → ((u : TrainNo) → lack d routes z u before ≡ lacks h u) → is_stopped d routes t z before [] ≡ keeps_out h t
   kept_out_is before h tells = same_bool (is_stopped d routes t z before []) (keeps_out h t) (λ k. from (lack_of_stopped before k)) to
     where
@@ -215,7 +215,7 @@ module _ (d : Station) (routes : List Route) where
     pub takes_is : (t : TrainNo) (z : SectionNo) → list_any (stops d routes [] t z) step ≡ list_any (takes routes t z) step
     takes_is t z = any_same (stops d routes [] t z) (takes routes t z) step (λ e m. here_is t z e (long e.train (all_in (λ (c : Command). IsTrain d c.train) step e named m)))
 
-    -- the holds and the step tell what stops a train
+    -- the holds and the step say what stops a train
     held_is : (before : List (List Command)) (holds : List Hold) → AreHolds d routes before holds → (t : TrainNo) (z : SectionNo) → is_kept_from routes holds step t z ≡ is_stopped d routes t z before step
     held_is before holds are t z =
         sym (stopped_apart d routes t z before step

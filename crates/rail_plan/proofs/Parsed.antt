@@ -20,8 +20,8 @@ use Rattle.rail_plan.specs.declared.fault.PlanCode.TheVariants.{P2, P3, P4}
 use Rattle.rail_plan.specs.declared.fault.PlanFault.{PlanFault}
 use Rattle.rail_plan.specs.declared.place.PlanPlace.{PlanPlace}
 use Rattle.rail_plan.specs.declared.place.PlanPlace.TheVariants as place
-use Rattle.rail_plan.specs.Text.{Written, array_of, command_of, step_of, steps_at, text_steps, of_all, with_others}
-use Rattle.rail_plan.specs.Reading.{Gives, unless, train_names, route_numbered, missing, known, seen, unread_in, read_in, values_of, unread, read_steps, unknown, planned, admitted_plan, plan_of_text}
+use Rattle.rail_plan.specs.Text.{Written, array_of, command_of, step_in, steps_at, text_steps, of_all, with_others}
+use Rattle.rail_plan.specs.Reading.{GivesOrFails, unless, train_names, route_numbered, missing, known, seen, unread_in, read_in, values_of, unread, read_steps, unknown, planned, admitted_plan, plan_of_text}
 use Rattle.rail_plan.specs.WellFormed.{misplaced}
 use Rattle.rail_plan.specs.Executable.{blocked}
 use Rattle.rail_base.proofs.Members.{and_left, and_right, and_both}
@@ -77,7 +77,7 @@ module _ (names : List (List ℕ)) (many : ℕ) where
       (λ j m. let l = in_one_to_back (length vs) j m in ap (λ o. is_none (option_and_then (known names many) o)) (all_at command_of vs ws null ([], 0) j e l.0 l.1))
       ∙ ap (λ n. filter (λ j. is_none (known names many (entry ([], 0) ws j))) (one_to n)) (all_long command_of vs ws e)
 
-  values_there : (d : Data) (ws : List Written) → step_of d ≡ Some ws → of_all command_of (values_of d) ≡ Some ws
+  values_there : (d : Data) (ws : List Written) → step_in d ≡ Some ws → of_all command_of (values_of d) ≡ Some ws
   values_there d ws e = go (array_of d) e
     where
       go : (o : Option (List Data)) → option_and_then (of_all command_of) o ≡ Some ws → of_all command_of (unwrap_or o []) ≡ Some ws
@@ -86,18 +86,18 @@ module _ (names : List (List ℕ)) (many : ℕ) where
 
   -- ---- all steps
 
-  pub read_is : (ds : List Data) (text : List (List Written)) → of_all step_of ds ≡ Some text → read_steps names many ds ≡ planned names many text
+  pub read_is : (ds : List Data) (text : List (List Written)) → of_all step_in ds ≡ Some text → read_steps names many ds ≡ planned names many text
   read_is [] text e = let same : [] ≡ text = cc in ap (planned names many) same
   read_is (d ∷ ds) text e =
-      let b = both_there (step_of d) (of_all step_of ds) text e in
+      let b = both_there (step_in d) (of_all step_in ds) text e in
       ap₂ (λ s ss. s ∷ ss) (step_commands (values_of d) b.head (values_there d b.head b.first)) (read_is ds b.rest b.others)
       ∙ sym (ap (planned names many) b.whole)
 
-  pub unread_is : (ds : List Data) (text : List (List Written)) → of_all step_of ds ≡ Some text → unread names many ds ≡ unknown names many text
+  pub unread_is : (ds : List Data) (text : List (List Written)) → of_all step_in ds ≡ Some text → unread names many ds ≡ unknown names many text
   unread_is ds text e =
       joined_same (λ i. unread_in names many i (values_of (entry null ds i))) (λ i. map (place.Command i) (missing (known names many) ([], 0) (entry [] text i))) (one_to (length ds))
-      (λ i m. let l = in_one_to_back (length ds) i m in ap (map (place.Command i)) (step_missing (values_of (entry null ds i)) (entry [] text i) (values_there (entry null ds i) (entry [] text i) (all_at step_of ds text null [] i e l.0 l.1))))
-      ∙ ap (λ n. flat_map (λ i. map (place.Command i) (missing (known names many) ([], 0) (entry [] text i))) (one_to n)) (all_long step_of ds text e)
+      (λ i m. let l = in_one_to_back (length ds) i m in ap (map (place.Command i)) (step_missing (values_of (entry null ds i)) (entry [] text i) (values_there (entry null ds i) (entry [] text i) (all_at step_in ds text null [] i e l.0 l.1))))
+      ∙ ap (λ n. flat_map (λ i. map (place.Command i) (missing (known names many) ([], 0) (entry [] text i))) (one_to n)) (all_long step_in ds text e)
 
 -- ---- what is read names trains and routes
 
@@ -169,16 +169,16 @@ module _ (d : Station) (routes : List Route) where
       at_known [] k = at_misplaced (misplaced d routes 256 (planned (train_names d) (length routes) text)) refl k
       at_known (q ∷ ps) k = cc
 
-  pub runnable_result : (o : Option (List (List Written))) (result : Result Plan PlanFault) → Gives (λ p. p.steps) result (plan_of_text d routes o) → IfOk result (λ p. IsRunnable d routes 256 p.steps)
+  pub runnable_result : (o : Option (List (List Written))) (result : Result Plan PlanFault) → GivesOrFails (λ p. p.steps) result (plan_of_text d routes o) → IfOk result (λ p. IsRunnable d routes 256 p.steps)
   runnable_result o (Ok plan) h = runnable o plan.steps h
   runnable_result o (Err e) h = tt
 
 -- ---- the shape
 
-pub steps_spelled : (d v : Data) (ds : List Data) → Some v ≡ steps_at d → Some ds ≡ array_of v → text_steps d ≡ of_all step_of ds
+pub steps_spelled : (d v : Data) (ds : List Data) → Some v ≡ steps_at d → Some ds ≡ array_of v → text_steps d ≡ of_all step_in ds
 steps_spelled d v ds e k =
-    ap (λ (o : Option Data). option_and_then (of_all step_of) (option_and_then array_of o)) (sym e)
-    ∙ ap (option_and_then (of_all step_of)) (sym k)
+    ap (λ (o : Option Data). option_and_then (of_all step_in) (option_and_then array_of o)) (sym e)
+    ∙ ap (option_and_then (of_all step_in)) (sym k)
 
 pub some_there : {X : Type 0} (o : Option X) → is_some o ≡ true → (x : X) × (o ≡ Some x)
 some_there (Some x) e = (x, refl)

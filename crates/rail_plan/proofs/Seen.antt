@@ -15,7 +15,7 @@ use Rattle.rail_plan.specs.declared.fault.PlanFault.{PlanFault}
 use Rattle.rail_plan.specs.declared.fault.PlanFault.TheVariants as fault
 use Rattle.rail_plan.specs.declared.place.PlanPlace.{PlanPlace}
 use Rattle.rail_plan.specs.Text.{array_of}
-use Rattle.rail_plan.specs.Reading.{Gives, unless, seen, read_in, values_of}
+use Rattle.rail_plan.specs.Reading.{GivesOrFails, unless, seen, read_in, values_of}
 use Rattle.rail_plan.proofs.Firsts.{count_step}
 
 -- ---- refusals
@@ -29,7 +29,7 @@ unless_none code [] answer e = refl
 unless_none code (q ∷ qs) answer e = cc
 
 -- where a step fails all steps fail at the same place
-pub step_fails : {S T X Y : Type 0} (v : S → X) (w : T → Y) (e : PlanFault) (ps qs : List PlanPlace) (xs : X) (answer : Result Y (PlanCode × PlanPlace)) → ((p : PlanPlace) → Some p ≡ first_of_list ps → Some p ≡ first_of_list qs) → Gives v (Err e) (unless P2 ps (Ok xs)) → Gives w (Err e) (unless P2 qs answer)
+pub step_fails : {S T X Y : Type 0} (v : S → X) (w : T → Y) (e : PlanFault) (ps qs : List PlanPlace) (xs : X) (answer : Result Y (PlanCode × PlanPlace)) → ((p : PlanPlace) → Some p ≡ first_of_list ps → Some p ≡ first_of_list qs) → GivesOrFails v (Err e) (unless P2 ps (Ok xs)) → GivesOrFails w (Err e) (unless P2 qs answer)
 step_fails v w fault.Memory ps qs xs answer over h = tt
 step_fails v w (fault.Refused code p) [] qs xs answer over h = cc
 step_fails v w (fault.Refused code p) (q ∷ ps) qs xs answer over h =

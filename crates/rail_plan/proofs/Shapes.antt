@@ -5,9 +5,9 @@ use Rattle.serde_json.specs.Data.{Data}
 use Rattle.serde_json.specs.Find.{get_member}
 use Rattle.serde_json.specs.View.{view, items_view, members_view}
 use Rattle.std.specs.List.{list_all}
-use Rattle.rail_plan.specs.Text.{two_of, pair_of, text_of, whole_of, listed, only_steps, array_of, command_of, step_of, of_all, with_others}
+use Rattle.rail_plan.specs.Text.{two_of, pair_of, string_of, whole_of, list_of_items, only_steps, array_of, command_of, step_in, of_all, with_others}
 
-pub two_values : (vs : List Value) (a b : Value) → length vs ≡ 2 → a ≡ get_or vs 0 a → b ≡ get_or vs 1 b → two_of (map view vs) ≡ pair_of (text_of (view a)) (whole_of (view b))
+pub two_values : (vs : List Value) (a b : Value) → length vs ≡ 2 → a ≡ get_or vs 0 a → b ≡ get_or vs 1 b → two_of (map view vs) ≡ pair_of (string_of (view a)) (whole_of (view b))
 two_values [] a b n p q = absurd (omega arith)
 two_values (v ∷ []) a b n p q = absurd (omega arith)
 two_values (v ∷ w ∷ []) a b n p q = rw (p, q) refl
@@ -27,7 +27,7 @@ many_values (v ∷ w ∷ x ∷ vs) n = refl
 pub ruleset pairs = (two_values, few_values, many_values)
 
 -- the members of an array, as a list of values
-pub listed_values : (vs : List Value) → listed (items_view vs) ≡ map view vs
+pub listed_values : (vs : List Value) → list_of_items (items_view vs) ≡ map view vs
 listed_values [] = refl
 listed_values (v ∷ vs) = ap (λ ds. view v ∷ ds) (listed_values vs)
 
@@ -55,10 +55,10 @@ of_all_is f g (x ∷ xs) = both (f (g x)) (of_all f (map g xs)) ∙ ap (λ b. is
     both (Some z) None = refl
     both (Some z) (Some zs) = refl
 
-pub step_is : (d : Data) (vs : List Value) → Some (map view vs) ≡ array_of d → list_all (λ v. is_some (command_of (view v))) vs ≡ is_some (step_of d)
+pub step_is : (d : Data) (vs : List Value) → Some (map view vs) ≡ array_of d → list_all (λ v. is_some (command_of (view v))) vs ≡ is_some (step_in d)
 step_is d vs e = sym (of_all_is command_of view vs) ∙ ap (λ o. is_some (option_and_then (of_all command_of) o)) e
 
-pub no_step : (d : Data) → None ≡ array_of d → false ≡ is_some (step_of d)
+pub no_step : (d : Data) → None ≡ array_of d → false ≡ is_some (step_in d)
 no_step d e = ap (λ o. is_some (option_and_then (of_all command_of) o)) e
 
 pub ruleset shapes = (step_is, no_step)

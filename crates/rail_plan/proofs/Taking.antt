@@ -279,17 +279,17 @@ module _ (d : Station) (routes : List Route) (long : (t : TrainNo) → IsTrain d
         ∙ ap (λ n. max n (lack_in d routes z u (given u) step)) (moved_lacks u)
         ∙ sym all
 
-  -- so the holds after the step tell who can't leave after it
+  -- so the holds after the step say who can't leave after it
   pub holds_more : (old new : List Hold) → AreHolds d routes before old → length new ≡ length old → ((z : SectionNo) → hold_at new z ≡ turned d routes z step (hold_at old z)) → AreHolds d routes (before ++ step ∷ []) new
   holds_more old new are many turns = record {
-    many = subst (λ n. length d.sections ≤ n) (sym many) are.many;
+    hold_a_section = subst (λ n. length d.sections ≤ n) (sym many) are.hold_a_section;
     each = λ z u. turned_lacks z (hold_at old z) (are.each z) u ∙ ap (λ h. lacks h u) (sym (turns z));
   }
 
 -- ---- holds before any step
 
 pub holds_none : (d : Station) (routes : List Route) (holds : List Hold) → length d.sections ≤ length holds → ((z : SectionNo) → hold_at holds z ≡ no_hold) → AreHolds d routes [] holds
-holds_none d routes holds many none = record { many = many; each = λ z u. go (is_train u no_hold.train) ∙ ap (λ h. lacks h u) (sym (none z)) }
+holds_none d routes holds many none = record { hold_a_section = many; each = λ z u. go (is_train u no_hold.train) ∙ ap (λ h. lacks h u) (sym (none z)) }
   where
     go : (b : Bool) → ◌≡◌ {A = ℕ} 0 (if b then 0 else 0)
     go true = refl

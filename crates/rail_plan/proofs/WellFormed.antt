@@ -1,4 +1,4 @@
--- A plan is well formed exactly where no place tells that it isn't.
+-- A plan is well formed exactly where no place says that it isn't.
 use Rattle.std.proofs.Common.{◌≡◌, ℕ, zero, suc, ◌+◌, ◌-◌, ◌<◌, ◌≤◌, ◌↔◌, Bool, true, false, not, cond, ◌&&◌, nat_le, if◌then◌else◌, List, [], ◌∷◌, ◌++◌, map, filter, length, take, drop, get_or, Option, None, Some, refl, sym, ap, subst, ◌∙◌, arith, add-one, Contains, eq-eqb, eqb-true, true≢false}
 use Rattle.std.specs.Option.{option_or}
 use Rattle.std.specs.List.{list_all}
@@ -103,7 +103,7 @@ go_on_from t rs [] p n = refl
 go_on_from t rs (g ∷ []) p n = and_right (is_path t rs) (may_follow t rs g) (sym (path_more t rs g) ∙ p)
 go_on_from t rs (g ∷ k ∷ gs) p n = absurd (omega arith)
 
--- the front of a path is a path
+-- the prefix of a path is a path
 path_prefix : (t : Train) (rs gs : List Route) → is_path t (rs ++ gs) ≡ true → is_path t rs ≡ true
 path_prefix t rs [] p = subst (λ qs. is_path t qs ≡ true) (append-nil rs) p
 path_prefix t rs (g ∷ gs) p =

@@ -20,7 +20,7 @@ use Rattle.rail_base.proofs.Members.{and_left, and_right, either}
 use Rattle.rail_spec.specs.Track.{first_occurrences, routes_of}
 use Rattle.rail_laws.proofs.Admits.{entry_is}
 use Rattle.rail_laws.proofs.RouteLaws.{route_is, walk_edges}
-use Rattle.rail_laws.proofs.Told.{first_in, told}
+use Rattle.rail_laws.proofs.AsEdges.{first_in, told}
 use Rattle.interlocking.specs.declared.railway.Interlocking.{Interlocking}
 
 module _ (i : Interlocking) where

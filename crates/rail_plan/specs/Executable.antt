@@ -1,4 +1,4 @@
--- Where a plan can't be carried out, in the order in which that is told.
+-- Where a plan can't be carried out, in the order in which that is said.
 use Rattle.std.specs.Prelude.{ℕ, Bool, not, ◌&&◌, ◌||◌, ◌==◌, nat_lt, List, [], map, filter, flat_map, length}
 use Rattle.std.specs.List.{list_any}
 use Rattle.rail_base.specs.declared.station.Station.{Station}

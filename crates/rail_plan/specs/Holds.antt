@@ -105,7 +105,7 @@ module _ (d : Station) (routes : List Route) where
     lack [] = 0
     lack (s ∷ ss) = max (lack_in (path_routes routes (s ∷ ss) t) s) (lack ss)
 
-  -- the holds tell for each section the one train that can't leave it after these steps
+  -- the holds say for each section the one train that can't leave it after these steps
   pub record AreHolds (before : List (List Command)) (holds : List Hold) : Type 0 where
-    pub many : length d.sections ≤ length holds
+    pub hold_a_section : length d.sections ≤ length holds
     pub each : (z : SectionNo) (t : TrainNo) → lack z t before ≡ lacks (hold_at holds z) t

@@ -85,7 +85,7 @@ module _ (i : Interlocking) where
   abbrev pub kept_sections : List Hold → List Command → Command → List SectionNo
   kept_sections = held.kept_sections i.routes
 
-  -- the holds tell for each section the one train that can't leave it after these steps
+  -- the holds say for each section the one train that can't leave it after these steps
   abbrev pub AreHolds : List (List Command) → List Hold → Type 0
   AreHolds = held.AreHolds i.design.station i.routes
 
@@ -95,7 +95,7 @@ module _ (i : Interlocking) where
 
   -- ---- reading
 
-  -- the commands that values spell, step by step, or the first refusal
+  -- the commands in values, step by step, or the first refusal
   abbrev pub known_steps : List Data → Result (List (List Command)) Refusal
   known_steps = steps_read (train_names i.design.station) (length i.routes)
 

@@ -1,4 +1,4 @@
--- The plan that bytes spell, or the first refusal.
+-- The plan in bytes, or the first refusal.
 use Rattle.std.specs.Prelude.{◌≡◌, ℕ, ◌+◌, List, [], ◌∷◌, map, filter, flat_map, length, position, bytes_eq, Option}
 use Rattle.std.specs.Prelude.{Some, None, is_none, unwrap_or, option_map, option_and_then, Result, Ok, Err}
 use Rattle.std.specs.Prelude.{if◌then◌else◌}
@@ -83,14 +83,14 @@ abbrev pub plan_of : Station → List Route → List ℕ → Result (List (List 
 plan_of d routes bytes = plan_of_text d routes (option_and_then text_steps (json_of bytes))
 
 -- what was answered, seen by v, is this; want of memory is free
-abbrev pub Gives : {T X : Type 0} → (T → X) → Result T PlanFault → Result X Refusal → Type 0
-Gives v (Ok x) answer = answer ≡ Ok (v x)
-Gives v (Err (fault.Refused code place)) answer = answer ≡ Err (code, place)
-Gives v (Err fault.Memory) answer = Unit {0}
+abbrev pub GivesOrFails : {T X : Type 0} → (T → X) → Result T PlanFault → Result X Refusal → Type 0
+GivesOrFails v (Ok x) answer = answer ≡ Ok (v x)
+GivesOrFails v (Err (fault.Refused code place)) answer = answer ≡ Err (code, place)
+GivesOrFails v (Err fault.Memory) answer = Unit {0}
 
 -- ---- step by step, over the text's values
 
--- the command that a value spells, where its train and its route are there
+-- the command in a value, where its train and its route are there
 abbrev pub seen : List (List ℕ) → ℕ → Data → Option Command
 seen names many d = option_and_then (known names many) (command_of d)
 
@@ -98,7 +98,7 @@ seen names many d = option_and_then (known names many) (command_of d)
 abbrev pub unread_in : List (List ℕ) → ℕ → ℕ → List Data → List PlanPlace
 unread_in names many i ds = map (place.Command i) (missing (seen names many) null ds)
 
--- the commands that the others spell
+-- the commands in the others
 abbrev pub read_in : List (List ℕ) → ℕ → List Data → List Command
 read_in names many ds = filter_map (seen names many) ds
 

@@ -25,18 +25,18 @@ of_all f [] = Some []
 of_all f (x ∷ xs) = with_others (f x) (of_all f xs)
 
 -- the members of an array
-abbrev pub listed : Items → List Data
-listed no_items = []
-listed (item d ds) = d ∷ listed ds
+abbrev pub list_of_items : Items → List Data
+list_of_items no_items = []
+list_of_items (item d ds) = d ∷ list_of_items ds
 
 abbrev pub array_of : Data → Option (List Data)
-array_of (array ds) = Some (listed ds)
+array_of (array ds) = Some (list_of_items ds)
 array_of _ = None
 
 -- a text
-abbrev pub text_of : Data → Option (List ℕ)
-text_of (string s) = Some s
-text_of _ = None
+abbrev pub string_of : Data → Option (List ℕ)
+string_of (string s) = Some s
+string_of _ = None
 
 -- a whole number from 0 to 2^64 - 1
 abbrev pub whole_of : Data → Option ℕ
@@ -50,14 +50,14 @@ pair_of _ _ = None
 
 -- a text and a whole number
 abbrev pub two_of : List Data → Option Written
-two_of (d ∷ e ∷ []) = pair_of (text_of d) (whole_of e)
+two_of (d ∷ e ∷ []) = pair_of (string_of d) (whole_of e)
 two_of _ = None
 
 abbrev pub command_of : Data → Option Written
 command_of d = option_and_then two_of (array_of d)
 
-abbrev pub step_of : Data → Option (List Written)
-step_of d = option_and_then (of_all command_of) (array_of d)
+abbrev pub step_in : Data → Option (List Written)
+step_in d = option_and_then (of_all command_of) (array_of d)
 
 -- the value at the one key
 abbrev pub only_steps : Members → Option Data
@@ -70,9 +70,9 @@ steps_at _ = None
 
 -- the steps of the text
 abbrev pub text_steps : Data → Option (List (List Written))
-text_steps d = option_and_then (of_all step_of) (option_and_then array_of (steps_at d))
+text_steps d = option_and_then (of_all step_in) (option_and_then array_of (steps_at d))
 
 -- these values spell the steps, or there are none of either
-abbrev pub Spells : Option (List Data) → Option (List (List Written)) → Type 0
-Spells (Some ds) steps = (text : List (List Written)) × (steps ≡ Some text) × (of_all step_of ds ≡ Some text)
-Spells None steps = steps ≡ None
+abbrev pub ParseTo : Option (List Data) → Option (List (List Written)) → Type 0
+ParseTo (Some ds) steps = (text : List (List Written)) × (steps ≡ Some text) × (of_all step_in ds ≡ Some text)
+ParseTo None steps = steps ≡ None

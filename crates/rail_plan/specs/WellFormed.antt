@@ -1,4 +1,4 @@
--- Where a plan isn't well formed, in the order in which that is told.
+-- Where a plan isn't well formed, in the order in which that is said.
 use Rattle.std.specs.Prelude.{ℕ, ◌+◌, ◌-◌, Bool, true, false, not, ◌&&◌, ◌||◌, if◌then◌else◌, List, [], ◌∷◌, ◌++◌, map}
 use Rattle.std.specs.Prelude.{filter, flat_map, length, take, nat_le, Option, None, Some}
 use Rattle.std.specs.Option.{option_or}

@@ -241,7 +241,7 @@ fn first_misplaced(interlocking: &Interlocking, steps: &[List<Command>]) -> Opti
 /// The first place at which these steps aren't well formed for `n`.
 fn first_place(interlocking: &Interlocking, steps: &[List<Command>], n: usize) -> Option<PlanPlace>
     requires named { All (HaveRoutes interlocking.now.routes) steps.now }
-    requires small { n < 2 ^ 32 }
+    requires below_2_32 { n < 2 ^ 32 }
     ensures { result ≡ first_of_list (misplaced interlocking.now n steps.now) }
 {
     if steps.len() > n {

@@ -9,7 +9,7 @@ ghost use Rattle.rail_spec.specs.Feasible.{names_only};
 ghost use Rattle.rail_plan.specs.Executable.{blocked};
 ghost use Rattle.rail_plan.specs.WellFormed.{misplaced};
 
-/// A plan is well formed exactly where no place tells that it isn't.
+/// A plan is well formed exactly where no place says that it isn't.
 pub fn plans_are_well_formed_where_nothing_is_misplaced()
     ensures { (d : Station) (routes : List Route) (n : ℕ) (plan : List (List Command)) → names_only d routes plan ≡ true
         → (is_well_formed d routes n plan ≡ true) ↔ (misplaced d routes n plan ≡ []) }

@@ -2,8 +2,8 @@
 
 ghost use Rattle.std.specs.Prelude.{◌≡◌, ◌≤◌, ◌<◌, ◌^◌, true, IfOk, length, map, ok_or, option_map};
 ghost use Rattle.serde_json.specs.View.{view};
-ghost use Rattle.rail_plan.specs.Text.{Spells, json_of, text_steps};
-ghost use Rattle.rail_plan.specs.Reading.{Gives, values_of, step_read, steps_read};
+ghost use Rattle.rail_plan.specs.Text.{ParseTo, json_of, text_steps};
+ghost use Rattle.rail_plan.specs.Reading.{GivesOrFails, values_of, step_read, steps_read};
 ghost use Rattle.interlocking.specs.Plans.{names_only, IsRunnable};
 ghost use Rattle.rail_plan.specs.Interlocked.{admitted_plan, known_steps, plan_of, plan_of_text};
 
@@ -30,7 +30,7 @@ pub fn read_plan(
     interlocking: &Interlocking,
     bytes: &[u8],
 ) -> Result<Plan, PlanFault>
-    ensures given { Gives (λ p. p.steps) result (plan_of interlocking.now bytes.now) }
+    ensures given { GivesOrFails (λ p. p.steps) result (plan_of interlocking.now bytes.now) }
     ensures runnable { IfOk result (λ p. IsRunnable interlocking.now 256 p.steps) }
 {
     let value = value_of(alloc, bytes)?;
@@ -39,7 +39,7 @@ pub fn read_plan(
 
 /// The value that the bytes are, by the reading of `serde_json`.
 fn value_of(alloc: Global, bytes: &[u8]) -> Result<Value, PlanFault>
-    ensures { Gives view result (ok_or (json_of bytes.now) (PlanCode.P1, PlanPlace.File)) }
+    ensures { GivesOrFails view result (ok_or (json_of bytes.now) (PlanCode.P1, PlanPlace.File)) }
 {
     match Value::from_slice(alloc, bytes) {
         Ok(value) => Ok(value),
@@ -66,7 +66,7 @@ fn read_step(
 ) -> Result<List<Command>, PlanFault>
     requires names { length names.now.keys ≤ 128 }
     requires below_2_32 { many < 2 ^ 32 }
-    ensures { Gives (λ s. s) result (step_read (map (λ k. k.now) names.now.keys) many number (map view values.now)) }
+    ensures { GivesOrFails (λ s. s) result (step_read (map (λ k. k.now) names.now.keys) many number (map view values.now)) }
 {
     let mut commands = List::new(alloc);
     for (index, value) in values.iter().enumerate() {
@@ -106,7 +106,7 @@ fn read_steps(
 ) -> Result<List<List<Command>>, PlanFault>
     requires names { length names.now.keys ≤ 128 }
     requires below_2_32 { many < 2 ^ 32 }
-    ensures { Gives (λ s. s) result (steps_read (map (λ k. k.now) names.now.keys) many (map view values.now)) }
+    ensures { GivesOrFails (λ s. s) result (steps_read (map (λ k. k.now) names.now.keys) many (map view values.now)) }
 {
     let mut steps = List::new(alloc);
     for (index, value) in values.iter().enumerate() {
@@ -118,7 +118,7 @@ fn read_steps(
 
 /// The steps of a plan, where a value is one by its shape.
 fn steps_of(value: &Value) -> Option<&[Value]>
-    ensures { Spells (option_map (λ s. map view s.now) result) (text_steps (view value.now)) }
+    ensures { ParseTo (option_map (λ s. map view s.now) result) (text_steps (view value.now)) }
 {
     let steps = array_of(steps_at(value)?)?;
     if are_steps(steps) { Some(steps) } else { None }
@@ -130,7 +130,7 @@ fn known_steps(
     interlocking: &Interlocking,
     values: &[Value],
 ) -> Result<List<List<Command>>, PlanFault>
-    ensures { Gives (λ s. s) result (known_steps interlocking.now (map view values.now)) }
+    ensures { GivesOrFails (λ s. s) result (known_steps interlocking.now (map view values.now)) }
 {
     let names = train_names(alloc, &interlocking.design)?;
     read_steps(alloc, &names, interlocking.routes.len(), values)
@@ -139,7 +139,7 @@ fn known_steps(
 /// The plan, where it is well formed for 256 and executable.
 fn admit(interlocking: &Interlocking, plan: Plan) -> Result<Plan, PlanFault>
     requires { names_only interlocking.now plan.steps ≡ true }
-    ensures { Gives (λ p. p.steps) result (admitted_plan interlocking.now plan.steps) }
+    ensures { GivesOrFails (λ p. p.steps) result (admitted_plan interlocking.now plan.steps) }
 {
     if let Some(place) = well_formed(interlocking, &plan, MOST_STEPS) {
         return Err(PlanFault::Refused {
@@ -158,7 +158,7 @@ fn admit(interlocking: &Interlocking, plan: Plan) -> Result<Plan, PlanFault>
 
 /// The plan that is parsed from a value, or the first refusal.
 fn plan_at(alloc: Global, interlocking: &Interlocking, value: &Value) -> Result<Plan, PlanFault>
-    ensures { Gives (λ p. p.steps) result (plan_of_text interlocking.now (text_steps (view value.now))) }
+    ensures { GivesOrFails (λ p. p.steps) result (plan_of_text interlocking.now (text_steps (view value.now))) }
 {
     match steps_of(value) {
         Some(steps) => {

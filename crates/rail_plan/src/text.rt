@@ -4,7 +4,7 @@ ghost use Rattle.std.specs.Prelude.{◌≡◌, codes, is_some, map, option_map};
 ghost use Rattle.std.specs.List.{list_all};
 ghost use Rattle.serde_json.specs.Find.{get_member};
 ghost use Rattle.serde_json.specs.View.{members_view, view};
-ghost use Rattle.rail_plan.specs.Text.{array_of, command_of, only_steps, step_of, steps_at, text_of, two_of, whole_of};
+ghost use Rattle.rail_plan.specs.Text.{array_of, command_of, only_steps, step_in, steps_at, string_of, two_of, whole_of};
 
 use serde_json::{Map, Value};
 
@@ -37,14 +37,14 @@ pub(crate) fn steps_at(value: &Value) -> Option<&Value>
 
 /// Whether values are steps of a plan.
 pub(crate) fn are_steps(values: &[Value]) -> bool
-    ensures { result ≡ list_all (λ v. is_some (step_of (view v))) values.now }
+    ensures { result ≡ list_all (λ v. is_some (step_in (view v))) values.now }
 {
     values.iter().all(|value| is_step(value))
 }
 
 /// A text.
-fn text_of(value: &Value) -> Option<&str>
-    ensures { option_map (λ s. s.now) result ≡ text_of (view value.now) }
+fn string_of(value: &Value) -> Option<&str>
+    ensures { option_map (λ s. s.now) result ≡ string_of (view value.now) }
 {
     match value {
         Value::String(text) => Some(text.as_str()),
@@ -70,7 +70,7 @@ fn two_of(values: &[Value]) -> Option<(&str, u64)>
     let [train, route] = values else {
         return None;
     };
-    let train = text_of(train)?;
+    let train = string_of(train)?;
     let route = whole_of(route)?;
     Some((train, route))
 }
@@ -97,7 +97,7 @@ fn only_steps(map: &Map<String, Value>) -> Option<&Value>
 /// Whether a value is an array of commands.
 #[tactic(auto, using(crate::proofs::Shapes::shapes))]
 fn is_step(value: &Value) -> bool
-    ensures { result ≡ is_some (step_of (view value.now)) }
+    ensures { result ≡ is_some (step_in (view value.now)) }
 {
     match array_of(value) {
         Some(commands) => are_commands(commands),

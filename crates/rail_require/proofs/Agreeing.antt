@@ -18,7 +18,7 @@ use Rattle.rail_spec.specs.Requirements as requirements
 use Rattle.rail_spec.specs.Histories.{history_at}
 use Rattle.rail_laws.proofs.Verdicts.{one_to_in}
 use Rattle.rail_require.specs.Ticks.{trains, command_numbers, visit_numbers, is_by, is_before}
-use Rattle.rail_require.specs.Violations.{is_certain, within_violations, order_violations, grant_violations, visit_violations, ways_to_fail, violation_in}
+use Rattle.rail_require.specs.Violations.{is_certain, within_violations, order_violations, grant_violations, visit_violations, possible_violations, violation_in}
 use Rattle.rail_require.proofs.Finding.{find-same}
 use Rattle.rail_require.proofs.Telling.{by_grant, by_visit, before_visit, trains_told, commands_told, visits_told, grant_told, visit_told}
 
@@ -50,7 +50,7 @@ module _ (d : Station) (routes : List Route) (plan : List (List Command)) (adm :
       ∙ flat_map-same (λ t. map (violation.Visit t) (visit_numbers (history_at d routes plan k) t)) (λ t. map (violation.Visit t) (requirements.visit_numbers d t)) (station.trains d)
       (λ t m. ap (map (violation.Visit t)) (visits_told d routes plan k t (is_a_train d t m)))
 
-  ways_same : ways_to_fail d (history_at d routes plan k) ≡ requirements.ways_to_fail d routes plan
+  ways_same : possible_violations d (history_at d routes plan k) ≡ requirements.possible_violations d routes plan
   ways_same = ap₂ (λ grants visits. within_violations d ++ order_violations d ++ grants ++ visits) grants_same visits_same
 
   -- ---- and each is certain as in the run
@@ -71,7 +71,7 @@ module _ (d : Station) (routes : List Route) (plan : List (List Command)) (adm :
       let x = order_of d o in
       ap₂ (λ tick made. is_after 0 tick k && not made)
       (visit_told d routes plan k x.then_train good.after.0 x.then_visit)
-      (ap (is_before k) (visit_told d routes plan k x.first_train good.first.0 x.first_visit) ∙ before_visit d routes plan k x.first_train x.first_visit low)
+      (ap (is_before k) (visit_told d routes plan k x.first_train good.first_names.0 x.first_visit) ∙ before_visit d routes plan k x.first_train x.first_visit low)
 
   grant_same : (t : TrainNo) → IsTrain d t → (j : ℕ) → In j (command_numbers (history_at d routes plan k) t) → is_certain d (history_at d routes plan k) k (violation.Grant t j) ≡ requirements.is_certain d routes plan k (violation.Grant t j)
   grant_same t is j m =
@@ -84,7 +84,7 @@ module _ (d : Station) (routes : List Route) (plan : List (List Command)) (adm :
   abbrev Same : Violation → Type 0
   Same v = is_certain d (history_at d routes plan k) k v ≡ requirements.is_certain d routes plan k v
 
-  certain_same : (v : Violation) → In v (ways_to_fail d (history_at d routes plan k)) → Same v
+  certain_same : (v : Violation) → In v (possible_violations d (history_at d routes plan k)) → Same v
   certain_same v m = which (in_append v (within_violations d ++ order_violations d ++ grant_violations (history_at d routes plan k)) (visit_violations (history_at d routes plan k)) m)
     where
       within : ((w : ℕ) × In w (one_to (length d.withins)) × (violation.Within w ≡ v)) → Same v
@@ -119,5 +119,5 @@ module _ (d : Station) (routes : List Route) (plan : List (List Command)) (adm :
 
   pub violation_told : violation_in d (history_at d routes plan k) k ≡ requirements.violation_at d routes plan k
   violation_told =
-      find-same (is_certain d (history_at d routes plan k) k) (requirements.is_certain d routes plan k) (ways_to_fail d (history_at d routes plan k)) certain_same
+      find-same (is_certain d (history_at d routes plan k) k) (requirements.is_certain d routes plan k) (possible_violations d (history_at d routes plan k)) certain_same
       ∙ ap (find (requirements.is_certain d routes plan k)) ways_same

@@ -1,3 +1,3 @@
--- What a history tells of the requirements.
+-- What a history says of the requirements.
 pub mod Ticks
 pub mod Violations

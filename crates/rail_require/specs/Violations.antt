@@ -1,4 +1,4 @@
--- Which violations are certain at a tick, as a history tells it, and whether all is done.
+-- Which violations are certain at a tick, as a history shows it, and whether all is done.
 use Rattle.std.specs.Prelude.{ℕ, Bool, false, not, ◌&&◌, ◌==◌, List, ◌++◌, map, flat_map, length, nat_le, Option}
 use Rattle.std.specs.Prelude.{is_some, find}
 use Rattle.std.specs.List.{list_all}
@@ -55,12 +55,12 @@ abbrev pub visit_violations : List TrainHistory → List Violation
 visit_violations history = flat_map (λ t. map (violation.Visit t) (visit_numbers history t)) (trains history)
 
 -- the violations that may be certain, in the order in which they are looked for
-abbrev pub ways_to_fail : Station → List TrainHistory → List Violation
-ways_to_fail d history = within_violations d ++ order_violations d ++ grant_violations history ++ visit_violations history
+abbrev pub possible_violations : Station → List TrainHistory → List Violation
+possible_violations d history = within_violations d ++ order_violations d ++ grant_violations history ++ visit_violations history
 
 -- the first that is certain at tick k
 abbrev pub violation_in : Station → List TrainHistory → ℕ → Option Violation
-violation_in d history k = find (is_certain d history k) (ways_to_fail d history)
+violation_in d history k = find (is_certain d history k) (possible_violations d history)
 
 -- each command of each train is granted, and each visit made
 abbrev pub is_done_in : List TrainHistory → Bool

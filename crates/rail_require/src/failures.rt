@@ -4,6 +4,7 @@ ghost use Rattle.std.specs.Prelude.{◌≡◌, ◌<◌, ◌^◌, length, not, op
 ghost use Rattle.std.specs.List.{position_from};
 ghost use Rattle.rail_base.specs.declared.station.Station.{Station};
 ghost use Rattle.rail_base.specs.Stations.{horizon};
+ghost use Rattle.rail_spec.specs.Requirements.{is_after, most_ticks};
 ghost use Rattle.rail_require.specs.Ticks.{is_by, HasNumbers};
 ghost use Rattle.rail_require.specs.Violations.{is_broken, is_late, is_certain, within_violations, order_violations, grant_violations};
 ghost use Rattle.rail_require.specs.Violations.{visit_violations};
@@ -82,10 +83,21 @@ pub(crate) fn missing_visit(history: &[TrainHistory], tick: u64) -> Option<Viola
 fn is_late(design: &Design, history: &[TrainHistory], tick: u64, within: &Within) -> bool
     ensures { result ≡ is_late design.now.station history.now tick within.now }
 {
-    let most = u64::from(within.max_ms / design.station.tick_ms);
     let from = visit_tick(history, within.from_train, within.from_visit);
     let to = visit_tick(history, within.to_train, within.to_visit);
-    tick <= design.horizon() && is_after(from, most, tick) && !is_by(to, tick)
+    tick <= design.horizon() && !is_by(to, tick) && ends_at(design, within, from, tick)
+}
+
+/// Whether the greatest time of a within ends at the tick, where it begins at one.
+fn ends_at(design: &Design, within: &Within, from: Option<u64>, tick: u64) -> bool
+    ensures { result ≡ is_after (most_ticks design.now.station within.now) from tick }
+{
+    from.is_some()
+        && is_after(
+            from,
+            u64::from(within.max_ms / design.station.tick_ms),
+            tick,
+        )
 }
 
 /// Whether the later-named visit of an order is made at the tick, and the first isn't made before it.

@@ -1,4 +1,4 @@
-//! What the history of a run tells of the requirements: the first violation that is certain at a tick, and whether all
+//! What the history of a run says of the requirements: the first violation that is certain at a tick, and whether all
 //! is done. Ticks are those of the run; nothing here takes memory.
 #![tactic(auto)]
 
@@ -31,11 +31,15 @@ pub fn first_violation(design: &Design, history: &History, tick: u64) -> Option<
         → history.now ≡ history_at design.now.station routes plan tick
         → result ≡ violation_at design.now.station routes plan tick }
 {
-    violation_shown(design, history.as_slice(), tick)
+    violation_of_history(design, history.as_slice(), tick)
 }
 
 /// The same of the trains that are not made a history yet.
-pub fn violation_shown(design: &Design, history: &[TrainHistory], tick: u64) -> Option<Violation>
+pub fn violation_of_history(
+    design: &Design,
+    history: &[TrainHistory],
+    tick: u64,
+) -> Option<Violation>
     requires { HasNumbers history.now }
     ensures value { result ≡ violation_in design.now.station history.now tick }
     ensures run { (routes : List Route) (plan : List (List Command)) → 1 ≤ tick

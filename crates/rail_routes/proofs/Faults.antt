@@ -15,7 +15,7 @@ use Rattle.rail_spec.specs.Track.{is_empty, Walk, Whole, RepeatsEdge, bad_edge, 
 use Rattle.rail_laws.specs.Elementary.{IsStart}
 use Rattle.rail_routes.specs.declared.fault.RouteFault.{RouteFault}
 use Rattle.rail_routes.specs.declared.fault.RouteFault.TheVariants as fault
-use Rattle.rail_routes.specs.Refusals.{IsListed, HasFault, fault_of, IsFaultOf}
+use Rattle.rail_routes.specs.Refusals.{CanBeListed, HasFault, fault_of, IsFaultOf}
 
 -- ---- paths after others
 
@@ -58,8 +58,8 @@ many r (RepeatsEdge g ∷ cs) h = cc
 many zero (Whole p f ∷ cs) h = (refl, omega arith)
 many (suc r) (Whole p f ∷ cs) h = let l = many r cs h in (l.0, let k = l.1 in omega arith)
 
-pub is_listed : (d : Station) → fault_of 2000 (all_walks d) ≡ None → IsListed d
-is_listed d h = let l = listed 2000 (all_walks d) h in record { once = l.0; few = l.1 }
+pub is_listed : (d : Station) → fault_of 2000 (all_walks d) ≡ None → CanBeListed d
+is_listed d h = let l = listed 2000 (all_walks d) h in record { once = l.0; at_most_2000 = l.1 }
 
 pub has_fault : (d : Station) (r : ℕ) (xs ys : List Walk) (x : RouteFault) → IsFaultOf r xs x → fault_of r (xs ++ ys) ≡ fault_of 2000 (all_walks d) → HasFault d x
 has_fault d r xs ys (fault.RepeatsEdge e) h same = again 2000 (all_walks d) e (sym same ∙ fault-first r xs ys (fault.RepeatsEdge e) h)

@@ -106,7 +106,7 @@ module _ (d : Station) where
   -- ---- levels
 
   pub open_longer : (m n : ℕ) (l : Level) → m ≤ n → IsOpen d m l → IsOpen d n l
-  open_longer m n l h o = record { on_path = let k = o.on_path in omega arith; node = o.node; some = o.some }
+  open_longer m n l h o = record { on_path = let k = o.on_path in omega arith; node = o.node; has_next = o.has_next }
 
   same_prefix : (path other : List EdgeNo) (l : Level) → take l.after path ≡ take l.after other → at_level d path l ≡ at_level d other l
   same_prefix path other l h = ap (λ prefix. flat_map (over d (length d.edges - l.after) prefix l.from) (drop l.tried (leave d l.from))) h
@@ -232,7 +232,7 @@ module _ (d : Station) where
   pub popped_some : (path short : List EdgeNo) (ls rest : List Level) (l : Level) → AreLevels (length path) ls → ls ≡ rest ++ l ∷ [] → short ≡ take l.after path → IsOpen d (length short) l
   popped_some path short ls rest l is e cut =
       let here = popped_here path short ls rest l is e cut in
-      record { on_path = omega arith; node = (last_open path ls rest l is e).node; some = (last_open path ls rest l is e).some }
+      record { on_path = omega arith; node = (last_open path ls rest l is e).node; has_next = (last_open path ls rest l is e).has_next }
 
   -- the others stay, also on what is left of the path
   pub popped_levels : (path short : List EdgeNo) (ls rest : List Level) (l : Level) → AreLevels (length path) ls → ls ≡ rest ++ l ∷ [] → short ≡ take l.after path → AreLevels (length short) rest
@@ -245,7 +245,7 @@ module _ (d : Station) where
       each k m o =
           let here = popped_here path short ls rest l is e cut in
           let before = rest_before path ls rest l is e k m in
-          record { on_path = omega arith; node = o.node; some = o.some }
+          record { on_path = omega arith; node = o.node; has_next = o.has_next }
 
   pub popped_same : (path short : List EdgeNo) (ls rest : List Level) (l : Level) → AreLevels (length path) ls → ls ≡ rest ++ l ∷ [] → short ≡ take l.after path
       → at_level d short l ++ pending d short rest ≡ pending d path ls
@@ -271,5 +271,5 @@ station_same s t e = ap (λ r. r.now.design.now.station) e
 pub are_edges : (d : Station) (s : Search) (path : List EdgeNo) → station_of s ≡ d → path ≡ s.path.edges.items → AreEdges d path
 are_edges d s path of same = subst (λ d. AreEdges d path) of (subst (AreEdges (station_of s)) (sym same) (record {
   numbered = λ e m. let h = s.path.numbered e m in (h.0, let u = h.1 in let k = s.marks in omega arith);
-  few = few (station_of s) s.path s.marks;
+  within_edges = few (station_of s) s.path s.marks;
 }))

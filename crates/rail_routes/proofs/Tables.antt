@@ -14,7 +14,7 @@ use Rattle.rail_laws.proofs.RouteLaws.{walk_edges, route_is}
 use Rattle.rail_laws.proofs.BadWalk.{closed_are_routes}
 use Rattle.rail_routes.specs.declared.fault.RouteFault.{RouteFault}
 use Rattle.rail_routes.specs.declared.fault.RouteFault.TheVariants as fault
-use Rattle.rail_routes.specs.Refusals.{HasFault, IsListed}
+use Rattle.rail_routes.specs.Refusals.{HasFault, CanBeListed}
 
 take-whole : {X : Type 0} (n : ℕ) (xs : List X) → length xs ≤ n → take n xs ≡ xs
 take-whole n [] h = take-nothing n
@@ -26,20 +26,20 @@ take-whole zero (x ∷ xs) h = absurd (omega arith)
 take-whole (suc n) (x ∷ xs) h = ap (λ ys. x ∷ ys) (take-whole n xs (omega arith))
 
 module _ (d : Station) where
-  pub some_answer : IsListed d ⊎ ((e : EdgeNo) × HasFault d (fault.RepeatsEdge e)) ⊎ HasFault d fault.TooMany
+  pub some_answer : CanBeListed d ⊎ ((e : EdgeNo) × HasFault d (fault.RepeatsEdge e)) ⊎ HasFault d fault.TooMany
   some_answer = go (edges_met_again d) refl (below_or_not 2000 (length (all_walks d)))
     where
-      go : (es : List EdgeNo) → edges_met_again d ≡ es → (2000 < length (all_walks d)) ⊎ (length (all_walks d) ≤ 2000) → IsListed d ⊎ ((e : EdgeNo) × HasFault d (fault.RepeatsEdge e)) ⊎ HasFault d fault.TooMany
+      go : (es : List EdgeNo) → edges_met_again d ≡ es → (2000 < length (all_walks d)) ⊎ (length (all_walks d) ≤ 2000) → CanBeListed d ⊎ ((e : EdgeNo) × HasFault d (fault.RepeatsEdge e)) ⊎ HasFault d fault.TooMany
       go (e ∷ es) h k = inr (inl (e, ap first_of_list h))
       go [] h (inl many) = inr (inr (h, many))
-      go [] h (inr few) = inl (record { once = h; few = few })
+      go [] h (inr few) = inl (record { once = h; at_most_2000 = few })
 
   none_met : edges_met_again d ≡ [] → (e : EdgeNo) → first_of_list (edges_met_again d) ≡ Some e → ⊥
   none_met h e f = let no : first_of_list [] ≡ Some e = ap first_of_list (sym h) ∙ f in cc
 
-  pub not_both : IsListed d → (x : RouteFault) → x ≢ fault.Memory → HasFault d x → ⊥
+  pub not_both : CanBeListed d → (x : RouteFault) → x ≢ fault.Memory → HasFault d x → ⊥
   not_both l (fault.RepeatsEdge e) ne h = none_met l.once e h
-  not_both l fault.TooMany ne h = let few = l.few in let many = h.1 in omega arith
+  not_both l fault.TooMany ne h = let few = l.at_most_2000 in let many = h.1 in omega arith
   not_both l fault.Memory ne h = ne refl
 
   pub one_reason : (x y : RouteFault) → x ≢ fault.Memory → y ≢ fault.Memory → HasFault d x → HasFault d y → x ≡ y
@@ -51,11 +51,11 @@ module _ (d : Station) where
   one_reason (fault.RepeatsEdge e) fault.Memory a b h k = absurd (b refl)
   one_reason fault.TooMany fault.Memory a b h k = absurd (b refl)
 
-  pub listed_all : IsListed d → length (routes_of d) ≡ length (all_walks d)
+  pub listed_all : CanBeListed d → length (routes_of d) ≡ length (all_walks d)
   listed_all l = closed_are_routes d (λ e m. no_edge e (in_flat_map bad_edge (all_walks d) (RepeatsEdge e) e m (inl refl)))
     where
       all : edges_met_again d ≡ flat_map bad_edge (all_walks d)
-      all = ap (flat_map bad_edge) (take-whole 2001 (all_walks d) (let k = l.few in omega arith))
+      all = ap (flat_map bad_edge) (take-whole 2001 (all_walks d) (let k = l.at_most_2000 in omega arith))
 
       no_edge : (e : EdgeNo) → In e (flat_map bad_edge (all_walks d)) → ⊥
       no_edge e m = subst (In e) (sym all ∙ l.once) m

@@ -1,4 +1,4 @@
--- What is told of a route, edge by edge.
+-- What is said of a route, edge by edge.
 use Rattle.std.proofs.Common.{◌≡◌, ℕ, zero, suc, ◌+◌, ◌≤◌, ◌<◌, ◌⊎◌, inl, inr, max, Bool, true, false, not, cond, ◌&&◌, ◌==◌, nat_le, replicate, List, [], ◌∷◌, ◌++◌, map, filter, fold, drop, length, get_or, refl, sym, ap, ap₂, subst, ◌∙◌, arith, eq-eqb, eqb-true, true≢false, append_assoc, set, get_or-set_same, get_or-set_other, drop-cons, add-one}
 use Rattle.rail_base.specs.declared.station.Station.{Station}
 use Rattle.rail_base.specs.declared.station.EdgeNo.{EdgeNo}
@@ -16,7 +16,7 @@ use Rattle.std.specs.List.{list_all}
 use Rattle.rail_base.proofs.Contained.{in_at}
 use Rattle.rail_base.proofs.Lists.{in_map_back}
 use Rattle.rail_spec.specs.Track.{edge_ends, first_occurrences, last_end}
-use Rattle.rail_laws.proofs.Told.{first_in}
+use Rattle.rail_laws.proofs.AsEdges.{first_in}
 use Rattle.rail_routes.specs.Walks.{AreEdges}
 
 -- the edge at a place of the path, and those from it on

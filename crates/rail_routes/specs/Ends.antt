@@ -11,12 +11,12 @@ use Rattle.rail_spec.specs.Track.{signals_at}
 use Rattle.rail_routes.specs.declared.track.AtEnd.{AtEnd}
 
 -- the edges at an end, and the signals for trains that leave by it
-abbrev pub at_end : Station → End → AtEnd
-at_end d end = record { edges = leave d end; signals = signals_at d end }
+abbrev pub edges_at_end : Station → End → AtEnd
+edges_at_end d end = record { edges = leave d end; signals = signals_at d end }
 
 -- what is at one side of each node
 abbrev pub at_side : Station → Side → List AtEnd
-at_side d side = map (λ n. at_end d (record { node = record { 0 = n }; side = side })) (one_to (length d.nodes))
+at_side d side = map (λ n. edges_at_end d (record { node = record { 0 = n }; side = side })) (one_to (length d.nodes))
 
 -- the edge has one of its ends there
 abbrev pub meets : Station → EdgeNo → End → Bool

@@ -11,7 +11,7 @@ use Rattle.rail_routes.specs.Paths.{pairs-prop}
 pub record IsOpen (d : Station) (edges : ℕ) (l : Level) : Type 0 where
   pub on_path : l.after ≤ edges
   pub node : IsNode d l.from.node
-  pub some : l.tried < length (leave d l.from)
+  pub has_next : l.tried < length (leave d l.from)
 
 -- all of them are
 abbrev pub AreOpen : Station → ℕ → List Level → Type 0

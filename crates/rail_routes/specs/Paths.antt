@@ -9,7 +9,7 @@ use Rattle.std.specs.Coded.{×_prop, Unit-prop, Π_prop}
 abbrev pub HasMark : List Bool → EdgeNo → Type 0
 HasMark marks e = (1 ≤ e.0) × (e.0 ≤ length marks)
 
--- each edge is there once, and the marks tell which are there
+-- each edge is there once, and the marks say which are there
 pub record AreMarked (edges : List EdgeNo) (marks : List Bool) : Type 0 where
   pub numbered : (e : EdgeNo) → In e edges → HasMark marks e
   pub once : Differ edges

@@ -9,9 +9,9 @@ use Rattle.rail_routes.specs.declared.fault.RouteFault.{RouteFault}
 use Rattle.rail_routes.specs.declared.fault.RouteFault.TheVariants as fault
 
 -- at most 2,000 paths close, and none meets an edge again
-pub record IsListed (d : Station) : Type 0 where
+pub record CanBeListed (d : Station) : Type 0 where
   pub once : edges_met_again d ≡ []
-  pub few : length (all_walks d) ≤ 2000
+  pub at_most_2000 : length (all_walks d) ≤ 2000
 
 -- the fault is found: of the first 2,001 closed paths the first that meets an edge again meets this one, or none does and there are so many
 abbrev pub HasFault : Station → RouteFault → Type 0

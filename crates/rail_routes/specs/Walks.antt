@@ -12,7 +12,7 @@ use Rattle.rail_spec.specs.Track.{edge_ends, first_occurrences, last_end, nodes_
 -- edges of the design, no more than it has
 pub record AreEdges (d : Station) (path : List EdgeNo) : Type 0 where
   pub numbered : (e : EdgeNo) → In e path → IsEdge d e
-  pub few : length path ≤ length d.edges
+  pub within_edges : length path ≤ length d.edges
 
 -- the nodes of a path that leaves by this end, each with its offset
 abbrev pub nodes_of : Station → End → List EdgeNo → List (NodeNo × ℤ)

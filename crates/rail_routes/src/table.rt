@@ -3,7 +3,7 @@
 ghost use Rattle.std.specs.Prelude.{◌≡◌, ◌++◌, ◌-◌, ◌≤◌, IfErr, IfOk, OnOk, None, length};
 ghost use Rattle.rail_laws.specs.Elementary.{IsStart};
 ghost use Rattle.rail_spec.specs.Track.{walks_from, routes_of};
-ghost use Rattle.rail_routes.specs.Refusals.{fault_of, routes_from, HasFault, IsFaultOf, IsListed};
+ghost use Rattle.rail_routes.specs.Refusals.{fault_of, routes_from, HasFault, IsFaultOf, CanBeListed};
 
 use crate::fault::RouteFault;
 use crate::route::route_of;
@@ -28,7 +28,7 @@ const MOST_ROUTES: usize = 2000;
 /// path meets; else `TooMany` exactly where there are 2,001 closed paths or more; `Memory` where memory is wanting.
 pub fn interlocking(alloc: Global, design: Design) -> Result<Interlocking, RouteFault>
     ensures design { IfOk result (λ made. made.design ≡ design) }
-    ensures listed { OnOk result (IsListed design.station) }
+    ensures can_be_listed { OnOk result (CanBeListed design.station) }
     ensures fault { IfErr result (HasFault design.station) }
 {
     let routes = routes(alloc, &design)?;
@@ -73,7 +73,7 @@ fn add_routes<'a>(
 fn routes_along<'a>(alloc: Global, track: &'a Track<'a>) -> Result<RouteTable, RouteFault>
     ensures routes { IfOk result (λ routes. routes ≡ routes_of track.now.design.now.station) }
     ensures at_most_2000 { IfOk result (λ routes. length routes ≤ 2000) }
-    ensures listed { OnOk result (IsListed track.now.design.now.station) }
+    ensures can_be_listed { OnOk result (CanBeListed track.now.design.now.station) }
     ensures fault { IfErr result (HasFault track.now.design.now.station) }
 {
     let starts = starts(alloc, track)?;
@@ -88,7 +88,7 @@ fn routes_along<'a>(alloc: Global, track: &'a Track<'a>) -> Result<RouteTable, R
 fn routes(alloc: Global, design: &Design) -> Result<RouteTable, RouteFault>
     ensures routes { IfOk result (λ routes. routes ≡ routes_of design.now.station) }
     ensures at_most_2000 { IfOk result (λ routes. length routes ≤ 2000) }
-    ensures listed { OnOk result (IsListed design.now.station) }
+    ensures can_be_listed { OnOk result (CanBeListed design.now.station) }
     ensures fault { IfErr result (HasFault design.now.station) }
 {
     let track = Track::new(alloc, design)?;

@@ -5,7 +5,7 @@ ghost use Rattle.rail_base.specs.Stations.{far_end, is_end, is_side, leave, node
 ghost use Rattle.rail_base.specs.Stations.{through, IsEdge, IsNode, IsSignal};
 ghost use Rattle.rail_spec.specs.Track.{signals_at};
 ghost use Rattle.rail_base.specs.declared.station.Side.TheVariants.{A, B};
-ghost use Rattle.rail_routes.specs.Ends.{at_end, at_side, leave_by, meets};
+ghost use Rattle.rail_routes.specs.Ends.{edges_at_end, at_side, leave_by, meets};
 
 use rail_base::design::Design;
 use rail_base::list::List;
@@ -95,7 +95,7 @@ impl Track<'_> {
     /// What stands at an end.
     pub(crate) fn at(&self, end: End) -> &AtEnd
         requires { IsNode self.now.design.now.station end.node }
-        ensures { result.now ≡ at_end self.now.design.now.station end }
+        ensures { result.now ≡ edges_at_end self.now.design.now.station end }
     {
         let index = end.node.0 as usize - 1;
         match end.side {
@@ -166,8 +166,8 @@ fn signals_at(alloc: Global, design: &Design, end: End) -> Result<List<SignalNo>
 }
 
 /// What stands at an end.
-fn at_end(alloc: Global, design: &Design, end: End) -> Result<AtEnd, AllocError>
-    ensures { IfOk result (λ at. at ≡ at_end design.now.station end) }
+fn edges_at_end(alloc: Global, design: &Design, end: End) -> Result<AtEnd, AllocError>
+    ensures { IfOk result (λ at. at ≡ edges_at_end design.now.station end) }
 {
     Ok(AtEnd {
         edges: leave(alloc, design, end)?,
@@ -185,7 +185,7 @@ fn at_side(alloc: Global, design: &Design, side: Side) -> Result<List<AtEnd>, Al
             node: NodeNo(index as u32 + 1),
             side,
         };
-        all.push(at_end(alloc, design, end)?)?;
+        all.push(edges_at_end(alloc, design, end)?)?;
     }
     Ok(all)
 }

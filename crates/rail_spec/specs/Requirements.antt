@@ -90,8 +90,8 @@ module _ (d : Station) (routes : List Route) (plan : List (List Command)) where
   is_certain k (violation.Visit t j) = (k == horizon d) && not (visited_by k t j)
 
   -- the ways in which a plan may fail on its run, in the order in which they are named
-  abbrev pub ways_to_fail : List Violation
-  ways_to_fail = map violation.Within (one_to (length d.withins)) ++ map violation.Order (one_to (length d.orders))
+  abbrev pub possible_violations : List Violation
+  possible_violations = map violation.Within (one_to (length d.withins)) ++ map violation.Order (one_to (length d.orders))
       ++ flat_map (λ t. map (violation.Grant t) (command_numbers t)) (trains d)
       ++ flat_map (λ t. map (violation.Visit t) (visit_numbers d t)) (trains d)
 
@@ -101,7 +101,7 @@ module _ (d : Station) (routes : List Route) (plan : List (List Command)) where
 
   -- the first way in which the plan fails at tick k
   abbrev pub violation_at : ℕ → Option Violation
-  violation_at k = find (is_certain k) ways_to_fail
+  violation_at k = find (is_certain k) possible_violations
 
   -- the first visit that no path makes
   abbrev pub path_violation : Option Violation

@@ -2,7 +2,7 @@
 use Rattle.std.specs.Prelude.{◌≡◌, List, [], ◌∷◌, Option, MatchOption}
 use Rattle.rail_text.specs.declared.cursor.Cursor.{Cursor}
 use Rattle.rail_text.specs.declared.cursor.Piece.{Piece}
-use Rattle.rail_text.specs.Lines.{line_of}
+use Rattle.rail_text.specs.Lines.{line_of_piece}
 use Rattle.rail_text.specs.Pieces.{Line, pieces_from}
 
 -- the lines that are left
@@ -13,4 +13,4 @@ lines_left cursor = pieces_from cursor.line cursor.rest.now
 abbrev pub GivesNext : Cursor → Option Piece → Cursor → Type 0
 GivesNext old given new =
     MatchOption given ((lines_left old ≡ []) × (lines_left new ≡ [])) (λ piece.
-    lines_left old ≡ line_of piece ∷ lines_left new)
+    lines_left old ≡ line_of_piece piece ∷ lines_left new)

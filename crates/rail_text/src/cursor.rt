@@ -1,7 +1,7 @@
 //! The lines of a text.
 
 ghost use Rattle.std.specs.Prelude.{◌≡◌, ◌+◌, ◌^◌, ◌<◌, ◌∷◌, length, position};
-ghost use Rattle.rail_text.specs.Lines.{line_of};
+ghost use Rattle.rail_text.specs.Lines.{line_of_piece};
 ghost use Rattle.rail_text.specs.Pieces.{is_lf, pieces, pieces_from};
 
 /// A line of a text.
@@ -47,7 +47,7 @@ fn line_end(text: &[u8]) -> Option<usize>
 /// The first line of a text that has bytes, and the bytes after it.
 fn first_piece(line: u64, text: &[u8]) -> (Piece<'_>, &[u8])
     requires { 0 < length text.now }
-    ensures first { pieces_from line text.now ≡ line_of result.0 ∷ pieces_from (line + 1) result.1.now }
+    ensures pieces { pieces_from line text.now ≡ line_of_piece result.0 ∷ pieces_from (line + 1) result.1.now }
     ensures shorter { length result.1.now < length text.now }
 {
     match line_end(text) {

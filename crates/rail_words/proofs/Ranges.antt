@@ -4,7 +4,7 @@ use Rattle.clap.specs.Words.{Row, Text, first_of, subcommand_of}
 use Rattle.std.specs.Str.Parse.{digits_value}
 use Rattle.rail_text.specs.Numbers.{is_numeral, number_of}
 use Rattle.rail_words.specs.FixedCommand.{rcv_app, is_taken}
-use Rattle.rail_words.specs.Requests.{RequestSeen, simulate, routes, verify, check, trial, IsInRange, simulate_with, routes_with, verify_within, verify_with, check_with, trial_within, trial_with, steps_of, conflicts_of, ticks_of, seed_of, size_of, asked_by, is_given, request_of}
+use Rattle.rail_words.specs.Requests.{RequestSeen, simulate, routes, verify, check, trial, IsRequestInRange, simulate_with, routes_with, verify_within, verify_with, check_with, trial_within, trial_with, steps_of, conflicts_of, ticks_of, seed_of, size_of, asked_by, is_given, request_of}
 use Rattle.rail_words.specs.Laws.{RequestsAreInRange}
 use Rattle.rail_words.specs.Words.{request_seen}
 use Rattle.rail_words.specs.declared.request.Request.{Request}
@@ -33,23 +33,23 @@ fits numeral value n e = go (numeral && nat_lt value (2 ^ 64)) refl e
 seed_fits : (text : Text) (n : ℕ) → seed_of text ≡ Some n → n ≤ 18446744073709551615
 seed_fits text n e = fits (is_numeral text) (digits_value 10 text) n e
 
-check_made : (steps : Option ℕ) (design proof : Text) (a : RequestSeen) → ((n : ℕ) → steps ≡ Some n → (1 ≤ n) × (n ≤ 256)) → option_map (λ n. check n design proof) steps ≡ Some a → IsInRange a
+check_made : (steps : Option ℕ) (design proof : Text) (a : RequestSeen) → ((n : ℕ) → steps ≡ Some n → (1 ≤ n) × (n ≤ 256)) → option_map (λ n. check n design proof) steps ≡ Some a → IsRequestInRange a
 check_made None design proof a h e = absurd (cc)
-check_made (Some n) design proof a h e = let same : check n design proof ≡ a = cc in subst IsInRange same (h n refl)
+check_made (Some n) design proof a h e = let same : check n design proof ≡ a = cc in subst IsRequestInRange same (h n refl)
 
-checked_so : (steps design proof : Option Text) (a : RequestSeen) → check_with steps design proof ≡ Some a → IsInRange a
+checked_so : (steps design proof : Option Text) (a : RequestSeen) → check_with steps design proof ≡ Some a → IsRequestInRange a
 checked_so None design proof a e = absurd (cc)
 checked_so (Some steps) None proof a e = absurd (cc)
 checked_so (Some steps) (Some design) None a e = absurd (cc)
 checked_so (Some steps) (Some design) (Some proof) a e = check_made (steps_of steps) design proof a (λ n h. kept 256 (number_of steps) n h) e
 
-verify_made : (steps conflicts ticks : Option ℕ) (bounds : Bool) (design proof : Text) (a : RequestSeen) → ((n : ℕ) → steps ≡ Some n → (1 ≤ n) × (n ≤ 256)) → verify_within steps conflicts ticks bounds design proof ≡ Some a → IsInRange a
+verify_made : (steps conflicts ticks : Option ℕ) (bounds : Bool) (design proof : Text) (a : RequestSeen) → ((n : ℕ) → steps ≡ Some n → (1 ≤ n) × (n ≤ 256)) → verify_within steps conflicts ticks bounds design proof ≡ Some a → IsRequestInRange a
 verify_made None conflicts ticks bounds design proof a h e = absurd (cc)
 verify_made (Some n) None ticks bounds design proof a h e = absurd (cc)
 verify_made (Some n) (Some c) None bounds design proof a h e = absurd (cc)
-verify_made (Some n) (Some c) (Some t) bounds design proof a h e = let same : verify n c t bounds design proof ≡ a = cc in subst IsInRange same (h n refl)
+verify_made (Some n) (Some c) (Some t) bounds design proof a h e = let same : verify n c t bounds design proof ≡ a = cc in subst IsRequestInRange same (h n refl)
 
-verified_so : (steps conflicts ticks : Option Text) (bounds : Bool) (design proof : Option Text) (a : RequestSeen) → verify_with steps conflicts ticks bounds design proof ≡ Some a → IsInRange a
+verified_so : (steps conflicts ticks : Option Text) (bounds : Bool) (design proof : Option Text) (a : RequestSeen) → verify_with steps conflicts ticks bounds design proof ≡ Some a → IsRequestInRange a
 verified_so None conflicts ticks bounds design proof a e = absurd (cc)
 verified_so (Some s) None ticks bounds design proof a e = absurd (cc)
 verified_so (Some s) (Some c) None bounds design proof a e = absurd (cc)
@@ -57,27 +57,27 @@ verified_so (Some s) (Some c) (Some t) bounds None proof a e = absurd (cc)
 verified_so (Some s) (Some c) (Some t) bounds (Some design) None a e = absurd (cc)
 verified_so (Some s) (Some c) (Some t) bounds (Some design) (Some proof) a e = verify_made (steps_of s) (conflicts_of c) (ticks_of t) bounds design proof a (λ n h. kept 256 (number_of s) n h) e
 
-simulated_so : (design plan : Option Text) (a : RequestSeen) → simulate_with design plan ≡ Some a → IsInRange a
+simulated_so : (design plan : Option Text) (a : RequestSeen) → simulate_with design plan ≡ Some a → IsRequestInRange a
 simulated_so None plan a e = absurd (cc)
 simulated_so (Some design) None a e = absurd (cc)
-simulated_so (Some design) (Some plan) a e = let same : simulate design plan ≡ a = cc in subst IsInRange same tt
+simulated_so (Some design) (Some plan) a e = let same : simulate design plan ≡ a = cc in subst IsRequestInRange same tt
 
-routed_so : (design : Option Text) (a : RequestSeen) → routes_with design ≡ Some a → IsInRange a
+routed_so : (design : Option Text) (a : RequestSeen) → routes_with design ≡ Some a → IsRequestInRange a
 routed_so None a e = absurd (cc)
-routed_so (Some design) a e = let same : routes design ≡ a = cc in subst IsInRange same tt
+routed_so (Some design) a e = let same : routes design ≡ a = cc in subst IsRequestInRange same tt
 
-trial_made : (seed size : Option ℕ) (a : RequestSeen) → ((n : ℕ) → seed ≡ Some n → n ≤ 18446744073709551615) → ((n : ℕ) → size ≡ Some n → (1 ≤ n) × (n ≤ 6)) → trial_within seed size ≡ Some a → IsInRange a
+trial_made : (seed size : Option ℕ) (a : RequestSeen) → ((n : ℕ) → seed ≡ Some n → n ≤ 18446744073709551615) → ((n : ℕ) → size ≡ Some n → (1 ≤ n) × (n ≤ 6)) → trial_within seed size ≡ Some a → IsRequestInRange a
 trial_made None size a h i e = absurd (cc)
 trial_made (Some s) None a h i e = absurd (cc)
-trial_made (Some s) (Some k) a h i e = let same : trial s k ≡ a = cc in subst IsInRange same (h s refl, (i k refl).0, (i k refl).1)
+trial_made (Some s) (Some k) a h i e = let same : trial s k ≡ a = cc in subst IsRequestInRange same (h s refl, (i k refl).0, (i k refl).1)
 
-tried_so : (seed size : Option Text) (a : RequestSeen) → trial_with seed size ≡ Some a → IsInRange a
+tried_so : (seed size : Option Text) (a : RequestSeen) → trial_with seed size ≡ Some a → IsRequestInRange a
 tried_so None size a e = absurd (cc)
 tried_so (Some seed) None a e = absurd (cc)
 tried_so (Some seed) (Some size) a e = trial_made (seed_of seed) (size_of size) a (seed_fits seed) (λ n h. kept 6 (number_of size) n h) e
 
 chosen : (first second third fourth fifth bounds : Bool) (design plan file steps conflicts ticks of proof seed size : Option Text) (a : RequestSeen)
-    → (if first then simulate_with design plan else if second then routes_with file else if third then verify_with steps conflicts ticks bounds of proof else if fourth then check_with steps of proof else if fifth then trial_with seed size else None) ≡ Some a → IsInRange a
+    → (if first then simulate_with design plan else if second then routes_with file else if third then verify_with steps conflicts ticks bounds of proof else if fourth then check_with steps of proof else if fifth then trial_with seed size else None) ≡ Some a → IsRequestInRange a
 chosen true second third fourth fifth bounds design plan file steps conflicts ticks of proof seed size a e = simulated_so design plan a e
 chosen false true third fourth fifth bounds design plan file steps conflicts ticks of proof seed size a e = routed_so file a e
 chosen false false true fourth fifth bounds design plan file steps conflicts ticks of proof seed size a e = verified_so steps conflicts ticks bounds of proof a e
@@ -85,7 +85,7 @@ chosen false false false true fifth bounds design plan file steps conflicts tick
 chosen false false false false true bounds design plan file steps conflicts ticks of proof seed size a e = tried_so seed size a e
 chosen false false false false false bounds design plan file steps conflicts ticks of proof seed size a e = absurd (cc)
 
-named : (entered : Option (Text × List Row)) (a : RequestSeen) → option_and_then asked_by entered ≡ Some a → IsInRange a
+named : (entered : Option (Text × List Row)) (a : RequestSeen) → option_and_then asked_by entered ≡ Some a → IsRequestInRange a
 named None a e = absurd (cc)
 named (Some entered) a e =
     chosen (bytes_eq entered.0 (codes "simulate")) (bytes_eq entered.0 (codes "routes")) (bytes_eq entered.0 (codes "verify")) (bytes_eq entered.0 (codes "check")) (bytes_eq entered.0 (codes "trial")) (is_given (codes "bounds") entered.1)
@@ -93,7 +93,7 @@ named (Some entered) a e =
     (first_of (codes "steps") entered.1) (first_of (codes "conflicts") entered.1) (first_of (codes "ticks") entered.1) (first_of (codes "DESIGN") entered.1) (first_of (codes "PROOF") entered.1)
     (first_of (codes "SEED") entered.1) (first_of (codes "SIZE") entered.1) a e
 
-taken_so : (taken : Bool) (entered : Option (Text × List Row)) (a : RequestSeen) → (if taken then option_and_then asked_by entered else None) ≡ Some a → IsInRange a
+taken_so : (taken : Bool) (entered : Option (Text × List Row)) (a : RequestSeen) → (if taken then option_and_then asked_by entered else None) ≡ Some a → IsRequestInRange a
 taken_so true entered a e = named entered a e
 taken_so false entered a e = absurd (cc)
 
@@ -101,6 +101,6 @@ pub requests_in_range : RequestsAreInRange
 unfolding request_of
 requests_in_range words a e = taken_so (is_taken words) (subcommand_of rcv_app words) a e
 
-pub answer_in_range : (words : List Text) (answer : Result Request WordsFault) → IfOk answer (λ request. request_of words ≡ Some (request_seen request)) → IfOk answer (λ request. IsInRange (request_seen request))
+pub answer_in_range : (words : List Text) (answer : Result Request WordsFault) → IfOk answer (λ request. request_of words ≡ Some (request_seen request)) → IfOk answer (λ request. IsRequestInRange (request_seen request))
 answer_in_range words (Ok request) h = requests_in_range words (request_seen request) h
 answer_in_range words (Err fault) h = tt

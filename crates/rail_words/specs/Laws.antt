@@ -2,7 +2,7 @@
 use Rattle.std.specs.Prelude.{ℕ, List, ◌≡◌, ◌↔◌, ◌==◌, ◌⊎◌, not, Bool, true, false, [], ◌∷◌, Option, Some, None, codes}
 use Rattle.clap.specs.Words.{Row, Text, first_of, subcommand_of}
 use Rattle.rail_words.specs.FixedCommand.{rcv_app, is_taken}
-use Rattle.rail_words.specs.Requests.{RequestSeen, IsInRange, request_of, steps_of, conflicts_of, ticks_of, seed_of, size_of}
+use Rattle.rail_words.specs.Requests.{RequestSeen, IsRequestInRange, request_of, steps_of, conflicts_of, ticks_of, seed_of, size_of}
 use Rattle.rail_words.specs.Requests.{simulate, routes, verify, check, trial}
 
 -- not empty, and not beginning with a hyphen
@@ -66,7 +66,7 @@ TrialIsRead = (program seed size : Text) (s k : ℕ)
 
 -- what words ask for is in range
 abbrev pub RequestsAreInRange : Type 0
-RequestsAreInRange = (words : List Text) (asked : RequestSeen) → request_of words ≡ Some asked → IsInRange asked
+RequestsAreInRange = (words : List Text) (asked : RequestSeen) → request_of words ≡ Some asked → IsRequestInRange asked
 
 -- the argument has a value, but no number in its range
 abbrev pub IsOutOfRange : (Text → Option ℕ) → Text → List Row → Type 0

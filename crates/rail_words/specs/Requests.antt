@@ -40,12 +40,12 @@ pub data RequestSeen : Type 0 where
   trial : ℕ → ℕ → RequestSeen
 
 -- its number of steps, where it has one, is from 1 to 256; its seed fits 64 bits, and its size is from 1 to 6
-abbrev pub IsInRange : RequestSeen → Type 0
-IsInRange (simulate design plan) = Unit {0}
-IsInRange (routes design) = Unit {0}
-IsInRange (verify n conflicts ticks bounds design proof) = (1 ≤ n) × (n ≤ 256)
-IsInRange (check n design proof) = (1 ≤ n) × (n ≤ 256)
-IsInRange (trial seed size) = (seed ≤ 18446744073709551615) × (1 ≤ size) × (size ≤ 6)
+abbrev pub IsRequestInRange : RequestSeen → Type 0
+IsRequestInRange (simulate design plan) = Unit {0}
+IsRequestInRange (routes design) = Unit {0}
+IsRequestInRange (verify n conflicts ticks bounds design proof) = (1 ≤ n) × (n ≤ 256)
+IsRequestInRange (check n design proof) = (1 ≤ n) × (n ≤ 256)
+IsRequestInRange (trial seed size) = (seed ≤ 18446744073709551615) × (1 ≤ size) × (size ≤ 6)
 
 abbrev pub simulate_with : Option Text → Option Text → Option RequestSeen
 simulate_with (Some design) (Some plan) = Some (simulate design plan)

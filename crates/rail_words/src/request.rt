@@ -4,7 +4,7 @@ ghost use Rattle.std.specs.Prelude.{◌≡◌, ◌≢◌, IfOk, OnOk, Err, Some,
 ghost use Rattle.std.specs.Prelude.{codes};
 ghost use Rattle.clap.specs.Words.{first_of, rows_of, found_of, subcommand_of, subcommand_rows_of};
 ghost use Rattle.rail_words.specs.FixedCommand.{rcv_app, is_taken};
-ghost use Rattle.rail_words.specs.Requests.{IsInRange, asked_by, check_with, conflicts_of, is_given, number_to};
+ghost use Rattle.rail_words.specs.Requests.{IsRequestInRange, asked_by, check_with, conflicts_of, is_given, number_to};
 ghost use Rattle.rail_words.specs.Requests.{request_of};
 ghost use Rattle.rail_words.specs.Requests.{simulate_by, routes_by, verify_by, check_by, trial_by};
 ghost use Rattle.rail_words.specs.Requests.{simulate_with, steps_of, ticks_of, routes_with, seed_of, size_of};
@@ -78,7 +78,7 @@ impl From<AllocError> for WordsFault {
 pub fn read_words<'a>(alloc: Global, words: &'a [String]) -> Result<Request<'a>, WordsFault>
     ensures ok { IfOk result (λ request. request_of (texts_of words.entry.now) ≡ Some (request_seen request)) }
     ensures usage { result ≡ Err WordsFault.Usage → request_of (texts_of words.entry.now) ≡ None }
-    ensures range { IfOk result (λ request. IsInRange (request_seen request)) }
+    ensures range { IfOk result (λ request. IsRequestInRange (request_seen request)) }
 {
     match matches_of(alloc, words) {
         Ok(matches) => request_in(&matches).ok_or(WordsFault::Usage),

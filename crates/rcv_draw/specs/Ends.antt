@@ -6,7 +6,7 @@ use Rattle.draw_cli.specs.Wanted.{wanted_of}
 use Rattle.draw_cli.specs.Replies.{PrintsSome}
 
 -- the number is that of a status which is that of an answer for some bytes of the files, or of none, over files and an
--- output that tell nothing
+-- output that says nothing
 pub record EndsWith (words : List (List ℕ)) (number : ℕ) : Type 0 where
   pub status : Status
   pub number_of : number ≡ code_of status

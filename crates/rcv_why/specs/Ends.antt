@@ -6,7 +6,7 @@ use Rattle.why_words.specs.Wanted.{wanted_of}
 use Rattle.why_cli.specs.Replies.{PrintsSome}
 
 -- the number is that of a status which is that of the answer for some bytes of the files, over files and an output that
--- tell nothing
+-- say nothing
 pub record EndsWith (words : List (List ℕ)) (number : ℕ) : Type 0 where
   pub status : Status
   pub number_of : number ≡ code_of status

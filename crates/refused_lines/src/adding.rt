@@ -85,7 +85,7 @@ pub(crate) struct SearchState {
     pub(crate) ghost same: { solver.vars ≡ vars },
 }
 
-/// Gives a solver a clause with its line, and tells whether memory sufficed.
+/// Gives a solver a clause with its line, and says whether memory sufficed.
 fn is_added(solver: &mut HaltingSolver, vars: u32, line: &[u8], clause: &[Lit]) -> Result<bool>
     requires { solver.old.vars ≡ vars }
     ensures { solver.new.vars ≡ solver.old.vars }

@@ -7,6 +7,7 @@ ghost use Rattle.plan_encoding.specs.Bases.{IsBaseOf};
 
 use crate::adding::SearchState;
 use anyhow::{Result, bail, ensure};
+use bound_spec::Evidence;
 use cone_form::Contention;
 use halting::Halting;
 use interlocking::{Interlocking, Steps};
@@ -20,7 +21,6 @@ use proof_judge::ByDesign;
 use proof_log::{Head, Line, write_head, write_line};
 use rail_base::history::Verdict;
 use rail_base::plan::Plan;
-use bound_spec::Evidence;
 use rail_plan::reading::read_plan;
 use sat_clause::Lit;
 use sat_core::{Answer, Assignment, Recorder, Solver};
@@ -88,7 +88,7 @@ pub(crate) fn refute(
 }
 
 impl PlanSearch<'_> {
-    /// The plan of which these values tell, as its text reads back.
+    /// The plan that these values give, as its text reads back.
     fn plan_of(&self, values: &Assignment) -> Result<Plan>
         ensures { IfOk result (λ p. IsRunnable self.now.interlocking.now 256 p.steps) }
     {
@@ -137,7 +137,7 @@ impl PlanSearch<'_> {
         }
     }
 
-    /// Excludes the plan of which these values tell.
+    /// Excludes the plan that these values give.
     fn exclude(&self, search: &mut SearchState, values: &Assignment) -> Result<()> {
         let plan = self.plan_of(values)?;
         let evidence = self.evidence(&plan)?;

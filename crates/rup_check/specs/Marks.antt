@@ -1,4 +1,4 @@
--- Marks on literals, two for each variable, and when they tell which literals are held.
+-- Marks on literals, two for each variable, and when they say which literals are assigned.
 use Rattle.std.specs.Prelude.{◌≡◌, Bool, false, not, cond, ◌||◌, List, get_or}
 use Rattle.sat_clause.specs.declared.lit.Lit.{Lit}
 use Rattle.sat_clause.specs.Hints.{is_assigned}

@@ -9,11 +9,11 @@ pub record Head : Type 0 where
   pub end : ℕ
   pub live : Bool
 
--- the clause that a head tells of
+-- the clause that a head gives
 abbrev pub clause_at : List Lit → Head → (List Lit × Bool)
 clause_at lits h = (slice_range lits h.start h.end, h.live)
 
--- the clauses that the heads tell of, in order, each with its mark
+-- the clauses that the heads give, in order, each with its mark
 abbrev pub clauses_of : List Lit → List Head → Store
 clauses_of lits heads = map (clause_at lits) heads
 
@@ -28,7 +28,7 @@ abbrev pub begin_at : ℕ → List ℕ → ℕ → ℕ
 begin_at from ends zero = from
 begin_at from ends (suc i) = get_or ends i 0
 
--- the heads tell of pieces that lie one after another from a place to an end
+-- the heads give pieces that lie one after another from a place to an end
 abbrev pub LaidOut : ℕ → List Head → ℕ → Type 0
 LaidOut from [] end = from ≤ end
 LaidOut from (h ∷ hs) end = (from ≤ h.start) × (h.start ≤ h.end) × LaidOut h.end hs end

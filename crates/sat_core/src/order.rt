@@ -89,7 +89,7 @@ impl Order {
 
     /// A literal of a variable that has no value. There is none where each variable has one.
     pub fn next(&mut self, trail: &Trail) -> Option<Lit>
-        ensures some { IfSome result (λ l. IsFresh (lits trail.now.steps) l × IsIn trail.now.vars l) }
+        ensures fresh { IfSome result (λ l. IsFresh (lits trail.now.steps) l × IsIn trail.now.vars l) }
         ensures none { IfNone result (IsTotal trail.now.vars (lits trail.now.steps)) }
     {
         if let Some(l) = self.first(trail) {

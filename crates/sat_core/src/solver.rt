@@ -25,7 +25,7 @@ use sat_clause::{Arena, Lit};
 use sat_trail::{Learnt, Trail};
 use std::alloc::{AllocError, Global};
 
-/// Clauses of variables from 1 to their count, and the recorder that is told of each.
+/// Clauses of variables from 1 to their count, and the recorder that is given each.
 #[derive(Drop)]
 pub struct Solver<R: Recorder> {
     alloc: Global,
@@ -43,7 +43,7 @@ pub struct Solver<R: Recorder> {
     ghost same: { R.clauses recorder ≡ arena },
     ghost holds: { Holds arena trail vars },
     ghost counted: { derives ≤ length arena },
-    ghost listed: { R.learnt recorder ≡ learnt.items },
+    ghost same_learnt: { R.learnt recorder ≡ learnt.items },
     ghost ascending: { ascends 0 learnt.items (length arena) ≡ true },
     ghost alive: { live ≤ live_among arena learnt.items },
 }
@@ -205,7 +205,7 @@ impl<R: Recorder> Solver<R> {
     fn go_back(&mut self, level: u32)
         ensures state { state_in self.new ≡ state_in self.old }
         ensures recorder { self.new.recorder ≡ self.old.recorder }
-        ensures listed { self.new.learnt.items ≡ self.old.learnt.items }
+        ensures same_learnt { self.new.learnt.items ≡ self.old.learnt.items }
         ensures vars { self.new.vars ≡ self.old.vars }
         ensures depth { depth self.new.trail.steps ≤ level }
     {
@@ -277,7 +277,7 @@ impl<R: Recorder> Solver<R> {
         requires idle { IsBehindNone self.old.trail.steps id }
         ensures gone { OnOk result (IsForgot (state_in self.old) (state_in self.new) id) }
         ensures err { OnErr result (state_in self.new ≡ state_in self.old) }
-        ensures listed { self.new.learnt.items ≡ self.old.learnt.items }
+        ensures same_learnt { self.new.learnt.items ≡ self.old.learnt.items }
         ensures vars { self.new.vars ≡ self.old.vars }
     {
         self.recorder.forgot(id)?;
@@ -290,7 +290,7 @@ impl<R: Recorder> Solver<R> {
     /// Forgets the derived clause at a place where it may be forgotten.
     fn forget_if_long(&mut self, place: usize) -> Result<(), RecordFault>
         ensures gone { (assumptions : _) → Forgot assumptions (state_in self.old) (state_in self.new) }
-        ensures listed { self.new.learnt.items ≡ self.old.learnt.items }
+        ensures same_learnt { self.new.learnt.items ≡ self.old.learnt.items }
         ensures vars { self.new.vars ≡ self.old.vars }
     {
         if place >= self.learnt.len() {

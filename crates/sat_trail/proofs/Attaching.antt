@@ -13,7 +13,7 @@ use Rattle.sat_trail.specs.declared.status.Propagation.{Propagation}
 use Rattle.sat_trail.specs.declared.status.Propagation.TheVariants as propagation
 use Rattle.sat_trail.specs.Trails.{lits, depth, IsTrail}
 use Rattle.sat_trail.specs.Attached.{is_among, attached_clause, with_attached, without_attached, AreLive}
-use Rattle.sat_trail.specs.Scans.{InactiveAmong, Says, SaysAmong}
+use Rattle.sat_trail.specs.Scans.{InactiveAmong, IsPropagation, SaysAmong}
 use Rattle.sat_trail.specs.View.{View}
 use Rattle.sat_trail.specs.Watches.{code_of, row_at, edit, stands_by, Satisfied, IsGuarded, IsWatched, IsWatching, IsOpenPair, IsLooseOrWatched}
 use Rattle.sat_trail.proofs.Members.{told, same-self}
@@ -58,8 +58,8 @@ watching-back v new loose rows pairs level h k e f b n x =
             first_in = q.by.first_in;
             second_in = q.by.second_in;
             apart = q.by.apart;
-            first_listed = q.by.first_listed;
-            second_listed = q.by.second_listed;
+            first_watched = q.by.first_watched;
+            second_watched = q.by.second_watched;
             first_guarded = guarded-back c level h k (length new.steps) v.steps new.steps q.pair.first b f steps q.by.first_guarded;
             second_guarded = guarded-back c level h k (length new.steps) v.steps new.steps q.pair.second b f steps q.by.second_guarded;
           };
@@ -132,7 +132,7 @@ watching-closed store v loose rows pairs h live t stands x n quiet id c e = elim
 ]
 
 -- what was found among the loose clauses was found
-pub says-all : (store : Store) (assigned : List Lit) (ids : List ℕ) (r : Propagation) → (InactiveAmong store assigned ids → IsClosed store assigned) → SaysAmong store assigned ids r → Says store assigned r
+pub says-all : (store : Store) (assigned : List Lit) (ids : List ℕ) (r : Propagation) → (InactiveAmong store assigned ids → IsClosed store assigned) → SaysAmong store assigned ids r → IsPropagation store assigned r
 says-all store assigned ids propagation.Closed f s = f s
 says-all store assigned ids (propagation.Conflict id) f s = s
 says-all store assigned ids (propagation.Unit l id) f s = s
@@ -163,8 +163,8 @@ watching-freed v loose old new pairs h id size others none x = record {
             first_in = q.by.first_in;
             second_in = q.by.second_in;
             apart = q.by.apart;
-            first_listed = others (code_of q.pair.first) j ne q.by.first_listed;
-            second_listed = others (code_of q.pair.second) j ne q.by.second_listed;
+            first_watched = others (code_of q.pair.first) j ne q.by.first_watched;
+            second_watched = others (code_of q.pair.second) j ne q.by.second_watched;
             first_guarded = q.by.first_guarded;
             second_guarded = q.by.second_guarded;
           };
@@ -185,8 +185,8 @@ watching-put v loose old new pairs h k id n e x = record {
         first_in = q.by.first_in;
         second_in = q.by.second_in;
         apart = q.by.apart;
-        first_listed = ap (λ z. is_among (row_at z (code_of q.pair.first)) j) e ∙ entry_at-more old k (code_of q.pair.first) id j n q.by.first_listed;
-        second_listed = ap (λ z. is_among (row_at z (code_of q.pair.second)) j) e ∙ entry_at-more old k (code_of q.pair.second) id j n q.by.second_listed;
+        first_watched = ap (λ z. is_among (row_at z (code_of q.pair.first)) j) e ∙ entry_at-more old k (code_of q.pair.first) id j n q.by.first_watched;
+        second_watched = ap (λ z. is_among (row_at z (code_of q.pair.second)) j) e ∙ entry_at-more old k (code_of q.pair.second) id j n q.by.second_watched;
         first_guarded = q.by.first_guarded;
         second_guarded = q.by.second_guarded;
       };
@@ -230,8 +230,8 @@ watched-open c id h old rows new pairs steps p o k a b e f = record {
     first_in = o.first_in;
     second_in = o.second_in;
     apart = o.apart;
-    first_listed = ap (λ z. is_among (row_at z (code_of p.first)) id) f ∙ entry_at-more rows (code_of p.second) (code_of p.first) id id b (ap (λ z. is_among (row_at z (code_of p.first)) id) e ∙ entry_at-there old (code_of p.first) id a);
-    second_listed = ap (λ z. is_among (row_at z (code_of p.second)) id) f ∙ entry_at-there rows (code_of p.second) id b;
+    first_watched = ap (λ z. is_among (row_at z (code_of p.first)) id) f ∙ entry_at-more rows (code_of p.second) (code_of p.first) id id b (ap (λ z. is_among (row_at z (code_of p.first)) id) e ∙ entry_at-there old (code_of p.first) id a);
+    second_watched = ap (λ z. is_among (row_at z (code_of p.second)) id) f ∙ entry_at-there rows (code_of p.second) id b;
     first_guarded = not-done c h steps p.first o.first_open;
     second_guarded = not-done c h steps p.second o.second_open;
   };

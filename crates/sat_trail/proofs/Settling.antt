@@ -22,14 +22,14 @@ use Rattle.sat_trail.proofs.Watched.{satisfied-more}
 
 -- none at the start
 pub settled-none : (v : View) (ids : List ℕ) (top : ℕ) → IsSettled v ids 0 top
-settled-none v ids top = record { within = omega arith; low = λ j h. absurd (omega arith); first = λ j h. absurd (omega arith) }
+settled-none v ids top = record { within = omega arith; ids_to_top = λ j h. absurd (omega arith); true_first = λ j h. absurd (omega arith) }
 
 -- with more steps
 pub settled-steps : (v new : View) (ids : List ℕ) (n top : ℕ) (more : List Step) → new.attached ≡ v.attached → new.steps ≡ v.steps ++ more → IsSettled v ids n top → IsSettled new ids n top
 settled-steps v new ids n top more a e s = record {
   within = s.within;
-  low = s.low;
-  first = λ j h c f. (let P : List Step → Type 0 = λ z. Satisfied c 0 z in subst P (sym e) (satisfied-more c 0 v.steps more (s.first j h c (ap (λ z. attached_clause z (get_or ids j 0)) (sym a) ∙ f))));
+  ids_to_top = s.ids_to_top;
+  true_first = λ j h c f. (let P : List Step → Type 0 = λ z. Satisfied c 0 z in subst P (sym e) (satisfied-more c 0 v.steps more (s.true_first j h c (ap (λ z. attached_clause z (get_or ids j 0)) (sym a) ∙ f))));
 }
 
 pub settled-forced : (v new : View) (ids : List ℕ) (n top : ℕ) → IsForced v new → IsSettled v ids n top → IsSettled new ids n top
@@ -45,9 +45,9 @@ settled-back v new ids n top level e s =
     let k : new.steps ≡ filter (up_to level) v.steps = ap (λ (z : View). z.steps) e in
     record {
       within = s.within;
-      low = s.low;
-      first = λ j h c f. (
-          let q = s.first j h c (ap (λ z. attached_clause z (get_or ids j 0)) (sym a) ∙ f) in
+      ids_to_top = s.ids_to_top;
+      true_first = λ j h c f. (
+          let q = s.true_first j h c (ap (λ z. attached_clause z (get_or ids j 0)) (sym a) ∙ f) in
           record { by = q.by; member = q.member; stands = subst (λ y. stands_by 0 y q.by ≡ true) (sym k) (stands-kept 0 level v.steps q.by (omega arith) q.stands) });
     }
 
@@ -64,8 +64,8 @@ settled-put v ids now n top id e s =
     let at : (j : ℕ) → j < n → get_or ids j 0 ≡ get_or now j 0 = λ j h. sym (ap (λ z. get_or z j 0) e ∙ at-put ids id j (omega arith)) in
     record {
       within = omega arith;
-      low = λ j h. subst (λ z. z ≤ top) (at j h) (s.low j h);
-      first = λ j h. (let P : ℕ → Type 0 = IsTrueFirst v in subst P (at j h) (s.first j h));
+      ids_to_top = λ j h. subst (λ z. z ≤ top) (at j h) (s.ids_to_top j h);
+      true_first = λ j h. (let P : ℕ → Type 0 = IsTrueFirst v in subst P (at j h) (s.true_first j h));
     }
 
 pub settled-same : (v new : View) (ids : List ℕ) (n top : ℕ) → new ≡ v → IsSettled v ids n top → IsSettled new ids n top
@@ -84,12 +84,12 @@ settled-attached v new ids n top id store far e s =
     let k : new.steps ≡ v.steps = ap (λ (z : View). z.steps) e in
     record {
       within = s.within;
-      low = s.low;
-      first = λ j h c f. (
-          let low = s.low j h in
+      ids_to_top = s.ids_to_top;
+      true_first = λ j h c f. (
+          let low = s.ids_to_top j h in
           let other : id ≡ get_or ids j 0 → ⊥ = λ q. elim far [ inl z ↦ omega arith | inr z ↦ omega arith ] in
           let P : List Step → Type 0 = λ z. Satisfied c 0 z in
-          subst P (sym k) (s.first j h c (sym (attached-other v.attached id (get_or ids j 0) store other) ∙ ap (λ z. attached_clause z (get_or ids j 0)) (sym a) ∙ f)));
+          subst P (sym k) (s.true_first j h c (sym (attached-other v.attached id (get_or ids j 0) store other) ∙ ap (λ z. attached_clause z (get_or ids j 0)) (sym a) ∙ f)));
     }
 
 pub settled-detached : (v new : View) (ids : List ℕ) (n top id : ℕ) → new ≡ record v { attached = without_attached v.attached id } → IsSettled v ids n top → IsSettled new ids n top
@@ -98,13 +98,13 @@ settled-detached v new ids n top id e s =
     let k : new.steps ≡ v.steps = ap (λ (z : View). z.steps) e in
     record {
       within = s.within;
-      low = s.low;
-      first = λ j h c f. (
+      ids_to_top = s.ids_to_top;
+      true_first = λ j h c f. (
           let g : attached_clause (without_attached v.attached id) (get_or ids j 0) ≡ Some c = ap (λ z. attached_clause z (get_or ids j 0)) (sym a) ∙ f in
           let P : List Step → Type 0 = λ z. Satisfied c 0 z in
           elim (eqb_tells (get_or ids j 0) id) [
             | inl p ↦ absurd (let z : None ≡ Some c = sym (detached-same v.attached id) ∙ ap (λ y. attached_clause (without_attached v.attached id) y) (sym p.1) ∙ g in cc)
-            | inr p ↦ subst P (sym k) (s.first j h c (sym (detached-other v.attached id (get_or ids j 0) (λ q. p.1 (sym q))) ∙ g))
+            | inr p ↦ subst P (sym k) (s.true_first j h c (sym (detached-other v.attached id (get_or ids j 0) (λ q. p.1 (sym q))) ∙ g))
           ]);
     }
 
@@ -112,13 +112,13 @@ settled-detached v new ids n top id e s =
 pub settled-next : (v : View) (ids : List ℕ) (n top now : ℕ) → n < length ids → top ≤ now → get_or ids n 0 ≤ now → IsTrueFirst v (get_or ids n 0) → IsSettled v ids n top → IsSettled v ids (n + 1) now
 settled-next v ids n top now h a b f s = record {
   within = omega arith;
-  low = λ j k. elim (eqb_tells j n) [
+  ids_to_top = λ j k. elim (eqb_tells j n) [
     | inl p ↦ subst (λ z. get_or ids z 0 ≤ now) (sym p.1) b
-    | inr p ↦ (let ne = p.1 in let low = s.low j (omega arith) in omega arith)
+    | inr p ↦ (let ne = p.1 in let low = s.ids_to_top j (omega arith) in omega arith)
   ];
-  first = λ j k. elim (eqb_tells j n) [
+  true_first = λ j k. elim (eqb_tells j n) [
     | inl p ↦ (let P : ℕ → Type 0 = λ z. IsTrueFirst v (get_or ids z 0) in subst P (sym p.1) f)
-    | inr p ↦ (let ne = p.1 in s.first j (omega arith))
+    | inr p ↦ (let ne = p.1 in s.true_first j (omega arith))
   ];
 }
 
@@ -126,7 +126,7 @@ drop-none : (ids : List ℕ) → drop 0 ids ≡ ids
 drop-none [] = refl
 drop-none (x ∷ xs) = refl
 
--- where the clauses behind the front are quiet, all are
+-- where the clauses behind the prefix are quiet, all are
 pub settled-quiet : (store : Store) (v : View) (ids : List ℕ) (n top : ℕ) → AreLive store v.attached → IsTrail store v.steps → IsSettled v ids n top → InactiveAmong store (lits v.steps) (drop n ids) → InactiveAmong store (lits v.steps) ids
 settled-quiet store v ids n top live t s quiet id c m e =
     let r = among-index ids 0 id (subst (λ z. is_among z id ≡ true) (sym (drop-none ids)) m) in
@@ -136,7 +136,7 @@ settled-quiet store v ids n top live t s quiet id c m e =
       | inl p ↦ quiet id c (subst (λ z. is_among (drop n ids) z ≡ true) r.3 (index-among ids n r.0 p.1 b)) e
       | inr p ↦ (
           let far = p.1 in
-          let q = s.first r.0 (omega arith) c (ap (λ z. attached_clause v.attached z) r.3 ∙ live id ∙ e) in
+          let q = s.true_first r.0 (omega arith) c (ap (λ z. attached_clause v.attached z) r.3 ∙ live id ∙ e) in
           quiet-assigned (lits v.steps) c q.by (consistent-all store v.steps t) q.member (stands-assigned 0 v.steps q.by q.stands))
     ]
 

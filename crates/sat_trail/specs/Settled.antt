@@ -12,5 +12,5 @@ IsTrueFirst trail id = (c : List Lit) → attached_clause trail.attached id ≡ 
 -- so it is with so many of these numbers at their front, none of which is greater than the last one
 pub record IsSettled (trail : View) (ids : List ℕ) (count top : ℕ) : Type 0 where
   pub within : count ≤ length ids
-  pub low : (j : ℕ) → j < count → slice_index_or ids j 0 ≤ top
-  pub first : (j : ℕ) → j < count → IsTrueFirst trail (slice_index_or ids j 0)
+  pub ids_to_top : (j : ℕ) → j < count → slice_index_or ids j 0 ≤ top
+  pub true_first : (j : ℕ) → j < count → IsTrueFirst trail (slice_index_or ids j 0)

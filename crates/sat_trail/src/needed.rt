@@ -10,7 +10,7 @@ use sat_clause::Lit;
 use std::alloc::{AllocError, Global};
 use std::marker::Model;
 
-/// Literals in a row, with a table that tells which ones they are.
+/// Literals in a row, with a table that says which ones they are.
 #[derive(Drop)]
 pub struct Needed {
     lits: Vec<Lit>,

@@ -61,7 +61,7 @@ pub fn settle(trail: &Assigned, arena: &Arena, ids: &[u64], settled: Settled) ->
 
 /// The greater one of two numbers.
 fn greater(a: u64, b: u64) -> u64
-    ensures first { a ≤ result }
+    ensures at_least_a { a ≤ result }
     ensures second { b ≤ result }
 {
     if a < b { b } else { a }

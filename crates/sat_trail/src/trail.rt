@@ -5,7 +5,7 @@ ghost use Rattle.std.specs.List.{filter};
 ghost use Rattle.sat_clause.specs.Hints.{is_assigned};
 ghost use Rattle.sat_clause.specs.Closed.{IsClosed};
 ghost use Rattle.sat_clause.specs.Clauses.{live_clause, opposite};
-ghost use Rattle.sat_trail.specs.Trails.{lits, IsFresh, IsTrail, IsLevelled, depth, IsIn, AllIn, step_of, reason_of};
+ghost use Rattle.sat_trail.specs.Trails.{lits, IsFresh, IsTrail, IsLevelled, depth, IsIn, AllIn, trail_step_of, reason_of};
 ghost use Rattle.sat_trail.specs.Trails.{value_of, lit_at, decision, HasValue};
 ghost use Rattle.sat_trail.specs.Attached.{AreLive, attached_clause, with_attached, without_attached, IsBehindNone};
 ghost use Rattle.sat_trail.specs.Forced.{IsForced, VarsUpTo, IsTotal};
@@ -87,14 +87,14 @@ impl Trail {
 
     /// The level at which a variable was assigned; 0 where no level was open.
     pub fn level(&self, var: u32) -> Option<u32>
-        ensures { result ≡ option_map (λ s. s.level) (step_of self.now.steps var) }
+        ensures { result ≡ option_map (λ s. s.level) (trail_step_of self.now.steps var) }
     {
         self.assigned.level(var)
     }
 
     /// The number of the clause behind a variable. There is none where the variable is not assigned or was decided.
     pub fn reason(&self, var: u32) -> Option<u64>
-        ensures { result ≡ reason_of (step_of self.now.steps var) }
+        ensures { result ≡ reason_of (trail_step_of self.now.steps var) }
     {
         self.assigned.reason(var)
     }
@@ -195,7 +195,7 @@ impl Trail {
 
     /// A literal of a variable that has no value. There is none where each variable has one.
     pub fn unassigned_literal(&self) -> Option<Lit>
-        ensures some { IfSome result (λ l. IsFresh (lits self.now.steps) l × IsIn self.now.vars l) }
+        ensures fresh { IfSome result (λ l. IsFresh (lits self.now.steps) l × IsIn self.now.vars l) }
         ensures none { IfNone result (IsTotal self.now.vars (lits self.now.steps)) }
     {
         self.assigned.unassigned_literal()

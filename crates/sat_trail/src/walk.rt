@@ -6,7 +6,7 @@ ghost use Rattle.sat_clause.specs.Clauses.{opposite};
 ghost use Rattle.sat_clause.specs.Hints.{same_lit, is_assigned, open_lits, follow_of};
 ghost use Rattle.sat_clause.specs.Closed.{IsClosed, IsNew};
 ghost use Rattle.sat_trail.specs.Trails.{lits, IsTrail};
-ghost use Rattle.sat_trail.specs.Standing.{IsApart, IsIncreasing, Stands, AllStand, NegationsStand};
+ghost use Rattle.sat_trail.specs.Standing.{HasDistinctVariables, IsIncreasing, Stands, AllStand, NegationsStand};
 ghost use Rattle.sat_trail.specs.Walks.{Walk, IsConflict, KeepsOf, decided, NegatesOnly, Beyond};
 ghost use Rattle.sat_clause.specs.declared.follow.Follow.TheVariants.{Yes};
 
@@ -334,9 +334,9 @@ fn to_start(
     requires walk { Walk arena.now (lits steps.now) kept.old.items needed.old (reverse back.old.items) }
     requires not_empty { 0 < length back.old.items }
     requires stands { NegationsStand arena.now needed.old }
-    requires apart { IsApart kept.old.items }
+    requires apart { HasDistinctVariables kept.old.items }
     ensures stands { OnOk result (NegationsStand arena.now needed.new) }
-    ensures apart { OnOk result (IsApart kept.new.items) }
+    ensures apart { OnOk result (HasDistinctVariables kept.new.items) }
     ensures needed { OnOk result (KeepsOf kept.old.items kept.new.items needed.new) }
     ensures walk { OnOk result (Walk arena.now [] kept.new.items needed.new (reverse back.new.items)) }
     ensures kept { OnOk result (KeepsOf kept.old.items kept.new.items (lits steps.now)) }
@@ -370,7 +370,7 @@ fn to_start(
 
 /// The clause that negates what was kept.
 fn negate_kept(alloc: Global, kept: &[Lit]) -> Result<Vec<Lit>, AllocError>
-    requires apart { IsApart kept.now }
+    requires apart { HasDistinctVariables kept.now }
     ensures names { IfOk result (λ v. (l : _) → is_assigned (map opposite v.items) l ≡ is_assigned kept.now l) }
     ensures increasing { IfOk result (λ v. IsIncreasing v.items) }
 {

@@ -13,7 +13,7 @@ ghost use Rattle.sat_trail.specs.Forced.{IsForced, VarsUpTo};
 ghost use Rattle.sat_trail.specs.Walks.{IsConflict, IsClosedOrFalse};
 ghost use Rattle.sat_trail.specs.Watches.{code_of, row_at, edit, entries, rows, IsCut, other_in, IsWatching};
 ghost use Rattle.sat_trail.specs.Watches.{IsOpenPair, IsLooseOrWatched, Pending, Looked, OthersAreFalse};
-ghost use Rattle.sat_trail.specs.Scans.{Says};
+ghost use Rattle.sat_trail.specs.Scans.{IsPropagation};
 ghost use Rattle.sat_trail.specs.Settled.{IsSettled};
 ghost use Rattle.sat_trail.specs.Watching.{row_in, IsWatchingIn, AllBlockedIn, IsLooseOrWatchedIn, PendingIn, LookedIn};
 
@@ -171,7 +171,7 @@ fn set_blocker(lists: &mut Vec<Vec<Entry>>, place: usize, i: usize, entry: Entry
 
 /// The entry at an index of a list.
 fn entry_at(lists: &[Vec<Entry>], place: usize, i: usize) -> Option<Entry>
-    ensures some { IfSome result (λ e. (i < length (row_at (rows lists.now) place))
+    ensures entry { IfSome result (λ e. (i < length (row_at (rows lists.now) place))
         × (e.id ≡ slice_index_or (row_at (rows lists.now) place) i 0)) }
     ensures none { IfNone result (length (row_at (rows lists.now) place) ≤ i) }
     ensures bound { IfSome result (λ _. i + 1 < 18446744073709551616) }
@@ -479,7 +479,7 @@ fn rest(
     requires trail { IsTrail arena.now trail.now.steps }
     requires watching { IsWatchingIn trail.now watches.now head }
     requires settled { IsSettled trail.now watches.now.loose.items settled.count settled.top }
-    ensures { Says arena.now (lits trail.now.steps) result }
+    ensures { IsPropagation arena.now (lits trail.now.steps) result }
 {
     if head < trail.steps().len() {
         return scan(trail, arena);

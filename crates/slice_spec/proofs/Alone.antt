@@ -16,7 +16,7 @@ use Rattle.rail_spec.specs.Dispatches.{of_plan}
 use Rattle.cone_spec.specs.declared.ConeTrain.{ConeTrain}
 use Rattle.cone_spec.specs.declared.Cone.{Cone}
 use Rattle.slice_spec.specs.Holders.{count_at, next_at, is_the, holder_at, is_holder}
-use Rattle.slice_spec.specs.Slices.{past_last, is_next, names, is_listed, slice_pairs, slice_train, named_count, slice_of}
+use Rattle.slice_spec.specs.Slices.{past_last, is_next, names, is_slice_pair, slice_pairs, slice_train, named_count, slice_of}
 use Rattle.slice_spec.specs.Leasts.{IsLeast, HasLeast, IsSliceOf}
 use Rattle.rail_base.specs.Admitted.{IsAdmitted}
 use Rattle.rail_base.specs.Stations.{horizon}
@@ -69,7 +69,7 @@ module _ (d : Station) (routes : List Route) (plan : List (List Command)) (last 
         ap₂ (λ (i n : ℕ). record { train = t; horizon = i; free = count_at d routes plan i t; path = take n (path plan t); holder = holder_at d routes plan last g t }) (same t m) (count_same t m)
         ∙ ap (λ o. record { train = t; horizon = h t; free = count_at d routes plan (h t) t; path = take (named_count d routes plan last h t) (path plan t); holder = o }) (holder_same t m)
 
-    listed_same : (e c : Command) → In c.train (trains d) → is_listed d routes plan last g e c ≡ is_listed d routes plan last h e c
+    listed_same : (e c : Command) → In c.train (trains d) → is_slice_pair d routes plan last g e c ≡ is_slice_pair d routes plan last h e c
     listed_same e c m = ap₂
         (λ (i : ℕ) (o : Option Command). has_command plan e && has_command plan c && precedes routes plan e c && (is_granted d routes (of_plan routes plan) (state_at d routes (of_plan routes plan) i) c || is_next c (next_at d routes plan i c.train) && is_the e o))
         (same c.train m) (holder_same c.train m)
@@ -81,7 +81,7 @@ module _ (d : Station) (routes : List Route) (plan : List (List Command)) (last 
         go (t, i, j) = let k = in_map_back {Y = Command} (λ r. record { train = t; route = r }) (route_numbers routes) c j in subst (λ u. In u (trains d)) (ap (λ (c : Command). c.train) k.2) i
 
     pairs_same : slice_pairs d routes plan last g ≡ slice_pairs d routes plan last h
-    pairs_same = flat_map-same _ _ (all_commands d routes) (λ e. map_filter-same (λ c. (e, c)) (λ c. (e, c)) (is_listed d routes plan last g e) (is_listed d routes plan last h e) (all_commands d routes) (λ c m. refl) (λ c m. listed_same e c (train_of_all c m)))
+    pairs_same = flat_map-same _ _ (all_commands d routes) (λ e. map_filter-same (λ c. (e, c)) (λ c. (e, c)) (is_slice_pair d routes plan last g e) (is_slice_pair d routes plan last h e) (all_commands d routes) (λ c m. refl) (λ c m. listed_same e c (train_of_all c m)))
 
     pub slices_same : (v : Violation) → slice_of d routes plan last g v ≡ slice_of d routes plan last h v
     slices_same v = ap₂ (λ (ts : List ConeTrain) ps. record { trains = ts; pairs = ps; violation = v })

@@ -16,7 +16,7 @@ use Rattle.rail_base.proofs.Members.{In, and_left, and_right, and_both, list_all
 use Rattle.rail_spec.specs.Dispatches.{is_granted, has_released, has_cleared, is_ready, granted_with, granted_after}
 use Rattle.rail_spec.specs.Dispatches.{state_at, of_plan}
 use Rattle.rail_spec.specs.Visits.{visit_tick}
-use Rattle.slice_spec.specs.Holders.{count_at, next_at, holder_for, holder_at, is_within, reaches, grants_reach, reaches_holder, IsClosed}
+use Rattle.slice_spec.specs.Holders.{count_at, next_at, holder_for, holder_at, is_within, reaches, grants_reach, reaches_holder, IsClosedFamily}
 use Rattle.cone_spec.proofs.Running.{run_up_to, is_granted_up_to, granted_at_least, granted_cleared}
 use Rattle.slice_spec.proofs.Slicing.{in_trains_back}
 use Rattle.cone_spec.proofs.Saying.{in_trains}
@@ -57,7 +57,7 @@ module _ (d : Station) (routes : List Route) (plan : List (List Command)) (last 
   own_last (violation.Grant t j) c = let e : last ≡ horizon d = eqb-true _ _ (and_left (last == horizon d) _ c) in le-leb (horizon d) last (omega arith)
   own_last (violation.Visit t j) c = let e : last ≡ horizon d = eqb-true _ _ (and_left (last == horizon d) _ c) in le-leb (horizon d) last (omega arith)
 
-  pub last_closed : (v : Violation) → is_certain d routes plan last v ≡ true → IsClosed d routes plan last all_last v
+  pub last_closed : (v : Violation) → is_certain d routes plan last v ≡ true → IsClosedFamily d routes plan last all_last v
   last_closed v c = record {
     soon = list_all_from (λ (t : TrainNo). nat_le last last) (trains d) (λ t m. le-leb last last (omega arith));
     own = own_last v c;
@@ -100,7 +100,7 @@ module _ (d : Station) (routes : List Route) (plan : List (List Command)) (last 
       omega arith
 
   -- what the rules ask of lower horizons, closed ones that are higher give
-  module _ (v : Violation) (g h : TrainNo → ℕ) (soon : (t : TrainNo) → 1 ≤ t.0 → t.0 ≤ length d.trains → g t ≤ last) (ph : IsClosed d routes plan last h v) where
+  module _ (v : Violation) (g h : TrainNo → ℕ) (soon : (t : TrainNo) → 1 ≤ t.0 → t.0 ≤ length d.trains → g t ≤ last) (ph : IsClosedFamily d routes plan last h v) where
     -- what c waits for is released by the higher horizon, where c is granted by the lower one
     pub released_by : (c e : Command) → In c (commands plan) → In e (preceding routes plan c) → g c.train ≤ h c.train → is_granted d routes (of_plan routes plan) (state_at d routes (of_plan routes plan) (g c.train)) c ≡ true → has_cleared d routes (of_plan routes plan) (state_at d routes (of_plan routes plan) (h e.train)) c e ≡ true
     released_by c e m i l k = list_all_at (λ e. has_cleared d routes (of_plan routes plan) (state_at d routes (of_plan routes plan) (h e.train)) c e) (preceding routes plan c) e
@@ -182,10 +182,10 @@ module _ (d : Station) (routes : List Route) (plan : List (List Command)) (last 
       same_for b None = refl
       same_for b (Some r) = refl
 
-  pub lower_closed : (v : Violation) (g h : TrainNo → ℕ) → IsClosed d routes plan last g v → IsClosed d routes plan last h v → IsClosed d routes plan last (lower g h) v
+  pub lower_closed : (v : Violation) (g h : TrainNo → ℕ) → IsClosedFamily d routes plan last g v → IsClosedFamily d routes plan last h v → IsClosedFamily d routes plan last (lower g h) v
   lower_closed v g h pg ph = record { soon = soon; own = own v pg.own ph.own; grants = grants; holders = holders }
     where
-      early : (f : TrainNo → ℕ) → IsClosed d routes plan last f v → (t : TrainNo) → 1 ≤ t.0 → t.0 ≤ length d.trains → f t ≤ last
+      early : (f : TrainNo → ℕ) → IsClosedFamily d routes plan last f v → (t : TrainNo) → 1 ≤ t.0 → t.0 ≤ length d.trains → f t ≤ last
       early f p t a b = leb-true (f t) last (list_all_at (λ t. nat_le (f t) last) (trains d) t p.soon (in_trains d t a b))
 
       soon : list_all (λ t. nat_le (min (g t) (h t)) last) (trains d) ≡ true
@@ -238,7 +238,7 @@ module _ (d : Station) (routes : List Route) (plan : List (List Command)) (last 
       holders : list_all (λ t. reaches_holder d routes plan last (lower g h) t (holder_at d routes plan last (lower g h) t)) (trains d) ≡ true
       holders = list_all_from (λ t. reaches_holder d routes plan last (lower g h) t (holder_at d routes plan last (lower g h) t)) (trains d) (λ t m. let i = in_trains_back d t m in each t i.0 i.1 (holder_at d routes plan last (lower g h) t) refl)
         where
-          by : (f : TrainNo → ℕ) (p : IsClosed d routes plan last f v) (t : TrainNo) (e : Command) → 1 ≤ t.0 → t.0 ≤ length d.trains → holder_at d routes plan last f t ≡ Some e → f t ≤ f e.train + 1
+          by : (f : TrainNo → ℕ) (p : IsClosedFamily d routes plan last f v) (t : TrainNo) (e : Command) → 1 ≤ t.0 → t.0 ≤ length d.trains → holder_at d routes plan last f t ≡ Some e → f t ≤ f e.train + 1
           by f p t e a b k = leb-true _ _ (subst (λ o. reaches_holder d routes plan last f t o ≡ true) k (list_all_at (λ t. reaches_holder d routes plan last f t (holder_at d routes plan last f t)) (trains d) t p.holders (in_trains d t a b)))
 
           each : (t : TrainNo) → 1 ≤ t.0 → t.0 ≤ length d.trains → (o : Option Command) → holder_at d routes plan last (lower g h) t ≡ o → reaches_holder d routes plan last (lower g h) t o ≡ true

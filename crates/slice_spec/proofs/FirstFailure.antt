@@ -14,7 +14,7 @@ use Rattle.rail_spec.specs.Plans.{path, is_train}
 use Rattle.rail_base.specs.Members.{all_pairs}
 use Rattle.rail_base.specs.Stations.{trains, train_of, horizon, within_of, order_of, IsTrain}
 use Rattle.rail_spec.specs.Dispatches.{state_of, of_plan, state_at}
-use Rattle.rail_spec.specs.Requirements.{command_numbers, visit_numbers, is_certain, ways_to_fail, violation_at}
+use Rattle.rail_spec.specs.Requirements.{command_numbers, visit_numbers, is_certain, possible_violations, violation_at}
 use Rattle.rail_base.proofs.Members.{In, and_left, and_right, and_both, list_all_at, below_or_not, not_less}
 use Rattle.rail_base.specs.Admission.{is_from}
 use Rattle.slice_spec.specs.Holders.{count_at}
@@ -66,7 +66,7 @@ names_there d = list_all (λ w. is_from 1 (length d.trains) w.from_train.0 && is
 pub names_there_of : (d : Station) → IsAdmitted d → names_there d ≡ true
 names_there_of d a = and_both _ _
     (list_all_from (λ (w : Within). is_from 1 (length d.trains) w.from_train.0 && is_from 1 (length d.trains) w.to_train.0) d.withins (λ w m. let g = a.within w m in and_both _ _ (number g.from.0) (number g.to.0)))
-    (list_all_from (λ (o : Order). is_from 1 (length d.trains) o.first_train.0 && is_from 1 (length d.trains) o.then_train.0) d.orders (λ o m. let g = a.order o m in and_both _ _ (number g.first.0) (number g.after.0)))
+    (list_all_from (λ (o : Order). is_from 1 (length d.trains) o.first_train.0 && is_from 1 (length d.trains) o.then_train.0) d.orders (λ o m. let g = a.order o m in and_both _ _ (number g.first_names.0) (number g.after.0)))
   where
     number : {t : TrainNo} → IsTrain d t → is_from 1 (length d.trains) t.0 ≡ true
     number {t} (low, high) = and_both _ _ (le-leb 1 t.0 low) (le-leb t.0 (length d.trains) high)
@@ -80,7 +80,7 @@ module _ (d : Station) (routes : List Route) (plan : List (List Command)) (last 
     AGrant : (t : TrainNo) (j : ℕ) → In t (trains d) → In j (one_to (length (path plan t))) → violation.Grant t j ≡ v → Stands v
     AVisit : (t : TrainNo) (j : ℕ) → In t (trains d) → In j (visit_numbers d t) → violation.Visit t j ≡ v → Stands v
 
-  stands_on : (v : Violation) → In v (ways_to_fail d routes plan) → Stands v
+  stands_on : (v : Violation) → In v (possible_violations d routes plan) → Stands v
   stands_on v m = go (in_append v (map violation.Within (one_to (length d.withins)) ++ map violation.Order (one_to (length d.orders)) ++ flat_map (λ t. map (violation.Grant t) (command_numbers d routes plan t)) (trains d)) (flat_map (λ t. map (violation.Visit t) (visit_numbers d t)) (trains d)) m)
     where
       in_visits : In v (flat_map (λ t. map (violation.Visit t) (visit_numbers d t)) (trains d)) → Stands v
@@ -135,7 +135,7 @@ module _ (d : Station) (routes : List Route) (plan : List (List Command)) (last 
   after_order w (violation.Order u) = refl
   after_order w (violation.Visit u i) = refl
 
-  ordered : all_pairs after_grant (ways_to_fail d routes plan) ≡ true
+  ordered : all_pairs after_grant (possible_violations d routes plan) ≡ true
   ordered =
       all_pairs_append after_grant (map violation.Within (one_to (length d.withins)) ++ map violation.Order (one_to (length d.orders)) ++ flat_map (λ t. map (violation.Grant t) (command_numbers d routes plan t)) (trains d)) (flat_map (λ t. map (violation.Visit t) (visit_numbers d t)) (trains d))
       (all_pairs_append after_grant (map violation.Within (one_to (length d.withins)) ++ map violation.Order (one_to (length d.orders))) (flat_map (λ t. map (violation.Grant t) (command_numbers d routes plan t)) (trains d))
@@ -196,8 +196,8 @@ module _ (d : Station) (routes : List Route) (plan : List (List Command)) (last 
   pub known : names_there d ≡ true → (v : Violation) → violation_at d routes plan last ≡ Some v → Known v
   known there v e = go (stands_on v f.member)
     where
-      f : First (is_certain d routes plan last) (ways_to_fail d routes plan) v
-      f = find_first (is_certain d routes plan last) (ways_to_fail d routes plan) v e
+      f : First (is_certain d routes plan last) (possible_violations d routes plan) v
+      f = find_first (is_certain d routes plan last) (possible_violations d routes plan) v e
 
       low : (m i : ℕ) → is_from 1 m i ≡ true → 1 ≤ i
       low m i h = leb-true 1 i (and_left (nat_le 1 i) (nat_le i m) h)
@@ -233,7 +233,7 @@ module _ (d : Station) (routes : List Route) (plan : List (List Command)) (last 
               top : j ≤ length (path plan t)
               top = high (length (path plan t)) j (number_of (length (path plan t)) j n)
 
-              member : In (violation.Grant t (count_at d routes plan last t + 1)) (ways_to_fail d routes plan)
+              member : In (violation.Grant t (count_at d routes plan last t + 1)) (possible_violations d routes plan)
               member = in_append_left _ (map violation.Within (one_to (length d.withins)) ++ map violation.Order (one_to (length d.orders)) ++ flat_map (λ t. map (violation.Grant t) (command_numbers d routes plan t)) (trains d)) (flat_map (λ t. map (violation.Visit t) (visit_numbers d t)) (trains d))
                   (in_append_right _ (map violation.Within (one_to (length d.withins)) ++ map violation.Order (one_to (length d.orders))) (flat_map (λ t. map (violation.Grant t) (command_numbers d routes plan t)) (trains d))
                   (in_flat_map (λ t. map (violation.Grant t) (command_numbers d routes plan t)) (trains d) t _ m (in_map (violation.Grant t) (command_numbers d routes plan t) (count_at d routes plan last t + 1) (in_count 1 (length (path plan t)) (count_at d routes plan last t + 1) (omega arith) (let x = top in omega arith)))))

@@ -22,7 +22,7 @@ use Rattle.rail_spec.specs.Dispatches.{of_plan}
 use Rattle.rail_base.proofs.Members.{In, and_left, and_right, and_both, list_all_at}
 use Rattle.rail_base.specs.Admission.{is_visit}
 use Rattle.cone_spec.specs.Cones.{unnamed, named, has_route, is_named, is_free, all_free}
-use Rattle.cone_spec.specs.Validity.{from_boundary, is_walk, train_in_design, in_design, violation_in_design, granted_at, just_granted, holder_fits, shown, is_valid_cone}
+use Rattle.cone_spec.specs.Validity.{from_boundary, is_walk, train_in_design, in_design, violation_in_design, granted_at, just_granted, holder_fits, shows_violation, is_valid_cone}
 use Rattle.cone_spec.specs.Clauses.{goes_further, Used, Before, Literal, is_true_of, used_literals, before_literals, clause_of_cone, is_false_of}
 use Rattle.rail_base.specs.Admission.{is_from}
 use Rattle.slice_spec.specs.Slices.{path_cone}
@@ -95,7 +95,7 @@ module _ (d : Station) (routes : List Route) (n : ℕ) (plan : List (List Comman
         go true b = refl
         go false b = refl
 
-    shown_it : shown d routes (path_cone plan t j) (violation.Path t j) ≡ true
+    shown_it : shows_violation d routes (path_cone plan t j) (violation.Path t j) ≡ true
     shown_it = ap (λ (c : ConeTrain). is_none (entry None (visits_on (train_of d t).visits (path_nodes (map (route_at routes) c.path))) j)) named_this ∙ misses.missed
 
     pub path_valid : is_valid_cone d routes (path_cone plan t j) ≡ true

@@ -16,8 +16,8 @@ use Rattle.rail_spec.specs.Visits.{visit_tick}
 use Rattle.rail_spec.specs.Dispatches.{is_granted, has_released, has_cleared, state_at, of_plan}
 use Rattle.rail_laws.proofs.Deciding.{least_gives}
 use Rattle.cone_spec.proofs.Running.{is_granted_up_to, granted_cleared}
-use Rattle.slice_spec.specs.Holders.{clear_tick, holder_at, is_within, reaches, grants_reach, reaches_holder, IsClosed}
-use Rattle.slice_spec.specs.Leasts.{asked}
+use Rattle.slice_spec.specs.Holders.{clear_tick, holder_at, is_within, reaches, grants_reach, reaches_holder, IsClosedFamily}
+use Rattle.slice_spec.specs.Leasts.{violation_horizons}
 use Rattle.slice_spec.proofs.Holders.{least_found, not_at_first, has_released_up_to}
 use Rattle.slice_spec.proofs.Slicing.{in_trains_back}
 use Rattle.slice_spec.proofs.Closing.{or_false, from_or, after_gives, followed_by}
@@ -76,7 +76,7 @@ module _ (d : Station) (routes : List Route) (plan : List (List Command)) (last 
 
   -- ---- what a closed family reaches
 
-  module _ (v : Violation) (g : TrainNo → ℕ) (closed : IsClosed d routes plan last g v) where
+  module _ (v : Violation) (g : TrainNo → ℕ) (closed : IsClosedFamily d routes plan last g v) where
     -- the ticks at which what a granted command waits for cleared it
     pub reaches_clear : (c e : Command) → In c (commands plan) → In e (preceding routes plan c) → (k : ℕ) → k ≤ g c.train → is_granted d routes (of_plan routes plan) (state_at d routes (of_plan routes plan) k) c ≡ true → (a : ℕ) → clear_tick d routes plan last c e ≡ Some a → a ≤ g e.train
     reaches_clear c e m i k l granted a at = go (g e.train) refl
@@ -96,46 +96,46 @@ module _ (d : Station) (routes : List Route) (plan : List (List Command)) (last 
   -- ---- what a violation asks for
 
   -- a closed family reaches it
-  pub reaches_asked : (v : Violation) → is_certain d routes plan last v ≡ true → (g : TrainNo → ℕ) → IsClosed d routes plan last g v → (t : TrainNo) (k : ℕ) → In (t, Some k) (asked d last v) → k ≤ g t
+  pub reaches_asked : (v : Violation) → is_certain d routes plan last v ≡ true → (g : TrainNo → ℕ) → IsClosedFamily d routes plan last g v → (t : TrainNo) (k : ℕ) → In (t, Some k) (violation_horizons d last v) → k ≤ g t
   reaches_asked (violation.Path u j) c g closed t k m = absurd m
   reaches_asked (violation.Within w) c g closed t k m = go (after_gives d routes plan last M _ last (and_right (nat_le last (horizon d)) _ (and_left (nat_le last (horizon d) && is_after M (visit_tick d routes (of_plan routes plan) last (within_of d w).from_train (within_of d w).from_visit) last) _ c))) m
     where
       M : ℕ
       M = most_ticks d (within_of d w)
 
-      go : (a : ℕ) × (visit_tick d routes (of_plan routes plan) last (within_of d w).from_train (within_of d w).from_visit ≡ Some a) × (a + most_ticks d (within_of d w) ≡ last) → In (t, Some k) (asked d last (violation.Within w)) → k ≤ g t
+      go : (a : ℕ) × (visit_tick d routes (of_plan routes plan) last (within_of d w).from_train (within_of d w).from_visit ≡ Some a) × (a + most_ticks d (within_of d w) ≡ last) → In (t, Some k) (violation_horizons d last (violation.Within w)) → k ≤ g t
       go (a, made, at) m =
           let own : (nat_le a (g (within_of d w).from_train) && nat_le (a + most_ticks d (within_of d w)) (g (within_of d w).to_train)) ≡ true = subst (λ o. is_within o (λ a. nat_le a (g (within_of d w).from_train) && nat_le (a + most_ticks d (within_of d w)) (g (within_of d w).to_train)) ≡ true) made closed.own in
           pick (leb-true _ _ (and_left (nat_le a (g (within_of d w).from_train)) _ own)) (leb-true _ _ (and_right (nat_le a (g (within_of d w).from_train)) _ own)) m
         where
-          pick : a ≤ g (within_of d w).from_train → a + most_ticks d (within_of d w) ≤ g (within_of d w).to_train → In (t, Some k) (asked d last (violation.Within w)) → k ≤ g t
+          pick : a ≤ g (within_of d w).from_train → a + most_ticks d (within_of d w) ≤ g (within_of d w).to_train → In (t, Some k) (violation_horizons d last (violation.Within w)) → k ≤ g t
           pick x y (inl e) = let f = train_of_pair (within_of d w).from_train t (last - most_ticks d (within_of d w)) k e in let n = tick_of_pair (within_of d w).from_train t (last - most_ticks d (within_of d w)) k e in subst (λ u. k ≤ g u) f (omega arith)
           pick x y (inr (inl e)) = let f = train_of_pair (within_of d w).to_train t (last) k e in let n = tick_of_pair (within_of d w).to_train t (last) k e in subst (λ u. k ≤ g u) f (omega arith)
           pick x y (inr (inr m)) = absurd m
   reaches_asked (violation.Order o) c g closed t k m = go (after_gives d routes plan last 0 _ last (and_left (is_after 0 (visit_tick d routes (of_plan routes plan) last (order_of d o).then_train (order_of d o).then_visit) last) _ c)) m
     where
-      go : (a : ℕ) × (visit_tick d routes (of_plan routes plan) last (order_of d o).then_train (order_of d o).then_visit ≡ Some a) × (a + 0 ≡ last) → In (t, Some k) (asked d last (violation.Order o)) → k ≤ g t
+      go : (a : ℕ) × (visit_tick d routes (of_plan routes plan) last (order_of d o).then_train (order_of d o).then_visit ≡ Some a) × (a + 0 ≡ last) → In (t, Some k) (violation_horizons d last (violation.Order o)) → k ≤ g t
       go (a, made, at) m =
           let own : (nat_le a (g (order_of d o).then_train) && nat_le a (g (order_of d o).first_train + 1)) ≡ true = subst (λ x. is_within x (λ a. nat_le a (g (order_of d o).then_train) && nat_le a (g (order_of d o).first_train + 1)) ≡ true) made closed.own in
           pick (leb-true _ _ (and_left (nat_le a (g (order_of d o).then_train)) _ own)) (leb-true _ _ (and_right (nat_le a (g (order_of d o).then_train)) _ own)) m
         where
-          pick : a ≤ g (order_of d o).then_train → a ≤ g (order_of d o).first_train + 1 → In (t, Some k) (asked d last (violation.Order o)) → k ≤ g t
+          pick : a ≤ g (order_of d o).then_train → a ≤ g (order_of d o).first_train + 1 → In (t, Some k) (violation_horizons d last (violation.Order o)) → k ≤ g t
           pick x y (inl e) = let f = train_of_pair (order_of d o).then_train t (last) k e in let n = tick_of_pair (order_of d o).then_train t (last) k e in subst (λ u. k ≤ g u) f (omega arith)
           pick x y (inr (inl e)) = let f = train_of_pair (order_of d o).first_train t (last - 1) k e in let n = tick_of_pair (order_of d o).first_train t (last - 1) k e in subst (λ u. k ≤ g u) f (omega arith)
           pick x y (inr (inr m)) = absurd m
   reaches_asked (violation.Grant u j) c g closed t k m = pick (leb-true (horizon d) (g u) closed.own) (eqb-true last (horizon d) (and_left (last == horizon d) _ c)) m
     where
-      pick : horizon d ≤ g u → last ≡ horizon d → In (t, Some k) (asked d last (violation.Grant u j)) → k ≤ g t
+      pick : horizon d ≤ g u → last ≡ horizon d → In (t, Some k) (violation_horizons d last (violation.Grant u j)) → k ≤ g t
       pick x y (inl e) = let f = train_of_pair u t (last) k e in let n = tick_of_pair u t (last) k e in subst (λ u. k ≤ g u) f (omega arith)
       pick x y (inr m) = absurd m
   reaches_asked (violation.Visit u j) c g closed t k m = pick (leb-true (horizon d) (g u) closed.own) (eqb-true last (horizon d) (and_left (last == horizon d) _ c)) m
     where
-      pick : horizon d ≤ g u → last ≡ horizon d → In (t, Some k) (asked d last (violation.Visit u j)) → k ≤ g t
+      pick : horizon d ≤ g u → last ≡ horizon d → In (t, Some k) (violation_horizons d last (violation.Visit u j)) → k ≤ g t
       pick x y (inl e) = let f = train_of_pair u t (last) k e in let n = tick_of_pair u t (last) k e in subst (λ u. k ≤ g u) f (omega arith)
       pick x y (inr m) = absurd m
 
   -- a family that reaches it shows the violation
-  pub own_of : (v : Violation) → is_certain d routes plan last v ≡ true → (h : TrainNo → ℕ) → ((t : TrainNo) (k : ℕ) → In (t, Some k) (asked d last v) → k ≤ h t) → reaches d routes plan last h v ≡ true
+  pub own_of : (v : Violation) → is_certain d routes plan last v ≡ true → (h : TrainNo → ℕ) → ((t : TrainNo) (k : ℕ) → In (t, Some k) (violation_horizons d last v) → k ≤ h t) → reaches d routes plan last h v ≡ true
   own_of (violation.Path u j) c h met = refl
   own_of (violation.Within w) c h met = go (after_gives d routes plan last M _ last (and_right (nat_le last (horizon d)) _ (and_left (nat_le last (horizon d) && is_after M (visit_tick d routes (of_plan routes plan) last (within_of d w).from_train (within_of d w).from_visit) last) _ c)))
     where
@@ -162,10 +162,10 @@ module _ (d : Station) (routes : List Route) (plan : List (List Command)) (last 
   -- ---- a family that reaches all that it shows is closed
 
   pub closed_of : (v : Violation) → is_certain d routes plan last v ≡ true → (h : TrainNo → ℕ) → ((t : TrainNo) → IsTrain d t → h t ≤ last) → ((c : Command) → In c (commands plan) → IsTrain d c.train)
-      → ((t : TrainNo) (k : ℕ) → In (t, Some k) (asked d last v) → k ≤ h t)
+      → ((t : TrainNo) (k : ℕ) → In (t, Some k) (violation_horizons d last v) → k ≤ h t)
       → ((c e : Command) → In c (commands plan) → In e (preceding routes plan c) → is_granted d routes (of_plan routes plan) (state_at d routes (of_plan routes plan) (h c.train)) c ≡ true → (a : ℕ) → clear_tick d routes plan last c e ≡ Some a → a ≤ h e.train)
       → ((t : TrainNo) → IsTrain d t → (e : Command) → holder_at d routes plan last (λ u. h t) t ≡ Some e → h t - 1 ≤ h e.train)
-      → IsClosed d routes plan last h v
+      → IsClosedFamily d routes plan last h v
   closed_of v certain h soon named own grants holders = record {
     soon = list_all_from (λ t. nat_le (h t) last) (trains d) (λ t m. le-leb (h t) last (soon t (in_trains_back d t m)));
     own = own_of v certain h own;

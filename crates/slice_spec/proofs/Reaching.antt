@@ -20,9 +20,9 @@ module _ (d : Station) (routes : List Route) (p q : Dispatch) (h : TrainNo → �
     pub meeting : Meeting d routes p q h
     -- only trains of the design are followed
     pub followed : (t : TrainNo) → 1 ≤ h t → (1 ≤ t.0) × (t.0 ≤ length d.trains)
-    -- what a command of the front waits for is released by its own train's horizon
+    -- what a command of the prefix waits for is released by its own train's horizon
     pub cleared : (t : TrainNo) (r : RouteNo) (e : Command) → In r (p.path t) → In e (p.before (record { train = t; route = r })) → has_cleared d routes q (state_at d routes q (h e.train)) (record { train = t; route = r }) e ≡ true
-    -- and no more than the front is granted by the horizon
+    -- and no more than the prefix is granted by the horizon
     pub few : (t : TrainNo) → (state_of (state_at d routes q (h t)) t).granted ≤ length (p.path t)
 
   module _ (reaches : Reaches) where

@@ -10,7 +10,7 @@ use Rattle.rail_laws.proofs.Stations.{follow_short, parallel, follow_within, pla
 use Rattle.slice_spec.specs.Leasts.{IsLeast}
 use Rattle.slice_spec.specs.Slices.{slice_of, whole_cone}
 use Rattle.slice_spec.proofs.Raising.{reaches_asked, reaches_clear, reaches_held}
-use Rattle.slice_spec.specs.Holders.{IsClosed, grants_reach, holder_at, reaches_holder}
+use Rattle.slice_spec.specs.Holders.{IsClosedFamily, grants_reach, holder_at, reaches_holder}
 use Rattle.rail_base.specs.Stations.{trains}
 use Rattle.rail_base.specs.declared.station.Station.{Station}
 use Rattle.rail_base.specs.declared.plan.Violation.{Violation}
@@ -40,7 +40,7 @@ abbrev whole_in : Station → List (List Command) → ℕ → Violation → Cone
 whole_in d plan last v = whole_cone d (routes_of d) plan last v
 
 abbrev Closed : Station → List (List Command) → ℕ → (TrainNo → ℕ) → Violation → Type 0
-Closed d plan last h v = IsClosed d (routes_of d) plan last h v
+Closed d plan last h v = IsClosedFamily d (routes_of d) plan last h v
 
 late_slice : slice_in (follow_within 7999) plan_two 17 (two 11 17) (violation.Within 1)
     ≡ record { trains = train 1 11 2 (r1 ∷ r2 ∷ []) None ∷ train 2 17 2 (r1 ∷ r2 ∷ []) None ∷ []; pairs = (command 1 1, command 2 1) ∷ (command 1 2, command 2 2) ∷ []; violation = violation.Within 1 }

@@ -120,15 +120,15 @@ module _ (d : Station) (routes : List Route) (n : ℕ) (plan : List (List Comman
       go false ea false eb false ep f ef = refl
 
   before_fail : (e c : Command) → list_all fails (before_literals d routes (slice_with d routes plan last h upto v) e c) ≡ true
-  before_fail e c = go (cone.is_listed (slice_with d routes plan last h upto v) e c) refl (is_free (slice_with d routes plan last h upto v) c) refl (is_train e.train c.train) refl (share (route_at routes e.route) (route_at routes c.route)) refl
+  before_fail e c = go (cone.has_pair (slice_with d routes plan last h upto v) e c) refl (is_free (slice_with d routes plan last h upto v) c) refl (is_train e.train c.train) refl (share (route_at routes e.route) (route_at routes c.route)) refl
     where
-      listed_holds : cone.is_listed (slice_with d routes plan last h upto v) e c ≡ true → holds_of plan (Before e c) ≡ true
+      listed_holds : cone.has_pair (slice_with d routes plan last h upto v) e c ≡ true → holds_of plan (Before e c) ≡ true
       listed_holds l =
           let out = listed_out d routes n plan last v h upto failed e c l in
           let abc = and_left (has_command plan e && has_command plan c && precedes routes plan e c) _ out in
           and_both _ _ (and_left (has_command plan e && has_command plan c) _ abc) (and_right (contend routes e c) _ (and_right (has_command plan e && has_command plan c) _ abc))
 
-      unlisted_fails : cone.is_listed (slice_with d routes plan last h upto v) e c ≡ false → is_free (slice_with d routes plan last h upto v) c ≡ true → is_train e.train c.train ≡ false → share (route_at routes e.route) (route_at routes c.route) ≡ true → holds_of plan (Before e c) ≡ false
+      unlisted_fails : cone.has_pair (slice_with d routes plan last h upto v) e c ≡ false → is_free (slice_with d routes plan last h upto v) c ≡ true → is_train e.train c.train ≡ false → share (route_at routes e.route) (route_at routes c.route) ≡ true → holds_of plan (Before e c) ≡ false
       unlisted_fails no_list free apart sharing = at (holds_of plan (Before e c)) refl
         where
           at : (x : Bool) → holds_of plan (Before e c) ≡ x → holds_of plan (Before e c) ≡ false
@@ -139,7 +139,7 @@ module _ (d : Station) (routes : List Route) (n : ℕ) (plan : List (List Comman
               let l = precedes_listed d routes n plan last v h upto failed c.train c.route e (has_route_in (free_path (slice_with d routes plan last h upto v) c.train) c.route free) (in_filter (λ e. precedes routes plan e c) (commands plan) e (has_in plan e has) before) in
               absurd (true≢false (sym (listed_in d routes n plan last v h upto failed e c l) ∙ no_list))
 
-      go : (a : Bool) → cone.is_listed (slice_with d routes plan last h upto v) e c ≡ a → (b : Bool) → is_free (slice_with d routes plan last h upto v) c ≡ b → (t : Bool) → is_train e.train c.train ≡ t → (s : Bool) → share (route_at routes e.route) (route_at routes c.route) ≡ s
+      go : (a : Bool) → cone.has_pair (slice_with d routes plan last h upto v) e c ≡ a → (b : Bool) → is_free (slice_with d routes plan last h upto v) c ≡ b → (t : Bool) → is_train e.train c.train ≡ t → (s : Bool) → share (route_at routes e.route) (route_at routes c.route) ≡ s
           → list_all fails (if a then record { fact = Before e c; negated = true } ∷ [] else if b && (not t && s) then record { fact = Before e c; negated = false } ∷ [] else []) ≡ true
       go true ea b eb t et s es = not_twice (holds_of plan (Before e c)) (listed_holds ea)
       go false ea true eb false et true es = not_once (holds_of plan (Before e c)) (unlisted_fails ea eb et es)

@@ -26,7 +26,7 @@ use Rattle.cone_spec.specs.Validity.{from_boundary, is_walk, train_in_design, ho
 use Rattle.cone_spec.specs.Clauses.{is_path_violation, clause_of_cone, is_false_of}
 use Rattle.rail_base.specs.Admission.{is_from}
 use Rattle.slice_spec.specs.Holders.{count_at, next_at, holder_for, holder_at, is_the, is_holder, reaches}
-use Rattle.slice_spec.specs.Slices.{past_last, is_next, slice_train, is_listed, slice_pairs, slice_with, names}
+use Rattle.slice_spec.specs.Slices.{past_last, is_next, slice_train, is_slice_pair, slice_pairs, slice_with, names}
 use Rattle.cone_spec.proofs.Running.{first_is}
 use Rattle.cone_spec.proofs.Agreement.{at_place}
 use Rattle.cone_spec.proofs.Saying.{has_in, in_trains, is_command_same, is_command_self}
@@ -201,7 +201,7 @@ module _ (d : Station) (routes : List Route) (n : ℕ) (plan : List (List Comman
 
   -- ---- the pairs
 
-  one_pair : (e c : Command) → is_listed d routes plan last h e c ≡ true → pair_in_design d routes (slice_with d routes plan last h upto v) (e, c) ≡ true
+  one_pair : (e c : Command) → is_slice_pair d routes plan last h e c ≡ true → pair_in_design d routes (slice_with d routes plan last h upto v) (e, c) ≡ true
   one_pair e c l = and_both _ _ (and_both _ _ both.0 both.1) (and_both _ _ apart sharing)
     where
       before : In e (commands plan) × (precedes routes plan e c ≡ true)
@@ -281,7 +281,7 @@ module _ (d : Station) (routes : List Route) (n : ℕ) (plan : List (List Comman
 
   pub slice_in_design : 1 ≤ horizon d → names_trains d v ≡ true → counts d routes plan last v ≡ true → is_certain d routes plan last v ≡ true → in_design d routes (slice_with d routes plan last h upto v) ≡ true
   slice_in_design some i k c = and_both _ _ (and_both _ _ (and_both _ _ (and_both _ _ (and_both _ _ all_trains in_order) holders_in) all_listed)
-      (pairs_neighbors is_pair_before (slice_pairs d routes plan last h) (pairs_sorted d routes (is_listed d routes plan last h))))
+      (pairs_neighbors is_pair_before (slice_pairs d routes plan last h) (pairs_sorted d routes (is_slice_pair d routes plan last h))))
       (numbers_in v refl some i k (reaches_it d routes n plan last v h upto failed) c)
 
   not_path : counts d routes plan last v ≡ true → is_path_violation d routes (slice_with d routes plan last h upto v) v ≡ false

@@ -19,7 +19,7 @@ use Rattle.rail_spec.specs.Dispatches.{state_at, is_granted, has_released, has_c
 use Rattle.cone_spec.specs.Cones.{named, of_cone, all_free}
 use Rattle.cone_spec.specs.Validity.{granted_at, free_granted, just_granted, holds_up, holder_needed, holder_fits}
 use Rattle.slice_spec.specs.Holders.{count_at, next_at, holder_at, holder_for, latest, is_the, reaches_holder}
-use Rattle.slice_spec.specs.Slices.{is_next, slice_train, names, is_listed, slice_with}
+use Rattle.slice_spec.specs.Slices.{is_next, slice_train, names, is_slice_pair, slice_with}
 use Rattle.cone_spec.proofs.Running.{run_up_to, granted_at_least}
 use Rattle.cone_spec.proofs.Agreement.{released_same}
 use Rattle.cone_spec.proofs.Saying.{in_has, in_trains, is_command_self}
@@ -169,7 +169,7 @@ module _ (d : Station) (routes : List Route) (n : ℕ) (plan : List (List Comman
           before_c : In e (commands plan) × (precedes routes plan e (record { train = t; route = r }) ≡ true)
           before_c = in_filter_back (λ e. precedes routes plan e (record { train = t; route = r })) (commands plan) e w.member
 
-          listed : is_listed d routes plan last h e (record { train = t; route = r }) ≡ true
+          listed : is_slice_pair d routes plan last h e (record { train = t; route = r }) ≡ true
           listed = and_both _ _ (and_both _ _ (and_both _ _ (in_has plan e before_c.0) (in_has plan (record { train = t; route = r }) c_in)) before_c.1)
               (or_right (is_granted d routes (of_plan routes plan) (state_at d routes (of_plan routes plan) (h t)) (record { train = t; route = r })) _ (and_both _ _
               (ap (is_next (record { train = t; route = r })) next ∙ eq-eqb r.0 r.0 refl)

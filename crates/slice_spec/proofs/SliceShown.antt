@@ -16,7 +16,7 @@ use Rattle.rail_spec.specs.Requirements.{most_ticks, visited_by, is_certain, is_
 use Rattle.rail_base.proofs.Members.{and_left, and_right, and_both, is_false}
 use Rattle.rail_laws.proofs.Deciding.{visit_stays, visit_at}
 use Rattle.cone_spec.specs.Cones.{named, free_path, of_cone}
-use Rattle.cone_spec.specs.Validity.{cone_visit, at_its_tick, shown}
+use Rattle.cone_spec.specs.Validity.{cone_visit, at_its_tick, shows_violation}
 use Rattle.rail_base.specs.Admission.{is_from}
 use Rattle.cone_spec.specs.Clauses.{is_path_violation}
 use Rattle.slice_spec.specs.Holders.{count_at, reaches, is_within}
@@ -75,7 +75,7 @@ module _ (d : Station) (routes : List Route) (n : ℕ) (plan : List (List Comman
   pub reach_horizon : (t : TrainNo) → is_from 1 (length d.trains) t.0 ≡ true → nat_le (horizon d) (h t) ≡ true → h t ≡ horizon d
   reach_horizon t i e = let a = within_last d routes n plan last v h upto failed t (low (length d.trains) t.0 i) (high (length d.trains) t.0 i) in let b = leb-true _ _ e in let c = failed.in_time in omega arith
 
-  shown_of : (w : Violation) → v ≡ w → is_path_violation d routes (slice_with d routes plan last h upto v) w ≡ false → names_trains d w ≡ true → reaches d routes plan last h w ≡ true → is_certain d routes plan last w ≡ true → shown d routes (slice_with d routes plan last h upto v) w ≡ true
+  shown_of : (w : Violation) → v ≡ w → is_path_violation d routes (slice_with d routes plan last h upto v) w ≡ false → names_trains d w ≡ true → reaches d routes plan last h w ≡ true → is_certain d routes plan last w ≡ true → shows_violation d routes (slice_with d routes plan last h upto v) w ≡ true
   shown_of (violation.Path t j) e no_path i r c = absurd (true≢false no_path)
   shown_of (violation.Within w) e no_path i r c = go (after_gives (most_ticks d (within_of d w)) _ last (and_right (nat_le last (horizon d)) _ (and_left (nat_le last (horizon d) && is_after (most_ticks d (within_of d w)) (visit_tick d routes (of_plan routes plan) last (within_of d w).from_train (within_of d w).from_visit) last) _ c)))
     where
@@ -88,7 +88,7 @@ module _ (d : Station) (routes : List Route) (n : ℕ) (plan : List (List Comman
       missed : visited_by d routes plan last (within_of d w).to_train (within_of d w).to_visit ≡ false
       missed = is_false _ (and_right (nat_le last (horizon d) && is_after (most_ticks d (within_of d w)) (visit_tick d routes (of_plan routes plan) last (within_of d w).from_train (within_of d w).from_visit) last) _ c)
 
-      go : (a : ℕ) × (visit_tick d routes (of_plan routes plan) last (within_of d w).from_train (within_of d w).from_visit ≡ Some a) × (a + most_ticks d (within_of d w) ≡ last) → shown d routes (slice_with d routes plan last h upto v) (violation.Within w) ≡ true
+      go : (a : ℕ) × (visit_tick d routes (of_plan routes plan) last (within_of d w).from_train (within_of d w).from_visit ≡ Some a) × (a + most_ticks d (within_of d w) ≡ last) → shows_violation d routes (slice_with d routes plan last h upto v) (violation.Within w) ≡ true
       go (a, made, at) =
           let M = most_ticks d (within_of d w) in
           let r2 : (nat_le a (h (within_of d w).from_train) && nat_le (a + M) (h (within_of d w).to_train)) ≡ true =
@@ -110,7 +110,7 @@ module _ (d : Station) (routes : List Route) (n : ℕ) (plan : List (List Comman
       missed : visited_by d routes plan (last - 1) (order_of d o).first_train (order_of d o).first_visit ≡ false
       missed = is_false _ (and_right (is_after 0 (visit_tick d routes (of_plan routes plan) last (order_of d o).then_train (order_of d o).then_visit) last) _ c)
 
-      go : (a : ℕ) × (visit_tick d routes (of_plan routes plan) last (order_of d o).then_train (order_of d o).then_visit ≡ Some a) × (a + 0 ≡ last) → shown d routes (slice_with d routes plan last h upto v) (violation.Order o) ≡ true
+      go : (a : ℕ) × (visit_tick d routes (of_plan routes plan) last (order_of d o).then_train (order_of d o).then_visit ≡ Some a) × (a + 0 ≡ last) → shows_violation d routes (slice_with d routes plan last h upto v) (violation.Order o) ≡ true
       go (a, made, at) =
           let r2 : (nat_le a (h (order_of d o).then_train) && nat_le a (h (order_of d o).first_train + 1)) ≡ true =
           subst (λ x. is_within x (λ a. nat_le a (h (order_of d o).then_train) && nat_le a (h (order_of d o).first_train + 1)) ≡ true) made r in
@@ -137,5 +137,5 @@ module _ (d : Station) (routes : List Route) (n : ℕ) (plan : List (List Comman
       and_both _ _ (eq-eqb (named (slice_with d routes plan last h upto v) t).horizon (horizon d) (same ∙ full)) (not_made t j (horizon d) i (omega arith) missed)
 
   -- the slice shows what is certain of the plan at the last tick
-  pub slice_shown : is_path_violation d routes (slice_with d routes plan last h upto v) v ≡ false → names_trains d v ≡ true → is_certain d routes plan last v ≡ true → shown d routes (slice_with d routes plan last h upto v) v ≡ true
+  pub slice_shown : is_path_violation d routes (slice_with d routes plan last h upto v) v ≡ false → names_trains d v ≡ true → is_certain d routes plan last v ≡ true → shows_violation d routes (slice_with d routes plan last h upto v) v ≡ true
   slice_shown no_path i c = shown_of v refl no_path i reaches_it c

@@ -13,7 +13,7 @@ use Rattle.rail_spec.specs.Feasible.{names_only, IsWellFormed}
 use Rattle.rail_spec.specs.Dispatches.{of_plan}
 use Rattle.cone_spec.specs.Validity.{is_valid_cone}
 use Rattle.cone_spec.specs.Clauses.{clause_of_cone, is_false_of}
-use Rattle.slice_spec.specs.Holders.{count_at, is_holder, IsClosed, GivesEach, holder_at}
+use Rattle.slice_spec.specs.Holders.{count_at, is_holder, IsClosedFamily, GivesEach, holder_at}
 use Rattle.slice_spec.specs.Slices.{past_last, named_count, slice_of, whole_cone, slice_with, slice_pairs, whole_train, slice_train, names}
 use Rattle.cone_spec.proofs.Running.{granted_on_path, idle_at_first}
 use Rattle.rail_base.specs.declared.state.TrainState.{TrainState}
@@ -63,7 +63,7 @@ module _ (d : Station) (routes : List Route) (n : ℕ) (plan : List (List Comman
   module _ (fails : Fails) where
     -- ---- the least slice
 
-    least_failed : (h : TrainNo → ℕ) → IsClosed d routes plan last h v → Failed d routes n plan last v h (named_count d routes plan last h)
+    least_failed : (h : TrainNo → ℕ) → IsClosedFamily d routes plan last h v → Failed d routes n plan last v h (named_count d routes plan last h)
     least_failed h closed = record {
       names = fails.names;
       formed = fails.formed;
@@ -85,10 +85,10 @@ module _ (d : Station) (routes : List Route) (n : ℕ) (plan : List (List Comman
         granted_in t zero e = let z : count_at d routes plan (h t) t ≡ 0 = ap (λ i. count_at d routes plan i t) e ∙ ap (λ (s : TrainState). s.granted) (idle_at_first d routes (of_plan routes plan) t) in omega arith
         granted_in t (suc k) e = let x = next_in t (omega arith) in omega arith
 
-    pub least_valid : (h : TrainNo → ℕ) → IsClosed d routes plan last h v → is_valid_cone d routes (slice_of d routes plan last h v) ≡ true
+    pub least_valid : (h : TrainNo → ℕ) → IsClosedFamily d routes plan last h v → is_valid_cone d routes (slice_of d routes plan last h v) ≡ true
     least_valid h closed = slice_valid d routes n plan last v h (named_count d routes plan last h) (least_failed h closed) fails.some fails.trains fails.counted fails.certain
 
-    pub least_false : (h : TrainNo → ℕ) → IsClosed d routes plan last h v → is_false_of plan (clause_of_cone d routes (slice_of d routes plan last h v)) ≡ true
+    pub least_false : (h : TrainNo → ℕ) → IsClosedFamily d routes plan last h v → is_false_of plan (clause_of_cone d routes (slice_of d routes plan last h v)) ≡ true
     least_false h closed = slice_false d routes n plan last v h (named_count d routes plan last h) (least_failed h closed) fails.counted
 
     -- ---- that of the whole plan
@@ -131,7 +131,7 @@ module _ (d : Station) (routes : List Route) (n : ℕ) (plan : List (List Comman
     whole_false = subst (λ k. is_false_of plan (clause_of_cone d routes k) ≡ true) (sym whole_is) (slice_false d routes n plan last v (λ t. last) (λ t. length (path plan t)) whole_failed fails.counted)
 
   -- so both refute the plan
-  pub slice_refutes : IsAdmitted d → IsWellFormed d routes n plan → GivesEach d plan → last ≤ horizon d → violation_at d routes plan last ≡ Some v → (h : TrainNo → ℕ) → IsClosed d routes plan last h v → Refutes d routes n (slice_of d routes plan last h v) plan
+  pub slice_refutes : IsAdmitted d → IsWellFormed d routes n plan → GivesEach d plan → last ≤ horizon d → violation_at d routes plan last ≡ Some v → (h : TrainNo → ℕ) → IsClosedFamily d routes plan last h v → Refutes d routes n (slice_of d routes plan last h v) plan
   slice_refutes admitted formed each in_time at h closed = let f = fails_of admitted formed each in_time at in record { well_formed = formed; valid = least_valid f h closed; denies = least_false f h closed }
 
   pub whole_refutes : IsAdmitted d → IsWellFormed d routes n plan → GivesEach d plan → last ≤ horizon d → violation_at d routes plan last ≡ Some v → Refutes d routes n (whole_cone d routes plan last v) plan

@@ -18,8 +18,8 @@ use Rattle.rail_base.proofs.Members.{In, and_left, and_right, and_both, list_all
 use Rattle.rail_spec.specs.Dispatches.{of_plan}
 use Rattle.cone_spec.specs.Cones.{unnamed, first_named, named, free_path, has_route, of_cone, is_pair}
 use Rattle.cone_spec.specs.Cones as cone
-use Rattle.slice_spec.specs.Holders.{holder_for, count_at, next_at, holder_at, is_the, is_holder, IsClosed, grants_reach}
-use Rattle.slice_spec.specs.Slices.{past_last, is_next, slice_train, names, is_listed, slice_pairs, slice_with}
+use Rattle.slice_spec.specs.Holders.{holder_for, count_at, next_at, holder_at, is_the, is_holder, IsClosedFamily, grants_reach}
+use Rattle.slice_spec.specs.Slices.{past_last, is_next, slice_train, names, is_slice_pair, slice_pairs, slice_with}
 use Rattle.cone_spec.proofs.Running.{idle_at_first, granted_on_path}
 use Rattle.cone_spec.proofs.Agreement.{Meeting, Agree, before_first-append, before_first-in}
 use Rattle.slice_spec.proofs.Reaching.{Reaches, reaching}
@@ -89,7 +89,7 @@ named_case f g same (u ∷ us) t = go (g u) refl (named_case f g same us t)
             inl (ap f here, inl here, sym (ap g here) ∙ e)
         at false s = skip (sym (ap (λ x. is_train x t) (same u)) ∙ s) rest
 
--- a route of the front of a path is reached before the front ends
+-- a route of the prefix of a path is reached before the prefix ends
 pub before_first_take : (r : RouteNo) (i : ℕ) (xs : List RouteNo) → In r (take i xs) → length (before_first (λ x. is_route x r) xs) < i
 before_first_take r i xs m = go (before_first-append (λ x. is_route x r) (take i xs) (drop (length (take i xs)) xs))
   where
@@ -112,7 +112,7 @@ module _ (d : Station) (routes : List Route) (n : ℕ) (plan : List (List Comman
     pub formed : is_well_formed d routes n plan ≡ true
     pub given : (t : TrainNo) → 1 ≤ t.0 → t.0 ≤ length d.trains → 1 ≤ length (path plan t)
     pub in_time : last ≤ horizon d
-    pub closed : IsClosed d routes plan last h v
+    pub closed : IsClosedFamily d routes plan last h v
     -- of each train so many commands are named that those granted, the next one and the holders are among them
     pub granted_in : (t : TrainNo) → count_at d routes plan (h t) t ≤ upto t
     pub next_in : (t : TrainNo) → 1 ≤ h t → count_at d routes plan (h t) t < length (path plan t) → count_at d routes plan (h t) t + 1 ≤ upto t
@@ -204,10 +204,10 @@ module _ (d : Station) (routes : List Route) (n : ℕ) (plan : List (List Comman
         let ab = and_left (nat_le 1 c.train.0 && nat_le c.train.0 (length d.trains)) _ (and_left (nat_le 1 c.train.0 && nat_le c.train.0 (length d.trains) && nat_le 1 c.route.0) _ o) in
         (leb-true _ _ (and_left (nat_le 1 c.train.0) _ ab), leb-true _ _ (and_right (nat_le 1 c.train.0) _ ab))
 
-    pub listed_in : (e c : Command) → is_listed d routes plan last h e c ≡ true → cone.is_listed slice e c ≡ true
+    pub listed_in : (e c : Command) → is_slice_pair d routes plan last h e c ≡ true → cone.has_pair slice e c ≡ true
     listed_in e c l = list_any_from (is_pair e c) (slice_pairs d routes plan last h) (e, c)
-        (in_flat_map (λ e. map (λ c. (e, c)) (filter (is_listed d routes plan last h e) (all_commands d routes))) (all_commands d routes) e (e, c) (in_all_of e (and_left (has_command plan e) _ ab))
-        (in_map (λ c. (e, c)) (filter (is_listed d routes plan last h e) (all_commands d routes)) c (in_filter (is_listed d routes plan last h e) (all_commands d routes) c (in_all_of c (and_right (has_command plan e) _ ab)) l)))
+        (in_flat_map (λ e. map (λ c. (e, c)) (filter (is_slice_pair d routes plan last h e) (all_commands d routes))) (all_commands d routes) e (e, c) (in_all_of e (and_left (has_command plan e) _ ab))
+        (in_map (λ c. (e, c)) (filter (is_slice_pair d routes plan last h e) (all_commands d routes)) c (in_filter (is_slice_pair d routes plan last h e) (all_commands d routes) c (in_all_of c (and_right (has_command plan e) _ ab)) l)))
         (and_both _ _ (is_command_self e) (is_command_self c))
       where
         ab : (has_command plan e && has_command plan c) ≡ true
@@ -216,26 +216,26 @@ module _ (d : Station) (routes : List Route) (n : ℕ) (plan : List (List Comman
         in_all_of : (x : Command) → has_command plan x ≡ true → In x (all_commands d routes)
         in_all_of x m = is_of_in_all d routes x (list_all_at (is_of d routes) (commands plan) x failed.names (has_in plan x m))
 
-    pub pair_listed : (p : Command × Command) → In p (slice_pairs d routes plan last h) → is_listed d routes plan last h p.0 p.1 ≡ true
-    pair_listed p m = go (in_flat_map_back (λ e. map (λ c. (e, c)) (filter (is_listed d routes plan last h e) (all_commands d routes))) (all_commands d routes) p m)
+    pub pair_listed : (p : Command × Command) → In p (slice_pairs d routes plan last h) → is_slice_pair d routes plan last h p.0 p.1 ≡ true
+    pair_listed p m = go (in_flat_map_back (λ e. map (λ c. (e, c)) (filter (is_slice_pair d routes plan last h e) (all_commands d routes))) (all_commands d routes) p m)
       where
-        go : (e : Command) × In e (all_commands d routes) × In p (map (λ c. (e, c)) (filter (is_listed d routes plan last h e) (all_commands d routes))) → is_listed d routes plan last h p.0 p.1 ≡ true
-        go (e, _, k) = at (in_map_back (λ c. (e, c)) (filter (is_listed d routes plan last h e) (all_commands d routes)) p k)
+        go : (e : Command) × In e (all_commands d routes) × In p (map (λ c. (e, c)) (filter (is_slice_pair d routes plan last h e) (all_commands d routes))) → is_slice_pair d routes plan last h p.0 p.1 ≡ true
+        go (e, _, k) = at (in_map_back (λ c. (e, c)) (filter (is_slice_pair d routes plan last h e) (all_commands d routes)) p k)
           where
-            at : (c : Command) × In c (filter (is_listed d routes plan last h e) (all_commands d routes)) × ((e, c) ≡ p) → is_listed d routes plan last h p.0 p.1 ≡ true
-            at (c, i, same) = subst (λ (x : Command × Command). is_listed d routes plan last h x.0 x.1 ≡ true) same (in_filter_back (is_listed d routes plan last h e) (all_commands d routes) c i).1
+            at : (c : Command) × In c (filter (is_slice_pair d routes plan last h e) (all_commands d routes)) × ((e, c) ≡ p) → is_slice_pair d routes plan last h p.0 p.1 ≡ true
+            at (c, i, same) = subst (λ (x : Command × Command). is_slice_pair d routes plan last h x.0 x.1 ≡ true) same (in_filter_back (is_slice_pair d routes plan last h e) (all_commands d routes) c i).1
 
-    pub listed_out : (e c : Command) → cone.is_listed slice e c ≡ true → is_listed d routes plan last h e c ≡ true
+    pub listed_out : (e c : Command) → cone.has_pair slice e c ≡ true → is_slice_pair d routes plan last h e c ≡ true
     listed_out e c l = go (list_any_gives (is_pair e c) (slice_pairs d routes plan last h) l)
       where
-        go : (p : Command × Command) × In p (slice_pairs d routes plan last h) × (is_pair e c p ≡ true) → is_listed d routes plan last h e c ≡ true
+        go : (p : Command × Command) × In p (slice_pairs d routes plan last h) × (is_pair e c p ≡ true) → is_slice_pair d routes plan last h e c ≡ true
         go (p, m, t) =
             let a = is_command_same p.0 e (and_left (is_command p.0 e) _ t) in
             let b = is_command_same p.1 c (and_right (is_command p.0 e) _ t) in
-            subst (λ x. is_listed d routes plan last h x c ≡ true) a (subst (λ y. is_listed d routes plan last h p.0 y ≡ true) b (pair_listed p m))
+            subst (λ x. is_slice_pair d routes plan last h x c ≡ true) a (subst (λ y. is_slice_pair d routes plan last h p.0 y ≡ true) b (pair_listed p m))
 
     -- what is listed precedes
-    pub listed_precedes : (e c : Command) → is_listed d routes plan last h e c ≡ true → In e (preceding routes plan c)
+    pub listed_precedes : (e c : Command) → is_slice_pair d routes plan last h e c ≡ true → In e (preceding routes plan c)
     listed_precedes e c l =
         let abc = and_left (has_command plan e && has_command plan c && precedes routes plan e c) _ l in
         in_filter (λ e. precedes routes plan e c) (commands plan) e (has_in plan e (and_left (has_command plan e) _ (and_left (has_command plan e && has_command plan c) _ abc))) (and_right (has_command plan e && has_command plan c) _ abc)
@@ -252,7 +252,7 @@ module _ (d : Station) (routes : List Route) (n : ℕ) (plan : List (List Comman
             let g = length-map (route_at routes) (before_first (λ x. is_route x r) (path plan t)) in
             (le-leb _ _ (omega arith), in_path t plan r (in_take (count_at d routes plan (h t) t) (path plan t) r i))
 
-    pub precedes_listed : (t : TrainNo) (r : RouteNo) (e : Command) → In r (free_path slice t) → In e (preceding routes plan (record { train = t; route = r })) → is_listed d routes plan last h e (record { train = t; route = r }) ≡ true
+    pub precedes_listed : (t : TrainNo) (r : RouteNo) (e : Command) → In r (free_path slice t) → In e (preceding routes plan (record { train = t; route = r })) → is_slice_pair d routes plan last h e (record { train = t; route = r }) ≡ true
     precedes_listed t r e m i =
         let c : Command = record { train = t; route = r } in
         let g = free_granted t r m in

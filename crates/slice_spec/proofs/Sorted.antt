@@ -97,7 +97,7 @@ pairs_sorted d routes keep = all_pairs_flat is_pair_before is_before (λ e. map 
         let y = in_map_back (λ c. (f, c)) (filter (keep f) (all_commands d routes)) b n in
         subst (λ (z : Command × Command). is_pair_before z b ≡ true) x.2 (subst (λ (z : Command × Command). is_pair_before (e, x.0) z ≡ true) y.2 (or_left (is_before e f) _ l))
 
--- ---- fronts of lists
+-- ---- prefixes of lists
 
 pub pairs_take : {X : Type 0} (test : X → X → Bool) (i : ℕ) (xs : List X) → all_pairs test xs ≡ true → all_pairs test (take i xs) ≡ true
 pairs_take test zero xs h = refl

@@ -115,7 +115,7 @@ module _ (d : Station) (routes : List Route) (plan : List (List Command)) where
       reaches_holder t (Some e) = nat_le (h t) (h e.train + 1)
 
       -- up to their horizons, none past the last tick, the trains show the violation and all that their grants wait for
-      pub record IsClosed (v : Violation) : Type 0 where
+      pub record IsClosedFamily (v : Violation) : Type 0 where
         pub soon : list_all (λ t. nat_le (h t) last) (trains d) ≡ true
         pub own : reaches v ≡ true
         pub grants : list_all grants_reach (commands plan) ≡ true

@@ -9,14 +9,14 @@ use Rattle.rail_base.specs.declared.plan.Violation.TheVariants as violation
 use Rattle.rail_base.specs.Stations.{IsTrain, within_of, order_of}
 use Rattle.rail_spec.specs.Requirements.{most_ticks}
 use Rattle.cone_spec.specs.declared.Cone.{Cone}
-use Rattle.slice_spec.specs.Holders.{IsClosed}
+use Rattle.slice_spec.specs.Holders.{IsClosedFamily}
 use Rattle.slice_spec.specs.Slices.{slice_of, path_cone}
 
 module _ (d : Station) (routes : List Route) (plan : List (List Command)) (last : ℕ) (v : Violation) where
   -- the family is closed, and no closed one is lower for any train
   pub record IsLeast (h : TrainNo → ℕ) : Type 0 where
-    pub closed : IsClosed d routes plan last h v
-    pub lowest : (g : TrainNo → ℕ) → IsClosed d routes plan last g v → (t : TrainNo) → IsTrain d t → h t ≤ g t
+    pub closed : IsClosedFamily d routes plan last h v
+    pub lowest : (g : TrainNo → ℕ) → IsClosedFamily d routes plan last g v → (t : TrainNo) → IsTrain d t → h t ≤ g t
 
   -- the cone is the slice with the least horizons
   pub record HasLeast (k : Cone) : Type 0 where
@@ -33,13 +33,13 @@ IsSliceOf d routes plan last (violation.Grant t j) k = HasLeast d routes plan la
 IsSliceOf d routes plan last (violation.Visit t j) k = HasLeast d routes plan last (violation.Visit t j) k
 
 -- to which ticks the trains that a violation speaks of are followed, where it is certain at the last tick
-abbrev pub asked : Station → ℕ → Violation → List (TrainNo × Option ℕ)
-asked d last (violation.Path t j) = []
-asked d last (violation.Within w) =
+abbrev pub violation_horizons : Station → ℕ → Violation → List (TrainNo × Option ℕ)
+violation_horizons d last (violation.Path t j) = []
+violation_horizons d last (violation.Within w) =
     let within = within_of d w in
     (within.from_train, Some (last - most_ticks d within)) ∷ (within.to_train, Some last) ∷ []
-asked d last (violation.Order o) =
+violation_horizons d last (violation.Order o) =
     let order = order_of d o in
     (order.then_train, Some last) ∷ (order.first_train, Some (last - 1)) ∷ []
-asked d last (violation.Grant t j) = (t, Some last) ∷ []
-asked d last (violation.Visit t j) = (t, Some last) ∷ []
+violation_horizons d last (violation.Grant t j) = (t, Some last) ∷ []
+violation_horizons d last (violation.Visit t j) = (t, Some last) ∷ []

@@ -32,8 +32,8 @@ names upto t = nat_le 1 (upto t)
 module _ (d : Station) (routes : List Route) (plan : List (List Command)) (last : ℕ) where
   module _ (h : TrainNo → ℕ) where
     -- e precedes c, which is granted by its train's horizon or is the next one there and held up by e
-    abbrev pub is_listed : Command → Command → Bool
-    is_listed e c = has_command plan e && has_command plan c && precedes routes plan e c
+    abbrev pub is_slice_pair : Command → Command → Bool
+    is_slice_pair e c = has_command plan e && has_command plan c && precedes routes plan e c
         && (is_granted d routes (of_plan routes plan) (state_at d routes (of_plan routes plan) (h c.train)) c
         || is_next c (next_at d routes plan (h c.train) c.train)
         && is_the e (holder_at d routes plan last h c.train))
@@ -42,7 +42,7 @@ module _ (d : Station) (routes : List Route) (plan : List (List Command)) (last 
     abbrev pub slice_pairs : List (Command × Command)
     slice_pairs =
         let commands = all_commands d routes in
-        flat_map (λ e. map (λ c. (e, c)) (filter (is_listed e) commands)) commands
+        flat_map (λ e. map (λ c. (e, c)) (filter (is_slice_pair e) commands)) commands
 
     module _ (upto : TrainNo → ℕ) where
       -- what the slice says of a train

@@ -17,7 +17,7 @@ ghost use Rattle.rail_spec.specs.Dispatches.{of_plan};
 ghost use Rattle.rail_spec.specs.Visits.{visits_of_train};
 ghost use Rattle.cone_spec.specs.declared.Cone.{Cone};
 ghost use Rattle.cone_spec.specs.Laws.{Refutes};
-ghost use Rattle.slice_spec.specs.Holders.{GivesEach, IsClosed};
+ghost use Rattle.slice_spec.specs.Holders.{GivesEach, IsClosedFamily};
 ghost use Rattle.slice_spec.specs.Leasts.{HasLeast, IsLeast, IsSliceOf};
 ghost use Rattle.slice_spec.specs.Slices.{slice_of, whole_cone, path_cone};
 
@@ -26,7 +26,7 @@ pub fn slices_refute()
     ensures { (d : Station) → IsAdmitted d → (routes : List Route) (n : ℕ) (plan : List (List Command))
         → IsWellFormed d routes n plan → GivesEach d plan → (last : ℕ) (v : Violation) → last ≤ horizon d
         → violation_at d routes plan last ≡ Some v
-        → (h : TrainNo → ℕ) → IsClosed d routes plan last h v
+        → (h : TrainNo → ℕ) → IsClosedFamily d routes plan last h v
         → Refutes d routes n (slice_of d routes plan last h v) plan }
 {}
 
@@ -49,14 +49,14 @@ pub fn path_cones_refute()
 /// Where a violation is certain at the last tick, that tick for all trains is closed.
 pub fn the_last_tick_is_closed()
     ensures { (d : Station) (routes : List Route) (plan : List (List Command)) (last : ℕ) (v : Violation)
-        → is_certain d routes plan last v ≡ true → IsClosed d routes plan last (λ t. last) v }
+        → is_certain d routes plan last v ≡ true → IsClosedFamily d routes plan last (λ t. last) v }
 {}
 
 /// The lower of two closed families of horizons is closed.
 pub fn the_lower_is_closed()
     ensures { (d : Station) (routes : List Route) (plan : List (List Command)) (last : ℕ) (v : Violation)
-        (g h : TrainNo → ℕ) → IsClosed d routes plan last g v → IsClosed d routes plan last h v
-        → IsClosed d routes plan last (λ t. min (g t) (h t)) v }
+        (g h : TrainNo → ℕ) → IsClosedFamily d routes plan last g v → IsClosedFamily d routes plan last h v
+        → IsClosedFamily d routes plan last (λ t. min (g t) (h t)) v }
 {}
 
 /// Two least families of horizons are one, for the trains of the station.

@@ -110,7 +110,7 @@ module _ (f : Formula) (old new : State) (listed : List Line) (fault : Option �
   recorded_so : (more : List Entry) → Went [] old new more → AreRecorded f.clauses new.derives fault
   recorded_so more went = record {
     entries = more;
-    listed = listed;
+    lines = listed;
     count = sym (count new more went);
     follow = follow new more went;
     text = sym r.listed_is ∙ text_is new more went;
@@ -123,7 +123,7 @@ module _ (f : Formula) (old new : State) (listed : List Line) (fault : Option �
       let so_far = count now more went in
       record {
         entries = more ++ inl (core, hints) ∷ [];
-        listed = listed;
+        lines = listed;
         count = omega (arith, grown, so_far, recorded.derives);
         follow = one-more f.clauses more (core, hints) (follow now more went) (subst (λ (z : Store). follow_of z core hints ≡ Yes) (clauses_are now more went) final.follows);
         text = sym r.listed_is ∙ (recorded.text ∙ (ap (λ t. t ++ derive_line core hints) (text_is now more went) ∙ sym (text-push more (core, hints))));

@@ -29,15 +29,15 @@ AllFollow store (e ∷ es) = Follows store e × AllFollow (after_entry store e) 
 
 -- so many lines were derived, each of which follows, and live clauses were forgotten; the lines that are kept have their text,
 -- and this is the first of them that the check found at fault, if one is
-pub record AreRecorded (store : Store) (lines : ℕ) (fault : Option ℕ) : Type 0 where
+pub record AreRecorded (store : Store) (derived : ℕ) (fault : Option ℕ) : Type 0 where
   pub entries : List Entry
-  pub listed : List Line
-  pub count : derive_count entries ≡ lines
+  pub lines : List Line
+  pub count : derive_count entries ≡ derived
   pub follow : AllFollow store entries
-  pub text : flat_map text_of_line listed ≡ flat_map entry_text entries
-  pub checked : fault_from store 1 listed ≡ fault
+  pub text : flat_map text_of_line lines ≡ flat_map entry_text entries
+  pub checked : fault_from store 1 lines ≡ fault
 
--- what an answer and the number of derived lines tell; a recorder without a limit is never full
+-- what an answer and the number of derived lines say; a recorder without a limit is never full
 abbrev pub outcome_of : Answer → ℕ → Outcome
 outcome_of (answer.Sat values) lines = Sat lines values
 outcome_of (answer.Unsat core) lines = Unsat lines
@@ -59,24 +59,24 @@ Ends f conflicts File = ⊥
 Ends f conflicts TooLong = ⊥
 
 -- what it says of what the bytes spell: clauses, or none from this line on
-abbrev pub Says : Result Formula ℕ → ℕ → Outcome → Type 0
-Says (Ok f) conflicts outcome = Ends f conflicts outcome
-Says (Err line) conflicts outcome = (outcome ≡ Text line) ⊎ (outcome ≡ Memory)
+abbrev pub IsOutcomeOf : Result Formula ℕ → ℕ → Outcome → Type 0
+IsOutcomeOf (Ok f) conflicts outcome = Ends f conflicts outcome
+IsOutcomeOf (Err line) conflicts outcome = (outcome ≡ Text line) ⊎ (outcome ≡ Memory)
 
 abbrev pub numbered_line : List ℕ → ℕ → List ℕ → List ℕ
 numbered_line prefix number back = prefix ++ decimal number ++ back
 
--- the line that tells it
-abbrev pub line_of : Outcome → List ℕ
-line_of (Sat lines values) = numbered_line (codes "sat lines ") lines (codes "\n")
-line_of (Unsat lines) = numbered_line (codes "unsat lines ") lines (codes "\n")
-line_of (Spent lines) = numbered_line (codes "spent lines ") lines (codes "\n")
-line_of (DoesNotFollow line) = numbered_line (codes "line ") line (codes " does not follow\n")
-line_of (Text line) = numbered_line (codes "text line ") line (codes "\n")
-line_of Memory = codes "memory\n"
-line_of Usage = codes "usage: solve_clauses CONFLICTS FILE\n"
-line_of File = codes "file\n"
-line_of TooLong = codes "too long\n"
+-- the line that says it
+abbrev pub outcome_line : Outcome → List ℕ
+outcome_line (Sat lines values) = numbered_line (codes "sat lines ") lines (codes "\n")
+outcome_line (Unsat lines) = numbered_line (codes "unsat lines ") lines (codes "\n")
+outcome_line (Spent lines) = numbered_line (codes "spent lines ") lines (codes "\n")
+outcome_line (DoesNotFollow line) = numbered_line (codes "line ") line (codes " does not follow\n")
+outcome_line (Text line) = numbered_line (codes "text line ") line (codes "\n")
+outcome_line Memory = codes "memory\n"
+outcome_line Usage = codes "usage: solve_clauses CONFLICTS FILE\n"
+outcome_line File = codes "file\n"
+outcome_line TooLong = codes "too long\n"
 
 -- 0 for an answer, 1 for a bad text, 2 for other words, 3 for a line that does not follow, 6 for want of memory, 7 and 11 for a file
 abbrev pub status_of : Outcome → ℕ

@@ -20,14 +20,14 @@ use Rattle.rail_laws.proofs.Admits.{sound}
 use Rattle.rail_laws.proofs.Small.{stays_small, IsSmall}
 use Rattle.rail_laws.proofs.Standing.{at_in}
 use Rattle.rail_course.specs.declared.waits.Wait.{Wait}
-use Rattle.rail_course.specs.Telling.{TellWhatIsReady}
+use Rattle.rail_course.specs.Ready.{GiveWhatIsReady}
 use Rattle.rail_course.proofs.Waiting.{next_told}
 use Rattle.rail_course.specs.Granting.{granted_on}
 use Rattle.tick_sim.specs.Runs.{CanMove, IsReached}
 
 module _ (d : Station) (routes : List Route) (plan : List (List Command)) where
   -- what the waits say is granted
-  pub granted_is : (s : List TrainState) → IsReached d routes plan s → (t : TrainNo) (ws : List (List Wait)) → TellWhatIsReady d routes (of_plan routes plan) t ws → granted_on s (state_of s t).granted (slice_get ws (state_of s t).granted) ≡ granted_after d routes (of_plan routes plan) s t
+  pub granted_is : (s : List TrainState) → IsReached d routes plan s → (t : TrainNo) (ws : List (List Wait)) → GiveWhatIsReady d routes (of_plan routes plan) t ws → granted_on s (state_of s t).granted (slice_get ws (state_of s t).granted) ≡ granted_after d routes (of_plan routes plan) s t
   granted_is s reached t ws tell =
       next_told d routes (of_plan routes plan) t ws tell reached.tick s
       (record { granted = λ u there. ap (λ v. (state_of v u).granted) reached.is; released = λ c z own. ap (λ v. has_released d routes (of_plan routes plan) v c z) reached.is })
@@ -61,7 +61,7 @@ module _ (d : Station) (adm : IsAdmitted d) (plan : List (List Command)) (formed
   can_move_at k early t named = record {
     within = grants_within d (routes_of d) plan (state_at d (routes_of d) (of_plan (routes_of d) plan) k) t (stays_within d (routes_of d) plan k t);
     braking = go (granted_after d (routes_of d) (of_plan (routes_of d) plan) (state_at d (routes_of d) (of_plan (routes_of d) plan) k) t) (next_grants d (routes_of d) plan (state_at d (routes_of d) (of_plan (routes_of d) plan) k) t);
-    near = let x = small.x in let m : k * 100000 ≤ 86400 * 100000 = mul-le-mul early (le_refl 100000) in omega arith;
+    below_2_46 = let x = small.x in let m : k * 100000 ≤ 86400 * 100000 = mul-le-mul early (le_refl 100000) in omega arith;
     slow = small.v;
   }
     where
@@ -76,7 +76,7 @@ module _ (d : Station) (adm : IsAdmitted d) (plan : List (List Command)) (formed
       go (suc g) e l = still d (routes_of d) plan (sound d adm 256 plan formed.formed) t named old g (travels d (routes_of d) plan (sound d adm 256 plan formed.formed) k t) e
 
   pub can_move : (s : List TrainState) → IsReached d (routes_of d) plan s → (t : TrainNo) → IsTrain d t → CanMove d (routes_of d) plan t (granted_after d (routes_of d) (of_plan (routes_of d) plan) s t) (state_of s t)
-  can_move s r t named = subst (λ s. CanMove d (routes_of d) plan t (granted_after d (routes_of d) (of_plan (routes_of d) plan) s t) (state_of s t)) (sym r.is) (can_move_at r.tick r.early t named)
+  can_move s r t named = subst (λ s. CanMove d (routes_of d) plan t (granted_after d (routes_of d) (of_plan (routes_of d) plan) s t) (state_of s t)) (sym r.is) (can_move_at r.tick r.at_most_86400 t named)
 
 -- the same of routes that are those of the design
 pub can_move_on : (d : Station) → IsAdmitted d → (routes : List Route) → routes ≡ routes_of d → (plan : List (List Command)) → IsWellFormed d routes 256 plan → (s : List TrainState) → IsReached d routes plan s → (t : TrainNo) → IsTrain d t

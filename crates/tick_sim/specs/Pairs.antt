@@ -3,11 +3,11 @@ use Rattle.std.specs.Prelude.{List, filter, map}
 use Rattle.rail_base.specs.declared.station.TrainNo.{TrainNo}
 use Rattle.rail_base.specs.declared.plan.Command.{Command}
 use Rattle.rail_spec.specs.Plans.{precedes, preceding}
-use Rattle.rail_course.specs.declared.planned.PlannedCourses.{PlannedCourses}
+use Rattle.rail_course.specs.declared.planned.PlannedTrainPaths.{PlannedTrainPaths}
 use Rattle.rail_course.specs.declared.waits.Wait.{Wait}
 use Rattle.rail_course.specs.Itineraries.{train_waits_in, wait_in}
 
-module _ (p : PlannedCourses) where
+module _ (p : PlannedTrainPaths) where
   -- the waits of a command for those of these that precede it
   abbrev pub waits_among : Command → List Command → List Wait
   waits_among c es = let given = p.train_paths.given in

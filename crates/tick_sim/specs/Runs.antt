@@ -13,7 +13,7 @@ use Rattle.rail_spec.specs.Dispatches.{rates, stretches, authority, of_plan, sta
 pub record IsReached (d : Station) (routes : List Route) (plan : List (List Command))
     (s : List TrainState) : Type 0 where
   pub tick : ℕ
-  pub early : tick ≤ 86400
+  pub at_most_86400 : tick ≤ 86400
   pub is : s ≡ state_at d routes (of_plan routes plan) tick
 
 -- full braking is permitted by what is granted after the tick, and the numbers are in range
@@ -22,11 +22,11 @@ pub record CanMove (d : Station) (routes : List Route) (plan : List (List Comman
   pub within : granted ≤ length (path plan t)
   pub braking : 1 ≤ granted → let given = take granted (path_routes routes plan t) in
       permitted (rates d t) (stretches d given) (authority given) s.x s.v (s.v - (rates d t).brake) ≡ true
-  pub near : s.x < 2 ^ 46
+  pub below_2_46 : s.x < 2 ^ 46
   pub slow : s.v ≤ 100000
 
 -- these are the states at a tick from 1 on
 pub record IsNow (d : Station) (routes : List Route) (plan : List (List Command)) (tick : ℕ)
     (s : List TrainState) : Type 0 where
-  pub first : 1 ≤ tick
+  pub at_least_one : 1 ≤ tick
   pub is : s ≡ state_at d routes (of_plan routes plan) tick

@@ -10,13 +10,13 @@ ghost use Rattle.tick_sim.specs.Pairs.{planned_train_waits, planned_waits, waits
 use rail_base::list::List;
 use rail_base::plan::Command;
 use rail_base::station::TrainNo;
-use rail_course::{Journey, PlannedCourses, Wait};
+use rail_course::{Journey, PlannedTrainPaths, Wait};
 use rail_plan::paths::precedes;
 use std::alloc::{AllocError, Global};
 
 /// The journeys of all trains, in file order.
 pub(crate) fn journeys<'a>(
-    planned: &PlannedCourses<'a>,
+    planned: &PlannedTrainPaths<'a>,
     alloc: Global,
 ) -> Result<Vec<Journey<'a>>, AllocError>
     ensures { IfOk result (λ js. ArePlannedJourneys planned.now js.items) }
@@ -31,7 +31,7 @@ pub(crate) fn journeys<'a>(
 
 /// Adds the waits of a command for those of a step that precede it.
 fn push_waits(
-    planned: &PlannedCourses,
+    planned: &PlannedTrainPaths,
     waits: &mut Vec<Wait>,
     command: Command,
     step: &List<Command>,
@@ -51,7 +51,7 @@ fn push_waits(
 
 /// The waits of a command.
 fn waits_of(
-    planned: &PlannedCourses,
+    planned: &PlannedTrainPaths,
     alloc: Global,
     command: Command,
 ) -> Result<Vec<Wait>, AllocError>
@@ -67,7 +67,7 @@ fn waits_of(
 
 /// The waits of each command of a train's path.
 fn waits_of_train(
-    planned: &PlannedCourses,
+    planned: &PlannedTrainPaths,
     alloc: Global,
     train: TrainNo,
 ) -> Result<Vec<Vec<Wait>>, AllocError>

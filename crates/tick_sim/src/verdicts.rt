@@ -15,7 +15,7 @@ use rail_base::history::Verdict;
 use rail_base::list::List;
 use rail_base::plan::Plan;
 use rail_base::state::TrainState;
-use rail_course::{IDLE, Itineraries, PlannedCourses, TrainPaths, paths_of};
+use rail_course::{IDLE, Itineraries, PlannedTrainPaths, TrainPaths, paths_of};
 use rail_require::{first_violation, is_done};
 use std::alloc::{AllocError, Global};
 
@@ -118,7 +118,7 @@ fn run_plan<'a>(
         given,
         train_paths: train_paths.as_slice(),
     };
-    let planned = PlannedCourses { train_paths, plan };
+    let planned = PlannedTrainPaths { train_paths, plan };
     let journeys = journeys(&planned, alloc)?;
     let run = Run {
         interlocking,

@@ -11,7 +11,7 @@ use Rattle.rail_base.specs.declared.history.Verdict.TheVariants.{Met, Failed, Un
 use Rattle.timetable.specs.Lines.{is_path_failure, met_line, failure_line, train_line, grant_line, pass_line}
 use Rattle.timetable.specs.Lines.{visit_line}
 
--- ---- what is told of an event: its line, where it has come
+-- ---- what is said of an event: its line, where it has come
 
 -- of the grant of a command, with the command's number
 abbrev pub grant_line_of : ℕ × (RouteNo × Option ℕ) → Option (List ℕ)
@@ -25,7 +25,7 @@ pass_line_of d pass = option_map (pass_line d pass.0) pass.1
 abbrev pub visit_line_of : Station → ℕ × Option (NodeNo × ℕ) → Option (List ℕ)
 visit_line_of d visit = option_map (λ made. visit_line d visit.0 made.0 made.1) visit.1
 
--- ---- what is told of a train
+-- ---- what is said of a train
 
 -- the grants, the commands of the path counted from 1
 abbrev pub grant_lines : List (RouteNo × Option ℕ) → List (List ℕ)
@@ -49,7 +49,7 @@ history_lines d history = flat_map (λ train. train_lines d (record { 0 = train.
 
 -- ---- the timetable
 
--- how the run ends, then all trains unless a path fails; nothing where the run was too short to tell
+-- how the run ends, then all trains unless a path fails; nothing where the run was too short to say
 abbrev pub timetable_of : Station → Verdict → List (List ℕ)
 timetable_of d (Met history k) = met_line k ∷ history_lines d history
 timetable_of d (Failed history k violation) =

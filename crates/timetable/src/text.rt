@@ -10,7 +10,7 @@ use rail_base::design::Design;
 use rail_base::history::Verdict;
 use std::alloc::{AllocError, Global};
 
-/// The lines that tell what a run of a plan shows, each with its LF: how it ends, and then, unless a path fails, each
+/// The lines that say what a run of a plan shows, each with its LF: how it ends, and then, unless a path fails, each
 /// train of the history with its grants, the nodes that it passed and its visits. Ticks are counted from 1, and a
 /// visit has its time in ms too. There is no line where the verdict is still undecided.
 ///

@@ -3,9 +3,9 @@
 ghost use Rattle.std.specs.Prelude.{◌≡◌, IfOk};
 ghost use Rattle.timing_refuter.specs.Prefixes.{prefix_of, prefixes_of, holds_one, needed_count, past_holder};
 
+use cone_spec::ConeTrain;
 use rail_base::list::List;
 use rail_base::plan::Command;
-use cone_spec::ConeTrain;
 use std::alloc::{AllocError, Global};
 
 /// The trains of which any commands are needed, with those commands.

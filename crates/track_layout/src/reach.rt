@@ -69,7 +69,7 @@ fn over_edge(near: Reach, from: End, to: End, length: u64) -> Reach {
     }
 }
 
-/// Keeps the shorter way to a node, and tells whether that is the new one.
+/// Keeps the shorter path to a node, and says whether that is the new one.
 fn improve(reached: &mut [Option<Reach>], index: usize, new: Reach) -> bool {
     if index >= reached.len() {
         return false;
@@ -84,7 +84,7 @@ fn improve(reached: &mut [Option<Reach>], index: usize, new: Reach) -> bool {
     better
 }
 
-/// Goes over an edge from one end to the other, and tells whether that is a shorter way.
+/// Goes over an edge from one end to the other, and says whether that is a shorter path.
 fn go(reached: &mut [Option<Reach>], from: End, to: End, length: u64) -> bool {
     match reach_at(reached, from.node) {
         None => false,
@@ -96,7 +96,7 @@ fn go(reached: &mut [Option<Reach>], from: End, to: End, length: u64) -> bool {
     }
 }
 
-/// Goes over each edge in both directions, and tells whether anything came of it.
+/// Goes over each edge in both directions, and says whether anything came of it.
 fn go_over_all(edges: &[Edge], reached: &mut [Option<Reach>]) -> bool {
     let mut better = false;
     for edge in edges {
@@ -111,7 +111,7 @@ fn go_over_all(edges: &[Edge], reached: &mut [Option<Reach>]) -> bool {
     better
 }
 
-/// Goes on until there are no shorter ways.
+/// Goes on until there are no shorter paths.
 fn spread_out(edges: &[Edge], reached: &mut [Option<Reach>]) {
     for _ in 0..reached.len() {
         if !go_over_all(edges, reached) {

@@ -4,7 +4,7 @@ use Rattle.std.specs.List.{list_all}
 use Rattle.std.proofs.lemmas.List.Folds.{list_all-append}
 use Rattle.clause_spec.specs.Models.{model_of}
 use Rattle.plan_exclusion.specs.declared.method.Method.{Method}
-use Rattle.plan_exclusion.specs.Failures.{IsShownBy, clause_shown}
+use Rattle.plan_exclusion.specs.Failures.{IsRefutedBy, clause_of_evidence}
 use Rattle.plan_exclusion.proofs.Denying.{evidence_denies}
 use Rattle.rail_base.specs.declared.plan.Command.{Command}
 use Rattle.rail_base.specs.declared.station.Station.{Station}
@@ -20,25 +20,25 @@ use Rattle.verify_loop.proofs.Each.{each_given}
 
 module _ (m : Method) (d : Station) (good : IsAdmitted d) (n : ℕ) (some : 1 ≤ n) where
   -- the clause of what shows that a found plan fails is false in the plan's model
-  own_false : (known : List Evidence) (plan : List (List Command)) (e : Evidence) → IsFound m d n known plan → IsShownBy d plan e → clause_holds (model_of d (routes_of d) n plan) (clause_shown d n e) ≡ false
+  own_false : (known : List Evidence) (plan : List (List Command)) (e : Evidence) → IsFound m d n known plan → IsRefutedBy d plan e → clause_holds (model_of d (routes_of d) n plan) (clause_of_evidence d n e) ≡ false
   own_false known plan e found shown = evidence_denies d good n some plan found.runnable (each_given m d n good some known plan found) e shown
 
   -- and that of evidence that was known is true
-  known_true : (known : List Evidence) (plan : List (List Command)) (e : Evidence) → IsFound m d n known plan → In e known → clause_holds (model_of d (routes_of d) n plan) (clause_shown d n e) ≡ true
+  known_true : (known : List Evidence) (plan : List (List Command)) (e : Evidence) → IsFound m d n known plan → In e known → clause_holds (model_of d (routes_of d) n plan) (clause_of_evidence d n e) ≡ true
   known_true known plan e found i =
       let model = model_of d (routes_of d) n plan in
-      let clauses = map (clause_shown d n) known in
+      let clauses = map (clause_of_evidence d n) known in
       let both : (list_all (clause_holds model) (first_clauses m d n) && list_all (clause_holds model) clauses) ≡ true =
       sym (list_all-append (clause_holds model) (first_clauses m d n) clauses) ∙ found.model in
-      list_all_at (clause_holds model) clauses (clause_shown d n e) (and_right (list_all (clause_holds model) (first_clauses m d n)) (list_all (clause_holds model) clauses) both) (in_map (clause_shown d n) known e i)
+      list_all_at (clause_holds model) clauses (clause_of_evidence d n e) (and_right (list_all (clause_holds model) (first_clauses m d n)) (list_all (clause_holds model) clauses) both) (in_map (clause_of_evidence d n) known e i)
 
   -- a plan whose evidence is known is none of those that were found later
-  later_differs : (plan : List (List Command)) (e : Evidence) → clause_holds (model_of d (routes_of d) n plan) (clause_shown d n e) ≡ false
+  later_differs : (plan : List (List Command)) (e : Evidence) → clause_holds (model_of d (routes_of d) n plan) (clause_of_evidence d n e) ≡ false
       → (known : List Evidence) → In e known → (rs : List Refutal) → AreRefuted m d n known rs → (later : List (List Command)) → In later (plans_of rs) → plan ≡ later → ⊥
   later_differs plan e denied known i [] a later j same = absurd j
   later_differs plan e denied known i (r ∷ rs) a later (inl is) same =
       let told = known_true known r.plan e a.0 i in
-      let other = subst (λ (p : List (List Command)). clause_holds (model_of d (routes_of d) n p) (clause_shown d n e) ≡ false) (same ∙ sym is) denied in
+      let other = subst (λ (p : List (List Command)). clause_holds (model_of d (routes_of d) n p) (clause_of_evidence d n e) ≡ false) (same ∙ sym is) denied in
       true≢false (sym told ∙ other)
   later_differs plan e denied known i (r ∷ rs) a later (inr j) same = later_differs plan e denied (known ++ r.evidence ∷ []) (in_append_left e known (r.evidence ∷ []) i) rs a.2 later j same
 

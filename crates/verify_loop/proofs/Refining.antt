@@ -18,7 +18,7 @@ use Rattle.rail_base.specs.Admitted.{IsAdmitted}
 use Rattle.rail_spec.specs.Feasible.{IsInfeasible}
 use Rattle.log_recorder.specs.declared.text.Text.{Text}
 use Rattle.log_recorder.specs.Laws.{EndedRunsAreAccepted, DenialsAreSo}
-use Rattle.log_recorder.specs.Logs.{LogLine, Learnt, line_of, by_step, log_text, with_log, learnt_in, learnt_count, AllGoOn, GoesOn, IsLast}
+use Rattle.log_recorder.specs.Logs.{LogLine, Learnt, log_line_of, by_step, log_text, with_log, learnt_in, learnt_count, AllGoOn, GoesOn, IsLast}
 use Rattle.log_recorder.proofs.Appending.{with_log-append, with_log-lines, learnt_in-append, learnt_in-lines, go-on-append, log_text-append, text-lines, count-lines, evidence-lines}
 use Rattle.log_recorder.proofs.Searched.{IsUnknown, all-below, below-more, all-go-on, unknown-stays, denies-step, may-come, final-last, final-goes-on}
 use Rattle.sat_clause.specs.declared.lit.Lit.{Lit}
@@ -32,7 +32,7 @@ use Rattle.sat_core.specs.Lines.{Derived, Entry, AllNew, with_lines, learnt_with
 use Rattle.sat_core.specs.Runs.{State, Went, IsRecorded, MayFollow}
 use Rattle.sat_core.specs.Texts.{derive_line, has_room}
 use Rattle.verify_loop.specs.declared.outcome.Budgets.{Budgets}
-use Rattle.verify_loop.specs.Outcomes.{head, first_clauses, base, vars, plans_of, IsLog, IsNext, IsWithin, IsFull, IsProof}
+use Rattle.verify_loop.specs.Outcomes.{head, first_clauses, base, vars, plans_of, IsLog, IsNextDerived, IsWithin, IsFull, IsProof}
 use Rattle.verify_loop.specs.Searching.{AllBelow, IsSearch, state_in}
 use Rattle.verify_loop.proofs.Held.{some-same}
 
@@ -49,10 +49,10 @@ module _ (m : Method) (d : Station) (n : ℕ) (b : Budgets) (some : 1 ≤ n) (re
 
   module _ (new : State) (more : List Entry) (went : Went assumed old new more) where
     abbrev pub lines : List LogLine
-    lines = s.lines ++ map line_of more
+    lines = s.lines ++ map log_line_of more
 
     longer : with_lines (with_log (base m d n) s.lines) more ≡ with_log (base m d n) lines
-    longer = sym (with_log-append (base m d n) s.lines (map line_of more) ∙ with_log-lines (with_log (base m d n) s.lines) more)
+    longer = sym (with_log-append (base m d n) s.lines (map log_line_of more) ∙ with_log-lines (with_log (base m d n) s.lines) more)
 
     pub clauses_are : new.clauses ≡ with_log (base m d n) lines
     clauses_are = went.clauses ∙ (ap (λ (z : Store). with_lines z more) s.clauses ∙ longer)
@@ -64,7 +64,7 @@ module _ (m : Method) (d : Station) (n : ℕ) (b : Budgets) (some : 1 ≤ n) (re
     numbers_are =
         went.learnt ∙ (ap (λ (z : Store). learnt_with z recorder.learnt.items more) s.clauses
         ∙ (ap (λ (z : List ℕ). learnt_with (with_log (base m d n) s.lines) z more) s.numbers
-        ∙ (sym (learnt_in-lines (with_log (base m d n) s.lines) (learnt_in (base m d n) [] s.lines) more) ∙ sym (learnt_in-append (base m d n) [] s.lines (map line_of more)))))
+        ∙ (sym (learnt_in-lines (with_log (base m d n) s.lines) (learnt_in (base m d n) [] s.lines) more) ∙ sym (learnt_in-append (base m d n) [] s.lines (map log_line_of more)))))
 
     pub below : AllBelow (vars d n) (with_log (base m d n) lines)
     below = subst (AllBelow (vars d n)) longer (all-below (vars d n) assumed (with_log (base m d n) s.lines) (learnt_in (base m d n) [] s.lines) more s.below all_new)
@@ -72,7 +72,7 @@ module _ (m : Method) (d : Station) (n : ℕ) (b : Budgets) (some : 1 ≤ n) (re
     pub text_is : new.text ≡ log_text (head m d n) lines
     text_is =
         went.text ∙ (ap (λ t. t ++ flat_map entry_text more) s.log.run.text
-        ∙ (ap (λ t. log_text (head m d n) s.lines ++ t) (sym (text-lines more)) ∙ sym (log_text-append (head m d n) s.lines (map line_of more))))
+        ∙ (ap (λ t. log_text (head m d n) s.lines ++ t) (sym (text-lines more)) ∙ sym (log_text-append (head m d n) s.lines (map log_line_of more))))
 
     -- where no clause denies these steps before, none does after
     pub unknown : (HasUnit recorder.arena (opposite (by_step (vars d n) n steps)) → ⊥) → IsUnknown (with_log (base m d n) lines) (opposite (by_step (vars d n) n steps) ∷ [])
@@ -88,12 +88,12 @@ module _ (m : Method) (d : Station) (n : ℕ) (b : Budgets) (some : 1 ≤ n) (re
       go_on =
           let same = ap length longer in
           let short = few in
-          go-on-append (head m d n) (refuted d n) (vars d n) n (base m d n) [] s.lines (map line_of more) s.log.run.go_on
-          (all-go-on (vars d n) n s.small some (head m d n) (refuted d n) assumed (with_log (base m d n) s.lines) (learnt_in (base m d n) [] s.lines) more (omega arith) s.below all_new)
+          go-on-append (head m d n) (refuted d n) (vars d n) n (base m d n) [] s.lines (map log_line_of more) s.log.run.go_on
+          (all-go-on (vars d n) n s.below_2_32 some (head m d n) (refuted d n) assumed (with_log (base m d n) s.lines) (learnt_in (base m d n) [] s.lines) more (omega arith) s.below all_new)
 
       -- the text is a log of the search
       pub log_so : IsLog m d n lines s.rs new.text
-      log_so = record { run = record { text = text_is; go_on = go_on }; shown = record { evidence = evidence-lines s.lines more ∙ s.log.shown.evidence; refuted = s.log.shown.refuted } }
+      log_so = record { run = record { text = text_is; go_on = go_on }; of_failed_plans = record { evidence = evidence-lines s.lines more ∙ s.log.of_failed_plans.evidence; refuted = s.log.of_failed_plans.refuted } }
 
       -- it is within the budgets
       pub within_so : derive_count more ≤ b.conflicts - derives → IsWithin m d n b lines (plans_of s.rs)
@@ -103,9 +103,9 @@ module _ (m : Method) (d : Station) (n : ℕ) (b : Budgets) (some : 1 ≤ n) (re
       }
 
       -- and a line that the solver may derive next is one that may come next
-      pub next_so : (steps < n → HasUnit recorder.arena (opposite (by_step (vars d n) n steps)) → ⊥) → (clause : List Lit) (hints : List ℕ) → MayFollow new.clauses assumed clause hints → IsNext m d n lines (clause, hints)
+      pub next_so : (steps < n → HasUnit recorder.arena (opposite (by_step (vars d n) n steps)) → ⊥) → (clause : List Lit) (hints : List ℕ) → MayFollow new.clauses assumed clause hints → IsNextDerived m d n lines (clause, hints)
       next_so unsaid clause hints follow =
-          may-come (vars d n) n s.small some (base m d n) lines steps clause hints few below s.first s.last wide (λ less. unknown (unsaid less)) (subst (λ (z : Store). MayFollow z assumed clause hints) clauses_are follow)
+          may-come (vars d n) n s.below_2_32 some (base m d n) lines steps clause hints few below s.at_least_one s.at_most_n wide (λ less. unknown (unsaid less)) (subst (λ (z : Store). MayFollow z assumed clause hints) clauses_are follow)
 
       -- where there is no room for it, the log is full
       pub full_so : (steps < n → HasUnit recorder.arena (opposite (by_step (vars d n) n steps)) → ⊥) → (clause : List Lit) (hints : List ℕ) (bytes next : ℕ) → derive_count more ≤ b.conflicts - derives → MayFollow new.clauses assumed clause hints → bytes ≡ length new.text → next ≡ length (derive_line clause hints) → has_room new.limit (bytes + next) ≡ false
@@ -131,18 +131,18 @@ module _ (m : Method) (d : Station) (n : ℕ) (b : Budgets) (some : 1 ≤ n) (re
     rs = s.rs;
     clauses = clauses_are (state_in later later_derives) more went;
     numbers = numbers_are (state_in later later_derives) more went;
-    log = log_so (state_in later later_derives) more went later.few;
+    log = log_so (state_in later later_derives) more went later.has_numbers;
     limit = some-same later.limit recorder.limit went.limit ∙ s.limit;
     same_vars = same ∙ s.same_vars;
-    small = s.small;
+    below_2_32 = s.below_2_32;
     below = below (state_in later later_derives) more went;
     derived = (let c = count-lines s.lines more in let now = s.derived in let grown = went.derives in omega arith);
     learnt = (let c = count-lines s.lines more in let now = s.derived in let spent = s.learnt in omega arith);
     plans = s.plans;
     cost = s.cost;
     left = s.left;
-    first = s.first;
-    last = s.last;
+    at_least_one = s.at_least_one;
+    at_most_n = s.at_most_n;
     fewer = s.fewer;
   }
 
@@ -173,7 +173,7 @@ module _ (m : Method) (d : Station) (n : ℕ) (b : Budgets) (some : 1 ≤ n) (re
     -- of all n of them
     module _ (which : (core ≡ []) ⊎ (steps ≡ n)) where
       last : IsLast (vars d n) n (with_log (base m d n) before) (core, hints)
-      last = final-last (vars d n) n s.small some (with_log (base m d n) before) steps (core, hints) (few now more went fewer) s.first s.last wide which final_there
+      last = final-last (vars d n) n s.below_2_32 some (with_log (base m d n) before) steps (core, hints) (few now more went fewer) s.at_least_one s.at_most_n wide which final_there
 
       shown_so : keeps_head (head m d n) ≡ true → past_limit 16000000 0 (first_clauses m d n) ≡ None → EndedRunsAreAccepted → judged d n new.text ≡ Yes n
       shown_so kept fits accepted =
@@ -187,7 +187,7 @@ module _ (m : Method) (d : Station) (n : ℕ) (b : Budgets) (some : 1 ≤ n) (re
         lines = before;
         rs = s.rs;
         ended_log = record { last = (core, hints); text = whole; go_on = go_on now more went fewer; is_last = last };
-        shown = (log_so now more went fewer).shown;
+        of_failed_plans = (log_so now more went fewer).of_failed_plans;
         accepted = shown_so kept fits accepted;
         within = record {
           derived = (let c = one-more before (core, hints) in let k = count-lines s.lines more in let so = s.derived in let spent = s.learnt in omega arith);
@@ -201,13 +201,13 @@ module _ (m : Method) (d : Station) (n : ℕ) (b : Budgets) (some : 1 ≤ n) (re
     -- of these, of which the search goes on with one more
     module _ (not_empty : core ≡ [] → ⊥) (less : steps < n) (unsaid : HasUnit recorder.arena (opposite (by_step (vars d n) n steps)) → ⊥) where
       goes_on : GoesOn (vars d n) n (with_log (base m d n) before) (core, hints) × (core ≡ opposite (by_step (vars d n) n steps) ∷ [])
-      goes_on = final-goes-on (vars d n) n s.small some (with_log (base m d n) before) steps (core, hints) (few now more went fewer) s.first less wide not_empty (unknown now more went unsaid) final_there
+      goes_on = final-goes-on (vars d n) n s.below_2_32 some (with_log (base m d n) before) steps (core, hints) (few now more went fewer) s.at_least_one less wide not_empty (unknown now more went unsaid) final_there
 
       denial-below : (l : Lit) → is_assigned core l ≡ true → (1 ≤ l.var) × (l.var < vars d n)
       denial-below l h =
           let e = opposite (by_step (vars d n) n steps) in
           let at : l.var ≡ vars d n - n + steps = ap (λ (z : Lit). z.var) (assigned-one e l (subst (λ (c : List Lit). is_assigned c l ≡ true) goes_on.1 h)) in
-          let first = s.first in
+          let first = s.at_least_one in
           let fits = wide in
           (omega arith, omega arith)
 
@@ -227,19 +227,19 @@ module _ (m : Method) (d : Station) (n : ℕ) (b : Budgets) (some : 1 ≤ n) (re
             text = sym (ap (λ (z : State). z.text) is) ∙ whole;
             go_on = go-on-append (head m d n) (refuted d n) (vars d n) n (base m d n) [] before (Learnt (core, hints) ∷ []) (go_on now more went fewer) (goes_on.0, tt);
           };
-          shown = record { evidence = evidence-lines before (inl (core, hints) ∷ []) ∙ (log_so now more went fewer).shown.evidence; refuted = s.log.shown.refuted };
+          of_failed_plans = record { evidence = evidence-lines before (inl (core, hints) ∷ []) ∙ (log_so now more went fewer).of_failed_plans.evidence; refuted = s.log.of_failed_plans.refuted };
         };
         limit = some-same later.limit recorder.limit (sym (ap (λ (z : State). z.limit) is) ∙ (recorded.limit ∙ went.limit)) ∙ s.limit;
         same_vars = same ∙ s.same_vars;
-        small = s.small;
+        below_2_32 = s.below_2_32;
         below = subst (AllBelow (vars d n)) with_it (below-more (vars d n) (with_log (base m d n) before) core (below now more went) denial-below);
         derived = (let c = one-more before (core, hints) in let k = count-lines s.lines more in let so = s.derived in let grown = went.derives in let last = recorded.derives in let e = ap (λ (z : State). z.derives) is in omega arith);
         learnt = (let c = one-more before (core, hints) in let k = count-lines s.lines more in let so = s.derived in let spent = s.learnt in omega arith);
         plans = s.plans;
         cost = s.cost;
         left = s.left;
-        first = s.first;
-        last = s.last;
+        at_least_one = s.at_least_one;
+        at_most_n = s.at_most_n;
         fewer = s.fewer;
       }
 
@@ -250,11 +250,11 @@ module _ (m : Method) (d : Station) (n : ℕ) (b : Budgets) (some : 1 ≤ n) (re
           let live : live_clause (with_log (base m d n) (before ++ Learnt (core, hints) ∷ [])) (length clauses) ≡ Some core =
           subst (λ (z : Store). live_clause z (length clauses) ≡ Some core) with_it (live-last (with_log (base m d n) before) clauses core (length clauses) refl refl) in
           let go = go-on-append (head m d n) (refuted d n) (vars d n) n (base m d n) [] before (Learnt (core, hints) ∷ []) (go_on now more went fewer) (goes_on.0, tt) in
-          let says = ap (steps_denied (vars d n) n) goes_on.1 ∙ denies-step (vars d n) n steps s.first s.last in
+          let says = ap (steps_denied (vars d n) n) goes_on.1 ∙ denies-step (vars d n) n steps s.at_least_one s.at_most_n in
           sound d good n steps some (denials (head m d n) (refuted d n) (vars d n) n (base m d n) (before ++ Learnt (core, hints) ∷ []) (length clauses) steps core go live says)
 
   -- where a clause denies these steps, there is no plan of so many
   pub known_so : IsAdmitted d → DenialsAreSo → DeniedIsInfeasible m → HasUnit recorder.arena (opposite (by_step (vars d n) n steps)) → IsInfeasible d steps
   known_so good denials sound unit =
       let live = subst (λ (z : Store). live_clause z unit.0 ≡ Some (opposite (by_step (vars d n) n steps) ∷ [])) s.clauses unit.1 in
-      sound d good n steps some (denials (head m d n) (refuted d n) (vars d n) n (base m d n) s.lines unit.0 steps (opposite (by_step (vars d n) n steps) ∷ []) s.log.run.go_on live (denies-step (vars d n) n steps s.first s.last))
+      sound d good n steps some (denials (head m d n) (refuted d n) (vars d n) n (base m d n) s.lines unit.0 steps (opposite (by_step (vars d n) n steps) ∷ []) s.log.run.go_on live (denies-step (vars d n) n steps s.at_least_one s.at_most_n))

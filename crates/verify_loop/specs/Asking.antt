@@ -13,7 +13,7 @@ use Rattle.sat_core.specs.Units.{HasUnit}
 use Rattle.verify_loop.specs.declared.outcome.Outcome.{Outcome}
 use Rattle.verify_loop.specs.declared.rounds.PlanSearch.{PlanSearch}
 use Rattle.verify_loop.specs.declared.rounds.SearchState.{SearchState}
-use Rattle.verify_loop.specs.Outcomes.{Says, IsFound, cost_of, vars}
+use Rattle.verify_loop.specs.Outcomes.{IsOutcome, IsFound, cost_of, vars}
 use Rattle.verify_loop.specs.Searching as searching
 
 module _ (q : PlanSearch) where
@@ -39,7 +39,7 @@ module _ (q : PlanSearch) where
   abbrev pub WasFound : List (List Command) → Type 0
   WasFound plan = (known : List Evidence) × IsFound q.method station_of most_steps known plan
 
-  -- the values tell of the plan
+  -- the values give the plan
   abbrev pub AreValuesFor : List Bool → List (List Command) → Type 0
   AreValuesFor = AreValuesOfPlan station_of most_steps
 
@@ -81,4 +81,4 @@ module _ (q : PlanSearch) where
 
   -- what its end says
   abbrev pub EndsWith : Outcome → Type 0
-  EndsWith = Says q.method station_of most_steps q.budgets
+  EndsWith = IsOutcome q.method station_of most_steps q.budgets

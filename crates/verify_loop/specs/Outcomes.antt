@@ -7,7 +7,7 @@ use Rattle.clause_spec.specs.Models.{model_of}
 use Rattle.clause_spec.specs.Variables.{variable_count}
 use Rattle.plan_exclusion.specs.declared.method.Method.{Method}
 use Rattle.plan_exclusion.specs.Exclusions.{head_for}
-use Rattle.plan_exclusion.specs.Failures.{IsShownBy, clause_shown}
+use Rattle.plan_exclusion.specs.Failures.{IsRefutedBy, clause_of_evidence}
 use Rattle.proof_judge.specs.Judged.{all_live, clauses_under, judged, refuted}
 use Rattle.proof_log.specs.declared.line.Line.TheVariants.{Refute}
 use Rattle.bound_spec.specs.declared.Evidence.{Evidence}
@@ -24,7 +24,7 @@ use Rattle.rail_spec.specs.Requirements.{cost}
 use Rattle.rail_spec.specs.Track.{routes_of}
 use Rattle.log_recorder.specs.Logs.{LogLine, Learnt, IsRunLog, IsEndedLog, MayComeNext, evidence_of, learnt_count, log_text}
 use Rattle.sat_clause.specs.Clauses.{Store, clause_holds}
-use Rattle.sat_core.specs.Lines.{Derived, text_of}
+use Rattle.sat_core.specs.Lines.{Derived, derived_text}
 use Rattle.sat_core.specs.Texts.{ended}
 use Rattle.verify_loop.specs.declared.outcome.Budgets.{Budgets}
 use Rattle.verify_loop.specs.declared.outcome.Outcome.{Outcome}
@@ -71,7 +71,7 @@ module _ (m : Method) (d : Station) (n : ℕ) where
 
   -- these clauses, and those of these cones and bounds
   abbrev pub clauses_with : List Evidence → List (List Lit)
-  clauses_with known = first_clauses ++ map (clause_shown d n) known
+  clauses_with known = first_clauses ++ map (clause_of_evidence d n) known
 
   -- ---- plans that fail
 
@@ -84,29 +84,29 @@ module _ (m : Method) (d : Station) (n : ℕ) where
   abbrev pub AreRefuted : List Evidence → List Refutal → Type 0
   AreRefuted known [] = Unit {0}
   AreRefuted known (r ∷ rs) =
-      IsFound known r.plan × IsShownBy d r.plan r.evidence × AreRefuted (known ++ r.evidence ∷ []) rs
+      IsFound known r.plan × IsRefutedBy d r.plan r.evidence × AreRefuted (known ++ r.evidence ∷ []) rs
 
   -- ---- logs
 
   -- the cones and bounds of these lines are those of plans that failed
-  pub record AreShown (lines : List LogLine) (rs : List Refutal) : Type 0 where
+  pub record AreOfFailedPlans (lines : List LogLine) (rs : List Refutal) : Type 0 where
     pub evidence : evidence_of lines ≡ evidence_in rs
     pub refuted : AreRefuted [] rs
 
   -- a log of the search, with these lines and plans that failed
   pub record IsLog (lines : List LogLine) (rs : List Refutal) (log : List ℕ) : Type 0 where
     pub run : IsRunLog head (refuted d n) (vars d n) n base lines log
-    pub shown : AreShown lines rs
+    pub of_failed_plans : AreOfFailedPlans lines rs
 
   -- a derived line that the search may record next
-  abbrev pub IsNext : List LogLine → Derived → Type 0
-  IsNext = MayComeNext base (vars d n) n
+  abbrev pub IsNextDerived : List LogLine → Derived → Type 0
+  IsNextDerived = MayComeNext base (vars d n) n
 
   -- the next line has so many bytes: one that may be derived next, or that of the cone or bound of a plan that is found next and fails
   abbrev pub IsNextLine : List LogLine → List Refutal → ℕ → Type 0
   IsNextLine lines rs next =
-      ((line : Derived) × IsNext lines line × (next ≡ length (text_of line)))
-      ⊎ ((r : Refutal) × IsFound (evidence_in rs) r.plan × IsShownBy d r.plan r.evidence
+      ((line : Derived) × IsNextDerived lines line × (next ≡ length (derived_text line)))
+      ⊎ ((r : Refutal) × IsFound (evidence_in rs) r.plan × IsRefutedBy d r.plan r.evidence
       × (next ≡ length (ended (text_of_line (Refute r.evidence)))))
 
   -- ---- budgets
@@ -137,28 +137,28 @@ module _ (m : Method) (d : Station) (n : ℕ) where
     pub lines : List LogLine
     pub rs : List Refutal
     pub ended_log : IsEndedLog head (refuted d n) (vars d n) n base lines log
-    pub shown : AreShown lines rs
+    pub of_failed_plans : AreOfFailedPlans lines rs
     pub accepted : judged d n log ≡ Yes n
     pub within : IsWithin b (lines ++ Learnt ended_log.last ∷ []) (plans_of rs)
 
   -- ---- ends
 
   -- what the end of a search within these budgets says
-  abbrev pub Says : Budgets → Outcome → Type 0
-  Says b (Plan plan verdict) = IsFeasible d n plan.steps × HasFewestSteps d n plan.steps
+  abbrev pub IsOutcome : Budgets → Outcome → Type 0
+  IsOutcome b (Plan plan verdict) = IsFeasible d n plan.steps × HasFewestSteps d n plan.steps
       × (verdict ≡ verdict_of d (routes_of d) plan.steps (horizon d)) × IsReached b plan.steps
-  Says b (Infeasible log) = IsInfeasible d n × IsProof b log.items × (length log.items ≤ b.log_bytes)
-  Says b (ConflictsSpent log clause hints) =
+  IsOutcome b (Infeasible log) = IsInfeasible d n × IsProof b log.items × (length log.items ≤ b.log_bytes)
+  IsOutcome b (ConflictsSpent log clause hints) =
       (lines : List LogLine) × (rs : List Refutal) × IsLog lines rs log.items × IsWithin b lines (plans_of rs)
-      × (learnt_count lines ≡ b.conflicts) × IsNext lines (clause.items, hints.items)
-  Says b (TicksSpent failed sum at_hand) =
+      × (learnt_count lines ≡ b.conflicts) × IsNextDerived lines (clause.items, hints.items)
+  IsOutcome b (TicksSpent failed sum at_hand) =
       (lines : List LogLine) × (rs : List Refutal) × IsLog lines rs (log_text head lines)
       × IsWithin b lines (plans_of rs)
       × (map (λ (p : PlanOf). p.steps) failed.items ≡ plans_of rs) × (sum ≡ cost_of d n (plans_of rs))
       × IsFound (evidence_in rs) at_hand.steps × (b.ticks < sum + cost d (routes_of d) at_hand.steps)
-  Says b (LogSpent log bytes next) = IsFull b log.items bytes next
-  Says b (TooLarge literals) = past_limit 16000000 0 first_clauses ≡ Some literals
-  Says b Memory = Unit {0}
+  IsOutcome b (LogSpent log bytes next) = IsFull b log.items bytes next
+  IsOutcome b (TooLarge literals) = past_limit 16000000 0 first_clauses ≡ Some literals
+  IsOutcome b Memory = Unit {0}
 
   -- the clauses have at most 16,000,000 literals, unless the search says that they have more or there was no memory
   abbrev pub Fits : Outcome → Type 0

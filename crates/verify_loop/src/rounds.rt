@@ -48,8 +48,8 @@ pub(crate) struct PlanSearch<'a> {
     pub base: &'a Base,
     pub budgets: Budgets,
     pub ghost numbers: { IsBaseFor interlocking.now base.now },
-    pub ghost some: { 1 ≤ base.now.steps },
-    pub ghost most: { base.now.steps ≤ 256 },
+    pub ghost at_least_one: { 1 ≤ base.now.steps },
+    pub ghost at_most_256: { base.now.steps ≤ 256 },
     pub ghost fits: { past_limit 16000000 0
         (first_clauses method interlocking.now.design.station base.now.steps) ≡ None },
 }
@@ -83,7 +83,7 @@ impl PlanSearch<'_> {
         violation: Violation,
     ) -> Result<Exclusion, AllocError>
         requires found { WasFound self.now plan.now.steps }
-        requires told { AreValuesFor self.now values.now plan.now.steps }
+        requires are_values { AreValuesFor self.now values.now plan.now.steps }
         requires fails { FailsSo self.now.interlocking.now.design.station plan.now.steps history.now tick violation }
         ensures { IfOk result (Excludes self.now plan.now.steps) }
     {
@@ -139,7 +139,7 @@ impl PlanSearch<'_> {
         Ok(search)
     }
 
-    /// What follows of the run of a plan that was found, of which these values tell.
+    /// What follows of the run of a plan that was found, which these values give.
     fn time_plan(
         &self,
         search: SearchState,
@@ -147,7 +147,7 @@ impl PlanSearch<'_> {
         values: &Assignment,
     ) -> Result<SearchState, Outcome>
         requires at { IsAtPlan self.now search plan.steps }
-        requires told { AreValuesFor self.now values.now plan.steps }
+        requires are_values { AreValuesFor self.now values.now plan.steps }
         ensures goes_on { IfOk result (GoesOn self.now search) }
         ensures ends { IfErr result (EndsWith self.now) }
     {
@@ -219,7 +219,7 @@ impl PlanSearch<'_> {
         self.base.selector(step)
     }
 
-    /// Asks the solver for values that tell of a plan of so many steps.
+    /// Asks the solver for values that give a plan of so many steps.
     fn put_to(&self, solver: &mut Solver<Text>, steps: u32, left: u64) -> Answer
         requires vars { solver.old.vars ≡ variables self.now }
         requires at_least_one { 1 ≤ steps }

@@ -17,9 +17,9 @@ use Rattle.rail_cli.specs.Answers.{ReplySeen, within_limit, with_routes, and_the
 use Rattle.rail_cli.proofs.Deciding.{answered_next}
 use Rattle.rail_cli.proofs.Passing.{passed, long_refuses, design_refuses, clauses_refuse}
 use Rattle.rail_cli.proofs.Refusing.{file_is}
-use Rattle.rail_cli.proofs.Untold.{with_design}
+use Rattle.rail_cli.proofs.AnyShelf.{with_design}
 use Rattle.why_cli.specs.Answers.{usage, sentences_or_shown, explained_against, text_explained, steps_in, explained_where, proof_explained, proof_by_head, explanation_reply}
-use Rattle.why_cli.specs.Laws.{RefusesAsCheck, TellsWhereYes, HeadsNameSteps, NoStepsIsUsage}
+use Rattle.why_cli.specs.Laws.{RefusesAsCheck, ExplainsWhereYes, HeadsNameSteps, NoStepsIsUsage}
 
 -- ---- what a check does not answer with yes
 
@@ -83,8 +83,8 @@ passes n design_bytes proof_bytes done =
           ∙ ap (λ (b : List ℕ). sentences_or_shown (Ok (file_sentences d b))) (sym bytes))));
     }
 
-pub tells_where_yes : TellsWhereYes
-tells_where_yes n design_bytes proof_bytes d reads done =
+pub explains_where_yes : ExplainsWhereYes
+explains_where_yes n design_bytes proof_bytes d reads done =
     let p = passes n design_bytes proof_bytes done in
     let one : Ok p.design ≡ Ok d = sym p.reads ∙ reads in
     let same : p.design ≡ d = cc in

@@ -9,9 +9,9 @@ use Rattle.rail_cli.specs.declared.reply.Reply.{Reply}
 use Rattle.rail_cli.specs.declared.ending.Ending.{Ending}
 use Rattle.rail_cli.specs.declared.ending.Ending.TheVariants as ending
 use Rattle.rail_cli.specs.Answers.{ReplySeen, within_limit, design_in, unless_refused, with_clauses}
-use Rattle.rail_cli.specs.Replies.{reply_seen, Reads, Replies}
+use Rattle.rail_cli.specs.Replies.{reply_seen, ReadsOrEnds, Replies}
 use Rattle.rail_cli.proofs.Deciding.{answered_next}
-use Rattle.rail_cli.proofs.Untold.{ends_so, with_text, with_design}
+use Rattle.rail_cli.proofs.AnyShelf.{ends_so, with_text, with_design}
 use Rattle.why_words.specs.Wanted.{Wanted}
 use Rattle.why_cli.specs.Answers.{sentences_or_shown, explained_against, text_explained, steps_in, explained_where, proof_explained, proof_by_head, proof_for, explanation_reply}
 use Rattle.why_cli.specs.Replies.{RepliesSome}
@@ -41,10 +41,10 @@ module _ (r : Result Reply Ending) (n : ℕ) (d : Station) where
   abbrev with_bytes : List ℕ → ReplySeen
   with_bytes bytes = unless_refused (within_limit file.Proof bytes) (explained_against d n)
 
-  pub no_base : {X : Type 0} (view : X → Station) (e : Ending) → r ≡ Err e → Reads view (Err e) (with_clauses Cones n d) → ExplainedSo
+  pub no_base : {X : Type 0} (view : X → Station) (e : Ending) → r ≡ Err e → ReadsOrEnds view (Err e) (with_clauses Cones n d) → ExplainedSo
   no_base view e is h = ([], ends_so r view e (with_clauses Cones n d) (λ same. with_bytes []) _ is h refl)
 
-  pub no_proof : (e : Ending) → r ≡ Err e → with_clauses Cones n d ≡ Ok d → (bytes : List ℕ) × Reads (λ (v : Vec ℕ Global). v.items) (Err e) (within_limit file.Proof bytes) → ExplainedSo
+  pub no_proof : (e : Ending) → r ≡ Err e → with_clauses Cones n d ≡ Ok d → (bytes : List ℕ) × ReadsOrEnds (λ (v : Vec ℕ Global). v.items) (Err e) (within_limit file.Proof bytes) → ExplainedSo
   no_proof e is few h = (h.0, ends_so r (λ (v : Vec ℕ Global). v.items) e _ (explained_against d n) _ is h.1 (answered_next (with_clauses Cones n d) d (λ same. with_bytes h.0) few))
 
   pub no_memory : r ≡ Err ending.Memory → ExplainedSo
@@ -58,7 +58,7 @@ module _ (r : Result Reply Ending) (d : Station) where
   abbrev by_text : List ℕ → ReplySeen
   by_text text = explained_where (steps_in text) d text
 
-  pub no_text : (e : Ending) → r ≡ Err e → (bytes : List ℕ) × Reads (λ (v : Vec ℕ Global). v.items) (Err e) (within_limit file.Proof bytes) → ByHeadSo
+  pub no_text : (e : Ending) → r ≡ Err e → (bytes : List ℕ) × ReadsOrEnds (λ (v : Vec ℕ Global). v.items) (Err e) (within_limit file.Proof bytes) → ByHeadSo
   no_text e is h = (h.0, ends_so r (λ (v : Vec ℕ Global). v.items) e _ by_text _ is h.1 refl)
 
   pub text_read : (bytes text : List ℕ) → within_limit file.Proof bytes ≡ Ok text → Replies r (by_text text) → Replies r (proof_by_head d bytes)
@@ -88,11 +88,11 @@ module _ (r : Result Reply Ending) (w : Wanted) where
   abbrev with_station : List ℕ → Station → ReplySeen
   with_station bytes d = proof_for w.steps d bytes
 
-  pub no_design : (e : Ending) → r ≡ Err e → (bytes : List ℕ) × Reads (λ (v : Vec ℕ Global). v.items) (Err e) (within_limit file.Design bytes) → WantedSo
+  pub no_design : (e : Ending) → r ≡ Err e → (bytes : List ℕ) × ReadsOrEnds (λ (v : Vec ℕ Global). v.items) (Err e) (within_limit file.Design bytes) → WantedSo
   no_design e is h = wanted_so h.0 [] (ends_so r (λ (v : Vec ℕ Global). v.items) e _ (λ text. unless_refused (design_in text) (with_station [])) _ is h.1 refl)
 
   module _ (text : List ℕ) (first : (bytes : List ℕ) × (within_limit file.Design bytes ≡ Ok text)) where
-    pub not_admitted : {X : Type 0} (view : X → Station) (e : Ending) → r ≡ Err e → Reads view (Err e) (design_in text) → WantedSo
+    pub not_admitted : {X : Type 0} (view : X → Station) (e : Ending) → r ≡ Err e → ReadsOrEnds view (Err e) (design_in text) → WantedSo
     not_admitted view e is h = wanted_so first.0 [] (ends_so r view e (design_in text) (with_station []) _ is h (with_text first.0 text first.1 (with_station [])))
 
     pub all_read : (d : Station) → design_in text ≡ Ok d → (bytes : List ℕ) × Replies r (proof_for w.steps d bytes) → WantedSo

@@ -27,9 +27,9 @@ use Rattle.rail_words.specs.Laws.{is_plain}
 use Rattle.rail_words.specs.Requests.{RequestSeen, simulate, routes, verify, check, trial, request_of}
 use Rattle.rail_words.specs.Requests as requests
 use Rattle.rail_words.proofs.Ranges.{requests_in_range}
-use Rattle.why_words.specs.Wanted.{Wanted, IsInRange, two_names, check_words, by_check, or_else, wanted_of}
+use Rattle.why_words.specs.Wanted.{Wanted, AreStepsInRange, two_names, check_words, by_check, or_else, wanted_of}
 use Rattle.why_cli.specs.Answers.{if_in_range, steps_named, steps_in, steps_for, explained_where, proof_by_head, explanation_reply, answer_to, answer_of}
-use Rattle.why_cli.specs.Shows.{Explains, TellsWhy, IsUnrefused}
+use Rattle.why_cli.specs.Shows.{Explains, ExplainsProof, IsUnrefused}
 use Rattle.why_cli.proofs.Checking.{heads_name_steps, status_as_check, passes}
 
 -- ---- steps that are given are in range
@@ -37,30 +37,30 @@ use Rattle.why_cli.proofs.Checking.{heads_name_steps, status_as_check, passes}
 abbrev asking : Option ℕ → List ℕ → List ℕ → Wanted
 asking steps design proof = record { steps = steps; design = design; proof = proof }
 
-by_names : (plain : Bool) (design proof : List ℕ) (w : Wanted) → (if plain then Some (asking None design proof) else None) ≡ Some w → IsInRange w.steps
-by_names true design proof w e = let same : asking None design proof ≡ w = cc in subst (λ (x : Wanted). IsInRange x.steps) same tt
+by_names : (plain : Bool) (design proof : List ℕ) (w : Wanted) → (if plain then Some (asking None design proof) else None) ≡ Some w → AreStepsInRange w.steps
+by_names true design proof w e = let same : asking None design proof ≡ w = cc in subst (λ (x : Wanted). AreStepsInRange x.steps) same tt
 by_names false design proof w e = absurd (cc)
 
-two_in_range : (words : List (List ℕ)) (w : Wanted) → two_names words ≡ Some w → IsInRange w.steps
+two_in_range : (words : List (List ℕ)) (w : Wanted) → two_names words ≡ Some w → AreStepsInRange w.steps
 two_in_range [] w e = absurd (cc)
 two_in_range (program ∷ []) w e = absurd (cc)
 two_in_range (program ∷ design ∷ []) w e = absurd (cc)
 two_in_range (program ∷ design ∷ proof ∷ []) w e = by_names (is_plain design && is_plain proof) design proof w e
 two_in_range (program ∷ design ∷ proof ∷ word ∷ words) w e = absurd (cc)
 
-check_in_range : (asked : Option RequestSeen) (w : Wanted) → ((a : RequestSeen) → asked ≡ Some a → requests.IsInRange a) → by_check asked ≡ Some w → IsInRange w.steps
+check_in_range : (asked : Option RequestSeen) (w : Wanted) → ((a : RequestSeen) → asked ≡ Some a → requests.IsRequestInRange a) → by_check asked ≡ Some w → AreStepsInRange w.steps
 check_in_range None w range e = absurd (cc)
-check_in_range (Some (check n design proof)) w range e = let same : asking (Some n) design proof ≡ w = cc in subst (λ (x : Wanted). IsInRange x.steps) same (range (check n design proof) refl)
+check_in_range (Some (check n design proof)) w range e = let same : asking (Some n) design proof ≡ w = cc in subst (λ (x : Wanted). AreStepsInRange x.steps) same (range (check n design proof) refl)
 check_in_range (Some (simulate design plan)) w range e = absurd (cc)
 check_in_range (Some (routes design)) w range e = absurd (cc)
 check_in_range (Some (verify n conflicts ticks bounds design proof)) w range e = absurd (cc)
 check_in_range (Some (trial seed size)) w range e = absurd (cc)
 
-either : (first second : Option Wanted) (w : Wanted) → ((x : Wanted) → first ≡ Some x → IsInRange x.steps) → ((x : Wanted) → second ≡ Some x → IsInRange x.steps) → or_else first second ≡ Some w → IsInRange w.steps
+either : (first second : Option Wanted) (w : Wanted) → ((x : Wanted) → first ≡ Some x → AreStepsInRange x.steps) → ((x : Wanted) → second ≡ Some x → AreStepsInRange x.steps) → or_else first second ≡ Some w → AreStepsInRange w.steps
 either (Some x) second w f g e = f w e
 either None second w f g e = g w e
 
-wanted_in_range : (words : List (List ℕ)) (w : Wanted) → wanted_of words ≡ Some w → IsInRange w.steps
+wanted_in_range : (words : List (List ℕ)) (w : Wanted) → wanted_of words ≡ Some w → AreStepsInRange w.steps
 wanted_in_range words w e =
     either (two_names words) (by_check (request_of (check_words words))) w (two_in_range words) (λ x. check_in_range (request_of (check_words words)) x (requests_in_range (check_words words))) e
 
@@ -107,7 +107,7 @@ record Gives (steps : Option ℕ) (design_bytes proof_bytes : List ℕ) : Type 0
   some : 1 ≤ most
   same : explanation_reply steps design_bytes proof_bytes ≡ explanation_reply (Some most) design_bytes proof_bytes
 
-gives : (steps : Option ℕ) (design_bytes proof_bytes : List ℕ) → IsInRange steps → (explanation_reply steps design_bytes proof_bytes).status ≡ Done → Gives steps design_bytes proof_bytes
+gives : (steps : Option ℕ) (design_bytes proof_bytes : List ℕ) → AreStepsInRange steps → (explanation_reply steps design_bytes proof_bytes).status ≡ Done → Gives steps design_bytes proof_bytes
 gives (Some n) design_bytes proof_bytes range done = record { most = n; are_most = refl; some = range.0; same = refl }
 gives None design_bytes proof_bytes range done =
     let h = names design_bytes proof_bytes done in
@@ -120,7 +120,7 @@ as_many None n design_bytes proof_bytes fits is = heads_name_steps n design_byte
 
 module _ (files : Files) (words : List (List ℕ)) (t : Status) (text new_text : Option (List ℕ)) (pieces new_pieces : Option (List (List ℕ))) (prints : Prints (answer_of files words) t text new_text pieces new_pieces) where
   -- a run that says yes
-  pub tells_why : (d : Station) (e : Explains files words d) → t ≡ Done → TellsWhy files e.wanted d text new_text
+  pub tells_why : (d : Station) (e : Explains files words d) → t ≡ Done → ExplainsProof files e.wanted d text new_text
   tells_why d e done =
       let w = e.wanted in
       let design = files w.design in
@@ -131,8 +131,8 @@ module _ (files : Files) (words : List (List ℕ)) (t : Status) (text new_text :
       let g = gives w.steps design proof (wanted_in_range words w e.asked) yes in
       let yes_to_check : (check_reply g.most design proof).status ≡ Done = sym (status_as_check g.most design proof) ∙ (ap (λ (a : ReplySeen). a.status) (sym g.same) ∙ yes) in
       let p = passes g.most design proof yes_to_check in
-      let same : d ≡ p.design = read-same design d p.design e.spells_design p.reads in
-      let s = checked_shows g.most design proof d g.some e.spells_design yes_to_check in
+      let same : d ≡ p.design = read-same design d p.design e.parses_design p.reads in
+      let s = checked_shows g.most design proof d g.some e.parses_design yes_to_check in
       record {
         most = g.most;
         are_most = g.are_most;
@@ -148,7 +148,7 @@ module _ (files : Files) (words : List (List ℕ)) (t : Status) (text new_text :
       let w = u.wanted in
       let design = files w.design in
       let proof = files w.proof in
-      let so : answer_of files words ≡ explanation_reply (Some u.steps) design proof = ap (answer_to files) u.asked ∙ as_many w.steps u.steps design proof (file_fits file.Proof proof u.short) u.are_steps in
-      let of_check : (check_reply u.steps design proof).status ≡ (reply_for (judged u.design u.steps proof)).status = ap (λ (a : ReplySeen). a.status) (checked_so design u.design u.spells_design u.steps proof u.few u.short) in
+      let so : answer_of files words ≡ explanation_reply (Some u.steps) design proof = ap (answer_to files) u.asked ∙ as_many w.steps u.steps design proof (file_fits file.Proof proof u.within_limit) u.are_steps in
+      let of_check : (check_reply u.steps design proof).status ≡ (reply_for (judged u.design u.steps proof)).status = ap (λ (a : ReplySeen). a.status) (checked_so design u.design u.parses_design u.steps proof u.has_few_clauses u.within_limit) in
       let status : t ≡ (reply_for (judged u.design u.steps proof)).status = prints.status answered ∙ (ap (λ (a : ReplySeen). a.status) so ∙ (status_as_check u.steps design proof ∙ of_check)) in
       subst IsVerdict (sym status) (told_verdict (judged u.design u.steps proof))

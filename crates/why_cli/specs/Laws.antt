@@ -15,8 +15,8 @@ RefusesAsCheck = (n : ℕ) (design_bytes proof_bytes : List ℕ) → (check_repl
     → explanation_reply (Some n) design_bytes proof_bytes ≡ check_reply n design_bytes proof_bytes
 
 -- where a check says yes, so does the answer, and its lines are the sentences about the proof's lines
-abbrev pub TellsWhereYes : Type 0
-TellsWhereYes = (n : ℕ) (design_bytes proof_bytes : List ℕ) (d : Station) → design_in design_bytes ≡ Ok d
+abbrev pub ExplainsWhereYes : Type 0
+ExplainsWhereYes = (n : ℕ) (design_bytes proof_bytes : List ℕ) (d : Station) → design_in design_bytes ≡ Ok d
     → (check_reply n design_bytes proof_bytes).status ≡ Done
     → explanation_reply (Some n) design_bytes proof_bytes ≡ record { status = Done; lines = file_sentences d proof_bytes }
 

@@ -7,7 +7,7 @@ ghost use Rattle.rail_outside.specs.Growth.{Rose, GrowsByPrefix};
 ghost use Rattle.rail_spec.specs.Track.{routes_of};
 ghost use Rattle.plan_encoding.specs.Bases.{IsBaseOf};
 ghost use Rattle.rail_cli.specs.Replies.{Replies, RepliesWith};
-ghost use Rattle.why_words.specs.Wanted.{IsInRange};
+ghost use Rattle.why_words.specs.Wanted.{AreStepsInRange};
 ghost use Rattle.why_words.specs.Words.{wanted_by};
 ghost use Rattle.why_cli.specs.Answers.{answer_to, asks_to, explained_against, explained_where, if_in_range, steps_in};
 ghost use Rattle.why_cli.specs.Answers.{proof_by_head, proof_explained, proof_for, steps_named, text_explained, usage};
@@ -39,7 +39,7 @@ pub(crate) fn explanation_reply<S: Shelf>(
     shelf: &mut S,
     wanted: Wanted<'_>,
 ) -> Result<Reply, Ending>
-    requires { IsInRange wanted.steps }
+    requires { AreStepsInRange wanted.steps }
     ensures replies { (files : Files) → S.known_files shelf.old ≡ Some files
         → Replies result (answer_to files (Some (wanted_by wanted.entry))) }
     ensures for_some_files { RepliesSome result (Some (wanted_by wanted.entry)) }
@@ -99,7 +99,7 @@ fn proof_explained<S: Shelf>(
 /// A number of steps, where it is from 1 to 256.
 fn if_in_range(steps: u32) -> Option<u32>
     ensures value { result ≡ if_in_range steps }
-    ensures range { IsInRange result }
+    ensures range { AreStepsInRange result }
 {
     if 1 <= steps && steps <= 256 {
         Some(steps)
@@ -111,7 +111,7 @@ fn if_in_range(steps: u32) -> Option<u32>
 /// The number of steps that a head names, from 1 to 256.
 fn steps_named(head: Option<Head>) -> Option<u32>
     ensures value { result ≡ steps_named head }
-    ensures range { IsInRange result }
+    ensures range { AreStepsInRange result }
 {
     match head {
         None => None,
@@ -178,7 +178,7 @@ fn for_proof<S: Shelf>(
     steps: Option<u32>,
     proof: &str,
 ) -> Result<Reply, Ending>
-    requires { IsInRange steps }
+    requires { AreStepsInRange steps }
     ensures replies { (files : Files) → S.known_files shelf.old ≡ Some files
         → Replies result (proof_for steps interlocking.now.design.station (files proof.now)) }
     ensures for_some_bytes { (bytes : List ℕ) × Replies result (proof_for steps interlocking.now.design.station bytes) }

@@ -1,6 +1,6 @@
 //! Laws of the answers, each the contract of a function that does nothing.
 
-ghost use Rattle.why_cli.specs.Laws.{HeadsNameSteps, NoStepsIsUsage, RefusesAsCheck, SilenceIsUsage, TellsWhereYes};
+ghost use Rattle.why_cli.specs.Laws.{HeadsNameSteps, NoStepsIsUsage, RefusesAsCheck, SilenceIsUsage, ExplainsWhereYes};
 
 /// What a check of the files does not answer with yes is answered as it is there, by the same status and line.
 pub fn refuses_as_check()
@@ -8,8 +8,8 @@ pub fn refuses_as_check()
 {}
 
 /// Where a check of the files says yes, so does the answer, and its lines are the sentences about the proof's lines, in order.
-pub fn tells_where_yes()
-    ensures { TellsWhereYes }
+pub fn explains_where_yes()
+    ensures { ExplainsWhereYes }
 {}
 
 /// Where no steps are given, the answer is that for the steps that the head of the proof names.

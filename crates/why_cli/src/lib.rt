@@ -7,6 +7,6 @@ mod laws;
 mod run;
 
 pub use laws::{
-    heads_name_steps, no_steps_is_usage, refuses_as_check, silence_is_usage, tells_where_yes,
+    explains_where_yes, heads_name_steps, no_steps_is_usage, refuses_as_check, silence_is_usage,
 };
 pub use run::run_why;

@@ -12,7 +12,7 @@ ghost use Rattle.rail_cli.specs.Verdicts.{IsVerdict};
 ghost use Rattle.why_words.specs.Wanted.{wanted_of};
 ghost use Rattle.why_cli.specs.Answers.{answer_of, asks_of};
 ghost use Rattle.why_cli.specs.Replies.{PrintsSome, RepliesSome};
-ghost use Rattle.why_cli.specs.Shows.{Explains, IsUnrefused, TellsWhy};
+ghost use Rattle.why_cli.specs.Shows.{Explains, IsUnrefused, ExplainsProof};
 
 use crate::explaining::{explanation_reply, usage};
 use rail_cli::{Ending, Reply, Status, print};
@@ -25,7 +25,7 @@ use why_words::{check_words, read_wanted};
 /// that they name from the shelf, checks the proof, and prints the sentences about its cones and bounds, or what the check
 /// answers where it is not yes. All of its text is made before the first line is printed.
 ///
-/// Where the shelf tells what it holds, the status and the text are those of the answer that these files give; want of
+/// Where the shelf's files are known, the status and the text are those of the answer that these files give; want of
 /// memory, a fault of the shelf or a fault of the sink may come in its place.
 pub fn run_why<S: Shelf, O: Sink>(
     alloc: Global,
@@ -37,14 +37,14 @@ pub fn run_why<S: Shelf, O: Sink>(
         → Prints (answer_of files (texts_of words.now)) result
         (O.written out.old) (O.written out.new) (O.puts out.old) (O.puts out.new) }
 
-    // Over any shelf, also one that tells nothing, that answer is printed for some bytes of the files.
+    // Over any shelf, also one of which nothing is known, that answer is printed for some bytes of the files.
     ensures for_some_files { PrintsSome (wanted_of (texts_of words.now)) result
         (O.written out.old) (O.written out.new) (O.puts out.old) (O.puts out.new) }
 
-    // Sentences are told only where the design has no plan, and they are those about the lines of the proof.
+    // Sentences are printed only where the design has no plan, and they are those about the lines of the proof.
     ensures infeasible { (files : Files) → S.known_files shelf.old ≡ Some files → (d : Station)
         → (e : Explains files (texts_of words.now) d) → result ≡ Status.Done
-        → TellsWhy files e.wanted d (O.written out.old) (O.written out.new) }
+        → ExplainsProof files e.wanted d (O.written out.old) (O.written out.new) }
 
     // Where nothing is refused, a run comes to a verdict: the sentences, or the first bad line.
     ensures has_verdict { (files : Files) → S.known_files shelf.old ≡ Some files

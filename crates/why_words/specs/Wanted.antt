@@ -47,6 +47,6 @@ abbrev pub wanted_of : List Text → Option Wanted
 wanted_of words = or_else (two_names words) (by_check (request_of (check_words words)))
 
 -- the steps, where they are given, are from 1 to 256
-abbrev pub IsInRange : Option ℕ → Type 0
-IsInRange None = Unit {0}
-IsInRange (Some n) = (1 ≤ n) × (n ≤ 256)
+abbrev pub AreStepsInRange : Option ℕ → Type 0
+AreStepsInRange None = Unit {0}
+AreStepsInRange (Some n) = (1 ≤ n) × (n ≤ 256)

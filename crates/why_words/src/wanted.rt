@@ -3,7 +3,7 @@
 ghost use Rattle.std.specs.Prelude.{◌≡◌, ◌++◌, IfOk, OnOk, Some, None, Err, codes, option_map};
 ghost use Rattle.rail_words.specs.Laws.{is_plain};
 ghost use Rattle.rail_words.specs.Words.{request_seen, texts_of};
-ghost use Rattle.why_words.specs.Wanted.{IsInRange, by_check, check_words, named, two_names, wanted_of};
+ghost use Rattle.why_words.specs.Wanted.{AreStepsInRange, by_check, check_words, named, two_names, wanted_of};
 ghost use Rattle.why_words.specs.Words.{wanted_by};
 
 use rail_words::{Request, WordsFault, read_words};
@@ -43,7 +43,7 @@ pub fn read_wanted<'a>(
     requires check { texts_of check.now ≡ check_words (texts_of words.now) }
     ensures ok { IfOk result (λ wanted. wanted_of (texts_of words.entry.now) ≡ Some (wanted_by wanted)) }
     ensures usage { result ≡ Err WordsFault.Usage → wanted_of (texts_of words.entry.now) ≡ None }
-    ensures range { IfOk result (λ wanted. IsInRange wanted.steps) }
+    ensures range { IfOk result (λ wanted. AreStepsInRange wanted.steps) }
 {
     if let Some(wanted) = two_names(words) {
         return Ok(wanted);

@@ -5,9 +5,9 @@ use Rattle.std.specs.Option.{option_map_or}
 use Rattle.std.specs.Vec.{vec_len}
 use Rattle.worked_examples.specs.declared.row.command.Command.{Command}
 
--- one of the texts that may be printed; any where none is told
-abbrev pub is_told : Command → List ℕ → Bool
-is_told c text = nat_eq (vec_len c.prints) 0 || list_any (λ wanted. bytes_eq wanted.now text) c.prints.items
+-- one of the texts that may be printed; any where none is given
+abbrev pub may_print : Command → List ℕ → Bool
+may_print c text = nat_eq (vec_len c.prints) 0 || list_any (λ wanted. bytes_eq wanted.now text) c.prints.items
 
 -- a text that begins as it has to
 abbrev pub begins_so : Command → List ℕ → Bool

@@ -2,16 +2,16 @@
 
 ghost use Rattle.std.specs.Prelude.{◌≡◌, ◌&&◌, nat_eq, bytes_eq};
 ghost use Rattle.std.specs.List.{list_any};
-ghost use Rattle.worked_examples.specs.Answers.{is_told, begins_so};
+ghost use Rattle.worked_examples.specs.Answers.{may_print, begins_so};
 
 use crate::row::command::{Command, Leaves};
 
 /// Whether a command may end with a status and print a text.
 pub fn may_answer(command: &Command, status: u8, text: &[u8]) -> bool
     ensures { result ≡ (nat_eq command.now.status status
-        && (is_told command.now text.now && begins_so command.now text.now)) }
+        && (may_print command.now text.now && begins_so command.now text.now)) }
 {
-    command.status == status && (is_told(command, text) && begins_so(command, text))
+    command.status == status && (may_print(command, text) && begins_so(command, text))
 }
 
 /// Whether a command may leave a proof file, or none, and so many calls of the shelf.
@@ -36,9 +36,9 @@ fn is_one_of(texts: &[&str], text: &[u8]) -> bool
 }
 
 /// Whether a text is one of those that a command may print.
-#[tactic(auto, unfolding(crate::specs::Answers::is_told))]
-fn is_told(command: &Command, text: &[u8]) -> bool
-    ensures { result ≡ is_told command.now text.now }
+#[tactic(auto, unfolding(crate::specs::Answers::may_print))]
+fn may_print(command: &Command, text: &[u8]) -> bool
+    ensures { result ≡ may_print command.now text.now }
 {
     command.prints.is_empty() || is_one_of(command.prints.as_slice(), text)
 }

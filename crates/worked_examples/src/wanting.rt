@@ -7,7 +7,7 @@ ghost use Rattle.rail_outside.specs.MemorySinks.{faults_in};
 use rail_outside::{FetchFault, MemoryShelf, MemorySink, Shelf, Sink, SinkFault, StoreFault};
 use std::alloc::Global;
 
-/// A shelf in memory, which may want memory at one of its calls, or find a file there longer than it may read. It tells
+/// A shelf in memory, which may want memory at one of its calls, or find a file there longer than it may read. It says
 /// nothing.
 #[derive(Drop)]
 pub struct WantingShelf {
@@ -65,7 +65,7 @@ impl Shelf for WantingShelf {
     }
 }
 
-/// A sink in memory, which may want memory at one of its puts. It tells nothing.
+/// A sink in memory, which may want memory at one of its puts. It says nothing.
 #[derive(Drop)]
 pub struct WantingSink {
     sink: MemorySink,

@@ -53,7 +53,7 @@ fn shows(alloc: Global, interlocking: &Interlocking, plan: &[u8], run: &Run) -> 
     Ok(ends(&by_events, run.met) && ends(&by_ticks, run.met))
 }
 
-/// Whether a search ends for want of room in its log, and tells what it has to.
+/// Whether a search ends for want of room in its log, and says what it has to.
 fn lacks_room(alloc: Global, interlocking: &Interlocking, search: &Search) -> Result<bool> {
     ensure!(
         1 <= search.steps && search.steps <= 256,

@@ -16,15 +16,15 @@ abbrev pub entrance : Bool → NodeNo
 entrance runs_east = record { 0 = if runs_east then west_boundary else east_boundary }
 
 -- the boundary where a train exits
-abbrev pub way_out : Bool → NodeNo
-way_out runs_east = record { 0 = if runs_east then east_boundary else west_boundary }
+abbrev pub exit_node : Bool → NodeNo
+exit_node runs_east = record { 0 = if runs_east then east_boundary else west_boundary }
 
 -- a train from the one boundary to the other
 abbrev pub train : ℕ → Bool → Train
 train j runs_east = record {
   name = numbered_name (codes "t") j;
   vehicle = record { 0 = 1 };
-  visits = (entrance runs_east ∷ []) ∷ (way_out runs_east ∷ []) ∷ [];
+  visits = (entrance runs_east ∷ []) ∷ (exit_node runs_east ∷ []) ∷ [];
 }
 
 -- the time that a train has from its first visit to its second

@@ -2,7 +2,7 @@
 
 ghost use Rattle.std.specs.Prelude.{◌≡◌, ◌≤◌, ◌+◌, ◌*◌, ◌==◌, ◌∷◌, [], ◌++◌, IfOk, OnOk};
 ghost use Rattle.workload.specs.Draws.{next, below, runs_east, time_of};
-ghost use Rattle.workload.specs.Traffic.{vehicle, entrance, way_out, train, within, trains, withins};
+ghost use Rattle.workload.specs.Traffic.{vehicle, entrance, exit_node, train, within, trains, withins};
 
 use crate::draws::Draws;
 use crate::names::{numbered_name, plain};
@@ -57,7 +57,7 @@ fn visit(alloc: Global, node: NodeNo) -> Result<List<NodeNo>, AllocError>
 
 /// The visits of a train: where it enters, and where it exits.
 fn visits(alloc: Global, runs_east: bool) -> Result<List<List<NodeNo>>, AllocError>
-    ensures { IfOk result (λ visits. visits ≡ (entrance runs_east ∷ []) ∷ (way_out runs_east ∷ []) ∷ []) }
+    ensures { IfOk result (λ visits. visits ≡ (entrance runs_east ∷ []) ∷ (exit_node runs_east ∷ []) ∷ []) }
 {
     let (first, last) = if runs_east {
         (WEST, EAST)

@@ -1,4 +1,4 @@
-use Rattle.bound_spec.proofs.Told.{run, on}
+use Rattle.bound_spec.proofs.HopLaws.{run, on}
 use Rattle.bound_spec.proofs.laws.hops_take_their_least_ticks.Goals as goal
 
 pub returns-clause-run : goal.returns-clause-run

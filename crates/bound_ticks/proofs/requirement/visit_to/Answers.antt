@@ -9,4 +9,4 @@ returns-in-Within-clause-train c =
 
 pub returns-in-Order-clause-train : goal.returns-in-Order-clause-train
 returns-in-Order-clause-train c =
-    some_is (λ (v : Visit). IsTrain c.args.interlocking.now.design.station v.train) _ (order_good c.args.interlocking.now c.args.requirement c.requires c.in-Order.order c.order_of-order.result.now c.in-Order.is c.order_of-order.ensures).first.0
+    some_is (λ (v : Visit). IsTrain c.args.interlocking.now.design.station v.train) _ (order_good c.args.interlocking.now c.args.requirement c.requires c.in-Order.order c.order_of-order.result.now c.in-Order.is c.order_of-order.ensures).first_names.0

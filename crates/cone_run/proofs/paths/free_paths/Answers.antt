@@ -1,6 +1,6 @@
 use Rattle.std.proofs.Common.{◌+◌, ◌≤◌, ◌<◌, length, arith}
 use Rattle.rail_base.proofs.Admitting.{admitted}
-use Rattle.rail_course.proofs.Coursing.{paths_done, paths_step}
+use Rattle.rail_course.proofs.Numbered.{paths_done, paths_step}
 use Rattle.rail_course.proofs.Granting.{paths_are}
 use Rattle.cone_spec.specs.Cones.{free_path}
 use Rattle.cone_run.proofs.Ranging.{cone_in_range}
@@ -25,5 +25,5 @@ returns c =
     let many = length d.trains in
     let test = c.loop-number-test.false in
     let past : many + 1 ≤ c.loop-number.number = omega arith in
-    paths_are d i.routes (free_path cone) (cone_in_range d (admitted d i.design.admitted) i.routes i.table cone i.few c.requires) c.loop-number.paths.items
+    paths_are d i.routes (free_path cone) (cone_in_range d (admitted d i.design.admitted) i.routes i.table cone i.at_most_2000 c.requires) c.loop-number.paths.items
     (paths_done (free_path cone) c.loop-number.paths.items c.loop-number.number many _ past c.loop-number.invariant.left)

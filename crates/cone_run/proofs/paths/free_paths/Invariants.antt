@@ -1,6 +1,6 @@
 use Rattle.std.proofs.Common.{◌≡◌, ◌+◌, ◌-◌, ◌≤◌, ◌++◌, map, length}
 use Rattle.rail_base.specs.Stations.{trains}
-use Rattle.rail_course.proofs.Coursing.{numbered}
+use Rattle.rail_course.proofs.Numbered.{numbered}
 use Rattle.cone_spec.specs.Cones.{free_path}
 use Rattle.cone_run.proofs.paths.free_paths.Given as goal
 

@@ -5,8 +5,8 @@ use Rattle.rail_course.specs.declared.train_path.TrainPath.{TrainPath}
 use Rattle.rail_course.specs.declared.journey.Journey.{Journey}
 use Rattle.rail_course.specs.Itineraries.{IsTrainPathIn, path_in}
 use Rattle.rail_course.specs.Journeys.{IsJourney}
-use Rattle.rail_course.specs.Telling.{TellWhatIsReady}
-use Rattle.rail_course.proofs.Coursing.{many_courses, map_step}
+use Rattle.rail_course.specs.Ready.{GiveWhatIsReady}
+use Rattle.rail_course.proofs.Numbered.{many_train_paths, map_step}
 use Rattle.dispatcher.proofs.Gathering.{first_left, rest_left, some_left}
 use Rattle.dispatcher.proofs.Knowing.{same_paths, told_at}
 use Rattle.dispatcher.proofs.planned.journeys_with.Goals as goal
@@ -15,8 +15,8 @@ pub remove-requires : goal.remove-requires
 remove-requires c =
     let p = c.args.planned.now in
     let i = p.train_paths.given.interlocking.now in
-    let many = many_courses i.design.station i.routes (path_in p.train_paths.given) p.train_paths.train_paths.now p.train_paths.coursed in
-    let count = c.requires.many in
+    let many = many_train_paths i.design.station i.routes (path_in p.train_paths.given) p.train_paths.train_paths.now p.train_paths.are_train_paths in
+    let count = c.requires.waits_a_train in
     let less = c.loop-train_path-test.true in
     let left = ap length c.loop-train_path.invariant.left in
     let some = some_left c.args.waits.items c.loop-train_path.train_path-index (omega (arith, many, count, less)) in
@@ -24,7 +24,7 @@ remove-requires c =
     omega (arith, left, some, len)
 
 pub journey-requires : goal.journey-requires
-journey-requires c = subst (IsTrainPathIn c.args.planned.now.train_paths.given) (sym c.train_path-item.is) (c.args.planned.now.train_paths.coursed.each c.loop-train_path.train_path-index c.train_path-item.result c.loop-train_path-test.true)
+journey-requires c = subst (IsTrainPathIn c.args.planned.now.train_paths.given) (sym c.train_path-item.is) (c.args.planned.now.train_paths.are_train_paths.each c.loop-train_path.train_path-index c.train_path-item.result c.loop-train_path-test.true)
 
 pub loop-train_path-preserved : goal.loop-train_path-preserved
 loop-train_path-preserved c =
@@ -36,7 +36,7 @@ loop-train_path-preserved c =
     let items = c.in_ok-push.ensures.items in
     let off = c.remove.ensures.value ∙ ap (λ ws. get_or ws 0 c.remove.result) c.loop-train_path.invariant.left ∙ first_left c.args.waits.items c.loop-train_path.train_path-index c.remove.result in
     let own = told_at p c.args.waits.items c.requires c.loop-train_path.train_path-index c.loop-train_path-test.true c.train_path-item.result c.train_path-item.is c.remove.result off in
-    let tell = subst (λ ws. TellWhatIsReady d routes dispatch c.train_path-item.result.train (map (λ v. v.items) ws)) (sym c.into_vec-own.ensures) own in
+    let tell = subst (λ ws. GiveWhatIsReady d routes dispatch c.train_path-item.result.train (map (λ v. v.items) ws)) (sym c.into_vec-own.ensures) own in
     record {
       left = c.remove.ensures.items ∙ ap (drop 1) c.loop-train_path.invariant.left ∙ rest_left c.args.waits.items c.loop-train_path.train_path-index (c.loop-train_path.train_path-index + 1) refl;
       each = subst (All (IsJourney d routes dispatch)) (sym items) (All-push (IsJourney d routes dispatch) c.loop-train_path.journeys.items _ c.loop-train_path.invariant.each (c.in_ok-journey.ensures.journey dispatch (same_paths p) tell));

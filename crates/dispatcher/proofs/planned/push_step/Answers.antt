@@ -12,7 +12,7 @@ loop-command-init c =
     let p = c.args.planned.now in
     let waits = c.args.waits.now.items in
     record {
-      many = c.requires.waits.many;
+      many = c.requires.waits.waits_a_train;
       known = λ t is. subst (λ rs. AreWaitsIn p t rs (own_waits waits t)) (sym (append-nil (path (take c.args.number p.plan.now.steps) t))) (c.requires.waits.each t is);
     }
 

@@ -15,5 +15,5 @@ returns c =
       picture = c.in_ok-picture.picture;
       lines = c.in_ok-lines.ensures;
       words_are = c.in_ok-picture.ensures.words ∙ ap (run_words d) same;
-      few = subst (λ (v : Verdict). length c.in_ok-picture.picture ≤ run_size d v) same c.in_ok-picture.ensures.size;
+      within_limit = subst (λ (v : Verdict). length c.in_ok-picture.picture ≤ run_size d v) same c.in_ok-picture.ensures.size;
     }

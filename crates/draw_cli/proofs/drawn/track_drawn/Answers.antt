@@ -7,5 +7,5 @@ returns c = record {
   picture = c.in_ok-picture.picture;
   lines = c.in_ok-lines.ensures;
   words_are = c.in_ok-picture.ensures.words;
-  few = omega (arith, c.in_ok-picture.ensures.size);
+  within_limit = omega (arith, c.in_ok-picture.ensures.size);
 }

@@ -1,7 +1,7 @@
 use Rattle.std.proofs.Common.{◌≤◌, ℕ, Bool, List, [], ◌∷◌, filter, map, length, arith}
 use Rattle.rail_base.specs.declared.plan.Command.{Command}
 use Rattle.rail_base.specs.declared.route.RouteNo.{RouteNo}
-use Rattle.plan_decoder.specs.Told.{is_new}
+use Rattle.plan_decoder.specs.Decoded.{is_new}
 use Rattle.plan_decoder.proofs.Puts.{put_next, filter_first}
 use Rattle.plan_decoder.proofs.decoding.add_new.Goals as goal
 

@@ -4,7 +4,7 @@ use Rattle.rail_base.specs.declared.station.Station.{Station}
 use Rattle.rail_base.specs.declared.route.Route.{Route}
 use Rattle.rail_spec.specs.Plans.{commands_of}
 use Rattle.plan_encoding.specs.Bases.{IsBaseOf}
-use Rattle.plan_decoder.specs.Told.{is_new}
+use Rattle.plan_decoder.specs.Decoded.{is_new}
 use Rattle.plan_decoder.proofs.decoding.add_new.Given as goal
 
 -- what is added and what is left to add make all of it

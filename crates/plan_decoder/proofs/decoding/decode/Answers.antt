@@ -6,7 +6,7 @@ use Rattle.sat_core.specs.Models.{value_in}
 use Rattle.clause_spec.specs.Laws.{Agrees}
 use Rattle.clause_spec.specs.Models.{cut_off, given_in, model_of}
 use Rattle.clause_spec.proofs.Theorems.{models_are_plans}
-use Rattle.plan_decoder.specs.Told.{EndsAsSaid, says}
+use Rattle.plan_decoder.specs.Decoded.{EndsAsSaid, says}
 use Rattle.plan_decoder.proofs.Ends.{ends_as_said}
 use Rattle.plan_decoder.proofs.Puts.{put_next, put_all}
 use Rattle.plan_decoder.proofs.decoding.decode.Goals as goal

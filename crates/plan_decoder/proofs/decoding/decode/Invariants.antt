@@ -4,7 +4,7 @@ use Rattle.rail_base.specs.declared.station.Station.{Station}
 use Rattle.rail_base.specs.declared.route.Route.{Route}
 use Rattle.clause_spec.specs.Models.{given_in}
 use Rattle.plan_encoding.specs.Bases.{IsBaseOf}
-use Rattle.plan_decoder.specs.Told.{says}
+use Rattle.plan_decoder.specs.Decoded.{says}
 use Rattle.plan_decoder.proofs.decoding.decode.Given as goal
 
 -- what is added and what is left to add make all of it

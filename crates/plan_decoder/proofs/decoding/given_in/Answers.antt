@@ -3,7 +3,7 @@ use Rattle.rail_base.specs.declared.plan.Command.{Command}
 use Rattle.rail_base.specs.declared.station.TrainNo.{TrainNo}
 use Rattle.rail_base.specs.Stations.{trains}
 use Rattle.rail_spec.specs.Plans.{commands_of}
-use Rattle.plan_decoder.specs.Told.{is_new}
+use Rattle.plan_decoder.specs.Decoded.{is_new}
 use Rattle.plan_decoder.proofs.Puts.{put_next, put_all, filter_parts}
 use Rattle.plan_decoder.proofs.decoding.given_in.Goals as goal
 use Rattle.plan_decoder.proofs.decoding.given_in.Goals.{else-loop-train-test, then-loop-train-test+in_ok-add_new+else-train-train-end}

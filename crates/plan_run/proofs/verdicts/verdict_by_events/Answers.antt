@@ -12,8 +12,8 @@ use Rattle.plan_run.specs.Due.{IsNotDue}
 use Rattle.plan_run.proofs.Deciding.{undecided_before, undue_less}
 use Rattle.plan_run.proofs.verdicts.verdict_by_events.Goals as goal
 
-pub violation_shown-requires : goal.violation_shown-requires
-violation_shown-requires g c =
+pub violation_of_history-requires : goal.violation_of_history-requires
+violation_of_history-requires g c =
     let d = c.args.traffic.now.interlocking.now.design.station in
     let routes = c.args.traffic.now.interlocking.now.routes in
     let plan = c.args.plan.now.steps in
@@ -22,7 +22,7 @@ violation_shown-requires g c =
     let new = c.in_ok-progress-2.progress in
     let tick = new.tick in
     let found = c.in_ok-progress-2.ensures in
-    let now_told : new.histories.items ≡ history_at d routes plan tick = found.is.told ∙ ap (λ p. any.history_at d routes p tick) planned.same in
+    let now_told : new.histories.items ≡ history_at d routes plan tick = found.is.recorded ∙ ap (λ p. any.history_at d routes p tick) planned.same in
     subst HasNumbers (sym (c.as_slice-in-loop-progress.ensures.value ∙ now_told)) (plans_have_numbers d routes plan (admitted d c.args.traffic.now.interlocking.now.design.admitted) 256 (omega arith) planned.formed.formed tick)
 
 pub loop-progress-preserved : goal.loop-progress-preserved
@@ -35,22 +35,22 @@ loop-progress-preserved g c =
     let new = c.in_ok-progress-2.progress in
     let tick = new.tick in
     let found = c.in_ok-progress-2.ensures in
-    let now_told : new.histories.items ≡ history_at d routes plan tick = found.is.told ∙ ap (λ p. any.history_at d routes p tick) planned.same in
+    let now_told : new.histories.items ≡ history_at d routes plan tick = found.is.recorded ∙ ap (λ p. any.history_at d routes p tick) planned.same in
     let old = c.loop-progress.progress in
     let k = old.tick in
     let invariant = c.loop-progress.invariant in
     let due = c.next_due-due.ensures in
-    let old_told : old.histories.items ≡ history_at d routes plan k = invariant.is.told ∙ ap (λ p. any.history_at d routes p k) planned.same in
+    let old_told : old.histories.items ≡ history_at d routes plan k = invariant.is.recorded ∙ ap (λ p. any.history_at d routes p k) planned.same in
     let first : 1 ≤ tick = (let a = found.after in omega arith) in
     let bound = c.horizon.ensures.value in
     let least = c.min-last.ensures in
     let high : tick ≤ horizon d = (let w = found.within in let v = due.within in omega arith) in
     let within : tick ≤ c.args.ticks = (let w = found.within in let v = due.within in omega arith) in
     let shorter : tick - 1 - k ≤ c.next_due-due.result - 1 - k = (let w = found.within in omega arith) in
-    let open_before = undecided_before d routes plan (admitted d c.args.traffic.now.interlocking.now.design.admitted) k tick found.after found.first high
+    let open_before = undecided_before d routes plan (admitted d c.args.traffic.now.interlocking.now.design.admitted) k tick found.after found.at_0 high
     (λ w m. subst (λ h. IsNotDue d h k (tick - 1 - k) w) (c.as_slice.ensures.value ∙ old_told) (undue_less d c.as_slice.result.now k (c.next_due-due.result - 1 - k) (tick - 1 - k) w shorter (due.undue w m)))
     (λ m low less. sym (ap (λ p. any.history_at d routes p m) planned.same) ∙ found.quiet m low less ∙ old_told) invariant.before in
-    let fails : c.violation_shown.result ≡ violation_at d routes plan tick = c.violation_shown.ensures.run routes plan first (c.as_slice-in-loop-progress.ensures.value ∙ now_told) in
+    let fails : c.violation_of_history.result ≡ violation_at d routes plan tick = c.violation_of_history.ensures.run routes plan first (c.as_slice-in-loop-progress.ensures.value ∙ now_told) in
     let fine : violation_at d routes plan tick ≡ None = sym fails ∙ c.in_default.is in
     let done : is_done d routes plan tick ≡ false = sym (c.are_done.ensures.run d routes plan tick first (c.as_slice-in-loop-progress-2.ensures.value ∙ now_told)) ∙ c.if-are_done.false in
     let here : is_decided d routes plan tick ≡ false = ap₂ (λ o b. is_some o || b) fine done in
@@ -70,22 +70,22 @@ returns-in-Some g c =
     let new = c.in_ok-progress-2.progress in
     let tick = new.tick in
     let found = c.in_ok-progress-2.ensures in
-    let now_told : new.histories.items ≡ history_at d routes plan tick = found.is.told ∙ ap (λ p. any.history_at d routes p tick) planned.same in
+    let now_told : new.histories.items ≡ history_at d routes plan tick = found.is.recorded ∙ ap (λ p. any.history_at d routes p tick) planned.same in
     let old = c.loop-progress.progress in
     let k = old.tick in
     let invariant = c.loop-progress.invariant in
     let due = c.next_due-due.ensures in
-    let old_told : old.histories.items ≡ history_at d routes plan k = invariant.is.told ∙ ap (λ p. any.history_at d routes p k) planned.same in
+    let old_told : old.histories.items ≡ history_at d routes plan k = invariant.is.recorded ∙ ap (λ p. any.history_at d routes p k) planned.same in
     let first : 1 ≤ tick = (let a = found.after in omega arith) in
     let bound = c.horizon.ensures.value in
     let least = c.min-last.ensures in
     let high : tick ≤ horizon d = (let w = found.within in let v = due.within in omega arith) in
     let within : tick ≤ c.args.ticks = (let w = found.within in let v = due.within in omega arith) in
     let shorter : tick - 1 - k ≤ c.next_due-due.result - 1 - k = (let w = found.within in omega arith) in
-    let open_before = undecided_before d routes plan (admitted d c.args.traffic.now.interlocking.now.design.admitted) k tick found.after found.first high
+    let open_before = undecided_before d routes plan (admitted d c.args.traffic.now.interlocking.now.design.admitted) k tick found.after found.at_0 high
     (λ w m. subst (λ h. IsNotDue d h k (tick - 1 - k) w) (c.as_slice.ensures.value ∙ old_told) (undue_less d c.as_slice.result.now k (c.next_due-due.result - 1 - k) (tick - 1 - k) w shorter (due.undue w m)))
     (λ m low less. sym (ap (λ p. any.history_at d routes p m) planned.same) ∙ found.quiet m low less ∙ old_told) invariant.before in
-    let fails : c.violation_shown.result ≡ violation_at d routes plan tick = c.violation_shown.ensures.run routes plan first (c.as_slice-in-loop-progress.ensures.value ∙ now_told) in
+    let fails : c.violation_of_history.result ≡ violation_at d routes plan tick = c.violation_of_history.ensures.run routes plan first (c.as_slice-in-loop-progress.ensures.value ∙ now_told) in
     let failed : violation_at d routes plan tick ≡ Some c.in-Some.violation = sym fails ∙ c.in-Some.is in
     let passes : is_decided d routes plan tick ≡ true = ap (λ o. is_some o || is_done d routes plan tick) failed in
     let cost = cost_is d routes plan tick paths first high passes open_before in
@@ -101,22 +101,22 @@ returns-then-are_done g c =
     let new = c.in_ok-progress-2.progress in
     let tick = new.tick in
     let found = c.in_ok-progress-2.ensures in
-    let now_told : new.histories.items ≡ history_at d routes plan tick = found.is.told ∙ ap (λ p. any.history_at d routes p tick) planned.same in
+    let now_told : new.histories.items ≡ history_at d routes plan tick = found.is.recorded ∙ ap (λ p. any.history_at d routes p tick) planned.same in
     let old = c.loop-progress.progress in
     let k = old.tick in
     let invariant = c.loop-progress.invariant in
     let due = c.next_due-due.ensures in
-    let old_told : old.histories.items ≡ history_at d routes plan k = invariant.is.told ∙ ap (λ p. any.history_at d routes p k) planned.same in
+    let old_told : old.histories.items ≡ history_at d routes plan k = invariant.is.recorded ∙ ap (λ p. any.history_at d routes p k) planned.same in
     let first : 1 ≤ tick = (let a = found.after in omega arith) in
     let bound = c.horizon.ensures.value in
     let least = c.min-last.ensures in
     let high : tick ≤ horizon d = (let w = found.within in let v = due.within in omega arith) in
     let within : tick ≤ c.args.ticks = (let w = found.within in let v = due.within in omega arith) in
     let shorter : tick - 1 - k ≤ c.next_due-due.result - 1 - k = (let w = found.within in omega arith) in
-    let open_before = undecided_before d routes plan (admitted d c.args.traffic.now.interlocking.now.design.admitted) k tick found.after found.first high
+    let open_before = undecided_before d routes plan (admitted d c.args.traffic.now.interlocking.now.design.admitted) k tick found.after found.at_0 high
     (λ w m. subst (λ h. IsNotDue d h k (tick - 1 - k) w) (c.as_slice.ensures.value ∙ old_told) (undue_less d c.as_slice.result.now k (c.next_due-due.result - 1 - k) (tick - 1 - k) w shorter (due.undue w m)))
     (λ m low less. sym (ap (λ p. any.history_at d routes p m) planned.same) ∙ found.quiet m low less ∙ old_told) invariant.before in
-    let fails : c.violation_shown.result ≡ violation_at d routes plan tick = c.violation_shown.ensures.run routes plan first (c.as_slice-in-loop-progress.ensures.value ∙ now_told) in
+    let fails : c.violation_of_history.result ≡ violation_at d routes plan tick = c.violation_of_history.ensures.run routes plan first (c.as_slice-in-loop-progress.ensures.value ∙ now_told) in
     let fine : violation_at d routes plan tick ≡ None = sym fails ∙ c.in_default.is in
     let done : is_done d routes plan tick ≡ true = sym (c.are_done.ensures.run d routes plan tick first (c.as_slice-in-loop-progress-2.ensures.value ∙ now_told)) ∙ c.if-are_done.true in
     let passes : is_decided d routes plan tick ≡ true = ap₂ (λ o b. is_some o || b) fine done in

@@ -26,7 +26,7 @@ returns-in-Some-Sorted-clause-value c =
 pub returns-in-Some-Sorted-clause-sound : goal.returns-in-Some-Sorted-clause-sound
 returns-in-Some-Sorted-clause-sound c =
     let d = c.args.interlocking.now.design.station in
-    let first = c.steps-steps.result.some in
+    let first = c.steps-steps.result.at_least_one in
     let same = c.steps-steps.ensures in
     let some : 1 ≤ c.args.base.steps = omega arith in
     sound d (admitted d c.args.interlocking.now.design.admitted) c.args.base.steps c.args.bytes.now some c.judge_sorted.result (returns-in-Some-Sorted-clause-value c)
@@ -40,7 +40,7 @@ returns-in-Some-Named-clause-value c =
 pub returns-in-Some-Named-clause-sound : goal.returns-in-Some-Named-clause-sound
 returns-in-Some-Named-clause-sound c =
     let d = c.args.interlocking.now.design.station in
-    let first = c.steps-steps.result.some in
+    let first = c.steps-steps.result.at_least_one in
     let same = c.steps-steps.ensures in
     let some : 1 ≤ c.args.base.steps = omega arith in
     sound d (admitted d c.args.interlocking.now.design.admitted) c.args.base.steps c.args.bytes.now some c.judge_named.result (returns-in-Some-Named-clause-value c)
@@ -48,7 +48,7 @@ returns-in-Some-Named-clause-sound c =
 pub returns-in-Some-Plain-clause-sound : goal.returns-in-Some-Plain-clause-sound
 returns-in-Some-Plain-clause-sound c =
     let d = c.args.interlocking.now.design.station in
-    let first = c.steps-steps.result.some in
+    let first = c.steps-steps.result.at_least_one in
     let same = c.steps-steps.ensures in
     let some : 1 ≤ c.args.base.steps = omega arith in
     sound d (admitted d c.args.interlocking.now.design.admitted) c.args.base.steps c.args.bytes.now some c.judge_base.result
@@ -57,7 +57,7 @@ returns-in-Some-Plain-clause-sound c =
 pub returns-in-None-clause-sound : goal.returns-in-None-clause-sound
 returns-in-None-clause-sound c =
     let d = c.args.interlocking.now.design.station in
-    let first = c.steps-steps.result.some in
+    let first = c.steps-steps.result.at_least_one in
     let same = c.steps-steps.ensures in
     let some : 1 ≤ c.args.base.steps = omega arith in
     sound d (admitted d c.args.interlocking.now.design.admitted) c.args.base.steps c.args.bytes.now some c.judge_base-in-None.result

@@ -3,7 +3,7 @@ use Rattle.std.proofs.lemmas.Grind.{common_steps}
 use Rattle.proof_log.specs.Parts.{pair}
 use Rattle.proof_log.specs.ConeText.{command_words, keeps_pair}
 use Rattle.proof_log.specs.Reading.{words_left}
-use Rattle.proof_log.proofs.Told.{pair-told}
+use Rattle.proof_log.proofs.Written.{pair-told}
 use Rattle.proof_log.proofs.Gathering.{gathered-more, gathered-none, gathered-all, left-is, left-stops, none-stops, told-shorter}
 use Rattle.proof_log.proofs.cones.cone_pairs.Goals as goal
 

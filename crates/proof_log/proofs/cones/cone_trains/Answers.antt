@@ -3,7 +3,7 @@ use Rattle.std.proofs.lemmas.Grind.{common_steps}
 use Rattle.proof_log.specs.Parts.{cone_train}
 use Rattle.proof_log.specs.ConeText.{keeps_train}
 use Rattle.proof_log.specs.Reading.{words_left}
-use Rattle.proof_log.proofs.Told.{after_mark, train-told}
+use Rattle.proof_log.proofs.Written.{after_mark, train-told}
 use Rattle.proof_log.proofs.Gathering.{gathered-more, gathered-none, gathered-all, left-is, left-stops, none-stops, told-shorter}
 use Rattle.proof_log.proofs.cones.cone_trains.Goals as goal
 

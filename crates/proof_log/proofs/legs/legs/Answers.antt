@@ -3,7 +3,7 @@ use Rattle.std.proofs.lemmas.Grind.{common_steps}
 use Rattle.proof_log.specs.Bounds.{leg}
 use Rattle.proof_log.specs.BoundText.{keeps_leg}
 use Rattle.proof_log.specs.Reading.{words_left}
-use Rattle.proof_log.proofs.BoundsTold.{after_mark, leg-told}
+use Rattle.proof_log.proofs.BoundsWritten.{after_mark, leg-told}
 use Rattle.proof_log.proofs.Gathering.{gathered-more, gathered-none, gathered-all, left-is, left-stops, none-stops, told-shorter}
 use Rattle.proof_log.proofs.legs.legs.Goals as goal
 

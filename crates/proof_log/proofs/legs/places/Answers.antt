@@ -3,7 +3,7 @@ use Rattle.std.proofs.lemmas.Grind.{common_steps}
 use Rattle.std.specs.Str.{bytes_eq}
 use Rattle.proof_log.specs.Reading.{words_left}
 use Rattle.proof_log.specs.Bounds.{place_of}
-use Rattle.proof_log.proofs.BoundsTold.{place-shorter}
+use Rattle.proof_log.proofs.BoundsWritten.{place-shorter}
 use Rattle.proof_log.proofs.BoundsGathering.{gathered-more, gathered-none, gathered-all, left-is, left-starts, none-starts, other-word}
 use Rattle.proof_log.proofs.legs.places.Goals as goal
 

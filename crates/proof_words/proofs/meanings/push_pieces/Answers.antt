@@ -1,6 +1,6 @@
 use Rattle.rail_outside.specs.Lines.{lines_of}
 use Rattle.rail_text.specs.Cursors.{lines_left}
-use Rattle.rail_text.specs.Lines.{line_of}
+use Rattle.rail_text.specs.Lines.{line_of_piece}
 use Rattle.proof_words.specs.Meanings.{piece_sentences}
 use Rattle.proof_words.specs.Named.{IsNamedPiece}
 use Rattle.proof_words.proofs.Pieces.{first_all, rest_all, told_more}
@@ -9,11 +9,11 @@ use Rattle.proof_words.proofs.meanings.push_pieces.Goals as goal
 pub push_piece-requires : goal.push_piece-requires
 push_piece-requires c =
     let d = c.args.interlocking.now.design.station in
-    first_all (IsNamedPiece d) (lines_left c.pieces.piece-iterator) (line_of c.in-Some.piece) (lines_left c.next.new.self) c.in-Some.ensures.steps c.pieces.invariant.named
+    first_all (IsNamedPiece d) (lines_left c.pieces.piece-iterator) (line_of_piece c.in-Some.piece) (lines_left c.next.new.self) c.in-Some.ensures.steps c.pieces.invariant.named
 
 pub pieces-preserved : goal.pieces-preserved
 pieces-preserved c =
     let d = c.args.interlocking.now.design.station in record {
-      told = told_more (piece_sentences d) (lines_left c.pieces.piece-iterator) (line_of c.in-Some.piece) (lines_left c.next.new.self) _ (lines_of c.pieces.lines.items) (lines_of c.push_piece.new.lines.items) c.in-Some.ensures.steps c.pieces.invariant.told c.in_ok-push_piece.ensures;
-      named = rest_all (IsNamedPiece d) (lines_left c.pieces.piece-iterator) (line_of c.in-Some.piece) (lines_left c.next.new.self) c.in-Some.ensures.steps c.pieces.invariant.named;
+      told = told_more (piece_sentences d) (lines_left c.pieces.piece-iterator) (line_of_piece c.in-Some.piece) (lines_left c.next.new.self) _ (lines_of c.pieces.lines.items) (lines_of c.push_piece.new.lines.items) c.in-Some.ensures.steps c.pieces.invariant.told c.in_ok-push_piece.ensures;
+      named = rest_all (IsNamedPiece d) (lines_left c.pieces.piece-iterator) (line_of_piece c.in-Some.piece) (lines_left c.next.new.self) c.in-Some.ensures.steps c.pieces.invariant.named;
     }

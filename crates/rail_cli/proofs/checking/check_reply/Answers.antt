@@ -2,7 +2,7 @@ use Rattle.rail_cli.proofs.Asking.{first_of_two, second_of_two}
 use Rattle.std.proofs.Common.{rules, List, ap, sym, ◌∙◌}
 use Rattle.interlocking.specs.declared.railway.Interlocking.{Interlocking}
 use Rattle.rail_cli.specs.Answers.{design_in}
-use Rattle.rail_cli.proofs.Untold.{unchecked, unchecked_design, all_checked}
+use Rattle.rail_cli.proofs.AnyShelf.{unchecked, unchecked_design, all_checked}
 use Rattle.rail_cli.proofs.checking.check_reply.Goals as goal
 
 pub returns-in_err-design_bytes-clause-asks : goal.returns-in_err-design_bytes-clause-asks

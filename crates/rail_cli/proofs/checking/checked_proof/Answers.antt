@@ -4,7 +4,7 @@ use Rattle.rail_spec.specs.Track.{routes_of}
 use Rattle.proof_judge.specs.Judged.{judged}
 use Rattle.rail_cli.proofs.Asking.{none_of}
 use Rattle.rail_cli.proofs.Judging.{proof_shown}
-use Rattle.rail_cli.proofs.Untold.{no_base, no_proof, no_memory}
+use Rattle.rail_cli.proofs.AnyShelf.{no_base, no_proof, no_memory}
 use Rattle.rail_cli.proofs.checking.checked_proof.Goals as goal
 
 pub returns-in_err-base-clause-asks : goal.returns-in_err-base-clause-asks

@@ -1,5 +1,5 @@
 use Rattle.std.proofs.Common.{◌≤◌, ℕ, [], length, subst}
-use Rattle.rail_cli.proofs.Untold.{some_fit, some_long}
+use Rattle.rail_cli.proofs.AnyShelf.{some_fit, some_long}
 use Rattle.rail_cli.proofs.reading.fetch.Goals as goal
 
 pub returns-in-Ok-clause-for_some_bytes : goal.returns-in-Ok-clause-for_some_bytes

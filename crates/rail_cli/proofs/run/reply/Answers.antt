@@ -7,7 +7,7 @@ use Rattle.rail_cli.proofs.Deciding.{done_where_feasible}
 use Rattle.rail_cli.proofs.Finding.{usage_so, want_so}
 use Rattle.rail_cli.proofs.Leaving.{asked_leaves}
 use Rattle.rail_cli.proofs.Trying.{tries_asked, tries_want}
-use Rattle.rail_cli.proofs.Untold.{asks_some, some_usage, some_wanting}
+use Rattle.rail_cli.proofs.AnyShelf.{asks_some, some_usage, some_wanting}
 use Rattle.rail_cli.proofs.run.reply.Goals as goal
 
 pub returns-in-Ok-clause-replies : goal.returns-in-Ok-clause-replies

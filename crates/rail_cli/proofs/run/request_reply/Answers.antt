@@ -8,7 +8,7 @@ use Rattle.rail_cli.proofs.Finding.{simulate_so, routes_so, check_so, verify_so,
 use Rattle.rail_cli.proofs.Judging.{asked_steps}
 use Rattle.rail_cli.proofs.Leaving.{simulate_leaves, routes_leaves, check_leaves, verify_leaves, trial_leaves}
 use Rattle.rail_cli.proofs.Trying.{tries_other, trial_size}
-use Rattle.rail_cli.proofs.Untold.{asks_named, some_search, some_trial}
+use Rattle.rail_cli.proofs.AnyShelf.{asks_named, some_search, some_trial}
 use Rattle.rail_cli.proofs.run.request_reply.Goals as goal
 
 pub returns-in-Simulate-clause-replies : goal.returns-in-Simulate-clause-replies
@@ -21,13 +21,13 @@ pub returns-in-Simulate-clause-stored : goal.returns-in-Simulate-clause-stored
 returns-in-Simulate-clause-stored g c = simulate_leaves c.simulation_reply.result _ _ (request_seen c.args.request) c.in-Simulate.design.now c.in-Simulate.plan.now (search rules) c.simulation_reply.ensures.files_stay
 
 pub returns-in-Routes-clause-replies : goal.returns-in-Routes-clause-replies
-returns-in-Routes-clause-replies g c = λ files reply_for. routes_so c.routes_listed.result files (request_seen c.args.request) c.in-Routes.design.now (search rules) (c.routes_listed.ensures.replies files reply_for)
+returns-in-Routes-clause-replies g c = λ files reply_for. routes_so c.routes_reply.result files (request_seen c.args.request) c.in-Routes.design.now (search rules) (c.routes_reply.ensures.replies files reply_for)
 
 pub returns-in-Routes-clause-decides : goal.returns-in-Routes-clause-decides
-returns-in-Routes-clause-decides g c = λ files reply_for. decides_routes files (request_seen c.args.request) c.in-Routes.design.now c.routes_listed.result (search rules)
+returns-in-Routes-clause-decides g c = λ files reply_for. decides_routes files (request_seen c.args.request) c.in-Routes.design.now c.routes_reply.result (search rules)
 
 pub returns-in-Routes-clause-stored : goal.returns-in-Routes-clause-stored
-returns-in-Routes-clause-stored g c = routes_leaves c.routes_listed.result _ _ (request_seen c.args.request) c.in-Routes.design.now (search rules) c.routes_listed.ensures.files_stay
+returns-in-Routes-clause-stored g c = routes_leaves c.routes_reply.result _ _ (request_seen c.args.request) c.in-Routes.design.now (search rules) c.routes_reply.ensures.files_stay
 
 pub returns-in-Verify-clause-replies : goal.returns-in-Verify-clause-replies
 returns-in-Verify-clause-replies g c = λ files reply_for.
@@ -62,7 +62,7 @@ pub returns-in-Simulate-clause-tries : goal.returns-in-Simulate-clause-tries
 returns-in-Simulate-clause-tries g c = tries_other c.simulation_reply.result (request_seen c.args.request) (simulate c.in-Simulate.design.now c.in-Simulate.plan.now) (search rules) tt
 
 pub returns-in-Routes-clause-tries : goal.returns-in-Routes-clause-tries
-returns-in-Routes-clause-tries g c = tries_other c.routes_listed.result (request_seen c.args.request) (routes c.in-Routes.design.now) (search rules) tt
+returns-in-Routes-clause-tries g c = tries_other c.routes_reply.result (request_seen c.args.request) (routes c.in-Routes.design.now) (search rules) tt
 
 pub returns-in-Verify-clause-tries : goal.returns-in-Verify-clause-tries
 returns-in-Verify-clause-tries g c = tries_other c.search_reply.result (request_seen c.args.request) (verify c.in-Verify.steps c.in-Verify.conflicts c.in-Verify.ticks c.in-Verify.bounds c.in-Verify.design.now c.in-Verify.proof.now) (search rules) tt
@@ -94,7 +94,7 @@ pub returns-in-Simulate-clause-for_some_files : goal.returns-in-Simulate-clause-
 returns-in-Simulate-clause-for_some_files g c = asks_named c.simulation_reply.result (request_seen c.args.request) (simulate c.in-Simulate.design.now c.in-Simulate.plan.now) (search rules) c.simulation_reply.ensures.for_some_files
 
 pub returns-in-Routes-clause-for_some_files : goal.returns-in-Routes-clause-for_some_files
-returns-in-Routes-clause-for_some_files g c = asks_named c.routes_listed.result (request_seen c.args.request) (routes c.in-Routes.design.now) (search rules) c.routes_listed.ensures.for_some_files
+returns-in-Routes-clause-for_some_files g c = asks_named c.routes_reply.result (request_seen c.args.request) (routes c.in-Routes.design.now) (search rules) c.routes_reply.ensures.for_some_files
 
 pub returns-in-Verify-clause-for_some_files : goal.returns-in-Verify-clause-for_some_files
 returns-in-Verify-clause-for_some_files g c =

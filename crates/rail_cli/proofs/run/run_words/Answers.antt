@@ -13,7 +13,7 @@ use Rattle.rail_cli.proofs.Leaving.{run_leaves, told_status}
 use Rattle.rail_cli.proofs.Trying.{tries_trial, told_trial_reply, tells_nothing, tells_trial}
 use Rattle.rail_cli.proofs.Silence.{silent_for_memory, silent_at_shelf}
 use Rattle.rail_cli.proofs.Verdicts.{run_comes, no_answer}
-use Rattle.rail_cli.proofs.Untold.{prints_some, prints_told, want_prints, fault_prints}
+use Rattle.rail_cli.proofs.AnyShelf.{prints_some, prints_told, want_prints, fault_prints}
 use Rattle.rail_cli.proofs.run.run_words.Goals as goal
 
 pub returns-in-Ok-clause-answer : goal.returns-in-Ok-clause-answer

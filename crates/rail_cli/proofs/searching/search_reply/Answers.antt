@@ -4,7 +4,7 @@ use Rattle.rail_cli.specs.Answers.{design_in}
 use Rattle.rail_cli.proofs.Asking.{first_of_two, second_of_two}
 use Rattle.rail_cli.proofs.Finding.{RepliesBy, unfetched_so, unread_so, spelled_so, ended_so}
 use Rattle.rail_cli.proofs.Leaving.{early_leaves}
-use Rattle.rail_cli.proofs.Untold.{unsearched, unsearched_design, all_searched}
+use Rattle.rail_cli.proofs.AnyShelf.{unsearched, unsearched_design, all_searched}
 use Rattle.rail_cli.proofs.searching.search_reply.Goals as goal
 
 pub returns-in_err-bytes-clause-replies : goal.returns-in_err-bytes-clause-replies

@@ -9,8 +9,8 @@ use Rattle.rail_cli.specs.Shows.{verdict_at_horizon}
 use Rattle.rail_cli.proofs.Showing.{done_exactly, runs_safely, shown_so}
 use Rattle.rail_cli.proofs.simulation.show.Goals as goal
 
-pub returns-clause-shown : goal.returns-clause-shown
-returns-clause-shown c =
+pub returns-clause-reply : goal.returns-clause-reply
+returns-clause-reply c =
     let d = c.args.interlocking.now.design.station in
     let plan = c.args.plan.now.steps in
     let same : c.in_ok-verdict.verdict ≡ verdict_at_horizon d plan = c.in_ok-verdict.ensures.value ∙ ap₂ (λ r h. verdict_of d r plan h) c.args.interlocking.now.table c.horizon.ensures.value in

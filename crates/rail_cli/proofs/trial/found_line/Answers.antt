@@ -11,5 +11,5 @@ pub returns : goal.returns
 returns c =
     let d = c.args.design.now.station in
     let plan = c.args.plan.now.steps in
-    let tick : c.deciding_tick.result ≡ cost d (routes_of d) plan = c.deciding_tick.ensures ∙ (ap deciding_tick c.requires.shown ∙ met_at_cost d c.args.steps plan (admitted d c.args.design.now.admitted) c.requires.feasible) in
+    let tick : c.deciding_tick.result ≡ cost d (routes_of d) plan = c.deciding_tick.ensures ∙ (ap deciding_tick c.requires.verdict ∙ met_at_cost d c.args.steps plan (admitted d c.args.design.now.admitted) c.requires.feasible) in
     subst (λ (k : ℕ). IfOk c.plan_tick_line.result (λ (line : Vec ℕ Global). line.items ≡ plan_tick_line (length plan) k)) tick c.plan_tick_line.ensures

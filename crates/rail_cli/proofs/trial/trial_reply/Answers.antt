@@ -3,7 +3,7 @@ use Rattle.rail_base.specs.declared.design.Design.{Design}
 use Rattle.rail_base.specs.declared.station.Station.{Station}
 use Rattle.interlocking.specs.declared.railway.Interlocking.{Interlocking}
 use Rattle.rail_cli.specs.Answers.{design_or_answer, with_routes}
-use Rattle.rail_cli.specs.Replies.{Reads}
+use Rattle.rail_cli.specs.Replies.{ReadsOrEnds}
 use Rattle.rail_cli.proofs.Trying.{want_trial, unlisted_so, listed_so}
 use Rattle.rail_cli.proofs.trial.trial_reply.Goals as goal
 
@@ -23,4 +23,4 @@ returns-clause-replies c =
     let view : Interlocking → Station = λ i. i.design.station in
     let same : made.design.station ≡ c.in_ok-design.design.station = ap (λ (d : Design). d.station) c.in_ok-interlocking.ensures.same in
     listed_so c.args.seed c.args.size view made.design.station made c.in_ok-tried_in.field-0 (same ∙ c.in_ok-design.ensures) refl
-    (subst (λ (d : Station). Reads view (Ok made) (design_or_answer (with_routes d))) (sym same) c.in_ok-interlocking.ensures.reads) c.in_ok-tried_in.ensures.replies
+    (subst (λ (d : Station). ReadsOrEnds view (Ok made) (design_or_answer (with_routes d))) (sym same) c.in_ok-interlocking.ensures.reads) c.in_ok-tried_in.ensures.replies

@@ -15,7 +15,7 @@ pub push_path_nodes-requires : goal.push_path_nodes-requires
 push_path_nodes-requires c =
     let route = route_at c.args.interlocking.now.routes c.args.first in
     let sum = sum_by-cons length_mm route (routes_at c.args.interlocking.now.routes c.args.later.now) in
-    let short = c.requires.short in
+    let short = c.requires.below_2_47 in
     fit_all 0 route c.as_slice.result.now (c.as_slice.ensures ∙ ap (λ (r : Route). r.nodes) c.route_at-route.ensures) ((laid_out c.args.interlocking.now).each c.args.first).nodes (omega arith)
 
 pub returns-clause-in_turn : goal.returns-clause-in_turn

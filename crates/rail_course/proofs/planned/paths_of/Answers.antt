@@ -1,6 +1,6 @@
 use Rattle.std.proofs.Common.{◌+◌, ◌≤◌, ◌<◌, length, ◌∙◌, arith}
 use Rattle.rail_spec.specs.Plans.{path}
-use Rattle.rail_course.proofs.Coursing.{paths_done, paths_step}
+use Rattle.rail_course.proofs.Numbered.{paths_done, paths_step}
 use Rattle.rail_course.proofs.Granting.{paths_are, plan_in_range}
 use Rattle.rail_course.proofs.planned.paths_of.Goals as goal
 

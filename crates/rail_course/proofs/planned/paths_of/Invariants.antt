@@ -1,7 +1,7 @@
 use Rattle.std.proofs.Common.{◌≡◌, ◌+◌, ◌-◌, ◌≤◌, ◌++◌, map, length}
 use Rattle.rail_base.specs.Stations.{trains}
 use Rattle.rail_spec.specs.Plans.{path}
-use Rattle.rail_course.proofs.Coursing.{numbered}
+use Rattle.rail_course.proofs.Numbered.{numbered}
 use Rattle.rail_course.proofs.planned.paths_of.Given as goal
 
 abbrev pub invariant-loop-number : goal.invariant-loop-number

@@ -20,8 +20,8 @@ use Rattle.rail_course.proofs.spans.spans_of.Goals as goal
 pub push_spans-requires-clause-edges : goal.push_spans-requires-clause-edges
 push_spans-requires-clause-edges c = subst (λ (r : Route). All (HasLimit c.args.interlocking.now.design.station) r.edges) (sym c.route_at-route.ensures) ((laid_out c.args.interlocking.now).each (get_or c.args.path.now c.loop-number.number-index (record { 0 = 0 }))).edges
 
-pub push_spans-requires-clause-short : goal.push_spans-requires-clause-short
-push_spans-requires-clause-short c =
+pub push_spans-requires-clause-below_2_47 : goal.push_spans-requires-clause-below_2_47
+push_spans-requires-clause-below_2_47 c =
     let number = get_or c.args.path.now c.loop-number.number-index (record { 0 = 0 }) in
     let rest = drop (c.loop-number.number-index + 1) c.args.path.now in
     let cut : drop c.loop-number.number-index c.args.path.now ≡ number ∷ rest = grind (arith, common_steps) in

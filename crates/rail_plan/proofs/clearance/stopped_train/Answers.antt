@@ -6,7 +6,7 @@ use Rattle.rail_plan.proofs.Stopped.{stopped_none, stopped_free, stopped_there}
 use Rattle.rail_plan.proofs.clearance.stopped_train.Goals as goal
 
 pub kept_section-requires-clause-every_section : goal.kept_section-requires-clause-every_section
-kept_section-requires-clause-every_section c = c.requires.holds.many
+kept_section-requires-clause-every_section c = c.requires.holds.hold_a_section
 
 pub kept_section-requires-clause-route : goal.kept_section-requires-clause-route
 kept_section-requires-clause-route c = first_is_route c.args.interlocking.now.routes c.args.step.now c.args.train c.in_ok-route.route c.requires.routes (sym c.in_ok-route.was ∙ c.first_given.ensures)

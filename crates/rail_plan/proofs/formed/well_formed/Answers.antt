@@ -10,7 +10,7 @@ use Rattle.rail_plan.proofs.formed.well_formed.Goals as goal
 pub first_place-requires : goal.first_place-requires
 first_place-requires c = record {
   named = rw c.as_slice.ensures (all_have_routes c.args.interlocking.now.design.station c.args.interlocking.now.routes c.args.plan.now.steps c.requires);
-  small = omega (arith, c.ranges.n);
+  below_2_32 = omega (arith, c.ranges.n);
 }
 
 pub returns-clause-formed : goal.returns-clause-formed

@@ -5,7 +5,7 @@ use Rattle.rail_base.specs.Numbering.{first_of_list}
 use Rattle.rail_spec.specs.Feasible.{names_only}
 use Rattle.serde_json.specs.View.{view}
 use Rattle.rail_plan.specs.declared.fault.PlanCode.TheVariants.{P2}
-use Rattle.rail_plan.specs.Reading.{Gives, admitted_plan, plan_of_text, planned, read_steps, train_names, unknown, unread}
+use Rattle.rail_plan.specs.Reading.{GivesOrFails, admitted_plan, plan_of_text, planned, read_steps, train_names, unknown, unread}
 use Rattle.rail_plan.proofs.Seen.{step_fails, step_given, unless_none}
 use Rattle.rail_plan.proofs.Parsed.{planned_named, read_is, unread_is}
 use Rattle.rail_plan.proofs.reading.plan_at.Goals as goal
@@ -40,4 +40,4 @@ returns-in_ok-steps-in-Some c =
     let plan = given.1 ∙ read_is (train_names d) (length routes) values text c.in-Some.ensures.2 in
     let free = given.0 ∙ ap first_of_list (unread_is (train_names d) (length routes) values text c.in-Some.ensures.2) in
     let whole = ap (plan_of_text d routes) c.in-Some.ensures.1 ∙ unless_none P2 (unknown (train_names d) (length routes) text) (admitted_plan d routes (planned (train_names d) (length routes) text)) free ∙ ap (admitted_plan d routes) (sym plan) in
-    subst (λ answer. Gives (λ p. p.steps) c.admit.result answer) (sym whole) c.admit.ensures
+    subst (λ answer. GivesOrFails (λ p. p.steps) c.admit.result answer) (sym whole) c.admit.ensures

@@ -5,5 +5,5 @@ use Rattle.rail_routes.proofs.laws.routes_go_over_edges.Goals as goal
 pub returns-clause-edges : goal.returns-clause-edges
 returns-clause-edges c = route_edge
 
-pub returns-clause-short : goal.returns-clause-short
-returns-clause-short c = short_route
+pub returns-clause-at_most_40_km : goal.returns-clause-at_most_40_km
+returns-clause-at_most_40_km c = short_route

@@ -41,8 +41,8 @@ loop-start-preserved c =
       same = start_added d s (drop i items) later table new _ from c.in_ok-add_routes.ensures.added c.loop-start.invariant.same;
     }
 
-pub returns-clause-listed : goal.returns-clause-listed
-returns-clause-listed c =
+pub returns-clause-can_be_listed : goal.returns-clause-can_be_listed
+returns-clause-can_be_listed c =
     let d = c.args.track.now.design.now.station in
     let none : drop c.loop-start.start-index c.as_slice-start-items.result.now ≡ [] = drop_of_length-le c.as_slice-start-items.result.now (omega arith) in
     is_listed d (sym c.loop-start.invariant.fault ∙ ap (λ ss. fault_of (2000 - length c.loop-start.table.items) (flat_map (walks_from d) ss)) none)

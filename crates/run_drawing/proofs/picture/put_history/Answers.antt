@@ -5,7 +5,7 @@ use Rattle.std.proofs.lemmas.List.Sums.{sum_by_more}
 use Rattle.drawing.specs.Drawing.{words_in}
 use Rattle.rail_base.specs.declared.history.TrainHistory.{TrainHistory}
 use Rattle.rail_base.specs.Names.{train_name}
-use Rattle.timetable.proofs.Telling.{numbered, all_numbered, all_told}
+use Rattle.timetable.proofs.Lines.{numbered, all_numbered, all_told}
 use Rattle.run_drawing.specs.Words.{history_size, train_size, visit_texts}
 use Rattle.run_drawing.proofs.picture.put_history.Goals as goal
 

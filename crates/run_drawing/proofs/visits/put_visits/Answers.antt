@@ -3,7 +3,7 @@ use Rattle.std.specs.List.{enumerate_from, filter_map}
 use Rattle.std.proofs.lemmas.List.FromFn.{length-enumerate_from}
 use Rattle.drawing.specs.Drawing.{words_in}
 use Rattle.rail_base.specs.declared.station.NodeNo.{NodeNo}
-use Rattle.timetable.proofs.Telling.{numbered, all_numbered}
+use Rattle.timetable.proofs.Lines.{numbered, all_numbered}
 use Rattle.run_drawing.specs.Words.{visit_text, visit_line_of}
 use Rattle.run_drawing.proofs.Telling.{none_told, one_told}
 use Rattle.run_drawing.proofs.visits.put_visits.Goals as goal

@@ -14,7 +14,7 @@ use Rattle.sat_trail.proofs.Places.{prefix-trail, trail-consistent, some-same, p
 use Rattle.std.proofs.lemmas.Grind.{common_steps}
 use Rattle.sat_trail.proofs.walk.analyze.Goals as goal
 
--- the literals of the trail's front, either way
+-- the literals of the trail's prefix, either way
 prefix : (steps : List Step) (base : ℕ) → take base (lits steps) ≡ lits (take base steps)
 prefix steps base = take-map (λ (z : Step). z.lit) base steps
 

@@ -13,8 +13,8 @@ returns-in_default-clause-none c =
     let e = ap length (rows-beyond c.args.lists.now c.args.place (ltb-false c.args.place (length c.args.lists.now) (sym c.in_default.ensures.lookup.0))) in
     omega arith
 
-pub returns-then-i-len-clause-some : goal.returns-then-i-len-clause-some
-returns-then-i-len-clause-some c =
+pub returns-then-i-len-clause-entry : goal.returns-then-i-len-clause-entry
+returns-then-i-len-clause-entry c =
     let row : row_at (rows c.args.lists.now) c.args.place ≡ ids c.in-Some.list.now.items = row-get c.args.lists.now c.args.place c.in-Some.list.now (ltb-true c.args.place (length c.args.lists.now) (sym c.in-Some.ensures.lookup.0)) ∙ sym (ap (λ (v : Vec Entry). ids v.items) c.in-Some.ensures.lookup.1) in
     let n = ap length row in
     let m = ids-length c.in-Some.list.now.items in

@@ -40,7 +40,7 @@ list-preserved-in-Blocked c =
     let loose = c.visit_clause.new.watches.loose.items in
     let pairs = c.visit_clause.new.watches.pairs.items in
     let new = rows c.visit_clause.new.watches.lists.items in
-    let here : c.in-Some.entry.id ≡ get_or (row_at new (code_of c.args.w)) c.list.i 0 = c.in-Some.ensures.some.1 ∙ ap (λ z. get_or z c.list.i 0) (same ∙ sym c.visit_clause.ensures.row) in
+    let here : c.in-Some.entry.id ≡ get_or (row_at new (code_of c.args.w)) c.list.i 0 = c.in-Some.ensures.entry.1 ∙ ap (λ z. get_or z c.list.i 0) (same ∙ sym c.visit_clause.ensures.row) in
     let T : List ℕ → Type 0 = λ z. Pending v loose pairs c.args.w (drop c.list.i z) in
     let pending : T (row_at new (code_of c.args.w)) = subst T (sym c.visit_clause.ensures.row) (c.visit_clause.ensures.pending (drop c.list.i R) c.list.invariant.pending) in
     let L : Visit → Type 0 = λ z. Looked v loose pairs c.args.arena.now c.args.w c.in-Some.entry.id z in
@@ -62,7 +62,7 @@ list-preserved c =
     let loose = c.visit_clause.new.watches.loose.items in
     let pairs = c.visit_clause.new.watches.pairs.items in
     let new = rows c.visit_clause.new.watches.lists.items in
-    let here : c.in-Some.entry.id ≡ get_or (row_at new (code_of c.args.w)) c.list.i 0 = c.in-Some.ensures.some.1 ∙ ap (λ z. get_or z c.list.i 0) (same ∙ sym c.visit_clause.ensures.row) in
+    let here : c.in-Some.entry.id ≡ get_or (row_at new (code_of c.args.w)) c.list.i 0 = c.in-Some.ensures.entry.1 ∙ ap (λ z. get_or z c.list.i 0) (same ∙ sym c.visit_clause.ensures.row) in
     let T : List ℕ → Type 0 = λ z. Pending v loose pairs c.args.w (drop c.list.i z) in
     let pending : T (row_at new (code_of c.args.w)) = subst T (sym c.visit_clause.ensures.row) (c.visit_clause.ensures.pending (drop c.list.i R) c.list.invariant.pending) in
     let entry : IsBlocked c.list.trail.attached c.list.watches.loose.items (length c.list.watches.pairs.items) c.in-Some.entry = (let P : List (Vec Entry) → Type 0 = λ z. AllBlocked c.list.trail.attached c.list.watches.loose.items (length c.list.watches.pairs.items) z in
@@ -96,14 +96,14 @@ set_blocker-requires-clause-within c =
     let a = ap length same in
     let b = ap length c.visit_clause.ensures.row in
     let p = ap (λ z. length (row_at (rows c.visit_clause.new.watches.lists.items) z)) c.code-place.ensures in
-    let h = c.in-Some.ensures.some.0 in
+    let h = c.in-Some.ensures.entry.0 in
     omega arith
 
 pub set_blocker-requires-clause-same : goal.set_blocker-requires-clause-same
 set_blocker-requires-clause-same c =
     let R = row_at (rows c.list.watches.lists.items) (code_of c.args.w) in
     let same : row_at (rows c.deref.result.now) c.code-place.result ≡ R = ap (λ z. row_at (rows z) c.code-place.result) c.deref.ensures.value ∙ ap (λ z. row_at (rows c.list.watches.lists.items) z) c.code-place.ensures in
-    c.in-Some.ensures.some.1 ∙ ap (λ z. get_or z c.list.i 0) (same ∙ sym c.visit_clause.ensures.row) ∙ ap (λ z. get_or (row_at (rows c.visit_clause.new.watches.lists.items) z) c.list.i 0) (sym c.code-place.ensures)
+    c.in-Some.ensures.entry.1 ∙ ap (λ z. get_or z c.list.i 0) (same ∙ sym c.visit_clause.ensures.row) ∙ ap (λ z. get_or (row_at (rows c.visit_clause.new.watches.lists.items) z) c.list.i 0) (sym c.code-place.ensures)
 
 pub returns-clause-blocked : goal.returns-clause-blocked
 returns-clause-blocked c = c.list.invariant.blocked
@@ -116,7 +116,7 @@ list-preserved-in-Gone c =
     let loose = c.visit_clause.new.watches.loose.items in
     let pairs = c.visit_clause.new.watches.pairs.items in
     let new = rows c.visit_clause.new.watches.lists.items in
-    let here : c.in-Some.entry.id ≡ get_or (row_at new (code_of c.args.w)) c.list.i 0 = c.in-Some.ensures.some.1 ∙ ap (λ z. get_or z c.list.i 0) (same ∙ sym c.visit_clause.ensures.row) in
+    let here : c.in-Some.entry.id ≡ get_or (row_at new (code_of c.args.w)) c.list.i 0 = c.in-Some.ensures.entry.1 ∙ ap (λ z. get_or z c.list.i 0) (same ∙ sym c.visit_clause.ensures.row) in
     let T : List ℕ → Type 0 = λ z. Pending v loose pairs c.args.w (drop c.list.i z) in
     let pending : T (row_at new (code_of c.args.w)) = subst T (sym c.visit_clause.ensures.row) (c.visit_clause.ensures.pending (drop c.list.i R) c.list.invariant.pending) in
     let L : Visit → Type 0 = λ z. Looked v loose pairs c.args.arena.now c.args.w c.in-Some.entry.id z in
@@ -140,7 +140,7 @@ cut_entry-requires c =
     let a = ap length same in
     let b = ap length c.visit_clause.ensures.row in
     let p = ap (λ z. length (row_at (rows c.visit_clause.new.watches.lists.items) z)) c.code-place.ensures in
-    let h = c.in-Some.ensures.some.0 in
+    let h = c.in-Some.ensures.entry.0 in
     omega arith
 
 pub list-smaller-in-Gone : goal.list-smaller-in-Gone
@@ -151,7 +151,7 @@ list-smaller-in-Gone c =
     let b = ap length c.visit_clause.ensures.row in
     let p = ap (λ z. length (row_at (rows c.visit_clause.new.watches.lists.items) z)) c.code-place.ensures in
     let q = ap (λ z. length (row_at (rows c.cut_entry.new.lists.items) z)) c.code-place.ensures in
-    let h = c.in-Some.ensures.some.0 in
+    let h = c.in-Some.ensures.entry.0 in
     let s = c.cut_entry.ensures.cut.shorter in
     omega arith
 
@@ -161,7 +161,7 @@ list-smaller-in-Blocked c =
     let same : row_at (rows c.deref.result.now) c.code-place.result ≡ R = ap (λ z. row_at (rows z) c.code-place.result) c.deref.ensures.value ∙ ap (λ z. row_at (rows c.list.watches.lists.items) z) c.code-place.ensures in
     let a = ap length same in
     let b = ap length c.visit_clause.ensures.row in
-    let h = c.in-Some.ensures.some.0 in
+    let h = c.in-Some.ensures.entry.0 in
     omega arith
 
 pub list-smaller : goal.list-smaller
@@ -171,7 +171,7 @@ list-smaller c =
     let a = ap length same in
     let b = ap length c.visit_clause.ensures.row in
     let q = ap (λ z. length (row_at z (code_of c.args.w))) c.set_blocker.ensures.rows in
-    let h = c.in-Some.ensures.some.0 in
+    let h = c.in-Some.ensures.entry.0 in
     omega arith
 
 pub returns-in_err-visit_clause-clause-forced : goal.returns-in_err-visit_clause-clause-forced

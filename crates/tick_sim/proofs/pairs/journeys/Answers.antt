@@ -6,16 +6,16 @@ use Rattle.rail_course.specs.declared.train_path.TrainPath.{TrainPath}
 use Rattle.rail_course.specs.declared.journey.Journey.{Journey}
 use Rattle.rail_course.specs.Itineraries.{IsTrainPathIn}
 use Rattle.rail_course.specs.Journeys.{IsJourney}
-use Rattle.rail_course.proofs.Coursing.{map_step, path_of_number}
+use Rattle.rail_course.proofs.Numbered.{map_step, path_of_number}
 use Rattle.rail_course.proofs.Granting.{no_path, plan_named}
 use Rattle.rail_course.proofs.Waiting.{all_waits_in, plan_contending}
 use Rattle.tick_sim.proofs.pairs.journeys.Goals as goal
 
 pub waits_of_train-requires : goal.waits_of_train-requires
-waits_of_train-requires c = (subst (IsTrainPathIn c.args.planned.now.train_paths.given) (sym c.train_path-item.is) (c.args.planned.now.train_paths.coursed.each c.loop-train_path.train_path-index c.train_path-item.result c.loop-train_path-test.true)).train
+waits_of_train-requires c = (subst (IsTrainPathIn c.args.planned.now.train_paths.given) (sym c.train_path-item.is) (c.args.planned.now.train_paths.are_train_paths.each c.loop-train_path.train_path-index c.train_path-item.result c.loop-train_path-test.true)).train
 
 pub journey-requires : goal.journey-requires
-journey-requires c = subst (IsTrainPathIn c.args.planned.now.train_paths.given) (sym c.train_path-item.is) (c.args.planned.now.train_paths.coursed.each c.loop-train_path.train_path-index c.train_path-item.result c.loop-train_path-test.true)
+journey-requires c = subst (IsTrainPathIn c.args.planned.now.train_paths.given) (sym c.train_path-item.is) (c.args.planned.now.train_paths.are_train_paths.each c.loop-train_path.train_path-index c.train_path-item.result c.loop-train_path-test.true)
 
 pub loop-train_path-preserved : goal.loop-train_path-preserved
 loop-train_path-preserved c =

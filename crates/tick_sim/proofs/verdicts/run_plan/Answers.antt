@@ -1,11 +1,11 @@
 use Rattle.std.proofs.Common.{length, All, ap, sym, subst, ◌∙◌}
-use Rattle.rail_course.specs.Tracks.{IsInRange}
+use Rattle.rail_course.specs.Tracks.{IsPathInRange}
 use Rattle.tick_sim.proofs.verdicts.run_plan.Goals as goal
 
 pub invariant_of-given : goal.invariant_of-given
 invariant_of-given c = record {
-  many = ap length c.as_slice.ensures.value ∙ c.in_ok-paths.ensures.many;
-  range = subst (All (IsInRange c.args.interlocking.now.routes)) (sym c.as_slice.ensures.value) c.in_ok-paths.ensures.range;
+  path_a_train = ap length c.as_slice.ensures.value ∙ c.in_ok-paths.ensures.path_a_train;
+  range = subst (All (IsPathInRange c.args.interlocking.now.routes)) (sym c.as_slice.ensures.value) c.in_ok-paths.ensures.range;
 }
 
 pub invariant_of-planned : goal.invariant_of-planned

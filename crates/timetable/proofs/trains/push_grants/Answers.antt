@@ -3,7 +3,7 @@ use Rattle.std.specs.List.{enumerate_from, filter_map}
 use Rattle.std.proofs.lemmas.List.FromFn.{length-enumerate_from}
 use Rattle.timetable.specs.Lines.{lines_of, grant_line}
 use Rattle.timetable.specs.Timetable.{grant_line_of}
-use Rattle.timetable.proofs.Telling.{numbered, all_numbered, none_told, one_told}
+use Rattle.timetable.proofs.Lines.{numbered, all_numbered, none_told, one_told}
 use Rattle.timetable.proofs.trains.push_grants.Goals as goal
 use Rattle.timetable.proofs.trains.push_grants.Goals.{in-Some+in_ok-grant_line+in_ok-push, in_default}
 

@@ -4,7 +4,7 @@ use Rattle.std.proofs.lemmas.List.FromFn.{length-enumerate_from}
 use Rattle.rail_base.specs.declared.history.TrainHistory.{TrainHistory}
 use Rattle.timetable.specs.Lines.{lines_of}
 use Rattle.timetable.specs.Timetable.{train_lines}
-use Rattle.timetable.proofs.Telling.{numbered, all_numbered, all_told}
+use Rattle.timetable.proofs.Lines.{numbered, all_numbered, all_told}
 use Rattle.timetable.proofs.trains.push_history.Goals as goal
 
 pub loop-index-preserved : goal.loop-index-preserved

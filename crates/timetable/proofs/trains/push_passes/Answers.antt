@@ -1,7 +1,7 @@
 use Rattle.std.proofs.Common.{◌≡◌, ap, refl, sym, ◌∙◌, get_or, Some, None, option_map}
 use Rattle.timetable.specs.Lines.{lines_of, pass_line}
 use Rattle.timetable.specs.Timetable.{pass_line_of}
-use Rattle.timetable.proofs.Telling.{none_told, one_told}
+use Rattle.timetable.proofs.Lines.{none_told, one_told}
 use Rattle.timetable.proofs.trains.push_passes.Goals as goal
 use Rattle.timetable.proofs.trains.push_passes.Goals.{in-Some+in_ok-pass_line+in_ok-push, in_default}
 

@@ -4,7 +4,7 @@ use Rattle.std.proofs.lemmas.List.FromFn.{length-enumerate_from}
 use Rattle.rail_base.specs.declared.station.NodeNo.{NodeNo}
 use Rattle.timetable.specs.Lines.{lines_of, visit_line}
 use Rattle.timetable.specs.Timetable.{visit_line_of}
-use Rattle.timetable.proofs.Telling.{numbered, all_numbered, none_told, one_told}
+use Rattle.timetable.proofs.Lines.{numbered, all_numbered, none_told, one_told}
 use Rattle.timetable.proofs.trains.push_visits.Goals as goal
 use Rattle.timetable.proofs.trains.push_visits.Goals.{in-Some+in_ok-visit_line+in_ok-push, in_default}
 

@@ -6,20 +6,20 @@ use Rattle.bound_clause.proofs.numbered.NumberedBound.before.Goals as goal
 
 pub overflow_cast-result : goal.overflow_cast-result
 overflow_cast-result c =
-    let few = c.args.self.now.contention.few in
+    let few = c.args.self.now.contention.at_most_8000000 in
     let inside : c.place_of-place.result ≤ length c.args.self.now.contention.pairs.now = c.place_of-place.ensures.bound in
     omega arith
 
 pub overflow_add-result : goal.overflow_add-result
 overflow_add-result c =
-    let few = c.args.self.now.contention.few in
+    let few = c.args.self.now.contention.at_most_8000000 in
     let inside : c.place_of-place.result ≤ length c.args.self.now.contention.pairs.now = c.place_of-place.ensures.bound in
     let used_literal = c.used_count.ensures.bound in
     omega arith
 
 pub overflow_add-result-2 : goal.overflow_add-result-2
 overflow_add-result-2 c =
-    let few = c.args.self.now.contention.few in
+    let few = c.args.self.now.contention.at_most_8000000 in
     let inside : c.place_of-place.result ≤ length c.args.self.now.contention.pairs.now = c.place_of-place.ensures.bound in
     let used_literal = c.used_count.ensures.bound in
     omega arith

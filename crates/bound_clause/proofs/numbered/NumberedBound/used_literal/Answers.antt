@@ -9,7 +9,7 @@ overflow_mul-result c =
     let t = c.requires.train in
     let r = c.requires.route in
     let l = c.len-routes.ensures in
-    let small = given_small c.args.command.train.0 c.args.command.route.0 c.len-routes.result c.args.self.now.steps.count (omega arith) (omega arith) (omega arith) c.args.self.now.steps.most t.0 r.0 in
+    let small = given_small c.args.command.train.0 c.args.command.route.0 c.len-routes.result c.args.self.now.steps.count (omega arith) (omega arith) (omega arith) c.args.self.now.steps.at_most_256 t.0 r.0 in
     omega arith
 
 pub overflow_add-result : goal.overflow_add-result
@@ -18,5 +18,5 @@ overflow_add-result c =
     let t = c.requires.train in
     let r = c.requires.route in
     let l = c.len-routes.ensures in
-    let small = given_small c.args.command.train.0 c.args.command.route.0 c.len-routes.result c.args.self.now.steps.count (omega arith) (omega arith) (omega arith) c.args.self.now.steps.most t.0 r.0 in
+    let small = given_small c.args.command.train.0 c.args.command.route.0 c.len-routes.result c.args.self.now.steps.count (omega arith) (omega arith) (omega arith) c.args.self.now.steps.at_most_256 t.0 r.0 in
     omega arith

@@ -16,7 +16,7 @@ overflow_add-result t c =
     let i = c.args.self.now.interlocking.now in
     let here = c.in_ok-here-in-len1-up.ensures in
     let most = release_most i.design.station i.routes c.args.self.now.most (origin_of c.args.from) c.leg-item.result c.first_routes.result.now in
-    let few = c.args.self.now.few in
+    let few = c.args.self.now.at_most_86400 in
     omega arith
 
 pub ticks-requires : goal.ticks-requires
@@ -29,7 +29,7 @@ overflow_add-result-in-len1-up t c =
     let i = c.args.self.now.interlocking.now in
     let here = c.in_ok-here-in-len1-up.ensures in
     let most = release_most i.design.station i.routes c.args.self.now.most (origin_of c.args.from) c.leg-item.result c.first_routes.result.now in
-    let few = c.args.self.now.few in
+    let few = c.args.self.now.at_most_86400 in
     let many = c.requires.at_most_64 in
     let some = c.in-len1-up.len_at_least in
     let long = rest_long c.args.legs.now (omega arith) in

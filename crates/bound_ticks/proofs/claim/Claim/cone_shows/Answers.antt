@@ -4,8 +4,8 @@ use Rattle.leg_targets.specs.Visits.{visit_of}
 use Rattle.bound_ticks.proofs.Naming.{cone_made}
 use Rattle.bound_ticks.proofs.claim.Claim.cone_shows.Goals as goal
 
-pub visit_shown-requires-clause-known : goal.visit_shown-requires-clause-known
-visit_shown-requires-clause-known c = c.args.self.now.named.cone c.args.tick c.args.cone.now (visit_of c.args.from) c.requires.origin c.requires.visit
+pub visit_in_run-requires-clause-known : goal.visit_in_run-requires-clause-known
+visit_in_run-requires-clause-known c = c.args.self.now.named.cone c.args.tick c.args.cone.now (visit_of c.args.from) c.requires.origin c.requires.visit
 
 pub returns : goal.returns
 returns c =

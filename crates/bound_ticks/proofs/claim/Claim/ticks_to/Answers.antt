@@ -17,4 +17,4 @@ returns-clause-at_most_5529664 c =
     let i = c.args.self.now.contention.interlocking.now in
     let most = c.args.self.now.most in
     let to = origin_of c.args.to in
-    ok_more _ _ c.ticks.result (λ n e. chain_by i.design.station i.routes most n None to c.args.self.now.bound.now.legs (e ∙ ap (chain_of i.design.station i.routes most None to) c.as_slice.ensures) c.args.self.now.named.many c.args.self.now.few) c.ticks.ensures
+    ok_more _ _ c.ticks.result (λ n e. chain_by i.design.station i.routes most n None to c.args.self.now.bound.now.legs (e ∙ ap (chain_of i.design.station i.routes most None to) c.as_slice.ensures) c.args.self.now.named.at_most_64 c.args.self.now.at_most_86400) c.ticks.ensures

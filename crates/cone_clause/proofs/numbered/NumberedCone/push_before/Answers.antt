@@ -4,7 +4,7 @@ use Rattle.rail_base.specs.declared.plan.Command.{Command}
 use Rattle.rail_base.specs.Members.{In}
 use Rattle.sat_clause.specs.declared.lit.Lit.{Lit}
 use Rattle.cone_form.proofs.Orders.{member_at}
-use Rattle.cone_clause.specs.Places.{AreListed, IsSaid, AreSaid}
+use Rattle.cone_clause.specs.Places.{ArePlacesOfPairs, IsSaid, AreSaid}
 use Rattle.cone_clause.proofs.Small.{said_inside}
 use Rattle.cone_clause.proofs.Said.{listed_at, place_inside, SaysUpTo, says_more, says_all, none_between, left_after, left_same, none_left}
 use Rattle.cone_clause.proofs.numbered.NumberedCone.push_before.Goals.{then-next-place+in_ok-push, else-next-place}
@@ -85,7 +85,7 @@ loop-place-preserved c =
             (subst (λ (v : Vec Lit Global). SaysUpTo d routes k c.args.self.now.known c.args.self.now.steps.count old ps (place + 1) v.items) (sym w.clause-is)
             (says_more d routes k c.args.self.now.known c.args.self.now.steps.count old ps c.args.self.now.contention.ordered c.loop-place.next place (none, none) c.loop-place.clause.items w.push.new.self.items w.if-next-place.true here
             (none_between ps k items said c.loop-place.next c.loop-place.place-index 0 c.loop-place-test.true left) _ w.is_among-negated.result (ap (λ u. u + place + 1) c.used_count-used.ensures.value)
-            (w.is_among-negated.ensures ∙ listed_at ps k w.deref.result.now (subst (AreListed ps k) (sym w.deref.ensures.value) c.in_ok-listed.ensures) place (none, none) inside) w.in_ok-push.ensures.items c.loop-place.invariant.spoken));
+            (w.is_among-negated.ensures ∙ listed_at ps k w.deref.result.now (subst (ArePlacesOfPairs ps k) (sym w.deref.ensures.value) c.in_ok-listed.ensures) place (none, none) inside) w.in_ok-push.ensures.items c.loop-place.invariant.spoken));
         left = subst (λ (m : ℕ). (i : ℕ) → m ≤ i → IsSaid ps k i → In i (drop (c.loop-place.place-index + 1) items)) (sym w.next-is)
             (left_after ps k items said c.loop-place.next c.loop-place.place-index 0 c.loop-place-test.true left w.if-next-place.true);
       }

@@ -12,7 +12,7 @@ use Rattle.cone_run.proofs.checked.ConeRun.has_cleared.Goals as goal
 pub route_at-requires : goal.route_at-requires
 route_at-requires c =
     let l = c.args.self.now.layout in
-    (listed_there l.contention.interlocking.now.design.station l.contention.interlocking.now.routes l.cone.now l.known c.args.first c.args.second c.requires.listed).0.1
+    (listed_there l.contention.interlocking.now.design.station l.contention.interlocking.now.routes l.cone.now l.known c.args.first c.args.second c.requires.listed_pair).0.1
 
 pub returns : goal.returns
 returns c =
@@ -22,8 +22,8 @@ returns c =
     let p = of_cone l.cone.now in
     let last = last_tick l.cone.now in
     let first = c.args.first in
-    let there = (listed_there d routes l.cone.now l.known first c.args.second c.requires.listed).0.0 in
+    let there = (listed_there d routes l.cone.now l.known first c.args.second c.requires.listed_pair).0.0 in
     c.all_released.ensures
     ∙ ap₂ (λ r q. list_all (λ z. is_by c.args.tick (release_in (history_of c.args.self.now.history.now first.train).releases first.route z)) (shared r q)) c.route_at.ensures c.route_at-2.ensures
-    ∙ ap (λ h. list_all (λ z. is_by c.args.tick (release_in (history_of h first.train).releases first.route z)) (shared (route_at routes first.route) (route_at routes c.args.second.route))) c.args.self.now.told
+    ∙ ap (λ h. list_all (λ z. is_by c.args.tick (release_in (history_of h first.train).releases first.route z)) (shared (route_at routes first.route) (route_at routes c.args.second.route))) c.args.self.now.is_history
     ∙ cleared_asked d routes p last first there c.args.tick c.args.second c.requires.tick

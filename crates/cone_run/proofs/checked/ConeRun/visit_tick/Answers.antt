@@ -13,5 +13,5 @@ returns c =
     let routes = l.contention.interlocking.now.routes in
     let p = of_cone l.cone.now in
     let last = last_tick l.cone.now in
-    let told = c.args.self.now.told in
+    let told = c.args.self.now.is_history in
     c.up_to.ensures ∙ ap (up_to c.args.last) (c.visit_tick.ensures ∙ ap (λ h. visit_tick h c.args.train c.args.visit) told) ∙ visit_asked d routes p last c.args.train c.requires.train c.args.last c.args.visit c.requires.within

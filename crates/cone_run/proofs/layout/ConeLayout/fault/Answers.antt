@@ -8,5 +8,5 @@ invariant_of-run c =
     let i = l.contention.interlocking.now in
     record {
       entries = entries i.design.station i.routes l.cone.now l.known;
-      told = c.as_slice.ensures.value ∙ c.in_ok-history.ensures;
+      is_history = c.as_slice.ensures.value ∙ c.in_ok-history.ensures;
     }

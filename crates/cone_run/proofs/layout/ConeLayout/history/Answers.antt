@@ -2,7 +2,7 @@ use Rattle.std.proofs.Common.{refl, sym, subst, arith}
 use Rattle.rail_base.proofs.Admitting.{admitted}
 use Rattle.interlocking.specs.declared.railway.Interlocking.{Interlocking}
 use Rattle.cone_spec.specs.Cones.{of_cone}
-use Rattle.dispatch_run.specs.Followers.{AreFollowers}
+use Rattle.dispatch_run.specs.FollowedTrains.{AreFollowedTrains}
 use Rattle.cone_run.proofs.Riding.{last_within}
 use Rattle.cone_run.proofs.Leading.{may_go}
 use Rattle.cone_run.proofs.layout.ConeLayout.history.Goals as goal
@@ -18,8 +18,8 @@ history_of-requires c =
     let most = adm.ticks.1 in
     let last = c.last_tick.ensures in (
       record {
-        goes = may_go d i.routes cone known adm i.table i.few;
-        followers = subst (AreFollowers d i.routes (of_cone cone)) (sym c.as_slice-2.ensures.value) (subst (λ (i : Interlocking). AreFollowers i.design.station i.routes (of_cone cone) c.in_ok-followers.followers.items) c.args.self.now.over c.in_ok-followers.ensures);
+        goes = may_go d i.routes cone known adm i.table i.at_most_2000;
+        followed_trains = subst (AreFollowedTrains d i.routes (of_cone cone)) (sym c.as_slice-2.ensures.value) (subst (λ (i : Interlocking). AreFollowedTrains i.design.station i.routes (of_cone cone) c.in_ok-followed_trains.followed_trains.items) c.args.self.now.over c.in_ok-followed_trains.ensures);
       },
       (refl, omega arith),
     )

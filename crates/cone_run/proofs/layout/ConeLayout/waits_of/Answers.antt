@@ -2,7 +2,7 @@ use Rattle.std.proofs.Common.{◌≡◌, ◌+◌, ◌++◌, [], ◌∷◌, Bool,
 use Rattle.rail_base.specs.declared.plan.Command.{Command}
 use Rattle.rail_base.proofs.Members.{map-map}
 use Rattle.rail_spec.specs.Plans.{is_command}
-use Rattle.cone_spec.specs.Cones.{is_listed, is_pair}
+use Rattle.cone_spec.specs.Cones.{has_pair, is_pair}
 use Rattle.rail_course.specs.declared.waits.Wait.{Wait}
 use Rattle.std.specs.List.{list_any}
 use Rattle.interlocking.specs.declared.railway.Interlocking.{Interlocking}
@@ -28,7 +28,7 @@ loop-other-init c =
     let routes = c.args.self.now.contention.interlocking.now.routes in
     let k = c.args.self.now.cone.now in
     let wait = wait_in c.args.self.now.train_paths.given c.args.command in
-    let listed : Command → Bool = λ e. is_listed k e c.args.command in
+    let listed : Command → Bool = λ e. has_pair k e c.args.command in
     let others : List Command = c.deref-other-items.result.now in
     let pair : Command → Command × Command = λ e. (c.args.command, e) in
     let second : Command × Command → Command = λ p. p.1 in
@@ -44,7 +44,7 @@ unfolding none
 wait_for-requires-clause-other c =
     let k = c.args.self.now.cone.now in
     let e : Command = get_or c.deref-other-items.result.now c.loop-other.other-index none in
-    let listed : is_listed k e c.args.command ≡ true = sym (ap (list_any (is_pair e c.args.command)) c.listed_pairs-listed.ensures) ∙ (sym c.is_among.ensures ∙ c.if-is_among.true) in
+    let listed : has_pair k e c.args.command ≡ true = sym (ap (list_any (is_pair e c.args.command)) c.sorted_pairs-listed.ensures) ∙ (sym c.is_among.ensures ∙ c.if-is_among.true) in
     subst (λ (i : Interlocking). IsCommand i.design.station i.routes e) (sym c.args.self.now.over) (listed_commands c.args.self.now.contention.interlocking.now.design.station c.args.self.now.contention.interlocking.now.routes k c.args.self.now.known e c.args.command listed).0
 
 pub loop-other-preserved : goal.loop-other-preserved
@@ -54,8 +54,8 @@ loop-other-preserved c =
     let wait = wait_in c.args.self.now.train_paths.given c.args.command in
     let run : List Command = c.deref-other-items.result.now in
     let e : Command = get_or run c.loop-other.other-index none in
-    let listed : Command → Bool = λ e. is_listed k e c.args.command in
-    let is : c.is_among.result ≡ listed e = c.is_among.ensures ∙ ap (list_any (is_pair e c.args.command)) c.listed_pairs-listed.ensures in
+    let listed : Command → Bool = λ e. has_pair k e c.args.command in
+    let is : c.is_among.result ≡ listed e = c.is_among.ensures ∙ ap (list_any (is_pair e c.args.command)) c.sorted_pairs-listed.ensures in
     elim c.if-is_among.branch [
       | then-is_among+in_ok-push w ↦ listed_next wait listed run c.loop-other.other-index none c.loop-other-test.true c.loop-other.waits.items c.if-is_among.waits.items _ (sym is ∙ w.if-is_among.true)
           (ap (λ (v : Vec Wait Global). v.items) w.waits-is ∙ (w.in_ok-push.ensures.items ∙ ap (λ x. c.loop-other.waits.items ++ x ∷ [])

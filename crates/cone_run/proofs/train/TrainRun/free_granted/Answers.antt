@@ -12,7 +12,7 @@ returns c =
     let routes = l.contention.interlocking.now.routes in
     let p = of_cone l.cone.now in
     let last = last_tick l.cone.now in
-    let told = c.args.self.now.run.told in
+    let told = c.args.self.now.run.is_history in
     let entry = c.args.self.now.said.now in
     let some : 1 ≤ entry.free = (let h = c.if-said-eq0.false in omega arith) in
     c.is_by.ensures ∙ ap (is_by entry.horizon) (c.grant_tick.ensures ∙ ap (λ h. grant_tick h entry.train entry.free) told) ∙ grant_asked d routes p last entry.train c.args.self.now.named.train entry.horizon entry.free c.args.self.now.named.until some

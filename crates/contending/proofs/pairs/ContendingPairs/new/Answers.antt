@@ -7,7 +7,7 @@ use Rattle.contending.proofs.Sized.{rows_are}
 use Rattle.contending.proofs.pairs.ContendingPairs.new.Goals as goal
 
 pub sums_of-requires : goal.sums_of-requires
-sums_of-requires c = rows_are c.args.interlocking.now.routes c.deref.result.now (c.deref.ensures.value ∙ c.in_ok-rows.ensures) c.args.interlocking.now.few
+sums_of-requires c = rows_are c.args.interlocking.now.routes c.deref.result.now (c.deref.ensures.value ∙ c.in_ok-rows.ensures) c.args.interlocking.now.at_most_2000
 
 pub invariant_of-result : goal.invariant_of-result
 invariant_of-result c =
@@ -16,7 +16,7 @@ invariant_of-result c =
     let high = many.1 in
     let long = c.len.ensures in (
       omega arith,
-      rows_are i.routes c.in_ok-rows.rows.items c.in_ok-rows.ensures i.few,
+      rows_are i.routes c.in_ok-rows.rows.items c.in_ok-rows.ensures i.at_most_2000,
       subst (λ (rows : List (List RouteNo)). AreSums rows c.in_ok-sums.sums.items) c.deref.ensures.value c.in_ok-sums.ensures,
     )
 

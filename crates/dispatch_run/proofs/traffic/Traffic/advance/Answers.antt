@@ -38,7 +38,7 @@ next_histories-requires g c =
       c.requires.0,
       subst (λ s. AreToBeMarked d routes g.dispatch tick s c.as_slice-5.result.now old.histories.items) (sym c.as_slice-4.ensures.value)
           (subst (λ l. AreToBeMarked d routes g.dispatch tick c.in_ok-states.states.items l old.histories.items) (sym c.as_slice-5.ensures.value)
-          (all_told d routes g.dispatch tick old.states.items old.looks.items turn c.in_ok-states.states.items states old.histories.items progress.told)),
+          (all_told d routes g.dispatch tick old.states.items old.looks.items turn c.in_ok-states.states.items states old.histories.items progress.recorded)),
     )
 
 pub next_looks-requires : goal.next_looks-requires
@@ -67,4 +67,4 @@ returns-clause-quiet g c =
     let progress = c.requires.1.0 in
     let tick = c.next_tick-tick.result in
     let found = c.next_tick-tick.ensures in
-    λ k low high. nothing_before d routes g.dispatch old.tick tick old.states.items old.looks.items progress.known found.after found.first (λ l m. found.least l (subst (In l) (sym c.as_slice.ensures.value) m)) k low high ∙ sym progress.told
+    λ k low high. nothing_before d routes g.dispatch old.tick tick old.states.items old.looks.items progress.known found.after found.at_0 (λ l m. found.least l (subst (In l) (sym c.as_slice.ensures.value) m)) k low high ∙ sym progress.recorded

@@ -12,7 +12,7 @@ use Rattle.dispatch_run.proofs.traffic.Traffic.go_ticks.Goals as goal
 pub ahead-ahead-requires-clause-train_path : goal.ahead-ahead-requires-clause-train_path
 ahead-ahead-requires-clause-train_path g c =
     let train_path = c.requires.0.journey.train_path in
-    subst (λ path. IsTrainPath c.args.self.now.interlocking.now.design.station c.args.self.now.interlocking.now.routes path c.args.follower.now.journey.now.train_path.now) (sym train_path.given) train_path
+    subst (λ path. IsTrainPath c.args.self.now.interlocking.now.design.station c.args.self.now.interlocking.now.routes path c.args.followed_train.now.journey.now.train_path.now) (sym train_path.given) train_path
 
 pub ahead-ahead-requires-clause-granted : goal.ahead-ahead-requires-clause-granted
 ahead-ahead-requires-clause-granted g c =
@@ -22,13 +22,13 @@ ahead-ahead-requires-clause-granted g c =
 
 pub returns-then-state-eq0 : goal.returns-then-state-eq0
 returns-then-state-eq0 g c =
-    sym (drift_none c.args.self.now.interlocking.now.design.station c.args.self.now.interlocking.now.routes g.dispatch c.args.follower.now.journey.now.train_path.now.train c.args.ticks c.args.state c.if-state-eq0.true)
+    sym (drift_none c.args.self.now.interlocking.now.design.station c.args.self.now.interlocking.now.routes g.dispatch c.args.followed_train.now.journey.now.train_path.now.train c.args.ticks c.args.state c.if-state-eq0.true)
 
 pub returns : goal.returns
 returns g c =
     let d = c.args.self.now.interlocking.now.design.station in
     let routes = c.args.self.now.interlocking.now.routes in
-    let train_path = c.args.follower.now.journey.now.train_path.now in
+    let train_path = c.args.followed_train.now.journey.now.train_path.now in
     let t = train_path.train in
     let s = c.args.state in
     let moved = c.advance_until-moved.ensures in
@@ -40,7 +40,7 @@ returns g c =
     let some : 1 ≤ s.granted = (let h = c.if-state-eq0.false in omega arith) in
     let given = c.requires.0.journey.train_path.given in
     let all : c.advance_until-moved.result.ticks ≡ c.args.ticks =
-    not_far m ss end c.advance_until-moved.result.ticks c.args.ticks 140737488355327 s.x s.v top c.requires.1.0.near c.requires.1.1 moved.at_most refl
+    not_far m ss end c.advance_until-moved.result.ticks c.args.ticks 140737488355327 s.x s.v top c.requires.1.0.below_2_46 c.requires.1.1 moved.at_most refl
     (λ less. subst (λ (p : Going). 140737488355327 ≤ p.x) moved.state (moved.ends less)) in
     drift_is d routes g.dispatch t s.granted c.args.ticks s c.advance_until-moved.result.x c.advance_until-moved.result.v refl some
     (moved.state ∙ ap (λ n. after m ss end n (going s.x s.v)) all

@@ -11,7 +11,7 @@ use Rattle.dispatch_run.proofs.traffic.Traffic.move_train.Goals as goal
 pub ahead-ahead-requires-clause-train_path : goal.ahead-ahead-requires-clause-train_path
 ahead-ahead-requires-clause-train_path g c =
     let train_path = c.requires.0.journey.train_path in
-    subst (λ path. IsTrainPath c.args.self.now.interlocking.now.design.station c.args.self.now.interlocking.now.routes path c.args.follower.now.journey.now.train_path.now) (sym train_path.given) train_path
+    subst (λ path. IsTrainPath c.args.self.now.interlocking.now.design.station c.args.self.now.interlocking.now.routes path c.args.followed_train.now.journey.now.train_path.now) (sym train_path.given) train_path
 
 pub ahead-ahead-requires-clause-granted : goal.ahead-ahead-requires-clause-granted
 ahead-ahead-requires-clause-granted g c =
@@ -23,7 +23,7 @@ pub returns : goal.returns
 returns g c =
     let d = c.args.self.now.interlocking.now.design.station in
     let routes = c.args.self.now.interlocking.now.routes in
-    let train_path = c.args.follower.now.journey.now.train_path.now in
+    let train_path = c.args.followed_train.now.journey.now.train_path.now in
     let t = train_path.train in
     let s = c.args.state in
     let n = c.args.granted in

@@ -4,7 +4,7 @@ use Rattle.free_spec.specs.Legs.{following, least_over}
 use Rattle.free_moves.specs.Trips.{trip_ticks}
 use Rattle.free_moves.proofs.trips.Trip.least_following.Given as goal
 
--- those left to ask tell the same
+-- those left to ask say the same
 abbrev pub invariant-loop-number : goal.invariant-loop-number
 invariant-loop-number l = record {
   first : 1 ≤ l.number;

@@ -5,11 +5,11 @@ use Rattle.rail_course.specs.Tracks.{routes_at}
 use Rattle.free_moves.proofs.Least.{short_path, on_leg}
 use Rattle.free_moves.proofs.trips.Trip.leg_ticks.Goals as goal
 
-pub spans_of-requires-clause-short : goal.spans_of-requires-clause-short
-spans_of-requires-clause-short c = short_path c.args.self.now.interlocking.now c.args.path.now c.requires.at_most_65
+pub spans_of-requires-clause-below_2_47 : goal.spans_of-requires-clause-below_2_47
+spans_of-requires-clause-below_2_47 c = short_path c.args.self.now.interlocking.now c.args.path.now c.requires.at_most_65
 
-pub length_of-requires-clause-short : goal.length_of-requires-clause-short
-length_of-requires-clause-short c = short_path c.args.self.now.interlocking.now c.args.path.now c.requires.at_most_65
+pub length_of-requires-clause-below_2_47 : goal.length_of-requires-clause-below_2_47
+length_of-requires-clause-below_2_47 c = short_path c.args.self.now.interlocking.now c.args.path.now c.requires.at_most_65
 
 pub end_of-requires : goal.end_of-requires
 end_of-requires c =

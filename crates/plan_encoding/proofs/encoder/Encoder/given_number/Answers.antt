@@ -9,7 +9,7 @@ overflow_mul-result-2 c =
     let t = c.requires.command.train in
     let r = c.requires.command.route in
     let l = c.len-routes.ensures in
-    let small = given_small c.args.command.train.0 c.args.command.route.0 c.len-routes.result c.args.self.now.steps.count (omega arith) (omega arith) (omega arith) c.args.self.now.steps.most t.0 r.0 in
+    let small = given_small c.args.command.train.0 c.args.command.route.0 c.len-routes.result c.args.self.now.steps.count (omega arith) (omega arith) (omega arith) c.args.self.now.steps.at_most_256 t.0 r.0 in
     omega arith
 
 pub overflow_add-result-2 : goal.overflow_add-result-2
@@ -18,5 +18,5 @@ overflow_add-result-2 c =
     let t = c.requires.command.train in
     let r = c.requires.command.route in
     let l = c.len-routes.ensures in
-    let small = given_small c.args.command.train.0 c.args.command.route.0 c.len-routes.result c.args.self.now.steps.count (omega arith) (omega arith) (omega arith) c.args.self.now.steps.most t.0 r.0 in
+    let small = given_small c.args.command.train.0 c.args.command.route.0 c.len-routes.result c.args.self.now.steps.count (omega arith) (omega arith) (omega arith) c.args.self.now.steps.at_most_256 t.0 r.0 in
     omega arith

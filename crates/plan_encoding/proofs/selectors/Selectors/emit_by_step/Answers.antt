@@ -8,8 +8,8 @@ use Rattle.plan_encoding.proofs.selectors.Selectors.emit_by_step.Goals as goal
 
 pub overflow_add-by : goal.overflow_add-by
 overflow_add-by c =
-    let low = c.args.self.now.low in
-    let most = c.args.self.now.tables.now.encoder.steps.most in
+    let low = c.args.self.now.at_most_73536000 in
+    let most = c.args.self.now.tables.now.encoder.steps.at_most_256 in
     let step = c.requires.step in
     omega arith
 

@@ -1,5 +1,5 @@
 use Rattle.std.proofs.Common.{flat_map, ap, ◌∙◌}
-use Rattle.clause_spec.specs.Variables.{pairs_of}
+use Rattle.clause_spec.specs.Variables.{pairs_before}
 use Rattle.plan_encoding.specs.Waiting.{apart_once}
 use Rattle.plan_encoding.specs.Sinks.{emitted}
 use Rattle.plan_encoding.specs.Encoders.{over, numbered_clauses}
@@ -11,7 +11,7 @@ use Rattle.plan_encoding.proofs.tables.Tables.emit_apart.Goals as goal
 pub loop-command-init : goal.loop-command-init
 loop-command-init c =
     ap (λ cs. emitted c.args.sink.now (numbered_clauses c.args.self.now.encoder cs))
-    (ap (λ xs. flat_map (λ e. flat_map (over c.args.self.now.encoder apart_once) (pairs_of c.args.self.now.encoder.interlocking.now.design.station c.args.self.now.encoder.interlocking.now.routes e)) xs) (c.deref-command-items.ensures.value ∙ c.args.self.now.every_command) ∙ apart_are c.args.self.now.encoder.interlocking.now.design.station c.args.self.now.encoder.interlocking.now.routes c.args.self.now.encoder.steps.count)
+    (ap (λ xs. flat_map (λ e. flat_map (over c.args.self.now.encoder apart_once) (pairs_before c.args.self.now.encoder.interlocking.now.design.station c.args.self.now.encoder.interlocking.now.routes e)) xs) (c.deref-command-items.ensures.value ∙ c.args.self.now.every_command) ∙ apart_are c.args.self.now.encoder.interlocking.now.design.station c.args.self.now.encoder.interlocking.now.routes c.args.self.now.encoder.steps.count)
 
 pub rivals-requires : goal.rivals-requires
 rivals-requires c = record { command = known_commands c.args.self.now c.deref-command-items.result.now c.deref-command-items.ensures.value c.loop-command.command-index _ c.loop-command-test.true }

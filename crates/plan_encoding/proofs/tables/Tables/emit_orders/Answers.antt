@@ -13,7 +13,7 @@ use Rattle.plan_encoding.proofs.Ordering.{length-kept, pairs_more, pairs_to, num
 use Rattle.plan_encoding.proofs.Tabled.{next_rivals, commands_few, known_commands, known_rivals}
 use Rattle.plan_encoding.specs.Sinks.{emitted}
 use Rattle.plan_encoding.specs.Encoders.{over, numbered_clauses}
-use Rattle.clause_spec.specs.Variables.{pairs_of}
+use Rattle.clause_spec.specs.Variables.{pairs_before}
 use Rattle.plan_encoding.proofs.Sequences.{parts_parts}
 use Rattle.plan_encoding.proofs.tables.Tables.emit_orders.Goals as goal
 
@@ -30,8 +30,8 @@ invariant_of-contenders c = record {
   rivals_known = known_rivals c.args.self.now.encoder _ _ (c.deref.ensures.value ∙ c.in_ok-rivals.ensures);
   room =
       let high = ((admitted c.args.self.now.encoder.interlocking.now.design.station c.args.self.now.encoder.interlocking.now.design.admitted).many_trains).1 in
-      let few = commands_few c.args.self.now.encoder.interlocking.now.design.station c.args.self.now.encoder.interlocking.now.routes high c.args.self.now.encoder.interlocking.now.few in
-      let own = own_few (length c.args.self.now.encoder.interlocking.now.design.station.trains) (length c.args.self.now.encoder.interlocking.now.routes) c.args.self.now.encoder.steps.count high c.args.self.now.encoder.interlocking.now.few c.args.self.now.encoder.steps.most in
+      let few = commands_few c.args.self.now.encoder.interlocking.now.design.station c.args.self.now.encoder.interlocking.now.routes high c.args.self.now.encoder.interlocking.now.at_most_2000 in
+      let own = own_few (length c.args.self.now.encoder.interlocking.now.design.station.trains) (length c.args.self.now.encoder.interlocking.now.routes) c.args.self.now.encoder.steps.count high c.args.self.now.encoder.interlocking.now.at_most_2000 c.args.self.now.encoder.steps.at_most_256 in
       let counted = c.loop-command.invariant.counted in
       let many = ap length (c.deref-command-items.ensures.value ∙ c.args.self.now.every_command) in
       let within : c.loop-command.command-index < length (all_commands c.args.self.now.encoder.interlocking.now.design.station c.args.self.now.encoder.interlocking.now.routes) = (let t = c.loop-command-test.true in omega arith) in
@@ -57,8 +57,8 @@ invariant_of-contenders c = record {
 pub loop-command-preserved : goal.loop-command-preserved
 loop-command-preserved c =
     let high = ((admitted c.args.self.now.encoder.interlocking.now.design.station c.args.self.now.encoder.interlocking.now.design.admitted).many_trains).1 in
-    let few = commands_few c.args.self.now.encoder.interlocking.now.design.station c.args.self.now.encoder.interlocking.now.routes high c.args.self.now.encoder.interlocking.now.few in
-    let own = own_few (length c.args.self.now.encoder.interlocking.now.design.station.trains) (length c.args.self.now.encoder.interlocking.now.routes) c.args.self.now.encoder.steps.count high c.args.self.now.encoder.interlocking.now.few c.args.self.now.encoder.steps.most in
+    let few = commands_few c.args.self.now.encoder.interlocking.now.design.station c.args.self.now.encoder.interlocking.now.routes high c.args.self.now.encoder.interlocking.now.at_most_2000 in
+    let own = own_few (length c.args.self.now.encoder.interlocking.now.design.station.trains) (length c.args.self.now.encoder.interlocking.now.routes) c.args.self.now.encoder.steps.count high c.args.self.now.encoder.interlocking.now.at_most_2000 c.args.self.now.encoder.steps.at_most_256 in
     let counted = c.loop-command.invariant.counted in
     let many = ap length (c.deref-command-items.ensures.value ∙ c.args.self.now.every_command) in
     let within : c.loop-command.command-index < length (all_commands c.args.self.now.encoder.interlocking.now.design.station c.args.self.now.encoder.interlocking.now.routes) = (let t = c.loop-command-test.true in omega arith) in
@@ -82,7 +82,7 @@ loop-command-preserved c =
 pub overflow_cast-last : goal.overflow_cast-last
 overflow_cast-last c =
     let high = ((admitted c.args.self.now.encoder.interlocking.now.design.station c.args.self.now.encoder.interlocking.now.design.admitted).many_trains).1 in
-    let few = commands_few c.args.self.now.encoder.interlocking.now.design.station c.args.self.now.encoder.interlocking.now.routes high c.args.self.now.encoder.interlocking.now.few in
+    let few = commands_few c.args.self.now.encoder.interlocking.now.design.station c.args.self.now.encoder.interlocking.now.routes high c.args.self.now.encoder.interlocking.now.at_most_2000 in
     let many = ap length c.args.self.now.every_command in
     let len = c.len.ensures in
     omega arith
@@ -90,10 +90,10 @@ overflow_cast-last c =
 pub overflow_mul-last : goal.overflow_mul-last
 overflow_mul-last c =
     let high = ((admitted c.args.self.now.encoder.interlocking.now.design.station c.args.self.now.encoder.interlocking.now.design.admitted).many_trains).1 in
-    let few = commands_few c.args.self.now.encoder.interlocking.now.design.station c.args.self.now.encoder.interlocking.now.routes high c.args.self.now.encoder.interlocking.now.few in
+    let few = commands_few c.args.self.now.encoder.interlocking.now.design.station c.args.self.now.encoder.interlocking.now.routes high c.args.self.now.encoder.interlocking.now.at_most_2000 in
     let many = ap length c.args.self.now.every_command in
     let len = c.len.ensures in
-    let all : c.len.result * c.args.self.now.encoder.steps.count ≤ 256000 * 256 = mul-le c.len.result c.args.self.now.encoder.steps.count 256000 256 (omega arith) c.args.self.now.encoder.steps.most in
+    let all : c.len.result * c.args.self.now.encoder.steps.count ≤ 256000 * 256 = mul-le c.len.result c.args.self.now.encoder.steps.count 256000 256 (omega arith) c.args.self.now.encoder.steps.at_most_256 in
     omega arith
 
 pub loop-command-init : goal.loop-command-init
@@ -107,8 +107,8 @@ loop-command-init c = record {
   spent = omega arith;
   left =
       ap (λ cs. emitted c.args.sink.now (numbered_clauses c.args.self.now.encoder cs))
-      (ap (λ xs. flat_map (λ e. flat_map (over c.args.self.now.encoder in_order) (pairs_of c.args.self.now.encoder.interlocking.now.design.station c.args.self.now.encoder.interlocking.now.routes e)) xs) (c.deref-command-items.ensures.value ∙ c.args.self.now.every_command)
-      ∙ sym (parts_parts (over c.args.self.now.encoder in_order) (pairs_of c.args.self.now.encoder.interlocking.now.design.station c.args.self.now.encoder.interlocking.now.routes) (all_commands c.args.self.now.encoder.interlocking.now.design.station c.args.self.now.encoder.interlocking.now.routes)));
+      (ap (λ xs. flat_map (λ e. flat_map (over c.args.self.now.encoder in_order) (pairs_before c.args.self.now.encoder.interlocking.now.design.station c.args.self.now.encoder.interlocking.now.routes e)) xs) (c.deref-command-items.ensures.value ∙ c.args.self.now.every_command)
+      ∙ sym (parts_parts (over c.args.self.now.encoder in_order) (pairs_before c.args.self.now.encoder.interlocking.now.design.station c.args.self.now.encoder.interlocking.now.routes) (all_commands c.args.self.now.encoder.interlocking.now.design.station c.args.self.now.encoder.interlocking.now.routes)));
 }
   where
     zero_more : (n : ℕ) → n ≡ n + 0
@@ -117,8 +117,8 @@ loop-command-init c = record {
 pub overflow_cast-last-in-loop-command : goal.overflow_cast-last-in-loop-command
 overflow_cast-last-in-loop-command c =
     let high = ((admitted c.args.self.now.encoder.interlocking.now.design.station c.args.self.now.encoder.interlocking.now.design.admitted).many_trains).1 in
-    let few = commands_few c.args.self.now.encoder.interlocking.now.design.station c.args.self.now.encoder.interlocking.now.routes high c.args.self.now.encoder.interlocking.now.few in
-    let own = own_few (length c.args.self.now.encoder.interlocking.now.design.station.trains) (length c.args.self.now.encoder.interlocking.now.routes) c.args.self.now.encoder.steps.count high c.args.self.now.encoder.interlocking.now.few c.args.self.now.encoder.steps.most in
+    let few = commands_few c.args.self.now.encoder.interlocking.now.design.station c.args.self.now.encoder.interlocking.now.routes high c.args.self.now.encoder.interlocking.now.at_most_2000 in
+    let own = own_few (length c.args.self.now.encoder.interlocking.now.design.station.trains) (length c.args.self.now.encoder.interlocking.now.routes) c.args.self.now.encoder.steps.count high c.args.self.now.encoder.interlocking.now.at_most_2000 c.args.self.now.encoder.steps.at_most_256 in
     let counted = c.loop-command.invariant.counted in
     let many = ap length (c.deref-command-items.ensures.value ∙ c.args.self.now.every_command) in
     let within : c.loop-command.command-index < length (all_commands c.args.self.now.encoder.interlocking.now.design.station c.args.self.now.encoder.interlocking.now.routes) = (let t = c.loop-command-test.true in omega arith) in
@@ -137,8 +137,8 @@ overflow_cast-last-in-loop-command c =
 pub overflow_add-last : goal.overflow_add-last
 overflow_add-last c =
     let high = ((admitted c.args.self.now.encoder.interlocking.now.design.station c.args.self.now.encoder.interlocking.now.design.admitted).many_trains).1 in
-    let few = commands_few c.args.self.now.encoder.interlocking.now.design.station c.args.self.now.encoder.interlocking.now.routes high c.args.self.now.encoder.interlocking.now.few in
-    let own = own_few (length c.args.self.now.encoder.interlocking.now.design.station.trains) (length c.args.self.now.encoder.interlocking.now.routes) c.args.self.now.encoder.steps.count high c.args.self.now.encoder.interlocking.now.few c.args.self.now.encoder.steps.most in
+    let few = commands_few c.args.self.now.encoder.interlocking.now.design.station c.args.self.now.encoder.interlocking.now.routes high c.args.self.now.encoder.interlocking.now.at_most_2000 in
+    let own = own_few (length c.args.self.now.encoder.interlocking.now.design.station.trains) (length c.args.self.now.encoder.interlocking.now.routes) c.args.self.now.encoder.steps.count high c.args.self.now.encoder.interlocking.now.at_most_2000 c.args.self.now.encoder.steps.at_most_256 in
     let counted = c.loop-command.invariant.counted in
     let many = ap length (c.deref-command-items.ensures.value ∙ c.args.self.now.every_command) in
     let within : c.loop-command.command-index < length (all_commands c.args.self.now.encoder.interlocking.now.design.station c.args.self.now.encoder.interlocking.now.routes) = (let t = c.loop-command-test.true in omega arith) in
@@ -157,7 +157,7 @@ overflow_add-last c =
 pub returns-clause-bound : goal.returns-clause-bound
 returns-clause-bound c =
     let high = ((admitted c.args.self.now.encoder.interlocking.now.design.station c.args.self.now.encoder.interlocking.now.design.admitted).many_trains).1 in
-    let own = own_few (length c.args.self.now.encoder.interlocking.now.design.station.trains) (length c.args.self.now.encoder.interlocking.now.routes) c.args.self.now.encoder.steps.count high c.args.self.now.encoder.interlocking.now.few c.args.self.now.encoder.steps.most in
+    let own = own_few (length c.args.self.now.encoder.interlocking.now.design.station.trains) (length c.args.self.now.encoder.interlocking.now.routes) c.args.self.now.encoder.steps.count high c.args.self.now.encoder.interlocking.now.at_most_2000 c.args.self.now.encoder.steps.at_most_256 in
     let counted = c.loop-command.invariant.counted in
     let few = c.loop-command.invariant.few in
     omega arith

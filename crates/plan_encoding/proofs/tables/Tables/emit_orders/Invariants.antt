@@ -1,5 +1,5 @@
 use Rattle.std.proofs.Common.{◌≡◌, ◌+◌, ◌*◌, ◌≤◌, flat_map, drop, length}
-use Rattle.clause_spec.specs.Variables.{pairs_of}
+use Rattle.clause_spec.specs.Variables.{pairs_before}
 use Rattle.clause_spec.specs.Clauses.{in_order}
 use Rattle.plan_encoding.specs.Sinks.{emitted}
 use Rattle.plan_encoding.specs.Families.{all_in_order}
@@ -13,6 +13,6 @@ invariant-loop-command l = record {
   counted : l.last ≡ length (station l.self.encoder).trains * length (table l.self.encoder) * l.self.encoder.steps.count + length (pairs_to (station l.self.encoder) (table l.self.encoder) l.command-index);
   few : length (pairs_to (station l.self.encoder) (table l.self.encoder) l.command-index) ≤ 8000000;
   spent : 2 * length (pairs_to (station l.self.encoder) (table l.self.encoder) l.command-index) ≤ l.sink.literals;
-  left : emitted l.sink (numbered_clauses l.self.encoder (flat_map (λ e. flat_map (over l.self.encoder in_order) (pairs_of (station l.self.encoder) (table l.self.encoder) e)) (drop l.command-index l.command-items)))
+  left : emitted l.sink (numbered_clauses l.self.encoder (flat_map (λ e. flat_map (over l.self.encoder in_order) (pairs_before (station l.self.encoder) (table l.self.encoder) e)) (drop l.command-index l.command-items)))
       ≡ emitted l.fn.sink (numbered_clauses l.self.encoder (all_in_order l.self.encoder));
 }

@@ -1,5 +1,5 @@
 use Rattle.std.proofs.Common.{flat_map, sym, ap, ◌∙◌}
-use Rattle.clause_spec.specs.Variables.{pairs_of}
+use Rattle.clause_spec.specs.Variables.{pairs_before}
 use Rattle.clause_spec.specs.Clauses.{waits}
 use Rattle.plan_encoding.specs.Sinks.{emitted}
 use Rattle.plan_encoding.specs.Encoders.{over, numbered_clauses}
@@ -13,7 +13,7 @@ use Rattle.plan_encoding.proofs.tables.Tables.emit_waits.Goals as goal
 pub loop-command-init : goal.loop-command-init
 loop-command-init c =
     ap (λ cs. emitted c.args.sink.now (numbered_clauses c.args.self.now.encoder cs))
-    (ap (λ xs. flat_map (λ e. flat_map (over c.args.self.now.encoder waits) (pairs_of c.args.self.now.encoder.interlocking.now.design.station c.args.self.now.encoder.interlocking.now.routes e)) xs) (c.deref-command-items.ensures.value ∙ c.args.self.now.every_command) ∙ sym (parts_parts (over c.args.self.now.encoder waits) (pairs_of c.args.self.now.encoder.interlocking.now.design.station c.args.self.now.encoder.interlocking.now.routes) (all_commands c.args.self.now.encoder.interlocking.now.design.station c.args.self.now.encoder.interlocking.now.routes)))
+    (ap (λ xs. flat_map (λ e. flat_map (over c.args.self.now.encoder waits) (pairs_before c.args.self.now.encoder.interlocking.now.design.station c.args.self.now.encoder.interlocking.now.routes e)) xs) (c.deref-command-items.ensures.value ∙ c.args.self.now.every_command) ∙ sym (parts_parts (over c.args.self.now.encoder waits) (pairs_before c.args.self.now.encoder.interlocking.now.design.station c.args.self.now.encoder.interlocking.now.routes) (all_commands c.args.self.now.encoder.interlocking.now.design.station c.args.self.now.encoder.interlocking.now.routes)))
 
 pub rivals-requires : goal.rivals-requires
 rivals-requires c = record { command = known_commands c.args.self.now c.deref-command-items.result.now c.deref-command-items.ensures.value c.loop-command.command-index _ c.loop-command-test.true }
@@ -36,6 +36,6 @@ loop-command-preserved c =
 pub returns-then-self-eq1-clause-ok : goal.returns-then-self-eq1-clause-ok
 returns-then-self-eq1-clause-ok c =
     ap (λ cs. emitted c.args.sink.now (numbered_clauses c.args.self.now.encoder cs))
-    (parts_parts (over c.args.self.now.encoder waits) (pairs_of c.args.self.now.encoder.interlocking.now.design.station c.args.self.now.encoder.interlocking.now.routes) (all_commands c.args.self.now.encoder.interlocking.now.design.station c.args.self.now.encoder.interlocking.now.routes)
-    ∙ (ap (λ n. flat_map (λ e. flat_map (waits c.args.self.now.encoder.interlocking.now.design.station c.args.self.now.encoder.interlocking.now.routes n) (pairs_of c.args.self.now.encoder.interlocking.now.design.station c.args.self.now.encoder.interlocking.now.routes e)) (all_commands c.args.self.now.encoder.interlocking.now.design.station c.args.self.now.encoder.interlocking.now.routes)) c.if-self-eq1.true
+    (parts_parts (over c.args.self.now.encoder waits) (pairs_before c.args.self.now.encoder.interlocking.now.design.station c.args.self.now.encoder.interlocking.now.routes) (all_commands c.args.self.now.encoder.interlocking.now.design.station c.args.self.now.encoder.interlocking.now.routes)
+    ∙ (ap (λ n. flat_map (λ e. flat_map (waits c.args.self.now.encoder.interlocking.now.design.station c.args.self.now.encoder.interlocking.now.routes n) (pairs_before c.args.self.now.encoder.interlocking.now.design.station c.args.self.now.encoder.interlocking.now.routes e)) (all_commands c.args.self.now.encoder.interlocking.now.design.station c.args.self.now.encoder.interlocking.now.routes)) c.if-self-eq1.true
     ∙ no_waits c.args.self.now.encoder.interlocking.now.design.station c.args.self.now.encoder.interlocking.now.routes (all_commands c.args.self.now.encoder.interlocking.now.design.station c.args.self.now.encoder.interlocking.now.routes)))

@@ -7,7 +7,7 @@ pub slice-requires-clause-formed : goal.slice-requires-clause-formed
 slice-requires-clause-formed c =
     let f = c.args.self.now in
     let i = f.contention.interlocking.now in
-    formed_so i.design.station f.steps.count i.routes i.table f.plan.now.steps f.runs 256 f.steps.most
+    formed_so i.design.station f.steps.count i.routes i.table f.plan.now.steps f.runs 256 f.steps.at_most_256
 
 pub slice-requires-clause-fails : goal.slice-requires-clause-fails
 slice-requires-clause-fails c =
@@ -21,12 +21,12 @@ clause_of-requires c =
     let i = f.contention.interlocking.now in
     record {
       fits = (holds_of_valid i.design.station i.routes c.in_ok-cone.cone
-          (refutes_so i.design.station f.steps.count i.routes i.table f.plan.now.steps f.runs (admitted i.design.station i.design.admitted) f.each f.steps.some f.steps.most c.in_ok-cone.cone c.in_ok-cone.ensures.refutes c.in_ok-cone.ensures.small).valid).in_design;
+          (refutes_so i.design.station f.steps.count i.routes i.table f.plan.now.steps f.runs (admitted i.design.station i.design.admitted) f.each f.steps.at_least_one f.steps.at_most_256 c.in_ok-cone.cone c.in_ok-cone.ensures.refutes c.in_ok-cone.ensures.is_small).valid).in_design;
     }
 
 pub returns : goal.returns
 returns c =
     let f = c.args.self.now in
     let i = f.contention.interlocking.now in
-    excluded_so i.design.station f.steps.count i.routes i.table f.plan.now.steps f.runs (admitted i.design.station i.design.admitted) f.each f.steps.some f.steps.most c.in_ok-cone.cone c.in_ok-cone.ensures.refutes c.in_ok-cone.ensures.small
+    excluded_so i.design.station f.steps.count i.routes i.table f.plan.now.steps f.runs (admitted i.design.station i.design.admitted) f.each f.steps.at_least_one f.steps.at_most_256 c.in_ok-cone.cone c.in_ok-cone.ensures.refutes c.in_ok-cone.ensures.is_small
     c.args.method f.history.now f.tick f.violation f.fails c.in_ok-cone.ensures.value c.in_ok-line.line.items c.in_ok-clause.clause.items c.in_ok-line.ensures c.in_ok-clause.ensures

@@ -7,7 +7,7 @@ use Rattle.proof_judge.proofs.evidence.ByDesign.bound_clause.Goals as goal
 mapped : (o p : Option (Vec Lit Global)) (r : Option (List Lit)) → o ≡ p → option_map (λ v. v.items) o ≡ r → option_map (λ v. v.items) p ≡ r
 mapped o p r e h = subst (λ x. option_map (λ v. v.items) x ≡ r) e h
 
--- the reason that is told is the reason
+-- the reason that is said is the reason
 told : (r : Result (List Lit) EvidenceFault) (known fault : EvidenceFault) → r ≡ Err known → known ≡ fault → r ≡ Err fault
 told r known fault e same = e ∙ ap Err same
 
@@ -24,9 +24,9 @@ returns-then-not-branch-2-clause-fault c = λ fault e.
 pub returns-then-not-branch-3-clause-fault : goal.returns-then-not-branch-3-clause-fault
 returns-then-not-branch-3-clause-fault c = λ fault e.
     let i = c.args.self.now.contention.interlocking.now in
-    told _ _ fault (not_shown i.design.station i.routes i.table c.args.self.now.steps.count c.args.bound.now (sym c.in_ok-names_design.ensures ∙ c.if-not-branch.false) c.in-Some.clause.items (mapped _ _ _ c.in-Some.is c.in_ok-clause.ensures) (sym c.in_ok-is_covered.ensures ∙ c.if-not-branch-2.false) (sym c.in_ok-is_shown.ensures ∙ c.if-not-branch-3.true)) cc
+    told _ _ fault (not_shown i.design.station i.routes i.table c.args.self.now.steps.count c.args.bound.now (sym c.in_ok-names_design.ensures ∙ c.if-not-branch.false) c.in-Some.clause.items (mapped _ _ _ c.in-Some.is c.in_ok-clause.ensures) (sym c.in_ok-is_covered.ensures ∙ c.if-not-branch-2.false) (sym c.in_ok-shows_failure.ensures ∙ c.if-not-branch-3.true)) cc
 
 pub returns-clause-ok : goal.returns-clause-ok
 returns-clause-ok c =
     let i = c.args.self.now.contention.interlocking.now in
-    accepted i.design.station i.routes i.table c.args.self.now.steps.count c.args.bound.now (sym c.in_ok-names_design.ensures ∙ c.if-not-branch.false) c.in-Some.clause.items (mapped _ _ _ c.in-Some.is c.in_ok-clause.ensures) (sym c.in_ok-is_covered.ensures ∙ c.if-not-branch-2.false) (sym c.in_ok-is_shown.ensures ∙ c.if-not-branch-3.false)
+    accepted i.design.station i.routes i.table c.args.self.now.steps.count c.args.bound.now (sym c.in_ok-names_design.ensures ∙ c.if-not-branch.false) c.in-Some.clause.items (mapped _ _ _ c.in-Some.is c.in_ok-clause.ensures) (sym c.in_ok-is_covered.ensures ∙ c.if-not-branch-2.false) (sym c.in_ok-shows_failure.ensures ∙ c.if-not-branch-3.false)

@@ -10,13 +10,13 @@ use Rattle.rail_course.specs.Milestones.{AreMilestones, ComeInTurn}
 use Rattle.rail_course.specs.TrainPaths.{IsTrainPath}
 use Rattle.rail_course.specs.Journeys.{IsJourney}
 use Rattle.rail_course.specs.Releases.{releases_of_train}
-use Rattle.rail_course.specs.Telling.{TellWhatIsReady}
+use Rattle.rail_course.specs.Ready.{GiveWhatIsReady}
 use Rattle.rail_course.proofs.train_paths.TrainPaths.journey.Goals as goal
 
 -- a journey on the same paths
 same_paths : (d : Station) (routes : List Route) (p : Dispatch) (path : TrainNo → List RouteNo) (j : Journey) → path ≡ p.path → IsTrainPath d routes (path j.train_path.now.train) j.train_path.now
     → AreMilestones (map (λ (r : Release). r.place) j.releases.items) j.release_milestones.items → ComeInTurn (λ (r : Release). r.place) (λ (r : Release). r.number) j.releases.items
-    → j.releases.items ≡ releases_of_train d routes (record { path = path; before = p.before; concerns = p.concerns }) j.train_path.now.train → TellWhatIsReady d routes p j.train_path.now.train (map (λ v. v.items) j.waits.items) → IsJourney d routes p j
+    → j.releases.items ≡ releases_of_train d routes (record { path = path; before = p.before; concerns = p.concerns }) j.train_path.now.train → GiveWhatIsReady d routes p j.train_path.now.train (map (λ v. v.items) j.waits.items) → IsJourney d routes p j
 same_paths d routes p path j same train_path milestones in_turn releases tell = record {
   train_path = subst (λ path. IsTrainPath d routes (path j.train_path.now.train) j.train_path.now) same train_path;
   telling = tell;

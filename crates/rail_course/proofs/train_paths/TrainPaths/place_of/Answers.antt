@@ -5,7 +5,7 @@ use Rattle.rail_spec.specs.Plans.{is_route}
 use Rattle.rail_spec.specs.Dispatches.{routes_before}
 use Rattle.rail_course.specs.Prefixes.{no_prefix}
 use Rattle.rail_course.specs.Itineraries.{going_in}
-use Rattle.rail_course.proofs.Coursing.{number_is, number_fits, prefix_is, before_short}
+use Rattle.rail_course.proofs.Numbered.{number_is, number_fits, prefix_is, before_short}
 use Rattle.rail_course.proofs.train_paths.TrainPaths.place_of.Goals as goal
 
 pub bounds-prefixes-number : goal.bounds-prefixes-number
@@ -38,5 +38,5 @@ returns c =
     let train_path = c.train_path-train_path.result.now in
     let number : c.number_of-number.result ≡ length (before_first (λ r. is_route r c.args.command.route) train_path.path.items) = c.number_of-number.ensures.value ∙ ap (λ p. length (before_first (λ r. is_route r c.args.command.route) p)) c.as_slice.ensures.value in
     let begin : (get_or c.as_slice-prefixes.result.now c.number_of-number.result no_prefix).length ≡ sum_by length_mm (routes_before d routes p c.args.command) = ap₂ (λ fs n. (get_or fs n no_prefix).length) c.as_slice-prefixes.ensures.value number ∙ prefix_is d routes p train_path c.train_path-train_path.ensures.train_path c.args.command c.train_path-train_path.ensures.train no_prefix in
-    let short = before_short d routes p train_path c.train_path-train_path.ensures.train_path c.args.command c.train_path-train_path.ensures.train in
-    record { number = number ∙ number_is d routes p train_path c.train_path-train_path.ensures.train_path c.args.command c.train_path-train_path.ensures.train; length = begin; short = omega arith }
+    let below_2_47 = before_short d routes p train_path c.train_path-train_path.ensures.train_path c.args.command c.train_path-train_path.ensures.train in
+    record { number = number ∙ number_is d routes p train_path c.train_path-train_path.ensures.train_path c.args.command c.train_path-train_path.ensures.train; length = begin; below_2_47 = omega arith }

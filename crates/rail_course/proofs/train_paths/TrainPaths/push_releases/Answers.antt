@@ -20,7 +20,7 @@ loop-part-init c =
 pub overflow_add-before : goal.overflow_add-before
 overflow_add-before c =
     let i = c.args.self.now.given.interlocking.now in
-    let short = c.place_of-before.ensures.short in
+    let short = c.place_of-before.ensures.below_2_47 in
     let near = brief i c.args.number in
     let small = part_small i c.args.number c.as_slice-part-items.result.now c.loop-part.part-index c.offset_of.result (record { 0 = 0 }, pos 0) (c.as_slice-part-items.ensures ∙ ap (λ (r : Route). r.sections) c.route_at-route.ensures) c.loop-part-test.true c.offset_of.ensures in
     omega (arith, short, near, small)
@@ -28,7 +28,7 @@ overflow_add-before c =
 pub overflow_add-before-in-loop-part : goal.overflow_add-before-in-loop-part
 overflow_add-before-in-loop-part c =
     let i = c.args.self.now.given.interlocking.now in
-    let short = c.place_of-before.ensures.short in
+    let short = c.place_of-before.ensures.below_2_47 in
     let near = brief i c.args.number in
     let small = part_small i c.args.number c.as_slice-part-items.result.now c.loop-part.part-index c.offset_of.result (record { 0 = 0 }, pos 0) (c.as_slice-part-items.ensures ∙ ap (λ (r : Route). r.sections) c.route_at-route.ensures) c.loop-part-test.true c.offset_of.ensures in
     let long = c.train_path-train_path.ensures.train_path.long in

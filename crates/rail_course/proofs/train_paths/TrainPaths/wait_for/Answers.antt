@@ -3,7 +3,7 @@ use Rattle.rail_base.specs.Stations.{train_length}
 use Rattle.rail_base.specs.Routes.{route_at, release_offset, length_mm, shared}
 use Rattle.interlocking.specs.Sections.{last_release}
 use Rattle.rail_course.proofs.Rating.{vehicle_is_good}
-use Rattle.rail_course.proofs.Coursing.{fold_within, wait_same}
+use Rattle.rail_course.proofs.Numbered.{fold_within, wait_same}
 use Rattle.rail_course.proofs.Granting.{brief, laid_out}
 use Rattle.rail_course.proofs.train_paths.TrainPaths.wait_for.Goals as goal
 
@@ -15,7 +15,7 @@ overflow_add-result c =
     let same : train_path.train ≡ c.args.other.train = c.train_path-train_path.ensures.train in
     let is = c.train_path-train_path.ensures.train_path in
     let begin = c.place_of-before.ensures.length in
-    let short = c.place_of-before.ensures.short in
+    let short = c.place_of-before.ensures.below_2_47 in
     let release : c.last_release-release.result ≡ last_release (route_at routes c.args.other.route) (route_at routes c.args.command.route) = c.last_release-release.ensures in
     let released = fold_within (release_offset (route_at routes c.args.other.route)) (length_mm (route_at routes c.args.other.route)) 0 (shared (route_at routes c.args.other.route) (route_at routes c.args.command.route)) (omega arith) ((laid_out c.args.self.now.given.interlocking.now).each c.args.other.route).releases in
     let near = brief c.args.self.now.given.interlocking.now c.args.other.route in
@@ -31,7 +31,7 @@ overflow_add-result-2 c =
     let same : train_path.train ≡ c.args.other.train = c.train_path-train_path.ensures.train in
     let is = c.train_path-train_path.ensures.train_path in
     let begin = c.place_of-before.ensures.length in
-    let short = c.place_of-before.ensures.short in
+    let short = c.place_of-before.ensures.below_2_47 in
     let release : c.last_release-release.result ≡ last_release (route_at routes c.args.other.route) (route_at routes c.args.command.route) = c.last_release-release.ensures in
     let released = fold_within (release_offset (route_at routes c.args.other.route)) (length_mm (route_at routes c.args.other.route)) 0 (shared (route_at routes c.args.other.route) (route_at routes c.args.command.route)) (omega arith) ((laid_out c.args.self.now.given.interlocking.now).each c.args.other.route).releases in
     let near = brief c.args.self.now.given.interlocking.now c.args.other.route in
@@ -47,7 +47,7 @@ returns c =
     let same : train_path.train ≡ c.args.other.train = c.train_path-train_path.ensures.train in
     let is = c.train_path-train_path.ensures.train_path in
     let begin = c.place_of-before.ensures.length in
-    let short = c.place_of-before.ensures.short in
+    let short = c.place_of-before.ensures.below_2_47 in
     let release : c.last_release-release.result ≡ last_release (route_at routes c.args.other.route) (route_at routes c.args.command.route) = c.last_release-release.ensures in
     let released = fold_within (release_offset (route_at routes c.args.other.route)) (length_mm (route_at routes c.args.other.route)) 0 (shared (route_at routes c.args.other.route) (route_at routes c.args.command.route)) (omega arith) ((laid_out c.args.self.now.given.interlocking.now).each c.args.other.route).releases in
     let near = brief c.args.self.now.given.interlocking.now c.args.other.route in

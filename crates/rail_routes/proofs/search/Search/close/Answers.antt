@@ -33,7 +33,7 @@ loop-edge-preserved c =
     let e = c.in_ok-edge.edge in
     record {
       track = c.in_ok-closed.ensures.track ∙ c.in_ok-edge.ensures.track ∙ c.loop-edge.invariant.track;
-      innermost = (here, record { on_path = omega arith; node = on.0; some = on.1 });
+      innermost = (here, record { on_path = omega arith; node = on.0; has_next = on.1 });
       same =
           ap (λ n. at_level d new.path.edges.items (record { after = n; from = c.in-On.end; tried = 0 }) ++ rest) here
           ∙ ap (λ (cs : List Walk). cs ++ rest) (level_walks d new.path.edges.items c.in-On.end most)

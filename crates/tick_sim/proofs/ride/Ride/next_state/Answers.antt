@@ -2,7 +2,7 @@ use Rattle.std.proofs.Common.{◌≡◌, map, slice_get, ap, ap₂, sym, ◌∙�
 use Rattle.rail_base.proofs.Admitting.{admitted}
 use Rattle.rail_base.specs.declared.state.TrainState.{TrainState}
 use Rattle.rail_spec.specs.Dispatches.{of_plan, granted_after, moved}
-use Rattle.rail_course.specs.Telling.{TellWhatIsReady}
+use Rattle.rail_course.specs.Ready.{GiveWhatIsReady}
 use Rattle.rail_course.specs.Granting.{granted_on}
 use Rattle.tick_sim.specs.Runs.{CanMove}
 use Rattle.tick_sim.proofs.Reaching.{granted_is, can_move_on}
@@ -16,7 +16,7 @@ move_train-requires c =
     let t = c.args.self.now.journey.now.train_path.now.train in
     let s = c.args.states.now in
     let here = c.state_of-state.ensures in
-    let tell = subst (TellWhatIsReady d routes (of_plan routes plan) t) (sym (ap (map (λ v. v.items)) c.as_slice.ensures.value)) c.args.self.now.led.telling in
+    let tell = subst (GiveWhatIsReady d routes (of_plan routes plan) t) (sym (ap (map (λ v. v.items)) c.as_slice.ensures.value)) c.args.self.now.led.telling in
     let grant : c.granted_on-granted.result ≡ granted_after d routes (of_plan routes plan) s t =
     c.granted_on-granted.ensures ∙ ap (λ (x : TrainState). granted_on s x.granted (slice_get (map (λ v. v.items) c.as_slice.result.now) x.granted)) here
     ∙ granted_is d routes plan s c.requires t (map (λ v. v.items) c.as_slice.result.now) tell in
@@ -31,7 +31,7 @@ returns c =
     let t = c.args.self.now.journey.now.train_path.now.train in
     let s = c.args.states.now in
     let here = c.state_of-state.ensures in
-    let tell = subst (TellWhatIsReady d routes (of_plan routes plan) t) (sym (ap (map (λ v. v.items)) c.as_slice.ensures.value)) c.args.self.now.led.telling in
+    let tell = subst (GiveWhatIsReady d routes (of_plan routes plan) t) (sym (ap (map (λ v. v.items)) c.as_slice.ensures.value)) c.args.self.now.led.telling in
     let grant : c.granted_on-granted.result ≡ granted_after d routes (of_plan routes plan) s t =
     c.granted_on-granted.ensures ∙ ap (λ (x : TrainState). granted_on s x.granted (slice_get (map (λ v. v.items) c.as_slice.result.now) x.granted)) here
     ∙ granted_is d routes plan s c.requires t (map (λ v. v.items) c.as_slice.result.now) tell in

@@ -16,7 +16,7 @@ next_histories-requires-clause-now c =
     let routes = c.args.self.now.interlocking.now.routes in
     let plan = c.args.self.now.plan.now.steps in
     record {
-      first = c.loop-tick.invariant.first;
+      at_least_one = c.loop-tick.invariant.first;
       is = c.as_slice-in-loop-tick.ensures.value ∙ c.in_ok-states-2.ensures ∙ ap (tick d routes (of_plan routes plan) 0) (c.as_slice.ensures.value ∙ c.loop-tick.invariant.states) ∙ state_next d routes plan c.loop-tick.tick c.loop-tick.invariant.first;
     }
 

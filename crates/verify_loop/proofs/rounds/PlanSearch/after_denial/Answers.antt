@@ -21,5 +21,5 @@ returns-then-is_empty-clause-ends c =
 pub longer-requires-clause-known : goal.longer-requires-clause-known
 longer-requires-clause-known c =
     let n = c.args.self.now.base.now.steps in
-    let less : c.args.search.steps < n = elim (le-split c.args.search.steps n c.requires.last) [ inl p ↦ p | inr q ↦ absurd (c.if-search-counts.false (q ∙ sym c.counts.ensures.steps)) ] in
+    let less : c.args.search.steps < n = elim (le-split c.args.search.steps n c.requires.at_most_n) [ inl p ↦ p | inr q ↦ absurd (c.if-search-counts.false (q ∙ sym c.counts.ensures.steps)) ] in
     (c.requires.of_these (some-so c.args.core.now c.is_empty.result c.is_empty.ensures c.if-is_empty.false) less).0

@@ -15,7 +15,7 @@ invariant_of-failed c =
     let good = admitted d c.args.self.now.interlocking.now.design.admitted in
     let found = c.requires.found in record {
       runs = subst (λ (k : ℕ). IsRunnable d (routes_of d) k plan) (sym c.steps.ensures) found.1.runnable;
-      each = each_given m d n good c.args.self.now.some found.0 plan found.1;
+      each = each_given m d n good c.args.self.now.at_least_one found.0 plan found.1;
       fails = c.requires.fails;
-      told = subst (λ (k : ℕ). AreValuesOfPlan d k c.args.values.now plan) (sym c.steps.ensures) c.requires.told;
+      decoded = subst (λ (k : ℕ). AreValuesOfPlan d k c.args.values.now plan) (sym c.steps.ensures) c.requires.are_values;
     }

@@ -16,15 +16,15 @@ returns c =
         log = s.log;
         limit = s.limit;
         same_vars = s.same_vars;
-        small = s.small;
+        below_2_32 = s.below_2_32;
         below = s.below;
         derived = s.derived;
         learnt = s.learnt;
         plans = s.plans;
         cost = s.cost;
         left = s.left;
-        first = omega arith;
-        last = omega (arith, less);
+        at_least_one = omega arith;
+        at_most_n = omega (arith, less);
         fewer = λ k h. elim (le-split k c.args.search.steps (omega (arith, h))) [ inl p ↦ s.fewer k p | inr q ↦ subst (IsInfeasible d) (sym q) c.requires.known ];
       },
       omega arith,

@@ -11,7 +11,7 @@ use Rattle.verify_loop.proofs.rounds.PlanSearch.refine.Goals.{else-search-most-v
 pub longer-requires-clause-known : goal.longer-requires-clause-known
 longer-requires-clause-known c =
     let one = c.args.search.solver in
-    known_so c.args.self.now.method c.args.self.now.interlocking.now.design.station c.args.self.now.base.now.steps c.args.self.now.budgets c.args.self.now.some one.recorder one.vars one.derives c.args.search.failed.items c.args.search.sum c.args.search.steps c.requires
+    known_so c.args.self.now.method c.args.self.now.interlocking.now.design.station c.args.self.now.base.now.steps c.args.self.now.budgets c.args.self.now.at_least_one one.recorder one.vars one.derives c.args.search.failed.items c.args.search.sum c.args.search.steps c.requires
     (admitted c.args.self.now.interlocking.now.design.station c.args.self.now.interlocking.now.design.admitted) denials (denied_is_so c.args.self.now.method)
     (subst (λ (z : Lit). HasUnit one.recorder.arena (opposite z)) c.by_step.ensures (c.is_refuted.ensures.yes c.if-is_refuted.true))
 

@@ -67,7 +67,7 @@ returns-in-Ok-Met-clause-ends c =
     let spent = c.requires.at.search.left in
     let cheap = early.0 in (
       met_feasible d c.args.plan.steps c.args.self.now.base.now.steps c.in-Ok-Met.history c.in-Ok-Met.tick good c.requires.at.found.runnable (sym early.1),
-      λ s less. (let short = c.requires.at.short in c.requires.at.search.fewer s (omega arith)),
+      λ s less. (let short = c.requires.at.within_steps in c.requires.at.search.fewer s (omega arith)),
       early.1 ∙ sym (by_horizon d c.args.plan.steps good),
       reached_so c.args.self.now.method d c.args.self.now.base.now.steps c.args.self.now.budgets one.recorder one.vars one.derives c.args.search.failed.items c.args.search.sum c.args.search.steps c.args.plan.steps c.requires.at (omega (arith, cheap, spent)),
     )

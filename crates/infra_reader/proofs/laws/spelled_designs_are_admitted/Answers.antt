@@ -1,5 +1,0 @@
-use Rattle.infra_reader.proofs.Reading.{spelled_admitted}
-use Rattle.infra_reader.proofs.laws.spelled_designs_are_admitted.Goals as goal
-
-pub returns : goal.returns
-returns c = spelled_admitted

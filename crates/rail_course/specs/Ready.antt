@@ -1,0 +1,30 @@
+-- Waits that say which commands are ready.
+use Rattle.std.specs.Prelude.{◌≡◌, ℕ, List, length, slice_get, Some}
+use Rattle.std.specs.List.{list_all}
+use Rattle.rail_base.specs.declared.station.Station.{Station}
+use Rattle.rail_base.specs.declared.station.SectionNo.{SectionNo}
+use Rattle.rail_base.specs.declared.station.TrainNo.{TrainNo}
+use Rattle.rail_base.specs.declared.route.Route.{Route}
+use Rattle.rail_base.specs.declared.route.RouteNo.{RouteNo}
+use Rattle.rail_base.specs.declared.plan.Command.{Command}
+use Rattle.rail_base.specs.declared.state.TrainState.{TrainState}
+use Rattle.rail_base.specs.Members.{In}
+use Rattle.rail_base.specs.Routes.{route_at, sections}
+use Rattle.rail_base.specs.Stations.{IsTrain}
+use Rattle.rail_spec.specs.Dispatches.{Dispatch, state_of, state_at, has_released, is_ready}
+use Rattle.rail_course.specs.declared.waits.Wait.{Wait}
+use Rattle.rail_course.specs.Waits.{is_over}
+
+module _ (d : Station) (routes : List Route) (p : Dispatch) where
+  -- the states show what is granted and what is released at a tick of the run, wherever else trains are in them
+  pub record ShowTick (k : ℕ) (s : List TrainState) : Type 0 where
+    pub granted : (t : TrainNo) → IsTrain d t → (state_of s t).granted ≡ (state_of (state_at d routes p k) t).granted
+    pub released : (c : Command) (z : SectionNo) → In z (sections (route_at routes c.route))
+        → has_released d routes p s c z ≡ has_released d routes p (state_at d routes p k) c z
+
+  -- there are waits for each command of the train's path, and at each tick those of the next one are over exactly where it is ready
+  pub record GiveWhatIsReady (t : TrainNo) (waits : List (List Wait)) : Type 0 where
+    pub waits_a_route : length waits ≡ length (p.path t)
+    pub next : (k : ℕ) (s : List TrainState) → ShowTick k s → (r : RouteNo) (own : List Wait)
+        → slice_get (p.path t) (state_of s t).granted ≡ Some r → slice_get waits (state_of s t).granted ≡ Some own
+        → list_all (is_over s) own ≡ is_ready d routes p s (record { train = t; route = r })
