@@ -134,6 +134,12 @@ def in_rows(lines, trains, steps, length, speed, behind):
     return design, starts
 
 
+def braked(designed, brake):
+    """The design and what belongs to it, of which the vehicle brakes at this rate."""
+    designed[0].vehicle["brake_mm_s2"] = brake
+    return designed
+
+
 def round_a_loop(rounds, edges, length, speed):
     """A train that goes round a loop of many edges again and again, and another that waits until it is through. Where the loop begins
     and ends a tree of switches joins as many tracks, each with a signal, so that the train comes by another one each time: the design,
@@ -171,9 +177,9 @@ def round_a_loop(rounds, edges, length, speed):
     return design, [f"boundary:{entry}"] + [f"signal:{signal['name']}" for signal in design.entries["signal"]]
 
 
-def looped(program, folder, rounds, *track):
+def looped(program, folder, brake, rounds, *track):
     """The words of a simulation of a train that goes round a loop so often, each time by the next signal, and of one behind it."""
-    design, starts = round_a_loop(rounds, *track)
+    design, starts = braked(round_a_loop(rounds, *track), brake)
     path = folder / "design.toml"
     path.write_text(design.text())
     listed = subprocess.run([program, "routes", path], stdout=subprocess.PIPE, text=True, check=True).stdout
@@ -231,7 +237,9 @@ def commands(program, folder):
     yield "32 trains in turn over long edges, all demands", 2, "", simulated(program, folder, in_turn(32, 1_998, 100_000, 100_000))
     yield "128 trains in turn over 1,998 nodes each, all demands", 2, "met", simulated(program, folder, in_turn(128, 1_998, 1_000, 10_000))
     yield "128 trains in turn over long edges, all demands", 2, "fails", simulated(program, folder, in_turn(128, 1_998, 100_000, 100_000))
-    yield "a train 44 times round a loop of 1,850 edges", 2, "met", looped(program, folder, 44, 1_850, 20_000, 20_000)
+    yield "the same with brakes of 100 mm/s2", 2, "fails", simulated(program, folder, braked(in_turn(128, 1_998, 100_000, 100_000), 100))
+    yield "a train 44 times round a loop of 1,850 edges", 2, "met", looped(program, folder, 700, 44, 1_850, 20_000, 20_000)
+    yield "the same with brakes of 1 mm/s2", 2, "fails", looped(program, folder, 1, 44, 1_850, 20_000, 20_000)
     yield "128 trains in a row over up to 256 routes each", 2, "met", simulated(program, folder, in_rows(1, 128, 256, 10_000, 20_000, 2))
     yield "126 trains in three rows over up to 256 routes each", 2, "met", simulated(program, folder, in_rows(3, 126, 256, 10_000, 20_000, 2))
     refused = "plan refused P4 step 1 train train0 section section0"
