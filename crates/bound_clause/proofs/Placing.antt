@@ -1,5 +1,5 @@
 -- The variable of the order of two contending commands, by the place of their pair.
-use Rattle.std.proofs.Common.{◌≡◌, ℕ, List, length, Some, get_or, sym, ap, subst, ◌∙◌}
+use Rattle.std.proofs.Common.{◌≡◌, ℕ, List, length, Some, get_or, sym, subst, ◌∙◌}
 use Rattle.std.specs.List.{slice_get}
 use Rattle.std.proofs.lemmas.Option.{slice_get-get_or}
 use Rattle.rail_base.specs.declared.station.Station.{Station}

@@ -32,8 +32,8 @@ pub fn clauses_stand_in_order()
         → all_pairs (λ (l m : Lit). nat_lt l.var m.var) (numbered_bound d routes n b) ≡ true }
 {}
 
-/// Where no values that make the sorted base of n steps and the clauses of valid cones and certificates true say that all
-/// is given by step k, no plan of k steps is feasible, sorted or not.
+/// Where no values that make the sorted base of n steps and the clauses of valid cones and certificates true say that
+/// all is given by step k, no plan of k steps is feasible, sorted or not.
 pub fn refuted_designs_are_infeasible()
     ensures { (d : Station) → IsAdmitted d → (n k : ℕ) (cones : List Cone) (bounds : List Bound) → 1 ≤ k → k ≤ n
         → list_all (is_valid_cone d (routes_of d)) cones ≡ true

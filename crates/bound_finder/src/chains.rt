@@ -104,7 +104,8 @@ impl Search<'_> {
         Ok(Some(layer))
     }
 
-    /// The last legs of a goal, with ticks from the grant of their first command, or from a visit's place on their first route.
+    /// The last legs of a goal, with ticks from the grant of their first command, or from a visit's place on their
+    /// first route.
     fn ends(&mut self, goal: &Goal, from: Option<Visit>) -> Result<Vec<End>, AllocError> {
         let mut ends = Vec::new(self.alloc);
         let Some(last) = self.last_of_goal(goal) else {

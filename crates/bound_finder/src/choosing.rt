@@ -90,7 +90,8 @@ impl Wide<'_, '_> {
 }
 
 impl Search<'_> {
-    /// Whether a train uses a route by the cone from which ticks are counted: it names it, or one that no other can follow.
+    /// Whether a train uses a route by the cone from which ticks are counted: it names it, or one that no other can
+    /// follow.
     pub(crate) fn is_known(&self, form: &Form<'_>, train: TrainNo, number: RouteNo) -> bool {
         if form.names(train, number) {
             return true;
@@ -111,8 +112,8 @@ impl Search<'_> {
         self.paths.step(Command { train, route }).is_some()
     }
 
-    /// The least ticks of a leg with a route at a place, over its own routes before and these walks behind; none where on one of
-    /// them nothing is known.
+    /// The least ticks of a leg with a route at a place, over its own routes before and these walks behind; none where
+    /// on one of them nothing is known.
     pub(crate) fn ticks_with(
         &mut self,
         wide: &Wide<'_, '_>,
@@ -146,7 +147,8 @@ impl Search<'_> {
         Ok(Some(least))
     }
 
-    /// The routes of a list that a place may have, and the rest kept out; none where one that the plan uses may not be had.
+    /// The routes of a list that a place may have, and the rest kept out; none where one that the plan uses may not be
+    /// had.
     pub(crate) fn choice(
         &mut self,
         wide: &Wide<'_, '_>,
@@ -225,7 +227,8 @@ impl Search<'_> {
         contend(self.interlocking, earlier, own) && self.is_after(own, earlier)
     }
 
-    /// Whether a route of a leg's last place contends with all that wait for the leg, and none of them is used before it.
+    /// Whether a route of a leg's last place contends with all that wait for the leg, and none of them is used before
+    /// it.
     fn may_release(&self, wide: &Wide<'_, '_>, route: RouteNo) -> bool {
         let Some(next) = wide.next else {
             return true;

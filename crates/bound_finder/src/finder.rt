@@ -22,7 +22,8 @@ const MOST_CHOICES: [usize; 3] = [256, 16, 2];
 /// No more widened bounds are proposed.
 const MOST_BOUNDS: usize = 3;
 
-/// Looks for lower bounds by which plans fail. Keeps the least ticks that it has found out, which are those of one design.
+/// Looks for lower bounds by which plans fail. Keeps the least ticks that it has found out, which are those of one
+/// design.
 #[derive(Drop)]
 pub struct Finder {
     alloc: Global,
@@ -49,8 +50,8 @@ impl Finder {
         }
     }
 
-    /// Bounds that may exclude a plan that fails in this way, the best first; each is still to be judged and tried against
-    /// the plan. `Err` where memory ran out; the finder may then be used on.
+    /// Bounds that may exclude a plan that fails in this way, the best first; each is still to be judged and tried
+    /// against the plan. `Err` where memory ran out; the finder may then be used on.
     pub fn bounds(
         &mut self,
         contention: &Contention,

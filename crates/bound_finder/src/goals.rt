@@ -62,7 +62,8 @@ impl Goal {
         }
     }
 
-    /// The goal with ticks counted from the start of the run, where a cone shows that the first visit is made at a tick.
+    /// The goal with ticks counted from the start of the run, where a cone shows that the first visit is made at a
+    /// tick.
     pub(crate) fn from_cone(&self, tick: u64) -> Goal {
         let least = if self.is_order() { 0 } else { self.least };
         Goal {

@@ -35,7 +35,8 @@ impl Search<'_> {
         longest(self.waits.as_slice(), next)
     }
 
-    /// The ticks up to which the trains are followed to know what one does by a tick, none where that does not end soon.
+    /// The ticks up to which the trains are followed to know what one does by a tick, none where that does not end
+    /// soon.
     pub(crate) fn horizons(
         &self,
         train: TrainNo,

@@ -25,8 +25,8 @@ pub(crate) struct Search<'a> {
     pub waits: Vec<Wait>,
 }
 
-/// A command that waits for the last of some commands of another train, and the least ticks from the grant of their first
-/// to where the last has released what the command waits for.
+/// A command that waits for the last of some commands of another train, and the least ticks from the grant of their
+/// first to where the last has released what the command waits for.
 #[derive(Clone, Copy)]
 pub(crate) struct Link {
     pub span: Span,
@@ -35,8 +35,8 @@ pub(crate) struct Link {
 }
 
 impl Search<'_> {
-    /// The least ticks of a train on a walk to where it has released what a route waits for, from a visit's place on it or
-    /// from the grant of its first route; none where the visit is past that.
+    /// The least ticks of a train on a walk to where it has released what a route waits for, from a visit's place on it
+    /// or from the grant of its first route; none where the visit is past that.
     pub(crate) fn ticks_to_release(
         &mut self,
         train: TrainNo,
@@ -104,7 +104,8 @@ impl Search<'_> {
         Ok(own)
     }
 
-    /// The last command of a goal's last leg: the first with which its visit can be made, or the one that is to be granted.
+    /// The last command of a goal's last leg: the first with which its visit can be made, or the one that is to be
+    /// granted.
     pub(crate) fn last_of_goal(&self, goal: &Goal) -> Option<usize> {
         let (first, end) = self.paths.span(goal.train);
         for index in first..end {
@@ -128,8 +129,8 @@ impl Search<'_> {
         None
     }
 
-    /// The least ticks of a train on a walk to a place, from a visit's place on it or from the grant of its first route;
-    /// none where the visit is past that.
+    /// The least ticks of a train on a walk to a place, from a visit's place on it or from the grant of its first
+    /// route; none where the visit is past that.
     fn ticks_from(
         &mut self,
         train: TrainNo,

@@ -13,7 +13,8 @@ use rail_base::route::{Finish, RouteNo};
 use rail_base::station::TrainNo;
 use std::alloc::{AllocError, Global};
 
-/// Each stretch of each track is looked at in each tick; of a certificate that asks for more looks fewer ticks are known.
+/// Each stretch of each track is looked at in each tick; of a certificate that asks for more looks fewer ticks are
+/// known.
 const MOST_LOOKS: u64 = 33_554_432;
 
 /// A leg that was widened, its least ticks and those of the leg before, and how many stretches its tracks have.
@@ -129,7 +130,8 @@ impl Search<'_> {
         Ok(list)
     }
 
-    /// The best choice for the last place of a leg that another waits for: from the routes on which some visit can be made.
+    /// The best choice for the last place of a leg that another waits for: from the routes on which some visit can be
+    /// made.
     fn choice_of_visits(
         &mut self,
         wide: &Wide<'_, '_>,

@@ -19,7 +19,8 @@ ghost use Rattle.free_spec.specs.Runs.{InEveryRun};
 ghost use Rattle.bound_spec.specs.declared.Bound.{Bound};
 ghost use Rattle.bound_spec.specs.Events.{Event, has_happened, Takes, granting, heading, reaching, HopTakes};
 ghost use Rattle.bound_spec.specs.Walks.{walks, least_walk, LieIn};
-ghost use Rattle.bound_spec.specs.Rides.{Ride, chain_ticks, chain_ticks_from, wait_ticks, Rides, granted_first, walk_of, passes};
+ghost use Rattle.bound_spec.specs.Rides.{Ride, chain_ticks, chain_ticks_from, wait_ticks, Rides, granted_first};
+ghost use Rattle.bound_spec.specs.Rides.{walk_of, passes};
 ghost use Rattle.bound_spec.specs.Rides.{first_target, Chained, arrives, waits_out};
 ghost use Rattle.bound_spec.specs.Clauses.{clause_of_bound};
 ghost use Rattle.bound_spec.specs.Validity.{is_valid_bound};
@@ -36,8 +37,8 @@ pub fn hops_take_their_least_ticks()
         HopTakes d (routes_of d) plan (at x) (at y) (least_ticks d t l h (x - 1) y - 1)) }
 {}
 
-/// The other hops: from a release to a grant that waits for it, and from a grant to a later one of the same train. Ticks of
-/// hops add up, and may be taken as fewer.
+/// The other hops: from a release to a grant that waits for it, and from a grant to a later one of the same train.
+/// Ticks of hops add up, and may be taken as fewer.
 pub fn hops_add_up()
     ensures clear { (d : Station) (routes : List Route) (plan : List (List Command)) (e c : Command) (z : SectionNo)
         → In e (preceding routes plan c) → In z (shared (route_at routes e.route) (route_at routes c.route))
@@ -53,17 +54,17 @@ pub fn hops_add_up()
         → Takes d (routes_of d) plan e f b k → Takes d (routes_of d) plan e f a k) }
 {}
 
-/// Of a walk in a train's path of which each route is one of its place it is enough to know the places: it takes the least
-/// of what all walks through them take.
+/// Of a walk in a train's path of which each route is one of its place it is enough to know the places: it takes the
+/// least of what all walks through them take.
 pub fn walks_take_the_least_of_their_places()
     ensures { InEveryRun (λ d plan. (t : TrainNo) (before rs more : List Route)
         → path_routes (routes_of d) plan t ≡ before ++ (rs ++ more) → (places : List (List Route)) → LieIn rs places
         → (f : List Route → ℕ) (h c : ℕ) → f rs ≤ c → least_walk f h (walks places) ≤ c) }
 {}
 
-/// A chain of rides, each of which waits for what the one before releases, takes the sum of their least ticks over all walks
-/// through their places: from the grant of the first ride, or from a place on it, to a place on the last, or to its grant.
-/// Of each ride no more than h ticks are counted.
+/// A chain of rides, each of which waits for what the one before releases, takes the sum of their least ticks over all
+/// walks through their places: from the grant of the first ride, or from a place on it, to a place on the last, or to
+/// its grant. Of each ride no more than h ticks are counted.
 pub fn chains_of_rides_take_their_ticks()
     ensures granted { InEveryRun (λ d plan. let routes = routes_of d in
         (r : Ride) (i : Rides d routes plan r) (ss : List Ride) (c : Chained d routes plan r i ss)

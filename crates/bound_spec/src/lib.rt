@@ -1,5 +1,5 @@
-//! Lower bounds: how many ticks a chain of trains that wait for each other takes at the least, however other trains move,
-//! and what that says of all plans.
+//! Lower bounds: how many ticks a chain of trains that wait for each other takes at the least, however other trains
+//! move, and what that says of all plans.
 #![tactic(auto)]
 
 pub mod laws;
@@ -34,8 +34,8 @@ pub enum Origin {
     Start,
     /// From the start of the run, where the first of the requirement's two visits is made in the first tick.
     FirstTick,
-    /// From the start of the run, where the first of the two visits is made at this tick in the run of a cone. The cone's
-    /// violation is that of the requirement.
+    /// From the start of the run, where the first of the two visits is made at this tick in the run of a cone. The
+    /// cone's violation is that of the requirement.
     Cone { tick: u64, cone: Cone },
 }
 

@@ -4,7 +4,8 @@ ghost use Rattle.std.specs.Prelude.{◌≡◌, ◌≤◌, ◌/◌, All, IfOk, mi
 ghost use Rattle.rail_base.specs.Routes.{IsRoute};
 ghost use Rattle.rail_base.specs.Stations.{horizon};
 ghost use Rattle.rail_course.specs.Tracks.{routes_at};
-ghost use Rattle.bound_spec.specs.Validity.{most_looks, stretches_in, stretches_of, stretches_of_leg, stretches_of_walk};
+ghost use Rattle.bound_spec.specs.Validity.{most_looks, stretches_in, stretches_of, stretches_of_leg};
+ghost use Rattle.bound_spec.specs.Validity.{stretches_of_walk};
 ghost use Rattle.bound_ticks.specs.Looks.{cap};
 ghost use Rattle.bound_ticks.specs.Walks.{IsLeg};
 

@@ -4,7 +4,8 @@ ghost use Rattle.std.specs.Prelude.{◌≡◌, ◌++◌, ◌∷◌, [], codes, d
 ghost use Rattle.rail_outside.specs.Lines.{lines_of};
 ghost use Rattle.cone_words.specs.Phrases.{sentence};
 ghost use Rattle.rail_base.specs.declared.plan.Violation.TheVariants as violation;
-ghost use Rattle.cone_words.specs.Cones.{followed_text, opening_line, holder_text, train_text, pair_text, parts_sentences};
+ghost use Rattle.cone_words.specs.Cones.{followed_text, opening_line, holder_text, train_text, pair_text};
+ghost use Rattle.cone_words.specs.Cones.{parts_sentences};
 ghost use Rattle.cone_words.specs.Cones.{missed_text, by_horizon_text, failure_text, cone_sentences};
 
 use crate::entries::{order_of, within_of};

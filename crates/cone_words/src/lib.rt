@@ -1,5 +1,5 @@
-//! What cones mean, in sentences with the names of the design. A route is named by its number. Each sentence begins with the number
-//! of a file's line, and ends with an LF. Wherever a call answers with an error, it is want of memory.
+//! What cones mean, in sentences with the names of the design. A route is named by its number. Each sentence begins
+//! with the number of a file's line, and ends with an LF. Wherever a call answers with an error, it is want of memory.
 #![tactic(auto)]
 
 mod cones;

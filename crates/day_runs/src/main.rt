@@ -1,5 +1,5 @@
-//! Runs a plan of a station again and again, to measure what a run of a day takes. In the plan each of two trains waits for the
-//! other, so that it cannot be carried out, and no command reads it; its run goes on to the horizon.
+//! Runs a plan of a station again and again, to measure what a run of a day takes. In the plan each of two trains waits
+//! for the other, so that it cannot be carried out, and no command reads it; its run goes on to the horizon.
 #![tactic(auto)]
 
 mod named;

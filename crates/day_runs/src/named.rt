@@ -43,7 +43,8 @@ fn all_are_of(interlocking: &Interlocking, step: &List<Command>) -> bool
 
 /// Whether each command of each step does.
 fn all_steps_are_of(interlocking: &Interlocking, plan: &Plan) -> bool
-    ensures { result ≡ list_all (list_all (is_of interlocking.now.design.station interlocking.now.routes)) plan.now.steps }
+    ensures { result ≡ list_all
+        (list_all (is_of interlocking.now.design.station interlocking.now.routes)) plan.now.steps }
 {
     plan.steps
         .as_slice()

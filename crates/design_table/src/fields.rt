@@ -71,7 +71,8 @@ impl<'a> Fields<'a> {
     /// Refuses a key that is none of these.
     pub fn only(self, known: &[Key]) -> Result<(), DesignFault>
         ensures { let unknown = UnknownField self.entry.kind self.entry.number in
-            ReadsOrRefuses (λ x. x) result Code.D02 (at (has_unknown known.now (table_view self.entry.table.now)) unknown) tt }
+            ReadsOrRefuses (λ x. x) result Code.D02
+            (at (has_unknown known.now (table_view self.entry.table.now)) unknown) tt }
     {
         if has_unknown_key(self.table, known) {
             Err(form_fault(Place::UnknownField(self.kind, self.number)))

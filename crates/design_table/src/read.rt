@@ -39,7 +39,8 @@ const TOP_KEYS: [Key; 10] = [
 /// takes the top keys in order; at an array the array itself and then its entries, each with its keys in order and
 /// then any unknown key; and last any unknown top key.
 pub fn read_sheet<'a>(alloc: Global, table: &'a Table) -> Result<Sheet<'a>, DesignFault>
-    ensures { ReadsOrRefuses sheet_seen result Code.D02 (form_fault (table_view table.now)) (sheet_of (table_view table.now)) }
+    ensures { ReadsOrRefuses sheet_seen result Code.D02 (form_fault (table_view table.now))
+        (sheet_of (table_view table.now)) }
 {
     let version = read_whole(table, Key::Version)?;
     let tick_ms = read_whole(table, Key::TickMs)?;

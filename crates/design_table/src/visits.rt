@@ -3,7 +3,8 @@
 ghost use Rattle.std.specs.Prelude.{◌≡◌, map, not};
 ghost use Rattle.std.specs.List.{list_all};
 ghost use Rattle.toml.specs.View.{view, table_view, items_view};
-ghost use Rattle.design_table.specs.Forms.{found, list_of_items, is_name_value, name_value, is_visit, visit_of, is_visits};
+ghost use Rattle.design_table.specs.Forms.{found, list_of_items, is_name_value, name_value, is_visit, visit_of};
+ghost use Rattle.design_table.specs.Forms.{is_visits};
 ghost use Rattle.design_table.specs.Forms.{visits_of};
 ghost use Rattle.design_table.specs.Reads.{ReadsOrRefuses, at, ReadsParsed};
 ghost use Rattle.design_table.specs.Texts.{texts, visits_seen};

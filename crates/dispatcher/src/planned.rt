@@ -58,8 +58,8 @@ fn push_step(
     Ok(())
 }
 
-/// For each train, in file order, the waits of each command of its path. Each command waits for those that stand last on its
-/// sections before its step.
+/// For each train, in file order, the waits of each command of its path. Each command waits for those that stand last
+/// on its sections before its step.
 fn waits_of_all(planned: &PlannedTrainPaths, alloc: Global) -> Result<Vec<Waits>, AllocError>
     ensures { IfOk result (λ waits. AreKnown planned.now (length planned.now.plan.now.steps) waits.items) }
 {

@@ -21,7 +21,8 @@ pub(crate) fn turn(
     alloc: Global,
     step: &[Command],
 ) -> Result<(), AllocError>
-    requires every_section { length queues.old.items ≡ length train_paths.now.given.interlocking.now.design.station.sections }
+    requires every_section { length queues.old.items
+        ≡ length train_paths.now.given.interlocking.now.design.station.sections }
     requires step { All (IsCommandIn train_paths.now.given) step.now }
     ensures same_length { length queues.new.items ≡ length queues.old.items }
     ensures turned { OnOk result ((z : SectionNo) → queue_at queues.new.items z
@@ -40,11 +41,13 @@ fn leave_all(
     alloc: Global,
     step: &[Command],
 )
-    requires every_section { length queues.old.items ≡ length train_paths.now.given.interlocking.now.design.station.sections }
+    requires every_section { length queues.old.items
+        ≡ length train_paths.now.given.interlocking.now.design.station.sections }
     requires step { All (IsCommandIn train_paths.now.given) step.now }
     ensures same_length { length queues.new.items ≡ length queues.old.items }
     ensures left { (z : SectionNo) → queue_at queues.new.items z
-        ≡ (if list_any (λ c. has_section (route_at train_paths.now.given.interlocking.now.routes c.route) z) step.now then []
+        ≡ (if list_any (λ c. has_section (route_at train_paths.now.given.interlocking.now.routes c.route) z) step.now
+        then []
         else queue_at queues.old.items z) }
 {
     for command in step {
@@ -63,12 +66,14 @@ fn enter_all(
     alloc: Global,
     step: &[Command],
 ) -> Result<(), AllocError>
-    requires every_section { length queues.old.items ≡ length train_paths.now.given.interlocking.now.design.station.sections }
+    requires every_section { length queues.old.items
+        ≡ length train_paths.now.given.interlocking.now.design.station.sections }
     requires step { All (IsCommandIn train_paths.now.given) step.now }
     ensures same_length { length queues.new.items ≡ length queues.old.items }
     ensures entered { OnOk result ((z : SectionNo) → queue_at queues.new.items z
         ≡ queue_at queues.old.items z
-        ++ map (wait_in train_paths.now.given z) (on_section train_paths.now.given.interlocking.now.routes z step.now)) }
+        ++ map (wait_in train_paths.now.given z)
+        (on_section train_paths.now.given.interlocking.now.routes z step.now)) }
 {
     for command in step {
         let releases = train_paths.releases_of(alloc, *command)?;

@@ -1,10 +1,10 @@
 -- Words and the lines of a drawing.
-use Rattle.std.proofs.Common.{◌≡◌, ℕ, ◌⊎◌, inl, inr, List, [], ◌∷◌, ◌++◌, map, ap, sym, subst, refl, true, ◌&&◌}
+use Rattle.std.proofs.Common.{ℕ, inl, inr, List, [], ◌∷◌, ◌++◌, map, ap, sym, subst}
 use Rattle.rail_base.specs.Members.{In}
 use Rattle.drawing.specs.declared.shape.Shape.{Shape}
 use Rattle.drawing.specs.declared.shape.Shape.TheVariants.{Line, Bar, Dot, Words, Note}
-use Rattle.drawing.specs.Lines.{end_line, ground_line, head_line, shape_line, text_line}
-use Rattle.drawing.specs.Drawing.{IsDrawingOf, drawing_of, words_in}
+use Rattle.drawing.specs.Lines.{end_line, shape_line, text_line}
+use Rattle.drawing.specs.Drawing.{drawing_of, words_in}
 use Rattle.drawing.specs.Laws.{Shows, WordsAreInLines}
 
 -- the line stands behind

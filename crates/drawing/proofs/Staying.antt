@@ -2,7 +2,7 @@
 use Rattle.std.proofs.Common.{◌≡◌, ℕ, Bool, true, false, ◌&&◌, List, [], ◌∷◌, refl, ap, arith}
 use Rattle.std.specs.List.{list_all}
 use Rattle.std.proofs.lemmas.Bool.Decides.{nat_tests}
-use Rattle.drawing.specs.Parts.{escaped, escaped_byte}
+use Rattle.drawing.specs.Parts.{escaped_byte}
 use Rattle.drawing.specs.Laws.{NamesStay, is_plain_byte}
 
 both : (p q : Bool) → (p && q) ≡ true → (p ≡ true) × (q ≡ true)

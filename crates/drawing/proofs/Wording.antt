@@ -1,6 +1,5 @@
 -- The words of a picture with one more shape.
-use Rattle.std.proofs.Common.{◌≡◌, ℕ, ◌+◌, ◌<◌, ◌≤◌, List, [], ◌∷◌, ◌++◌, length, take, map, get_or, Option, Some, None, Result, Ok, Err, OnOk, ◌∙◌, refl, ap, append_assoc}
-use Rattle.std.specs.List.{filter_map}
+use Rattle.std.proofs.Common.{◌≡◌, ℕ, ◌+◌, ◌<◌, ◌≤◌, List, [], ◌∷◌, ◌++◌, length, take, map, get_or, Some, None, Result, Ok, Err, OnOk, ◌∙◌, refl, ap, append_assoc}
 use Rattle.std.proofs.lemmas.List.{append-nil, take_more, map-append, take_all}
 use Rattle.std.proofs.lemmas.List.Elements.{filter_map-append}
 use Rattle.drawing.specs.declared.shape.Shape.{Shape}

@@ -12,7 +12,8 @@ ghost use Rattle.bound_ticks.specs.Claims.{requirement_fits};
 ghost use Rattle.rail_base.specs.declared.station.Station.{Station};
 ghost use Rattle.cone_words.specs.Phrases.{sentence};
 ghost use Rattle.cone_words.specs.Cones.{parts_sentences};
-ghost use Rattle.evidence_words.specs.Bounds.{after_of, arrives_text, bound_sentences, chain_sentences, counted_after, end_text};
+ghost use Rattle.evidence_words.specs.Bounds.{after_of, arrives_text, bound_sentences, chain_sentences, counted_after};
+ghost use Rattle.evidence_words.specs.Bounds.{end_text};
 ghost use Rattle.evidence_words.specs.Bounds.{end_tick, first_tick, horizon_text, origin_of_visit_text, origin_parts};
 ghost use Rattle.evidence_words.specs.Bounds.{made_text, origin_text, origin_tick, passed, since_text, start_text};
 

@@ -42,8 +42,8 @@ pub fn put_moment(
     }
 }
 
-/// Legs that wait for each other, from when their ticks are counted, how many of each at the most, and to which visit: none
-/// where they end with a grant.
+/// Legs that wait for each other, from when their ticks are counted, how many of each at the most, and to which visit:
+/// none where they end with a grant.
 #[derive(Clone, Copy)]
 pub struct Chain<'a> {
     pub interlocking: &'a Interlocking,
@@ -64,8 +64,8 @@ impl Chain<'_> {
     ghost use Rattle.cone_words.specs.Phrases.{sentence};
     ghost use Rattle.evidence_words.specs.Bounds.{leg_text, legs_sentences, wait_text};
 
-    /// Appends the sentences about legs of which the first one's first command is granted at this tick at the earliest, and gives
-    /// the tick at which they are through at the earliest.
+    /// Appends the sentences about legs of which the first one's first command is granted at this tick at the earliest,
+    /// and gives the tick at which they are through at the earliest.
     pub fn push_legs(
         &self,
         alloc: Global,

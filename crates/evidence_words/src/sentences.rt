@@ -10,8 +10,8 @@ use cone_words::push_cone;
 use interlocking::Interlocking;
 use std::alloc::{AllocError, Global};
 
-/// Appends the sentences about a cone or a bound, each with its LF, that a file's line of this number gives. Of a bound the
-/// ticks are those that its legs take at the least.
+/// Appends the sentences about a cone or a bound, each with its LF, that a file's line of this number gives. Of a bound
+/// the ticks are those that its legs take at the least.
 ///
 /// # Errors
 ///

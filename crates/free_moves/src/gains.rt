@@ -46,8 +46,8 @@ fn end_of(span: &Span) -> u64
     span.end as u64
 }
 
-/// Whether the distance since the end of a span is enough to gain a speed from its limit. Only a span that ends past `from`, and up
-/// to the place, matters.
+/// Whether the distance since the end of a span is enough to gain a speed from its limit. Only a span that ends past
+/// `from`, and up to the place, matters.
 fn allows(span: &Span, from: u64, accel: u64, place: u64, speed: u64) -> bool
     requires accel { 1 ≤ accel }
     requires speed { speed ≤ 100000 }

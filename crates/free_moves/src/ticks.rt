@@ -41,7 +41,8 @@ pub fn run_ticks(
     Ok(trip.least_ticks(alloc, walk)?.saturating_sub(1))
 }
 
-/// The least ticks from one place on a walk to another (both in mm from the walk's start), whatever follows the walk, or
+/// The least ticks from one place on a walk to another (both in mm from the walk's start), whatever follows the walk,
+/// or
 /// `most` where so many don't reach the second place. `Err` where memory ran out.
 pub fn on_ticks(
     alloc: Global,

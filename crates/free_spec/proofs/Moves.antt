@@ -16,7 +16,7 @@ use Rattle.rail_spec.specs.Plans.{path_routes, length_mm, exits, is_well_formed}
 use Rattle.rail_spec.specs.Motion.{MotorSeen, SpanSeen, limit_at, KeepsLimits, keeps_limits, may_stop, can_brake, permitted, next_speed}
 use Rattle.rail_spec.specs.Dispatches.{state_of, rates, stretch, stretches, authority, of_plan, granted_after, moved}
 use Rattle.rail_spec.specs.Dispatches.{state_at}
-use Rattle.rail_base.proofs.Members.{and_left, and_right, and_both}
+use Rattle.rail_base.proofs.Members.{and_right, and_both}
 use Rattle.rail_laws.proofs.MotionLaws.{farthest, IsFarther, keeps_limits_from, can_brake-stop, can_brake_keeps, can_brake_slower, permitted_reach, permitted_brakes, permitted_further, next_speed_permitted}
 use Rattle.rail_laws.proofs.Exclusion.{by_tick}
 use Rattle.rail_laws.proofs.UnderWay.{IsSound, Travels, authority_some, still, next_grants, travels}

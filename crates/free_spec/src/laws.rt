@@ -1,6 +1,7 @@
 //! What holds of all runs, each law the contract of a function that does nothing.
 
-ghost use Rattle.std.specs.Prelude.{◌≡◌, ℕ, suc, ◌+◌, ◌-◌, ◌*◌, ◌/◌, ◌≤◌, ◌<◌, Bool, true, false, Option, List, ◌++◌, take, length, sum_by};
+ghost use Rattle.std.specs.Prelude.{◌≡◌, ℕ, suc, ◌+◌, ◌-◌, ◌*◌, ◌/◌, ◌≤◌, ◌<◌, Bool, true, false, Option, List, ◌++◌};
+ghost use Rattle.std.specs.Prelude.{take, length, sum_by};
 ghost use Rattle.rail_base.specs.declared.station.TrainNo.{TrainNo};
 ghost use Rattle.rail_base.specs.declared.route.Route.{Route};
 ghost use Rattle.rail_base.specs.Stations.{IsTrain};
@@ -27,8 +28,8 @@ pub fn walks_take_their_least_ticks()
         → least_ticks d t l h x y ≤ c) }
 {}
 
-/// And a train that is still to be granted a command before a place of a leg comes from there as one that stands there and
-/// gains its acceleration and its braking in each tick.
+/// And a train that is still to be granted a command before a place of a leg comes from there as one that stands there
+/// and gains its acceleration and its braking in each tick.
 pub fn waiting_trains_take_their_least_ticks()
     ensures { InEveryRun (λ d plan. (t : TrainNo) (before : List Route) (l : Leg)
         → HasLeg (routes_of d) plan t before l → IsTrain d t
@@ -38,7 +39,8 @@ pub fn waiting_trains_take_their_least_ticks()
         → (h c : ℕ) → start + y ≤ head_of d plan t (k + c) → least_ticks_waited d t l h x y ≤ c) }
 {}
 
-/// On routes in its path a train takes the least of what holds on each leg that they can be in it, whatever follows them.
+/// On routes in its path a train takes the least of what holds on each leg that they can be in it, whatever follows
+/// them.
 pub fn walks_take_the_least_of_what_follows()
     ensures { InEveryRun (λ d plan. (t : TrainNo) (before rs : List Route) (rest : Bool)
         → HasLeg (routes_of d) plan t before (record { routes = rs; closed = false; rest = rest })

@@ -1,6 +1,7 @@
 //! A recorder over another one, which stops at chosen calls.
 
-ghost use Rattle.std.specs.Prelude.{◌≡◌, ◌+◌, ◌++◌, ◌∷◌, [], true, false, IfOk, IfErr, OnOk, OnErr, IsSome, Err, length};
+ghost use Rattle.std.specs.Prelude.{◌≡◌, ◌+◌, ◌++◌, ◌∷◌, [], true, false, IfOk, IfErr, OnOk, OnErr, IsSome, Err};
+ghost use Rattle.std.specs.Prelude.{length};
 ghost use Rattle.sat_clause.specs.declared.follow.Follow.TheVariants.{Yes};
 ghost use Rattle.sat_clause.specs.Clauses.{live_clause, without};
 ghost use Rattle.sat_clause.specs.Hints.{follow_of, is_assigned};
@@ -15,10 +16,11 @@ use sat_clause::Lit;
 use sat_core::{RecordFault, Recorder};
 use std::alloc::{AllocError, Global};
 
-/// A recorder that hands its calls on to another one, but wants memory at chosen calls of `added`, `derived` and `forgot`.
+/// A recorder that hands its calls on to another one, but wants memory at chosen calls of `added`, `derived` and
+/// `forgot`.
 ///
-/// These three are counted together, from 1 on, and a call at which it stops is counted too. At such a call the lines and the
-/// clauses stay as they are.
+/// These three are counted together, from 1 on, and a call at which it stops is counted too. At such a call the lines
+/// and the clauses stay as they are.
 #[derive(Drop)]
 pub struct Halting<R: Recorder> {
     inner: R,

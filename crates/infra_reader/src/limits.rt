@@ -211,7 +211,8 @@ fn refuse_edges(sheet: &Sheet) -> Result<(), DesignFault>
 /// Refuses too many signals.
 #[tactic(auto, using(crate::proofs::Visits::count_seen))]
 fn refuse_signals(sheet: &Sheet) -> Result<(), DesignFault>
-    ensures { ReadsOrRefuses (λ x. x) result Code.D05 (count_outside 0 1000 Key.Signal (sheet_seen sheet.now).signals) tt }
+    ensures { ReadsOrRefuses (λ x. x) result Code.D05
+        (count_outside 0 1000 Key.Signal (sheet_seen sheet.now).signals) tt }
 {
     refuse_count(0, 1000, Key::Signal, sheet.signals.as_slice())
 }

@@ -190,7 +190,8 @@ fn visit_nodes(
     place: Place,
 ) -> Result<List<NodeNo>, DesignFault>
     ensures { let names = texts nodes.now.keys in let parsed = texts visit.now in
-        ReadsOrRefuses (λ x. x) result Code.D04 (at (not (list_all (is_among names) parsed)) place) (nodes_in names parsed) }
+        ReadsOrRefuses (λ x. x) result Code.D04 (at (not (list_all (is_among names) parsed)) place)
+        (nodes_in names parsed) }
 {
     let mut numbers = Vec::new(alloc);
     for name in visit {
@@ -326,7 +327,8 @@ fn resolve_edges(alloc: Global, names: &Names, sheet: &Sheet) -> Result<List<Edg
 /// The signals of the station.
 fn resolve_signals(alloc: Global, names: &Names, sheet: &Sheet) -> Result<List<Signal>, DesignFault>
     ensures { let known = names_seen names.now in let signals = (sheet_seen sheet.now).signals in
-        ReadsOrRefuses (λ x. x) result Code.D04 (in_each (signal_unknown known) signals) (map (signal_in known) signals) }
+        ReadsOrRefuses (λ x. x) result Code.D04 (in_each (signal_unknown known) signals)
+        (map (signal_in known) signals) }
 {
     resolve_each(alloc, names, sheet.signals.as_slice())
 }
@@ -381,7 +383,8 @@ struct Traffic {
 /// The withins of the station.
 fn resolve_withins(alloc: Global, names: &Names, sheet: &Sheet) -> Result<List<Within>, DesignFault>
     ensures { let known = names_seen names.now in let withins = (sheet_seen sheet.now).withins in
-        ReadsOrRefuses (λ x. x) result Code.D04 (in_each (within_unknown known) withins) (map (within_in known) withins) }
+        ReadsOrRefuses (λ x. x) result Code.D04 (in_each (within_unknown known) withins)
+        (map (within_in known) withins) }
 {
     resolve_each(alloc, names, sheet.withins.as_slice())
 }

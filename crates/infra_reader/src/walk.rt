@@ -58,7 +58,8 @@ pub fn refuse_array<E: Limited>(
     key: Key,
     entries: &[E],
 ) -> Result<(), DesignFault>
-    ensures { ReadsOrRefuses (λ x. x) result Code.D05 (array_outside E.outside least most key (map E.seen entries.now)) tt }
+    ensures { ReadsOrRefuses (λ x. x) result Code.D05
+        (array_outside E.outside least most key (map E.seen entries.now)) tt }
 {
     refuse_count(least, most, key, entries)?;
     refuse_each_outside(entries)

@@ -54,8 +54,8 @@ pub fn release_place(
     }
 }
 
-/// Where on the last route of a walk a visit can be made at the earliest, in mm from the walk's start. It is the route's
-/// start for a first visit and where the visit can't be made on the route, and 0 on a walk without routes.
+/// Where on the last route of a walk a visit can be made at the earliest, in mm from the walk's start. It is the
+/// route's start for a first visit and where the visit can't be made on the route, and 0 on a walk without routes.
 pub fn target(interlocking: &Interlocking, visit: Visit, walk: &[RouteNo]) -> u64
     requires train { IsTrain interlocking.now.design.station visit.train }
     requires walk { All (IsRoute interlocking.now.routes) walk.now }

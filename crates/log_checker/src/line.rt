@@ -27,10 +27,12 @@ impl<R: Refuter> Judge<'_, R> {
         line: &Line,
     ) -> Result<(), Fault>
         ensures ok { OnOk result
-            (taken self.now.head (R.refute self.now.refuter.now) self.now.vars self.now.steps database.old (Some line.now)
+            (taken self.now.head (R.refute self.now.refuter.now) self.now.vars self.now.steps database.old
+            (Some line.now)
             ≡ Ok database.new) }
         ensures bad { (reason : Reason) → result ≡ Err (Bad reason)
-            → taken self.now.head (R.refute self.now.refuter.now) self.now.vars self.now.steps database.old (Some line.now)
+            → taken self.now.head (R.refute self.now.refuter.now) self.now.vars self.now.steps database.old
+            (Some line.now)
             ≡ Err reason }
     {
         match line {
@@ -83,7 +85,8 @@ fn may_stand(head: Head, evidence: &Evidence) -> bool
     }
 }
 
-/// Whether no variable of a clause that the line derives is past the last one, and it may stand in a file with this head.
+/// Whether no variable of a clause that the line derives is past the last one, and it may stand in a file with this
+/// head.
 fn is_within(head: Head, line: &Line, vars: u32) -> bool
     ensures { (if result then Some line.now else None) ≡ if_within head vars (Some line.now) }
 {

@@ -1,4 +1,5 @@
-//! The text of a search: a proof file to which a line is added for each clause that is derived, and for each plan that failed.
+//! The text of a search: a proof file to which a line is added for each clause that is derived, and for each plan that
+//! failed.
 #![tactic(auto)]
 
 mod laws;

@@ -1,6 +1,7 @@
 //! How the plan of values is put together, step by step.
 
-ghost use Rattle.std.specs.Prelude.{◌≡◌, ℕ, ◌≤◌, ◌<◌, ◌-◌, ◌++◌, ◌∷◌, [], List, true, filter, length, take, IfOk, IsFalse, IsTrue, OnOk};
+ghost use Rattle.std.specs.Prelude.{◌≡◌, ℕ, ◌≤◌, ◌<◌, ◌-◌, ◌++◌, ◌∷◌, [], List, true, filter, length, take, IfOk};
+ghost use Rattle.std.specs.Prelude.{IsFalse, IsTrue, OnOk};
 ghost use Rattle.std.specs.List.{list_all};
 ghost use Rattle.rail_base.specs.declared.station.Station.{Station};
 ghost use Rattle.rail_base.specs.declared.route.Route.{Route};

@@ -13,8 +13,8 @@ use rail_alike::neighbors;
 use sat_clause::Arena;
 use std::alloc::Global;
 
-/// A base, and apart from it the clauses that each train comes in turn with the next one that is like it, all live. They
-/// are over the base's variables.
+/// A base, and apart from it the clauses that each train comes in turn with the next one that is like it, all live.
+/// They are over the base's variables.
 #[derive(Drop)]
 pub struct SortedBase {
     pub base: Base,
@@ -22,8 +22,8 @@ pub struct SortedBase {
 }
 
 /// The base of a design and its routes, for plans of up to so many steps, and the clauses that each train comes in turn
-/// with the next one that is like it. Where a plan is feasible, the model of some plan of no more steps makes all of them
-/// true.
+/// with the next one that is like it. Where a plan is feasible, the model of some plan of no more steps makes all of
+/// them true.
 ///
 /// # Errors
 ///

@@ -5,7 +5,8 @@ ghost use Rattle.rail_base.specs.Stations.{trains as train_numbers};
 ghost use Rattle.rail_spec.specs.Plans.{all_commands, route_numbers};
 ghost use Rattle.clause_spec.specs.Variables.{pairs as contending};
 ghost use Rattle.plan_encoding.specs.Encoders.{station, table};
-ghost use Rattle.plan_encoding.specs.Tables.{exclusions as exclusions_of, going_on as going_on_of, leading as leading_of, rows_by};
+ghost use Rattle.plan_encoding.specs.Tables.{exclusions as exclusions_of, going_on as going_on_of};
+ghost use Rattle.plan_encoding.specs.Tables.{leading as leading_of, rows_by};
 
 use crate::encoder::Encoder;
 use contending::ContendingPairs;

@@ -110,7 +110,8 @@ impl Encoder<'_> {
         requires routes { All (IsRoute (table self.now)) routes.now }
         requires command { IsCommand self.now command }
         requires step { step ≤ self.now.steps.count }
-        ensures { IfOk result (λ clause. clause.items ≡ written self.now (begun_clause earlier routes.now command step)) }
+        ensures { IfOk result
+            (λ clause. clause.items ≡ written self.now (begun_clause earlier routes.now command step)) }
     {
         let mut clause = Vec::new(alloc);
         clause.push(self.not_given(command, step))?;

@@ -136,7 +136,8 @@ impl Tables<'_> {
         requires rivals { All (IsCommand self.now.encoder) rivals.now }
         ensures ok { OnOk result (Emits self.now.encoder (each_with self.now.encoder waits first rivals.now)
             sink.old sink.new) }
-        ensures err { IfErr result (Stops self.now.encoder (each_with self.now.encoder waits first rivals.now) sink.old) }
+        ensures err { IfErr result
+            (Stops self.now.encoder (each_with self.now.encoder waits first rivals.now) sink.old) }
     {
         if rivals.is_empty() {
             return Ok(());

@@ -52,14 +52,16 @@ pub struct FailedPlan<'a, 'b> {
         IsRunnable d (routes_of d) steps.count plan.now.steps },
     pub ghost each: { GivesEach contention.interlocking.now.design.station plan.now.steps },
     pub ghost fails: { FailsSo contention.interlocking.now.design.station plan.now.steps history.now tick violation },
-    pub ghost decoded: { AreValuesOfPlan contention.interlocking.now.design.station steps.count values.now plan.now.steps },
+    pub ghost decoded: { AreValuesOfPlan contention.interlocking.now.design.station steps.count values.now
+        plan.now.steps },
 }
 
 impl FailedPlan<'_, '_> {
-    ghost use Rattle.plan_exclusion.specs.Written.{DeniedBy, DeniesNothing, ExcludesNothing, IsExclusionOf, IsNoBoundLine};
+    ghost use Rattle.plan_exclusion.specs.Written.{DeniedBy, DeniesNothing, ExcludesNothing, IsExclusionOf};
+    ghost use Rattle.plan_exclusion.specs.Written.{IsNoBoundLine};
 
-    /// What excludes the plan: by the method of cones the cone of its failure, and by that of bounds one of the bounds that
-    /// are found, or the cone where none of them excludes it.
+    /// What excludes the plan: by the method of cones the cone of its failure, and by that of bounds one of the bounds
+    /// that are found, or the cone where none of them excludes it.
     ///
     /// # Errors
     ///
@@ -138,7 +140,8 @@ impl FailedPlan<'_, '_> {
         }
     }
 
-    /// The exclusion by a bound, as its line is read back: none where the bound is not valid, or excludes other plans alone.
+    /// The exclusion by a bound, as its line is read back: none where the bound is not valid, or excludes other plans
+    /// alone.
     fn by_bound(&self, alloc: Global, bound: Bound) -> Result<Option<Exclusion>, AllocError>
         ensures { IfOk result (λ e. MatchOption e (ExcludesNothing self.now bound)
             (IsExclusionOf self.now by.Bounds)) }

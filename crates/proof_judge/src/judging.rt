@@ -23,9 +23,9 @@ use rail_base::plan::Command;
 use sat_clause::Arena;
 use std::alloc::{AllocError, Global};
 
-/// What the bytes of a proof file show of the design whose clauses these are: that it has no plan of so many steps, or the
-/// first bad line. Where the file's head names the base of trains that come in turn, its further clauses are made here.
-/// The error is want of memory.
+/// What the bytes of a proof file show of the design whose clauses these are: that it has no plan of so many steps, or
+/// the first bad line. Where the file's head names the base of trains that come in turn, its further clauses are made
+/// here. The error is want of memory.
 pub fn judge(
     alloc: Global,
     interlocking: &Interlocking,
@@ -104,7 +104,8 @@ fn names_question(interlocking: &Interlocking, steps: Steps, version: u32, named
     version == interlocking.design.station.version && named == steps.count
 }
 
-/// What the bytes of a file that is to have this head show over the clauses of a base, which are those that the head names.
+/// What the bytes of a file that is to have this head show over the clauses of a base, which are those that the head
+/// names.
 fn judge_base(
     alloc: Global,
     interlocking: &Interlocking,
@@ -135,8 +136,8 @@ fn judge_base(
     )
 }
 
-/// What the bytes of a file show that names this version of designs and so many steps, over the clauses of a base and those of
-/// trains that come in turn.
+/// What the bytes of a file show that names this version of designs and so many steps, over the clauses of a base and
+/// those of trains that come in turn.
 fn judge_turns(
     alloc: Global,
     interlocking: &Interlocking,
@@ -195,7 +196,8 @@ fn judge_named(
     judge_base(alloc, interlocking, head, base, bytes)
 }
 
-/// What the bytes of a file show whose head names the base of trains that come in turn, this version of designs and so many steps.
+/// What the bytes of a file show whose head names the base of trains that come in turn, this version of designs and so
+/// many steps.
 fn judge_sorted(
     alloc: Global,
     interlocking: &Interlocking,

@@ -3,7 +3,8 @@
 ghost use Rattle.std.specs.Prelude.{◌≡◌};
 ghost use Rattle.rail_base.specs.declared.plan.Violation.TheVariants.{Within, Order};
 ghost use Rattle.proof_log.specs.Words.{plain_number_of};
-ghost use Rattle.proof_log.specs.Parts.{first_of, made, small_number, two_numbers, train_prefix, command, pair, path_by};
+ghost use Rattle.proof_log.specs.Parts.{first_of, made, small_number, two_numbers, train_prefix, command, pair};
+ghost use Rattle.proof_log.specs.Parts.{path_by};
 ghost use Rattle.proof_log.specs.Parts.{grant_by, visit_by, violation, violation_of, written_holder};
 ghost use Rattle.proof_log.specs.Reading.{words_left, with_words};
 

@@ -16,14 +16,15 @@ use std::alloc::{AllocError, Global};
 /// What a proof file says.
 #[derive(Drop)]
 pub enum Explained {
-    /// It shows that there is no plan. The sentences about its cones and bounds, in the order of the file, each with its LF.
+    /// It shows that there is no plan. The sentences about its cones and bounds, in the order of the file, each with
+    /// its LF.
     Sentences(Vec<Vec<u8>>),
     /// It does not show that: its first bad line, and why it is bad.
     Refused(CheckResult),
 }
 
-/// What the bytes of a proof file say of the design whose clauses these are: where it shows that there is no plan of so many steps,
-/// the sentences about its cones and bounds, and else what it shows. The error is want of memory.
+/// What the bytes of a proof file say of the design whose clauses these are: where it shows that there is no plan of so
+/// many steps, the sentences about its cones and bounds, and else what it shows. The error is want of memory.
 pub fn explain(
     alloc: Global,
     interlocking: &Interlocking,

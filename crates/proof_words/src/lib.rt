@@ -1,5 +1,5 @@
-//! What a proof file says of a design: its cones and bounds in sentences with the names of the design, where it shows that there is
-//! no plan.
+//! What a proof file says of a design: its cones and bounds in sentences with the names of the design, where it shows
+//! that there is no plan.
 #![tactic(auto)]
 
 mod explaining;

@@ -80,7 +80,8 @@ fn push_pieces(
 ) -> Result<(), AllocError>
     requires { All (IsNamedPiece interlocking.now.design.station) (lines_left pieces) }
     ensures { OnOk result (lines_of lines.new.items
-        ≡ lines_of lines.old.items ++ flat_map (piece_sentences interlocking.now.design.station) (lines_left pieces.entry)) }
+        ≡ lines_of lines.old.items
+        ++ flat_map (piece_sentences interlocking.now.design.station) (lines_left pieces.entry)) }
 {
     'pieces: for piece in pieces {
         push_piece(alloc, interlocking, &piece, lines)?;

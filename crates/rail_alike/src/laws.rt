@@ -13,17 +13,20 @@ ghost use Rattle.rail_spec.specs.Plans.{has_command};
 ghost use Rattle.rail_alike.specs.Renaming.{Renames, renamed, first_step};
 ghost use Rattle.rail_alike.specs.Alike.{AreAlike, AreNeighbors, exchange, exchanged};
 ghost use Rattle.rail_alike.specs.Tests.{neighbors};
-ghost use Rattle.rail_alike.specs.Turns.{AllInTurn, AreNamed, ArePairs, ComeInTurn, HasAllInTurn, HasBegunBy, InTurn, NoneInTurn};
+ghost use Rattle.rail_alike.specs.Turns.{AllInTurn, AreNamed, ArePairs, ComeInTurn, HasAllInTurn, HasBegunBy, InTurn};
+ghost use Rattle.rail_alike.specs.Turns.{NoneInTurn};
 
 /// Where two trains are exchanged that are alike, each moves as the other did, and any other train as it did. So it is
 /// with any renaming of trains that the design doesn't notice.
 pub fn runs_are_exchanged()
     ensures two { (d : Station) (t u : TrainNo) → AreAlike d t u
         → (routes : List Route) (plan : List (List Command)) (k : ℕ) (x : TrainNo)
-        → state_of (state_at d routes (of_plan routes (exchanged t u plan)) k) (exchange t u x) ≡ state_of (state_at d routes (of_plan routes plan) k) x }
+        → state_of (state_at d routes (of_plan routes (exchanged t u plan)) k) (exchange t u x)
+        ≡ state_of (state_at d routes (of_plan routes plan) k) x }
     ensures any { (d : Station) (other : TrainNo → TrainNo) → Renames d other
         → (routes : List Route) (plan : List (List Command)) (k : ℕ) (x : TrainNo)
-        → state_of (state_at d routes (of_plan routes (renamed other plan)) k) (other x) ≡ state_of (state_at d routes (of_plan routes plan) k) x }
+        → state_of (state_at d routes (of_plan routes (renamed other plan)) k) (other x)
+        ≡ state_of (state_at d routes (of_plan routes plan) k) x }
 {}
 
 /// A plan is feasible exactly where it is so with the two exchanged, or with trains so renamed.
@@ -45,7 +48,8 @@ pub fn likeness_goes_on()
 /// Where there is a feasible plan, there is one in which of each pair of trains that are alike the earlier is given its
 /// first command in a step no later than the other's. So where no plan that does so is feasible, none is.
 pub fn pairs_come_in_turn()
-    ensures of_pairs { (d : Station) (n : ℕ) (pairs : List (TrainNo × TrainNo)) → ArePairs d pairs → ComeInTurn d n pairs }
+    ensures of_pairs { (d : Station) (n : ℕ) (pairs : List (TrainNo × TrainNo)) → ArePairs d pairs
+        → ComeInTurn d n pairs }
     ensures named { (d : Station) (pairs : List (TrainNo × TrainNo)) → ArePairs d pairs → AreNamed d pairs }
     ensures none { (d : Station) (n : ℕ) (pairs : List (TrainNo × TrainNo)) → ArePairs d pairs
         → NoneInTurn d n pairs → IsInfeasible d n }

@@ -5,7 +5,8 @@ ghost use Rattle.std.specs.List.{list_all, list_any, zip};
 ghost use Rattle.rail_base.specs.Stations.{IsTrain};
 ghost use Rattle.rail_alike.specs.Renaming.{renamed_order, renamed_within};
 ghost use Rattle.rail_alike.specs.Alike.{AreAlike, exchange};
-ghost use Rattle.rail_alike.specs.Tests.{are_alike, are_same, is_named, is_node, is_order, is_within, orders_stay, same_vehicle, same_visits, withins_stay};
+ghost use Rattle.rail_alike.specs.Tests.{are_alike, are_same, is_named, is_node, is_order, is_within, orders_stay};
+ghost use Rattle.rail_alike.specs.Tests.{same_vehicle, same_visits, withins_stay};
 
 use rail_base::design::Design;
 use rail_base::list::List;

@@ -27,7 +27,8 @@ use rail_base::design::Design;
 use rail_outside::Shelf;
 use std::alloc::{AllocError, Global};
 
-/// The clauses of a design, for plans of up to so many steps. The ending says that they are too many, or is want of memory.
+/// The clauses of a design, for plans of up to so many steps. The ending says that they are too many, or is want of
+/// memory.
 pub fn encode(alloc: Global, interlocking: &Interlocking, steps: Steps) -> Result<Base, Ending>
     ensures reads { let d = interlocking.now.design.station in
         ReadsOrEnds (λ _. d) result (with_clauses Cones steps.count d) }
@@ -92,7 +93,8 @@ fn checked_proof<S: Shelf>(
 ) -> Result<Reply, Ending>
     ensures replies { (files : Files) → S.known_files shelf.old ≡ Some files
         → Replies result (with_proof steps.count interlocking.now.design.station (files proof.now)) }
-    ensures for_some_bytes { (bytes : List ℕ) × Replies result (with_proof steps.count interlocking.now.design.station bytes) }
+    ensures for_some_bytes { (bytes : List ℕ)
+        × Replies result (with_proof steps.count interlocking.now.design.station bytes) }
     ensures verdict { IfOk result (λ reply. is_verdict reply.status ≡ true) }
     ensures refuses { RefusesFile result }
     ensures cause { result ≡ Err Ending.ShelfFault → Rose (S.fault_count shelf.old) (S.fault_count shelf.new) }

@@ -19,7 +19,8 @@ use rail_outside::{FetchFault, Shelf};
 use rail_routes::{RouteFault, interlocking};
 use std::alloc::Global;
 
-/// The bytes of a file within its limit. The ending says that there are more, or is want of memory or a fault of the shelf.
+/// The bytes of a file within its limit. The ending says that there are more, or is want of memory or a fault of the
+/// shelf.
 pub fn fetch<S: Shelf>(
     alloc: Global,
     shelf: &mut S,

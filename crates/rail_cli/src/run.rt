@@ -33,7 +33,8 @@ use rail_outside::{Shelf, Sink, SinkFault, put_lines};
 use rail_words::{Request, WordsFault, read_words};
 use std::alloc::Global;
 
-/// Prints a reply line by line, and says how the run ends: by the status of the reply, want of memory or a fault of the sink.
+/// Prints a reply line by line, and says how the run ends: by the status of the reply, want of memory or a fault of the
+/// sink.
 pub fn print<O: Sink>(reply: &Reply, out: &mut O) -> Status
     ensures prints { Prints (reply_seen reply.now) result
         (O.written out.old) (O.written out.new) (O.puts out.old) (O.puts out.new) }
@@ -82,7 +83,8 @@ pub fn run_words<S: Shelf, O: Sink>(
         → ReportsPlan n d (O.written out.old) (O.written out.new) }
     ensures proven { (files : Files) → S.known_files shelf.old ≡ Some files → (n : ℕ) (d : Station)
         → (s : Searches files (texts_of words.now) n d) → result ≡ Status.No
-        → ReportsNone files s.design_name s.proof_name n d (O.written out.old) (O.written out.new) (S.known_files shelf.new) }
+        → ReportsNone files s.design_name s.proof_name n d (O.written out.old) (O.written out.new)
+        (S.known_files shelf.new) }
 
     // A trial asks nothing of the shelf, so this holds over any.
     ensures tried { (seed size : ℕ) → request_of (texts_of words.now) ≡ Some (trial seed size)
@@ -101,7 +103,8 @@ pub fn run_words<S: Shelf, O: Sink>(
     ensures sink_count { O.fault_count out.old ≤ O.fault_count out.new }
 
     // Nothing is stored but what a search proves, and nothing is asked for but the named files, in their order.
-    ensures stored { Leaves (request_of (texts_of words.now)) result (S.known_files shelf.old) (S.known_files shelf.new) }
+    ensures stored { Leaves (request_of (texts_of words.now)) result (S.known_files shelf.old)
+        (S.known_files shelf.new) }
     ensures asked { GrowsByPrefix (S.asked shelf.old) (S.asked shelf.new) (asks_of (texts_of words.now)) }
 {
     match reply(alloc, words, shelf) {
@@ -129,7 +132,8 @@ fn request_reply<S: Shelf>(
         → DecidesRequest files (request_seen request.entry) result }
     ensures cause { result ≡ Err Ending.ShelfFault → Rose (S.fault_count shelf.old) (S.fault_count shelf.new) }
     ensures never_falls { S.fault_count shelf.old ≤ S.fault_count shelf.new }
-    ensures stored { OnEnd result (λ s. Leaves (Some (request_seen request.entry)) s (S.known_files shelf.old) (S.known_files shelf.new)) }
+    ensures stored { OnEnd result
+        (λ s. Leaves (Some (request_seen request.entry)) s (S.known_files shelf.old) (S.known_files shelf.new)) }
     ensures asks { GrowsByPrefix (S.asked shelf.old) (S.asked shelf.new) (asks_to (Some (request_seen request.entry))) }
 {
     match request {

@@ -9,7 +9,8 @@ ghost use Rattle.rail_words.specs.Requests.{verify};
 ghost use Rattle.plan_exclusion.specs.declared.method.Method.{Method};
 ghost use Rattle.verify_loop.specs.declared.outcome.Outcome.{Outcome};
 ghost use Rattle.verify_loop.specs.Outcomes.{IsOutcome, Fits};
-ghost use Rattle.rail_cli.specs.Answers.{design_in, method_of, one_line, reply_for_plan, searched_in, reply_for_outcome};
+ghost use Rattle.rail_cli.specs.Answers.{design_in, method_of, one_line, reply_for_plan, searched_in};
+ghost use Rattle.rail_cli.specs.Answers.{reply_for_outcome};
 ghost use Rattle.rail_cli.specs.Shows.{verdict_at_horizon};
 ghost use Rattle.rail_cli.specs.Replies.{KeepsLog, OnEnd, OnlyFails, RefusesFile, Replies, RepliesSo};
 ghost use Rattle.rail_cli.specs.Replies.{RepliesSome, StoresFile, RepliesWith};
@@ -167,7 +168,8 @@ fn make_reply(
     found: &Outcome,
 ) -> Result<Reply, AllocError>
     requires { (m : Method) × IsOutcome m design.now.station steps budgets found.now }
-    ensures { RepliesWith result (reply_for_outcome design.now.station steps budgets.conflicts budgets.ticks found.now) }
+    ensures { RepliesWith result
+        (reply_for_outcome design.now.station steps budgets.conflicts budgets.ticks found.now) }
 {
     match found {
         Outcome::Plan { plan, verdict } => plan_found(alloc, design, plan, verdict),
@@ -224,7 +226,8 @@ fn settle<S: Shelf>(
 ) -> Result<Reply, Ending>
     requires says { (m : Method) × IsOutcome m design.now.station steps budgets found.now }
     requires room { budgets.log_bytes ≡ limit_of InputFile.Proof }
-    ensures replies { Replies result (reply_for_outcome design.now.station steps budgets.conflicts budgets.ticks found.now) }
+    ensures replies { Replies result
+        (reply_for_outcome design.now.station steps budgets.conflicts budgets.ticks found.now) }
     ensures no_usage { IfOk result (λ reply. reply.status ≢ Status.Usage) }
     ensures refuses { RefusesFile result }
     ensures stored { (files : Files) (name : List ℕ) → S.known_files shelf.old ≡ Some files

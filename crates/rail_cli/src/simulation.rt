@@ -86,7 +86,8 @@ fn status_of(verdict: &Verdict) -> Status
 /// The timetable of a plan's run up to the horizon.
 fn show(alloc: Global, interlocking: &Interlocking, plan: &Plan) -> Result<Reply, AllocError>
     requires runnable { let d = interlocking.now.design.station in IsRunnable d (routes_of d) 256 plan.now.steps }
-    ensures reply { let d = interlocking.now.design.station in RepliesWith result (verdict_reply d (verdict_at_horizon d plan.now.steps)) }
+    ensures reply { let d = interlocking.now.design.station in RepliesWith result
+        (verdict_reply d (verdict_at_horizon d plan.now.steps)) }
     ensures verdict { IfOk result (λ reply. is_verdict reply.status ≡ true) }
     ensures exactly { IfOk result (λ reply. (reply.status ≡ Status.Done)
         ↔ IsFeasible interlocking.now.design.station 256 plan.now.steps) }

@@ -39,8 +39,8 @@ const CONFLICTS: u64 = 1_000_000;
 /// How many ticks it may simulate.
 const TICKS: u64 = 1_000_000_000;
 
-/// The reply to a trial: the station of the seed and the size, 1 to 6, is searched for a plan of twice as many steps as its
-/// size. Nothing is asked of the shelf.
+/// The reply to a trial: the station of the seed and the size, 1 to 6, is searched for a plan of twice as many steps as
+/// its size. Nothing is asked of the shelf.
 pub(crate) fn trial_reply(alloc: Global, seed: u64, size: u32) -> Result<Reply, Ending>
     requires at_least_one { 1 ≤ size }
     requires at_most_six { size ≤ 6 }

@@ -16,10 +16,12 @@ const PARTS: u32 = 100;
 
 /// A shelf over the files of a runtime, of whose content nothing is known. Each call that fails raises the count.
 ///
-/// A store of `NAME` writes a new file, `NAME.rcv-part`, and where there is one already `NAME.rcv-part2` and so on up to
-/// `NAME.rcv-part100`; it then takes the place of `NAME`. Where all of these names are taken the store fails. No file but
-/// `NAME` and the part that the store itself made is ever replaced or removed. If the machine stops in the middle, `NAME`
-/// has its old bytes or all of the new ones, and the part may be left, which no later store takes away.
+/// A store of `NAME` writes a new file, `NAME.rcv-part`, and where there is one already `NAME.rcv-part2` and so on up
+/// to
+/// `NAME.rcv-part100`; it then takes the place of `NAME`. Where all of these names are taken the store fails. No file
+/// but
+/// `NAME` and the part that the store itself made is ever replaced or removed. If the machine stops in the middle,
+/// `NAME` has its old bytes or all of the new ones, and the part may be left, which no later store takes away.
 #[derive(Drop)]
 pub struct FileShelf<R: Files + Drop> {
     alloc: Global,

@@ -1,5 +1,5 @@
-//! The edge over real files, standard output and the words of a command line. What a file holds and what a terminal shows
-//! is said by no clause.
+//! The edge over real files, standard output and the words of a command line. What a file holds and what a terminal
+//! shows is said by no clause.
 #![tactic(auto)]
 
 mod bytes;

@@ -7,12 +7,11 @@ use Rattle.rail_base.specs.declared.plan.Command.{Command}
 use Rattle.rail_base.specs.declared.state.TrainState.{TrainState}
 use Rattle.rail_spec.specs.Track.{routes_of}
 use Rattle.rail_spec.specs.Plans.{path_routes, is_well_formed}
-use Rattle.rail_spec.specs.Motion.{MotorSeen, SpanSeen, KeepsLimits, keeps_limits, may_stop, can_brake, permitted, next_speed}
+use Rattle.rail_spec.specs.Motion.{MotorSeen, SpanSeen, KeepsLimits, may_stop, permitted, next_speed}
 use Rattle.rail_spec.specs.Dispatches.{state_of, rates, binding_length, stretches, authority, of_plan, granted_after, moved}
 use Rattle.rail_spec.specs.Dispatches.{state_at}
 use Rattle.rail_base.specs.Admitted.{IsAdmitted}
 use Rattle.rail_base.specs.Stations.{IsTrain}
-use Rattle.rail_base.proofs.Members.{and_left}
 use Rattle.rail_laws.proofs.MotionLaws.{can_brake_keeps, permitted_reach, permitted_brakes, next_speed_permitted}
 use Rattle.rail_laws.proofs.Exclusion.{by_tick}
 use Rattle.rail_laws.proofs.UnderWay.{Travels, still, next_grants, travels, within_authority}

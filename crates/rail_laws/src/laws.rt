@@ -2,7 +2,8 @@
 
 ghost use Rattle.std.specs.Prelude.{◌≡◌, ◌↔◌, ℕ, ◌+◌, ◌-◌, ◌*◌, ◌≤◌, ◌<◌, true, false, List, Option, None, Some};
 ghost use Rattle.std.specs.Prelude.{length, sum_by};
-ghost use Rattle.rail_spec.specs.Motion.{MotorSeen, SpanSeen, KeepsLimits, keeps_limits, permitted, next_speed, IsPermitted};
+ghost use Rattle.rail_spec.specs.Motion.{MotorSeen, SpanSeen, KeepsLimits, keeps_limits, permitted, next_speed};
+ghost use Rattle.rail_spec.specs.Motion.{IsPermitted};
 ghost use Rattle.rail_spec.specs.Motion.{IsGreatestPermitted};
 ghost use Rattle.rail_base.specs.declared.station.Station.{Station};
 ghost use Rattle.rail_base.specs.declared.station.TrainNo.{TrainNo};
@@ -33,8 +34,8 @@ pub fn limits_are_those_of_points()
         → (keeps_limits ss x y u ≡ true) ↔ KeepsLimits top ss x y u }
 {}
 
-/// A move keeps the limits from so far behind its head exactly where each point of the move has, from itself back over that
-/// length, no limit below its speed.
+/// A move keeps the limits from so far behind its head exactly where each point of the move has, from itself back over
+/// that length, no limit below its speed.
 pub fn limits_bind_until_the_tail_has_left()
     ensures { (top : ℕ) (ss : List SpanSeen) (tail x y u : ℕ) → x < y
         → KeepsLimits top ss (x - tail) y u ↔ KeepsUnderTrain top ss tail x y u }
@@ -132,14 +133,16 @@ pub fn plans_are_met_where_they_do_not_fail()
         → IsVerdict d routes plan }
 {}
 
-/// By the tick by which all commands are granted each train has come to the end of its path, and has left where that exits.
+/// By the tick by which all commands are granted each train has come to the end of its path, and has left where that
+/// exits.
 pub fn trains_come_through()
     ensures { (d : Station) → IsAdmitted d → (n : ℕ) (plan : List (List Command)) → IsRunnable d (routes_of d) n plan
         → (t : TrainNo) (k : ℕ) → IsTrain d t → last_grant d (routes_of d) plan ≤ k
         → HasComeThrough d (routes_of d) plan t k }
 {}
 
-/// So where the paths make all visits all is done by then, and a runnable plan fails for want of time only at an earlier horizon.
+/// So where the paths make all visits all is done by then, and a runnable plan fails for want of time only at an
+/// earlier horizon.
 pub fn plans_are_done_in_time()
     ensures done { (d : Station) → IsAdmitted d → (n : ℕ) (plan : List (List Command))
         → IsRunnable d (routes_of d) n plan → path_violation d (routes_of d) plan ≡ None → (k : ℕ) → 1 ≤ k

@@ -9,7 +9,8 @@ ghost use Rattle.rail_outside.specs.Storing.{StoreLeaves, StoreHasCause, StoreFa
 ghost use Rattle.rail_outside.specs.Folders.{all_but, no_name};
 ghost use Rattle.rail_outside.specs.declared.shelf.FetchFault.TheVariants as fetch;
 ghost use Rattle.rail_outside.specs.declared.shelf.StoreFault.TheVariants as store;
-ghost use Rattle.rail_outside.specs.MemoryShelves.{ask_of, known_files_by, asked_of, failing_calls, faults_of, fails_next};
+ghost use Rattle.rail_outside.specs.MemoryShelves.{ask_of, known_files_by, asked_of, failing_calls, faults_of};
+ghost use Rattle.rail_outside.specs.MemoryShelves.{fails_next};
 ghost use Rattle.rail_outside.specs.MemoryShelves.{misses};
 
 use crate::folder::{Folder, copy_bytes};
@@ -149,7 +150,8 @@ impl Shelf for MemoryShelf {
     }
 
     fn store(&mut self, name: &str, bytes: &[u8]) -> Result<(), StoreFault>
-        ensures leaves { StoreLeaves result (Some (known_files_by self.old)) (Some (known_files_by self.new)) name.now bytes.now }
+        ensures leaves { StoreLeaves result (Some (known_files_by self.old))
+            (Some (known_files_by self.new)) name.now bytes.now }
         ensures err { OnErr result (known_files_by self.new ≡ known_files_by self.old) }
         ensures there { OnOk result (misses self.new ≡ all_but (misses self.old) name.now) }
         ensures not_there { OnErr result (misses self.new ≡ misses self.old) }

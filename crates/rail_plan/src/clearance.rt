@@ -7,7 +7,8 @@ ghost use Rattle.rail_base.specs.Routes.{IsRoute};
 ghost use Rattle.rail_spec.specs.Plans.{contend, one_each};
 ghost use Rattle.rail_plan.specs.Named.{HaveRoutes, HaveTrains};
 ghost use Rattle.interlocking.specs.Plans.{is_executable, IsWellFormed};
-ghost use Rattle.rail_plan.specs.Interlocked.{AreHolds, blocked, kept_sections, is_kept_from, stopped, stopped_in, takes};
+ghost use Rattle.rail_plan.specs.Interlocked.{AreHolds, blocked, kept_sections, is_kept_from, stopped, stopped_in};
+ghost use Rattle.rail_plan.specs.Interlocked.{takes};
 
 use crate::formed::first_given;
 use crate::holds::{Hold, is_kept_out, no_holds, turn};
@@ -60,8 +61,8 @@ fn is_taken(
     false
 }
 
-/// Whether the holds or the commands of its step keep a command from a section. Those of the step are looked at only where
-/// the command is contended.
+/// Whether the holds or the commands of its step keep a command from a section. Those of the step are looked at only
+/// where the command is contended.
 fn is_kept_from(
     interlocking: &Interlocking,
     holds: &[Hold],

@@ -23,8 +23,8 @@ use std::alloc::Global;
 /// How many steps a plan may have.
 const MOST_STEPS: u32 = 256;
 
-/// Reads a plan over a design and its routes, or answers the first refusal: P1 before P2, P2 before P3, P3 before P4, and
-/// of each the first place. A plan that is read is well formed for 256 and executable.
+/// Reads a plan over a design and its routes, or answers the first refusal: P1 before P2, P2 before P3, P3 before P4,
+/// and of each the first place. A plan that is read is well formed for 256 and executable.
 pub fn read_plan(
     alloc: Global,
     interlocking: &Interlocking,
@@ -66,7 +66,8 @@ fn read_step(
 ) -> Result<List<Command>, PlanFault>
     requires names { length names.now.keys ≤ 128 }
     requires below_2_32 { many < 2 ^ 32 }
-    ensures { GivesOrFails (λ s. s) result (step_read (map (λ k. k.now) names.now.keys) many number (map view values.now)) }
+    ensures { GivesOrFails (λ s. s) result
+        (step_read (map (λ k. k.now) names.now.keys) many number (map view values.now)) }
 {
     let mut commands = List::new(alloc);
     for (index, value) in values.iter().enumerate() {

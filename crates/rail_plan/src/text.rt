@@ -4,7 +4,8 @@ ghost use Rattle.std.specs.Prelude.{◌≡◌, codes, is_some, map, option_map};
 ghost use Rattle.std.specs.List.{list_all};
 ghost use Rattle.serde_json.specs.Find.{get_member};
 ghost use Rattle.serde_json.specs.View.{members_view, view};
-ghost use Rattle.rail_plan.specs.Text.{array_of, command_of, only_steps, step_in, steps_at, string_of, two_of, whole_of};
+ghost use Rattle.rail_plan.specs.Text.{array_of, command_of, only_steps, step_in, steps_at, string_of, two_of};
+ghost use Rattle.rail_plan.specs.Text.{whole_of};
 
 use serde_json::{Map, Value};
 

@@ -32,5 +32,6 @@ pub fn listed_routes_are_at_most_2000()
 pub fn routes_go_over_edges()
     ensures edges { (d : Station) → IsAdmitted d → (r : Route) → In r (routes_of d) →
         (e : EdgeNo) → In e r.edges → IsEdge d e }
-    ensures at_most_40_km { (d : Station) → IsAdmitted d → (r : Route) → In r (routes_of d) → length_mm r ≤ 40000000000 }
+    ensures at_most_40_km { (d : Station) → IsAdmitted d → (r : Route) → In r (routes_of d)
+        → length_mm r ≤ 40000000000 }
 {}

@@ -24,8 +24,9 @@ const MOST_ROUTES: usize = 2000;
 ///
 /// # Errors
 ///
-/// `RepeatsEdge` exactly where one of the first 2,001 closed paths meets an edge again, with the edge that the first such
-/// path meets; else `TooMany` exactly where there are 2,001 closed paths or more; `Memory` where memory is wanting.
+/// `RepeatsEdge` exactly where one of the first 2,001 closed paths meets an edge again, with the edge that the first
+/// such path meets; else `TooMany` exactly where there are 2,001 closed paths or more; `Memory` where memory is
+/// wanting.
 pub fn interlocking(alloc: Global, design: Design) -> Result<Interlocking, RouteFault>
     ensures design { IfOk result (λ made. made.design ≡ design) }
     ensures can_be_listed { OnOk result (CanBeListed design.station) }

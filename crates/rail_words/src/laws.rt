@@ -13,14 +13,14 @@ pub fn routes_is_read()
     ensures { RoutesIsRead }
 {}
 
-/// `verify --steps N --conflicts C --ticks T DESIGN PROOF` after the program's name, the numbers in digits and in range, with
-/// such values, asks for that, without bounds.
+/// `verify --steps N --conflicts C --ticks T DESIGN PROOF` after the program's name, the numbers in digits and in
+/// range, with such values, asks for that, without bounds.
 pub fn verify_is_read()
     ensures { VerifyIsRead }
 {}
 
-/// `verify --steps N --conflicts C --ticks T --bounds DESIGN PROOF` after the program's name, the numbers in digits and in
-/// range, with such values, asks for the same, with bounds.
+/// `verify --steps N --conflicts C --ticks T --bounds DESIGN PROOF` after the program's name, the numbers in digits and
+/// in range, with such values, asks for the same, with bounds.
 pub fn bounds_are_read()
     ensures { BoundsAreRead }
 {}
@@ -30,8 +30,8 @@ pub fn check_is_read()
     ensures { CheckIsRead }
 {}
 
-/// `trial SEED SIZE` after the program's name, SEED from 0 to 18446744073709551615 and SIZE from 1 to 6 in digits, asks for
-/// that.
+/// `trial SEED SIZE` after the program's name, SEED from 0 to 18446744073709551615 and SIZE from 1 to 6 in digits, asks
+/// for that.
 pub fn trial_is_read()
     ensures { TrialIsRead }
 {}
@@ -41,7 +41,8 @@ pub fn requests_are_in_range()
     ensures { RequestsAreInRange }
 {}
 
-/// Words make no request exactly where they are not taken, or a number among them is out of range: the value of `--steps`,
+/// Words make no request exactly where they are not taken, or a number among them is out of range: the value of
+/// `--steps`,
 /// `--conflicts`, `--ticks`, SEED or SIZE of the subcommand that they name.
 pub fn silence_has_a_cause()
     ensures { SilenceHasACause }

@@ -31,8 +31,8 @@ pub enum Request<'a> {
     Routes {
         design: &'a str,
     },
-    /// Look for a plan of at most so many steps, 1 to 256, within budgets of derived clauses and of ticks, or for a proof that
-    /// there is none, the design and the proof by their files' names.
+    /// Look for a plan of at most so many steps, 1 to 256, within budgets of derived clauses and of ticks, or for a
+    /// proof that there is none, the design and the proof by their files' names.
     Verify {
         steps: u32,
         conflicts: u64,
@@ -42,7 +42,8 @@ pub enum Request<'a> {
         design: &'a str,
         proof: &'a str,
     },
-    /// Check a proof that a design has no plan of so many steps, 1 to 256, the design and the proof by their files' names.
+    /// Check a proof that a design has no plan of so many steps, 1 to 256, the design and the proof by their files'
+    /// names.
     Check {
         steps: u32,
         design: &'a str,
@@ -123,7 +124,8 @@ fn value<'a>(values: &ArgMatches<'a>, name: &str) -> Option<&'a str>
     values.get_str(name)
 }
 
-/// Whether a flag is given: what `get_flag` answers, whose contract leaves open texts that are neither `true` nor `false`.
+/// Whether a flag is given: what `get_flag` answers, whose contract leaves open texts that are neither `true` nor
+/// `false`.
 fn is_given(values: &ArgMatches, flag: &str) -> bool
     ensures { result ≡ is_given flag.now (rows_of (found_of values.now)) }
 {

@@ -1,5 +1,5 @@
-//! Asks for a plan of a station again and again, while one call of the solver's recorder after the other wants memory, and names
-//! the calls after which the search ends otherwise than with a proof that there is none.
+//! Asks for a plan of a station again and again, while one call of the solver's recorder after the other wants memory,
+//! and names the calls after which the search ends otherwise than with a proof that there is none.
 #![tactic(auto)]
 
 mod adding;

@@ -1,4 +1,5 @@
-//! A solver of clauses under assumptions. It learns clauses, and a recorder keeps each one with the reason why it follows.
+//! A solver of clauses under assumptions. It learns clauses, and a recorder keeps each one with the reason why it
+//! follows.
 #![tactic(auto)]
 
 mod assignment;

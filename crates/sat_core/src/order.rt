@@ -8,7 +8,8 @@ use sat_trail::{Step, Trail};
 use std::alloc::{AllocError, Global};
 use std::collections::BinaryHeap;
 
-/// A variable that waits for a decision, with its rank when it began to wait. Of two with one rank the first variable is greater.
+/// A variable that waits for a decision, with its rank when it began to wait. Of two with one rank the first variable
+/// is greater.
 #[derive(Clone, Copy, PartialEq, Eq, PartialOrd, Ord)]
 struct Waiting {
     rank: u64,
@@ -18,8 +19,8 @@ struct Waiting {
 /// The rank from which on all ranks are made smaller.
 const GREATEST: u64 = 1 << 48;
 
-/// In which order variables are decided, and how. The rank of a variable grows when it stands in a clause by which another
-/// follows, and later clauses count for more. None of this changes what a decision may be.
+/// In which order variables are decided, and how. The rank of a variable grows when it stands in a clause by which
+/// another follows, and later clauses count for more. None of this changes what a decision may be.
 #[derive(Drop)]
 pub struct Order {
     vars: u32,

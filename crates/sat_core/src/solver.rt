@@ -188,7 +188,8 @@ impl<R: Recorder> Solver<R> {
     ghost use Rattle.sat_core.specs.Answers.{IsFinal, IsLearntBeyond};
 
     /// Looks for values under which all clauses and assumptions are true, recording at most `left` lines.
-    /// No two assumptions may be opposites. After each answer the solver stands at no assumption, and may be asked again.
+    /// No two assumptions may be opposites. After each answer the solver stands at no assumption, and may be asked
+    /// again.
     pub fn solve(&mut self, assumptions: &[Lit], left: u64) -> Answer
         requires assumed { AllIn self.old.vars assumptions.now }
         requires consistent { IsConsistent assumptions.now }
@@ -303,7 +304,8 @@ impl<R: Recorder> Solver<R> {
         self.forget(id)
     }
 
-    /// Forgets long derived clauses, those of most levels first, where there are many. It ends where the recorder has no room.
+    /// Forgets long derived clauses, those of most levels first, where there are many. It ends where the recorder has
+    /// no room.
     fn forget_some(&mut self)
         ensures gone { (assumptions : _) → Forgot assumptions (state_in self.old) (state_in self.new) }
         ensures vars { self.new.vars ≡ self.old.vars }
@@ -344,7 +346,8 @@ impl<R: Recorder> Solver<R> {
         unreachable!()
     }
 
-    /// One round, and the line that it ends with, unless this is the last step. There is no answer where a line was recorded.
+    /// One round, and the line that it ends with, unless this is the last step. There is no answer where a line was
+    /// recorded.
     fn step(&mut self, assumptions: &[Lit], last: bool) -> Option<Answer>
         requires assumed { AllIn self.old.vars assumptions.now }
         requires consistent { IsConsistent assumptions.now }

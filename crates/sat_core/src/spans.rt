@@ -10,7 +10,8 @@ struct Candidate {
     place: usize,
 }
 
-/// How many levels the literals of each derived clause had when it was derived. None of this changes what may be forgotten.
+/// How many levels the literals of each derived clause had when it was derived. None of this changes what may be
+/// forgotten.
 #[derive(Drop)]
 pub struct Spans {
     levels: Vec<u32>,
@@ -32,8 +33,8 @@ impl Spans {
         }
     }
 
-    /// The places of those of these clauses that are live. Those of most levels come first, of these the longest, and of these the
-    /// oldest.
+    /// The places of those of these clauses that are live. Those of most levels come first, of these the longest, and
+    /// of these the oldest.
     pub fn least_worth(
         &self,
         alloc: Global,

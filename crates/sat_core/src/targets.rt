@@ -1,8 +1,8 @@
 use sat_trail::Step;
 use std::alloc::{AllocError, Global};
 
-/// The values of the longest row of steps that led to no false clause, by their variables. Decisions follow them half of the
-/// time, and from time to time they are looked for anew. None of this changes what a decision may be.
+/// The values of the longest row of steps that led to no false clause, by their variables. Decisions follow them half
+/// of the time, and from time to time they are looked for anew. None of this changes what a decision may be.
 #[derive(Drop)]
 pub struct Targets {
     values: Vec<Option<bool>>,
@@ -49,7 +49,8 @@ impl Targets {
         }
     }
 
-    /// Counts a line, after which the values may be looked for anew. The phases begin as they were, all false or the other way round.
+    /// Counts a line, after which the values may be looked for anew. The phases begin as they were, all false or the
+    /// other way round.
     pub fn count_line(&mut self, phases: &mut Vec<bool>) {
         self.lines = self.lines.saturating_add(1);
         if self.lines < FIRST.saturating_mul(self.turns.saturating_add(1)) {

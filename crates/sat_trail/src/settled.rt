@@ -7,8 +7,8 @@ ghost use Rattle.sat_trail.specs.Trails.{lits, depth};
 use crate::assigned::Assigned;
 use sat_clause::{Arena, Lit};
 
-/// How many numbers in a prefix of a list are those of clauses with a literal that is true at level 0, and a bound of these
-/// numbers.
+/// How many numbers in a prefix of a list are those of clauses with a literal that is true at level 0, and a bound of
+/// these numbers.
 #[derive(Clone, Copy)]
 pub struct Settled {
     /// How many.
@@ -53,18 +53,10 @@ pub fn settle(trail: &Assigned, arena: &Arena, ids: &[u64], settled: Settled) ->
         if !is_true_first(trail, arena, id) {
             return Settled { count, top };
         }
-        top = greater(top, id);
+        top = top.max(id);
         count += 1;
     }
     Settled { count, top }
-}
-
-/// The greater one of two numbers.
-fn greater(a: u64, b: u64) -> u64
-    ensures at_least_a { a ≤ result }
-    ensures second { b ≤ result }
-{
-    if a < b { b } else { a }
 }
 
 /// A literal of the clause that is true.

@@ -5,7 +5,8 @@ ghost use Rattle.std.specs.List.{filter};
 ghost use Rattle.sat_clause.specs.Hints.{is_assigned};
 ghost use Rattle.sat_clause.specs.Closed.{IsClosed};
 ghost use Rattle.sat_clause.specs.Clauses.{live_clause, opposite};
-ghost use Rattle.sat_trail.specs.Trails.{lits, IsFresh, IsTrail, IsLevelled, depth, IsIn, AllIn, trail_step_of, reason_of};
+ghost use Rattle.sat_trail.specs.Trails.{lits, IsFresh, IsTrail, IsLevelled, depth, IsIn, AllIn, trail_step_of};
+ghost use Rattle.sat_trail.specs.Trails.{reason_of};
 ghost use Rattle.sat_trail.specs.Trails.{value_of, lit_at, decision, HasValue};
 ghost use Rattle.sat_trail.specs.Attached.{AreLive, attached_clause, with_attached, without_attached, IsBehindNone};
 ghost use Rattle.sat_trail.specs.Forced.{IsForced, VarsUpTo, IsTotal};
@@ -19,8 +20,8 @@ use sat_clause::{Arena, Lit};
 use std::alloc::{AllocError, Global};
 use std::marker::Model;
 
-/// The assigned literals in order, each with its level and the clause behind it. Two literals of each attached clause are
-/// watched, so that what is forced is found without a look at all clauses.
+/// The assigned literals in order, each with its level and the clause behind it. Two literals of each attached clause
+/// are watched, so that what is forced is found without a look at all clauses.
 #[derive(Drop)]
 pub struct Trail {
     assigned: Assigned,

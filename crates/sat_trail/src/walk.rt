@@ -248,7 +248,8 @@ fn needed_levels(alloc: Global, steps: &[Step], needed: &Needed) -> Result<Vec<b
     Ok(levels)
 }
 
-/// For each step whether its literal is implied by needed ones before it. Of a level of which none is needed, none is implied.
+/// For each step whether its literal is implied by needed ones before it. Of a level of which none is needed, none is
+/// implied.
 fn covered_steps(
     alloc: Global,
     arena: &Arena,
@@ -319,8 +320,8 @@ fn resolved_by(step: Step, only_decided: bool, covered: bool) -> Option<u64>
     }
 }
 
-/// Goes back to the trail's beginning and keeps what is of an open level, or only what was decided. What follows from other
-/// needed literals is not kept. The answer is the levels of the literals that are kept.
+/// Goes back to the trail's beginning and keeps what is of an open level, or only what was decided. What follows from
+/// other needed literals is not kept. The answer is the levels of the literals that are kept.
 fn to_start(
     arena: &Arena,
     steps: &[Step],

@@ -200,7 +200,8 @@ fn take_out_all(lists: &mut Vec<Vec<Entry>>, id: u64)
     }
 }
 
-/// Takes a clause out of all lists before its number is used for another one. It stands in none where no number is this high.
+/// Takes a clause out of all lists before its number is used for another one. It stands in none where no number is this
+/// high.
 fn make_free(lists: &mut Vec<Vec<Entry>>, count: usize, id: u64)
     ensures size { length (rows lists.new.items) ≡ length (rows lists.old.items) }
     ensures others { (k x : ℕ) → (x ≡ id → ⊥) → is_among (row_at (rows lists.old.items) k) x ≡ true
@@ -439,7 +440,8 @@ fn next_false(trail: &Assigned, head: usize) -> Option<Lit>
     None
 }
 
-/// Looks at the clauses of one literal after another, while these are of the last level. The answer is a clause that is false.
+/// Looks at the clauses of one literal after another, while these are of the last level. The answer is a clause that is
+/// false.
 fn advance(
     trail: &mut Assigned,
     watches: &mut Watches,
@@ -467,7 +469,8 @@ fn advance(
     Ok(None)
 }
 
-/// What is found without the watches: in the loose clauses that are not settled, or in all of them where a literal of a lower level is still to be looked at.
+/// What is found without the watches: in the loose clauses that are not settled, or in all of them where a literal of a
+/// lower level is still to be looked at.
 fn rest(
     trail: &Assigned,
     watches: &Watches,

@@ -1,5 +1,5 @@
 -- Values that make the clauses of trains in turn true give a plan whose model does.
-use Rattle.std.proofs.Common.{◌≡◌, ℕ, ◌≤◌, inl, inr, Bool, true, List, map, flat_map, sym, ap, subst, ◌∙◌}
+use Rattle.std.proofs.Common.{◌≡◌, ℕ, inl, inr, Bool, true, List, map, flat_map, sym, ap, subst, ◌∙◌}
 use Rattle.std.specs.List.{list_all}
 use Rattle.alike_clause_spec.specs.Turns.{beginnings, has_begun, in_turn, turn_clauses}
 use Rattle.alike_clause_spec.proofs.Holding.{OfPair, of_pair, all_known}

@@ -170,7 +170,8 @@ fn proof_by_head<S: Shelf>(
     text_by_head(alloc, interlocking, bytes.as_slice())
 }
 
-/// The reply for the steps that are given, or else as many as the head of the proof names, by the name of the proof's file.
+/// The reply for the steps that are given, or else as many as the head of the proof names, by the name of the proof's
+/// file.
 fn for_proof<S: Shelf>(
     alloc: Global,
     shelf: &mut S,

@@ -7,7 +7,8 @@ pub fn refuses_as_check()
     ensures { RefusesAsCheck }
 {}
 
-/// Where a check of the files says yes, so does the answer, and its lines are the sentences about the proof's lines, in order.
+/// Where a check of the files says yes, so does the answer, and its lines are the sentences about the proof's lines, in
+/// order.
 pub fn explains_where_yes()
     ensures { ExplainsWhereYes }
 {}

@@ -21,9 +21,9 @@ use rail_words::WordsFault;
 use std::alloc::Global;
 use why_words::{check_words, read_wanted};
 
-/// Does what the words of a command line ask for, the first of which is the program's name: reads the design and the proof
-/// that they name from the shelf, checks the proof, and prints the sentences about its cones and bounds, or what the check
-/// answers where it is not yes. All of its text is made before the first line is printed.
+/// Does what the words of a command line ask for, the first of which is the program's name: reads the design and the
+/// proof that they name from the shelf, checks the proof, and prints the sentences about its cones and bounds, or what
+/// the check answers where it is not yes. All of its text is made before the first line is printed.
 ///
 /// Where the shelf's files are known, the status and the text are those of the answer that these files give; want of
 /// memory, a fault of the shelf or a fault of the sink may come in its place.

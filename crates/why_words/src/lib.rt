@@ -1,4 +1,5 @@
-//! The words of the command line of `rcv_why`: those of `rcv check` without its name, of which the steps may be left out.
+//! The words of the command line of `rcv_why`: those of `rcv check` without its name, of which the steps may be left
+//! out.
 #![tactic(auto)]
 
 mod laws;

@@ -1,5 +1,5 @@
-//! Worked examples of `rcv`, as data files have them: files on a shelf, commands that are run over it, and what they have to
-//! answer and to leave. Beside them stand a shelf and a sink in memory that want memory at a chosen call.
+//! Worked examples of `rcv`, as data files have them: files on a shelf, commands that are run over it, and what they
+//! have to answer and to leave. Beside them stand a shelf and a sink in memory that want memory at a chosen call.
 #![tactic(auto)]
 
 mod judging;

@@ -1,4 +1,5 @@
-//! Worked examples below the commands: runs and searches whose budgets no command gives, and clauses for which none asks.
+//! Worked examples below the commands: runs and searches whose budgets no command gives, and clauses for which none
+//! asks.
 #![tactic(auto)]
 
 use anyhow::{Result, ensure};

@@ -1,4 +1,4 @@
-use Rattle.std.proofs.Common.{List, ap, sym, map}
+use Rattle.std.proofs.Common.{List, ap, sym}
 use Rattle.rail_base.specs.declared.route.Route.{Route}
 use Rattle.bound_spec.specs.Certificates.{ride_of}
 use Rattle.bound_spec.specs.Rides.{least_route, release_place, run_ticks}

@@ -1,6 +1,4 @@
-use Rattle.std.proofs.Common.{ℕ, ◌+◌, ◌-◌, ◌≤◌, ◌<◌, max, List, arith}
-use Rattle.rail_spec.specs.Motion.{SpanSeen, KeepsLimits}
-use Rattle.rail_laws.specs.Tails.{KeepsUnderTrain}
+use Rattle.std.proofs.Common.{◌+◌, max, arith}
 use Rattle.rail_laws.proofs.laws.limits_bind_until_the_tail_has_left.Goals as goal
 
 pub returns : goal.returns

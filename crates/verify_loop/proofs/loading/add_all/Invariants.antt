@@ -1,4 +1,4 @@
-use Rattle.std.proofs.Common.{◌≡◌, ◌++◌, take}
+use Rattle.std.proofs.Common.{take}
 use Rattle.verify_loop.specs.Loading.{IsLonger}
 use Rattle.verify_loop.proofs.loading.add_all.Given as goal
 

@@ -1,6 +1,4 @@
-use Rattle.std.proofs.Common.{◌≡◌, ℕ, ◌≤◌, ◌+◌, List, length, Some, sym, ap₂, subst, arith}
-use Rattle.std.specs.List.{slice_get}
-use Rattle.rail_base.specs.declared.plan.Command.{Command}
+use Rattle.std.proofs.Common.{ℕ, ◌≤◌, ◌+◌, length, sym, ap₂, arith}
 use Rattle.bound_clause.proofs.Placing.{place_before}
 use Rattle.bound_clause.proofs.numbered.NumberedBound.before.Goals as goal
 
