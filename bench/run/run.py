@@ -140,15 +140,16 @@ def braked(designed, brake):
     return designed
 
 
-def round_a_loop(rounds, edges, length, speed):
+def round_a_loop(rounds, edges, length, speed, fall=0):
     """A train that goes round a loop of many edges again and again, and another that waits until it is through. Where the loop begins
     and ends a tree of switches joins as many tracks, each with a signal, so that the train comes by another one each time: the design,
-    and the starts of the first train's routes."""
+    and the starts of the first train's routes. Each edge of the loop is slower than the one before by `fall` mm/s."""
     design = Design(vehicle(speed, length))
 
-    def edge(start, end):
+    def edge(start, end, slower=0):
         own = len(design.entries["edge"])
-        design.add("edge", **{"from": start}, from_side="b", to=end, to_side="a", length_mm=length, speed_mm_s=speed, section=f"section{own}")
+        design.add("edge", **{"from": start}, from_side="b", to=end, to_side="a", length_mm=length, speed_mm_s=speed - slower,
+                   section=f"section{own}")
 
     def tree(leaves, join):
         """Joins the leaves pair by pair; the root."""
@@ -168,9 +169,9 @@ def round_a_loop(rounds, edges, length, speed):
     for track in tracks:
         design.add("signal", node=track, toward="b")
     nodes = [tree([entry, *tracks], lambda pair: joined(pair, False))]
-    for _ in range(edges):
+    for number in range(edges):
         nodes.append(design.add("node", boundary=False))
-        edge(nodes[-2], nodes[-1])
+        edge(nodes[-2], nodes[-1], number * fall)
     edge(nodes[-1], tree(tracks, lambda pair: joined(pair, True)))
     for _ in range(2):
         design.add("train", vehicle="v", visits=[[entry], [nodes[1]]])
@@ -240,6 +241,7 @@ def commands(program, folder):
     yield "the same with brakes of 100 mm/s2", 2, "fails", simulated(program, folder, braked(in_turn(128, 1_998, 100_000, 100_000), 100))
     yield "a train 44 times round a loop of 1,850 edges", 2, "met", looped(program, folder, 700, 44, 1_850, 20_000, 20_000)
     yield "the same with brakes of 1 mm/s2", 2, "fails", looped(program, folder, 1, 44, 1_850, 20_000, 20_000)
+    yield "the same, each edge 1 mm/s slower than the one before", 2, "fails", looped(program, folder, 1, 44, 1_850, 20_000, 20_000, 1)
     yield "128 trains in a row over up to 256 routes each", 2, "met", simulated(program, folder, in_rows(1, 128, 256, 10_000, 20_000, 2))
     yield "126 trains in three rows over up to 256 routes each", 2, "met", simulated(program, folder, in_rows(3, 126, 256, 10_000, 20_000, 2))
     refused = "plan refused P4 step 1 train train0 section section0"

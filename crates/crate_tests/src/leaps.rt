@@ -12,6 +12,7 @@ fn from_rest_over_long_track(rt: HostRuntime) {
     let spans = [Span {
         end: 10_000_000,
         limit: 2000,
+        slower_in: 1,
     }];
     let ahead = Ahead {
         spans: &spans,
@@ -62,6 +63,7 @@ fn to_the_end_of_authority(rt: HostRuntime) {
     let spans = [Span {
         end: 3000,
         limit: 2000,
+        slower_in: 1,
     }];
     let ahead = Ahead {
         spans: &spans,
@@ -97,10 +99,12 @@ fn limits_on_the_way(rt: HostRuntime) {
         Span {
             end: 5000,
             limit: 2000,
+            slower_in: 1,
         },
         Span {
             end: 10_000,
             limit: 500,
+            slower_in: 1,
         },
     ];
     let ahead = Ahead {
@@ -125,8 +129,8 @@ fn limits_on_the_way(rt: HostRuntime) {
     );
 }
 
-/// Out of a limit of 500 mm per tick at 5,000 mm: limits bind the vehicle 2,000 mm behind its head, so it gains speed from
-/// 7,000 mm on.
+/// Out of a limit of 500 mm per tick at 5,000 mm: limits bind the vehicle 2,000 mm behind its head, so it gains speed
+/// from 7,000 mm on.
 #[test]
 fn limits_bind_the_tail(rt: HostRuntime) {
     let motor = Motor {
@@ -139,10 +143,12 @@ fn limits_bind_the_tail(rt: HostRuntime) {
         Span {
             end: 5000,
             limit: 500,
+            slower_in: 1,
         },
         Span {
             end: 10_000,
             limit: 2000,
+            slower_in: 1,
         },
     ];
     let ahead = Ahead {
@@ -202,10 +208,12 @@ fn a_long_braking(rt: HostRuntime) {
         Span {
             end: 6_000_000_000,
             limit: 100_000,
+            slower_in: 1,
         },
         Span {
             end: 7_000_000_000,
             limit: 10,
+            slower_in: 1,
         },
     ];
     for (end, ticks, x) in [

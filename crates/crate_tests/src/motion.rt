@@ -1,7 +1,7 @@
 ghost use Rattle.std.specs.Prelude.{IfOk};
-ghost use Rattle.rail_motion.specs.Track.{IsRising};
+ghost use Rattle.rail_motion.specs.Track.{IsRising, NoneSlower};
 
-use rail_motion::{Ahead, Motor, Span, advance, brakes, next_speed, permitted, step};
+use rail_motion::{Ahead, Motor, Span, advance, brakes, mark_slower, next_speed, permitted, step};
 use std::alloc::{AllocError, Global};
 use std::test::Fail;
 
@@ -25,6 +25,7 @@ fn stops_at_the_end(rt: HostRuntime) {
     let spans = [Span {
         end: 3000,
         limit: 2000,
+        slower_in: 1,
     }];
     let ahead = Ahead {
         spans: &spans,
@@ -59,10 +60,12 @@ fn slows_down(rt: HostRuntime) {
         Span {
             end: 5000,
             limit: 2000,
+            slower_in: 1,
         },
         Span {
             end: 10000,
             limit: 500,
+            slower_in: 1,
         },
     ];
     let ahead = Ahead {
@@ -95,18 +98,20 @@ fn slows_down(rt: HostRuntime) {
     }
 }
 
-/// Out of a limit of 500 mm per tick at 5,000 mm: a vehicle whose tail limits bind too, 2,000 mm behind its head, goes on at
-/// that speed up to 7,000 mm.
+/// Out of a limit of 500 mm per tick at 5,000 mm: a vehicle whose tail limits bind too, 2,000 mm behind its head, goes
+/// on at that speed up to 7,000 mm.
 #[test]
 fn gains_speed_when_the_tail_has_left(rt: HostRuntime) {
     let spans = [
         Span {
             end: 5000,
             limit: 500,
+            slower_in: 1,
         },
         Span {
             end: 10000,
             limit: 2000,
+            slower_in: 1,
         },
     ];
     let ahead = Ahead {
@@ -146,6 +151,16 @@ fn gains_speed_when_the_tail_has_left(rt: HostRuntime) {
 
 /// Spans of 500,000 mm with the limit 100,000 mm per tick.
 fn long_spans(alloc: Global, count: u16) -> Result<Vec<Span>, AllocError>
+    ensures rising { IfOk result (λ spans. IsRising spans.items) }
+    ensures none_slower { IfOk result (λ spans. NoneSlower spans.items) }
+{
+    let mut spans = unmarked_spans(alloc, count)?;
+    mark_slower(&mut spans);
+    Ok(spans)
+}
+
+/// The same, of which it is not noted yet where they are slower.
+fn unmarked_spans(alloc: Global, count: u16) -> Result<Vec<Span>, AllocError>
     ensures { IfOk result (λ spans. IsRising spans.items) }
 {
     let mut spans = Vec::new(alloc);
@@ -154,9 +169,29 @@ fn long_spans(alloc: Global, count: u16) -> Result<Vec<Span>, AllocError>
         spans.push(Span {
             end,
             limit: 100_000,
+            slower_in: 1,
         })?;
     }
     Ok(spans)
+}
+
+/// Of limits of 5, 7, 5, 3 and 4 mm per tick the first is lower again in 3 spans, and the fourth nowhere.
+#[test]
+fn notes_where_limits_are_lower(rt: HostRuntime) -> Result<(), Fail> {
+    let mut spans = Vec::new(rt.alloc());
+    for limit in [5u16, 7, 5, 3, 4] {
+        assert!(rt; limit >= 1);
+        spans.push(Span {
+            end: 1000,
+            limit: i64::from(limit),
+            slower_in: 1,
+        })?;
+    }
+    mark_slower(&mut spans);
+    for (span, slower_in) in spans.iter().zip([3usize, 1, 1, 2, 1].iter()) {
+        assert_eq!(rt; span.slower_in, *slower_in);
+    }
+    Ok(())
 }
 
 /// Braking distances of 100,000 moves and 5,000,050,000 mm over 10,000 spans.

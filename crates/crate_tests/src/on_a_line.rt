@@ -6,8 +6,8 @@ use rail_base::route::RouteNo;
 use rail_base::station::TrainNo;
 use std::test::Fail;
 
-/// Heads 500, 1500, 3000, 5000 and so on, by 2,000 a tick: to the exit, and to where a train of 2,000 mm has left the first
-/// section.
+/// Heads 500, 1500, 3000, 5000 and so on, by 2,000 a tick: to the exit, and to where a train of 2,000 mm has left the
+/// first section.
 #[test]
 fn ticks_from_the_grant(rt: HostRuntime) -> Result<(), Fail> {
     let alloc = rt.alloc();

@@ -1,7 +1,6 @@
 -- A list that is filled in from its front on.
 use Rattle.std.proofs.Common.{◌≡◌, ℕ, zero, suc, ◌<◌, ◌≤◌, List, [], ◌∷◌, ◌++◌, length, get_or, set, take, drop, map, refl, ap, ◌∙◌, arith}
 use Rattle.std.proofs.lemmas.List.{append-nil, drop_all}
-use Rattle.std.specs.List.{zip}
 
 module _ {X Y : Type 0} (f : X → Y → Y) where
   -- the first i members are made of those of the other list

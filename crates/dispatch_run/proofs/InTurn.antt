@@ -1,5 +1,5 @@
 -- What is come to in turn is marked in turn, and marks are as the definitions have them.
-use Rattle.std.proofs.Common.{◌≡◌, ℕ, zero, suc, ◌+◌, ◌-◌, ◌≤◌, ◌<◌, ◌⊎◌, inl, inr, Bool, true, false, ◌&&◌, List, [], ◌∷◌, map, length, get_or, Option, None, Some, refl, sym, ap, ◌∙◌, subst, arith, is_some, nat_le, nat_lt, leb-true, le-leb, ltb-true, lt-ltb, le_refl}
+use Rattle.std.proofs.Common.{◌≡◌, ℕ, zero, suc, ◌+◌, ◌-◌, ◌≤◌, ◌<◌, ◌⊎◌, inl, inr, Bool, true, false, ◌&&◌, List, map, length, get_or, Option, None, Some, refl, sym, ap, ◌∙◌, subst, arith, is_some, nat_le, nat_lt, leb-true, le-leb, ltb-true, lt-ltb}
 use Rattle.std.specs.List.{enumerate_from}
 use Rattle.std.proofs.lemmas.List.{ext_get_or, get_or-map}
 use Rattle.std.proofs.lemmas.List.FromFn.{get_or-enumerate_from, length-enumerate_from}
@@ -17,9 +17,9 @@ use Rattle.rail_base.specs.Members.{In}
 use Rattle.rail_base.proofs.Contained.{in_at}
 use Rattle.rail_base.proofs.Lists.{length-map}
 use Rattle.rail_base.proofs.Members.{and_left, and_right, and_both, below_or_not, false_unless, map-map}
-use Rattle.rail_spec.specs.Visits.{is_passed, has_passed, pass_tick, passed, path_nodes_of_train}
+use Rattle.rail_spec.specs.Visits.{is_passed, has_passed, pass_tick, path_nodes_of_train}
 use Rattle.rail_spec.specs.Dispatches.{Dispatch, state_of, state_at}
-use Rattle.quiet_spec.specs.Histories.{grant_tick, granted, released, train_history}
+use Rattle.quiet_spec.specs.Histories.{grant_tick, granted, train_history}
 use Rattle.rail_course.specs.declared.journey.Release.{Release}
 use Rattle.rail_course.specs.declared.milestones.Milestone.{Milestone}
 use Rattle.rail_course.specs.Milestones.{AreMilestones, ComeInTurn}

@@ -1,6 +1,6 @@
 -- A list whose members are marked from what is reached back to what was marked earlier.
 use Rattle.std.proofs.Common.{◌≡◌, ℕ, suc, ◌+◌, ◌-◌, ◌≤◌, ◌<◌, ◌⊎◌, inl, inr, ◌==◌, Bool, true, false, List, [], ◌∷◌, map, length, get_or, set, slice_get, Option, None, Some, refl, sym, ap, ◌∙◌, subst, arith, is_some, eqb-true, eq-eqb, if◌then◌else◌, nat_lt, ltb-true}
-use Rattle.std.specs.List.{AllWithin, Contains, list_any, zip}
+use Rattle.std.specs.List.{AllWithin, Contains, zip}
 use Rattle.std.proofs.lemmas.List.{ext_get_or, get_or_default, get_or-map, get_or-set_other, length-set}
 use Rattle.std.proofs.lemmas.Grind.{get_or-set_at}
 use Rattle.std.proofs.lemmas.Option.{slice_get_within, get_or_from_slice_get}

@@ -7,18 +7,21 @@ ghost use Rattle.dispatch_run.specs.InTraffic.{IsProgressIn, history_in};
 
 use crate::looks::{Look, first_looks, next_tick};
 use crate::traffic::Traffic;
+use crate::visits::has_looked_visit_at;
 use rail_base::history::TrainHistory;
 use rail_base::state::TrainState;
 use std::alloc::{AllocError, Global};
 
 /// How far a run has come: the tick, each train as it was looked at last, when it was and when it is to be looked at
-/// next, and what has happened by then.
+/// next, what has happened by then, and whether a visit is made in the tick.
 #[derive(Drop)]
 pub struct Progress {
     pub tick: u64,
     pub states: Vec<TrainState>,
     pub looks: Vec<Look>,
     pub histories: Vec<TrainHistory>,
+    /// Whether a visit is made in its tick.
+    pub visited: bool,
 }
 
 impl Traffic<'_> {
@@ -34,6 +37,7 @@ impl Traffic<'_> {
             states: self.first_states(alloc)?,
             looks: first_looks(self, alloc)?,
             histories: self.first_histories(alloc)?,
+            visited: false,
         })
     }
 
@@ -70,12 +74,14 @@ impl Traffic<'_> {
             progress.looks.as_slice(),
             tick,
         )?;
+        let visited = has_looked_visit_at(progress.looks.as_slice(), histories.as_slice(), tick);
         let looks = self.next_looks(alloc, states.as_slice(), progress.looks.as_slice(), tick)?;
         Ok(Progress {
             tick,
             states,
             looks,
             histories,
+            visited,
         })
     }
 

@@ -137,7 +137,7 @@ impl Traffic<'_> {
         ghost dispatch: { Dispatch }
         requires followed_train { IsFollowedTrainIn self.now dispatch followed_train.now }
         requires at_least_one { 1 ≤ tick }
-        requires told { IsToBeMarkedIn self.now dispatch tick followed_train.now state look history.old }
+        requires to_be_marked { IsToBeMarkedIn self.now dispatch tick followed_train.now state look history.old }
         ensures { OnOk result (history.new ≡ train_history_in self.now dispatch tick followed_train.now) }
     {
         if look.until != tick {

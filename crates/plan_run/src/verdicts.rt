@@ -10,7 +10,7 @@ ghost use Rattle.rail_laws.specs.Progress.{IsGrantedInTime};
 ghost use Rattle.rail_spec.specs.Dispatches.{Dispatch};
 ghost use Rattle.plan_run.specs.Planned.{IsPlanned};
 
-use crate::due::next_due;
+use crate::asked::{due_after, violation_now};
 use crate::planned::followed_trains;
 use dispatch_run::Traffic;
 use dispatcher::journeys;
@@ -18,10 +18,9 @@ use interlocking::Interlocking;
 use rail_base::history::Verdict;
 use rail_base::list::List;
 use rail_base::plan::Plan;
-use rail_course::{Itineraries, PlannedTrainPaths, TrainPaths, paths_of};
-use rail_require::{are_done, violation_of_history};
+use rail_course::{Itineraries, PlannedJourneys, PlannedTrainPaths, TrainPaths, paths_of};
+use rail_require::are_done;
 use std::alloc::{AllocError, Global};
-use tick_sim::Run;
 
 /// What so many ticks of a run show of a plan: that it meets the design, that it fails and why, or nothing yet. The
 /// history ends with the deciding tick.
@@ -46,8 +45,8 @@ pub fn simulate(
     run_plan(alloc, interlocking, plan, ticks)
 }
 
-/// The verdict of a plan whose paths make all visits: it is asked at each tick at which something happens to a train or
-/// a greatest time may end.
+/// The verdict of a plan whose paths make all visits. Whether all is done is asked at each tick at which something
+/// happens to a train, and what fails only where a visit is made or a greatest time may end.
 fn verdict_by_events(
     traffic: &Traffic,
     plan: &Plan,
@@ -65,11 +64,12 @@ fn verdict_by_events(
     let design = &traffic.interlocking.design;
     let last = ticks.min(design.horizon());
     let mut progress = traffic.begin(alloc)?;
+    let mut due = 0;
     while progress.tick < last {
-        let due = next_due(design, progress.histories.as_slice(), progress.tick, last);
+        due = due_after(design, &progress, due, last);
         progress = traffic.advance(alloc, progress, due)?;
         let tick = progress.tick;
-        if let Some(violation) = violation_of_history(design, progress.histories.as_slice(), tick) {
+        if let Some(violation) = violation_now(design, &progress, due) {
             return Ok(Verdict::Failed {
                 history: List::from_vec(progress.histories),
                 tick,
@@ -87,7 +87,7 @@ fn verdict_by_events(
 }
 
 /// The verdict of the plan that is run.
-fn verdict(run: &Run, alloc: Global, ticks: u64) -> Result<Verdict, AllocError>
+fn verdict(run: &PlannedJourneys, alloc: Global, ticks: u64) -> Result<Verdict, AllocError>
     ensures { IfOk result (λ v. v
         ≡ verdict_of run.now.interlocking.now.design.station run.now.interlocking.now.routes
         run.now.plan.now.steps ticks) }
@@ -133,7 +133,7 @@ fn run_plan<'a>(
     };
     let planned = PlannedTrainPaths { train_paths, plan };
     let journeys = journeys(alloc, &planned)?;
-    let run = Run {
+    let run = PlannedJourneys {
         interlocking,
         plan,
         journeys: journeys.as_slice(),

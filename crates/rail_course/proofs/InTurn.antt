@@ -1,5 +1,5 @@
 -- What stands on a later route of a path is no nearer.
-use Rattle.std.proofs.Common.{◌≡◌, ℕ, zero, suc, ◌+◌, ◌≤◌, ◌<◌, ◌⊎◌, inl, inr, Bool, true, false, if◌then◌else◌, List, [], ◌∷◌, ◌++◌, All, map, flat_map, length, take, nat_abs, ℤ, sum_by, refl, sym, ap, ap₂, ◌∙◌, subst, arith, eq-eqb, eqb-true}
+use Rattle.std.proofs.Common.{◌≡◌, ℕ, zero, suc, ◌+◌, ◌≤◌, ◌<◌, ◌⊎◌, inl, inr, Bool, true, false, if◌then◌else◌, List, [], ◌∷◌, ◌++◌, map, length, take, nat_abs, ℤ, sum_by, refl, sym, ap, ap₂, ◌∙◌, subst, arith, eq-eqb, eqb-true}
 use Rattle.std.proofs.lemmas.List.Sums.{sum_by-cons}
 use Rattle.rail_base.specs.declared.station.Station.{Station}
 use Rattle.rail_base.specs.declared.station.NodeNo.{NodeNo}
@@ -7,7 +7,6 @@ use Rattle.rail_base.specs.declared.station.SectionNo.{SectionNo}
 use Rattle.rail_base.specs.declared.station.TrainNo.{TrainNo}
 use Rattle.rail_base.specs.declared.route.Route.{Route}
 use Rattle.rail_base.specs.declared.route.RouteNo.{RouteNo}
-use Rattle.rail_base.specs.declared.plan.Command.{Command}
 use Rattle.rail_base.specs.declared.state.PathNode.{PathNode}
 use Rattle.rail_base.specs.Members.{In}
 use Rattle.rail_base.specs.Numbering.{after_first, before_first}
@@ -16,7 +15,7 @@ use Rattle.rail_base.specs.Routes.{route_at, sections, release_offset, length_mm
 use Rattle.rail_base.proofs.Lists.{in_append, in_flat_map_back, in_map_back, length-map}
 use Rattle.rail_base.proofs.Members.{below_or_not}
 use Rattle.rail_spec.specs.Plans.{is_route}
-use Rattle.rail_spec.specs.Dispatches.{Dispatch, routes_before}
+use Rattle.rail_spec.specs.Dispatches.{Dispatch}
 use Rattle.rail_spec.specs.Visits.{path_nodes, path_nodes_of, path_nodes_after}
 use Rattle.rail_course.specs.declared.journey.Release.{Release}
 use Rattle.rail_course.specs.Milestones.{ComeInTurn}

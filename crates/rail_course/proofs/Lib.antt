@@ -9,3 +9,5 @@ pub mod Numbered
 pub mod Prefixing
 pub mod InTurn
 pub mod Sorting
+pub mod Reaching
+pub mod Lawful

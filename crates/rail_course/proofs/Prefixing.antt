@@ -12,7 +12,7 @@ use Rattle.rail_base.specs.Stations.{length_of}
 use Rattle.rail_base.specs.Routes.{route_at}
 use Rattle.rail_base.proofs.Lists.{length-map}
 use Rattle.rail_motion.specs.declared.Span.{Span}
-use Rattle.rail_motion.specs.Track.{stretch_of, stretches_of, IsRising}
+use Rattle.rail_motion.specs.Track.{stretch_of, stretches_of, IsRising, NoneSlower}
 use Rattle.rail_spec.specs.Track.{edge_ends}
 use Rattle.rail_spec.specs.Dispatches.{Dispatch, stretch, stretches, authority, rates, moved}
 use Rattle.rail_course.specs.declared.train_path.TrainPath.{TrainPath}
@@ -42,17 +42,24 @@ length-ends : (d : Station) (o : ℕ) (es : List EdgeNo) → length (map (stretc
 length-ends d o [] = refl
 length-ends d o (e ∷ es) = ap suc (length-ends d (o + length_of d e) es)
 
+length_take-least : (n : ℕ) (xs : List Span) → length (take n xs) ≤ n
+length_take-least zero xs = omega arith
+length_take-least (suc n) [] = omega arith
+length_take-least (suc n) (x ∷ xs) = let l = length_take-least n xs in omega arith
+
 pub rising_first : (n : ℕ) (spans : List Span) → n ≤ length spans → IsRising spans → IsRising (take n spans)
 rising_first n spans fits h = λ i j other l m.
-    let k : length (take n spans) ≤ n = length-take n spans in
+    let k : length (take n spans) ≤ n = length_take-least n spans in
     let less : i < n = omega arith in
     let near : j < n = omega arith in
     rw (get_or-take n spans i other less, get_or-take n spans j other near) (h i j other l (omega arith))
-  where
-    length-take : (n : ℕ) (xs : List Span) → length (take n xs) ≤ n
-    length-take zero xs = omega arith
-    length-take (suc n) [] = omega arith
-    length-take (suc n) (x ∷ xs) = let l = length-take n xs in omega arith
+
+pub none_slower_first : (n : ℕ) (spans : List Span) → n ≤ length spans → NoneSlower spans → NoneSlower (take n spans)
+none_slower_first n spans fits h = λ i j other l m.
+    let k : length (take n spans) ≤ n = length_take-least n spans in
+    let less : i < n = omega arith in
+    let near : j < n = omega arith in
+    rw (get_or-take n spans i other less, get_or-take n spans j other near) (h i j other l (omega arith))
 
 pub length_of-take : {X : Type 0} (n : ℕ) (xs : List X) → n ≤ length xs → length (take n xs) ≡ n
 length_of-take zero xs h = refl

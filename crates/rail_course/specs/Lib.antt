@@ -11,3 +11,4 @@ pub mod Releases
 pub mod Journeys
 pub mod Itineraries
 pub mod Planned
+pub mod Runs

@@ -4,8 +4,10 @@
 mod grants;
 mod itineraries;
 mod journey;
+mod journeys;
 pub mod laws;
 mod milestones;
+mod missed;
 mod motor;
 mod path_nodes;
 mod planned;
@@ -18,6 +20,7 @@ mod waits;
 pub use grants::{IDLE, granted_on, state_of};
 pub use itineraries::Itineraries;
 pub use journey::{Journey, Release};
+pub use journeys::PlannedJourneys;
 pub use milestones::Milestone;
 pub use motor::motor_of;
 pub use path_nodes::{path_nodes_of, visits_of};

@@ -47,8 +47,8 @@ fn accel_per_tick(accel: u32, tick_ms: u32) -> i64
     (u64::from(accel) * u64::from(tick_ms) * u64::from(tick_ms) / 1_000_000) as i64
 }
 
-/// How far behind its head limits bind a train, in mm: not at all in designs of version 1, and from version 2 on as far as the
-/// train is long.
+/// How far behind its head limits bind a train, in mm: not at all in designs of version 1, and from version 2 on as far
+/// as the train is long.
 fn binding_length(design: &Design, train: TrainNo) -> i64
     requires { IsTrain design.now.station train }
     ensures value { nat_abs result ≡ binding_length design.now.station train }

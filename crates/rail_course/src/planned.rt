@@ -38,8 +38,8 @@ pub fn paths_of(
 pub struct PlannedTrainPaths<'a> {
     pub train_paths: TrainPaths<'a>,
     pub plan: &'a Plan,
-    pub ghost formed: { IsWellFormed train_paths.given.interlocking.now.design.station train_paths.given.interlocking.now.routes
-        256 plan.now.steps },
+    pub ghost formed: { IsWellFormed train_paths.given.interlocking.now.design.station
+        train_paths.given.interlocking.now.routes 256 plan.now.steps },
     pub ghost paths: { train_paths.given.paths.now
         ≡ map (path plan.now.steps) (trains train_paths.given.interlocking.now.design.station) },
 }

@@ -1,7 +1,7 @@
 //! The spans of a path, each an edge's.
 
 ghost use Rattle.std.specs.Prelude.{◌≡◌, ◌<◌, ◌≤◌, ◌+◌, ◌^◌, ◌++◌, All, IfOk, OnOk, map, sum_by};
-ghost use Rattle.rail_motion.specs.Track.{stretches_of, IsRising};
+ghost use Rattle.rail_motion.specs.Track.{stretches_of, IsRising, NoneSlower};
 ghost use Rattle.rail_base.specs.Stations.{IsEdge, edge_of, length_of, per_tick_speed};
 ghost use Rattle.rail_base.specs.Routes.{IsRoute};
 ghost use Rattle.rail_spec.specs.Track.{edge_ends};
@@ -13,11 +13,37 @@ use rail_base::design::Design;
 use rail_base::list::List;
 use rail_base::route::{RouteNo, route_at};
 use rail_base::station::EdgeNo;
-use rail_motion::Span;
+use rail_motion::{Span, mark_slower};
 use std::alloc::{AllocError, Global};
 
 /// The spans of routes in a row.
 pub fn spans_of(
+    alloc: Global,
+    interlocking: &Interlocking,
+    path: &[RouteNo],
+) -> Result<Vec<Span>, AllocError>
+    requires named { All (IsRoute interlocking.now.routes) path.now }
+    requires below_2_47 { path_length interlocking.now.routes path.now < 2 ^ 47 }
+    ensures track { IfOk result (λ spans. stretches_of spans.items
+        ≡ stretches interlocking.now.design.station (routes_at interlocking.now.routes path.now)) }
+    ensures rising { IfOk result (λ spans. IsRising spans.items) }
+    ensures none_slower { IfOk result (λ spans. NoneSlower spans.items) }
+{
+    let mut spans = path_spans(alloc, interlocking, path)?;
+    mark_slower(&mut spans);
+    Ok(spans)
+}
+
+/// The limit of an edge, in mm per tick.
+fn limit_of(design: &Design, edge: EdgeNo) -> u64
+    requires { HasLimit design.now.station edge }
+    ensures { result ≡ per_tick_speed design.now.station (edge_of design.now.station edge).speed_mm_s }
+{
+    u64::from(design.edge(edge).speed_mm_s) * u64::from(design.station.tick_ms) / 1000
+}
+
+/// The same, of which it is not noted yet where they are slower.
+fn path_spans(
     alloc: Global,
     interlocking: &Interlocking,
     path: &[RouteNo],
@@ -38,14 +64,6 @@ pub fn spans_of(
     Ok(spans)
 }
 
-/// The limit of an edge, in mm per tick.
-fn limit_of(design: &Design, edge: EdgeNo) -> u64
-    requires { HasLimit design.now.station edge }
-    ensures { result ≡ per_tick_speed design.now.station (edge_of design.now.station edge).speed_mm_s }
-{
-    u64::from(design.edge(edge).speed_mm_s) * u64::from(design.station.tick_ms) / 1000
-}
-
 /// Adds the spans of edges in a row, of which the first begins at an offset in mm.
 fn push_spans(
     spans: &mut Vec<Span>,
@@ -64,6 +82,7 @@ fn push_spans(
         spans.push(Span {
             end: offset as i64,
             limit: limit_of(design, *edge) as i64,
+            slower_in: 1,
         })?;
     }
     Ok(())

@@ -87,3 +87,18 @@ faster_small u b limit d (suc q) less slows slow over count before = go (counts 
         let top : q + 1 ≤ 100001 = omega arith in
         let h : (q * b) * (q + 1) ≤ 100000 * 100001 = mul-le-mul way top in
         rw (same, more) (omega (arith, h))
+
+-- each of the moves above a limit is at most the first
+pub faster_at_most : (u b limit d track : ℕ) → 1 ≤ b → d ≡ u - limit → (d + b) * u ≤ b * track → faster_distance u b limit u ≤ track
+faster_at_most u b limit d track slows over enough = go (div_ceil d b) (counts d b (div_ceil d b) slows refl) (twice_faster u b limit d (div_ceil d b) (div_ceil d b - 1) slows over refl refl) (cases_lt track (faster_distance u b limit u))
+  where
+    go : (m : ℕ) → (d ≤ m * b) × (m * b < d + b) → 2 * faster_distance u b limit u + b * (m * (m - 1)) ≡ 2 * (m * u) → (track < faster_distance u b limit u) ⊎ (faster_distance u b limit u ≤ track) → faster_distance u b limit u ≤ track
+    go m (reached, few) twice (inr within) = within
+    go m (reached, few) twice (inl past) =
+        let first : faster_distance u b limit u ≤ m * u = omega arith in
+        let more : track + 1 ≤ m * u = omega arith in
+        let product : b * (track + 1) ≤ b * (m * u) = mul-le-mul (le_refl b) more in
+        let moves : (m * b) * u ≤ (d + b) * u = mul-le-mul (let l = few in omega arith) (le_refl u) in
+        let turned : b * (m * u) ≡ (m * b) * u = omega arith in
+        let taken : b * (track + 1) ≡ b * track + b = omega arith in
+        absurd (omega arith)

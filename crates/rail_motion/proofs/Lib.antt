@@ -1,4 +1,6 @@
 pub mod Distances
 pub mod Points
 pub mod Rising
+pub mod Skipping
+pub mod Marking
 pub mod Moves

@@ -2,8 +2,8 @@
 use Rattle.std.proofs.Common.{◌≡◌, ℕ, zero, suc, ◌+◌, ◌-◌, ◌≤◌, ◌<◌, nat_abs, ℤ, pos, ◌<ℤ◌, ◌≤ℤ◌, Bool, true, false, if◌then◌else◌, List, [], ◌∷◌, nat_le, Option, None, Some, refl, arith, le-leb}
 use Rattle.std.specs.Option.{ForSome}
 use Rattle.std.proofs.lemmas.Int.{ints}
-use Rattle.std.proofs.lemmas.Bool.{and_parts, and_from, both_ways}
-use Rattle.rail_spec.specs.Motion.{MotorSeen, SpanSeen, limit_at, KeepsLimits, keeps_limits, may_stop, reach, permitted}
+use Rattle.std.proofs.lemmas.Bool.{and_from, both_ways}
+use Rattle.rail_spec.specs.Motion.{MotorSeen, SpanSeen, limit_at, KeepsLimits, may_stop, reach, permitted}
 use Rattle.rail_laws.proofs.MotionLaws.{keeps_limits_from, can_brake_keeps, permitted_reach, permitted_brakes}
 use Rattle.rail_motion.specs.declared.Span.{Span}
 use Rattle.rail_motion.specs.Track.{stretches_of, end_of}

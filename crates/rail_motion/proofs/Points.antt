@@ -66,7 +66,7 @@ span_tells n b s start x u h fast = go (nat_le u s.limit) refl h
     go true e k = let slow = leb-true u s.limit e in absurd (omega arith)
     go false e k = leb-true (min (x + faster_distance n b s.limit u) s.end) start k
 
-span_from : (n b : ℕ) (s : SpanSeen) (start x u : ℕ) → (s.limit < u → min (x + faster_distance n b s.limit u) s.end ≤ start) → keeps_span n b s start x u ≡ true
+pub span_from : (n b : ℕ) (s : SpanSeen) (start x u : ℕ) → (s.limit < u → min (x + faster_distance n b s.limit u) s.end ≤ start) → keeps_span n b s start x u ≡ true
 span_from n b s start x u h = go (nat_le u s.limit) refl
   where
     go : (t : Bool) → nat_le u s.limit ≡ t → (t || nat_le (min (x + faster_distance n b s.limit u) s.end) start) ≡ true

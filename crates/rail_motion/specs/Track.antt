@@ -1,5 +1,5 @@
 -- The track ahead as the definitions of motion have it.
-use Rattle.std.specs.Prelude.{ℕ, ℤ, ◌<ℤ◌, List, map, AllPairs, nat_abs, Option, option_map}
+use Rattle.std.specs.Prelude.{ℕ, ℤ, ◌+◌, ◌<◌, ◌≤◌, ◌<ℤ◌, ◌≤ℤ◌, List, map, length, slice_index_or, AllPairs, nat_abs, Option, option_map}
 use Rattle.rail_motion.specs.declared.Span.{Span}
 use Rattle.rail_spec.specs.Motion.{SpanSeen}
 
@@ -18,3 +18,15 @@ end_of end = option_map nat_abs end
 -- each span ends before those after it
 abbrev pub IsRising : List Span → Type 0
 IsRising spans = AllPairs (λ s t. s.end <ℤ t.end) spans
+
+-- the span at a number, counted from 0, is the nearest after another with a lower limit, or is past the last
+pub record IsNextSlower (spans : List Span) (i next : ℕ) : Type 0 where
+  pub after : i < next
+  pub within : next ≤ length spans
+  pub none : (j : ℕ) (d : Span) → i < j → j < next → (slice_index_or spans i d).limit ≤ℤ (slice_index_or spans j d).limit
+  pub slower : (d : Span) → next < length spans → (slice_index_or spans next d).limit <ℤ (slice_index_or spans i d).limit
+
+-- no span has a lower limit than one before it, from which on none is slower for so many spans
+abbrev pub NoneSlower : List Span → Type 0
+NoneSlower spans = (i j : ℕ) (d : Span) → i < j → j < length spans → j < i + (slice_index_or spans i d).slower_in
+    → (slice_index_or spans i d).limit ≤ℤ (slice_index_or spans j d).limit

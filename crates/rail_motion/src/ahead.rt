@@ -3,19 +3,20 @@
 ghost use Rattle.std.specs.Prelude.{◌≡◌, nat_abs, nat_lt, filter};
 ghost use Rattle.std.specs.Option.{ForSome};
 ghost use Rattle.rail_motion.specs.Ranges.{IsPlace};
-ghost use Rattle.rail_motion.specs.Track.{end_of, IsRising};
+ghost use Rattle.rail_motion.specs.Track.{end_of, IsRising, NoneSlower};
 
 use crate::Span;
 
 /// The track ahead of a train, and the place (mm) where its authority ends, if it does.
 ///
-/// Each span ends before those after it. Spans that end at or before the place up to which limits bind the train behind its
-/// head do not matter, and past the last one only the vehicle's top speed limits.
+/// Each span ends before those after it. Spans that end at or before the place up to which limits bind the train behind
+/// its head do not matter, and past the last one only the vehicle's top speed limits.
 #[derive(Clone, Copy, Debug)]
 pub struct Ahead<'a> {
     pub spans: &'a [Span],
     pub end: Option<i64>,
     ghost rising: { IsRising spans.now },
+    ghost none_slower: { NoneSlower spans.now },
     ghost end_range: { ForSome end IsPlace },
 }
 
@@ -56,8 +57,11 @@ impl Span {
 
 /// The spans that end past a place, by a binary search over their ends.
 pub(crate) fn spans_past(spans: &[Span], place: u64) -> &[Span]
-    requires { IsRising spans.now }
-    ensures { result.now ≡ filter (λ s. nat_lt place (nat_abs s.end)) spans.now }
+    requires rising { IsRising spans.now }
+    requires none_slower { NoneSlower spans.now }
+    ensures past { result.now ≡ filter (λ s. nat_lt place (nat_abs s.end)) spans.now }
+    ensures rising { IsRising result.now }
+    ensures none_slower { NoneSlower result.now }
 {
     let first = spans.partition_point(|span| span.end() <= place);
     &spans[first..]

@@ -3,11 +3,13 @@
 //! Places and lengths are in mm along the train's path, and speeds in mm per tick.
 #![tactic(auto)]
 
+ghost use Rattle.std.specs.Prelude.{◌≤◌};
 ghost use Rattle.rail_motion.specs.Ranges.{IsPerTick, IsPlace};
 
 mod ahead;
 mod braking;
 mod limits;
+mod slower;
 mod speeds;
 
 /// What a vehicle can do in a tick: how much speed it gains, how much it loses by full braking, and its top speed,
@@ -29,10 +31,14 @@ pub struct Motor {
 pub struct Span {
     pub end: i64,
     pub limit: i64,
+    /// In how many spans the limit may be lower; before that it is not.
+    pub slower_in: usize,
     ghost end_range: { IsPlace end },
     ghost limit_range: { IsPerTick limit },
+    ghost slower_in_range: { 1 ≤ slower_in },
 }
 
 pub use ahead::Ahead;
 pub use braking::brakes;
+pub use slower::mark_slower;
 pub use speeds::{advance, next_speed, permitted, step};

@@ -24,7 +24,8 @@ pub fn permitted(motor: &Motor, ahead: &Ahead, x: i64, v: i64, u: i64) -> bool
     is_permitted(motor, ahead, x as u64, v as u64, u as u64)
 }
 
-/// The greatest permitted speed at the place `x` (mm) and the speed `v` (mm per tick), at which full braking is permitted.
+/// The greatest permitted speed at the place `x` (mm) and the speed `v` (mm per tick), at which full braking is
+/// permitted.
 pub fn next_speed(motor: &Motor, ahead: &Ahead, x: i64, v: i64) -> i64
     requires x { IsPlace x }
     requires v { IsSpeed v }
@@ -104,7 +105,8 @@ fn is_permitted(motor: &Motor, ahead: &Ahead, place: u64, speed: u64, next: u64)
         )
 }
 
-/// The greatest permitted speed, by halving what lies between full braking and the speed in reach.
+/// The greatest permitted speed, by halving what lies between full braking and the speed in reach. Most trains gain as
+/// much speed as they can, keep theirs, or lose nearly as much as they can, so these speeds are tried first.
 fn greatest_permitted(motor: &Motor, ahead: &Ahead, place: u64, speed: u64) -> u64
     requires place { place < 2 ^ 47 }
     requires speed { speed ≤ 100000 }
@@ -116,6 +118,15 @@ fn greatest_permitted(motor: &Motor, ahead: &Ahead, place: u64, speed: u64) -> u
 {
     let mut low = speed.saturating_sub(motor.brake as u64);
     let mut high = motor.reach(speed) + 1;
+    for guess in [high - 1, speed, speed + 1, low + 1] {
+        if low < guess && guess < high {
+            if is_permitted(motor, ahead, place, speed, guess) {
+                low = guess;
+            } else {
+                high = guess;
+            }
+        }
+    }
     while low + 1 < high {
         let middle = low + (high - low) / 2;
         if is_permitted(motor, ahead, place, speed, middle) {

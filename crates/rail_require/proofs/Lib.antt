@@ -4,3 +4,4 @@ pub mod Telling
 pub mod Agreeing
 pub mod Doing
 pub mod Numbered
+pub mod Verdicting

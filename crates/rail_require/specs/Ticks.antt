@@ -1,6 +1,7 @@
 -- The ticks that a history has of grants and visits.
-use Rattle.std.specs.Prelude.{ℕ, ◌<◌, ◌^◌, Bool, false, List, [], map, length, nat_le, nat_lt, Option, None, Some}
+use Rattle.std.specs.Prelude.{ℕ, ◌<◌, ◌^◌, ◌==◌, Bool, false, List, [], map, length, nat_le, nat_lt, Option, None, Some}
 use Rattle.std.specs.Prelude.{option_map, All}
+use Rattle.std.specs.List.{list_any}
 use Rattle.rail_base.specs.declared.station.TrainNo.{TrainNo}
 use Rattle.rail_base.specs.declared.history.TrainHistory.{TrainHistory}
 use Rattle.rail_base.specs.Numbering.{entry, one_to}
@@ -38,6 +39,19 @@ is_by k None = false
 abbrev pub is_before : ℕ → Option ℕ → Bool
 is_before k (Some a) = nat_lt a k
 is_before k None = false
+
+-- the tick is tick k
+abbrev pub is_at : ℕ → Option ℕ → Bool
+is_at k (Some a) = a == k
+is_at k None = false
+
+-- the train makes a visit at tick k
+abbrev pub makes_visit_at : ℕ → TrainHistory → Bool
+makes_visit_at k t = list_any (λ v. is_at k (option_map (λ m. m.1) v)) t.visits
+
+-- a train makes a visit at tick k
+abbrev pub has_visit_at : ℕ → List TrainHistory → Bool
+has_visit_at k history = list_any (makes_visit_at k) history
 
 -- trains, commands and visits have numbers of 32 bits
 abbrev pub HasNumbers : List TrainHistory → Type 0

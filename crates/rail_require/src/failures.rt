@@ -6,7 +6,8 @@ ghost use Rattle.rail_base.specs.declared.station.Station.{Station};
 ghost use Rattle.rail_base.specs.Stations.{horizon};
 ghost use Rattle.rail_spec.specs.Requirements.{is_after, most_ticks};
 ghost use Rattle.rail_require.specs.Ticks.{is_by, HasNumbers};
-ghost use Rattle.rail_require.specs.Violations.{is_broken, is_late, is_certain, within_violations, order_violations, grant_violations};
+ghost use Rattle.rail_require.specs.Violations.{is_broken, is_late, is_certain, within_violations, order_violations};
+ghost use Rattle.rail_require.specs.Violations.{grant_violations};
 ghost use Rattle.rail_require.specs.Violations.{visit_violations};
 
 use crate::ticks::{is_after, is_before, is_by, visit_tick};

@@ -10,7 +10,8 @@ ghost use Rattle.rail_base.specs.declared.plan.Command.{Command};
 ghost use Rattle.rail_spec.specs.Histories.{history_at};
 ghost use Rattle.rail_spec.specs.Requirements.{is_done, violation_at};
 ghost use Rattle.rail_require.specs.Ticks.{HasNumbers};
-ghost use Rattle.rail_require.specs.Violations.{violation_in, is_done_in, is_certain, grant_violations, visit_violations};
+ghost use Rattle.rail_require.specs.Violations.{violation_in, is_done_in, is_certain, grant_violations};
+ghost use Rattle.rail_require.specs.Violations.{visit_violations};
 
 mod failures;
 pub mod laws;
@@ -87,7 +88,8 @@ fn all_done(history: &[TrainHistory]) -> bool
 
 /// Whether the train's last command is granted, and its last visit made.
 fn has_ended(train: &TrainHistory) -> bool
-    ensures { (list_all (λ g. is_some g.1) train.now.grants && list_all is_some train.now.visits) ≡ true → result ≡ true }
+    ensures { (list_all (λ g. is_some g.1) train.now.grants && list_all is_some train.now.visits) ≡ true
+        → result ≡ true }
 {
     let is_granted = match train.grants.as_slice() {
         [.., last] => last.1.is_some(),
@@ -104,7 +106,8 @@ fn has_ended(train: &TrainHistory) -> bool
 fn first_missing(design: &Design, history: &[TrainHistory], tick: u64) -> Option<Violation>
     requires { HasNumbers history.now }
     ensures { result
-        ≡ find (is_certain design.now.station history.now tick) (grant_violations history.now ++ visit_violations history.now) }
+        ≡ find (is_certain design.now.station history.now tick)
+        (grant_violations history.now ++ visit_violations history.now) }
 {
     if tick != design.horizon() {
         return None;

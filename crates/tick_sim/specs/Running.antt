@@ -12,10 +12,10 @@ use Rattle.rail_spec.specs.Requirements.{path_violation}
 use Rattle.rail_spec.specs.Dispatches.{Dispatch, of_plan, granted_after, moved, tick, state_at}
 use Rattle.rail_course.specs.declared.journey.Journey.{Journey}
 use Rattle.rail_course.specs.Journeys.{IsJourney}
-use Rattle.tick_sim.specs.declared.run.Run.{Run}
-use Rattle.tick_sim.specs.Runs.{CanMove, IsNow, IsReached}
+use Rattle.rail_course.specs.declared.journeys.PlannedJourneys.{PlannedJourneys}
+use Rattle.rail_course.specs.Runs.{CanMove, IsNow, IsReached}
 
-module _ (r : Run) where
+module _ (r : PlannedJourneys) where
   -- the dispatch of its plan
   abbrev pub dispatch_in : Dispatch
   dispatch_in = of_plan r.interlocking.now.routes r.plan.now.steps

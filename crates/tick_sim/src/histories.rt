@@ -8,53 +8,44 @@ use crate::marks::{
     none_visited,
 };
 use crate::ride::Ride;
-use crate::run::Run;
 use rail_base::history::{History, TrainHistory};
 use rail_base::list::List;
 use rail_base::state::TrainState;
-use rail_course::state_of;
+use rail_course::{PlannedJourneys, state_of};
 use std::alloc::{AllocError, Global};
 
-impl Run<'_> {
-    /// What has happened to each train before the first tick.
-    pub(crate) fn first_histories(&self, alloc: Global) -> Result<History, AllocError>
-        ensures { IfOk result (λ h. h ≡ history_in self.now 0) }
-    {
-        let mut histories = Vec::new(alloc);
-        for journey in self.journeys {
-            let ride = Ride {
-                run: *self,
-                journey,
-            };
-            histories.push(ride.first_history(alloc)?)?;
-        }
-        Ok(List::from_vec(histories))
+/// What has happened to each train before the first tick.
+pub(crate) fn first_histories(run: &PlannedJourneys, alloc: Global) -> Result<History, AllocError>
+    ensures { IfOk result (λ h. h ≡ history_in run.now 0) }
+{
+    let mut histories = Vec::new(alloc);
+    for journey in run.journeys {
+        let ride = Ride { run: *run, journey };
+        histories.push(ride.first_history(alloc)?)?;
     }
+    Ok(List::from_vec(histories))
+}
 
-    /// What has happened to each train by a tick, at which all trains are in these states.
-    pub(crate) fn next_histories(
-        &self,
-        alloc: Global,
-        old: &History,
-        states: &[TrainState],
-        tick: u64,
-    ) -> Result<History, AllocError>
-        requires now { IsNowIn self.now tick states.now }
-        requires before { old.now ≡ history_in self.now (tick - 1) }
-        ensures { IfOk result (λ h. h ≡ history_in self.now tick) }
-    {
-        let mut histories = Vec::new(alloc);
-        let olds = old.as_slice();
-        for i in 0..self.journeys.len() {
-            let journey = &self.journeys[i];
-            let ride = Ride {
-                run: *self,
-                journey,
-            };
-            histories.push(ride.next_history(alloc, &olds[i], states, tick)?)?;
-        }
-        Ok(List::from_vec(histories))
+/// What has happened to each train by a tick, at which all trains are in these states.
+pub(crate) fn next_histories(
+    run: &PlannedJourneys,
+    alloc: Global,
+    old: &History,
+    states: &[TrainState],
+    tick: u64,
+) -> Result<History, AllocError>
+    requires now { IsNowIn run.now tick states.now }
+    requires before { old.now ≡ history_in run.now (tick - 1) }
+    ensures { IfOk result (λ h. h ≡ history_in run.now tick) }
+{
+    let mut histories = Vec::new(alloc);
+    let olds = old.as_slice();
+    for i in 0..run.journeys.len() {
+        let journey = &run.journeys[i];
+        let ride = Ride { run: *run, journey };
+        histories.push(ride.next_history(alloc, &olds[i], states, tick)?)?;
     }
+    Ok(List::from_vec(histories))
 }
 
 impl Ride<'_> {

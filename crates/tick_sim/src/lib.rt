@@ -5,10 +5,7 @@ mod histories;
 mod marks;
 mod moves;
 mod pairs;
-mod paths;
 mod ride;
-mod run;
 mod verdicts;
 
-pub use run::Run;
 pub use verdicts::simulate;

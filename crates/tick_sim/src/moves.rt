@@ -9,32 +9,26 @@ ghost use Rattle.rail_spec.specs.Dispatches.{authority, state_of, stretches};
 ghost use Rattle.tick_sim.specs.Running.{CanMoveIn, IsReachedIn, first_routes, granted_in, moved_in, tick_in};
 
 use crate::ride::Ride;
-use crate::run::Run;
 use rail_base::state::TrainState;
-use rail_course::{PathPrefix, granted_on, state_of};
+use rail_course::{PathPrefix, PlannedJourneys, granted_on, state_of};
 use rail_motion::{Ahead, advance};
 use std::alloc::{AllocError, Global};
 
-impl Run<'_> {
-    /// All trains after the tick: all grants are seen against the states before it.
-    pub(crate) fn tick(
-        &self,
-        alloc: Global,
-        states: &[TrainState],
-    ) -> Result<Vec<TrainState>, AllocError>
-        requires reached { IsReachedIn self.now states.now }
-        ensures { IfOk result (λ s. s.items ≡ tick_in self.now states.now) }
-    {
-        let mut next = Vec::new(alloc);
-        for journey in self.journeys {
-            let ride = Ride {
-                run: *self,
-                journey,
-            };
-            next.push(ride.next_state(states))?;
-        }
-        Ok(next)
+/// All trains after the tick: all grants are seen against the states before it.
+pub(crate) fn next_states(
+    run: &PlannedJourneys,
+    alloc: Global,
+    states: &[TrainState],
+) -> Result<Vec<TrainState>, AllocError>
+    requires reached { IsReachedIn run.now states.now }
+    ensures { IfOk result (λ s. s.items ≡ tick_in run.now states.now) }
+{
+    let mut next = Vec::new(alloc);
+    for journey in run.journeys {
+        let ride = Ride { run: *run, journey };
+        next.push(ride.next_state(states))?;
     }
+    Ok(next)
 }
 
 /// Where the authority of a train ends that is granted the routes of a prefix, in mm along its path.

@@ -2,13 +2,12 @@
 
 ghost use Rattle.tick_sim.specs.Running.{IsJourneyIn};
 
-use crate::run::Run;
-use rail_course::Journey;
+use rail_course::{Journey, PlannedJourneys};
 
 /// A run, and the journey that it gives one of the trains.
 #[derive(Clone, Copy)]
 pub(crate) struct Ride<'a> {
-    pub run: Run<'a>,
+    pub run: PlannedJourneys<'a>,
     pub journey: &'a Journey<'a>,
     pub ghost led: { IsJourneyIn run journey.now },
 }

@@ -8,14 +8,15 @@ ghost use Rattle.rail_spec.specs.Safety.{Clash, KeepsToTrack};
 ghost use Rattle.rail_laws.specs.Progress.{IsGrantedInTime};
 ghost use Rattle.tick_sim.specs.Running.{path_violation_in, states_in, verdict_in};
 
+use crate::histories::{first_histories, next_histories};
+use crate::moves::next_states;
 use crate::pairs::journeys;
-use crate::run::Run;
 use interlocking::Interlocking;
 use rail_base::history::Verdict;
 use rail_base::list::List;
 use rail_base::plan::Plan;
 use rail_base::state::TrainState;
-use rail_course::{IDLE, Itineraries, PlannedTrainPaths, TrainPaths, paths_of};
+use rail_course::{IDLE, Itineraries, PlannedJourneys, PlannedTrainPaths, TrainPaths, paths_of};
 use rail_require::{first_violation, is_done};
 use std::alloc::{AllocError, Global};
 
@@ -42,59 +43,57 @@ pub fn simulate(
     run_plan(alloc, interlocking, plan, ticks)
 }
 
-impl Run<'_> {
-    /// All trains before the first tick.
-    fn first_states(&self, alloc: Global) -> Result<Vec<TrainState>, AllocError>
-        ensures { IfOk result (λ s. s.items ≡ states_in self.now 0) }
-    {
-        let mut states = Vec::new(alloc);
-        for _journey in self.journeys {
-            states.push(IDLE)?;
-        }
-        Ok(states)
+/// All trains before the first tick.
+fn first_states(run: &PlannedJourneys, alloc: Global) -> Result<Vec<TrainState>, AllocError>
+    ensures { IfOk result (λ s. s.items ≡ states_in run.now 0) }
+{
+    let mut states = Vec::new(alloc);
+    for _journey in run.journeys {
+        states.push(IDLE)?;
     }
+    Ok(states)
+}
 
-    /// The verdict of a plan whose paths make all visits.
-    fn verdict_by_ticks(&self, alloc: Global, ticks: u64) -> Result<Verdict, AllocError>
-        requires paths { path_violation_in self.now ≡ None }
-        ensures { IfOk result (λ v. v ≡ verdict_in self.now ticks) }
-    {
-        let mut states = self.first_states(alloc)?;
-        let mut history = self.first_histories(alloc)?;
-        let last = ticks.min(self.interlocking.design.horizon());
-        for tick in 1..last + 1 {
-            states = self.tick(alloc, states.as_slice())?;
-            history = self.next_histories(alloc, &history, states.as_slice(), tick)?;
-            if let Some(violation) = first_violation(&self.interlocking.design, &history, tick) {
-                return Ok(Verdict::Failed {
-                    history,
-                    tick,
-                    violation,
-                });
-            }
-            if is_done(&history) {
-                return Ok(Verdict::Met { history, tick });
-            }
+/// The verdict of a plan whose paths make all visits.
+fn verdict_by_ticks(run: &PlannedJourneys, alloc: Global, ticks: u64) -> Result<Verdict, AllocError>
+    requires paths { path_violation_in run.now ≡ None }
+    ensures { IfOk result (λ v. v ≡ verdict_in run.now ticks) }
+{
+    let mut states = first_states(run, alloc)?;
+    let mut history = first_histories(run, alloc)?;
+    let last = ticks.min(run.interlocking.design.horizon());
+    for tick in 1..last + 1 {
+        states = next_states(run, alloc, states.as_slice())?;
+        history = next_histories(run, alloc, &history, states.as_slice(), tick)?;
+        if let Some(violation) = first_violation(&run.interlocking.design, &history, tick) {
+            return Ok(Verdict::Failed {
+                history,
+                tick,
+                violation,
+            });
         }
-        Ok(Verdict::Undecided)
+        if is_done(&history) {
+            return Ok(Verdict::Met { history, tick });
+        }
     }
+    Ok(Verdict::Undecided)
+}
 
-    /// The verdict of the plan that is run.
-    fn verdict(&self, alloc: Global, ticks: u64) -> Result<Verdict, AllocError>
-        ensures { IfOk result (λ v. v ≡ verdict_in self.now ticks) }
-    {
-        let Some(violation) = self.path_violation() else {
-            return self.verdict_by_ticks(alloc, ticks);
-        };
-        if ticks == 0 {
-            return Ok(Verdict::Undecided);
-        }
-        Ok(Verdict::Failed {
-            history: List::new(alloc),
-            tick: 1,
-            violation,
-        })
+/// The verdict of the plan that is run.
+fn verdict(run: &PlannedJourneys, alloc: Global, ticks: u64) -> Result<Verdict, AllocError>
+    ensures { IfOk result (λ v. v ≡ verdict_in run.now ticks) }
+{
+    let Some(violation) = run.path_violation() else {
+        return verdict_by_ticks(run, alloc, ticks);
+    };
+    if ticks == 0 {
+        return Ok(Verdict::Undecided);
     }
+    Ok(Verdict::Failed {
+        history: List::new(alloc),
+        tick: 1,
+        violation,
+    })
 }
 
 /// Runs a plan for so many ticks: what they show of it.
@@ -120,10 +119,10 @@ fn run_plan<'a>(
     };
     let planned = PlannedTrainPaths { train_paths, plan };
     let journeys = journeys(&planned, alloc)?;
-    let run = Run {
+    let run = PlannedJourneys {
         interlocking,
         plan,
         journeys: journeys.as_slice(),
     };
-    run.verdict(alloc, ticks)
+    verdict(&run, alloc, ticks)
 }

@@ -1,5 +1,4 @@
-use Rattle.std.proofs.Common.{◌≡◌, ℕ, ◌-◌, ◌≤◌, true, is_some, get_or, length, List, Option, subst, sym}
-use Rattle.rail_base.specs.declared.route.RouteNo.{RouteNo}
+use Rattle.std.proofs.Common.{◌≡◌, ◌-◌, ◌≤◌, true, is_some, get_or, length, subst}
 use Rattle.dispatch_run.proofs.InTurn.{grants_stay}
 use Rattle.dispatch_run.proofs.marks.mark_grants.Goals as goal
 

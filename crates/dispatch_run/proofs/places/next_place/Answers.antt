@@ -1,9 +1,8 @@
-use Rattle.std.proofs.Common.{◌≡◌, ℕ, ◌≤◌, ◌<◌, ◌⊎◌, inl, inr, get_or, ap, subst, arith}
+use Rattle.std.proofs.Common.{◌≤◌, ◌<◌, ◌⊎◌, inl, inr, ap, subst, arith}
 use Rattle.std.proofs.lemmas.List.{get_or_default}
 use Rattle.rail_base.proofs.Contained.{contains_of_in}
 use Rattle.rail_base.proofs.Members.{below_or_not}
 use Rattle.rail_course.specs.declared.milestones.Milestone.{Milestone}
-use Rattle.rail_base.specs.Members.{In}
 use Rattle.dispatch_run.proofs.places.next_place.Goals as goal
 
 pub returns-then-count-milestones-clause-least : goal.returns-then-count-milestones-clause-least

@@ -1,10 +1,7 @@
 use Rattle.std.proofs.Common.{rules, subst}
 use Rattle.std.specs.List.Sorted.{IsPermutation}
-use Rattle.std.specs.List.{enumerate_from}
-use Rattle.std.specs.Prelude.{map}
 use Rattle.std.proofs.lemmas.List.Sorted.{IsNonDecreasingBy-from_sort_by_key}
 use Rattle.rail_course.specs.declared.milestones.Milestone.{Milestone}
-use Rattle.rail_course.specs.Milestones.{milestone_of}
 use Rattle.rail_course.proofs.Sorting.{all_there, each_known}
 use Rattle.rail_course.proofs.milestones.milestones_of.Goals as goal
 

@@ -1,4 +1,4 @@
-use Rattle.tick_sim.proofs.Lawful.{apart, keeps, granted}
+use Rattle.rail_course.proofs.Lawful.{apart, keeps, granted}
 use Rattle.tick_sim.proofs.verdicts.simulate.Goals as goal
 
 pub returns-clause-keeps : goal.returns-clause-keeps

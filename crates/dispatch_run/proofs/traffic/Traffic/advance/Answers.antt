@@ -1,8 +1,10 @@
 use Rattle.std.proofs.Common.{◌≡◌, ◌≤◌, map, ap₂, sym, subst, ◌∙◌, arith}
 use Rattle.rail_base.specs.Members.{In}
 use Rattle.rail_base.specs.Stations.{trains}
+use Rattle.dispatch_run.specs.Looks.{IsKnown, has_looked_visit_at}
 use Rattle.dispatch_run.specs.Turns.{IsTurn, looked_state, AreLookedAt, AreToBeMarked}
 use Rattle.dispatch_run.proofs.Turning.{looks_ahead, turn_of, nothing_before, all_looked, all_told}
+use Rattle.dispatch_run.proofs.Visiting.{only_looked}
 use Rattle.dispatch_run.proofs.traffic.Traffic.advance.Goals as goal
 
 pub next_tick-tick-requires-clause-looks : goal.next_tick-tick-requires-clause-looks
@@ -54,10 +56,31 @@ next_looks-requires g c =
     let states : c.in_ok-states.states.items ≡ map (looked_state d routes g.dispatch tick old.states.items old.looks.items) (trains d) =
     c.in_ok-states.ensures ∙ ap₂ (λ s l. map (looked_state d routes g.dispatch tick s l) (trains d)) c.as_slice-2.ensures.value c.as_slice-3.ensures.value in (
       c.requires.0,
-      subst (λ s. AreLookedAt d routes g.dispatch tick s c.as_slice-7.result.now) (sym c.as_slice-6.ensures.value)
-          (subst (λ l. AreLookedAt d routes g.dispatch tick c.in_ok-states.states.items l) (sym c.as_slice-7.ensures.value)
+      subst (λ s. AreLookedAt d routes g.dispatch tick s c.as_slice-9.result.now) (sym c.as_slice-8.ensures.value)
+          (subst (λ l. AreLookedAt d routes g.dispatch tick c.in_ok-states.states.items l) (sym c.as_slice-9.ensures.value)
           (all_looked d routes g.dispatch tick old.states.items old.looks.items turn c.in_ok-states.states.items states)),
     )
+
+pub returns-clause-is : goal.returns-clause-is
+returns-clause-is g c =
+    let d = c.args.self.now.interlocking.now.design.station in
+    let routes = c.args.self.now.interlocking.now.routes in
+    let old = c.args.progress in
+    let progress = c.requires.1.0 in
+    let tick = c.next_tick-tick.result in
+    let found = c.next_tick-tick.ensures in
+    let new = c.in_ok-histories.histories.items in
+    let early : tick ≤ 86400 = (let w = found.within in let m = c.requires.1.1.1 in omega arith) in
+    let turn = turn_of d routes g.dispatch old.tick tick old.states.items old.looks.items progress.known found.after early (λ l m. found.least l (subst (In l) (sym c.as_slice.ensures.value) m)) in
+    let states : c.in_ok-states.states.items ≡ map (looked_state d routes g.dispatch tick old.states.items old.looks.items) (trains d) =
+    c.in_ok-states.ensures ∙ ap₂ (λ s l. map (looked_state d routes g.dispatch tick s l) (trains d)) c.as_slice-2.ensures.value c.as_slice-3.ensures.value in
+    let told = all_told d routes g.dispatch tick old.states.items old.looks.items turn c.in_ok-states.states.items states old.histories.items progress.recorded in
+    record {
+      known = subst (λ s. IsKnown d routes g.dispatch tick s c.in_ok-looks.looks.items) c.as_slice-8.ensures.value c.in_ok-looks.ensures;
+      recorded = c.in_ok-histories.ensures;
+      visited = c.has_looked_visit_at-visited.ensures ∙ ap₂ (has_looked_visit_at tick) c.as_slice-6.ensures.value c.as_slice-7.ensures.value
+          ∙ only_looked d routes g.dispatch old.tick tick c.in_ok-states.states.items old.looks.items old.histories.items new found.after progress.known.count progress.recorded c.in_ok-histories.ensures told;
+    }
 
 pub returns-clause-quiet : goal.returns-clause-quiet
 returns-clause-quiet g c =

@@ -1,4 +1,4 @@
-use Rattle.std.proofs.Common.{◌≡◌, ℕ, suc, ◌+◌, get_or, length, map, set, ap, sym, ◌∙◌, arith}
+use Rattle.std.proofs.Common.{◌≡◌, suc, ◌+◌, get_or, length, map, set, ap, sym, ◌∙◌, arith}
 use Rattle.rail_base.specs.declared.history.TrainHistory.{TrainHistory}
 use Rattle.rail_base.proofs.Members.{map-map}
 use Rattle.quiet_spec.specs.Histories.{train_history}

@@ -1,4 +1,4 @@
-use Rattle.std.proofs.Common.{◌≡◌, List}
+use Rattle.std.proofs.Common.{◌≡◌}
 use Rattle.rail_base.specs.declared.history.TrainHistory.{TrainHistory}
 use Rattle.quiet_spec.specs.Histories.{train_history}
 use Rattle.dispatch_run.specs.declared.traffic.FollowedTrain.{FollowedTrain}

@@ -4,8 +4,8 @@ use Rattle.rail_base.specs.declared.state.TrainState.{TrainState}
 use Rattle.rail_spec.specs.Dispatches.{of_plan, granted_after, moved}
 use Rattle.rail_course.specs.Ready.{GiveWhatIsReady}
 use Rattle.rail_course.specs.Granting.{granted_on}
-use Rattle.tick_sim.specs.Runs.{CanMove}
-use Rattle.tick_sim.proofs.Reaching.{granted_is, can_move_on}
+use Rattle.rail_course.specs.Runs.{CanMove}
+use Rattle.rail_course.proofs.Reaching.{granted_is, can_move_on}
 use Rattle.tick_sim.proofs.ride.Ride.next_state.Goals as goal
 
 pub move_train-requires : goal.move_train-requires

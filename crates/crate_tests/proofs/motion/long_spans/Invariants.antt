@@ -1,9 +1,0 @@
-use Rattle.std.proofs.Common.{◌*◌, pos, ◌≤ℤ◌, All}
-use Rattle.rail_motion.specs.Track.{IsRising}
-use Rattle.crate_tests.proofs.motion.long_spans.Given as goal
-
-abbrev pub invariant-loop-i : goal.invariant-loop-i
-invariant-loop-i l = record {
-  rising : IsRising l.spans.items;
-  behind : All (λ s. s.end ≤ℤ pos (l.i * 500000)) l.spans.items;
-}

@@ -1,0 +1,51 @@
+//! Where the limit is lower again.
+
+ghost use Rattle.std.specs.Prelude.{◌≡◌, ◌<◌, ◌≤◌, ◌+◌, ◌<ℤ◌, ◌≤ℤ◌, ℕ, length, slice_index_or};
+ghost use Rattle.rail_motion.specs.declared.Span.{Span};
+ghost use Rattle.rail_motion.specs.Track.{stretches_of, IsNextSlower, IsRising, NoneSlower};
+
+use crate::Span;
+
+/// Notes for each span in how many spans the limit is lower, or the track ends. Ends and limits stay as they are.
+pub fn mark_slower(spans: &mut [Span])
+    ensures track { stretches_of spans.new ≡ stretches_of spans.old }
+    ensures nearest { (i : ℕ) (d : Span) → i < length spans.new
+        → IsNextSlower spans.new i (i + (slice_index_or spans.new i d).slower_in) }
+    ensures none_slower { NoneSlower spans.new }
+    ensures rising { IsRising spans.old → IsRising spans.new }
+{
+    let mut left = spans.len();
+    while left > 0 {
+        left -= 1;
+        let next = next_slower(spans, left);
+        spans[left] = marked(spans[left], next - left);
+    }
+}
+
+/// The nearest span with a lower limit after one, after which all are marked, or the number of spans.
+fn next_slower(spans: &[Span], index: usize) -> usize
+    requires index { index < length spans.now }
+    requires marked { (i : ℕ) (d : Span) → index < i → i < length spans.now
+        → IsNextSlower spans.now i (i + (slice_index_or spans.now i d).slower_in) }
+    ensures { IsNextSlower spans.now index result }
+{
+    let mut next = index + 1;
+    while next < spans.len() && spans[index].limit() <= spans[next].limit() {
+        next += spans[next].slower_in;
+    }
+    next
+}
+
+/// The span, with the lower limit so many spans on.
+fn marked(span: Span, slower_in: usize) -> Span
+    requires { 1 ≤ slower_in }
+    ensures end { result.end ≡ span.end }
+    ensures limit { result.limit ≡ span.limit }
+    ensures slower_in { result.slower_in ≡ slower_in }
+{
+    Span {
+        end: span.end,
+        limit: span.limit,
+        slower_in,
+    }
+}

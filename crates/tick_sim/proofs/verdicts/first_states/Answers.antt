@@ -1,0 +1,13 @@
+use Rattle.std.proofs.Common.{map, ap, sym, ◌∙◌}
+use Rattle.rail_base.specs.declared.station.TrainNo.{TrainNo}
+use Rattle.rail_base.specs.declared.state.TrainState.{TrainState}
+use Rattle.rail_base.proofs.Members.{map-map}
+use Rattle.rail_spec.specs.Dispatches.{idle}
+use Rattle.rail_course.specs.declared.journey.Journey.{Journey}
+use Rattle.tick_sim.proofs.verdicts.first_states.Goals as goal
+
+pub loop-journey-init : goal.loop-journey-init
+loop-journey-init c =
+    let begin : TrainNo → TrainState = λ t. idle in
+    let items = c.new-states.ensures.items in
+    rw items (sym (map-map begin (λ (j : Journey). j.train_path.now.train) c.args.run.now.journeys.now) ∙ ap (map begin) c.args.run.now.led.all)
