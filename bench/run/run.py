@@ -140,6 +140,13 @@ def braked(designed, brake):
     return designed
 
 
+def falling(designed, fall):
+    """The design and what belongs to it, of which each edge is slower than the one before by so many mm/s."""
+    for number, edge in enumerate(designed[0].entries["edge"]):
+        edge["speed_mm_s"] -= number * fall
+    return designed
+
+
 def round_a_loop(rounds, edges, length, speed, fall=0):
     """A train that goes round a loop of many edges again and again, and another that waits until it is through. Where the loop begins
     and ends a tree of switches joins as many tracks, each with a signal, so that the train comes by another one each time: the design,
@@ -239,6 +246,8 @@ def commands(program, folder):
     yield "128 trains in turn over 1,998 nodes each, all demands", 2, "met", simulated(program, folder, in_turn(128, 1_998, 1_000, 10_000))
     yield "128 trains in turn over long edges, all demands", 2, "fails", simulated(program, folder, in_turn(128, 1_998, 100_000, 100_000))
     yield "the same with brakes of 100 mm/s2", 2, "fails", simulated(program, folder, braked(in_turn(128, 1_998, 100_000, 100_000), 100))
+    slower = falling(braked(in_turn(128, 1_998, 100_000, 100_000), 50), 5)
+    yield "the same with brakes of 50 mm/s2, each edge 5 mm/s slower than the one before", 2, "fails", simulated(program, folder, slower)
     yield "a train 44 times round a loop of 1,850 edges", 2, "met", looped(program, folder, 700, 44, 1_850, 20_000, 20_000)
     yield "the same with brakes of 1 mm/s2", 2, "fails", looped(program, folder, 1, 44, 1_850, 20_000, 20_000)
     yield "the same, each edge 1 mm/s slower than the one before", 2, "fails", looped(program, folder, 1, 44, 1_850, 20_000, 20_000, 1)
