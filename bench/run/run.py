@@ -248,9 +248,12 @@ def commands(program, folder):
     yield "the same with brakes of 100 mm/s2", 2, "fails", simulated(program, folder, braked(in_turn(128, 1_998, 100_000, 100_000), 100))
     slower = falling(braked(in_turn(128, 1_998, 100_000, 100_000), 50), 5)
     yield "the same with brakes of 50 mm/s2, each edge 5 mm/s slower than the one before", 2, "fails", simulated(program, folder, slower)
+    slower = falling(braked(in_turn(128, 1_998, 100_000, 100_000), 20), 3)
+    yield "the same with brakes of 20 mm/s2, each edge 3 mm/s slower than the one before", 2, "fails", simulated(program, folder, slower)
     yield "a train 44 times round a loop of 1,850 edges", 2, "met", looped(program, folder, 700, 44, 1_850, 20_000, 20_000)
     yield "the same with brakes of 1 mm/s2", 2, "fails", looped(program, folder, 1, 44, 1_850, 20_000, 20_000)
     yield "the same, each edge 1 mm/s slower than the one before", 2, "fails", looped(program, folder, 1, 44, 1_850, 20_000, 20_000, 1)
+    yield "the same, each edge 5 mm/s slower than the one before", 2, "fails", looped(program, folder, 1, 44, 1_850, 20_000, 20_000, 5)
     yield "128 trains in a row over up to 256 routes each", 2, "met", simulated(program, folder, in_rows(1, 128, 256, 10_000, 20_000, 2))
     yield "126 trains in three rows over up to 256 routes each", 2, "met", simulated(program, folder, in_rows(3, 126, 256, 10_000, 20_000, 2))
     refused = "plan refused P4 step 1 train train0 section section0"

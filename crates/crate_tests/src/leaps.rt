@@ -13,6 +13,7 @@ fn from_rest_over_long_track(rt: HostRuntime) {
         end: 10_000_000,
         limit: 2000,
         slower_in: 1,
+        least_in: 1,
     }];
     let ahead = Ahead {
         spans: &spans,
@@ -64,6 +65,7 @@ fn to_the_end_of_authority(rt: HostRuntime) {
         end: 3000,
         limit: 2000,
         slower_in: 1,
+        least_in: 1,
     }];
     let ahead = Ahead {
         spans: &spans,
@@ -100,11 +102,13 @@ fn limits_on_the_way(rt: HostRuntime) {
             end: 5000,
             limit: 2000,
             slower_in: 1,
+            least_in: 1,
         },
         Span {
             end: 10_000,
             limit: 500,
             slower_in: 1,
+            least_in: 1,
         },
     ];
     let ahead = Ahead {
@@ -144,11 +148,13 @@ fn limits_bind_the_tail(rt: HostRuntime) {
             end: 5000,
             limit: 500,
             slower_in: 1,
+            least_in: 1,
         },
         Span {
             end: 10_000,
             limit: 2000,
             slower_in: 1,
+            least_in: 1,
         },
     ];
     let ahead = Ahead {
@@ -209,11 +215,13 @@ fn a_long_braking(rt: HostRuntime) {
             end: 6_000_000_000,
             limit: 100_000,
             slower_in: 1,
+            least_in: 1,
         },
         Span {
             end: 7_000_000_000,
             limit: 10,
             slower_in: 1,
+            least_in: 1,
         },
     ];
     for (end, ticks, x) in [

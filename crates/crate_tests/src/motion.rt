@@ -1,7 +1,9 @@
 ghost use Rattle.std.specs.Prelude.{IfOk};
-ghost use Rattle.rail_motion.specs.Track.{IsRising, NoneSlower};
+ghost use Rattle.rail_motion.specs.Track.{IsRising, LeastAhead, NoneSlower};
 
-use rail_motion::{Ahead, Motor, Span, advance, brakes, mark_slower, next_speed, permitted, step};
+use rail_motion::{
+    Ahead, Motor, Span, advance, brakes, is_permitted, mark_least, mark_slower, next_speed, step,
+};
 use std::alloc::{AllocError, Global};
 use std::test::Fail;
 
@@ -26,6 +28,7 @@ fn stops_at_the_end(rt: HostRuntime) {
         end: 3000,
         limit: 2000,
         slower_in: 1,
+        least_in: 1,
     }];
     let ahead = Ahead {
         spans: &spans,
@@ -41,11 +44,11 @@ fn stops_at_the_end(rt: HostRuntime) {
         let braked = v.saturating_sub(700);
         let (place, speed, next) = (i64::from(x), i64::from(v), i64::from(u));
         assert!(rt;
-            permitted(&MOTOR, &ahead, place, speed, i64::from(braked)),
+            is_permitted(&MOTOR, &ahead, place, speed, i64::from(braked)),
             "at {x}"
         );
         assert!(rt;
-            !permitted(&MOTOR, &ahead, place, speed, next + 1),
+            !is_permitted(&MOTOR, &ahead, place, speed, next + 1),
             "at {x}"
         );
         assert_eq!(rt; next_speed(&MOTOR, &ahead, place, speed), next);
@@ -61,11 +64,13 @@ fn slows_down(rt: HostRuntime) {
             end: 5000,
             limit: 2000,
             slower_in: 1,
+            least_in: 1,
         },
         Span {
             end: 10000,
             limit: 500,
             slower_in: 1,
+            least_in: 1,
         },
     ];
     let ahead = Ahead {
@@ -84,7 +89,7 @@ fn slows_down(rt: HostRuntime) {
     ] {
         let braked = v.saturating_sub(700);
         assert!(rt;
-            permitted(
+            is_permitted(
                 &MOTOR,
                 &ahead,
                 i64::from(x),
@@ -107,11 +112,13 @@ fn gains_speed_when_the_tail_has_left(rt: HostRuntime) {
             end: 5000,
             limit: 500,
             slower_in: 1,
+            least_in: 1,
         },
         Span {
             end: 10000,
             limit: 2000,
             slower_in: 1,
+            least_in: 1,
         },
     ];
     let ahead = Ahead {
@@ -135,7 +142,7 @@ fn gains_speed_when_the_tail_has_left(rt: HostRuntime) {
     ] {
         let braked = v.saturating_sub(700);
         assert!(rt;
-            permitted(
+            is_permitted(
                 &motor,
                 &ahead,
                 i64::from(x),
@@ -153,9 +160,11 @@ fn gains_speed_when_the_tail_has_left(rt: HostRuntime) {
 fn long_spans(alloc: Global, count: u16) -> Result<Vec<Span>, AllocError>
     ensures rising { IfOk result (λ spans. IsRising spans.items) }
     ensures none_slower { IfOk result (λ spans. NoneSlower spans.items) }
+    ensures least { IfOk result (λ spans. LeastAhead spans.items) }
 {
     let mut spans = unmarked_spans(alloc, count)?;
     mark_slower(&mut spans);
+    mark_least(&mut spans);
     Ok(spans)
 }
 
@@ -170,6 +179,7 @@ fn unmarked_spans(alloc: Global, count: u16) -> Result<Vec<Span>, AllocError>
             end,
             limit: 100_000,
             slower_in: 1,
+            least_in: 1,
         })?;
     }
     Ok(spans)
@@ -185,6 +195,7 @@ fn notes_where_limits_are_lower(rt: HostRuntime) -> Result<(), Fail> {
             end: 1000,
             limit: i64::from(limit),
             slower_in: 1,
+            least_in: 1,
         })?;
     }
     mark_slower(&mut spans);
@@ -214,7 +225,7 @@ fn long_walks_are_quick(rt: HostRuntime) -> Result<(), Fail> {
             end: Some(end),
         };
         let braked = v.saturating_sub(1);
-        assert!(rt; permitted(&motor, &ahead, 0, i64::from(v), i64::from(braked)));
+        assert!(rt; is_permitted(&motor, &ahead, 0, i64::from(v), i64::from(braked)));
         assert_eq!(rt;
             step(&motor, &ahead, 0, i64::from(v)),
             (i64::from(u), i64::from(u))

@@ -7,7 +7,7 @@ ghost use Rattle.rail_spec.specs.Motion.{can_brake};
 ghost use Rattle.free_moves.specs.Moves.{is_free_on, free_on};
 
 use crate::gains::{behind, rise};
-use rail_motion::{Ahead, Motor, permitted};
+use rail_motion::{Ahead, Motor, is_permitted};
 
 /// The track of a leg, the motor of its train, and whether the train starts there from rest.
 #[derive(Clone, Copy)]
@@ -47,7 +47,7 @@ impl LegTrack<'_> {
         let mut next = guess;
         let mut step: u64 = 1;
         while low + 1 < high {
-            let middle = between(low, high, next);
+            let middle = number_between(low, high, next);
             if self.is_free(place, middle) {
                 low = middle;
                 next = middle.saturating_add(step);
@@ -79,7 +79,7 @@ impl LegTrack<'_> {
             result ≡ can_brake speed (nat_abs motor.brake) (nat_abs motor.tail) track end place speed }
     {
         let next = speed as i64;
-        permitted(&self.motor, &self.ahead, place as i64, next, next)
+        is_permitted(&self.motor, &self.ahead, place as i64, next, next)
     }
 
     /// Whether a train can come so fast to a place.
@@ -96,7 +96,7 @@ impl LegTrack<'_> {
 }
 
 /// A number between two others: `next`, if it lies there.
-fn between(low: u64, high: u64, next: u64) -> u64
+fn number_between(low: u64, high: u64, next: u64) -> u64
     requires { low + 1 < high }
     ensures above { low < result }
     ensures below { result < high }

@@ -1,10 +1,9 @@
 -- Many ticks of a motor on the track ahead.
-use Rattle.std.specs.Prelude.{◌≡◌, ◌≤◌, ◌<◌, ◌⊎◌, ℕ, Bool, nat_abs}
+use Rattle.std.specs.Prelude.{◌≡◌, ◌≤◌, ◌<◌, ◌⊎◌, ℕ, nat_abs}
 use Rattle.rail_motion.specs.declared.Motor.{Motor}
 use Rattle.rail_motion.specs.declared.ahead.Ahead.{Ahead}
 use Rattle.rail_motion.specs.Motor.{rates_of}
 use Rattle.rail_motion.specs.Track.{stretches_of, end_of}
-use Rattle.rail_spec.specs.Motion.{can_brake}
 use Rattle.motion_leap.specs.declared.leaps.Moved.{Moved}
 use Rattle.motion_leap.specs.Steps.{Going, after, IsBound, Keeps, Gains, Slows}
 use Rattle.motion_leap.specs.Leaps.{IsLeap}
@@ -13,10 +12,6 @@ module _ (m : Motor) (a : Ahead) where
   -- the state after so many ticks
   abbrev pub after_on : ℕ → Going → Going
   after_on = after (rates_of m) (stretches_of a.spans.now) (end_of a.end)
-
-  -- full braking from a place and a speed keeps the limits and stops where it may
-  abbrev pub brakes_on : ℕ → ℕ → Bool
-  brakes_on place speed = can_brake speed (nat_abs m.brake) (nat_abs m.tail) (stretches_of a.spans.now) (end_of a.end) place speed
 
   -- a train at x keeps its speed v up to the border, which lies past x and not past the target: v is its top speed, or
   -- a limit that binds it up to there

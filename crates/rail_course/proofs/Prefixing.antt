@@ -12,7 +12,7 @@ use Rattle.rail_base.specs.Stations.{length_of}
 use Rattle.rail_base.specs.Routes.{route_at}
 use Rattle.rail_base.proofs.Lists.{length-map}
 use Rattle.rail_motion.specs.declared.Span.{Span}
-use Rattle.rail_motion.specs.Track.{stretch_of, stretches_of, IsRising, NoneSlower}
+use Rattle.rail_motion.specs.Track.{stretch_of, stretches_of, IsRising, LeastAhead, NoneSlower}
 use Rattle.rail_spec.specs.Track.{edge_ends}
 use Rattle.rail_spec.specs.Dispatches.{Dispatch, stretch, stretches, authority, rates, moved}
 use Rattle.rail_course.specs.declared.train_path.TrainPath.{TrainPath}
@@ -60,6 +60,15 @@ none_slower_first n spans fits h = λ i j other l m.
     let less : i < n = omega arith in
     let near : j < n = omega arith in
     rw (get_or-take n spans i other less, get_or-take n spans j other near) (h i j other l (omega arith))
+
+pub least_first : (n : ℕ) (spans : List Span) → n ≤ length spans → LeastAhead spans → LeastAhead (take n spans)
+least_first n spans fits h = λ i j m other l near within is.
+    let k : length (take n spans) ≤ n = length_take-least n spans in
+    let less : i < n = omega arith in
+    let middle : j < n = omega arith in
+    let last : m < n = omega arith in
+    let mark : (get_or (take n spans) i other).least_in ≡ (get_or spans i other).least_in = ap (λ (s : Span). s.least_in) (get_or-take n spans i other less) in
+    rw (get_or-take n spans m other last, get_or-take n spans j other middle) (h i j m other l near (omega arith) (omega arith))
 
 pub length_of-take : {X : Type 0} (n : ℕ) (xs : List X) → n ≤ length xs → length (take n xs) ≡ n
 length_of-take zero xs h = refl

@@ -6,7 +6,7 @@ use Rattle.rail_base.specs.declared.route.Route.{Route}
 use Rattle.rail_base.specs.declared.route.RouteNo.{RouteNo}
 use Rattle.rail_base.specs.Stations.{IsTrain, train_of, train_length, trains}
 use Rattle.rail_motion.specs.Motor.{rates_of}
-use Rattle.rail_motion.specs.Track.{stretches_of, IsRising, NoneSlower}
+use Rattle.rail_motion.specs.Track.{stretches_of, IsRising, LeastAhead, NoneSlower}
 use Rattle.rail_spec.specs.Dispatches.{rates, stretches}
 use Rattle.rail_spec.specs.Visits.{path_nodes, visits_on}
 use Rattle.rail_course.specs.declared.train_path.TrainPath.{TrainPath}
@@ -24,6 +24,7 @@ pub record IsTrainPath (d : Station) (routes : List Route) (path : List RouteNo)
   pub parts : c.prefixes.items ≡ prefixes_from no_prefix (routes_at routes path)
   pub rising : IsRising c.spans.items
   pub none_slower : NoneSlower c.spans.items
+  pub least : LeastAhead c.spans.items
   pub track : stretches_of c.spans.items ≡ stretches d (routes_at routes path)
   pub nodes : c.path_nodes.items ≡ path_nodes (routes_at routes path)
   pub milestones : AreMilestones (map (λ n. n.offset) c.path_nodes.items) c.node_milestones.items

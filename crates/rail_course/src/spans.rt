@@ -1,7 +1,7 @@
 //! The spans of a path, each an edge's.
 
 ghost use Rattle.std.specs.Prelude.{◌≡◌, ◌<◌, ◌≤◌, ◌+◌, ◌^◌, ◌++◌, All, IfOk, OnOk, map, sum_by};
-ghost use Rattle.rail_motion.specs.Track.{stretches_of, IsRising, NoneSlower};
+ghost use Rattle.rail_motion.specs.Track.{stretches_of, IsRising, LeastAhead, NoneSlower};
 ghost use Rattle.rail_base.specs.Stations.{IsEdge, edge_of, length_of, per_tick_speed};
 ghost use Rattle.rail_base.specs.Routes.{IsRoute};
 ghost use Rattle.rail_spec.specs.Track.{edge_ends};
@@ -13,7 +13,7 @@ use rail_base::design::Design;
 use rail_base::list::List;
 use rail_base::route::{RouteNo, route_at};
 use rail_base::station::EdgeNo;
-use rail_motion::{Span, mark_slower};
+use rail_motion::{Span, mark_least, mark_slower};
 use std::alloc::{AllocError, Global};
 
 /// The spans of routes in a row.
@@ -28,9 +28,11 @@ pub fn spans_of(
         ≡ stretches interlocking.now.design.station (routes_at interlocking.now.routes path.now)) }
     ensures rising { IfOk result (λ spans. IsRising spans.items) }
     ensures none_slower { IfOk result (λ spans. NoneSlower spans.items) }
+    ensures least { IfOk result (λ spans. LeastAhead spans.items) }
 {
     let mut spans = path_spans(alloc, interlocking, path)?;
     mark_slower(&mut spans);
+    mark_least(&mut spans);
     Ok(spans)
 }
 
@@ -83,6 +85,7 @@ fn push_spans(
             end: offset as i64,
             limit: limit_of(design, *edge) as i64,
             slower_in: 1,
+            least_in: 1,
         })?;
     }
     Ok(())

@@ -4,7 +4,7 @@ use Rattle.std.proofs.lemmas.Int.{ints}
 use Rattle.std.proofs.lemmas.Bool.{cases_lt}
 use Rattle.std.proofs.lemmas.List.{length-map}
 use Rattle.rail_motion.specs.declared.Span.{Span}
-use Rattle.rail_motion.specs.Track.{stretch_of, stretches_of, IsNextSlower, IsRising}
+use Rattle.rail_motion.specs.Track.{stretch_of, stretches_of, IsNextSlower, IsRising, NoneSlower}
 
 -- the member at an index is one for all
 pub any_other : (spans : List Span) (i : ℕ) (d e : Span) → i < length spans → slice_index_or spans i d ≡ slice_index_or spans i e
@@ -62,6 +62,68 @@ module _ (spans : List Span) (i : ℕ) (s e : Span) (within : i < length spans) 
           let sum : i + s.slower_in ≡ n = omega arith in
           subst (λ k. IsNextSlower (set spans i s) k (k + (slice_index_or (set spans i s) k d).slower_in)) here (rw (set_here spans i s d within, sum) (kept i n next))
       go (inr before) = rw (set_before spans i j s d before) (kept j _ (marked j d before (let count = length_of-set spans i s in omega arith)))
+
+-- ---- where the least limit is
+
+-- from an index on no span has a lower limit than that which is so many spans on, up to which it lies
+abbrev pub LeastFrom : List Span → ℕ → Type 0
+LeastFrom spans left = (i j m : ℕ) (d : Span) → left ≤ i → i < j → j < m → m < length spans → m ≡ i + (slice_index_or spans i d).least_in
+    → (slice_index_or spans m d).limit ≤ℤ (slice_index_or spans j d).limit
+
+same_slower : (spans : List Span) (i : ℕ) (s e : Span) → i < length spans → s.slower_in ≡ (slice_index_or spans i e).slower_in → (j : ℕ) (d : Span) → (slice_index_or (set spans i s) j d).slower_in ≡ (slice_index_or spans j d).slower_in
+same_slower [] i s e within same j d = refl
+same_slower (x ∷ rest) zero s e within same zero d = same
+same_slower (x ∷ rest) zero s e within same (suc j) d = refl
+same_slower (x ∷ rest) (suc i) s e within same zero d = refl
+same_slower (x ∷ rest) (suc i) s e within same (suc j) d = same_slower rest i s e (omega arith) same j d
+
+module _ (spans : List Span) (i : ℕ) (s e : Span) (within : i < length spans) (same : s.limit ≡ (slice_index_or spans i e).limit) where
+  -- where the limit is lower stays as it is
+  pub none_slower_still : s.slower_in ≡ (slice_index_or spans i e).slower_in → NoneSlower spans → NoneSlower (set spans i s)
+  none_slower_still mark none j k d before inside near =
+      let limit = same_limits spans i s e within same in
+      let count = length_of-set spans i s in
+      let marks = same_slower spans i s e within mark j d in
+      rw (limit j d, limit k d) (none j k d before (omega arith) (omega arith))
+
+  -- so do the limits
+  pub lowest_still : (left least : ℕ) → ((j : ℕ) (d : Span) → left ≤ j → j < least → least < length spans → (slice_index_or spans least d).limit ≤ℤ (slice_index_or spans j d).limit)
+      → (j : ℕ) (d : Span) → left ≤ j → j < least → least < length (set spans i s) → (slice_index_or (set spans i s) least d).limit ≤ℤ (slice_index_or (set spans i s) j d).limit
+  lowest_still left least lowest j d from near inside =
+      let limit = same_limits spans i s e within same in
+      rw (limit least d, limit j d) (lowest j d from near (let count = length_of-set spans i s in omega arith))
+
+  -- one more is marked
+  pub one_more_least : (least : ℕ) → s.least_in ≡ least - i → i < least
+      → ((j : ℕ) (d : Span) → i + 1 ≤ j → j < least → least < length spans → (slice_index_or spans least d).limit ≤ℤ (slice_index_or spans j d).limit) → LeastFrom spans (i + 1) → LeastFrom (set spans i s) i
+  one_more_least least mark after lowest marked j k m d from before near inside is = go (eq-or-lt_of_le from)
+    where
+      count : length (set spans i s) ≡ length spans
+      count = length_of-set spans i s
+
+      limit : (n : ℕ) (f : Span) → (slice_index_or (set spans i s) n f).limit ≡ (slice_index_or spans n f).limit
+      limit = same_limits spans i s e within same
+
+      go : (i ≡ j) ⊎ (i < j) → (slice_index_or (set spans i s) m d).limit ≤ℤ (slice_index_or (set spans i s) k d).limit
+      go (inl here) =
+          let own : (slice_index_or (set spans i s) j d).least_in ≡ least - i = ap (λ n. (slice_index_or (set spans i s) n d).least_in) (sym here) ∙ ap (λ (t : Span). t.least_in) (set_here spans i s d within) ∙ mark in
+          let there : m ≡ least = omega arith in
+          let size = count in
+          rw (limit m d, limit k d, there) (lowest k d (omega arith) (omega arith) (omega arith))
+      go (inr later) =
+          let own : (slice_index_or (set spans i s) j d).least_in ≡ (slice_index_or spans j d).least_in = ap (λ (t : Span). t.least_in) (set_before spans i j s d later) in
+          let size = count in
+          rw (limit m d, limit k d) (marked j k m d (omega arith) before near (omega arith) (omega arith))
+
+-- so the least of those from an index on is that of those from one before, which is not lower
+pub lowest_on : (spans : List Span) (i least : ℕ) → ((d : Span) → (slice_index_or spans least d).limit ≤ℤ (slice_index_or spans i d).limit)
+    → ((j : ℕ) (d : Span) → i + 1 ≤ j → j < least → (slice_index_or spans least d).limit ≤ℤ (slice_index_or spans j d).limit)
+    → (j : ℕ) (d : Span) → i ≤ j → j < least → (slice_index_or spans least d).limit ≤ℤ (slice_index_or spans j d).limit
+lowest_on spans i least here later j d from near = go (eq-or-lt_of_le from)
+  where
+    go : (i ≡ j) ⊎ (i < j) → (slice_index_or spans least d).limit ≤ℤ (slice_index_or spans j d).limit
+    go (inl same) = subst (λ k. (slice_index_or spans least d).limit ≤ℤ (slice_index_or spans k d).limit) same (here d)
+    go (inr after) = later j d (omega arith) near
 
 -- no limit is lower up to another span, at that, and up to the next that is lower than that
 pub further : (spans : List Span) (i n m : ℕ) (a b : Span) → a ≡ slice_index_or spans i a → b ≡ slice_index_or spans n b → a.limit ≤ℤ b.limit → i < n → n < length spans → IsNextSlower spans n m

@@ -59,7 +59,7 @@ abbrev pub keeps_spans : ℕ → ℕ → List SpanSeen → ℕ → ℕ → ℕ �
 keeps_spans moves b [] start x u = true
 keeps_spans moves b (s ∷ rest) start x u = keeps_span moves b s start x u && keeps_spans moves b rest (max start s.end) x u
 
-span_tells : (n b : ℕ) (s : SpanSeen) (start x u : ℕ) → keeps_span n b s start x u ≡ true → s.limit < u → min (x + faster_distance n b s.limit u) s.end ≤ start
+pub span_tells : (n b : ℕ) (s : SpanSeen) (start x u : ℕ) → keeps_span n b s start x u ≡ true → s.limit < u → min (x + faster_distance n b s.limit u) s.end ≤ start
 span_tells n b s start x u h fast = go (nat_le u s.limit) refl h
   where
     go : (t : Bool) → nat_le u s.limit ≡ t → (t || nat_le (min (x + faster_distance n b s.limit u) s.end) start) ≡ true → min (x + faster_distance n b s.limit u) s.end ≤ start

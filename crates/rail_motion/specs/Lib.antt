@@ -4,3 +4,4 @@ pub mod Motor
 pub mod Track
 pub mod Permitted
 pub mod Braking
+pub mod Obstacles

@@ -11,6 +11,10 @@ module _ (m : Motor) (a : Ahead) where
   abbrev pub permitted_on : ℕ → ℕ → ℕ → Bool
   permitted_on = motion.permitted (rates_of m) (stretches_of a.spans.now) (end_of a.end)
 
+  -- a move by a speed from a place, and then full braking, keeps the limits and stops where it may
+  abbrev pub brakes_on : ℕ → ℕ → Bool
+  brakes_on place speed = motion.can_brake speed (nat_abs m.brake) (nat_abs m.tail) (stretches_of a.spans.now) (end_of a.end) place speed
+
   -- full braking is permitted at a place and a speed
   abbrev pub MayBrake : ℕ → ℕ → Type 0
   MayBrake x v = permitted_on x v (v - nat_abs m.brake) ≡ true

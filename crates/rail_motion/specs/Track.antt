@@ -1,5 +1,5 @@
 -- The track ahead as the definitions of motion have it.
-use Rattle.std.specs.Prelude.{ℕ, ℤ, ◌+◌, ◌<◌, ◌≤◌, ◌<ℤ◌, ◌≤ℤ◌, List, map, length, slice_index_or, AllPairs, nat_abs, Option, option_map}
+use Rattle.std.specs.Prelude.{◌≡◌, ℕ, ℤ, ◌+◌, ◌<◌, ◌≤◌, ◌<ℤ◌, ◌≤ℤ◌, List, map, length, slice_index_or, AllPairs, nat_abs, Option, option_map}
 use Rattle.rail_motion.specs.declared.Span.{Span}
 use Rattle.rail_spec.specs.Motion.{SpanSeen}
 
@@ -30,3 +30,8 @@ pub record IsNextSlower (spans : List Span) (i next : ℕ) : Type 0 where
 abbrev pub NoneSlower : List Span → Type 0
 NoneSlower spans = (i j : ℕ) (d : Span) → i < j → j < length spans → j < i + (slice_index_or spans i d).slower_in
     → (slice_index_or spans i d).limit ≤ℤ (slice_index_or spans j d).limit
+
+-- no span after one has a lower limit than that which is so many spans on, up to which it lies
+abbrev pub LeastAhead : List Span → Type 0
+LeastAhead spans = (i j m : ℕ) (d : Span) → i < j → j < m → m < length spans → m ≡ i + (slice_index_or spans i d).least_in
+    → (slice_index_or spans m d).limit ≤ℤ (slice_index_or spans j d).limit

@@ -1,9 +1,9 @@
 //! The track ahead of a train.
 
-ghost use Rattle.std.specs.Prelude.{◌≡◌, nat_abs, nat_lt, filter};
+ghost use Rattle.std.specs.Prelude.{◌≡◌, ◌<◌, ◌^◌, nat_abs, nat_lt, filter};
 ghost use Rattle.std.specs.Option.{ForSome};
 ghost use Rattle.rail_motion.specs.Ranges.{IsPlace};
-ghost use Rattle.rail_motion.specs.Track.{end_of, IsRising, NoneSlower};
+ghost use Rattle.rail_motion.specs.Track.{end_of, IsRising, LeastAhead, NoneSlower};
 
 use crate::Span;
 
@@ -17,13 +17,15 @@ pub struct Ahead<'a> {
     pub end: Option<i64>,
     ghost rising: { IsRising spans.now },
     ghost none_slower: { NoneSlower spans.now },
+    ghost least: { LeastAhead spans.now },
     ghost end_range: { ForSome end IsPlace },
 }
 
 impl Ahead<'_> {
-    /// Where the authority ends, if it does.
-    pub(crate) fn limit_of_authority(&self) -> Option<u64>
-        ensures { result ≡ end_of self.now.end }
+    /// Where the authority ends (mm), if it does.
+    pub fn limit_of_authority(&self) -> Option<u64>
+        ensures end { result ≡ end_of self.now.end }
+        ensures below_2_47 { ForSome result (λ e. e < 2 ^ 47) }
     {
         match self.end {
             None => None,
@@ -59,9 +61,11 @@ impl Span {
 pub(crate) fn spans_past(spans: &[Span], place: u64) -> &[Span]
     requires rising { IsRising spans.now }
     requires none_slower { NoneSlower spans.now }
+    requires least { LeastAhead spans.now }
     ensures past { result.now ≡ filter (λ s. nat_lt place (nat_abs s.end)) spans.now }
     ensures rising { IsRising result.now }
     ensures none_slower { NoneSlower result.now }
+    ensures least { LeastAhead result.now }
 {
     let first = spans.partition_point(|span| span.end() <= place);
     &spans[first..]

@@ -8,7 +8,10 @@ ghost use Rattle.rail_motion.specs.Ranges.{IsPerTick, IsPlace};
 
 mod ahead;
 mod braking;
-mod limits;
+mod least;
+mod obstacle;
+mod obstacles;
+mod rates;
 mod slower;
 mod speeds;
 
@@ -33,12 +36,16 @@ pub struct Span {
     pub limit: i64,
     /// In how many spans the limit may be lower; before that it is not.
     pub slower_in: usize,
+    /// In how many spans there is one with a limit that is no higher than those between.
+    pub least_in: usize,
     ghost end_range: { IsPlace end },
     ghost limit_range: { IsPerTick limit },
     ghost slower_in_range: { 1 ≤ slower_in },
+    ghost least_in_range: { 1 ≤ least_in },
 }
 
 pub use ahead::Ahead;
 pub use braking::brakes;
+pub use least::mark_least;
 pub use slower::mark_slower;
-pub use speeds::{advance, next_speed, permitted, step};
+pub use speeds::{advance, is_permitted, next_speed, step};

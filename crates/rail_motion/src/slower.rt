@@ -18,7 +18,7 @@ pub fn mark_slower(spans: &mut [Span])
     while left > 0 {
         left -= 1;
         let next = next_slower(spans, left);
-        spans[left] = marked(spans[left], next - left);
+        spans[left] = spans[left].with_slower_in(next - left);
     }
 }
 
@@ -36,16 +36,19 @@ fn next_slower(spans: &[Span], index: usize) -> usize
     next
 }
 
-/// The span, with the lower limit so many spans on.
-fn marked(span: Span, slower_in: usize) -> Span
-    requires { 1 ≤ slower_in }
-    ensures end { result.end ≡ span.end }
-    ensures limit { result.limit ≡ span.limit }
-    ensures slower_in { result.slower_in ≡ slower_in }
-{
-    Span {
-        end: span.end,
-        limit: span.limit,
-        slower_in,
+impl Span {
+    /// The span, with the lower limit so many spans on.
+    fn with_slower_in(self, slower_in: usize) -> Span
+        requires { 1 ≤ slower_in }
+        ensures end { result.end ≡ self.end }
+        ensures limit { result.limit ≡ self.limit }
+        ensures slower_in { result.slower_in ≡ slower_in }
+    {
+        Span {
+            end: self.end,
+            limit: self.limit,
+            slower_in,
+            least_in: self.least_in,
+        }
     }
 }

@@ -1,27 +1,28 @@
 //! The speeds that are permitted, the greatest of them, and the move that it makes.
 
-ghost use Rattle.std.specs.Prelude.{◌≡◌, ◌↔◌, ◌<◌, ◌≤◌, ◌+◌, ◌^◌, ◌≤ℤ◌, ◌<ℤ◌, ◌+ℤ◌, nat_abs, pos, true};
+ghost use Rattle.std.specs.Prelude.{◌≡◌, ◌↔◌, ◌<◌, ◌≤◌, ◌+◌, ◌^◌, ◌≤ℤ◌, ◌<ℤ◌, ◌+ℤ◌, is_none, nat_abs, pos, true};
 ghost use Rattle.std.specs.Option.{ForSome};
-ghost use Rattle.rail_motion.specs.Motor.{rates_of};
 ghost use Rattle.rail_motion.specs.Track.{end_of};
 ghost use Rattle.rail_motion.specs.Ranges.{IsPlace, IsSpeed};
-ghost use Rattle.rail_spec.specs.Motion.{reach, may_stop};
+ghost use Rattle.rail_spec.specs.Motion.{may_stop};
 ghost use Rattle.rail_motion.specs.Permitted.{permitted_on, MayBrake, next_speed_on, IsPermittedOn, IsGreatestOn};
-ghost use Rattle.rail_motion.specs.Permitted.{KeepsLimitsOn};
+ghost use Rattle.rail_motion.specs.Permitted.{KeepsLimitsOn, brakes_on};
+ghost use Rattle.rail_motion.specs.Obstacles.{IsObstacleOn};
 
-use crate::limits::can_brake;
+use crate::obstacle::Obstacle;
+use crate::obstacles::first_obstacle;
 use crate::{Ahead, Motor};
 
 /// Whether the speed `u` is permitted at the place `x` and the speed `v`: it can be reached, and a move by it and then
 /// full braking keep the limits and stop within the authority. `x` is in mm, `v` and `u` in mm per tick.
-pub fn permitted(motor: &Motor, ahead: &Ahead, x: i64, v: i64, u: i64) -> bool
+pub fn is_permitted(motor: &Motor, ahead: &Ahead, x: i64, v: i64, u: i64) -> bool
     requires x { IsPlace x }
     requires v { IsSpeed v }
     requires u { pos 0 ≤ℤ u }
     ensures test { result ≡ permitted_on motor.now ahead.now (nat_abs x) (nat_abs v) (nat_abs u) }
     ensures points { (result ≡ true) ↔ IsPermittedOn motor.now ahead.now (nat_abs x) (nat_abs v) (nat_abs u) }
 {
-    is_permitted(motor, ahead, x as u64, v as u64, u as u64)
+    permits(motor, ahead, x as u64, v as u64, u as u64)
 }
 
 /// The greatest permitted speed at the place `x` (mm) and the speed `v` (mm per tick), at which full braking is
@@ -78,35 +79,33 @@ pub fn step(motor: &Motor, ahead: &Ahead, x: i64, v: i64) -> (i64, i64)
     (place as i64, speed as i64)
 }
 
-impl Motor {
-    /// The speed that may be reached in a tick.
-    fn reach(&self, speed: u64) -> u64
-        requires { speed ≤ 100000 }
-        ensures reach { result ≡ reach (rates_of self.now) speed }
-        ensures bound { result ≤ 100000 }
-    {
-        (speed + self.accel as u64).min(self.top as u64)
-    }
-}
-
-fn is_permitted(motor: &Motor, ahead: &Ahead, place: u64, speed: u64, next: u64) -> bool
+fn permits(motor: &Motor, ahead: &Ahead, place: u64, speed: u64, next: u64) -> bool
     requires place { place < 2 ^ 47 }
     requires speed { speed ≤ 100000 }
     ensures { result ≡ permitted_on motor.now ahead.now place speed next }
 {
-    next <= motor.reach(speed)
-        && can_brake(
-            ahead.spans,
-            ahead.limit_of_authority(),
-            motor.brake as u64,
-            motor.tail as u64,
-            place,
-            next,
-        )
+    next <= motor.reach(speed) && obstacle(motor, ahead, place, next).is_none()
 }
 
-/// The greatest permitted speed, by halving what lies between full braking and the speed in reach. Most trains gain as
-/// much speed as they can, keep theirs, or lose nearly as much as they can, so these speeds are tried first.
+/// What is in the way of a move by `speed` from `place` and then full braking.
+fn obstacle(motor: &Motor, ahead: &Ahead, place: u64, speed: u64) -> Option<Obstacle>
+    requires place { place < 2 ^ 47 }
+    requires speed { speed ≤ 100000 }
+    ensures none { is_none result ≡ brakes_on motor.now ahead.now place speed }
+    ensures some { ForSome result (IsObstacleOn motor.now ahead.now place speed) }
+{
+    first_obstacle(
+        ahead.spans,
+        ahead.limit_of_authority(),
+        motor.brake(),
+        motor.tail(),
+        place,
+        speed,
+    )
+}
+
+/// The greatest permitted speed, between full braking and the speed in reach. What is in the way of a speed says up to
+/// which lower speed it is in the way, so that only those below are tried after it.
 fn greatest_permitted(motor: &Motor, ahead: &Ahead, place: u64, speed: u64) -> u64
     requires place { place < 2 ^ 47 }
     requires speed { speed ≤ 100000 }
@@ -116,24 +115,51 @@ fn greatest_permitted(motor: &Motor, ahead: &Ahead, place: u64, speed: u64) -> u
     ensures bound { result ≤ 100000 }
     ensures moves { ForSome (end_of ahead.now.end) (λ end. place < end) → 1 ≤ result }
 {
-    let mut low = speed.saturating_sub(motor.brake as u64);
+    let brake = motor.brake();
+    let mut low = speed.saturating_sub(brake);
     let mut high = motor.reach(speed) + 1;
-    for guess in [high - 1, speed, speed + 1, low + 1] {
-        if low < guess && guess < high {
-            if is_permitted(motor, ahead, place, speed, guess) {
-                low = guess;
-            } else {
-                high = guess;
-            }
-        }
-    }
+    let mut cost: u64 = 0;
     while low + 1 < high {
-        let middle = low + (high - low) / 2;
-        if is_permitted(motor, ahead, place, speed, middle) {
-            low = middle;
-        } else {
-            high = middle;
+        let guess = speed_to_try(low, high, cost / FAR_COST);
+        let found = obstacle(motor, ahead, place, guess);
+        cost = cost.saturating_add(cost_of(found, place, guess));
+        match found {
+            None => low = guess,
+            Some(found) => high = found.least_forbidden(brake, place, low, guess),
         }
     }
     low
+}
+
+/// What a try counts for that had to look far ahead.
+const FAR_COST: u64 = 4;
+
+/// What a try counts for: more where it had to look at all spans up to the stop, or up to an obstacle farther than the
+/// next moves.
+fn cost_of(found: Option<Obstacle>, place: u64, speed: u64) -> u64
+    requires place { place < 2 ^ 47 }
+    requires speed { speed ≤ 100000 }
+{
+    let looks_far = match found {
+        None => true,
+        Some(obstacle) => obstacle.is_far(place, speed),
+    };
+    if looks_far { FAR_COST } else { 1 }
+}
+
+/// A speed between one that is permitted and one that is not, after so many tries that looked far ahead or as many that
+/// cost as much: at first the greatest, since most trains go as fast as the first obstacles allow, then the least, since
+/// others brake as fully as they can, and then the middle and the greatest in turn.
+fn speed_to_try(low: u64, high: u64, tries: u64) -> u64
+    requires { low + 1 < high }
+    ensures above { low < result }
+    ensures below { result < high }
+{
+    if tries == 1 {
+        low + 1
+    } else if tries > 1 && tries % 2 == 0 {
+        low + (high - low) / 2
+    } else {
+        high - 1
+    }
 }

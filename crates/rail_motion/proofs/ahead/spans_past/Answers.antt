@@ -2,8 +2,8 @@ use Rattle.std.proofs.Common.{◌∙◌, sym, subst, arith, rules, nat_abs, nat_
 use Rattle.std.proofs.lemmas.Bool.{lt-ltb, le-ltb}
 use Rattle.std.proofs.lemmas.List.{take_all}
 use Rattle.std.proofs.lemmas.List.Sorted.{IsPartitionPoint-from_clause, IsPartitionedBy-leb}
-use Rattle.rail_motion.specs.Track.{NoneSlower}
-use Rattle.rail_motion.proofs.Skipping.{none_slower_from}
+use Rattle.rail_motion.specs.Track.{LeastAhead, NoneSlower}
+use Rattle.rail_motion.proofs.Skipping.{least_from, none_slower_from}
 use Rattle.rail_motion.proofs.Rising.{ends_rise, filter_from}
 use Rattle.rail_motion.proofs.ahead.spans_past.Goals as goal
 
@@ -21,3 +21,7 @@ returns-clause-past c =
 pub returns-clause-none_slower : goal.returns-clause-none_slower
 returns-clause-none_slower c =
     subst NoneSlower (sym (take_all _ _ (simp length-drop (omega arith)))) (none_slower_from c.args.spans.now c.partition_point-first.result c.requires.none_slower)
+
+pub returns-clause-least : goal.returns-clause-least
+returns-clause-least c =
+    subst LeastAhead (sym (take_all _ _ (simp length-drop (omega arith)))) (least_from c.args.spans.now c.partition_point-first.result c.requires.least)

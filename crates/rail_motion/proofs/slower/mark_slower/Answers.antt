@@ -10,11 +10,11 @@ loop-left-preserved c =
     let span = c.index-spans-left.result in
     let some = c.loop-left-test.true in
     let invariant = c.loop-left.invariant in
-    let same = c.marked.ensures in
+    let same = c.with_slower_in.ensures in
     record {
-      within = (let count = length_of-set spans i c.marked.result in omega arith);
-      track = set_stretch spans i c.marked.result span (omega arith) (ap₂ (λ e l. record { end = nat_abs e; limit = nat_abs l }) same.end same.limit ∙ ap stretch_of c.index-spans-left.is) ∙ invariant.track;
-      marked = one_more spans i c.marked.result span (omega arith) (same.limit ∙ ap (λ s. s.limit) c.index-spans-left.is) c.next_slower-next.result c.next_slower-next.ensures same.slower_in (λ j d after inside. invariant.marked j d (omega arith) inside);
+      within = (let count = length_of-set spans i c.with_slower_in.result in omega arith);
+      track = set_stretch spans i c.with_slower_in.result span (omega arith) (ap₂ (λ e l. record { end = nat_abs e; limit = nat_abs l }) same.end same.limit ∙ ap stretch_of c.index-spans-left.is) ∙ invariant.track;
+      marked = one_more spans i c.with_slower_in.result span (omega arith) (same.limit ∙ ap (λ s. s.limit) c.index-spans-left.is) c.next_slower-next.result c.next_slower-next.ensures same.slower_in (λ j d after inside. invariant.marked j d (omega arith) inside);
     }
 
 pub returns-clause-rising : goal.returns-clause-rising

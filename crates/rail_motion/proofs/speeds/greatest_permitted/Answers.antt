@@ -3,7 +3,27 @@ use Rattle.std.proofs.lemmas.Int.{ints}
 use Rattle.rail_laws.proofs.MotionLaws.{next_speed_is}
 use Rattle.rail_motion.specs.Motor.{rates_of}
 use Rattle.rail_motion.proofs.Moves.{moves_on}
+use Rattle.rail_motion.proofs.Obstructing.{not_permitted}
 use Rattle.rail_motion.proofs.speeds.greatest_permitted.Goals as goal
+
+pub least_forbidden-high-requires-clause-high_is : goal.least_forbidden-high-requires-clause-high_is
+least_forbidden-high-requires-clause-high_is c =
+    let found = c.obstacle-found.ensures.some c.in-Some.found c.in-Some.is in
+    let above = c.speed_to_try-guess.ensures.above in
+    rw c.brake-brake.ensures.rate (found.forbidden (omega arith))
+
+pub loop-low-preserved : goal.loop-low-preserved
+loop-low-preserved c =
+    let found = c.obstacle-found.ensures.some c.in-Some.found c.in-Some.is in
+    let before = c.speed_to_try-guess.ensures.below in
+    let least = c.least_forbidden-high.ensures in
+    let invariant = c.loop-low.invariant in
+    record {
+      apart = least.above;
+      within = omega arith;
+      low_is = invariant.low_is;
+      high_is = not_permitted (rates_of c.args.motor.now) _ _ c.args.place c.args.speed c.least_forbidden-high.result (found.obstructs c.least_forbidden-high.result (rw (sym c.brake-brake.ensures.rate) least.forbidden));
+    }
 
 pub returns-clause-speed : goal.returns-clause-speed
 returns-clause-speed c =

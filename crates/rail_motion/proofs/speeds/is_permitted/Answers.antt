@@ -4,7 +4,7 @@ use Rattle.rail_spec.specs.Motion.{permitted}
 use Rattle.rail_laws.proofs.Points.{permitted_tells, permitted_from}
 use Rattle.rail_motion.specs.Motor.{rates_of}
 use Rattle.rail_motion.specs.Track.{stretches_of, end_of}
-use Rattle.rail_motion.proofs.speeds.permitted.Goals as goal
+use Rattle.rail_motion.proofs.speeds.is_permitted.Goals as goal
 
 pub returns-clause-points : goal.returns-clause-points
 returns-clause-points c =
@@ -19,5 +19,5 @@ returns-clause-points c =
     let x = nat_abs c.args.x in
     let v = nat_abs c.args.v in
     let u = nat_abs c.args.u in
-    let same : c.is_permitted.result ≡ permitted m ss end x v u = simp to_z-of_z at c.is_permitted.ensures in
+    let same : c.permits.result ≡ permitted m ss end x v u = simp to_z-of_z at c.permits.ensures in
     ((λ h. permitted_tells m ss end x v u (sym same ∙ h)), (λ h. same ∙ permitted_from m ss end x v u slows h))
