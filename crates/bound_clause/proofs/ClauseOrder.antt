@@ -11,7 +11,7 @@ use Rattle.rail_base.proofs.Lists.{in_append, in_flat_map_back}
 use Rattle.cone_spec.specs.Validity as cone
 use Rattle.cone_spec.specs.Clauses.{Fact, Used, Before, Literal}
 use Rattle.cone_spec.proofs.Saying.{is_command_self}
-use Rattle.cone_form.proofs.Sorted.{all_pairs_append, commands_sorted}
+use Rattle.cone_spec.proofs.Sorted.{all_pairs_append, commands_sorted}
 use Rattle.cone_clause.proofs.ClauseOrder.{is_fact_before, is_literal_before}
 use Rattle.bound_spec.specs.declared.Bound.{Bound}
 use Rattle.bound_spec.specs.Clauses.{is_named, is_kept_out, is_before, is_kept_behind, used_literals, before_literals, clause_of_bound}

@@ -12,7 +12,7 @@ use Rattle.rail_spec.specs.Feasible.{IsFeasible, IsInfeasible}
 use Rattle.sat_clause.specs.declared.lit.Lit.{Lit}
 use Rattle.sat_clause.specs.Clauses.{clause_holds}
 use Rattle.clause_spec.specs.Models.{model_of}
-use Rattle.cone_form.proofs.Sorted.{all_pairs_map}
+use Rattle.cone_spec.proofs.Sorted.{all_pairs_map}
 use Rattle.cone_spec.specs.declared.Cone.{Cone}
 use Rattle.cone_spec.specs.Validity.{is_valid_cone}
 use Rattle.cone_spec.specs.Clauses.{Literal}
@@ -21,7 +21,7 @@ use Rattle.cone_clause.specs.Numbered.{variable_of, lit_of, numbered_clause}
 use Rattle.clause_spec.specs.Variables.{number_of}
 use Rattle.cone_clause.proofs.ClauseOrder.{is_literal_before}
 use Rattle.cone_clause.proofs.Ordered.{facts_rise, weaken}
-use Rattle.cone_clause.proofs.Agreeing.{each_alike, short_enough, holds_of_feasible, all_append}
+use Rattle.cone_clause.proofs.Agreeing.{each_alike, holds_of_feasible, all_append}
 use Rattle.alike_clause_spec.specs.Sorted.{AreSound, NoneSortedBy}
 use Rattle.alike_clause_spec.proofs.Holding.{none_sorted}
 use Rattle.bound_spec.specs.declared.Bound.{Bound}
@@ -31,6 +31,7 @@ use Rattle.bound_spec.proofs.Certified.{true_of_feasible}
 use Rattle.bound_clause.specs.Numbered.{numbered_bound, clauses_of_evidence}
 use Rattle.bound_clause.proofs.Known.{all_known}
 use Rattle.bound_clause.proofs.ClauseOrder.{clause_sorted}
+use Rattle.clause_spec.proofs.Shown.{short_enough}
 
 pub fits_design : (d : Station) (routes : List Route) (b : Bound) → is_valid_bound d routes b ≡ true → in_design d routes b ≡ true
 fits_design d routes b = go (in_design d routes b) (covered d routes b) (shows_failure d routes b)

@@ -1,7 +1,6 @@
 -- Literals that are put at the end of a clause, one after the other.
 use Rattle.std.proofs.Common.{◌≡◌, ℕ, ◌+◌, ◌-◌, ◌≤◌, ◌<◌, List, [], ◌∷◌, ◌++◌, map, drop, get_or, length, refl, sym, ap, subst, ◌∙◌, arith, append-nil, length-drop}
-use Rattle.std.proofs.lemmas.List.{append_assoc, map-append}
-use Rattle.cone_clause.proofs.Gathering.{drop_next}
+use Rattle.std.proofs.lemmas.List.{append_assoc, map-append, drop_more}
 use Rattle.bound_spec.specs.declared.Leg.{Leg}
 use Rattle.cone_spec.specs.Clauses.{Literal}
 use Rattle.bound_clause.specs.Said.{said_between, said_of_meetings}
@@ -32,8 +31,8 @@ module _ {Z : Type 0} (num : Literal → Z) where
   meetings_next legs i a b low high first second old new all e h =
       let same : i - 1 + 1 ≡ i = omega arith in
       let next : i + 1 - 1 ≡ i = omega arith in
-      let one = drop_next legs (i - 1) a (omega arith) ∙ (ap (λ j. get_or legs (i - 1) a ∷ drop j legs) same ∙ ap (λ x. x ∷ drop i legs) (sym first)) in
-      let two = drop_next legs i b high ∙ ap (λ x. x ∷ drop (i + 1) legs) (sym second) in
+      let one = drop_more legs (i - 1) a (omega arith) ∙ (ap (λ j. get_or legs (i - 1) a ∷ drop j legs) same ∙ ap (λ x. x ∷ drop i legs) (sym first)) in
+      let two = drop_more legs i b high ∙ ap (λ x. x ∷ drop (i + 1) legs) (sym second) in
       subst (λ j. new ++ map num (said_of_meetings (drop j legs)) ≡ all) (sym next)
       (two_more old new all (drop (i - 1) legs) (drop i legs) (drop (i + 1) legs) a b one two e h)
 

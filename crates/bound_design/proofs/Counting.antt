@@ -10,13 +10,14 @@ use Rattle.bound_spec.specs.declared.Place.{Place}
 use Rattle.bound_spec.specs.declared.Leg.{Leg}
 use Rattle.bound_spec.specs.Certificates.{routes_of_place}
 use Rattle.bound_spec.specs.Validity.{choices, places_of, are_few_choices}
-use Rattle.cone_form.proofs.Walks.{drop_next, drop_end}
+use Rattle.cone_form.proofs.Walks.{drop_end}
 use Rattle.bound_design.specs.Named.{few_choices_before}
+use Rattle.std.proofs.lemmas.List.{drop_more}
 
 -- ---- places
 
 pub places_step : (ls : List Leg) (i : ℕ) (other : Leg) → i < length ls → places_of (drop i ls) ≡ length (get_or ls i other).places + places_of (drop (i + 1) ls)
-places_step ls i other h = ap places_of (drop_next ls i other h) ∙ sum_by-cons (λ (l : Leg). length l.places) (get_or ls i other) (drop (i + 1) ls)
+places_step ls i other h = ap places_of (drop_more ls i other h) ∙ sum_by-cons (λ (l : Leg). length l.places) (get_or ls i other) (drop (i + 1) ls)
 
 pub places_end : (ls : List Leg) (i : ℕ) → length ls ≤ i → places_of (drop i ls) ≡ 0
 places_end ls i h = ap places_of (drop_end ls i h)
@@ -56,7 +57,7 @@ capped_few c = go (below_or_not c 4098)
     go (inr l) = let e : min 4097 c ≡ 4097 = omega arith in ap (λ k. nat_le k 4096) e ∙ sym (lt-leb c 4096 (omega arith))
 
 pub choices_step : (ps : List Place) (i : ℕ) (other : Place) → i < length ps → choices (drop i ps) ≡ length (routes_of_place (get_or ps i other)) * choices (drop (i + 1) ps)
-choices_step ps i other h = ap choices (drop_next ps i other h)
+choices_step ps i other h = ap choices (drop_more ps i other h)
 
 pub choices_end : (ps : List Place) (i t : ℕ) → length ps ≤ i → t ≤ 4097 → min 4097 (t * choices (drop i ps)) ≡ t
 choices_end ps i t h l = ap (λ (qs : List Place). min 4097 (t * choices qs)) (drop_end ps i h) ∙ (omega arith)
@@ -73,7 +74,7 @@ module _ (d : Station) (routes : List Route) where
   few_cons l (m ∷ ls) = refl
 
   few_step : (ls : List Leg) (i : ℕ) (other : Leg) → i < length ls → are_few_choices d routes (drop i ls) ≡ (few_choices_before (get_or ls i other) (drop (i + 1) ls) && are_few_choices d routes (drop (i + 1) ls))
-  few_step ls i other h = ap (are_few_choices d routes) (drop_next ls i other h) ∙ few_cons (get_or ls i other) (drop (i + 1) ls)
+  few_step ls i other h = ap (are_few_choices d routes) (drop_more ls i other h) ∙ few_cons (get_or ls i other) (drop (i + 1) ls)
 
   pub few_stop : (ls : List Leg) (i : ℕ) (other : Leg) → i < length ls → few_choices_before (get_or ls i other) (drop (i + 1) ls) ≡ false → are_few_choices d routes (drop i ls) ≡ are_few_choices d routes ls → false ≡ are_few_choices d routes ls
   few_stop ls i other h e k = sym (ap (λ b. b && are_few_choices d routes (drop (i + 1) ls)) e) ∙ (sym (few_step ls i other h) ∙ k)

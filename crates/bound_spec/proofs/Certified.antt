@@ -34,7 +34,7 @@ use Rattle.cone_spec.specs.Cones.{named}
 use Rattle.cone_spec.specs.Validity as cone
 use Rattle.cone_spec.specs.Validity.{free_granted, holder_fits, cone_visit}
 use Rattle.cone_spec.specs.Clauses.{is_false_of}
-use Rattle.cone_spec.proofs.Running.{idle_at_first}
+use Rattle.rail_laws.proofs.Running.{idle_at_first}
 use Rattle.cone_spec.proofs.Fitting.{Rests}
 use Rattle.cone_spec.proofs.Failing.{visit_same, in_time}
 use Rattle.free_spec.proofs.Following.{has_train}

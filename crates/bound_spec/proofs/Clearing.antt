@@ -10,7 +10,7 @@ use Rattle.rail_spec.specs.Dispatches.{Dispatch, state_of, state_at, routes_befo
 use Rattle.rail_base.proofs.Members.{below_or_not}
 use Rattle.rail_base.proofs.Lists.{length-map}
 use Rattle.rail_laws.proofs.Given.{same_route}
-use Rattle.cone_spec.proofs.Running.{Cleared, ready_cleared, granted_cleared, granted_at_most, first_is}
+use Rattle.rail_laws.proofs.Running.{Cleared, ready_cleared, granted_cleared, granted_at_most, first_is}
 
 module _ (d : Station) (routes : List Route) (p : Dispatch) where
   newly : (k : ℕ) (c : Command) (o : Option RouteNo) → slice_get (p.path c.train) (state_of (state_at d routes p k) c.train).granted ≡ o

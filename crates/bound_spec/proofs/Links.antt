@@ -14,7 +14,7 @@ use Rattle.rail_spec.specs.Plans.{route_at, length_mm, shared, release_offset, p
 use Rattle.rail_spec.specs.Feasible.{IsWellFormed}
 use Rattle.rail_spec.specs.Dispatches.{state_of, of_plan, routes_before, is_granted, state_at}
 use Rattle.rail_base.proofs.Members.{and_left, and_right, and_both}
-use Rattle.cone_spec.proofs.Running.{idle_at_first}
+use Rattle.rail_laws.proofs.Running.{idle_at_first}
 use Rattle.bound_spec.specs.Events.{Event}
 use Rattle.bound_spec.specs.Events.{has_happened, Takes}
 use Rattle.free_spec.proofs.Heads.{grants_in, no_way_back}

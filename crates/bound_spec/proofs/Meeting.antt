@@ -1,6 +1,5 @@
 -- What it says of a plan that it meets the design.
-use Rattle.std.proofs.Common.{◌≡◌, ℕ, zero, suc, ◌+◌, ◌*◌, ◌/◌, ◌≤◌, ◌<◌, ◌⊎◌, inl, inr, Bool, true, false, ◌&&◌, nat_le, nat_lt, List, length, Option, None, Some, option_and_then, refl, sym, ap, subst, ◌∙◌, arith, leb-true, eq-or-lt_of_le, true≢false, mul-le-mul, le_refl}
-use Rattle.std.proofs.Math.Nat.{lt-div-mul-add}
+use Rattle.std.proofs.Common.{◌≡◌, ℕ, zero, suc, ◌+◌, ◌*◌, ◌≤◌, ◌<◌, ◌⊎◌, inl, inr, Bool, true, false, ◌&&◌, nat_le, nat_lt, List, length, Option, None, Some, option_and_then, refl, sym, ap, subst, ◌∙◌, arith, leb-true, eq-or-lt_of_le, true≢false}
 use Rattle.std.specs.List.{list_all}
 use Rattle.rail_base.specs.declared.station.Station.{Station}
 use Rattle.rail_base.specs.declared.station.TrainNo.{TrainNo}
@@ -25,6 +24,7 @@ use Rattle.bound_spec.specs.declared.Requirement.{Requirement}
 use Rattle.bound_spec.specs.declared.Requirement.TheVariants as requirement
 use Rattle.bound_spec.specs.Certificates.{VisitOf, visit_from, visit_to}
 use Rattle.bound_spec.specs.Validity.{requirement_in_design, is_too_long, is_too_late}
+use Rattle.cone_spec.proofs.Refusing.{past}
 
 -- ---- the least number that passes
 
@@ -48,14 +48,6 @@ least_low test (suc n) a i e low passes = go (least test n) refl (test (suc n)) 
     go None eo false eb h before w = cc
     go None eo true eb h before (inl less) = absurd (true≢false (sym passes ∙ not_least test n i eo low (omega arith)))
     go None eo true eb h before (inr more) = let same : suc n ≡ a = cc in omega arith
-
--- more ticks than a time has are a longer time
-past : (ms most a b : ℕ) → 1 ≤ ms → a + most / ms < b → a * ms + most < b * ms
-past ms most a b pos h =
-    let l : a + most / ms + 1 ≤ b = omega arith in
-    let k : (a + most / ms + 1) * ms ≤ b * ms = mul-le-mul l (le_refl ms) in
-    let q : most < most / ms * ms + ms = lt-div-mul-add pos in
-    omega (arith, k, q)
 
 both_gives : (test : ℕ → ℕ → Bool) (x y : Option ℕ) → both test x y ≡ true → (a : ℕ) × (b : ℕ) × (x ≡ Some a) × (y ≡ Some b) × (test a b ≡ true)
 both_gives test None y h = cc

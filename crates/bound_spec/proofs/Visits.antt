@@ -27,20 +27,9 @@ use Rattle.rail_laws.proofs.Admits.{good_route, formed_path}
 use Rattle.free_spec.proofs.Following.{of_design, has_train}
 use Rattle.bound_spec.specs.Certificates.{first_in, nodes_of_visit, visit_offset}
 use Rattle.bound_spec.specs.Validity.{can_visit}
+use Rattle.rail_laws.proofs.Arrivals.{in_after, in_from}
 
 -- ---- lists
-
-in_after : {X : Type 0} (xs : List X) (x : X) → In x (after_first xs) → In x xs
-in_after [] x m = m
-in_after (y ∷ ys) x m = inr m
-
-in_from : {X : Type 0} (test : X → Bool) (xs : List X) (x : X) → In x (from_first test xs) → In x xs
-in_from test [] x m = m
-in_from {X} test (y ∷ ys) x m = go (test y) m (in_from test ys x)
-  where
-    go : (b : Bool) → In x (if b then y ∷ ys else from_first test ys) → (In x (from_first test ys) → In x ys) → In x (y ∷ ys)
-    go true k later = k
-    go false k later = inr (later k)
 
 -- the first that passes the test is one, and passes
 found : {X : Type 0} (test : X → Bool) (xs : List X) (x : X) → first_of_list (from_first test xs) ≡ Some x → In x xs × (test x ≡ true)

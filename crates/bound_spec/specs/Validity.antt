@@ -34,11 +34,7 @@ use Rattle.bound_spec.specs.Walks.{walks}
 use Rattle.bound_spec.specs.Rides.{release_place, chain_ticks, chain_ticks_from, wait_ticks, first_place}
 use Rattle.bound_spec.specs.Certificates.{VisitOf, routes_of_place, kept_out, first_of_leg, last_of_leg, ride_of, nodes_of_visit, visit_offset, visit_from, visit_to, train_to, target, visit_place, cone_of}
 use Rattle.bound_spec.specs.Clauses.{is_named, is_kept_out, is_before, is_kept_behind}
-
--- there are none
-abbrev pub is_empty : {X : Type 0} → List X → Bool
-is_empty [] = true
-is_empty (x ∷ xs) = false
+pub use Rattle.rail_spec.specs.Track.{is_empty}
 
 -- in increasing order
 abbrev pub are_increasing : List RouteNo → Bool

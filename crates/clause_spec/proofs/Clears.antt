@@ -18,9 +18,8 @@ use Rattle.clause_spec.proofs.Lists.{Distinct, distinct_push, length_push, lengt
 use Rattle.clause_spec.proofs.Steps.{cmd, is_train_self}
 use Rattle.clause_spec.proofs.Places.{IsOf, command_of, command_from, start_self, one_finish, boundary_first}
 use Rattle.clause_spec.proofs.Facts.{AllTrue, given_up_to, Led, led, one_of, starts_at_boundary, exclude_ends, not_at_one, goes_further}
-use Rattle.clause_spec.proofs.Numbers.{length-count}
 use Rattle.clause_spec.proofs.Decoded.{New}
-use Rattle.rail_base.proofs.Lists.{list_all_from, in_map, in_flat_map, in_filter_back, length-map, in_append_right, in_append}
+use Rattle.rail_base.proofs.Lists.{list_all_from, in_map, in_flat_map, in_filter_back, length-map, in_append_right, in_append, length-count}
 use Rattle.rail_laws.proofs.AsEdges.{fold_above}
 
 module _ (d : Station) (routes : List Route) (n : ℕ) (says : Variable → Bool) (all : AllTrue d routes n says) (plan : List (List Command)) where

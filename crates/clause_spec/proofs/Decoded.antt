@@ -17,9 +17,8 @@ use Rattle.clause_spec.specs.Models.{given_by, given_in}
 use Rattle.clause_spec.proofs.Lists.{Distinct, distinct_filter, distinct_map, distinct_map_in, distinct_flat_map, distinct_count, last_of, last_push, near_push, distinct_push, one_at_most, map-push, flat_map-push, one_to-push, all_pairs_from}
 use Rattle.clause_spec.proofs.Steps.{cmd, in_or_not, step_here, step_later, step_low, step_high, in_path, in_path_from}
 use Rattle.clause_spec.proofs.Places.{command_of, command_from, distinct_routes, one_start}
-use Rattle.clause_spec.proofs.Numbers.{length-count}
 use Rattle.clause_spec.proofs.Facts.{AllTrue, given_up_to, Led, led, one_of, starts_at_boundary, exclude_boundaries, exclude_starts}
-use Rattle.rail_base.proofs.Lists.{list_all_from, in_map_back, in_filter_back, in_count_back, length-map, in_append_left, in_append_right, in_append}
+use Rattle.rail_base.proofs.Lists.{list_all_from, in_map_back, in_filter_back, in_count_back, length-map, in_append_left, in_append_right, in_append, length-count}
 use Rattle.rail_laws.proofs.Given.{same_train}
 
 true_or_false : (b : Bool) → (b ≡ true) ⊎ (b ≡ false)

@@ -16,7 +16,7 @@ use Rattle.clause_spec.specs.Variables.{Variable, Given, Before, By, Literal, pa
 use Rattle.clause_spec.specs.Models.{literal_holds, holds, is_so, is_so_or_false, model_of}
 use Rattle.clause_spec.proofs.Steps.{cmd, is_command_same, is_command_self}
 use Rattle.clause_spec.proofs.Places.{command_of}
-use Rattle.rail_base.proofs.Lists.{in_map_back, in_count_back, length-map}
+use Rattle.rail_base.proofs.Lists.{in_map_back, in_count_back, length-map, length-count}
 
 -- ---- places in lists
 
@@ -37,10 +37,6 @@ get-counted {X} f a (suc n) i h k = go (i - a) refl (get-counted f (a + 1) n i)
     go : (j : ℕ) → i - a ≡ j → (a + 1 ≤ i → i < a + 1 + n → slice_get (map f (count_from (a + 1) n)) (i - (a + 1)) ≡ Some (f i)) → slice_get (map f (count_from a (suc n))) j ≡ Some (f i)
     go zero e rest = ap (λ m. Some (f m)) (omega arith)
     go (suc j) e rest = ap (slice_get (map f (count_from (a + 1) n))) (omega arith) ∙ rest (omega arith) (omega arith)
-
-pub length-count : (a n : ℕ) → length (count_from a n) ≡ n
-length-count a zero = refl
-length-count a (suc n) = ap suc (length-count (a + 1) n)
 
 -- in rows of one length, the place of an entry is that of its row times the length and its place there
 get-row : {X Y : Type 0} (f : X → List Y) (m : ℕ) (xs : List X) (a j : ℕ) (x : X) (y : Y) → ((z : X) → length (f z) ≡ m) → slice_get xs a ≡ Some x → slice_get (f x) j ≡ Some y → slice_get (flat_map f xs) (a * m + j) ≡ Some y

@@ -21,7 +21,7 @@ pub short_enough : (d : Station) (routes : List Route) (k : ℕ) (plan : List (L
 short_enough d routes k plan h = leb-true _ _ (and_left (nat_le (length plan) k) _ (and_left (nat_le (length plan) k && list_all one_each plan) _ h))
 
 -- and is well formed for more
-formed_for_more : (d : Station) (routes : List Route) (k n : ℕ) (plan : List (List Command)) → k ≤ n → is_well_formed d routes k plan ≡ true → is_well_formed d routes n plan ≡ true
+pub formed_for_more : (d : Station) (routes : List Route) (k n : ℕ) (plan : List (List Command)) → k ≤ n → is_well_formed d routes k plan ≡ true → is_well_formed d routes n plan ≡ true
 formed_for_more d routes k n plan within h =
     let short = short_enough d routes k plan h in
     and_both _ _ (and_both _ _ (le-leb (length plan) n (omega arith)) (and_right (nat_le (length plan) k) (list_all one_each plan) (and_left (nat_le (length plan) k && list_all one_each plan) _ h)))

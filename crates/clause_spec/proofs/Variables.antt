@@ -7,8 +7,8 @@ use Rattle.rail_base.specs.declared.plan.Command.{Command}
 use Rattle.rail_base.specs.Numbering.{one_to}
 use Rattle.clause_spec.specs.Variables.{Variable, Given, Before, By, pairs, variables, number_of, variable_count}
 use Rattle.rail_spec.specs.Plans.{all_commands}
-use Rattle.clause_spec.proofs.Numbers.{Known, stands_known, length-all, length-count}
-use Rattle.rail_base.proofs.Lists.{length-map}
+use Rattle.clause_spec.proofs.Numbers.{Known, stands_known, length-all}
+use Rattle.rail_base.proofs.Lists.{length-map, length-count}
 
 module _ (d : Station) (routes : List Route) (n : ℕ) where
   pub length-variables : length (variables d routes n) ≡ variable_count d routes n

@@ -23,10 +23,7 @@ use Rattle.clause_spec.proofs.Steps.{cmd, in_path}
 use Rattle.clause_spec.proofs.Truth.{Fails, at_clause, yes_false}
 use Rattle.clause_spec.proofs.Forward.{Fit, of, used_from, begins_at}
 use Rattle.rail_base.proofs.Lists.{in_map_back, in_map, in_count_back, in_append}
-
-in_after : {X : Type 0} (xs : List X) (x : X) → In x (after_first xs) → In x xs
-in_after [] x m = m
-in_after (y ∷ ys) x m = inr m
+use Rattle.rail_laws.proofs.Arrivals.{in_after}
 
 in_after_append : {X : Type 0} (xs ys : List X) (x : X) → In x (after_first (xs ++ ys)) → In x (after_first xs) ⊎ In x ys
 in_after_append [] ys x m = inr (in_after ys x m)

@@ -1,11 +1,11 @@
 -- In the model of a plan the clause of a cone is true just where a fact of the plan makes it true.
-use Rattle.std.proofs.Common.{◌≡◌, ℕ, ◌≤◌, inl, inr, Bool, true, false, cond, not, ◌&&◌, ◌||◌, nat_le, List, [], ◌∷◌, ◌++◌, map, length, refl, ap, ◌∙◌, arith, leb-true, le-leb}
+use Rattle.std.proofs.Common.{◌≡◌, ℕ, ◌≤◌, inl, inr, Bool, true, false, cond, not, ◌&&◌, ◌||◌, nat_le, List, [], ◌∷◌, ◌++◌, map, length, refl, ap, ◌∙◌, arith, le-leb}
 use Rattle.std.specs.List.{list_all}
 use Rattle.rail_base.specs.declared.station.Station.{Station}
 use Rattle.rail_base.specs.declared.route.Route.{Route}
 use Rattle.rail_base.specs.declared.plan.Command.{Command}
 use Rattle.rail_spec.specs.Track.{routes_of}
-use Rattle.rail_spec.specs.Plans.{commands, step_of, has_command, one_each, is_well_formed}
+use Rattle.rail_spec.specs.Plans.{commands, step_of, has_command}
 use Rattle.rail_spec.specs.Feasible.{IsFeasible, IsInfeasible}
 use Rattle.rail_base.proofs.Members.{In, and_left, and_right, and_both}
 use Rattle.sat_clause.specs.Clauses.{lit_holds, clause_holds}
@@ -25,26 +25,9 @@ use Rattle.cone_spec.proofs.Failing.{IsTimed}
 use Rattle.cone_spec.proofs.Refusing.{true_of_feasible, holds_of_valid}
 use Rattle.cone_clause.specs.Numbered.{variable_of, lit_of, numbered_clause}
 use Rattle.cone_clause.proofs.Known.{IsKnown, all_known}
+use Rattle.clause_spec.proofs.Shown.{short_enough, more_feasible}
 
 -- ---- plans of k steps are plans of more
-
-pub short_enough : (d : Station) (routes : List Route) (k : ℕ) (plan : List (List Command)) → is_well_formed d routes k plan ≡ true → length plan ≤ k
-short_enough d routes k plan h = leb-true _ _ (and_left (nat_le (length plan) k) _ (and_left (nat_le (length plan) k && list_all one_each plan) _ h))
-
-formed_for_more : (d : Station) (routes : List Route) (k n : ℕ) (plan : List (List Command)) → k ≤ n → is_well_formed d routes k plan ≡ true → is_well_formed d routes n plan ≡ true
-formed_for_more d routes k n plan within h =
-    let short = short_enough d routes k plan h in
-    and_both _ _ (and_both _ _ (le-leb (length plan) n (omega arith)) (and_right (nat_le (length plan) k) (list_all one_each plan) (and_left (nat_le (length plan) k && list_all one_each plan) _ h)))
-    (and_right (nat_le (length plan) k && list_all one_each plan) _ h)
-
-pub more_feasible : (d : Station) (k n : ℕ) (plan : List (List Command)) → k ≤ n → IsFeasible d k plan → IsFeasible d n plan
-more_feasible d k n plan within f = record {
-  runnable = record {
-    well_formed = record { named = f.runnable.well_formed.named; formed = formed_for_more d (routes_of d) k n plan within f.runnable.well_formed.formed };
-    executable = f.runnable.executable;
-  };
-  met = f.met;
-}
 
 -- ---- what literals say in the model of a plan
 

@@ -11,7 +11,7 @@ use Rattle.cone_spec.specs.Cones.{is_named, has_pair, is_free, named}
 use Rattle.cone_spec.specs.Validity.{is_before, is_pair_before}
 use Rattle.cone_spec.specs.Clauses.{Fact, Used, Before, Literal, is_closed, goes_further, used_literals, before_literals, clause_of_cone}
 use Rattle.cone_spec.proofs.Saying.{is_command_self}
-use Rattle.cone_form.proofs.Sorted.{all_pairs_append, all_pairs_flat, commands_sorted}
+use Rattle.cone_spec.proofs.Sorted.{all_pairs_append, all_pairs_flat, commands_sorted}
 use Rattle.rail_base.proofs.Lists.{in_flat_map_back}
 
 -- what is used comes first, by its command; and then what is given earlier, by the first command and then the second

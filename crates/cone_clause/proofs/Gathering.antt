@@ -1,29 +1,12 @@
 -- Lists that are put together part by part.
-use Rattle.std.proofs.Common.{◌≡◌, ℕ, zero, suc, ◌+◌, ◌-◌, ◌<◌, ◌≤◌, List, [], ◌∷◌, ◌++◌, map, flat_map, drop, get_or, length, refl, sym, ap, ◌∙◌, arith, add-one, drop-cons, append-nil}
+use Rattle.std.proofs.Common.{◌≡◌, ℕ, zero, ◌-◌, ◌≤◌, List, [], ◌∷◌, ◌++◌, map, flat_map, refl, sym, ap, ◌∙◌, arith, append-nil}
 use Rattle.std.proofs.lemmas.List.{append_assoc, map-append}
 use Rattle.std.proofs.lemmas.Grind.{flat_map-append}
 use Rattle.rail_base.specs.Numbering.{count_from}
 
--- the numbers from one on: this one, and those from the next on
-pub count_next : (i n : ℕ) → i < n → count_from i (n - i) ≡ i ∷ count_from (i + 1) (n - (i + 1))
-count_next i n h = ap (count_from i) (less i n h)
-  where
-    less : (i n : ℕ) → i < n → n - i ≡ suc (n - (i + 1))
-    less i n h = omega arith
-
 -- none are left at the end
 pub count_end : (i n : ℕ) → n ≤ i → count_from i (n - i) ≡ []
 count_end i n h = let e : n - i ≡ zero = omega arith in ap (count_from i) e
-
--- the members from one on: this one, and those from the next on
-pub drop_next : {X : Type 0} (xs : List X) (i : ℕ) (other : X) → i < length xs → drop i xs ≡ get_or xs i other ∷ drop (i + 1) xs
-drop_next xs i other h = drop-cons xs i other h ∙ ap (λ j. get_or xs i other ∷ drop j xs) (sym (add-one i))
-
-pub drop_end : {X : Type 0} (xs : List X) (i : ℕ) → length xs ≤ i → drop i xs ≡ []
-drop_end [] zero h = refl
-drop_end [] (suc i) h = refl
-drop_end (x ∷ xs) zero h = absurd (omega arith)
-drop_end (x ∷ xs) (suc i) h = drop_end xs i (omega arith)
 
 module _ {X L Z : Type 0} (g : X → List L) (num : L → Z) where
   -- one more part, of which each member is written so

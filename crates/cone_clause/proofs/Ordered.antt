@@ -1,5 +1,5 @@
 -- The literals of a cone's clause stand in strictly increasing order of their numbers.
-use Rattle.std.proofs.Common.{◌≡◌, ℕ, suc, ◌+◌, ◌-◌, ◌*◌, ◌≤◌, ◌<◌, ◌⊎◌, inl, inr, Bool, true, false, ◌&&◌, ◌==◌, if◌then◌else◌, nat_lt, List, [], ◌∷◌, length, refl, sym, ap, subst, ◌∙◌, arith, leb-true, le-leb, eqb-true, true≢false, mul-le-mul, le_refl}
+use Rattle.std.proofs.Common.{◌≡◌, ℕ, suc, ◌+◌, ◌-◌, ◌*◌, ◌≤◌, ◌<◌, ◌⊎◌, inl, inr, Bool, true, false, ◌&&◌, if◌then◌else◌, nat_lt, List, [], ◌∷◌, length, refl, sym, ap, subst, ◌∙◌, arith, le-leb, true≢false, mul-le-mul, le_refl}
 use Rattle.std.specs.List.{list_all}
 use Rattle.rail_base.specs.declared.station.Station.{Station}
 use Rattle.rail_base.specs.declared.route.Route.{Route}
@@ -19,29 +19,13 @@ use Rattle.cone_spec.specs.declared.Cone.{Cone}
 use Rattle.cone_spec.specs.Validity.{is_before, is_pair_before, in_design}
 use Rattle.cone_spec.specs.Clauses.{Fact, Used, Before, Literal, clause_of_cone}
 use Rattle.cone_clause.proofs.ClauseOrder.{is_fact_before, is_literal_before, clause_sorted}
-use Rattle.cone_form.proofs.Sorted.{all_pairs_map, pairs_sorted}
+use Rattle.cone_spec.proofs.Sorted.{all_pairs_map, pairs_sorted}
 use Rattle.cone_clause.specs.Numbered.{variable_of, lit_of, numbered_clause}
 use Rattle.cone_clause.proofs.Known.{IsKnown, all_known}
 use Rattle.rail_base.proofs.Lists.{list_all_from, in_map_back, in_count_back}
+use Rattle.cone_form.proofs.Orders.{Less, less, not_both}
 
 -- ---- orders
-
--- what `is_before` says
-abbrev Less : Command → Command → Type 0
-Less c e = (c.train.0 < e.train.0) ⊎ ((c.train.0 ≡ e.train.0) × (c.route.0 < e.route.0))
-
-less : (c e : Command) → is_before c e ≡ true → Less c e
-less c e h = go (either (nat_lt c.train.0 e.train.0) ((c.train.0 == e.train.0) && nat_lt c.route.0 e.route.0) h)
-  where
-    go : (nat_lt c.train.0 e.train.0 ≡ true) ⊎ (((c.train.0 == e.train.0) && nat_lt c.route.0 e.route.0) ≡ true) → Less c e
-    go (inl x) = inl (leb-true _ _ x)
-    go (inr x) = inr (eqb-true c.train.0 e.train.0 (and_left (c.train.0 == e.train.0) (nat_lt c.route.0 e.route.0) x), leb-true _ _ (and_right (c.train.0 == e.train.0) (nat_lt c.route.0 e.route.0) x))
-
-not_both : (c e : Command) → Less c e → Less e c → ⊥
-not_both c e (inl x) (inl y) = absurd (omega arith)
-not_both c e (inl x) (inr (y, z)) = absurd (omega arith)
-not_both c e (inr (x, w)) (inl y) = absurd (omega arith)
-not_both c e (inr (x, w)) (inr (y, z)) = absurd (omega arith)
 
 pair_less : (p q : Command × Command) → is_pair_before p q ≡ true → Less p.0 q.0 ⊎ ((q.0 ≡ p.0) × Less p.1 q.1)
 pair_less p q h = go (either (is_before p.0 q.0) (is_command p.0 q.0 && is_before p.1 q.1) h)

@@ -1,6 +1,6 @@
 -- The places of which a cone's clause says something, and what it says of the pairs before the next of them.
 use Rattle.std.proofs.Common.{◌≡◌, ℕ, zero, suc, ◌+◌, ◌*◌, ◌≤◌, ◌<◌, ◌⊎◌, inl, inr, Bool, true, false, ◌&&◌, ◌==◌, if◌then◌else◌, List, [], ◌∷◌, ◌++◌, map, filter, flat_map, take, drop, get_or, length, Some, None, refl, sym, ap, ap₂, subst, ◌∙◌, arith, true≢false, append-nil, eqb-true, eq-eqb, le_refl}
-use Rattle.std.proofs.lemmas.List.{take_more, take_all, append_assoc, map-append}
+use Rattle.std.proofs.lemmas.List.{take_more, take_all, append_assoc, map-append, drop_more}
 use Rattle.std.proofs.lemmas.Grind.{flat_map-append}
 use Rattle.std.proofs.lemmas.Option.{slice_get-get_or}
 use Rattle.std.proofs.lemmas.List.Sorted.{list_any-IsPermutation}
@@ -24,9 +24,9 @@ use Rattle.cone_form.proofs.Placed.{to_place, is_pair_same, pair_itself}
 use Rattle.sat_clause.specs.declared.lit.Lit.{Lit}
 use Rattle.rail_spec.specs.Plans.{all_commands}
 use Rattle.cone_clause.specs.Numbered.{lit_of}
-use Rattle.cone_clause.proofs.Gathering.{drop_next, drop_end}
 use Rattle.cone_clause.proofs.Walked.{walked, pair_step}
 use Rattle.cone_clause.specs.Places.{Adds, ArePlacesOfPairs, AreSaid, IsPlaceOf, IsPlaceBefore, IsPlaceBeforeFree, IsSaid}
+use Rattle.cone_form.proofs.Walks.{drop_end}
 
 some_same : {X : Type 0} {a b : X} → Some a ≡ Some b → a ≡ b
 some_same h = cc
@@ -298,7 +298,7 @@ module _ (ps : List (Command × Command)) (k : Cone) (places : List ℕ) (said :
 
   module _ (next j other : ℕ) (inside : j < length places) (left : AreLeft next j) where
     split : (i : ℕ) → next ≤ i → IsSaid ps k i → (get_or places j other ≡ i) ⊎ In i (drop (j + 1) places)
-    split i l s = subst (In i) (drop_next places j other inside) (left i l s)
+    split i l s = subst (In i) (drop_more places j other inside) (left i l s)
 
     pub none_between : (i : ℕ) → next ≤ i → i < get_or places j other → IsSaid ps k i → ⊥
     none_between i l m s = go (split i l s)

@@ -22,7 +22,7 @@ use Rattle.cone_spec.specs.Validity.{in_design, is_pair_before}
 use Rattle.cone_spec.specs.Clauses.{Before, Literal, used_literals, before_literals}
 use Rattle.cone_spec.proofs.Naming.{IsNamed, named_or_not, of_design, proper, listed_is}
 use Rattle.cone_form.proofs.Ranges.{all_routes}
-use Rattle.cone_form.proofs.Sorted.{pairs_sorted}
+use Rattle.cone_spec.proofs.Sorted.{pairs_sorted}
 use Rattle.cone_clause.specs.Numbered.{signed, lit_of}
 use Rattle.cone_clause.proofs.Gathering.{flat_flat}
 use Rattle.cone_clause.proofs.Signing.{before_signed}

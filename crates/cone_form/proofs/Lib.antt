@@ -1,7 +1,6 @@
 pub mod Walks
 pub mod Ranges
 pub mod Empty
-pub mod Sorted
 pub mod Orders
 pub mod Placed
 pub mod Marked

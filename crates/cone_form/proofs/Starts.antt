@@ -7,7 +7,7 @@ use Rattle.rail_base.specs.declared.route.Route.{Route}
 use Rattle.rail_base.proofs.Members.{In, and_left, and_right, list_all_at, list_any_gives, list_any_from, false_unless}
 use Rattle.rail_spec.specs.Plans.{is_start}
 use Rattle.clause_spec.proofs.Places.{start_sym}
-use Rattle.cone_form.proofs.Sorted.{all_pairs_append}
+use Rattle.cone_spec.proofs.Sorted.{all_pairs_append}
 
 abbrev differ : Route → Route → Bool
 differ r q = not (is_start r.start q.start)

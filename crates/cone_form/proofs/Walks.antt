@@ -1,8 +1,9 @@
 -- Tests of all members, and of neighbors, one step further.
-use Rattle.std.proofs.Common.{◌≡◌, ℕ, zero, suc, ◌+◌, ◌-◌, ◌<◌, ◌≤◌, Bool, true, false, ◌&&◌, ◌||◌, not, List, [], ◌∷◌, map, take, drop, get_or, length, refl, sym, ap, ◌∙◌, arith, add-one, drop-cons, true≢false}
+use Rattle.std.proofs.Common.{◌≡◌, ℕ, zero, suc, ◌+◌, ◌-◌, ◌<◌, ◌≤◌, Bool, true, false, ◌&&◌, ◌||◌, not, List, [], ◌∷◌, map, take, drop, get_or, length, refl, sym, ap, ◌∙◌, arith, true≢false}
 use Rattle.std.proofs.lemmas.Grind.{common_steps}
 use Rattle.std.specs.List.{list_all, list_any}
 use Rattle.rail_base.specs.Members.{all_neighbors, all_pairs}
+use Rattle.std.proofs.lemmas.List.{drop_more}
 
 -- what a test is worth, and then another where it holds
 pub and_then : {r a s b : Bool} → r ≡ a → r ≡ true → s ≡ b → s ≡ (a && b)
@@ -14,10 +15,6 @@ and_else b {r} {a} e f = go a (sym e ∙ f)
     go : (x : Bool) → x ≡ false → r ≡ (x && b)
     go false g = f
     go true g = absurd (true≢false g)
-
--- the members from one on: this one, and those from the next on
-pub drop_next : {X : Type 0} (xs : List X) (i : ℕ) (other : X) → i < length xs → drop i xs ≡ get_or xs i other ∷ drop (i + 1) xs
-drop_next xs i other h = drop-cons xs i other h ∙ ap (λ j. get_or xs i other ∷ drop j xs) (sym (add-one i))
 
 pub drop_end : {X : Type 0} (xs : List X) (i : ℕ) → length xs ≤ i → drop i xs ≡ []
 drop_end [] zero h = refl
@@ -31,7 +28,7 @@ rest_is xs i = grind (arith, common_steps)
 
 module _ {X : Type 0} (test : X → Bool) (xs : List X) (i : ℕ) (x : X) (inside : i < length xs) where
   here : list_all test (drop i xs) ≡ (test (get_or xs i x) && list_all test (drop (i + 1) xs))
-  here = ap (list_all test) (drop_next xs i x inside)
+  here = ap (list_all test) (drop_more xs i x inside)
 
   pub read_stop : test (get_or xs i x) ≡ false → list_all test (drop i xs) ≡ list_all test xs → false ≡ list_all test xs
   read_stop e h = sym (ap (λ b. b && list_all test (drop (i + 1) xs)) e) ∙ (sym here ∙ h)
@@ -54,8 +51,8 @@ module _ {X : Type 0} (test : X → X → Bool) where
   -- the member of a place and the next, and those from the next on
   neighbors_step : (xs : List X) (i : ℕ) (a b : X) → i + 1 < length xs → all_neighbors test (drop i xs) ≡ (test (get_or xs i a) (get_or xs (i + 1) b) && all_neighbors test (drop (i + 1) xs))
   neighbors_step xs i a b h =
-      let first : drop i xs ≡ get_or xs i a ∷ drop (i + 1) xs = drop_next xs i a (omega arith) in
-      let second : drop (i + 1) xs ≡ get_or xs (i + 1) b ∷ drop (i + 1 + 1) xs = drop_next xs (i + 1) b h in
+      let first : drop i xs ≡ get_or xs i a ∷ drop (i + 1) xs = drop_more xs i a (omega arith) in
+      let second : drop (i + 1) xs ≡ get_or xs (i + 1) b ∷ drop (i + 1 + 1) xs = drop_more xs (i + 1) b h in
       ap (all_neighbors test) (first ∙ ap (λ ys. get_or xs i a ∷ ys) second)
       ∙ ap (λ ys. test (get_or xs i a) (get_or xs (i + 1) b) && all_neighbors test ys) (sym second)
 
@@ -98,7 +95,7 @@ module _ {X Y : Type 0} (test : Y → Y → Bool) (f : X → Y) where
 pairs_at : {X Y : Type 0} (apart : Y → Y → Bool) (f : X → Y) (xs : List X) (i : ℕ) (a : X) → i < length xs
     → all_pairs (λ r q. not (apart r q)) (map f (drop i xs)) ≡ (not (list_any (apart (f (get_or xs i a))) (map f (drop (i + 1) xs))) && all_pairs (λ r q. not (apart r q)) (map f (drop (i + 1) xs)))
 pairs_at apart f xs i a h =
-    ap (λ ys. all_pairs (λ r q. not (apart r q)) (map f ys)) (drop_next xs i a h)
+    ap (λ ys. all_pairs (λ r q. not (apart r q)) (map f ys)) (drop_more xs i a h)
     ∙ ap (λ t. t && all_pairs (λ r q. not (apart r q)) (map f (drop (i + 1) xs))) (none (apart (f (get_or xs i a))) (map f (drop (i + 1) xs)))
   where
     or_not : (a b : Bool) → (not a && not b) ≡ not (a || b)

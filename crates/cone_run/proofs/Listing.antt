@@ -1,6 +1,6 @@
 -- The commands that are listed before one stand in order among those that contend with it.
 use Rattle.std.proofs.Common.{◌≡◌, ℕ, ◌+◌, ◌<◌, ◌⊎◌, inl, inr, Bool, true, false, cond, List, [], ◌∷◌, ◌++◌, map, filter, drop, get_or, length, refl, sym, ap, ap₂, subst, ◌∙◌}
-use Rattle.std.proofs.lemmas.List.{append_assoc}
+use Rattle.std.proofs.lemmas.List.{append_assoc, drop_more}
 use Rattle.std.specs.List.{list_all}
 use Rattle.rail_base.specs.declared.station.Station.{Station}
 use Rattle.rail_base.specs.declared.route.Route.{Route}
@@ -17,9 +17,8 @@ use Rattle.cone_spec.proofs.Naming.{listed_waits, waits_listed}
 use Rattle.cone_spec.proofs.Saying.{is_command_same, is_command_self}
 use Rattle.rail_spec.specs.Plans.{contend}
 use Rattle.cone_form.proofs.Orders.{Less, less, from_less, not_both, PairLess, pair_less}
-use Rattle.cone_form.proofs.Sorted.{all_pairs_filter, all_pairs_map, pairs_sorted}
+use Rattle.cone_spec.proofs.Sorted.{all_pairs_filter, all_pairs_map, pairs_sorted}
 use Rattle.cone_form.proofs.Placed.{is_pair_same}
-use Rattle.cone_form.proofs.Walks.{drop_next}
 use Rattle.cone_form.proofs.Contending.{listed_sorted, listed_there, mirrored}
 
 not_self : (c : Command) → Less c c → ⊥
@@ -113,11 +112,11 @@ module _ {W : Type 0} (wait : Command → W) (listed : Command → Bool) (run : 
       ap (λ ws. ws ++ map wait (filter listed later)) e
       ∙ (append_assoc now (wait e' ∷ []) (map wait (filter listed later))
       ∙ (ap (λ b. now ++ map wait (cond b (e' ∷ filter listed later) (filter listed later))) (sym t)
-      ∙ (ap (λ es. now ++ map wait (filter listed es)) (sym (drop_next run i other inside)) ∙ h)))
+      ∙ (ap (λ es. now ++ map wait (filter listed es)) (sym (drop_more run i other inside)) ∙ h)))
 
   pub unlisted_next : (now all : List W) → listed (get_or run i other) ≡ false → now ++ map wait (filter listed (drop i run)) ≡ all → now ++ map wait (filter listed (drop (i + 1) run)) ≡ all
   unlisted_next now all t h =
       let e' : Command = get_or run i other in
       let later : List Command = drop (i + 1) run in
       ap (λ b. now ++ map wait (cond b (e' ∷ filter listed later) (filter listed later))) (sym t)
-      ∙ (ap (λ es. now ++ map wait (filter listed es)) (sym (drop_next run i other inside)) ∙ h)
+      ∙ (ap (λ es. now ++ map wait (filter listed es)) (sym (drop_more run i other inside)) ∙ h)

@@ -8,7 +8,6 @@ use Rattle.rail_base.specs.declared.plan.Command.{Command}
 use Rattle.rail_base.specs.declared.state.TrainState.{TrainState}
 use Rattle.rail_base.specs.Admitted.{IsAdmitted}
 use Rattle.rail_base.specs.Members.{In}
-use Rattle.rail_base.specs.Numbering.{greatest}
 use Rattle.rail_base.specs.Routes.{route_at}
 use Rattle.rail_base.specs.Stations.{IsTrain, horizon, vehicle_of}
 use Rattle.rail_spec.specs.Motion.{permitted, next_speed, reach}
@@ -23,18 +22,11 @@ use Rattle.cone_spec.specs.declared.ConeTrain.{ConeTrain}
 use Rattle.cone_spec.specs.Cones.{named, free_path, of_cone}
 use Rattle.cone_spec.specs.Validity.{in_design}
 use Rattle.cone_spec.proofs.Naming.{of_design, proper}
-use Rattle.cone_spec.proofs.Running.{Moves, Idles, after_tick, idle_at_first, granted_after_most, granted_on_path}
+use Rattle.rail_laws.proofs.Running.{Moves, Idles, after_tick, idle_at_first, granted_after_most, granted_on_path}
 use Rattle.dispatch_run.specs.FollowedTrains.{CanMove}
 use Rattle.cone_run.specs.Runs.{last_tick}
 use Rattle.cone_run.proofs.Pathing.{one_path, path_is}
-
-greatest_within : (test : ℕ → Bool) (n : ℕ) → greatest test n ≤ n
-greatest_within test zero = omega arith
-greatest_within test (suc n) = go (test (suc n)) (greatest_within test n)
-  where
-    go : (b : Bool) → greatest test n ≤ n → (if b then suc n else greatest test n) ≤ suc n
-    go true l = omega arith
-    go false l = omega arith
+use Rattle.rail_laws.proofs.Small.{greatest_within}
 
 top_speed : (d : Station) → IsAdmitted d → (t : TrainNo) → IsTrain d t → (rates d t).top ≤ 100000
 top_speed d adm t h =

@@ -14,7 +14,7 @@ use Rattle.rail_base.specs.Stations.{train_length}
 use Rattle.rail_spec.specs.Dispatches.{state_of, stretches, authority, rates, Dispatch, routes_before, is_granted, has_released, has_cleared, is_ready, granted_with, granted_after, moved, state_at}
 use Rattle.rail_spec.specs.Motion.{next_speed}
 use Rattle.rail_base.proofs.Members.{In, and_left, and_right, and_both, list_all_at, below_or_not, same_bool, not_less}
-use Rattle.cone_spec.proofs.Running.{Later, Moves, Idles, after_tick, run_later, granted_after_more, granted_cleared, stays, idle_at_first}
+use Rattle.rail_laws.proofs.Running.{Later, Moves, Idles, after_tick, run_later, granted_after_more, granted_cleared, stays, idle_at_first}
 use Rattle.rail_base.proofs.Lists.{list_all_from, length-map}
 
 -- ---- lists

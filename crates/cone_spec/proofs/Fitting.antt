@@ -20,7 +20,7 @@ use Rattle.rail_spec.specs.Dispatches.{of_plan}
 use Rattle.cone_spec.specs.Cones.{unnamed, named, free_path, all_free, has_route, is_named, is_free, has_pair, of_cone}
 use Rattle.cone_spec.specs.Validity.{from_boundary, in_design, granted_at, free_granted, just_granted, holds_up, holder_needed, holder_fits}
 use Rattle.cone_spec.specs.Clauses.{holds_of, Before, is_closed, is_path_violation, goes_further, clause_of_cone, is_false_of}
-use Rattle.cone_spec.proofs.Running.{run_up_to, released_up_to}
+use Rattle.rail_laws.proofs.Running.{run_up_to, released_up_to}
 use Rattle.cone_spec.proofs.Agreement.{Held, Meeting, Fits, Agree, agreement, slice_get-end, slice_get-append}
 use Rattle.cone_spec.proofs.Prefixes.{prefix_of, further, not_among, is_start_same, not_both}
 use Rattle.cone_spec.proofs.Saying.{has_in, in_has, in_trains, is_of_in_all, Denied, denied}

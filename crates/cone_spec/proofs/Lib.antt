@@ -1,8 +1,9 @@
 mod Rows
-pub mod Running
 pub mod Agreement
 pub mod Prefixes
 pub mod Saying
+pub mod Sorted
+pub mod Further
 pub mod Naming
 pub mod Fitting
 pub mod Visiting

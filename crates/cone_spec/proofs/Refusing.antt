@@ -43,7 +43,7 @@ entry_in {X} other xs (suc i) h l = go xs i (omega arith)
     go (y ∷ ys) (suc j) m = inr (go ys j (omega arith))
 
 -- more ticks than a time has are a longer time
-past : (ms most a b : ℕ) → 1 ≤ ms → a + most / ms < b → a * ms + most < b * ms
+pub past : (ms most a b : ℕ) → 1 ≤ ms → a + most / ms < b → a * ms + most < b * ms
 past ms most a b pos h =
     let l : a + most / ms + 1 ≤ b = omega arith in
     let k : (a + most / ms + 1) * ms ≤ b * ms = mul-le-mul l (le_refl ms) in

@@ -1,18 +1,6 @@
 -- Lists that are put together part by part.
-use Rattle.std.proofs.Common.{◌≡◌, ℕ, suc, ◌+◌, ◌-◌, ◌<◌, ◌≤◌, List, [], ◌∷◌, ◌++◌, map, flat_map, drop, get_or, length, Bool, true, false, cond, filter, refl, sym, ap, ◌∙◌, arith, add-one, drop-cons, append-nil, zero}
+use Rattle.std.proofs.Common.{◌≡◌, ℕ, suc, ◌≤◌, List, [], ◌∷◌, ◌++◌, map, flat_map, drop, length, Bool, true, false, cond, filter, refl, sym, ap, ◌∙◌, arith, append-nil, zero}
 use Rattle.std.proofs.lemmas.List.{append_assoc, map-append}
-use Rattle.rail_base.specs.Numbering.{count_from}
-
--- the numbers from one on: this one, and those from the next on
-pub count_next : (i n : ℕ) → i < n → count_from i (n - i) ≡ i ∷ count_from (i + 1) (n - (i + 1))
-count_next i n h = ap (count_from i) (less i n h)
-  where
-    less : (i n : ℕ) → i < n → n - i ≡ suc (n - (i + 1))
-    less i n h = omega arith
-
--- the members from one on: this one, and those from the next on
-pub drop_next : {X : Type 0} (xs : List X) (i : ℕ) (other : X) → i < length xs → drop i xs ≡ get_or xs i other ∷ drop (i + 1) xs
-drop_next xs i other h = drop-cons xs i other h ∙ ap (λ j. get_or xs i other ∷ drop j xs) (sym (add-one i))
 
 module _ {X Y : Type 0} (old new all : List Y) (now later : List X) (x : X) (is : now ≡ x ∷ later) where
   -- one more member

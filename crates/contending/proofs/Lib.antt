@@ -4,5 +4,5 @@ pub mod Sharing
 pub mod Listed
 pub mod Placed
 pub mod Distinct
-mod Sized
+pub mod Sized
 pub mod Seconds

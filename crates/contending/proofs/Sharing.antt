@@ -7,9 +7,8 @@ use Rattle.rail_base.specs.declared.plan.Command.{Command}
 use Rattle.rail_base.specs.Numbering.{one_to, entry}
 use Rattle.rail_base.specs.Routes.{IsRoute, route_at, share}
 use Rattle.rail_base.proofs.Members.{get_or-counted, map-map, filter-append}
-use Rattle.rail_base.proofs.Lists.{length-map}
+use Rattle.rail_base.proofs.Lists.{length-map, length-count}
 use Rattle.rail_spec.specs.Plans.{commands_of, contend, route_numbers}
-use Rattle.clause_spec.proofs.Numbers.{length-count}
 use Rattle.contending.specs.Rows.{sharing}
 
 -- ---- rows by the numbers of routes

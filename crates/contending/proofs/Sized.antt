@@ -4,10 +4,9 @@ use Rattle.std.proofs.lemmas.Nat.{mul-le}
 use Rattle.rail_base.specs.declared.route.Route.{Route}
 use Rattle.rail_base.specs.declared.route.RouteNo.{RouteNo}
 use Rattle.rail_base.specs.Numbering.{entry, one_to}
-use Rattle.rail_base.proofs.Lists.{length-map, pairs_count, pairs_filter, pairs_map}
+use Rattle.rail_base.proofs.Lists.{length-map, pairs_count, pairs_filter, pairs_map, length-count}
 use Rattle.rail_base.proofs.Members.{below_or_not}
 use Rattle.rail_spec.specs.Plans.{route_numbers}
-use Rattle.clause_spec.proofs.Numbers.{length-count}
 use Rattle.contending.specs.Blocks.{member_count}
 use Rattle.contending.specs.Rows.{AreRising, AreRows, shares, sharing, sharing_rows}
 use Rattle.contending.proofs.Blocks.{counted_few, counted_more}
@@ -23,7 +22,7 @@ any_other [] i a b h = absurd (omega arith)
 any_other (x ∷ xs) zero a b h = refl
 any_other (x ∷ xs) (suc i) a b h = any_other xs i a b (omega arith)
 
-length-kept : {X : Type 0} (test : X → Bool) (xs : List X) → length (filter test xs) ≤ length xs
+pub length-kept : {X : Type 0} (test : X → Bool) (xs : List X) → length (filter test xs) ≤ length xs
 length-kept test [] = omega arith
 length-kept test (x ∷ xs) = go (test x) (length-kept test xs)
   where

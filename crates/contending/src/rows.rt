@@ -28,13 +28,13 @@ pub(crate) fn sharing_rows(
 {
     let mut rows = Vec::new(alloc);
     for number in 1..interlocking.routes.len() as u32 + 1 {
-        rows.push(sharing(alloc, interlocking, RouteNo(number))?)?;
+        rows.push(routes_sharing(alloc, interlocking, RouteNo(number))?)?;
     }
     Ok(rows)
 }
 
 /// The routes that share a section with a route, in rising order.
-fn sharing(
+fn routes_sharing(
     alloc: Global,
     interlocking: &Interlocking,
     route: RouteNo,

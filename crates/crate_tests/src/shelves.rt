@@ -7,7 +7,7 @@ use rail_outside::{
 use std::alloc::{AllocError, Global};
 
 /// The bytes of a fetch, or its fault.
-fn fetched<S: Shelf>(
+fn fetch_once<S: Shelf>(
     shelf: &mut S,
     alloc: Global,
     name: &str,
@@ -39,14 +39,14 @@ fn a_memory_shelf_keeps_its_calls(rt: HostRuntime) -> Result<(), AllocError> {
     let mut shelf = MemoryShelf::new(alloc);
     shelf.add_file("design", b"edges")?;
     shelf.fail_at(4)?;
-    assert_eq!(rt; fetched(&mut shelf, alloc, "design", 5), (5, None));
+    assert_eq!(rt; fetch_once(&mut shelf, alloc, "design", 5), (5, None));
     assert_eq!(rt;
-        fetched(&mut shelf, alloc, "design", 4),
+        fetch_once(&mut shelf, alloc, "design", 4),
         (0, Some(FetchFault::TooLong { read: 5 }))
     );
     assert_eq!(rt; shelf.faults(), 0);
     assert_eq!(rt;
-        fetched(&mut shelf, alloc, "plan", 5),
+        fetch_once(&mut shelf, alloc, "plan", 5),
         (0, Some(FetchFault::Failed))
     );
     assert_eq!(rt; shelf.faults(), 1);
@@ -88,8 +88,8 @@ fn the_reliable_ones_never_fail(rt: HostRuntime) -> Result<(), AllocError> {
     let alloc = rt.alloc();
     let mut shelf = ReliableShelf::new(alloc);
     shelf.add_file("design", b"edges")?;
-    assert_eq!(rt; fetched(&mut shelf, alloc, "design", 5), (5, None));
-    assert_eq!(rt; fetched(&mut shelf, alloc, "plan", 0), (0, None));
+    assert_eq!(rt; fetch_once(&mut shelf, alloc, "design", 5), (5, None));
+    assert_eq!(rt; fetch_once(&mut shelf, alloc, "plan", 0), (0, None));
     assert!(rt; shelf.store("design", b"nodes").is_ok());
     assert_eq!(rt; shelf.file("design"), b"nodes".as_slice());
     assert_eq!(rt; shelf.faults(), 0);

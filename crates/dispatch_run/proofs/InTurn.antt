@@ -24,7 +24,7 @@ use Rattle.rail_course.specs.declared.journey.Release.{Release}
 use Rattle.rail_course.specs.declared.milestones.Milestone.{Milestone}
 use Rattle.rail_course.specs.Milestones.{AreMilestones, ComeInTurn}
 use Rattle.rail_course.specs.Releases.{is_released, releases_of_train}
-use Rattle.dispatch_run.specs.Marks.{mark_grants}
+use Rattle.rail_course.specs.Marks.{mark_grants}
 use Rattle.dispatch_run.specs.Settled.{AreGrantedInTurn, ArePassedInTurn, AreReleasedInTurn}
 use Rattle.dispatch_run.proofs.Marking.{release, released_is}
 use Rattle.dispatch_run.proofs.Settling.{MayBeMarked}

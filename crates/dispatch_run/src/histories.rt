@@ -125,7 +125,7 @@ impl Traffic<'_> {
 }
 
 /// The history of a train of which nothing is known.
-pub(crate) fn nothing(alloc: Global) -> TrainHistory {
+pub(crate) fn empty_history(alloc: Global) -> TrainHistory {
     TrainHistory {
         grants: List::new(alloc),
         passes: List::new(alloc),

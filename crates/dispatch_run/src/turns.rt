@@ -7,7 +7,7 @@ ghost use Rattle.dispatch_run.specs.InTraffic.{AreLookedAtIn, AreToBeMarkedIn, I
 ghost use Rattle.dispatch_run.specs.InTraffic.{IsLookedAtIn, IsSeenIn, IsToBeMarkedIn, IsTurnIn, history_in};
 ghost use Rattle.dispatch_run.specs.InTraffic.{looked_state_in, looked_states_in, train_history_in};
 
-use crate::histories::nothing;
+use crate::histories::empty_history;
 use crate::looks::{Look, look_of};
 use crate::moves::is_followed;
 use crate::traffic::{FollowedTrain, Traffic};
@@ -143,7 +143,7 @@ impl Traffic<'_> {
         if look.until != tick {
             return Ok(());
         }
-        let old = replace(history, nothing(alloc));
+        let old = replace(history, empty_history(alloc));
         *history = self.history_with(alloc, followed_train, old, state, tick)?;
         Ok(())
     }

@@ -9,7 +9,7 @@ use Rattle.rail_base.specs.Numbering.{before_first}
 use Rattle.rail_base.proofs.Members.{and_left, and_right, and_both, list_any_gives, list_any_from, in_filter, below_or_not}
 use Rattle.rail_base.proofs.Lists.{in_append_left, in_append_right, in_map, pairs_across}
 use Rattle.rail_spec.specs.Plans.{is_train, is_route, is_command, commands, routes_given, path, step_of, one_each}
-use Rattle.rail_laws.proofs.Given.{same_train, same_route, command_in_path, steps_rise}
+use Rattle.rail_laws.proofs.Given.{same_train, same_route, command_in_path, steps_rise, step_some}
 use Rattle.rail_laws.proofs.Admits.{once_from}
 
 -- ---- commands
@@ -44,14 +44,6 @@ in_commands [] step later c m = in_append_left c step (commands later) m
 in_commands (s ∷ before) step later c m = in_append_right c s (commands (before ++ step ∷ later)) (in_commands before step later c m)
 
 -- ---- steps
-
-step_some : (plan : List (List Command)) (c : Command) → 1 ≤ step_of plan c
-step_some [] c = omega arith
-step_some (step ∷ steps) c = go (list_any (is_command c) step)
-  where
-    go : (b : Bool) → 1 ≤ (if b then 1 else step_of steps c + 1)
-    go true = omega arith
-    go false = omega arith
 
 pub step_first : (plan : List (List Command)) (c : Command) → step_of plan c ≤ 0 → ⊥
 step_first plan c h = let s = step_some plan c in omega arith

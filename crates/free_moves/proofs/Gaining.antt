@@ -1,5 +1,5 @@
 -- The distance of the speeds gained, and the greatest free move.
-use Rattle.std.proofs.Common.{◌≡◌, ℕ, zero, suc, ◌+◌, ◌-◌, ◌*◌, ◌/◌, ◌≤◌, ◌<◌, max, nat_abs, Bool, true, false, not, ◌&&◌, ◌||◌, nat_lt, nat_le, if◌then◌else◌, List, [], ◌∷◌, drop, length, slice_index_or, Option, refl, sym, ap, subst, arith}
+use Rattle.std.proofs.Common.{◌≡◌, ℕ, zero, suc, ◌+◌, ◌-◌, ◌*◌, ◌/◌, ◌≤◌, ◌<◌, max, nat_abs, Bool, true, false, not, ◌&&◌, ◌||◌, nat_lt, nat_le, List, [], ◌∷◌, drop, length, slice_index_or, Option, refl, sym, ap, subst, arith}
 use Rattle.std.proofs.lemmas.List.{get_or-drop, length-drop}
 use Rattle.rail_motion.specs.declared.Span.{Span}
 use Rattle.rail_motion.specs.Track.{stretches_of, IsRising}
@@ -8,12 +8,10 @@ use Rattle.rail_base.specs.Numbering.{greatest}
 use Rattle.rail_spec.specs.Motion.{MotorSeen, SpanSeen}
 use Rattle.free_spec.specs.Free.{rise, behind, is_free, free}
 use Rattle.free_spec.proofs.Lower.{lower, rise_is}
+use Rattle.rail_laws.proofs.MotionLaws.{greatest_step}
 
 pub rise_found : (a u l gap : ℕ) → 1 ≤ a → gap ≡ u - (l + 1) → 2 * rise a u l + a * (gap / a * (gap / a + 1)) ≡ 2 * (gap / a * u)
 rise_found a u l gap gains same = subst (λ n. 2 * rise a u l + a * (n / a * (n / a + 1)) ≡ 2 * (n / a * u)) (sym same) (rise_is a u l gains)
-
-greatest_step : (passes : Bool) (g n r : ℕ) → r ≤ suc n → (r ≡ suc n → passes ≡ true) → (r ≤ n → passes ≡ false) → (r ≤ n → g ≡ r) → (if passes then suc n else g) ≡ r
-greatest_step passes g n r within at above below = grind arith
 
 -- the greatest is r where r passes, or is 0, and none above it does
 greatest_found : (test : ℕ → Bool) (n r : ℕ) → r ≤ n → (1 ≤ r → test r ≡ true) → ((w : ℕ) → r < w → w ≤ n → test w ≡ false) → greatest test n ≡ r

@@ -13,17 +13,13 @@ use Rattle.rail_base.specs.Admitted.{IsAdmitted}
 use Rattle.rail_base.specs.Stations.{length_of, IsTrain}
 use Rattle.rail_spec.specs.Track.{edge_ends, routes_of}
 use Rattle.rail_spec.specs.Plans.{path_routes, length_mm, exits, is_well_formed}
-use Rattle.rail_spec.specs.Motion.{SpanSeen, may_stop}
+use Rattle.rail_spec.specs.Motion.{may_stop}
 use Rattle.rail_spec.specs.Dispatches.{state_of, stretch, stretches, of_plan, granted_after, state_at}
-use Rattle.rail_laws.proofs.UnderWay.{IsSound, edge_ends-append, authority_some, next_grants, travels, within_authority}
+use Rattle.rail_laws.proofs.UnderWay.{IsSound, edge_ends-append, authority_some, next_grants, travels, within_authority, further}
 use Rattle.rail_laws.proofs.Admits.{sound}
-use Rattle.cone_spec.proofs.Running.{run_up_to, granted_at_most}
+use Rattle.rail_laws.proofs.Running.{run_up_to, granted_at_most}
 
 -- ---- stretches
-
--- the stretches of further routes
-abbrev further : Station → List Route → List Route → List SpanSeen
-further d rs more = map (stretch d) (edge_ends d (0 + sum_by (length_of d) (flat_map (λ r. r.edges) rs)) (flat_map (λ r. r.edges) more))
 
 pub stretches_append : (d : Station) (rs more : List Route) → stretches d (rs ++ more) ≡ stretches d rs ++ further d rs more
 stretches_append d rs more =

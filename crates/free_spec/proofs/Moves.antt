@@ -17,11 +17,11 @@ use Rattle.rail_spec.specs.Motion.{MotorSeen, SpanSeen, limit_at, KeepsLimits, k
 use Rattle.rail_spec.specs.Dispatches.{state_of, rates, stretch, stretches, authority, of_plan, granted_after, moved}
 use Rattle.rail_spec.specs.Dispatches.{state_at}
 use Rattle.rail_base.proofs.Members.{and_right, and_both}
-use Rattle.rail_laws.proofs.MotionLaws.{farthest, IsFarther, keeps_limits_from, can_brake-stop, can_brake_keeps, can_brake_slower, permitted_reach, permitted_brakes, permitted_further, next_speed_permitted}
+use Rattle.rail_laws.proofs.MotionLaws.{farthest, keeps_limits_from, can_brake-stop, can_brake_keeps, can_brake_slower, permitted_reach, permitted_brakes, permitted_further, next_speed_permitted}
 use Rattle.rail_laws.proofs.Exclusion.{by_tick}
-use Rattle.rail_laws.proofs.UnderWay.{IsSound, Travels, authority_some, still, next_grants, travels}
+use Rattle.rail_laws.proofs.UnderWay.{IsSound, Travels, authority_some, still, next_grants, travels, authority_farther}
 use Rattle.rail_laws.proofs.Admits.{sound}
-use Rattle.cone_spec.proofs.Running.{idle_at_first}
+use Rattle.rail_laws.proofs.Running.{idle_at_first}
 use Rattle.std.proofs.lemmas.List.{take-append-le}
 use Rattle.std.proofs.lemmas.Grind.{flat_map-append}
 use Rattle.rail_laws.proofs.UnderWay.{edge_ends-append}
@@ -60,13 +60,6 @@ shifted d top o i j (e ∷ es) ts p q u ej eq fast h = go (nat_le p (i + length_
 reaches : (d : Station) (o x : ℕ) (es : List EdgeNo) → o ≤ x → o + sum_by (length_of d) es ≤ farthest x (from d o es)
 reaches d o x [] h = omega arith
 reaches d o x (e ∷ es) h = let s = sum_by-cons (length_of d) e es in let k = reaches d (o + length_of d e) (max x (o + length_of d e)) es (omega arith) in omega arith
-
-authority_farther : (rs more : List Route) → IsFarther (sum_by length_mm rs) (authority (rs ++ more))
-authority_farther rs more = go (list_any exits (rs ++ more))
-  where
-    go : (b : Bool) → IsFarther (sum_by length_mm rs) (if b then None else Some (sum_by length_mm (rs ++ more)))
-    go true = tt
-    go false = let s = sum_by-append length_mm rs more in omega arith
 
 -- ---- F1
 

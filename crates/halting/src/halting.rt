@@ -85,25 +85,25 @@ impl<R: Recorder> Recorder for Halting<R> {
 
     ghost learnt = { λ h. R.learnt h.inner };
 
-    fn added(&mut self, line: &[u8], clause: &[Lit]) -> Result<(), RecordFault> {
+    fn add(&mut self, line: &[u8], clause: &[Lit]) -> Result<(), RecordFault> {
         if self.count() {
             return Err(RecordFault::Memory);
         }
-        self.inner.added(line, clause)
+        self.inner.add(line, clause)
     }
 
-    fn derived(&mut self, clause: &[Lit], hints: &[u64]) -> Result<(), RecordFault> {
+    fn derive(&mut self, clause: &[Lit], hints: &[u64]) -> Result<(), RecordFault> {
         if self.count() {
             return Err(RecordFault::Memory);
         }
-        self.inner.derived(clause, hints)
+        self.inner.derive(clause, hints)
     }
 
-    fn forgot(&mut self, id: u64) -> Result<(), RecordFault> {
+    fn forget(&mut self, id: u64) -> Result<(), RecordFault> {
         if self.count() {
             return Err(RecordFault::Memory);
         }
-        self.inner.forgot(id)
+        self.inner.forget(id)
     }
 
     fn room(&self, next: u64) -> bool {

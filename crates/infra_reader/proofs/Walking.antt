@@ -9,7 +9,7 @@ use Rattle.design_table.specs.declared.fault.Code.{Code}
 use Rattle.design_table.specs.declared.fault.DesignFault.{DesignFault}
 use Rattle.design_table.specs.declared.fault.DesignFault.TheVariants as faults
 use Rattle.design_table.specs.Reads.{Fails, ReadsOrRefuses}
-use Rattle.infra_reader.proofs.Places.{fails_here}
+use Rattle.design_table.proofs.Walks.{fails_here}
 
 -- the places of entries of which each is seen as something, numbered from i on
 abbrev pub places_from : {X Y : Type 0} → (ℕ → Y → List Place) → (X → Y) → ℕ → List X → List Place

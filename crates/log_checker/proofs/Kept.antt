@@ -1,17 +1,13 @@
 -- A clause that is derived is true wherever all clauses before it are, and clauses that are taken out stay true.
-use Rattle.std.proofs.Common.{◌≡◌, ℕ, zero, suc, Bool, true, false, ◌&&◌, List, [], ◌∷◌, ◌++◌, slice_get, Option, Some, None, refl}
+use Rattle.std.proofs.Common.{◌≡◌, ℕ, zero, suc, Bool, true, ◌&&◌, List, [], ◌∷◌, ◌++◌, slice_get, Option, Some, None, refl}
 use Rattle.std.proofs.lemmas.Option.{cond_some}
 use Rattle.sat_clause.specs.declared.lit.Lit.{Lit}
 use Rattle.sat_clause.specs.declared.follow.Follow.{Follow}
 use Rattle.sat_clause.specs.declared.follow.Follow.TheVariants.{Yes}
 use Rattle.sat_clause.specs.Clauses.{Store, clause_holds, if_live, live_clause, unmarked_at, without}
 use Rattle.sat_clause.specs.Hints.{open_lits, unit_of, at_last, at_unit, at_clause, where_last, follow_from, follow_of, holds_at, hints_hold}
-use Rattle.sat_clause.proofs.Sound.{follows-holds}
+use Rattle.sat_clause.proofs.Sound.{follows-holds, both}
 use Rattle.log_checker.specs.Truth.{clauses_hold}
-
-both : (a b : Bool) → (a && b) ≡ true → (a ≡ true) × (b ≡ true)
-both true b h = (refl, h)
-both false b h = absurd (cc)
 
 at-holds : (values : ℕ → Bool) (store : Store) (i : ℕ) (c : List Lit) → if_live (slice_get store i) ≡ Some c → clauses_hold values store ≡ true → clause_holds values c ≡ true
 at-holds values [] i c e h = absurd (cc)

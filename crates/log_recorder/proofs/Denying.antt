@@ -5,12 +5,12 @@ use Rattle.bound_spec.specs.declared.EvidenceFault.{EvidenceFault}
 use Rattle.proof_log.specs.declared.head.Head.{Head}
 use Rattle.sat_clause.specs.declared.lit.Lit.{Lit}
 use Rattle.sat_clause.specs.Clauses.{Store, live_clause, if_live, clause_holds}
-use Rattle.sat_trail.proofs.Members.{both}
 use Rattle.log_checker.specs.Truth.{clauses_hold}
 use Rattle.log_checker.proofs.Denied.{clause-denies}
 use Rattle.log_checker.proofs.Kept.{follows-true, push-holds, without-holds}
 use Rattle.log_recorder.specs.Logs.{LogLine, Learnt, Forgot, Refuted, with_line, with_log, learnt_by, AllGoOn}
 use Rattle.log_recorder.specs.Laws.{DenialsAreSo}
+use Rattle.sat_clause.proofs.Sound.{both}
 
 at-holds : (values : ℕ → Bool) (store : Store) (i : ℕ) (c : List Lit) → clauses_hold values store ≡ true → if_live (slice_get store i) ≡ Some c → clause_holds values c ≡ true
 at-holds values [] i c h e = absurd (cc)

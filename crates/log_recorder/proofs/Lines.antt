@@ -35,19 +35,13 @@ use Rattle.proof_log.specs.Parts.{has_member, is_nothing}
 use Rattle.proof_log.specs.Lines.{is_increasing}
 use Rattle.proof_log.specs.ConeText.{literal_word, route_word, list_words, command_words, violation_words, holder_words, train_words, pair_words, cone_line_words, keeps_command, keeps_violation, keeps_holder, keeps_path, keeps_train, keeps_pair, keeps_cone}
 use Rattle.proof_log.specs.Text.{text_of_line, keeps_grammar}
-use Rattle.proof_log.proofs.Parsed.{own}
+use Rattle.sat_clause.proofs.Sound.{both}
+use Rattle.rail_text.proofs.Numerals.{own}
+use Rattle.proof_log.proofs.Back.{not-true}
 
 -- no LF is in the bytes
 abbrev pub is_one_line : List ℕ → Bool
 is_one_line bytes = list_all (λ byte. not (is_lf byte)) bytes
-
-both : (a b : Bool) → (a && b) ≡ true → (a ≡ true) × (b ≡ true)
-both true b h = (refl, h)
-both false b h = absurd (cc)
-
-not-true : (b : Bool) → not b ≡ true → b ≡ false
-not-true true h = absurd (cc)
-not-true false h = refl
 
 split-at : (line rest : List ℕ) → is_one_line line ≡ true → slice_split is_lf (line ++ 10 ∷ rest) ≡ line ∷ slice_split is_lf rest
 split-at [] rest h = refl

@@ -24,6 +24,7 @@ use Rattle.proof_log.specs.Text.{keeps_grammar}
 use Rattle.proof_log.specs.Words.{greatest_variable, greatest_clause_number, is_from_1_to}
 use Rattle.log_checker.specs.Verdict.{steps_denied, step_denied}
 use Rattle.log_recorder.specs.Logs.{LogLine, log_line_of, by_step, with_log, IsGoodLine, GoesOn, IsLast, IsGoodForget, AllGoOn, MayComeNext}
+use Rattle.sat_core.proofs.Sound.{live-append}
 
 -- ---- the hints of a clause that follows are numbers of clauses
 
@@ -62,16 +63,6 @@ IsBelow vars clause = (l : Lit) → is_assigned clause l ≡ true → (1 ≤ l.v
 -- so it is with each live clause
 abbrev pub AllBelow : ℕ → Store → Type 0
 AllBelow vars store = (id : ℕ) (c : List Lit) → live_clause store id ≡ Some c → IsBelow vars c
-
-at-append : (store : Store) (c : List Lit) (i : ℕ) (d : List Lit) → if_live (slice_get (store ++ (c, true) ∷ []) i) ≡ Some d → (if_live (slice_get store i) ≡ Some d) ⊎ (d ≡ c)
-at-append [] c zero d e = inr (cc)
-at-append [] c (suc i) d e = absurd (cc)
-at-append (x ∷ xs) c zero d e = inl e
-at-append (x ∷ xs) c (suc i) d e = at-append xs c i d e
-
-live-append : (store : Store) (c : List Lit) (id : ℕ) (d : List Lit) → live_clause (store ++ (c, true) ∷ []) id ≡ Some d → (live_clause store id ≡ Some d) ⊎ (d ≡ c)
-live-append store c zero d e = inl e
-live-append store c (suc i) d e = at-append store c i d e
 
 -- and with one clause more
 pub below-more : (vars : ℕ) (store : Store) (c : List Lit) → AllBelow vars store → IsBelow vars c → AllBelow vars (store ++ (c, true) ∷ [])

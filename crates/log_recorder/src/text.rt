@@ -152,7 +152,7 @@ impl Recorder for Text {
 
     ghost learnt = { λ t. t.learnt.items };
 
-    fn added(&mut self, line: &[u8], clause: &[Lit]) -> Result<(), RecordFault> {
+    fn add(&mut self, line: &[u8], clause: &[Lit]) -> Result<(), RecordFault> {
         let Ok(text) = added_text(self.alloc, line) else {
             return Err(RecordFault::Memory);
         };
@@ -164,7 +164,7 @@ impl Recorder for Text {
         Ok(())
     }
 
-    fn derived(&mut self, clause: &[Lit], hints: &[u64]) -> Result<(), RecordFault> {
+    fn derive(&mut self, clause: &[Lit], hints: &[u64]) -> Result<(), RecordFault> {
         let Ok(text) = derive_text(self.alloc, clause, hints) else {
             return Err(RecordFault::Memory);
         };
@@ -181,7 +181,7 @@ impl Recorder for Text {
         Ok(())
     }
 
-    fn forgot(&mut self, id: u64) -> Result<(), RecordFault> {
+    fn forget(&mut self, id: u64) -> Result<(), RecordFault> {
         let Ok(text) = forget_text(self.alloc, id) else {
             return Err(RecordFault::Memory);
         };

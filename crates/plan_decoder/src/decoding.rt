@@ -63,7 +63,7 @@ fn is_given(base: &Base, values: &Assignment, command: Command, step: u32) -> bo
     if step == 0 {
         return false;
     }
-    values.value(base.given(command.train, command.route, step).var)
+    values.value(base.given_lit(command.train, command.route, step).var)
 }
 
 /// Whether a command is given by a step and not by the one before.

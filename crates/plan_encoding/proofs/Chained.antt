@@ -15,7 +15,6 @@ use Rattle.clause_spec.specs.Variables.{pairs_before}
 use Rattle.clause_spec.specs.Clauses.{onward, chain_length, chains, clearing, wait_clause, waits}
 use Rattle.plan_encoding.specs.Families.{waiting}
 use Rattle.plan_encoding.specs.Waiting.{waits_over}
-use Rattle.contending.proofs.Gathering.{drop_next}
 use Rattle.std.proofs.Common.{cond, ◌||◌, ◌==◌, eqb, eqb-true, ap₂, subst, filter}
 use Rattle.std.specs.List.{list_any}
 use Rattle.rail_base.specs.Members.{In}
@@ -31,6 +30,7 @@ use Rattle.std.specs.Prelude.{Result, Ok, Err, IfOk}
 use Rattle.std.specs.declared.alloc.AllocError.{AllocError}
 use Rattle.plan_encoding.proofs.Tabled.{filter_both, route_known}
 use Rattle.plan_encoding.proofs.Emission.{Next}
+use Rattle.std.proofs.lemmas.List.{drop_more}
 
 pub one_longer : (table : List Route) (before : List RouteNo) (w : RouteNo) → chain_length table (before ++ w ∷ []) ≡ chain_length table before + length_mm (route_at table w)
 one_longer table before w = sum_by_push (λ v. length_mm (route_at table v)) before w
@@ -79,7 +79,7 @@ module _ (d : Station) (table : List Route) (n : ℕ) (e c : Command) where
       → Next (waits_over d table n e c (flat_map (chains table more bound long) (drop i ws))) (waits_over d table n e c (chains table more bound chain (get_or ws i other))) (waits_over d table n e c (flat_map (chains table more bound long) (drop (i + 1) ws)))
   next_further bound more long chain ws i other is h = record {
     is =
-        ap (λ vs. waits_over d table n e c (flat_map (chains table more bound long) vs)) (drop_next ws i other h)
+        ap (λ vs. waits_over d table n e c (flat_map (chains table more bound long) vs)) (drop_more ws i other h)
         ∙ (flat_map-append (λ ch. map (wait_clause d table n e c ch) (one_to (n - 1))) (chains table more bound long (get_or ws i other)) (flat_map (chains table more bound long) (drop (i + 1) ws))
         ∙ ap (λ ch. waits_over d table n e c (chains table more bound ch (get_or ws i other)) ++ waits_over d table n e c (flat_map (chains table more bound long) (drop (i + 1) ws))) (sym is));
   }

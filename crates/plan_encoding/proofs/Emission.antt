@@ -2,7 +2,7 @@
 use Rattle.std.proofs.Common.{◌≡◌, ℕ, ◌+◌, ◌-◌, ◌<◌, Bool, true, false, List, [], ◌∷◌, ◌++◌, if◌then◌else◌, length, drop, get_or, nat_lt, refl, sym, ap, subst, ◌∙◌, map, flat_map, Some, None, append-nil}
 use Rattle.std.specs.Prelude.{Result, Ok, Err, IfErr}
 use Rattle.std.specs.Result.{IsErrAnd}
-use Rattle.std.proofs.lemmas.List.{append_assoc, map-append}
+use Rattle.std.proofs.lemmas.List.{append_assoc, map-append, drop_more}
 use Rattle.sat_clause.specs.declared.lit.Lit.{Lit}
 use Rattle.rail_base.specs.Numbering.{count_from}
 use Rattle.plan_encoding.specs.declared.sink.BaseFault.{BaseFault}
@@ -12,7 +12,7 @@ use Rattle.clause_spec.specs.Clauses.{Clause, past_limit}
 use Rattle.plan_encoding.specs.Sinks.{SinkView, Emission, Emitted, TooMany, with_clause, emitted, FaultSays}
 use Rattle.clause_spec.specs.Variables.{numbered}
 use Rattle.plan_encoding.specs.Encoders.{numbered_clauses}
-use Rattle.contending.proofs.Gathering.{count_next, drop_next}
+use Rattle.rail_base.proofs.Lists.{count_next}
 
 -- what is listed after a part that was listed
 pub emitted_then : (d e : SinkView) (cs more : List (List Lit)) → emitted d cs ≡ Emitted e → emitted d (cs ++ more) ≡ emitted e more
@@ -82,15 +82,15 @@ next_count_one g i n h = record { is = ap (map g) (count_next i n h) }
 
 -- parts for the members of a list
 pub next_member : {X : Type 0} (g : X → List Clause) (xs : List X) (i : ℕ) (other : X) → i < length xs → Next (flat_map g (drop i xs)) (g (get_or xs i other)) (flat_map g (drop (i + 1) xs))
-next_member g xs i other h = record { is = ap (flat_map g) (drop_next xs i other h) }
+next_member g xs i other h = record { is = ap (flat_map g) (drop_more xs i other h) }
 
 -- one clause for each member of a list
 pub next_member_one : {X : Type 0} (g : X → Clause) (xs : List X) (i : ℕ) (other : X) → i < length xs → Next (map g (drop i xs)) (g (get_or xs i other) ∷ []) (map g (drop (i + 1) xs))
-next_member_one g xs i other h = record { is = ap (map g) (drop_next xs i other h) }
+next_member_one g xs i other h = record { is = ap (map g) (drop_more xs i other h) }
 
 -- parts for what is made of the members of a list
 pub next_mapped : {X Y : Type 0} (g : Y → List Clause) (h : X → Y) (xs : List X) (i : ℕ) (other : X) → i < length xs → Next (flat_map g (map h (drop i xs))) (g (h (get_or xs i other))) (flat_map g (map h (drop (i + 1) xs)))
-next_mapped g h xs i other l = record { is = ap (λ ys. flat_map g (map h ys)) (drop_next xs i other l) }
+next_mapped g h xs i other l = record { is = ap (λ ys. flat_map g (map h ys)) (drop_more xs i other l) }
 
 -- two literals that are these
 pub two_lits : (k l a b : Lit) → k ≡ a → l ≡ b → (k ∷ l ∷ []) ≡ (a ∷ b ∷ [])

@@ -1,6 +1,6 @@
 -- The numbers of pairs, in their order.
-use Rattle.std.proofs.Common.{◌≡◌, ℕ, zero, suc, ◌+◌, ◌*◌, ◌≤◌, ◌<◌, ◌⊎◌, inl, inr, Bool, true, false, cond, if◌then◌else◌, List, [], ◌∷◌, ◌++◌, map, flat_map, filter, length, take, drop, get_or, refl, sym, ap, subst, ◌∙◌, arith, length-append, append-nil}
-use Rattle.std.proofs.lemmas.List.{append_assoc, map-append, take-append-drop}
+use Rattle.std.proofs.Common.{◌≡◌, ℕ, zero, suc, ◌+◌, ◌*◌, ◌≤◌, ◌<◌, ◌⊎◌, inl, inr, Bool, true, if◌then◌else◌, List, [], ◌∷◌, ◌++◌, map, flat_map, filter, length, take, drop, get_or, refl, sym, ap, subst, ◌∙◌, arith, length-append, append-nil}
+use Rattle.std.proofs.lemmas.List.{append_assoc, map-append, take-append-drop, drop_more}
 use Rattle.std.proofs.lemmas.Grind.{flat_map-append}
 use Rattle.std.proofs.lemmas.Nat.{mul-le}
 use Rattle.rail_base.specs.declared.station.Station.{Station}
@@ -16,7 +16,6 @@ use Rattle.rail_base.proofs.Lists.{in_append, in_map_back, in_flat_map_back, len
 use Rattle.rail_spec.specs.Plans.{all_commands, commands_of, contend, is_command, route_numbers}
 use Rattle.clause_spec.specs.Variables.{Before, is_pair, number_of, pairs, pairs_before}
 use Rattle.clause_spec.proofs.Steps.{is_command_same, is_command_self}
-use Rattle.contending.proofs.Gathering.{drop_next}
 
 -- the members before the first that passes, which is named
 first_there : {X : Type 0} (test : X → Bool) (xs ys : List X) (y : X) → ((x : X) → In x xs → test x ≡ true → ⊥) → test y ≡ true → before_first test (xs ++ y ∷ ys) ≡ xs
@@ -30,7 +29,7 @@ regroup ws bs cs ds x = ap (λ ys. ws ++ ys) (append_assoc bs (x ∷ cs) ds) ∙
 
 -- a list parted at a member
 parted : {X : Type 0} (xs : List X) (i : ℕ) (other : X) → i < length xs → xs ≡ take i xs ++ get_or xs i other ∷ drop (i + 1) xs
-parted xs i other h = sym (take-append-drop i xs) ∙ ap (λ ys. take i xs ++ ys) (drop_next xs i other h)
+parted xs i other h = sym (take-append-drop i xs) ∙ ap (λ ys. take i xs ++ ys) (drop_more xs i other h)
 
 length-taken : {X : Type 0} (xs : List X) (i : ℕ) → i ≤ length xs → length (take i xs) ≡ i
 length-taken xs zero h = refl
@@ -47,14 +46,6 @@ taken_more {X} xs i other h = ap (λ n. take n xs) (next i) ∙ go xs i h
     go [] j l = absurd (omega arith)
     go (y ∷ ys) zero l = refl
     go (y ∷ ys) (suc j) l = ap (λ zs. y ∷ zs) (go ys j (omega arith))
-
-pub length-kept : {X : Type 0} (test : X → Bool) (xs : List X) → length (filter test xs) ≤ length xs
-length-kept test [] = omega arith
-length-kept test (x ∷ xs) = go (test x) (length-kept test xs)
-  where
-    go : (b : Bool) → length (filter test xs) ≤ length xs → length (cond b (x ∷ filter test xs) (filter test xs)) ≤ suc (length xs)
-    go true h = omega arith
-    go false h = omega arith
 
 module _ (d : Station) (routes : List Route) where
   -- no command stands twice

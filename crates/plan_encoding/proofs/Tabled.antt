@@ -4,8 +4,7 @@ use Rattle.std.proofs.Math.Nat.{suc-mul}
 use Rattle.std.proofs.lemmas.Nat.{mul-le}
 use Rattle.clause_spec.specs.Variables.{pairs_before}
 use Rattle.clause_spec.specs.Clauses.{Clause, exclude, later_pairs}
-use Rattle.std.proofs.lemmas.List.{append_assoc}
-use Rattle.contending.proofs.Gathering.{drop_next}
+use Rattle.std.proofs.lemmas.List.{append_assoc, drop_more}
 use Rattle.plan_encoding.proofs.Emission.{Next}
 use Rattle.std.specs.Prelude.{All}
 use Rattle.rail_base.specs.declared.station.Station.{Station}
@@ -18,9 +17,8 @@ use Rattle.rail_base.specs.Members.{In}
 use Rattle.rail_base.specs.Routes.{IsRoute, route_at}
 use Rattle.rail_base.specs.Stations.{IsTrain, trains}
 use Rattle.rail_base.proofs.Members.{filter-append}
-use Rattle.rail_base.proofs.Lists.{in_append, in_map_back, in_flat_map_back, in_filter_back, in_count_back, length-map}
+use Rattle.rail_base.proofs.Lists.{in_append, in_map_back, in_flat_map_back, in_filter_back, in_count_back, length-map, length-count}
 use Rattle.rail_spec.specs.Plans.{all_commands, commands_of, contend, route_numbers}
-use Rattle.clause_spec.proofs.Numbers.{length-count}
 use Rattle.plan_encoding.specs.declared.encoder.Encoder.{Encoder}
 use Rattle.plan_encoding.specs.declared.network.Network.{Network}
 use Rattle.plan_encoding.specs.declared.tables.Tables.{Tables}
@@ -100,7 +98,7 @@ pub next_rivals : (g : Command × Command → List Clause) (d : Station) (routes
     → Next (flat_map (λ e. flat_map g (pairs_before d routes e)) (drop i cs)) (flat_map g (map (λ c. (get_or cs i other, c)) rivals)) (flat_map (λ e. flat_map g (pairs_before d routes e)) (drop (i + 1) cs))
 next_rivals g d routes cs i other h rivals is = record {
   is =
-      ap (flat_map (λ e. flat_map g (pairs_before d routes e))) (drop_next cs i other h)
+      ap (flat_map (λ e. flat_map g (pairs_before d routes e))) (drop_more cs i other h)
       ∙ ap (λ rs. flat_map g (map (λ c. (get_or cs i other, c)) rs) ++ flat_map (λ e. flat_map g (pairs_before d routes e)) (drop (i + 1) cs)) (sym is);
 }
 

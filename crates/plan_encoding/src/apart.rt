@@ -44,9 +44,9 @@ impl Encoder<'_> {
         ensures { IfOk result (λ clause. clause.items ≡ written self.now (apart first second step)) }
     {
         let mut clause = Vec::new(alloc);
-        clause.push(self.not_given(first, step))?;
+        clause.push(self.not_given_lit(first, step))?;
         self.push_if_given(&mut clause, first, step - 1)?;
-        clause.push(self.not_given(second, step))?;
+        clause.push(self.not_given_lit(second, step))?;
         self.push_if_given(&mut clause, second, step - 1)?;
         Ok(clause)
     }

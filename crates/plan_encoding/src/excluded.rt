@@ -40,8 +40,8 @@ impl Tables<'_> {
                 route: pair.1,
             };
             sink.emit(&[
-                self.encoder.not_given(one, last),
-                self.encoder.not_given(other, last),
+                self.encoder.not_given_lit(one, last),
+                self.encoder.not_given_lit(other, last),
             ])?;
         }
         Ok(())

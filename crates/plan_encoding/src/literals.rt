@@ -14,7 +14,7 @@ use std::alloc::{AllocError, Global};
 
 impl Encoder<'_> {
     /// The literal that a command is given by a step.
-    pub fn given(&self, command: Command, step: u32) -> Lit
+    pub fn given_lit(&self, command: Command, step: u32) -> Lit
         requires command { IsCommand self.now command }
         requires step { step ≤ self.now.steps.count }
         ensures { result ≡ over self.now numbered (yes (Given command step)) }
@@ -26,7 +26,7 @@ impl Encoder<'_> {
     }
 
     /// The literal that a command is not given by a step.
-    pub fn not_given(&self, command: Command, step: u32) -> Lit
+    pub fn not_given_lit(&self, command: Command, step: u32) -> Lit
         requires command { IsCommand self.now command }
         requires step { step ≤ self.now.steps.count }
         ensures { result ≡ over self.now numbered (no (Given command step)) }
@@ -49,7 +49,7 @@ impl Encoder<'_> {
         ensures { OnOk result (clause.new.items ≡ clause.old.items ++ written self.now (if_given command step)) }
     {
         if step > 0 {
-            clause.push(self.given(command, step))?;
+            clause.push(self.given_lit(command, step))?;
         }
         Ok(())
     }

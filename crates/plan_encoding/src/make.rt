@@ -75,7 +75,7 @@ pub fn base(alloc: Global, interlocking: &Interlocking, steps: Steps) -> Result<
     let tables = encoder.tables(alloc)?;
     let mut count = ClauseSink::new(alloc, false);
     tables.emit_all(alloc, &mut count)?;
-    let mut sink = count.keeping(alloc)?;
+    let mut sink = count.with_room(alloc)?;
     tables.emit_all(alloc, &mut sink)?;
     let pairs = tables.into_pairs();
     Ok(base_of(interlocking, steps, pairs, sink.into_clauses()))

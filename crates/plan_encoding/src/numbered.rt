@@ -54,7 +54,7 @@ impl Model for Base {
 
 impl Base {
     /// The literal that a train is given a route by a step.
-    pub fn given(&self, train: TrainNo, route: RouteNo, step: u32) -> Lit
+    pub fn given_lit(&self, train: TrainNo, route: RouteNo, step: u32) -> Lit
         requires command { HasCommand self.now (record { train = train; route = route }) }
         requires step { step ≤ self.now.steps }
         ensures { (d : Station) (routes : List Route) (n : ℕ) → IsBaseOf d routes n self.now

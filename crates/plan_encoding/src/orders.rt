@@ -65,7 +65,7 @@ impl Pair<'_> {
     {
         let mut clause = Vec::new(alloc);
         clause.push(self.fails())?;
-        clause.push(self.encoder.not_given(self.second, step))?;
+        clause.push(self.encoder.not_given_lit(self.second, step))?;
         self.encoder
             .push_if_given(&mut clause, self.first, step - 1)?;
         Ok(clause)
@@ -91,10 +91,10 @@ impl Pair<'_> {
         for step in 1..self.encoder.steps.count {
             sink.emit(&[
                 self.holds(),
-                self.encoder.not_given(self.first, step),
-                self.encoder.given(self.second, step),
+                self.encoder.not_given_lit(self.first, step),
+                self.encoder.given_lit(self.second, step),
                 self.encoder
-                    .not_given(self.second, self.encoder.steps.count),
+                    .not_given_lit(self.second, self.encoder.steps.count),
             ])?;
         }
         Ok(())
@@ -106,7 +106,7 @@ impl Pair<'_> {
         ensures err { IfErr result (Stops self.now.encoder (said_by self.now) sink.old) }
     {
         let last = self.encoder.steps.count;
-        sink.emit(&[self.fails(), self.encoder.given(self.second, last)])?;
+        sink.emit(&[self.fails(), self.encoder.given_lit(self.second, last)])?;
         self.emit_earlier(alloc, sink)?;
         self.emit_before(sink)
     }

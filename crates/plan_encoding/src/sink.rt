@@ -75,7 +75,7 @@ impl ClauseSink {
     }
 
     /// An empty sink that keeps clauses, with room for as many as were emitted in this one.
-    pub fn keeping(&self, alloc: Global) -> Result<ClauseSink, AllocError>
+    pub fn with_room(&self, alloc: Global) -> Result<ClauseSink, AllocError>
         ensures { IfOk result (λ sink. sink ≡ record { keep = true; literals = 0; clauses = [] }) }
     {
         Ok(ClauseSink {

@@ -47,7 +47,7 @@ pub fn sorted_base(
     let neighbors = neighbors(alloc, &interlocking.design)?;
     let mut count = ClauseSink::new(alloc, false);
     tables.emit_all(alloc, &mut count)?;
-    let mut sink = count.keeping(alloc)?;
+    let mut sink = count.with_room(alloc)?;
     tables.emit_all(alloc, &mut sink)?;
     let mut turns = sink.after(alloc);
     tables.emit_turns(alloc, &mut turns, neighbors.as_slice())?;

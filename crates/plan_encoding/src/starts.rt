@@ -67,7 +67,7 @@ impl Encoder<'_> {
         ensures err { IfErr result (Stops self.now (never_given self.now command) sink.old) }
     {
         for step in 1..self.steps.count + 1 {
-            sink.emit(&[self.not_given(command, step)])?;
+            sink.emit(&[self.not_given_lit(command, step)])?;
         }
         Ok(())
     }
@@ -87,7 +87,7 @@ impl Encoder<'_> {
         ensures { IfOk result (λ clause. clause.items ≡ written self.now (led_clause command leading.now step)) }
     {
         let mut clause = Vec::new(alloc);
-        clause.push(self.not_given(command, step))?;
+        clause.push(self.not_given_lit(command, step))?;
         for route in leading {
             let before = Command {
                 train: command.train,

@@ -57,8 +57,8 @@ impl Selectors<'_> {
         for command in &tables.commands {
             sink.emit(&[
                 by,
-                encoder.not_given(*command, encoder.steps.count),
-                encoder.given(*command, step),
+                encoder.not_given_lit(*command, encoder.steps.count),
+                encoder.given_lit(*command, step),
             ])?;
         }
         Ok(())
@@ -73,7 +73,10 @@ impl Encoder<'_> {
         ensures err { IfErr result (Stops self.now (over self.now stays_given command) sink.old) }
     {
         for step in 1..self.steps.count {
-            sink.emit(&[self.not_given(command, step), self.given(command, step + 1)])?;
+            sink.emit(&[
+                self.not_given_lit(command, step),
+                self.given_lit(command, step + 1),
+            ])?;
         }
         Ok(())
     }

@@ -114,7 +114,7 @@ impl Encoder<'_> {
             (λ clause. clause.items ≡ written self.now (begun_clause earlier routes.now command step)) }
     {
         let mut clause = Vec::new(alloc);
-        clause.push(self.not_given(command, step))?;
+        clause.push(self.not_given_lit(command, step))?;
         self.push_all_given(&mut clause, earlier, routes, step)?;
         Ok(clause)
     }

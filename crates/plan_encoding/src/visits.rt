@@ -60,7 +60,7 @@ impl Tables<'_> {
                 train,
                 route: *route,
             };
-            let literal = self.encoder.given(command, self.encoder.steps.count);
+            let literal = self.encoder.given_lit(command, self.encoder.steps.count);
             let visits = self.encoder.may_visit(&visit, *route);
             push_if(&mut clause, literal, visits)?;
         }

@@ -42,7 +42,7 @@ impl Encoder<'_> {
                 train,
                 route: *route,
             };
-            clause.push(self.given(command, step))?;
+            clause.push(self.given_lit(command, step))?;
         }
         Ok(())
     }
@@ -79,7 +79,7 @@ impl Encoder<'_> {
                 train,
                 route: *route,
             };
-            clause.push(self.not_given(command, step))?;
+            clause.push(self.not_given_lit(command, step))?;
         }
         Ok(())
     }
@@ -161,7 +161,7 @@ impl Tables<'_> {
 
 impl Wait<'_> {
     /// The clause of a chain at a step.
-    fn waiting(
+    fn wait_clause(
         &self,
         alloc: Global,
         chain: &[RouteNo],
@@ -177,14 +177,14 @@ impl Wait<'_> {
         let encoder = self.tables.encoder;
         let mut clause = Vec::new(alloc);
         encoder.push_none_given(&mut clause, self.first.train, chain, step)?;
-        clause.push(encoder.not_given(self.second, step + 1))?;
-        clause.push(encoder.given(self.second, step))?;
+        clause.push(encoder.not_given_lit(self.second, step + 1))?;
+        clause.push(encoder.given_lit(self.second, step))?;
         encoder.push_all_given(&mut clause, self.first.train, further, step)?;
         Ok(clause)
     }
 
     /// Emits that a command waits for a chain, at each step.
-    fn emit_waiting(
+    fn emit_wait(
         &self,
         alloc: Global,
         sink: &mut ClauseSink,
@@ -198,7 +198,7 @@ impl Wait<'_> {
         ensures err { IfErr result (Stops (frame_of self.now) (waits_at self.now chain.now further.now) sink.old) }
     {
         for step in 1..self.tables.encoder.steps.count {
-            let clause = self.waiting(alloc, chain, further, step)?;
+            let clause = self.wait_clause(alloc, chain, further, step)?;
             sink.emit(&clause)?;
         }
         Ok(())
@@ -238,7 +238,7 @@ impl Wait<'_> {
         }
         chain.push(route)?;
         let further = self.tables.onward(alloc, chain, route)?;
-        self.emit_waiting(alloc, sink, chain, &further)?;
+        self.emit_wait(alloc, sink, chain, &further)?;
         for next in &further {
             self.emit_chains(alloc, sink, chain, total, *next, more - 1)?;
         }

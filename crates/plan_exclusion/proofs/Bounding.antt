@@ -3,7 +3,7 @@ use Rattle.std.proofs.Common.{◌≡◌, ℕ, ◌≤◌, Bool, true, false, not,
 use Rattle.bound_clause.specs.Numbered.{numbered_bound}
 use Rattle.bound_clause.proofs.Holding.{fits_design}
 use Rattle.bound_clause.proofs.Known.{all_known}
-use Rattle.cone_clause.proofs.Agreeing.{each_alike, short_enough}
+use Rattle.cone_clause.proofs.Agreeing.{each_alike}
 use Rattle.clause_spec.specs.Models.{model_of}
 use Rattle.proof_judge.specs.Judged.{refuted}
 use Rattle.proof_log.specs.declared.line.Line.TheVariants.{Refute}
@@ -31,6 +31,7 @@ use Rattle.plan_exclusion.specs.Failures.{FailsSo, AreValuesOfPlan}
 use Rattle.plan_exclusion.proofs.Below.{bound-below}
 use Rattle.plan_exclusion.proofs.Modelling.{bound_alike}
 use Rattle.plan_exclusion.proofs.Showing.{shown_valid}
+use Rattle.clause_spec.proofs.Shown.{short_enough}
 
 not_false : (b : Bool) → not b ≡ false → b ≡ true
 not_false true h = refl

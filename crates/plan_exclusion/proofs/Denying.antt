@@ -1,12 +1,13 @@
 -- The clause of what shows that a plan fails is false in the plan's model.
 use Rattle.std.proofs.Common.{not, ap, ◌∙◌}
-use Rattle.cone_clause.proofs.Agreeing.{clause_alike, short_enough}
+use Rattle.cone_clause.proofs.Agreeing.{clause_alike}
 use Rattle.bound_spec.specs.declared.Evidence.TheVariants as evidence
 use Rattle.cone_spec.proofs.Refusing.{holds_of_valid}
 use Rattle.rail_spec.specs.Track.{routes_of}
 use Rattle.timing_refuter.proofs.Failing.{kind_of, refutes_of}
 use Rattle.plan_exclusion.specs.Laws.{EvidenceDeniesItsPlan}
 use Rattle.plan_exclusion.proofs.Bounding.{bound_says}
+use Rattle.clause_spec.proofs.Shown.{short_enough}
 
 pub evidence_denies : EvidenceDeniesItsPlan
 evidence_denies d good n some plan runs each (evidence.Cone cone) shown =

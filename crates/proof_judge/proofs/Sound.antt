@@ -39,6 +39,7 @@ use Rattle.rail_spec.specs.Track.{routes_of}
 use Rattle.sat_clause.specs.Clauses.{clause_holds}
 use Rattle.sat_clause.specs.declared.lit.Lit.{Lit}
 use Rattle.proof_judge.specs.Judged.{all_live, clauses_under, judged_by, judged_under, unless, refuted, YesIsInfeasible}
+use Rattle.sat_clause.proofs.Sound.{both}
 
 live_hold : (values : ℕ → Bool) (cs : List (List Lit)) → list_all (clause_holds values) cs ≡ clauses_hold values (all_live cs)
 live_hold values [] = refl
@@ -65,11 +66,6 @@ evidence_holds d admitted n some plan feasible (evidence.Cone k) clause shows =
 evidence_holds d admitted n some plan feasible (evidence.Bound b) clause shows =
     let s = valid_shown of.Bound (bound.fault_of d (routes_of d) b) (numbered_bound d (routes_of d) n b) clause shows in
     ap (clause_holds (model_of d (routes_of d) n plan)) (sym s.1) ∙ bound_holds d admitted n b plan some s.0 feasible
-
--- where the clauses of the base of trains in turn are true, so are those that a head names
-both : (a b : Bool) → (a && b) ≡ true → (a ≡ true) × (b ≡ true)
-both true b h = (refl, h)
-both false b h = absurd (cc)
 
 prefix : (values : ℕ → Bool) (xs ys : List (List Lit)) → list_all (clause_holds values) (xs ++ ys) ≡ true → list_all (clause_holds values) xs ≡ true
 prefix values [] ys h = refl

@@ -18,8 +18,9 @@ use Rattle.sat_clause.specs.declared.lit.Lit.{Lit}
 use Rattle.proof_log.specs.Words.{greatest_variable, greatest_clause_number, is_from_1_to, is_small, is_space, line_words, plain_number_of, if_small, small_number_of, if_from_1_to, variable_of, route_of, clause_number_of, literal_of, is_end, member_before, members_of}
 use Rattle.proof_log.specs.Parts.{WithRest, made, with_next, first_of, has_member, if_any, parts_of, all_parts, small_number, two_numbers, command_by, command, violation, is_nothing, written_holder, train_prefix, train_path, train_by, cone_train, pair, cone}
 use Rattle.proof_log.specs.ConeText.{literal_word, route_word, list_words, command_words, violation_words, holder_words, train_words, pair_words, cone_line_words, keeps_command, keeps_violation, keeps_holder, keeps_path, keeps_train, keeps_pair, keeps_cone}
-use Rattle.proof_log.proofs.Parsed.{own}
 use Rattle.proof_log.proofs.Written.{stops, none-back, marked, after_mark, zero-word}
+use Rattle.sat_clause.proofs.Sound.{both}
+use Rattle.rail_text.proofs.Numerals.{own}
 
 -- ---- numbers and literals
 
@@ -82,10 +83,6 @@ literal-back back l h = literal-case back l.var l.negated h
 
 -- ---- lists
 
-pub both : (a b : Bool) → (a && b) ≡ true → (a ≡ true) × (b ≡ true)
-both true b h = (refl, h)
-both false b h = absurd (cc)
-
 not_end-step : {X : Type 0} (member : List ℕ → Option X) (word : List ℕ) (x : X) (b : Bool) → b ≡ is_end word → member (codes "0") ≡ None → member word ≡ Some x → b ≡ false
 not_end-step member word x true is none e =
     let end : word ≡ codes "0" = (bytes_eq-Decides word (codes "0")).0 (sym is) in
@@ -137,7 +134,7 @@ made-back make parts write good writes goods read same back y rest h =
     let found : read (writes y ++ rest) ≡ Some (parts y, rest) = ap (λ w. read (w ++ rest)) s.1 ∙ back (parts y) rest s.2 in
     rw found (rw s.0 refl)
 
-not-true : (b : Bool) → not b ≡ true → b ≡ false
+pub not-true : (b : Bool) → not b ≡ true → b ≡ false
 not-true true h = absurd (cc)
 not-true false h = refl
 

@@ -22,12 +22,13 @@ use Rattle.proof_log.specs.Parts.{WithRest, made, has_member, parts_of, all_part
 use Rattle.proof_log.specs.ConeText.{route_word, list_words, command_words, train_words, pair_words, keeps_path, keeps_train, keeps_pair}
 use Rattle.proof_log.proofs.Written.{stops, none-back}
 use Rattle.proof_log.proofs.Written as written_of_cones
-use Rattle.proof_log.proofs.Back.{Back, both, first-back, next-back, all-back, small-read, numbers-read, pair-read, path-read, train-read, number-back, route-back, members-back}
+use Rattle.proof_log.proofs.Back.{Back, first-back, next-back, all-back, small-read, numbers-read, pair-read, path-read, train-read, number-back, route-back, members-back}
 use Rattle.proof_log.proofs.Back.{spaceless, decimal-spaceless, number-spaceless, small-spaceless, list-spaceless, append-spaceless, parts-spaceless, numbers-spaceless, train-spaceless, pair-spaceless}
 use Rattle.proof_log.specs.Bounds.{route, granted, requirement, origin, among, place_of, parts_until, leg, bound}
 use Rattle.proof_log.specs.BoundText.{requirement_words, origin_words, place_words, leg_words, bound_line_words, keeps_route, keeps_requirement, is_of, keeps_origin, keeps_place, keeps_leg, keeps_bound}
 use Rattle.proof_log.proofs.BoundsGathering.{starts, none-until}
 use Rattle.proof_log.proofs.BoundsWritten.{after_mark, place-some}
+use Rattle.sat_clause.proofs.Sound.{both}
 
 -- ---- parts up to a mark
 

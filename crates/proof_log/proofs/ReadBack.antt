@@ -11,9 +11,10 @@ use Rattle.proof_log.specs.Lines.{is_increasing, line_of_words, line_in_bytes}
 use Rattle.proof_log.specs.ConeText.{literal_word, list_words, cone_line_words}
 use Rattle.proof_log.specs.BoundText.{bound_line_words}
 use Rattle.proof_log.specs.Text.{words_of_line, text_of_line, keeps_grammar}
-use Rattle.proof_log.proofs.Back.{both, clause_number-back, literal-back, members-found, members-back, cone-read}
+use Rattle.proof_log.proofs.Back.{clause_number-back, literal-back, members-found, members-back, cone-read}
 use Rattle.proof_log.proofs.Back.{spaceless, split-back, decimal-spaceless, literal-spaceless, all-spaceless, list-spaceless, append-spaceless, cone-spaceless}
 use Rattle.proof_log.proofs.BoundsBack.{bound-read, bound-spaceless}
+use Rattle.sat_clause.proofs.Sound.{both}
 
 clauses-back : NumbersReadBack → (clauses : List ℕ) → list_all (is_from_1_to greatest_clause_number) clauses ≡ true → members_of clause_number_of (list_words decimal clauses) ≡ Some (clauses, [])
 clauses-back back clauses h =

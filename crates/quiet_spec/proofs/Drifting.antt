@@ -23,7 +23,7 @@ use Rattle.rail_course.specs.declared.journey.Release.{Release}
 use Rattle.rail_course.proofs.Waiting.{list_all-same}
 use Rattle.rail_course.specs.Releases.{is_released, release_for, releases_of_route, releases_of_train}
 use Rattle.quiet_spec.specs.Quiet.{IsNotReached, IsQuiet, followed, drift_with, drift}
-use Rattle.quiet_spec.proofs.Running.{Moves, Idles, after_tick, idle_at_first, granted_on_path}
+use Rattle.rail_laws.proofs.Running.{Moves, Idles, after_tick, idle_at_first, granted_on_path}
 
 pub map-same : {X Y : Type 0} (f g : X → Y) (xs : List X) → ((x : X) → In x xs → f x ≡ g x) → map f xs ≡ map g xs
 map-same f g [] h = refl

@@ -23,7 +23,7 @@ use Rattle.rail_course.specs.Ready.{ShowTick}
 use Rattle.quiet_spec.specs.Quiet.{IsNotReached, ComesNowhere, IsGrantedNothing, IsQuietFor, IsQuiet, followed, drift_with, drift}
 use Rattle.quiet_spec.specs.Forecasts.{IsSeen, AreSeen}
 use Rattle.quiet_spec.proofs.Drifting.{released_same, passed_same, released_by_path, drift_granted, drift_within, go_on, granted_after_same, by_train, by_rule, without}
-use Rattle.quiet_spec.proofs.Running.{granted_on_path}
+use Rattle.rail_laws.proofs.Running.{granted_on_path}
 use Rattle.quiet_spec.proofs.Staying.{train_same, train_as_tested}
 
 apart_less : (x a y z place : ℕ) → x ≤ a → y ≤ z → IsNotReached x z place → IsNotReached a y place

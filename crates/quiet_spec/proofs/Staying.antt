@@ -1,5 +1,5 @@
 -- In quiet ticks nothing is added to the history.
-use Rattle.std.proofs.Common.{◌≡◌, ℕ, zero, suc, ◌+◌, ◌≤◌, inl, inr, Bool, true, false, if◌then◌else◌, nat_le, List, [], ◌∷◌, ◌++◌, map, flat_map, Option, None, Some, option_map, refl, sym, ap, ap₂, ◌∙◌, arith}
+use Rattle.std.proofs.Common.{◌≡◌, ℕ, zero, suc, ◌+◌, ◌≤◌, inl, inr, Bool, true, false, if◌then◌else◌, nat_le, List, [], ◌∷◌, map, Option, None, Some, option_map, refl, sym, ap, ap₂, ◌∙◌, arith}
 use Rattle.std.specs.List.{enumerate_from}
 use Rattle.rail_base.specs.declared.station.Station.{Station}
 use Rattle.rail_base.specs.declared.station.NodeNo.{NodeNo}
@@ -16,7 +16,6 @@ use Rattle.rail_base.specs.Stations.{IsTrain, trains, train_of}
 use Rattle.rail_spec.specs.Plans.{has_node}
 use Rattle.rail_base.specs.Routes.{route_at, sections}
 use Rattle.rail_base.proofs.Members.{map-map}
-use Rattle.std.proofs.lemmas.List.{map-append}
 use Rattle.rail_spec.specs.Visits.{is_passed, visits_at, visits_on}
 use Rattle.rail_spec.specs.Dispatches.{Dispatch, state_of, state_at}
 use Rattle.rail_spec.specs.Visits.{pass_tick, passed, path_nodes_of_train, visits_of_train}
@@ -27,6 +26,7 @@ use Rattle.rail_course.specs.Releases.{release_for, releases_of_route, releases_
 use Rattle.rail_course.specs.Releases.{is_released}
 use Rattle.quiet_spec.specs.Quiet.{IsQuiet, drift}
 use Rattle.quiet_spec.proofs.Drifting.{map-same, released_same, passed_same, drift_granted, drift_within, go_on}
+use Rattle.rail_base.proofs.Lists.{map-flat_map, flat_map-each}
 
 -- ---- the least number that passes
 
@@ -78,14 +78,6 @@ in_visits_on (set ∷ sets) ps p (inl e) = first_in ps p e
 in_visits_on (set ∷ sets) ps p (inr m) = in_after ps p (in_visits_at sets (after_first ps) p m)
 
 -- ---- releases, as a history lists them
-
-map-flat_map : {X Y Z : Type 0} (f : Y → Z) (g : X → List Y) (xs : List X) → map f (flat_map g xs) ≡ flat_map (λ x. map f (g x)) xs
-map-flat_map f g [] = refl
-map-flat_map f g (x ∷ xs) = map-append f (g x) (flat_map g xs) ∙ ap (λ ys. map f (g x) ++ ys) (map-flat_map f g xs)
-
-flat_map-each : {X Y : Type 0} (f g : X → List Y) (xs : List X) → ((x : X) → f x ≡ g x) → flat_map f xs ≡ flat_map g xs
-flat_map-each f g [] h = refl
-flat_map-each f g (x ∷ xs) h = ap₂ (λ a b. a ++ b) (h x) (flat_map-each f g xs h)
 
 module _ (d : Station) (routes : List Route) (dispatch : Dispatch) (t : TrainNo) where
   abbrev pub release : ℕ → Release → RouteNo × SectionNo × Option ℕ

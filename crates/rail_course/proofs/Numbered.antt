@@ -15,7 +15,7 @@ use Rattle.rail_spec.specs.Plans.{is_route}
 use Rattle.rail_spec.specs.Dispatches.{Dispatch, routes_before}
 use Rattle.rail_base.specs.Routes.{route_at, length_mm, exits}
 use Rattle.rail_base.proofs.Members.{below_or_not, get_or-counted, get_or-counted_past, map-map}
-use Rattle.rail_base.proofs.Lists.{length-map}
+use Rattle.rail_base.proofs.Lists.{length-map, length-count, count_step}
 use Rattle.rail_course.specs.declared.train_path.TrainPath.{TrainPath}
 use Rattle.rail_course.specs.declared.prefixes.PathPrefix.{PathPrefix}
 use Rattle.rail_course.specs.declared.waits.Wait.{Wait}
@@ -24,13 +24,6 @@ use Rattle.rail_course.specs.Tracks.{routes_at, path_length}
 use Rattle.rail_course.specs.TrainPaths.{IsTrainPath, AreTrainPaths}
 
 -- ---- numbers in a row
-
-pub count_step : (n many : ℕ) → n < many + 1 → count_from n (many + 1 - n) ≡ n ∷ count_from (n + 1) (many + 1 - (n + 1))
-count_step n many h = let e : many + 1 - n ≡ suc (many + 1 - (n + 1)) = omega arith in ap (count_from n) e
-
-length-count : (a n : ℕ) → length (count_from a n) ≡ n
-length-count a zero = refl
-length-count a (suc n) = ap suc (length-count (a + 1) n)
 
 -- the trains of these numbers
 abbrev pub numbered : ℕ → ℕ → List TrainNo

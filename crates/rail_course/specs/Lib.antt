@@ -8,6 +8,7 @@ pub mod Waits
 pub mod Granting
 pub mod Ready
 pub mod Releases
+pub mod Marks
 pub mod Journeys
 pub mod Itineraries
 pub mod Planned

@@ -41,13 +41,13 @@ pub(crate) fn release_milestones(
 fn milestones_of(alloc: Global, places: &[u64]) -> Result<Vec<Milestone>, AllocError>
     ensures { IfOk result (λ ms. AreMilestones places.now ms.items) }
 {
-    let mut milestones = numbered(alloc, places)?;
+    let mut milestones = list_milestones(alloc, places)?;
     milestones.sort_unstable_by_key(|milestone| milestone.place);
     Ok(milestones)
 }
 
 /// The milestones of places, in the order of the list.
-fn numbered(alloc: Global, places: &[u64]) -> Result<Vec<Milestone>, AllocError>
+fn list_milestones(alloc: Global, places: &[u64]) -> Result<Vec<Milestone>, AllocError>
     ensures { IfOk result (λ ms. ms.items ≡ map milestone_of (enumerate_from 0 places.now)) }
 {
     places

@@ -36,11 +36,11 @@ use Rattle.rail_laws.proofs.Verdicts.{none_found, found_in, found_passes, one_to
 abbrev NodesIn : List Route → Type 0
 NodesIn rs = (r : Route) → In r rs → (p : NodeNo × ℤ) → In p r.nodes → nat_abs p.1 ≤ length_mm r
 
-in_after : {X : Type 0} (xs : List X) (x : X) → In x (after_first xs) → In x xs
+pub in_after : {X : Type 0} (xs : List X) (x : X) → In x (after_first xs) → In x xs
 in_after [] x m = m
 in_after (y ∷ ys) x m = inr m
 
-in_from : {X : Type 0} (test : X → Bool) (xs : List X) (x : X) → In x (from_first test xs) → In x xs
+pub in_from : {X : Type 0} (test : X → Bool) (xs : List X) (x : X) → In x (from_first test xs) → In x xs
 in_from test [] x m = m
 in_from {X} test (y ∷ ys) x m = go (test y) m (in_from test ys x)
   where

@@ -86,7 +86,7 @@ step_here step steps c e = ap (λ b. if b then 1 else step_of steps c + 1) e
 step_later : (step : List Command) (steps : List (List Command)) (c : Command) → list_any (is_command c) step ≡ false → step_of (step ∷ steps) c ≡ step_of steps c + 1
 step_later step steps c e = ap (λ b. if b then 1 else step_of steps c + 1) e
 
-step_some : (plan : List (List Command)) (c : Command) → 1 ≤ step_of plan c
+pub step_some : (plan : List (List Command)) (c : Command) → 1 ≤ step_of plan c
 step_some [] c = omega arith
 step_some (step ∷ steps) c = go (list_any (is_command c) step)
   where

@@ -10,6 +10,8 @@ pub mod Deciding
 pub mod Standing
 pub mod Sums
 pub mod Given
+pub mod Running
+pub mod Lengths
 pub mod Admits
 pub mod Keeping
 pub mod Moving

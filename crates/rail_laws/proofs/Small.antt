@@ -26,7 +26,7 @@ use Rattle.rail_laws.proofs.Exclusion.{by_tick, idle_at_first}
 use Rattle.rail_laws.proofs.Standing.{in_path}
 use Rattle.rail_laws.proofs.Admits.{entry_is, path_differs}
 
-greatest_within : (test : ℕ → Bool) (n : ℕ) → greatest test n ≤ n
+pub greatest_within : (test : ℕ → Bool) (n : ℕ) → greatest test n ≤ n
 greatest_within test zero = omega arith
 greatest_within test (suc n) = go (test (suc n)) (greatest_within test n)
   where

@@ -29,7 +29,7 @@ edge_ends-append d o (e ∷ es) fs =
     ap (λ zs. (e, o + length_of d e) ∷ zs) (edge_ends-append d (o + length_of d e) es fs ∙ ap (λ n. edge_ends d (o + length_of d e) es ++ edge_ends d n fs) (let s = sum_by-cons (length_of d) e es in omega arith))
 
 -- longer routes have the stretches of the shorter ones first
-abbrev further : Station → List Route → List Route → List SpanSeen
+abbrev pub further : Station → List Route → List Route → List SpanSeen
 further d rs more = map (stretch d) (edge_ends d (0 + sum_by (length_of d) (flat_map (λ r. r.edges) rs)) (flat_map (λ r. r.edges) more))
 
 stretches-append : (d : Station) (rs more : List Route) → stretches d (rs ++ more) ≡ stretches d rs ++ further d rs more
@@ -43,7 +43,7 @@ reaches : (d : Station) (o x : ℕ) (es : List EdgeNo) → o ≤ x → o + sum_b
 reaches d o x [] h = omega arith
 reaches d o x (e ∷ es) h = let s = sum_by-cons (length_of d) e es in let k = reaches d (o + length_of d e) (max x (o + length_of d e)) es (omega arith) in omega arith
 
-authority_farther : (rs more : List Route) → IsFarther (sum_by length_mm rs) (authority (rs ++ more))
+pub authority_farther : (rs more : List Route) → IsFarther (sum_by length_mm rs) (authority (rs ++ more))
 authority_farther rs more = go (list_any exits (rs ++ more))
   where
     go : (b : Bool) → IsFarther (sum_by length_mm rs) (if b then None else Some (sum_by length_mm (rs ++ more)))

@@ -38,13 +38,13 @@ length-enumerated : {X : Type 0} (a : ℕ) (xs : List X) → length (enumerate_f
 length-enumerated a [] = refl
 length-enumerated a (x ∷ xs) = ap suc (length-enumerated (a + 1) xs)
 
-entry-map : {X Y : Type 0} (f : X → Y) (other : X) (xs : List X) (j : ℕ) → entry (f other) (map f xs) j ≡ f (entry other xs j)
+pub entry-map : {X Y : Type 0} (f : X → Y) (other : X) (xs : List X) (j : ℕ) → entry (f other) (map f xs) j ≡ f (entry other xs j)
 entry-map f other xs zero = refl
 entry-map f other [] (suc j) = refl
 entry-map f other (x ∷ xs) (suc zero) = refl
 entry-map f other (x ∷ xs) (suc (suc j)) = entry-map f other xs (suc j)
 
-entry-enumerated : {X Y : Type 0} (f : ℕ → Y) (other : X × Y) (a : ℕ) (xs : List X) (j : ℕ) → j < length xs → (get_or (map (λ p. (p.1, f p.0)) (enumerate_from a xs)) j other).1 ≡ f (a + j)
+pub entry-enumerated : {X Y : Type 0} (f : ℕ → Y) (other : X × Y) (a : ℕ) (xs : List X) (j : ℕ) → j < length xs → (get_or (map (λ p. (p.1, f p.0)) (enumerate_from a xs)) j other).1 ≡ f (a + j)
 entry-enumerated f other a [] j h = absurd (omega arith)
 entry-enumerated f other a (x ∷ xs) zero h = ap f (omega arith)
 entry-enumerated f other a (x ∷ xs) (suc j) h = entry-enumerated f other (a + 1) xs j (omega arith) ∙ ap f (omega arith)

@@ -1,18 +1,14 @@
 -- What stands at an end is found by its node.
-use Rattle.std.proofs.Common.{◌≡◌, ℕ, zero, suc, ◌+◌, ◌-◌, ◌<◌, List, length, get_or, refl, ap, ◌∙◌, arith}
+use Rattle.std.proofs.Common.{◌≡◌, ℕ, ◌+◌, ◌-◌, ◌<◌, List, length, get_or, ap, ◌∙◌, arith}
 use Rattle.rail_base.specs.declared.station.Station.{Station}
 use Rattle.rail_base.specs.declared.station.Side.{Side}
 use Rattle.rail_base.specs.declared.station.NodeNo.{NodeNo}
-use Rattle.rail_base.specs.Numbering.{one_to, count_from}
+use Rattle.rail_base.specs.Numbering.{one_to}
 use Rattle.rail_base.specs.Stations.{IsNode}
-use Rattle.rail_base.proofs.Lists.{length-map}
+use Rattle.rail_base.proofs.Lists.{length-map, length-count}
 use Rattle.rail_base.proofs.Members.{get_or-counted}
 use Rattle.rail_routes.specs.Ends.{edges_at_end, at_side}
 use Rattle.rail_routes.specs.declared.track.AtEnd.{AtEnd}
-
-length-count : (a n : ℕ) → length (count_from a n) ≡ n
-length-count a zero = refl
-length-count a (suc n) = ap suc (length-count (a + 1) n)
 
 pub side-length : (d : Station) (side : Side) → length (at_side d side) ≡ length d.nodes
 side-length d side = length-map (λ n. edges_at_end d (record { node = record { 0 = n }; side = side })) (one_to (length d.nodes)) ∙ length-count 1 (length d.nodes)

@@ -7,10 +7,7 @@ use Rattle.sat_clause.specs.Hints.{same_lit, is_assigned}
 use Rattle.sat_trail.specs.Trails.{IsIn, AllIn}
 use Rattle.sat_trail.proofs.Members.{either, same-equal}
 use Rattle.refused_lines.specs.Variables.{is_in}
-
-both : (a b : Bool) → (a && b) ≡ true → (a ≡ true) × (b ≡ true)
-both true b h = (refl, h)
-both false b h = absurd (cc)
+use Rattle.sat_clause.proofs.Sound.{both}
 
 in_range : (vars var : ℕ) → (nat_le 1 var && nat_le var vars) ≡ true → (1 ≤ var) × (var ≤ vars)
 in_range vars var h = grind (arith, nat_tests)

@@ -9,11 +9,11 @@ use Rattle.sat_clause.specs.declared.follow.Follow.{Follow}
 use Rattle.sat_clause.specs.declared.follow.Follow.TheVariants.{Yes}
 use Rattle.sat_clause.specs.Hints.{same_lit, is_assigned, open_lits, only_one, unit_of, at_last, at_unit, at_clause, where_last, follow_from, follow_of, holds_at, hints_hold}
 
-both : (a b : Bool) → (a && b) ≡ true → (a ≡ true) × (b ≡ true)
+pub both : (a b : Bool) → (a && b) ≡ true → (a ≡ true) × (b ≡ true)
 both true b h = (refl, h)
 both false b h = absurd (cc)
 
-same_bool : (a b : Bool) → cond a b (not b) ≡ true → a ≡ b
+pub same_bool : (a b : Bool) → cond a b (not b) ≡ true → a ≡ b
 same_bool true true h = refl
 same_bool true false h = absurd (cc)
 same_bool false true h = absurd (cc)

@@ -98,7 +98,7 @@ impl Recorder for ListRecorder {
 
     ghost learnt = { λ s. s.learnt.items };
 
-    fn added(&mut self, line: &[u8], clause: &[Lit]) -> Result<(), RecordFault> {
+    fn add(&mut self, line: &[u8], clause: &[Lit]) -> Result<(), RecordFault> {
         if self.arena.push(clause).is_err() {
             return Err(RecordFault::Memory);
         }
@@ -109,7 +109,7 @@ impl Recorder for ListRecorder {
         Ok(())
     }
 
-    fn derived(&mut self, clause: &[Lit], hints: &[u64]) -> Result<(), RecordFault> {
+    fn derive(&mut self, clause: &[Lit], hints: &[u64]) -> Result<(), RecordFault> {
         let line = derived_line(self.alloc, clause, hints)?;
         let Ok(id) = self.arena.push(clause) else {
             return Err(RecordFault::Memory);
@@ -126,7 +126,7 @@ impl Recorder for ListRecorder {
         Ok(())
     }
 
-    fn forgot(&mut self, id: u64) -> Result<(), RecordFault> {
+    fn forget(&mut self, id: u64) -> Result<(), RecordFault> {
         if self.lines.push(Line::Forgot(id)).is_err() {
             return Err(RecordFault::Memory);
         }

@@ -168,7 +168,7 @@ impl<R: Recorder> Solver<R> {
         ensures derives { self.new.derives ≡ self.old.derives }
     {
         let id = keep(&mut self.arena, &mut self.trail, clause)?;
-        match self.recorder.added(line, clause) {
+        match self.recorder.add(line, clause) {
             Ok(()) => Ok(id),
             Err(RecordFault::Memory) => {
                 self.trail.detach(&self.arena, id);
@@ -240,7 +240,7 @@ impl<R: Recorder> Solver<R> {
         let Ok(id) = keep(&mut self.arena, &mut self.trail, clause) else {
             return Err(RecordFault::Memory);
         };
-        if let Err(fault) = self.recorder.derived(clause, hints) {
+        if let Err(fault) = self.recorder.derive(clause, hints) {
             self.trail.detach(&self.arena, id);
             self.arena.pop();
             return Err(fault);
@@ -281,7 +281,7 @@ impl<R: Recorder> Solver<R> {
         ensures same_learnt { self.new.learnt.items ≡ self.old.learnt.items }
         ensures vars { self.new.vars ≡ self.old.vars }
     {
-        self.recorder.forgot(id)?;
+        self.recorder.forget(id)?;
         self.trail.detach(&self.arena, id);
         self.arena.forget(id);
         self.live = self.live.saturating_sub(1);

@@ -17,7 +17,7 @@ use Rattle.rail_spec.specs.Dispatches.{is_granted, has_released, has_cleared, is
 use Rattle.rail_spec.specs.Dispatches.{state_at, of_plan}
 use Rattle.rail_spec.specs.Visits.{visit_tick}
 use Rattle.slice_spec.specs.Holders.{count_at, next_at, holder_for, holder_at, is_within, reaches, grants_reach, reaches_holder, IsClosedFamily}
-use Rattle.cone_spec.proofs.Running.{run_up_to, is_granted_up_to, granted_at_least, granted_cleared}
+use Rattle.rail_laws.proofs.Running.{run_up_to, is_granted_up_to, granted_at_least, granted_cleared}
 use Rattle.slice_spec.proofs.Slicing.{in_trains_back}
 use Rattle.cone_spec.proofs.Saying.{in_trains}
 use Rattle.slice_spec.proofs.Holders.{Latest, latest_some, all_out, has_released_up_to}

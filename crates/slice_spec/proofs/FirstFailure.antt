@@ -19,7 +19,7 @@ use Rattle.rail_base.proofs.Members.{In, and_left, and_right, and_both, list_all
 use Rattle.rail_base.specs.Admission.{is_from}
 use Rattle.slice_spec.specs.Holders.{count_at}
 use Rattle.slice_spec.proofs.Slicing.{in_trains_back}
-use Rattle.slice_spec.proofs.Sorted.{all_pairs_append, all_pairs_flat, all_pairs_map, count_sorted, trains_sorted}
+use Rattle.cone_spec.proofs.Sorted.{all_pairs_append, all_pairs_flat, all_pairs_map, count_sorted, trains_sorted}
 use Rattle.slice_spec.proofs.SliceShown.{names_trains}
 use Rattle.slice_spec.proofs.SliceDesign.{counts}
 use Rattle.cone_spec.proofs.Refusing.{entry_in}

@@ -14,7 +14,7 @@ use Rattle.rail_laws.proofs.Deciding.{least_gives, least_stays}
 use Rattle.rail_spec.specs.Dispatches.{of_plan}
 use Rattle.cone_spec.specs.Validity.{is_before}
 use Rattle.slice_spec.specs.Holders.{is_later, clear_tick, later_of, latest}
-use Rattle.cone_spec.proofs.Running.{idle_at_first, released_up_to}
+use Rattle.rail_laws.proofs.Running.{idle_at_first, released_up_to}
 use Rattle.rail_base.proofs.Lists.{list_all_from, in_map, in_filter_back}
 use Rattle.std.specs.Prelude.{fold}
 

@@ -15,7 +15,7 @@ use Rattle.rail_spec.specs.Requirements.{most_ticks, is_certain, is_after}
 use Rattle.rail_spec.specs.Visits.{visit_tick}
 use Rattle.rail_spec.specs.Dispatches.{is_granted, has_released, has_cleared, state_at, of_plan}
 use Rattle.rail_laws.proofs.Deciding.{least_gives}
-use Rattle.cone_spec.proofs.Running.{is_granted_up_to, granted_cleared}
+use Rattle.rail_laws.proofs.Running.{is_granted_up_to, granted_cleared}
 use Rattle.slice_spec.specs.Holders.{clear_tick, holder_at, is_within, reaches, grants_reach, reaches_holder, IsClosedFamily}
 use Rattle.slice_spec.specs.Leasts.{violation_horizons}
 use Rattle.slice_spec.proofs.Holders.{least_found, not_at_first, has_released_up_to}

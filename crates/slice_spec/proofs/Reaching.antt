@@ -11,7 +11,7 @@ use Rattle.rail_spec.specs.Plans.{route_at, shared, length_mm, release_offset}
 use Rattle.rail_base.specs.Stations.{train_length}
 use Rattle.rail_spec.specs.Dispatches.{state_of, Dispatch, routes_before, has_released, has_cleared, is_ready, granted_with, granted_after, state_at}
 use Rattle.rail_base.proofs.Members.{In, list_all_at, below_or_not, same_bool}
-use Rattle.cone_spec.proofs.Running.{granted_at_least, granted_after_more, run_up_to}
+use Rattle.rail_laws.proofs.Running.{granted_at_least, granted_after_more, run_up_to}
 use Rattle.cone_spec.proofs.Agreement.{Meeting, Agree, at_place, slice_get-append, slice_get-end, released_same, stays_to, ready_in_second, step, at_first}
 use Rattle.rail_base.proofs.Lists.{list_all_from}
 

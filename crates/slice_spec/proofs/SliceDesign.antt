@@ -27,7 +27,7 @@ use Rattle.cone_spec.specs.Clauses.{is_path_violation, clause_of_cone, is_false_
 use Rattle.rail_base.specs.Admission.{is_from}
 use Rattle.slice_spec.specs.Holders.{count_at, next_at, holder_for, holder_at, is_the, is_holder, reaches}
 use Rattle.slice_spec.specs.Slices.{past_last, is_next, slice_train, is_slice_pair, slice_pairs, slice_with, names}
-use Rattle.cone_spec.proofs.Running.{first_is}
+use Rattle.rail_laws.proofs.Running.{first_is}
 use Rattle.cone_spec.proofs.Agreement.{at_place}
 use Rattle.cone_spec.proofs.Saying.{has_in, in_trains, is_command_same, is_command_self}
 use Rattle.cone_spec.proofs.Naming.{in_has_route}
@@ -37,7 +37,8 @@ use Rattle.slice_spec.proofs.Slicing.{Failed, within_last, named_slice, enough, 
 use Rattle.slice_spec.proofs.SliceHeld.{of_trains, get_take, next_named, all_granted, all_holders_fit}
 use Rattle.slice_spec.proofs.SliceShown.{names_trains, slice_shown, reach_horizon, reaches_it}
 use Rattle.slice_spec.proofs.SliceDenied.{slice_denied}
-use Rattle.slice_spec.proofs.Sorted.{pairs_neighbors, all_pairs_filter, all_pairs_map, trains_sorted, pairs_sorted, pairs_take, neighbors_take, map-take, in_longer_take}
+use Rattle.cone_spec.proofs.Sorted.{pairs_neighbors, all_pairs_filter, all_pairs_map, trains_sorted, pairs_sorted}
+use Rattle.slice_spec.proofs.Prefixes.{pairs_take, neighbors_take, map-take, in_longer_take}
 use Rattle.rail_base.proofs.Lists.{list_all_from, in_filter_back, length-map}
 use Rattle.rail_laws.proofs.Standing.{in_path, at_in}
 use Rattle.rail_laws.proofs.Given.{command_in_path, same_route}

@@ -20,7 +20,7 @@ use Rattle.cone_spec.specs.Cones.{named, of_cone, all_free}
 use Rattle.cone_spec.specs.Validity.{granted_at, free_granted, just_granted, holds_up, holder_needed, holder_fits}
 use Rattle.slice_spec.specs.Holders.{count_at, next_at, holder_at, holder_for, latest, is_the, reaches_holder}
 use Rattle.slice_spec.specs.Slices.{is_next, slice_train, names, is_slice_pair, slice_with}
-use Rattle.cone_spec.proofs.Running.{run_up_to, granted_at_least}
+use Rattle.rail_laws.proofs.Running.{run_up_to, granted_at_least}
 use Rattle.cone_spec.proofs.Agreement.{released_same}
 use Rattle.cone_spec.proofs.Saying.{in_has, in_trains, is_command_self}
 use Rattle.slice_spec.proofs.Holders.{Latest, latest_none, latest_some, all_out}

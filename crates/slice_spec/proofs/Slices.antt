@@ -15,7 +15,7 @@ use Rattle.cone_spec.specs.Validity.{is_valid_cone}
 use Rattle.cone_spec.specs.Clauses.{clause_of_cone, is_false_of}
 use Rattle.slice_spec.specs.Holders.{count_at, is_holder, IsClosedFamily, GivesEach, holder_at}
 use Rattle.slice_spec.specs.Slices.{past_last, named_count, slice_of, whole_cone, slice_with, slice_pairs, whole_train, slice_train, names}
-use Rattle.cone_spec.proofs.Running.{granted_on_path, idle_at_first}
+use Rattle.rail_laws.proofs.Running.{granted_on_path, idle_at_first}
 use Rattle.rail_base.specs.declared.state.TrainState.{TrainState}
 use Rattle.slice_spec.proofs.Slicing.{Failed, in_trains_back}
 use Rattle.slice_spec.proofs.SliceShown.{names_trains}

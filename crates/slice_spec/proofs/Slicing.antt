@@ -20,7 +20,7 @@ use Rattle.cone_spec.specs.Cones.{unnamed, first_named, named, free_path, has_ro
 use Rattle.cone_spec.specs.Cones as cone
 use Rattle.slice_spec.specs.Holders.{holder_for, count_at, next_at, holder_at, is_the, is_holder, IsClosedFamily, grants_reach}
 use Rattle.slice_spec.specs.Slices.{past_last, is_next, slice_train, names, is_slice_pair, slice_pairs, slice_with}
-use Rattle.cone_spec.proofs.Running.{idle_at_first, granted_on_path}
+use Rattle.rail_laws.proofs.Running.{idle_at_first, granted_on_path}
 use Rattle.cone_spec.proofs.Agreement.{Meeting, Agree, before_first-append, before_first-in}
 use Rattle.slice_spec.proofs.Reaching.{Reaches, reaching}
 use Rattle.cone_spec.proofs.Saying.{has_in, in_has, in_trains, is_of_in_all, is_command_same, is_command_self}

@@ -1,5 +1,5 @@
 -- One more tick of the history of a run.
-use Rattle.std.proofs.Common.{◌≡◌, ℕ, zero, suc, ◌+◌, ◌-◌, ◌≤◌, Bool, true, false, nat_le, nat_lt, List, [], ◌∷◌, ◌++◌, map, flat_map, Option, None, Some, option_map, refl, sym, ap, ap₂, ◌∙◌, arith}
+use Rattle.std.proofs.Common.{◌≡◌, ℕ, zero, suc, ◌+◌, ◌-◌, ◌≤◌, Bool, true, false, nat_le, nat_lt, List, [], ◌∷◌, map, Option, None, Some, option_map, refl, sym, ap, ap₂, ◌∙◌, arith}
 use Rattle.std.specs.List.{enumerate_from}
 use Rattle.rail_base.specs.declared.station.Station.{Station}
 use Rattle.rail_base.specs.declared.station.NodeNo.{NodeNo}
@@ -13,7 +13,6 @@ use Rattle.rail_base.specs.declared.state.TrainState.{TrainState}
 use Rattle.rail_base.specs.Numbering.{or_this, least}
 use Rattle.rail_base.specs.Routes.{route_at, sections}
 use Rattle.rail_base.proofs.Members.{map-map}
-use Rattle.std.proofs.lemmas.List.{map-append}
 use Rattle.rail_spec.specs.Visits.{is_passed, pass_tick, path_nodes_of_train, visits_of_train, passed}
 use Rattle.rail_spec.specs.Plans.{path}
 use Rattle.rail_spec.specs.Dispatches.{state_of, of_plan, state_at}
@@ -21,15 +20,8 @@ use Rattle.rail_base.specs.declared.history.TrainHistory.{TrainHistory}
 use Rattle.rail_spec.specs.Histories.{grant_tick, granted, released, visit_made, train_history}
 use Rattle.rail_course.specs.declared.journey.Release.{Release}
 use Rattle.rail_course.specs.Releases.{is_released, release_for, releases_of_route, releases_of_train}
-use Rattle.tick_sim.specs.Marks.{mark_grants, mark_passes, mark_releases, mark_visits, made_now, made_or}
-
-map-flat_map : {X Y Z : Type 0} (f : Y → Z) (g : X → List Y) (xs : List X) → map f (flat_map g xs) ≡ flat_map (λ x. map f (g x)) xs
-map-flat_map f g [] = refl
-map-flat_map f g (x ∷ xs) = map-append f (g x) (flat_map g xs) ∙ ap (λ ys. map f (g x) ++ ys) (map-flat_map f g xs)
-
-flat_map-each : {X Y : Type 0} (f g : X → List Y) (xs : List X) → ((x : X) → f x ≡ g x) → flat_map f xs ≡ flat_map g xs
-flat_map-each f g [] h = refl
-flat_map-each f g (x ∷ xs) h = ap₂ (λ a b. a ++ b) (h x) (flat_map-each f g xs h)
+use Rattle.rail_course.specs.Marks.{mark_grants, mark_passes, mark_releases, mark_visits, made_now, made_or}
+use Rattle.rail_base.proofs.Lists.{map-flat_map, flat_map-each}
 
 module _ (d : Station) (routes : List Route) (plan : List (List Command)) (t : TrainNo) where
   abbrev now : ℕ → TrainState

@@ -1,4 +1,3 @@
 -- Runs as the simulator makes them.
-pub mod Marks
 pub mod Running
 pub mod Pairs

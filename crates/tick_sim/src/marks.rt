@@ -4,7 +4,7 @@ ghost use Rattle.std.specs.Prelude.{◌≡◌, IfOk, None, map};
 ghost use Rattle.rail_base.specs.Numbering.{or_this};
 ghost use Rattle.rail_spec.specs.Visits.{is_passed};
 ghost use Rattle.rail_course.specs.Releases.{is_released};
-ghost use Rattle.tick_sim.specs.Marks.{made_or, mark_grants, mark_passes, mark_releases, mark_visits};
+ghost use Rattle.rail_course.specs.Marks.{made_or, mark_grants, mark_passes, mark_releases, mark_visits};
 
 use rail_base::route::RouteNo;
 use rail_base::state::{PathNode, TrainState};

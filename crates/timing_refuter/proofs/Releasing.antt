@@ -17,7 +17,7 @@ use Rattle.rail_spec.specs.Dispatches.{state_at, has_released}
 use Rattle.rail_spec.specs.Dispatches.{of_plan}
 use Rattle.rail_spec.specs.Histories.{released, release_tick, history_at, train_history}
 use Rattle.rail_laws.proofs.Verdicts.{none_found, found_in, found_passes}
-use Rattle.cone_spec.proofs.Running.{released_up_to}
+use Rattle.rail_laws.proofs.Running.{released_up_to}
 use Rattle.slice_spec.specs.Holders.{clear_tick, later_of}
 use Rattle.timing_refuter.specs.declared.clearing.Clearing.{Clearing}
 use Rattle.timing_refuter.specs.Clearings.{is_entry, later_tick, later_clearing, is_after, clearing}

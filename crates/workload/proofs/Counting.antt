@@ -1,14 +1,6 @@
 -- Lists that are put together part by part.
-use Rattle.std.proofs.Common.{◌≡◌, ℕ, suc, ◌+◌, ◌-◌, ◌<◌, List, [], ◌∷◌, ◌++◌, map, flat_map, sym, ap, ◌∙◌, arith}
+use Rattle.std.proofs.Common.{◌≡◌, ℕ, List, [], ◌∷◌, ◌++◌, map, flat_map, sym, ap, ◌∙◌}
 use Rattle.std.proofs.lemmas.List.{append_assoc}
-use Rattle.rail_base.specs.Numbering.{count_from}
-
--- the numbers from one on: this one, and those from the next on
-pub count_next : (i n : ℕ) → i < n → count_from i (n - i) ≡ i ∷ count_from (i + 1) (n - (i + 1))
-count_next i n h = ap (count_from i) (less i n h)
-  where
-    less : (i n : ℕ) → i < n → n - i ≡ suc (n - (i + 1))
-    less i n h = omega arith
 
 module _ {Y : Type 0} (old new all : List Y) (now later : List ℕ) (i : ℕ) (is : now ≡ i ∷ later) where
   -- one more member

@@ -1,8 +1,8 @@
 use Rattle.std.proofs.Common.{map, ap, sym, ◌∙◌}
 use Rattle.rail_base.specs.Routes.{route_at}
-use Rattle.cone_clause.proofs.Gathering.{drop_end}
-use Rattle.cone_clause.proofs.Further.{further_after, further_first, further_stop, further_next}
+use Rattle.cone_spec.proofs.Further.{further_after, further_first, further_stop, further_next}
 use Rattle.cone_clause.proofs.onward.starts_no_other.Goals as goal
+use Rattle.cone_form.proofs.Walks.{drop_end}
 
 pub loop-number-init : goal.loop-number-init
 loop-number-init c = further_first c.args.route.now (map (route_at c.args.routes.now) c.args.path.now)

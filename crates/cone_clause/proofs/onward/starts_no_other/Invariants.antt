@@ -1,7 +1,7 @@
 use Rattle.std.proofs.Common.{◌≡◌, drop, map}
 use Rattle.rail_base.specs.Routes.{route_at}
 use Rattle.cone_spec.specs.Clauses.{goes_further}
-use Rattle.cone_clause.proofs.Further.{further_after}
+use Rattle.cone_spec.proofs.Further.{further_after}
 use Rattle.cone_clause.proofs.onward.starts_no_other.Given as goal
 
 -- what is left to ask says the same

@@ -1,7 +1,8 @@
 use Rattle.std.proofs.Common.{◌==◌, ◌+◌, ◌++◌, [], if◌then◌else◌, ap, ◌∙◌}
 use Rattle.contending.specs.Rows.{commands_in, rivals_of_train}
-use Rattle.contending.proofs.Gathering.{count_next, part_next}
+use Rattle.contending.proofs.Gathering.{part_next}
 use Rattle.contending.proofs.rivals.rivals_by_rows.Goals as goal
+use Rattle.rail_base.proofs.Lists.{count_next}
 
 pub loop-number-preserved : goal.loop-number-preserved
 loop-number-preserved c =

@@ -12,8 +12,8 @@ pub loop-left-init : goal.loop-left-init
 loop-left-init c =
     let may = passes_may_be_marked c.args.state c.args.tick c.args.path_nodes.now c.args.passes.now c.args.milestones.now c.requires.milestones c.requires.in_turn in
     record {
-      within = c.reached-left.ensures.count;
-      marked = begins (pass_made c.args.state c.args.tick) (λ (n : PathNode). n.offset) (λ (p : NodeNo × Option ℕ). p.1) c.args.path_nodes.now c.args.passes.now no_node no_pass c.args.milestones.now c.args.tick c.args.state.x may c.reached-left.result c.reached-left.ensures.ahead;
+      within = c.count_reached-left.ensures.count;
+      marked = begins (pass_made c.args.state c.args.tick) (λ (n : PathNode). n.offset) (λ (p : NodeNo × Option ℕ). p.1) c.args.path_nodes.now c.args.passes.now no_node no_pass c.args.milestones.now c.args.tick c.args.state.x may c.count_reached-left.result c.count_reached-left.ensures.ahead;
     }
 
 pub loop-left-preserved : goal.loop-left-preserved

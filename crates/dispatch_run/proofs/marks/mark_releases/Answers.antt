@@ -13,8 +13,8 @@ pub loop-left-init : goal.loop-left-init
 loop-left-init c =
     let may = releases_may_be_marked c.args.state c.args.tick c.args.releases.now c.args.entries.now c.args.milestones.now c.requires.milestones c.requires.in_turn in
     record {
-      within = c.reached-left.ensures.count;
-      marked = begins (release_made c.args.state c.args.tick) (λ (r : Release). r.place) (λ (e : RouteNo × SectionNo × Option ℕ). e.2) c.args.releases.now c.args.entries.now no_release no_entry c.args.milestones.now c.args.tick c.args.state.x may c.reached-left.result c.reached-left.ensures.ahead;
+      within = c.count_reached-left.ensures.count;
+      marked = begins (release_made c.args.state c.args.tick) (λ (r : Release). r.place) (λ (e : RouteNo × SectionNo × Option ℕ). e.2) c.args.releases.now c.args.entries.now no_release no_entry c.args.milestones.now c.args.tick c.args.state.x may c.count_reached-left.result c.count_reached-left.ensures.ahead;
     }
 
 pub loop-left-preserved : goal.loop-left-preserved

@@ -1,9 +1,10 @@
 use Rattle.std.proofs.Common.{◌≡◌, ◌<◌, ◌+◌, ◌*◌, ◌-◌, [], ◌∷◌, ◌++◌, ap, ◌∙◌, arith}
 use Rattle.workload.specs.Track.{edge, track}
 use Rattle.workload.specs.Draws.{below, drawn, track_length}
-use Rattle.workload.proofs.Counting.{count_next, push_next}
+use Rattle.workload.proofs.Counting.{push_next}
 use Rattle.workload.proofs.Drawing.{track_drawn, next_track}
 use Rattle.workload.proofs.edges.push_tracks.Goals as goal
+use Rattle.rail_base.proofs.Lists.{count_next}
 
 pub loop-track-preserved : goal.loop-track-preserved
 loop-track-preserved c =

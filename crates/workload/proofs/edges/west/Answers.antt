@@ -1,7 +1,8 @@
 use Rattle.std.proofs.Common.{◌<◌, arith}
 use Rattle.workload.specs.Track.{west_legs}
-use Rattle.workload.proofs.Counting.{count_next, part_next}
+use Rattle.workload.proofs.Counting.{part_next}
 use Rattle.workload.proofs.edges.west.Goals as goal
+use Rattle.rail_base.proofs.Lists.{count_next}
 
 pub loop-track-preserved : goal.loop-track-preserved
 loop-track-preserved c =

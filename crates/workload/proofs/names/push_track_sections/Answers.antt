@@ -1,7 +1,8 @@
 use Rattle.std.proofs.Common.{ℕ, ◌<◌, ◌+◌, List, [], ◌∷◌, ◌++◌, codes, ◌∙◌, arith}
 use Rattle.workload.specs.Track.{numbered_name}
-use Rattle.workload.proofs.Counting.{count_next, push_next}
+use Rattle.workload.proofs.Counting.{push_next}
 use Rattle.workload.proofs.names.push_track_sections.Goals as goal
+use Rattle.rail_base.proofs.Lists.{count_next}
 
 pub loop-track-preserved : goal.loop-track-preserved
 loop-track-preserved c =

@@ -1,7 +1,8 @@
 use Rattle.std.proofs.Common.{◌<◌, ◌+◌, [], ◌∷◌, arith}
 use Rattle.workload.specs.Track.{inner}
-use Rattle.workload.proofs.Counting.{count_next, part_next, push_two}
+use Rattle.workload.proofs.Counting.{part_next, push_two}
 use Rattle.workload.proofs.nodes.push_inner_pairs.Goals as goal
+use Rattle.rail_base.proofs.Lists.{count_next}
 
 pub loop-track-preserved : goal.loop-track-preserved
 loop-track-preserved c =

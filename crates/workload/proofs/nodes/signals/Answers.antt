@@ -1,8 +1,9 @@
 use Rattle.std.proofs.Common.{◌<◌, ◌+◌, [], ◌∷◌, ◌++◌, codes, ◌∙◌, arith}
 use Rattle.rail_base.specs.declared.station.Side.TheVariants.{A, B}
 use Rattle.workload.specs.Track.{numbered_name, signals_of}
-use Rattle.workload.proofs.Counting.{count_next, part_next, push_two}
+use Rattle.workload.proofs.Counting.{part_next, push_two}
 use Rattle.workload.proofs.nodes.signals.Goals as goal
+use Rattle.rail_base.proofs.Lists.{count_next}
 
 pub loop-track-preserved : goal.loop-track-preserved
 loop-track-preserved c =

@@ -1,9 +1,10 @@
 use Rattle.std.proofs.Common.{◌<◌, ◌+◌, ◌*◌, ◌==◌, [], ◌∷◌, ◌++◌, ap, ◌∙◌, arith}
 use Rattle.workload.specs.Draws.{below, runs_east, time_of}
 use Rattle.workload.specs.Traffic.{train, within}
-use Rattle.workload.proofs.Counting.{count_next, push_next}
+use Rattle.workload.proofs.Counting.{push_next}
 use Rattle.workload.proofs.Drawing.{first_drawn, second_drawn, next_train}
 use Rattle.workload.proofs.traffic.make_traffic.Goals as goal
+use Rattle.rail_base.proofs.Lists.{count_next}
 
 pub loop-number-preserved : goal.loop-number-preserved
 loop-number-preserved c =

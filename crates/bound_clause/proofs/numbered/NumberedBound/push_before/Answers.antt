@@ -1,7 +1,6 @@
 use Rattle.std.proofs.Common.{◌≡◌, get_or, filter, List, [], ◌∷◌, ◌++◌, map, refl, sym, ap, ◌∙◌, false}
 use Rattle.sat_clause.specs.declared.lit.Lit.{Lit}
 use Rattle.cone_clause.specs.Numbered.{lit_of}
-use Rattle.cone_clause.proofs.Gathering.{drop_next, drop_end}
 use Rattle.bound_clause.specs.Spoken.{station_of, routes_in, numbered, pairs_in}
 use Rattle.rail_base.specs.declared.plan.Command.{Command}
 use Rattle.cone_spec.specs.Clauses.{Before, Literal}
@@ -12,6 +11,8 @@ use Rattle.cone_clause.proofs.Said.{before_of}
 use Rattle.bound_clause.proofs.Placing.{turned}
 use Rattle.bound_clause.proofs.Putting.{put_next, put_end}
 use Rattle.bound_clause.proofs.numbered.NumberedBound.push_before.Goals as goal
+use Rattle.cone_form.proofs.Walks.{drop_end}
+use Rattle.std.proofs.lemmas.List.{drop_more}
 
 none : Command
 none = record { train = record { 0 = 0 }; route = record { 0 = 0 } }
@@ -28,7 +29,7 @@ before-requires c =
 
 pub loop-other-preserved : goal.loop-other-preserved
 unfolding none
-loop-other-preserved c = put_next (λ (e : Command). record { fact = Before e c.args.command; negated = false }) (lit_of (station_of c.args.self.now) (routes_in c.args.self.now) c.args.self.now.steps.count) c.loop-other.clause.items c.push.new.self.items _ _ _ _ (drop_next c.deref-other-items.result.now c.loop-other.other-index none c.loop-other-test.true)
+loop-other-preserved c = put_next (λ (e : Command). record { fact = Before e c.args.command; negated = false }) (lit_of (station_of c.args.self.now) (routes_in c.args.self.now) c.args.self.now.steps.count) c.loop-other.clause.items c.push.new.self.items _ _ _ _ (drop_more c.deref-other-items.result.now c.loop-other.other-index none c.loop-other-test.true)
     (c.in_ok-push.ensures.items ∙ ap (λ (x : Lit). c.loop-other.clause.items ++ x ∷ []) c.before-in-loop-other.ensures) c.loop-other.invariant
 
 pub returns : goal.returns

@@ -3,10 +3,11 @@ use Rattle.rail_base.specs.declared.plan.Command.{Command}
 use Rattle.rail_base.specs.declared.route.RouteNo.{RouteNo}
 use Rattle.rail_base.specs.Numbering.{count_from}
 use Rattle.cone_clause.specs.Numbered.{lit_of}
-use Rattle.cone_clause.proofs.Gathering.{count_next, mapped_next}
+use Rattle.cone_clause.proofs.Gathering.{mapped_next}
 use Rattle.bound_clause.specs.Said.{said_of_start}
 use Rattle.bound_clause.specs.Spoken.{station_of, routes_in, numbered}
 use Rattle.bound_clause.proofs.numbered.NumberedBound.push_starts.Goals as goal
+use Rattle.rail_base.proofs.Lists.{count_next}
 
 pub loop-number-init : goal.loop-number-init
 loop-number-init c =

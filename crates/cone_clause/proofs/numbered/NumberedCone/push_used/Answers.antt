@@ -4,11 +4,12 @@ use Rattle.rail_base.specs.declared.station.TrainNo.{TrainNo}
 use Rattle.rail_spec.specs.Plans.{commands_of}
 use Rattle.cone_spec.specs.Clauses.{Literal, used_literals}
 use Rattle.cone_clause.specs.Numbered.{lit_of}
-use Rattle.cone_clause.proofs.Gathering.{count_next, mapped_next}
+use Rattle.cone_clause.proofs.Gathering.{mapped_next}
 use Rattle.cone_clause.proofs.Walked.{path_routes, used_whole}
 use Rattle.cone_clause.proofs.Further.{empty_list, nothing_said}
 use Rattle.cone_clause.proofs.numbered.NumberedCone.push_used.Goals.{then-not-is_empty+in_ok-push_used_of, else-not-is_empty}
 use Rattle.cone_clause.proofs.numbered.NumberedCone.push_used.Goals as goal
+use Rattle.rail_base.proofs.Lists.{count_next}
 
 pub loop-number-init : goal.loop-number-init
 loop-number-init c = ap (λ ls. c.args.clause.now.items ++ map (lit_of c.args.self.now.contention.interlocking.now.design.station c.args.self.now.contention.interlocking.now.routes c.args.self.now.steps.count) ls) (used_whole c.args.self.now.contention.interlocking.now.design.station c.args.self.now.contention.interlocking.now.routes c.args.self.now.cone.now)

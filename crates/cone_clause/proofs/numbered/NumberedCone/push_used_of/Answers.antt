@@ -7,9 +7,10 @@ use Rattle.rail_base.specs.Routes.{route_at}
 use Rattle.rail_base.specs.Numbering.{count_from}
 use Rattle.cone_clause.specs.Numbered.{lit_of}
 use Rattle.cone_clause.specs.Spoken.{numbered, used}
-use Rattle.cone_clause.proofs.Gathering.{count_next, mapped_next}
+use Rattle.cone_clause.proofs.Gathering.{mapped_next}
 use Rattle.cone_clause.proofs.Signing.{used_signed}
 use Rattle.cone_clause.proofs.numbered.NumberedCone.push_used_of.Goals as goal
+use Rattle.rail_base.proofs.Lists.{count_next}
 
 pub loop-number-init : goal.loop-number-init
 loop-number-init c =

@@ -1,8 +1,9 @@
 use Rattle.std.proofs.Common.{◌<◌, ◌+◌, ap, length, arith, map}
 use Rattle.rail_base.specs.declared.plan.Command.{Command}
 use Rattle.rail_base.specs.declared.route.RouteNo.{RouteNo}
-use Rattle.contending.proofs.Gathering.{count_next, push_next}
+use Rattle.contending.proofs.Gathering.{push_next}
 use Rattle.plan_encoding.proofs.encoder.Encoder.add_commands.Goals as goal
+use Rattle.rail_base.proofs.Lists.{count_next}
 
 pub loop-number-preserved : goal.loop-number-preserved
 loop-number-preserved c =

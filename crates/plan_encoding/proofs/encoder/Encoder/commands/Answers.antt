@@ -1,7 +1,8 @@
 use Rattle.std.proofs.Common.{◌<◌, ◌+◌, ap, length, arith, map}
 use Rattle.rail_spec.specs.Plans.{commands_of}
-use Rattle.contending.proofs.Gathering.{count_next, part_next}
+use Rattle.contending.proofs.Gathering.{part_next}
 use Rattle.plan_encoding.proofs.encoder.Encoder.commands.Goals as goal
+use Rattle.rail_base.proofs.Lists.{count_next}
 
 pub loop-number-preserved : goal.loop-number-preserved
 loop-number-preserved c =

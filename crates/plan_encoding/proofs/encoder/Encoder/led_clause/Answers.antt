@@ -1,9 +1,9 @@
 use Rattle.std.proofs.Common.{◌-◌}
 use Rattle.clause_spec.specs.Variables.{if_given, numbered}
 use Rattle.contending.proofs.Gathering.{mapped_next}
-use Rattle.contending.proofs.Gathering.{drop_next}
+use Rattle.std.proofs.lemmas.List.{drop_more}
 use Rattle.plan_encoding.proofs.encoder.Encoder.led_clause.Goals as goal
 
 pub loop-route-preserved : goal.loop-route-preserved
 loop-route-preserved c =
-    mapped_next c.loop-route.clause.items c.push_if_given.new.clause.items _ _ _ _ (drop_next c.args.leading.now c.loop-route.route-index _ c.loop-route-test.true) (λ q. if_given (record { train = c.args.command.train; route = q }) (c.args.step - 1)) (numbered c.args.self.now.interlocking.now.design.station c.args.self.now.interlocking.now.routes c.args.self.now.steps.count) c.in_ok-push_if_given.ensures c.loop-route.invariant
+    mapped_next c.loop-route.clause.items c.push_if_given.new.clause.items _ _ _ _ (drop_more c.args.leading.now c.loop-route.route-index _ c.loop-route-test.true) (λ q. if_given (record { train = c.args.command.train; route = q }) (c.args.step - 1)) (numbered c.args.self.now.interlocking.now.design.station c.args.self.now.interlocking.now.routes c.args.self.now.steps.count) c.in_ok-push_if_given.ensures c.loop-route.invariant

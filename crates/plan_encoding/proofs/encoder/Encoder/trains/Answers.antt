@@ -1,7 +1,8 @@
 use Rattle.std.proofs.Common.{ℕ, ◌+◌, ◌<◌, length, arith}
 use Rattle.rail_base.specs.declared.station.TrainNo.{TrainNo}
-use Rattle.contending.proofs.Gathering.{count_next, push_next}
+use Rattle.contending.proofs.Gathering.{push_next}
 use Rattle.plan_encoding.proofs.encoder.Encoder.trains.Goals as goal
+use Rattle.rail_base.proofs.Lists.{count_next}
 
 pub loop-number-preserved : goal.loop-number-preserved
 loop-number-preserved c =

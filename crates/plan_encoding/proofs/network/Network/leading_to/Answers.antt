@@ -1,8 +1,9 @@
 use Rattle.std.proofs.Common.{◌++◌, filter, sym, ap, ◌∙◌}
 use Rattle.rail_spec.specs.Plans.{route_at, goes_on}
-use Rattle.contending.proofs.Gathering.{drop_next, kept_next}
+use Rattle.contending.proofs.Gathering.{kept_next}
 use Rattle.plan_encoding.proofs.Tabled.{known_routes}
 use Rattle.plan_encoding.proofs.network.Network.leading_to.Goals as goal
+use Rattle.std.proofs.lemmas.List.{drop_more}
 
 pub route_at-requires : goal.route_at-requires
 route_at-requires c = known_routes c.args.self.now c.deref-number-items.result.now c.deref-number-items.ensures.value c.loop-number.number-index _ c.loop-number-test.true
@@ -14,5 +15,5 @@ loop-number-init c =
 
 pub loop-number-preserved : goal.loop-number-preserved
 loop-number-preserved c =
-    kept_next c.loop-number.found.items c.push_if.new.list.items _ _ _ _ (drop_next c.deref-number-items.result.now c.loop-number.number-index _ c.loop-number-test.true) (λ q. goes_on (route_at c.args.self.now.encoder.interlocking.now.routes q).finish c.args.start)
+    kept_next c.loop-number.found.items c.push_if.new.list.items _ _ _ _ (drop_more c.deref-number-items.result.now c.loop-number.number-index _ c.loop-number-test.true) (λ q. goes_on (route_at c.args.self.now.encoder.interlocking.now.routes q).finish c.args.start)
     (ap (λ r. goes_on r.finish c.args.start) (sym c.route_at.ensures) ∙ sym c.goes_on-ends.ensures) c.in_ok-push_if.ensures c.loop-number.invariant

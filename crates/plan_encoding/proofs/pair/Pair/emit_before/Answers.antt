@@ -6,8 +6,8 @@ use Rattle.plan_encoding.proofs.pair.Pair.emit_before.Goals as goal
 pub returns-in_err-emit-clause-err : goal.returns-in_err-emit-clause-err
 returns-in_err-emit-clause-err c =
     handed_on _ c.from_residual.result c.in_err-emit.field-0.0 c.from_residual.ensures.1
-    (next_one_fails c.args.self.now.encoder _ _ _ (next_count_one (first_given c.args.self.now) c.loop-step.step (c.args.self.now.encoder.steps.count) c.loop-step-test.true) (c.holds.result ∷ c.not_given.result ∷ c.given.result ∷ c.not_given-in-loop-step.result ∷ []) (four_lits _ _ _ _ _ _ _ _ (c.holds.ensures ∙ ap (λ v. record { var = v; negated = false }) c.args.self.now.number) c.not_given.ensures c.given.ensures c.not_given-in-loop-step.ensures) c.loop-step.sink _ _ c.in_err-emit.ensures.err c.loop-step.invariant)
+    (next_one_fails c.args.self.now.encoder _ _ _ (next_count_one (first_given c.args.self.now) c.loop-step.step (c.args.self.now.encoder.steps.count) c.loop-step-test.true) (c.holds.result ∷ c.not_given_lit.result ∷ c.given_lit.result ∷ c.not_given_lit-in-loop-step.result ∷ []) (four_lits _ _ _ _ _ _ _ _ (c.holds.ensures ∙ ap (λ v. record { var = v; negated = false }) c.args.self.now.number) c.not_given_lit.ensures c.given_lit.ensures c.not_given_lit-in-loop-step.ensures) c.loop-step.sink _ _ c.in_err-emit.ensures.err c.loop-step.invariant)
 
 pub loop-step-preserved : goal.loop-step-preserved
 loop-step-preserved c =
-    next_one c.args.self.now.encoder _ _ _ (next_count_one (first_given c.args.self.now) c.loop-step.step (c.args.self.now.encoder.steps.count) c.loop-step-test.true) (c.holds.result ∷ c.not_given.result ∷ c.given.result ∷ c.not_given-in-loop-step.result ∷ []) (four_lits _ _ _ _ _ _ _ _ (c.holds.ensures ∙ ap (λ v. record { var = v; negated = false }) c.args.self.now.number) c.not_given.ensures c.given.ensures c.not_given-in-loop-step.ensures) c.loop-step.sink c.emit.new.self _ c.in_ok-emit.ensures.ok c.loop-step.invariant
+    next_one c.args.self.now.encoder _ _ _ (next_count_one (first_given c.args.self.now) c.loop-step.step (c.args.self.now.encoder.steps.count) c.loop-step-test.true) (c.holds.result ∷ c.not_given_lit.result ∷ c.given_lit.result ∷ c.not_given_lit-in-loop-step.result ∷ []) (four_lits _ _ _ _ _ _ _ _ (c.holds.ensures ∙ ap (λ v. record { var = v; negated = false }) c.args.self.now.number) c.not_given_lit.ensures c.given_lit.ensures c.not_given_lit-in-loop-step.ensures) c.loop-step.sink c.emit.new.self _ c.in_ok-emit.ensures.ok c.loop-step.invariant

@@ -1,9 +1,10 @@
 use Rattle.std.proofs.Common.{◌++◌, filter, sym, ap, ◌∙◌}
 use Rattle.alike_clause_spec.specs.Turns.{begins}
 use Rattle.plan_encoding.specs.Encoders.{over}
-use Rattle.contending.proofs.Gathering.{kept_next, drop_next}
+use Rattle.contending.proofs.Gathering.{kept_next}
 use Rattle.plan_encoding.proofs.Tabled.{known_numbers}
 use Rattle.plan_encoding.proofs.tables.Tables.beginnings.Goals as goal
+use Rattle.std.proofs.lemmas.List.{drop_more}
 
 pub loop-route-init : goal.loop-route-init
 loop-route-init c =
@@ -15,5 +16,5 @@ begins-belongs-requires c = record { train = c.requires; route = known_numbers c
 
 pub loop-route-preserved : goal.loop-route-preserved
 loop-route-preserved c =
-    kept_next c.loop-route.routes.items c.push_if.new.list.items _ _ _ _ (drop_next c.deref-route-items.result.now c.loop-route.route-index _ c.loop-route-test.true)
+    kept_next c.loop-route.routes.items c.push_if.new.list.items _ _ _ _ (drop_more c.deref-route-items.result.now c.loop-route.route-index _ c.loop-route-test.true)
     (over c.args.self.now.encoder begins c.args.train) (sym c.begins-belongs.ensures) c.in_ok-push_if.ensures c.loop-route.invariant

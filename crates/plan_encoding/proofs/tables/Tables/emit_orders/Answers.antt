@@ -9,7 +9,8 @@ use Rattle.rail_base.specs.declared.plan.Command.{Command}
 use Rattle.clause_spec.specs.Clauses.{in_order}
 use Rattle.plan_encoding.proofs.Emission.{emitted_next, next_fails, handed_on}
 use Rattle.rail_spec.specs.Plans.{all_commands, contend}
-use Rattle.plan_encoding.proofs.Ordering.{length-kept, pairs_more, pairs_to, number_is}
+use Rattle.contending.proofs.Sized.{length-kept}
+use Rattle.plan_encoding.proofs.Ordering.{pairs_more, pairs_to, number_is}
 use Rattle.plan_encoding.proofs.Tabled.{next_rivals, commands_few, known_commands, known_rivals}
 use Rattle.plan_encoding.specs.Sinks.{emitted}
 use Rattle.plan_encoding.specs.Encoders.{over, numbered_clauses}

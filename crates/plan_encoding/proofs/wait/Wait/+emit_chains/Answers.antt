@@ -29,24 +29,24 @@ returns-then-total-self-clause-ok t c =
 pub onward-requires-clause-chain : goal.onward-requires-clause-chain
 onward-requires-clause-chain t c = subst (λ (rs : List RouteNo). All (IsRoute c.args.self.now.tables.now.encoder.interlocking.now.routes) rs) (sym (c.deref.ensures.value ∙ c.in_ok-push.ensures.items)) (all_longer c.args.self.now.tables.now.encoder.interlocking.now.routes c.args.chain.now.items c.args.route c.requires.chain c.requires.route)
 
-pub emit_waiting-requires-clause-chain : goal.emit_waiting-requires-clause-chain
-emit_waiting-requires-clause-chain t c = subst (λ (rs : List RouteNo). All (IsRoute c.args.self.now.tables.now.encoder.interlocking.now.routes) rs) (sym (c.deref-2.ensures.value ∙ c.in_ok-push.ensures.items)) (all_longer c.args.self.now.tables.now.encoder.interlocking.now.routes c.args.chain.now.items c.args.route c.requires.chain c.requires.route)
+pub emit_wait-requires-clause-chain : goal.emit_wait-requires-clause-chain
+emit_wait-requires-clause-chain t c = subst (λ (rs : List RouteNo). All (IsRoute c.args.self.now.tables.now.encoder.interlocking.now.routes) rs) (sym (c.deref-2.ensures.value ∙ c.in_ok-push.ensures.items)) (all_longer c.args.self.now.tables.now.encoder.interlocking.now.routes c.args.chain.now.items c.args.route c.requires.chain c.requires.route)
 
-pub emit_waiting-requires-clause-further : goal.emit_waiting-requires-clause-further
-emit_waiting-requires-clause-further t c = subst (λ (rs : List RouteNo). All (IsRoute c.args.self.now.tables.now.encoder.interlocking.now.routes) rs) (sym (c.deref-3.ensures.value ∙ c.in_ok-further.ensures)) (all_kept c.args.self.now.tables.now.encoder.interlocking.now.routes _)
+pub emit_wait-requires-clause-further : goal.emit_wait-requires-clause-further
+emit_wait-requires-clause-further t c = subst (λ (rs : List RouteNo). All (IsRoute c.args.self.now.tables.now.encoder.interlocking.now.routes) rs) (sym (c.deref-3.ensures.value ∙ c.in_ok-further.ensures)) (all_kept c.args.self.now.tables.now.encoder.interlocking.now.routes _)
 
-pub returns-in_err-emit_waiting-clause-err : goal.returns-in_err-emit_waiting-clause-err
-returns-in_err-emit_waiting-clause-err t c =
+pub returns-in_err-emit_wait-clause-err : goal.returns-in_err-emit_wait-clause-err
+returns-in_err-emit_wait-clause-err t c =
     let long = c.length_mm.ensures ∙ ap length_mm c.route_at-last.ensures in
     let from = c.from.ensures in
     let past = c.if-total-self.false in
     let covered = c.requires.covered in
     let some = c.if-more-eq0.false in
-    handed_on _ c.from_residual-in_err-emit_waiting.result c.in_err-emit_waiting.field-0.0 c.from_residual-in_err-emit_waiting.ensures.1
+    handed_on _ c.from_residual-in_err-emit_wait.result c.in_err-emit_wait.field-0.0 c.from_residual-in_err-emit_wait.ensures.1
     (next_fails c.args.self.now.tables.now.encoder _ _ _ (next_chain c.args.self.now.tables.now.encoder.interlocking.now.design.station c.args.self.now.tables.now.encoder.interlocking.now.routes c.args.self.now.tables.now.encoder.steps.count c.args.self.now.first c.args.self.now.second c.args.self.now.bound c.args.more c.args.chain.now.items c.deref-2.result.now c.deref-3.result.now c.args.route (omega arith)
     (sym (ap exits c.route_at-last.ensures) ∙ (sym c.exits.ensures ∙ c.if-exits.false)) (omega arith) (c.deref-2.ensures.value ∙ c.in_ok-push.ensures.items)
     (c.deref-3.ensures.value ∙ (c.in_ok-further.ensures ∙ ap (λ ch. onward c.args.self.now.tables.now.encoder.interlocking.now.routes ch c.args.route) (c.deref.ensures.value ∙ sym c.deref-2.ensures.value))))
-    c.args.sink.now _ _ c.in_err-emit_waiting.ensures.err refl)
+    c.args.sink.now _ _ c.in_err-emit_wait.ensures.err refl)
 
 pub loop-next-init : goal.loop-next-init
 loop-next-init t c =
@@ -58,11 +58,11 @@ loop-next-init t c =
     record {
       longer = c.in_ok-push.ensures.items;
       left =
-          ap (λ rs. emitted c.emit_waiting.new.sink (numbered_clauses c.args.self.now.tables.now.encoder (over c.args.self.now.tables.now.encoder waits_over c.args.self.now.first c.args.self.now.second (flat_map (chains c.args.self.now.tables.now.encoder.interlocking.now.routes (c.args.more - 1) c.args.self.now.bound (c.args.chain.now.items ++ c.args.route ∷ [])) rs)))) (c.deref-next-items.ensures.value ∙ sym c.deref-3.ensures.value)
+          ap (λ rs. emitted c.emit_wait.new.sink (numbered_clauses c.args.self.now.tables.now.encoder (over c.args.self.now.tables.now.encoder waits_over c.args.self.now.first c.args.self.now.second (flat_map (chains c.args.self.now.tables.now.encoder.interlocking.now.routes (c.args.more - 1) c.args.self.now.bound (c.args.chain.now.items ++ c.args.route ∷ [])) rs)))) (c.deref-next-items.ensures.value ∙ sym c.deref-3.ensures.value)
           ∙ emitted_next c.args.self.now.tables.now.encoder _ _ _ (next_chain c.args.self.now.tables.now.encoder.interlocking.now.design.station c.args.self.now.tables.now.encoder.interlocking.now.routes c.args.self.now.tables.now.encoder.steps.count c.args.self.now.first c.args.self.now.second c.args.self.now.bound c.args.more c.args.chain.now.items c.deref-2.result.now c.deref-3.result.now c.args.route (omega arith)
           (sym (ap exits c.route_at-last.ensures) ∙ (sym c.exits.ensures ∙ c.if-exits.false)) (omega arith) (c.deref-2.ensures.value ∙ c.in_ok-push.ensures.items)
           (c.deref-3.ensures.value ∙ (c.in_ok-further.ensures ∙ ap (λ ch. onward c.args.self.now.tables.now.encoder.interlocking.now.routes ch c.args.route) (c.deref.ensures.value ∙ sym c.deref-2.ensures.value))))
-          c.args.sink.now c.emit_waiting.new.sink _ c.in_ok-emit_waiting.ensures.ok refl;
+          c.args.sink.now c.emit_wait.new.sink _ c.in_ok-emit_wait.ensures.ok refl;
     }
 
 pub emit_chains-requires : goal.emit_chains-requires

@@ -5,8 +5,8 @@ use Rattle.rail_base.specs.declared.station.TrainNo.{TrainNo}
 use Rattle.rail_base.specs.Numbering.{count_from}
 use Rattle.rail_course.specs.Itineraries.{IsTrainPathIn}
 use Rattle.rail_course.specs.declared.train_path.TrainPath.{TrainPath}
-use Rattle.rail_course.proofs.Numbered.{count_step}
 use Rattle.rail_course.proofs.itineraries.Itineraries.train_paths.Goals as goal
+use Rattle.rail_base.proofs.Lists.{count_step}
 
 pub loop-number-preserved : goal.loop-number-preserved
 loop-number-preserved c =

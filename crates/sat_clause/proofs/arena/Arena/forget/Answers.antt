@@ -1,4 +1,4 @@
-use Rattle.std.proofs.Common.{◌<◌, ◌-◌, length, ap, ◌∙◌, arith}
+use Rattle.std.proofs.Common.{◌-◌, ap, ◌∙◌, arith}
 use Rattle.sat_clause.specs.Clauses.{without}
 use Rattle.sat_clause.proofs.Laid.{forgets, forgotten-clauses, number-within}
 use Rattle.sat_clause.proofs.arena.Arena.forget.Goals as goal

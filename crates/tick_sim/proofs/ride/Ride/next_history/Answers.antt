@@ -1,6 +1,6 @@
 use Rattle.std.proofs.Common.{ap, ap₂, ◌∙◌}
 use Rattle.rail_spec.specs.Dispatches.{state_of}
-use Rattle.tick_sim.specs.Marks.{mark_grants, mark_passes, mark_releases, mark_visits}
+use Rattle.rail_course.specs.Marks.{mark_grants, mark_passes, mark_releases, mark_visits}
 use Rattle.tick_sim.proofs.Marking.{history_goes_on}
 use Rattle.tick_sim.proofs.ride.Ride.next_history.Goals as goal
 

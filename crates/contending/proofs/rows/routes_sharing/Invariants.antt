@@ -1,7 +1,7 @@
 use Rattle.std.proofs.Common.{◌≡◌, ◌+◌, ◌-◌, ◌++◌, map, filter, length}
 use Rattle.rail_base.specs.Numbering.{count_from}
 use Rattle.contending.specs.Rows.{shares, sharing}
-use Rattle.contending.proofs.rows.sharing.Given as goal
+use Rattle.contending.proofs.rows.routes_sharing.Given as goal
 
 -- what is found and what is left to find make all of it
 abbrev pub invariant-loop-number : goal.invariant-loop-number

@@ -3,7 +3,7 @@ use Rattle.rail_base.specs.Numbering.{count_from}
 use Rattle.plan_encoding.specs.Sinks.{emitted}
 use Rattle.plan_encoding.specs.Encoders.{numbered_clauses}
 use Rattle.plan_encoding.specs.Waits.{waits_at, waits_in}
-use Rattle.plan_encoding.proofs.wait.Wait.emit_waiting.Given as goal
+use Rattle.plan_encoding.proofs.wait.Wait.emit_wait.Given as goal
 
 -- what is left to list makes all of it
 abbrev pub invariant-loop-step : goal.invariant-loop-step

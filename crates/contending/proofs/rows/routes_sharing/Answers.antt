@@ -1,9 +1,10 @@
 use Rattle.std.proofs.Common.{ℕ, ◌+◌, ◌<◌, map, length, sym, ap, ◌∙◌, arith, append-nil}
 use Rattle.rail_base.specs.declared.route.RouteNo.{RouteNo}
 use Rattle.contending.specs.Rows.{shares}
-use Rattle.contending.proofs.Gathering.{count_next, kept_next}
-use Rattle.contending.proofs.rows.sharing.Goals.{then-share+in_ok-push, else-share}
-use Rattle.contending.proofs.rows.sharing.Goals as goal
+use Rattle.contending.proofs.Gathering.{kept_next}
+use Rattle.contending.proofs.rows.routes_sharing.Goals.{then-share+in_ok-push, else-share}
+use Rattle.contending.proofs.rows.routes_sharing.Goals as goal
+use Rattle.rail_base.proofs.Lists.{count_next}
 
 pub loop-number-preserved : goal.loop-number-preserved
 loop-number-preserved c =

@@ -1,7 +1,7 @@
 use Rattle.std.proofs.Common.{◌∙◌}
 use Rattle.plan_encoding.specs.Waits.{waits_in}
 use Rattle.plan_encoding.proofs.Emission.{next_one, next_one_fails, next_count_one, handed_on}
-use Rattle.plan_encoding.proofs.wait.Wait.emit_waiting.Goals as goal
+use Rattle.plan_encoding.proofs.wait.Wait.emit_wait.Goals as goal
 
 pub returns-in_err-emit-clause-err : goal.returns-in_err-emit-clause-err
 returns-in_err-emit-clause-err c =

@@ -1,7 +1,7 @@
 use Rattle.std.proofs.Common.{rules, nat_le, leb-true, leb-false}
 use Rattle.std.proofs.lemmas.List.Sorted.{IsPartitionPoint-from_clause, IsPartitionedBy-leb}
 use Rattle.rail_course.specs.declared.milestones.Milestone.{Milestone}
-use Rattle.dispatch_run.proofs.places.reached.Goals as goal
+use Rattle.dispatch_run.proofs.places.count_reached.Goals as goal
 
 pub returns-clause-behind : goal.returns-clause-behind
 returns-clause-behind c =

@@ -1,6 +1,6 @@
 use Rattle.std.proofs.Common.{ap, ◌∙◌, length, arith}
 use Rattle.sat_core.proofs.Forgets.{without-length}
-use Rattle.log_recorder.proofs.text.TextRecorder.forgot.Goals as goal
+use Rattle.log_recorder.proofs.text.TextRecorder.forget.Goals as goal
 
 pub invariant_of-self-clause-has_numbers : goal.invariant_of-self-clause-has_numbers
 invariant_of-self-clause-has_numbers c =
