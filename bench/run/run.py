@@ -250,6 +250,9 @@ def commands(program, folder):
     yield "the same with brakes of 50 mm/s2, each edge 5 mm/s slower than the one before", 2, "fails", simulated(program, folder, slower)
     slower = falling(braked(in_turn(128, 1_998, 100_000, 100_000), 20), 3)
     yield "the same with brakes of 20 mm/s2, each edge 3 mm/s slower than the one before", 2, "fails", simulated(program, folder, slower)
+    longer = falling(braked(in_turn(128, 1_998, 1_000, 5_000), 1_000), 1)
+    longer[0].vehicle["length_mm"] = 900_000
+    yield "128 trains of 900 m in turn over edges of 1 m, each 1 mm/s slower", 2, "met", simulated(program, folder, longer)
     yield "a train 44 times round a loop of 1,850 edges", 2, "met", looped(program, folder, 700, 44, 1_850, 20_000, 20_000)
     yield "the same with brakes of 1 mm/s2", 2, "fails", looped(program, folder, 1, 44, 1_850, 20_000, 20_000)
     yield "the same, each edge 1 mm/s slower than the one before", 2, "fails", looped(program, folder, 1, 44, 1_850, 20_000, 20_000, 1)
