@@ -4,7 +4,7 @@ use Rattle.std.proofs.lemmas.Int.{ints}
 use Rattle.std.proofs.lemmas.Bool.{cases_lt}
 use Rattle.std.proofs.lemmas.List.{length-map}
 use Rattle.rail_motion.specs.declared.Span.{Span}
-use Rattle.rail_motion.specs.Track.{stretch_of, stretches_of, IsNextSlower, IsRising, NoneSlower}
+use Rattle.rail_motion.specs.Track.{stretch_of, stretches_of, IsNextSlower, IsRising, IsSlowestOfBlock, LeastAhead, NoneSlower}
 
 -- the member at an index is one for all
 pub any_other : (spans : List Span) (i : ℕ) (d e : Span) → i < length spans → slice_index_or spans i d ≡ slice_index_or spans i e
@@ -40,36 +40,6 @@ same_limits (x ∷ rest) zero s e within same (suc j) d = refl
 same_limits (x ∷ rest) (suc i) s e within same zero d = refl
 same_limits (x ∷ rest) (suc i) s e within same (suc j) d = same_limits rest i s e (omega arith) same j d
 
-module _ (spans : List Span) (i : ℕ) (s e : Span) (within : i < length spans) (same : s.limit ≡ (slice_index_or spans i e).limit) where
-  -- the limits are as they were, and so is where they are lower
-  kept : (j n : ℕ) → IsNextSlower spans j n → IsNextSlower (set spans i s) j n
-  kept j n h =
-      let limit = same_limits spans i s e within same in
-      record {
-        after = h.after;
-        within = rw (length_of-set spans i s) h.within;
-        none = λ k d past near. rw (limit j d, limit k d) (h.none k d past near);
-        slower = λ d far. rw (limit j d, limit n d) (h.slower d (let count = length_of-set spans i s in omega arith));
-      }
-
-  pub one_more : (n : ℕ) → IsNextSlower spans i n → s.slower_in ≡ n - i → ((j : ℕ) (d : Span) → i < j → j < length spans → IsNextSlower spans j (j + (slice_index_or spans j d).slower_in))
-      → (j : ℕ) (d : Span) → i ≤ j → j < length (set spans i s) → IsNextSlower (set spans i s) j (j + (slice_index_or (set spans i s) j d).slower_in)
-  one_more n next mark marked j d from inside = go (eq-or-lt_of_le from)
-    where
-      go : (i ≡ j) ⊎ (i < j) → IsNextSlower (set spans i s) j (j + (slice_index_or (set spans i s) j d).slower_in)
-      go (inl here) =
-          let after = next.after in
-          let sum : i + s.slower_in ≡ n = omega arith in
-          subst (λ k. IsNextSlower (set spans i s) k (k + (slice_index_or (set spans i s) k d).slower_in)) here (rw (set_here spans i s d within, sum) (kept i n next))
-      go (inr before) = rw (set_before spans i j s d before) (kept j _ (marked j d before (let count = length_of-set spans i s in omega arith)))
-
--- ---- where the least limit is
-
--- from an index on no span has a lower limit than that which is so many spans on, up to which it lies
-abbrev pub LeastFrom : List Span → ℕ → Type 0
-LeastFrom spans left = (i j m : ℕ) (d : Span) → left ≤ i → i < j → j < m → m < length spans → m ≡ i + (slice_index_or spans i d).least_in
-    → (slice_index_or spans m d).limit ≤ℤ (slice_index_or spans j d).limit
-
 same_slower : (spans : List Span) (i : ℕ) (s e : Span) → i < length spans → s.slower_in ≡ (slice_index_or spans i e).slower_in → (j : ℕ) (d : Span) → (slice_index_or (set spans i s) j d).slower_in ≡ (slice_index_or spans j d).slower_in
 same_slower [] i s e within same j d = refl
 same_slower (x ∷ rest) zero s e within same zero d = same
@@ -78,7 +48,32 @@ same_slower (x ∷ rest) (suc i) s e within same zero d = refl
 same_slower (x ∷ rest) (suc i) s e within same (suc j) d = same_slower rest i s e (omega arith) same j d
 
 module _ (spans : List Span) (i : ℕ) (s e : Span) (within : i < length spans) (same : s.limit ≡ (slice_index_or spans i e).limit) where
-  -- where the limit is lower stays as it is
+  -- where limits stay, so does where they are lower
+  pub slower_kept : (j n : ℕ) → IsNextSlower spans j n → IsNextSlower (set spans i s) j n
+  slower_kept j n h =
+      let limit = same_limits spans i s e within same in
+      let count = length_of-set spans i s in
+      record {
+        after = h.after;
+        within = rw count h.within;
+        none = λ k past near d. rw (limit j d, limit k d) (h.none k past near d);
+        slower = λ far d. rw (limit j d, limit n d) (h.slower (omega arith) d);
+      }
+
+  -- and where the slowest of a block are
+  pub slowest_kept : (j n : ℕ) → IsSlowestOfBlock spans j n → IsSlowestOfBlock (set spans i s) j n
+  slowest_kept j n h =
+      let limit = same_limits spans i s e within same in
+      let count = length_of-set spans i s in
+      record {
+        after = h.after;
+        within = rw count h.within;
+        in_block = h.in_block;
+        some = λ more. (let inside = h.some (omega arith) in omega arith);
+        before = λ k past near inside d. rw (limit n d, limit k d) (h.before k past near (omega arith) d);
+        past = λ k later near inside d. rw (limit n d, limit k d) (h.past k later near (omega arith) d);
+      }
+
   pub none_slower_still : s.slower_in ≡ (slice_index_or spans i e).slower_in → NoneSlower spans → NoneSlower (set spans i s)
   none_slower_still mark none j k d before inside near =
       let limit = same_limits spans i s e within same in
@@ -86,44 +81,23 @@ module _ (spans : List Span) (i : ℕ) (s e : Span) (within : i < length spans) 
       let marks = same_slower spans i s e within mark j d in
       rw (limit j d, limit k d) (none j k d before (omega arith) (omega arith))
 
-  -- so do the limits
-  pub lowest_still : (left least : ℕ) → ((j : ℕ) (d : Span) → left ≤ j → j < least → least < length spans → (slice_index_or spans least d).limit ≤ℤ (slice_index_or spans j d).limit)
-      → (j : ℕ) (d : Span) → left ≤ j → j < least → least < length (set spans i s) → (slice_index_or (set spans i s) least d).limit ≤ℤ (slice_index_or (set spans i s) j d).limit
-  lowest_still left least lowest j d from near inside =
-      let limit = same_limits spans i s e within same in
-      rw (limit least d, limit j d) (lowest j d from near (let count = length_of-set spans i s in omega arith))
-
-  -- one more is marked
-  pub one_more_least : (least : ℕ) → s.least_in ≡ least - i → i < least
-      → ((j : ℕ) (d : Span) → i + 1 ≤ j → j < least → least < length spans → (slice_index_or spans least d).limit ≤ℤ (slice_index_or spans j d).limit) → LeastFrom spans (i + 1) → LeastFrom (set spans i s) i
-  one_more_least least mark after lowest marked j k m d from before near inside is = go (eq-or-lt_of_le from)
+-- where the spans after one are marked with what is so of them, and it as well, all from it on are
+module _ (Is : List Span → ℕ → ℕ → Type 0) (mark : Span → ℕ) (spans : List Span) (i : ℕ) (s : Span) (within : i < length spans) (kept : (j n : ℕ) → Is spans j n → Is (set spans i s) j n) where
+  pub one_more : (n : ℕ) → i < n → Is spans i n → mark s ≡ n - i → ((j : ℕ) (d : Span) → i < j → j < length spans → Is spans j (j + mark (slice_index_or spans j d)))
+      → (j : ℕ) (d : Span) → i ≤ j → j < length (set spans i s) → Is (set spans i s) j (j + mark (slice_index_or (set spans i s) j d))
+  one_more n after next marks marked j d from inside = go (eq-or-lt_of_le from)
     where
-      count : length (set spans i s) ≡ length spans
-      count = length_of-set spans i s
-
-      limit : (n : ℕ) (f : Span) → (slice_index_or (set spans i s) n f).limit ≡ (slice_index_or spans n f).limit
-      limit = same_limits spans i s e within same
-
-      go : (i ≡ j) ⊎ (i < j) → (slice_index_or (set spans i s) m d).limit ≤ℤ (slice_index_or (set spans i s) k d).limit
+      go : (i ≡ j) ⊎ (i < j) → Is (set spans i s) j (j + mark (slice_index_or (set spans i s) j d))
       go (inl here) =
-          let own : (slice_index_or (set spans i s) j d).least_in ≡ least - i = ap (λ n. (slice_index_or (set spans i s) n d).least_in) (sym here) ∙ ap (λ (t : Span). t.least_in) (set_here spans i s d within) ∙ mark in
-          let there : m ≡ least = omega arith in
-          let size = count in
-          rw (limit m d, limit k d, there) (lowest k d (omega arith) (omega arith) (omega arith))
-      go (inr later) =
-          let own : (slice_index_or (set spans i s) j d).least_in ≡ (slice_index_or spans j d).least_in = ap (λ (t : Span). t.least_in) (set_before spans i j s d later) in
-          let size = count in
-          rw (limit m d, limit k d) (marked j k m d (omega arith) before near (omega arith) (omega arith))
+          let sum : i + mark s ≡ n = omega arith in
+          subst (λ k. Is (set spans i s) k (k + mark (slice_index_or (set spans i s) k d))) here (rw (set_here spans i s d within, sum) (kept i n next))
+      go (inr before) = rw (set_before spans i j s d before) (kept j _ (marked j d before (let count = length_of-set spans i s in omega arith)))
 
--- so the least of those from an index on is that of those from one before, which is not lower
-pub lowest_on : (spans : List Span) (i least : ℕ) → ((d : Span) → (slice_index_or spans least d).limit ≤ℤ (slice_index_or spans i d).limit)
-    → ((j : ℕ) (d : Span) → i + 1 ≤ j → j < least → (slice_index_or spans least d).limit ≤ℤ (slice_index_or spans j d).limit)
-    → (j : ℕ) (d : Span) → i ≤ j → j < least → (slice_index_or spans least d).limit ≤ℤ (slice_index_or spans j d).limit
-lowest_on spans i least here later j d from near = go (eq-or-lt_of_le from)
-  where
-    go : (i ≡ j) ⊎ (i < j) → (slice_index_or spans least d).limit ≤ℤ (slice_index_or spans j d).limit
-    go (inl same) = subst (λ k. (slice_index_or spans least d).limit ≤ℤ (slice_index_or spans k d).limit) same (here d)
-    go (inr after) = later j d (omega arith) near
+-- no span up to the slowest of a block is slower
+pub least_of_slowest : (spans : List Span) → ((i : ℕ) (d : Span) → i < length spans → IsSlowestOfBlock spans i (i + (slice_index_or spans i d).least_in)) → LeastAhead spans
+least_of_slowest spans marked i j m d before near inside is =
+    let h : IsSlowestOfBlock spans i m = subst (IsSlowestOfBlock spans i) (sym is) (marked i d (omega arith)) in
+    h.before j before near inside d
 
 -- no limit is lower up to another span, at that, and up to the next that is lower than that
 pub further : (spans : List Span) (i n m : ℕ) (a b : Span) → a ≡ slice_index_or spans i a → b ≡ slice_index_or spans n b → a.limit ≤ℤ b.limit → i < n → n < length spans → IsNextSlower spans n m
@@ -140,7 +114,7 @@ further spans i n m a b is_a is_b less before within next none j d past near = g
       where
         at : (n ≡ j) ⊎ (n < j) → (slice_index_or spans i d).limit ≤ℤ (slice_index_or spans j d).limit
         at (inl same) = subst (λ k. (slice_index_or spans i d).limit ≤ℤ (slice_index_or spans k d).limit) same here
-        at (inr after) = let there = next.none j d after near in let e = here in omega (arith, ints)
+        at (inr after) = let there = next.none j after near d in let e = here in omega (arith, ints)
 
 -- spans that are the same stretches end at the same places
 same_ends : (xs ys : List Span) → stretches_of xs ≡ stretches_of ys → (i : ℕ) (d : Span) → nat_abs (slice_index_or xs i d).end ≡ nat_abs (slice_index_or ys i d).end

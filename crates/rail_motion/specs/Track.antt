@@ -1,5 +1,5 @@
 -- The track ahead as the definitions of motion have it.
-use Rattle.std.specs.Prelude.{◌≡◌, ℕ, ℤ, ◌+◌, ◌<◌, ◌≤◌, ◌<ℤ◌, ◌≤ℤ◌, List, map, length, slice_index_or, AllPairs, nat_abs, Option, option_map}
+use Rattle.std.specs.Prelude.{◌≡◌, ℕ, ℤ, ◌+◌, ◌*◌, ◌/◌, ◌<◌, ◌≤◌, ◌<ℤ◌, ◌≤ℤ◌, List, map, length, slice_index_or, AllPairs, nat_abs, Option, option_map}
 use Rattle.rail_motion.specs.declared.Span.{Span}
 use Rattle.rail_spec.specs.Motion.{SpanSeen}
 
@@ -19,17 +19,38 @@ end_of end = option_map nat_abs end
 abbrev pub IsRising : List Span → Type 0
 IsRising spans = AllPairs (λ s t. s.end <ℤ t.end) spans
 
--- the span at a number, counted from 0, is the nearest after another with a lower limit, or is past the last
+-- of two spans, counted from 0, the first has the lower limit
+abbrev pub IsSlower : List Span → ℕ → ℕ → Type 0
+IsSlower spans i j = (d : Span) → (slice_index_or spans i d).limit <ℤ (slice_index_or spans j d).limit
+
+-- the first has no higher limit
+abbrev pub IsNoFaster : List Span → ℕ → ℕ → Type 0
+IsNoFaster spans i j = (d : Span) → (slice_index_or spans i d).limit ≤ℤ (slice_index_or spans j d).limit
+
+-- a span is the nearest after another with a lower limit, or is past the last
 pub record IsNextSlower (spans : List Span) (i next : ℕ) : Type 0 where
   pub after : i < next
   pub within : next ≤ length spans
-  pub none : (j : ℕ) (d : Span) → i < j → j < next → (slice_index_or spans i d).limit ≤ℤ (slice_index_or spans j d).limit
-  pub slower : (d : Span) → next < length spans → (slice_index_or spans next d).limit <ℤ (slice_index_or spans i d).limit
+  pub none : (j : ℕ) → i < j → j < next → IsNoFaster spans i j
+  pub slower : next < length spans → IsSlower spans next i
 
 -- no span has a lower limit than one before it, from which on none is slower for so many spans
 abbrev pub NoneSlower : List Span → Type 0
 NoneSlower spans = (i j : ℕ) (d : Span) → i < j → j < length spans → j < i + (slice_index_or spans i d).slower_in
     → (slice_index_or spans i d).limit ≤ℤ (slice_index_or spans j d).limit
+
+-- the last of the spans with which one is compared: blocks of 32 are looked over
+abbrev pub block_end : ℕ → ℕ
+block_end i = i / 32 * 32 + 32
+
+-- a span is the last of the slowest after another up to the end of its block, or is past the last span where none is after it
+pub record IsSlowestOfBlock (spans : List Span) (i slowest : ℕ) : Type 0 where
+  pub after : i < slowest
+  pub within : slowest ≤ length spans
+  pub in_block : slowest ≤ block_end i
+  pub some : i + 1 < length spans → slowest < length spans
+  pub before : (j : ℕ) → i < j → j < slowest → slowest < length spans → IsNoFaster spans slowest j
+  pub past : (j : ℕ) → slowest < j → j ≤ block_end i → j < length spans → IsSlower spans slowest j
 
 -- no span after one has a lower limit than that which is so many spans on, up to which it lies
 abbrev pub LeastAhead : List Span → Type 0

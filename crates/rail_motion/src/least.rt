@@ -1,39 +1,49 @@
 //! Where the least limit of the next spans is.
 
-ghost use Rattle.std.specs.Prelude.{◌≡◌, ◌<◌, ◌≤◌, ◌≤ℤ◌, false, length, slice_index_or};
+ghost use Rattle.std.specs.Prelude.{◌≡◌, ◌<◌, ◌≤◌, ◌+◌, ℕ, length, slice_index_or};
 ghost use Rattle.rail_motion.specs.declared.Span.{Span};
-ghost use Rattle.rail_motion.specs.Track.{stretches_of, IsRising, LeastAhead, NoneSlower};
+ghost use Rattle.rail_motion.specs.Track.{stretches_of, IsRising, IsSlowestOfBlock, LeastAhead, NoneSlower};
 
 use crate::Span;
 
 /// How many spans make a block.
 const BLOCK: usize = 32;
 
-/// Notes for each span in how many spans the least limit of those after it in its block is, so that others need not be
-/// looked at for a speed that this one allows. Ends and limits stay as they are, and where the limit is lower.
+/// Notes for each span in how many spans the slowest is of those after it up to the end of its block, the last where
+/// several are, so that others need not be looked at for a speed that it allows. Ends and limits stay as they are, and
+/// where the limit is lower.
 pub fn mark_least(spans: &mut [Span])
     ensures track { stretches_of spans.new ≡ stretches_of spans.old }
+    ensures slowest { (i : ℕ) (d : Span) → i < length spans.new
+        → IsSlowestOfBlock spans.new i (i + (slice_index_or spans.new i d).least_in) }
     ensures least { LeastAhead spans.new }
     ensures none_slower { NoneSlower spans.old → NoneSlower spans.new }
     ensures rising { IsRising spans.old → IsRising spans.new }
 {
     let mut left = spans.len();
-    let mut least = left;
+    let mut slowest = left;
     while left > 0 {
         left -= 1;
-        spans[left] = spans[left].with_least_in(least - left);
-        if left % BLOCK == 0 || is_lower(spans, left, least) {
-            least = left;
-        }
+        spans[left] = spans[left].with_least_in(slowest - left);
+        slowest = slowest_before(spans, left, slowest);
     }
 }
 
-/// Whether a span has a lower limit than another, if there is another.
-fn is_lower(spans: &[Span], index: usize, other: usize) -> bool
-    requires { index < length spans.now }
-    ensures { result ≡ false → other < length spans.now → (d : Span) → (slice_index_or spans.now other d).limit ≤ℤ (slice_index_or spans.now index d).limit }
+/// The slowest of its block after the span before this one: this, where the block ends at it or it is slower than the
+/// slowest after it, or else that.
+fn slowest_before(spans: &[Span], index: usize, slowest: usize) -> usize
+    requires index { index < length spans.now }
+    requires slowest { IsSlowestOfBlock spans.now index slowest }
+    ensures { (before : ℕ) → index ≡ before + 1 → IsSlowestOfBlock spans.now before result }
 {
-    other >= spans.len() || spans[index].limit() < spans[other].limit()
+    if index % BLOCK == 0 || slowest >= spans.len() {
+        return index;
+    }
+    if spans[index].limit() < spans[slowest].limit() {
+        index
+    } else {
+        slowest
+    }
 }
 
 impl Span {

@@ -2,7 +2,8 @@
 
 ghost use Rattle.std.specs.Prelude.{◌<◌, ◌≤◌, ◌^◌};
 
-/// The track past `start` up to `end` (mm), of which no move that is faster than `limit` (mm per tick) may cover a point.
+/// The track past `start` up to `end` (mm), of which no move that is faster than `limit` (mm per tick) may cover a
+/// point.
 #[derive(Clone, Copy)]
 pub(crate) struct Obstacle {
     pub(crate) start: u64,

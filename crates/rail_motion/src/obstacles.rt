@@ -67,8 +67,8 @@ fn past_end(end: Option<u64>, stop: u64) -> Option<Obstacle>
     }
 }
 
-/// The first span of which a point is covered by a move that is faster than its limit, of a move by `speed` from `place`
-/// and those of full braking, or on which the tail is then. The spans end past the tail.
+/// The first span of which a point is covered by a move that is faster than its limit, of a move by `speed` from
+/// `place` and those of full braking, or on which the tail is then. The spans end past the tail.
 ///
 /// So each span takes a few sums, however many moves there are, and those from the stop on take none. Where a span is
 /// not in the way, those after it are not until the limit is lower.
@@ -137,8 +137,8 @@ impl Span {
 }
 
 impl Obstacle {
-    /// Whether the obstacle forbids `speed` to a train at `place`: a move by it and then full braking cover a point of it
-    /// too fast.
+    /// Whether the obstacle forbids `speed` to a train at `place`: a move by it and then full braking cover a point of
+    /// it too fast.
     fn forbids(&self, brake: u64, place: u64, speed: u64) -> bool
         requires brake { 1 ≤ brake }
         requires brake_at_most { brake ≤ 100000 }

@@ -79,6 +79,7 @@ pub fn step(motor: &Motor, ahead: &Ahead, x: i64, v: i64) -> (i64, i64)
     (place as i64, speed as i64)
 }
 
+/// Whether `next` is permitted at `place` and `speed`.
 fn permits(motor: &Motor, ahead: &Ahead, place: u64, speed: u64, next: u64) -> bool
     requires place { place < 2 ^ 47 }
     requires speed { speed ≤ 100000 }
@@ -148,8 +149,8 @@ fn cost_of(found: Option<Obstacle>, place: u64, speed: u64) -> u64
 }
 
 /// A speed between one that is permitted and one that is not, after so many tries that looked far ahead or as many that
-/// cost as much: at first the greatest, since most trains go as fast as the first obstacles allow, then the least, since
-/// others brake as fully as they can, and then the middle and the greatest in turn.
+/// cost as much: at first the greatest, since most trains go as fast as the first obstacles allow, then the least,
+/// since others brake as fully as they can, and then the middle and the greatest in turn.
 fn speed_to_try(low: u64, high: u64, tries: u64) -> u64
     requires { low + 1 < high }
     ensures above { low < result }

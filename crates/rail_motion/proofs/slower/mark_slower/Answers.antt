@@ -1,6 +1,6 @@
 use Rattle.std.proofs.Common.{◌-◌, ◌∙◌, arith, ap, ap₂, nat_abs}
-use Rattle.rail_motion.specs.Track.{stretch_of}
-use Rattle.rail_motion.proofs.Marking.{set_stretch, length_of-set, one_more, rising_alike}
+use Rattle.rail_motion.specs.Track.{stretch_of, IsNextSlower}
+use Rattle.rail_motion.proofs.Marking.{set_stretch, length_of-set, one_more, rising_alike, slower_kept}
 use Rattle.rail_motion.proofs.slower.mark_slower.Goals as goal
 
 pub loop-left-preserved : goal.loop-left-preserved
@@ -14,7 +14,7 @@ loop-left-preserved c =
     record {
       within = (let count = length_of-set spans i c.with_slower_in.result in omega arith);
       track = set_stretch spans i c.with_slower_in.result span (omega arith) (ap₂ (λ e l. record { end = nat_abs e; limit = nat_abs l }) same.end same.limit ∙ ap stretch_of c.index-spans-left.is) ∙ invariant.track;
-      marked = one_more spans i c.with_slower_in.result span (omega arith) (same.limit ∙ ap (λ s. s.limit) c.index-spans-left.is) c.next_slower-next.result c.next_slower-next.ensures same.slower_in (λ j d after inside. invariant.marked j d (omega arith) inside);
+      marked = one_more IsNextSlower (λ s. s.slower_in) spans i c.with_slower_in.result (omega arith) (slower_kept spans i c.with_slower_in.result span (omega arith) (same.limit ∙ ap (λ s. s.limit) c.index-spans-left.is)) c.next_slower-next.result (let a = c.next_slower-next.ensures.after in omega arith) c.next_slower-next.ensures same.slower_in (λ j d after inside. invariant.marked j d (omega arith) inside);
     }
 
 pub returns-clause-rising : goal.returns-clause-rising
