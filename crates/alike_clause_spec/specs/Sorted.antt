@@ -6,7 +6,7 @@ use Rattle.rail_base.specs.declared.route.Route.{Route}
 use Rattle.rail_base.specs.declared.plan.Command.{Command}
 use Rattle.rail_base.specs.Members.{In}
 use Rattle.rail_spec.specs.Track.{routes_of}
-use Rattle.rail_spec.specs.Feasible.{IsFeasible}
+use Rattle.rail_spec.specs.Feasible.{IsFeasible, IsInfeasible}
 use Rattle.rail_alike.specs.Tests.{neighbors}
 use Rattle.sat_clause.specs.declared.lit.Lit.{Lit}
 use Rattle.sat_clause.specs.Clauses.{clause_holds}
@@ -41,3 +41,7 @@ NoneSortedBy d n k more = (values : ℕ → Bool)
 abbrev pub AreInRange : Station → List Route → ℕ → List (List Lit) → Type 0
 AreInRange d routes n clauses = (c : List Lit) → In c clauses → (l : Lit) → In l c
     → (1 ≤ l.var) × (l.var < variable_count d routes n)
+
+-- no plan of k steps is feasible where no sorted model of the base, with clauses that every such model keeps, says that all is given by step k
+abbrev pub NoneSortedIsInfeasible : Station → ℕ → ℕ → Type 0
+NoneSortedIsInfeasible d n k = (more : List (List Lit)) → AreSound d n more → NoneSortedBy d n k more → IsInfeasible d k

@@ -1,5 +1,5 @@
 -- Clauses that say of pairs of trains that the first is given its first command in a step no later than the other's.
-use Rattle.std.specs.Prelude.{ℕ, Bool, List, ◌∷◌, map, filter, flat_map}
+use Rattle.std.specs.Prelude.{ℕ, Bool, List, ◌∷◌, map, filter, flat_map, ◌≡◌, true}
 use Rattle.rail_base.specs.declared.station.Station.{Station}
 use Rattle.rail_base.specs.declared.station.TrainNo.{TrainNo}
 use Rattle.rail_base.specs.declared.route.Route.{Route}
@@ -10,6 +10,11 @@ use Rattle.rail_spec.specs.Plans.{route_at, starts_in, route_numbers}
 use Rattle.sat_clause.specs.declared.lit.Lit.{Lit}
 use Rattle.clause_spec.specs.Variables.{Given, yes, no, numbered}
 use Rattle.clause_spec.specs.Clauses.{Clause}
+use Rattle.std.specs.List.{list_all}
+use Rattle.rail_base.specs.declared.plan.Command.{Command}
+use Rattle.rail_alike.specs.Turns.{AreNamed, InTurn}
+use Rattle.sat_clause.specs.Clauses.{clause_holds}
+use Rattle.clause_spec.specs.Models.{model_of}
 
 module _ (d : Station) (routes : List Route) (n : ℕ) where
   -- the train may begin with the route
@@ -37,3 +42,8 @@ module _ (d : Station) (routes : List Route) (n : ℕ) where
   -- for each pair, over numbers
   abbrev pub turn_clauses : List (TrainNo × TrainNo) → List (List Lit)
   turn_clauses pairs = map (map (numbered d routes n)) (flat_map in_turn pairs)
+
+-- where pairs come in turn in the plan, its model makes their clauses true
+abbrev pub TurnsHold : Station → List Route → ℕ → List (List Command) → Type 0
+TurnsHold d routes n plan = (pairs : List (TrainNo × TrainNo)) → AreNamed d pairs → InTurn pairs plan
+    → list_all (clause_holds (model_of d routes n plan)) (turn_clauses d routes n pairs) ≡ true

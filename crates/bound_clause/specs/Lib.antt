@@ -3,3 +3,4 @@ pub mod Numbered
 pub mod Said
 pub mod Spoken
 pub mod Order
+pub mod Laws

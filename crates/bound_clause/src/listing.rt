@@ -1,12 +1,12 @@
 //! How the clause of a certificate is made.
 
-ghost use Rattle.std.specs.Prelude.{◌≡◌, IfOk, option_map, true};
-ghost use Rattle.bound_spec.specs.Certificates.{cone_of};
+ghost use Rattle.std.specs.Prelude.{◌≡◌, IfOk, true};
 ghost use Rattle.bound_spec.specs.Validity.{names_design};
 ghost use Rattle.cone_spec.specs.Clauses.{clause_of_cone};
-ghost use Rattle.bound_clause.specs.Numbered.{clause_if_consistent};
+ghost use Rattle.bound_clause.specs.Numbered.{clause_if_consistent, HasLiterals};
 ghost use Rattle.bound_clause.specs.Said.{said_literals};
-ghost use Rattle.bound_clause.specs.Spoken.{numbered, routes_in, station_of};
+ghost use Rattle.bound_clause.specs.Spoken.{numbered, of_design, cone_literals};
+ghost use Rattle.cone_form.specs.Contentions.{over};
 
 use crate::numbered::NumberedBound;
 use crate::order::{put_in_order, rises};
@@ -29,11 +29,8 @@ pub fn clause_of(
     steps: Steps,
     bound: &Bound,
 ) -> Result<Option<Vec<Lit>>, AllocError>
-    requires names { names_design contention.now.interlocking.now.design.station
-        contention.now.interlocking.now.routes bound.now ≡ true }
-    ensures { IfOk result (λ c. option_map (λ v. v.items) c
-        ≡ clause_if_consistent contention.now.interlocking.now.design.station
-        contention.now.interlocking.now.routes steps.count bound.now) }
+    requires names { over contention.now names_design bound.now ≡ true }
+    ensures { IfOk result (λ c. HasLiterals c (over contention.now clause_if_consistent steps.count bound.now)) }
 {
     let bound = NumberedBound {
         contention: *contention,
@@ -52,8 +49,7 @@ pub fn clause_of(
 impl NumberedBound<'_> {
     /// The clause of the certificate's cone; nothing where it names none.
     fn of_cone(&self, alloc: Global) -> Result<Vec<Lit>, AllocError>
-        ensures { IfOk result (λ c. c.items ≡ numbered self.now
-            (clause_of_cone (station_of self.now) (routes_in self.now) (cone_of self.now.bound.now))) }
+        ensures { IfOk result (λ c. c.items ≡ numbered self.now (cone_literals self.now)) }
     {
         match &self.bound.origin {
             Origin::Cone { cone, .. } => clause_of_cone(alloc, &self.contention, self.steps, cone),
@@ -63,8 +59,7 @@ impl NumberedBound<'_> {
 
     /// All that the certificate says, in some order; one literal may stand there twice.
     fn said_literals(&self, alloc: Global) -> Result<Vec<Lit>, AllocError>
-        ensures { IfOk result (λ c. c.items
-            ≡ numbered self.now (said_literals (station_of self.now) (routes_in self.now) self.now.bound.now)) }
+        ensures { IfOk result (λ c. c.items ≡ numbered self.now (of_design self.now said_literals self.now.bound.now)) }
     {
         let mut clause = self.of_cone(alloc)?;
         self.push_legs(&mut clause)?;

@@ -1,11 +1,11 @@
 //! What a certificate says of the order of the commands where two legs meet.
 
-ghost use Rattle.std.specs.Prelude.{◌≡◌, [], ◌∷◌, ◌++◌, OnOk};
+ghost use Rattle.std.specs.Prelude.{◌≡◌, [], ◌∷◌, OnOk};
 ghost use Rattle.rail_base.specs.Members.{In};
 ghost use Rattle.bound_spec.specs.Certificates.{first_of_leg, is_named_place, last_of_leg};
 ghost use Rattle.bound_spec.specs.Clauses.{meet_named};
 ghost use Rattle.bound_clause.specs.Said.{said_after, said_between, said_of_meetings, said_of_pair};
-ghost use Rattle.bound_clause.specs.Spoken.{ContendAll, ContendWithAll, numbered, pairs_in};
+ghost use Rattle.bound_clause.specs.Spoken.{ContendAll, ContendWithAll, numbered, pairs_in, Adds};
 
 use crate::numbered::NumberedBound;
 use bound_spec::{Leg, Place, first_routes, last_routes};
@@ -17,8 +17,7 @@ use std::alloc::AllocError;
 impl NumberedBound<'_> {
     /// Puts what is said of the commands with which legs meet at the end.
     pub(crate) fn push_meetings(&self, clause: &mut Vec<Lit>) -> Result<(), AllocError>
-        ensures { OnOk result (clause.new.items ≡ clause.old.items
-            ++ numbered self.now (said_of_meetings self.now.bound.now.legs)) }
+        ensures { OnOk result (Adds self.now clause.old clause.new (said_of_meetings self.now.bound.now.legs)) }
     {
         let legs = self.bound.legs.as_slice();
         for index in 1..legs.len() {
@@ -48,8 +47,7 @@ impl NumberedBound<'_> {
         next: &Leg,
     ) -> Result<(), AllocError>
         requires { ContendWithAll (pairs_in self.now) last next.now }
-        ensures { OnOk result (clause.new.items ≡ clause.old.items
-            ++ numbered self.now (said_after named last next.now)) }
+        ensures { OnOk result (Adds self.now clause.old clause.new (said_after named last next.now)) }
     {
         for number in first_routes(next) {
             let first = Command {
@@ -64,8 +62,7 @@ impl NumberedBound<'_> {
     /// Puts what is said of the commands with which two legs meet at the end.
     fn push_between(&self, clause: &mut Vec<Lit>, leg: &Leg, next: &Leg) -> Result<(), AllocError>
         requires { ContendAll (pairs_in self.now) leg.now next.now }
-        ensures { OnOk result (clause.new.items ≡ clause.old.items
-            ++ numbered self.now (said_between leg.now next.now)) }
+        ensures { OnOk result (Adds self.now clause.old clause.new (said_between leg.now next.now)) }
     {
         let named = meet_named(leg, next);
         for number in last_routes(leg) {

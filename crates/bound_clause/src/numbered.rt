@@ -2,6 +2,7 @@
 
 ghost use Rattle.std.specs.Prelude.{◌≡◌, true};
 ghost use Rattle.bound_spec.specs.Validity.{names_design};
+ghost use Rattle.cone_form.specs.Contentions.{over};
 
 use bound_spec::Bound;
 use cone_form::Contention;
@@ -13,6 +14,5 @@ pub(crate) struct NumberedBound<'a> {
     pub contention: Contention<'a>,
     pub steps: Steps,
     pub bound: &'a Bound,
-    pub ghost known: { names_design contention.interlocking.now.design.station
-        contention.interlocking.now.routes bound.now ≡ true },
+    pub ghost known: { over contention names_design bound.now ≡ true },
 }

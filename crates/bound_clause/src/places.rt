@@ -5,7 +5,7 @@ ghost use Rattle.rail_base.specs.Routes.{IsRoute};
 ghost use Rattle.rail_base.specs.Stations.{IsTrain};
 ghost use Rattle.bound_spec.specs.Validity.{leg_in_design, place_in_design};
 ghost use Rattle.bound_clause.specs.Said.{said_of_leg, said_of_legs, said_of_place, used_by};
-ghost use Rattle.bound_clause.specs.Spoken.{numbered, routes_in, station_of};
+ghost use Rattle.bound_clause.specs.Spoken.{numbered, routes_in, station_of, Adds};
 
 use crate::numbered::NumberedBound;
 use bound_spec::{Leg, Place};
@@ -18,8 +18,7 @@ use std::alloc::AllocError;
 impl NumberedBound<'_> {
     /// Puts what is said of the places of all legs at the end.
     pub(crate) fn push_legs(&self, clause: &mut Vec<Lit>) -> Result<(), AllocError>
-        ensures { OnOk result (clause.new.items ≡ clause.old.items
-            ++ numbered self.now (said_of_legs self.now.bound.now)) }
+        ensures { OnOk result (Adds self.now clause.old clause.new (said_of_legs self.now.bound.now)) }
     {
         for leg in self.bound.legs.as_slice() {
             self.push_leg(clause, leg)?;
@@ -36,8 +35,7 @@ impl NumberedBound<'_> {
     ) -> Result<(), AllocError>
         requires train { IsTrain (station_of self.now) train }
         requires routes { All (IsRoute (routes_in self.now)) routes.now }
-        ensures { OnOk result (clause.new.items ≡ clause.old.items
-            ++ numbered self.now (map (used_by train) routes.now)) }
+        ensures { OnOk result (Adds self.now clause.old clause.new (map (used_by train) routes.now)) }
     {
         for number in routes {
             let route = *number;
@@ -55,8 +53,7 @@ impl NumberedBound<'_> {
     ) -> Result<(), AllocError>
         requires train { IsTrain (station_of self.now) train }
         requires place { place_in_design (station_of self.now) (routes_in self.now) place.now ≡ true }
-        ensures { OnOk result (clause.new.items ≡ clause.old.items
-            ++ numbered self.now (said_of_place train place.now)) }
+        ensures { OnOk result (Adds self.now clause.old clause.new (said_of_place train place.now)) }
     {
         match place {
             Place::Named { route } => {

@@ -1,12 +1,12 @@
 //! What a certificate says of the commands with which a train begins in the first tick.
 
-ghost use Rattle.std.specs.Prelude.{◌≡◌, ◌++◌, OnOk, option_map};
+ghost use Rattle.std.specs.Prelude.{◌≡◌, OnOk, option_map};
 ghost use Rattle.rail_base.specs.Routes.{IsRoute, route_at};
-ghost use Rattle.rail_base.specs.Stations.{IsTrain, first_visit, train_of};
+ghost use Rattle.rail_base.specs.Stations.{IsTrain};
 ghost use Rattle.bound_spec.specs.Certificates.{visit_from};
-ghost use Rattle.rail_spec.specs.Plans.{starts_in};
-ghost use Rattle.bound_clause.specs.Said.{said_before, said_of_origin, said_of_start, said_of_starts};
-ghost use Rattle.bound_clause.specs.Spoken.{numbered, pairs_in, routes_in, station_of};
+ghost use Rattle.bound_clause.specs.Said.{said_before, said_of_start, said_of_starts};
+ghost use Rattle.bound_clause.specs.Spoken.{numbered, pairs_in, routes_in, station_of, Adds, of_design, begins};
+ghost use Rattle.bound_clause.specs.Spoken.{origin_literals};
 
 use crate::numbered::NumberedBound;
 use bound_spec::{Origin, Requirement};
@@ -20,8 +20,7 @@ use std::alloc::{AllocError, Global};
 impl NumberedBound<'_> {
     /// Puts what is said of the origin's first tick at the end.
     pub(crate) fn push_origin(&self, alloc: Global, clause: &mut Vec<Lit>) -> Result<(), AllocError>
-        ensures { OnOk result (clause.new.items ≡ clause.old.items
-            ++ numbered self.now (said_of_origin (station_of self.now) (routes_in self.now) self.now.bound.now)) }
+        ensures { OnOk result (Adds self.now clause.old clause.new (origin_literals self.now)) }
     {
         match (&self.bound.origin, self.train_from()) {
             (Origin::FirstTick, Some(train)) => self.push_starts(alloc, clause, train),
@@ -33,8 +32,7 @@ impl NumberedBound<'_> {
     fn begins(&self, command: Command) -> bool
         requires train { IsTrain (station_of self.now) command.train }
         requires route { IsRoute (routes_in self.now) command.route }
-        ensures { result ≡ starts_in (first_visit (train_of (station_of self.now) command.train))
-            (route_at (routes_in self.now) command.route).start }
+        ensures { result ≡ begins self.now command }
     {
         let interlocking = self.contention.interlocking;
         let start = route_at(&interlocking.routes, command.route).start;
@@ -52,8 +50,7 @@ impl NumberedBound<'_> {
         clause: &mut Vec<Lit>,
         command: Command,
     ) -> Result<(), AllocError>
-        ensures { OnOk result (clause.new.items ≡ clause.old.items
-            ++ numbered self.now (said_before (pairs_in self.now) command)) }
+        ensures { OnOk result (Adds self.now clause.old clause.new (said_before (pairs_in self.now) command)) }
     {
         let others = self.contention.pairs.rivals(alloc, command)?;
         for other in &others {
@@ -71,8 +68,7 @@ impl NumberedBound<'_> {
     ) -> Result<(), AllocError>
         requires train { IsTrain (station_of self.now) command.train }
         requires route { IsRoute (routes_in self.now) command.route }
-        ensures { OnOk result (clause.new.items ≡ clause.old.items
-            ++ numbered self.now (said_of_start (station_of self.now) (routes_in self.now) command)) }
+        ensures { OnOk result (Adds self.now clause.old clause.new (of_design self.now said_of_start command)) }
     {
         if self.begins(command) {
             self.push_before(alloc, clause, command)?;
@@ -88,8 +84,7 @@ impl NumberedBound<'_> {
         train: TrainNo,
     ) -> Result<(), AllocError>
         requires { IsTrain (station_of self.now) train }
-        ensures { OnOk result (clause.new.items ≡ clause.old.items
-            ++ numbered self.now (said_of_starts (station_of self.now) (routes_in self.now) train)) }
+        ensures { OnOk result (Adds self.now clause.old clause.new (of_design self.now said_of_starts train)) }
     {
         for number in 1..self.contention.interlocking.routes.len() as u32 + 1 {
             let route = RouteNo(number);

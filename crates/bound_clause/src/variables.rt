@@ -5,8 +5,7 @@ ghost use Rattle.rail_base.specs.Members.{In};
 ghost use Rattle.rail_base.specs.Routes.{IsRoute};
 ghost use Rattle.rail_base.specs.Stations.{IsTrain};
 ghost use Rattle.cone_spec.specs.Clauses.{Before, Used};
-ghost use Rattle.cone_clause.specs.Numbered.{lit_of};
-ghost use Rattle.bound_clause.specs.Spoken.{pairs_in, routes_in, station_of, used_count};
+ghost use Rattle.bound_clause.specs.Spoken.{pairs_in, routes_in, station_of, used_count, fact_lit};
 
 use crate::numbered::NumberedBound;
 use rail_base::plan::Command;
@@ -17,8 +16,7 @@ impl NumberedBound<'_> {
     pub(crate) fn used_literal(&self, command: Command, negated: bool) -> Lit
         requires train { IsTrain (station_of self.now) command.train }
         requires route { IsRoute (routes_in self.now) command.route }
-        ensures { result ≡ lit_of (station_of self.now) (routes_in self.now) self.now.steps.count
-            (record { fact = Used command; negated = negated }) }
+        ensures { result ≡ fact_lit self.now (Used command) negated }
     {
         let routes = self.contention.interlocking.routes.len() as u32;
         let steps = self.steps.count;
@@ -32,8 +30,7 @@ impl NumberedBound<'_> {
     /// Whether one of two contending commands is given before the other: the literal that says so, or that it is not.
     pub(crate) fn before(&self, pair: (Command, Command), negated: bool) -> Lit
         requires { In pair (pairs_in self.now) }
-        ensures { result ≡ lit_of (station_of self.now) (routes_in self.now) self.now.steps.count
-            (record { fact = Before pair.0 pair.1; negated = negated }) }
+        ensures { result ≡ fact_lit self.now (Before pair.0 pair.1) negated }
     {
         let place = self.contention.pairs.place_of(pair);
         Lit {

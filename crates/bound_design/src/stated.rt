@@ -3,6 +3,7 @@
 ghost use Rattle.std.specs.Prelude.{◌≡◌, true, IfOk};
 ghost use Rattle.bound_spec.specs.Validity.{names_design};
 ghost use Rattle.bound_design.specs.Named.{is_chain, is_stated, names_fit};
+ghost use Rattle.cone_form.specs.Contentions.{over};
 
 use crate::choices::are_few_choices;
 use crate::legs::{are_few_places, legs_in_design};
@@ -26,8 +27,7 @@ pub fn names_design(
     contention: &Contention,
     bound: &Bound,
 ) -> Result<bool, AllocError>
-    ensures { IfOk result (λ b. b ≡ names_design contention.now.interlocking.now.design.station
-        contention.now.interlocking.now.routes bound.now) }
+    ensures { IfOk result (λ b. b ≡ over contention.now names_design bound.now) }
 {
     if !is_stated(contention.interlocking, bound) {
         return Ok(false);

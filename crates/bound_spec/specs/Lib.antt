@@ -5,3 +5,4 @@ pub mod Rides
 pub mod Certificates
 pub mod Clauses
 pub mod Validity
+pub mod Hops

@@ -1,5 +1,5 @@
 -- Which certificates are valid, and the first reason against one that is not.
-use Rattle.std.specs.Prelude.{ℕ, ◌+◌, ◌*◌, ◌/◌, min, Bool, true, false, not, ◌&&◌, ◌||◌, ◌==◌, if◌then◌else◌, List, [], ◌∷◌, map, length, nat_le, nat_lt, Option, None, Some, is_none, sum_by}
+use Rattle.std.specs.Prelude.{ℕ, ◌+◌, ◌*◌, ◌/◌, min, Bool, true, false, not, ◌&&◌, ◌||◌, ◌==◌, if◌then◌else◌, List, [], ◌∷◌, map, length, nat_le, nat_lt, Option, None, Some, is_none, sum_by, ◌≡◌}
 use Rattle.std.specs.List.{list_any, list_all}
 use Rattle.rail_base.specs.declared.station.Station.{Station}
 use Rattle.rail_base.specs.declared.station.TrainNo.{TrainNo}
@@ -33,7 +33,9 @@ use Rattle.free_spec.specs.Legs.{Leg as Track}
 use Rattle.bound_spec.specs.Walks.{walks}
 use Rattle.bound_spec.specs.Rides.{release_place, chain_ticks, chain_ticks_from, wait_ticks, first_place}
 use Rattle.bound_spec.specs.Certificates.{VisitOf, routes_of_place, kept_out, first_of_leg, last_of_leg, ride_of, nodes_of_visit, visit_offset, visit_from, visit_to, train_to, target, visit_place, cone_of}
-use Rattle.bound_spec.specs.Clauses.{is_named, is_kept_out, is_before, is_kept_behind}
+use Rattle.bound_spec.specs.Clauses.{is_named, is_kept_out, is_before, is_kept_behind, clause_of_bound}
+use Rattle.rail_spec.specs.Track.{routes_of}
+use Rattle.cone_spec.specs.Clauses.{is_false_of}
 pub use Rattle.rail_spec.specs.Track.{is_empty}
 
 -- in increasing order
@@ -357,3 +359,8 @@ module _ (d : Station) (routes : List Route) where
     -- no reason holds against the certificate
     abbrev pub is_valid_bound : Bool
     is_valid_bound = is_none fault_of
+
+-- of the clause of each valid bound a literal is true of the plan
+abbrev pub ValidBoundsHold : Station → ℕ → List (List Command) → Type 0
+ValidBoundsHold d n plan = (b : Bound) → is_valid_bound d (routes_of d) b ≡ true
+    → is_false_of plan (clause_of_bound d (routes_of d) b) ≡ false

@@ -4,3 +4,4 @@ pub mod Looks
 pub mod Chains
 pub mod Ahead
 pub mod Claims
+pub mod Rides

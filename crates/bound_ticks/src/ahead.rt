@@ -4,7 +4,6 @@ ghost use Rattle.std.specs.Prelude.{◌≡◌, ◌≤◌, All, IfOk, length};
 ghost use Rattle.rail_base.specs.Routes.{IsRoute};
 ghost use Rattle.rail_base.specs.Stations.{IsTrain};
 ghost use Rattle.bound_spec.specs.Validity.{are_ahead};
-ghost use Rattle.leg_targets.specs.Visits.{visit_of};
 ghost use Rattle.bound_ticks.specs.Walks.{IsLeg};
 
 use crate::walks::{first_routes, walks_of};
@@ -26,13 +25,13 @@ pub(crate) struct Between<'a> {
 }
 
 impl Between<'_> {
+    ghost use Rattle.bound_ticks.specs.Rides.{is_between};
     ghost use Rattle.bound_ticks.specs.Ahead.{ahead_on, ahead_on_all, all_past};
 
     /// Whether it is so on all walks of the first of some legs.
     pub(crate) fn are_ahead(&self, alloc: Global, legs: &[Leg]) -> Result<bool, AllocError>
         requires { All (IsLeg self.now.interlocking.now) legs.now }
-        ensures { let i = self.now.interlocking.now in IfOk result (λ b. b
-            ≡ are_ahead i.design.station i.routes (visit_of self.now.from) (visit_of self.now.to) legs.now) }
+        ensures { IfOk result (λ b. b ≡ is_between self.now legs.now) }
     {
         match legs {
             [] => Ok(false),

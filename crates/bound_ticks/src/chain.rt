@@ -3,8 +3,7 @@
 ghost use Rattle.std.specs.Prelude.{◌≡◌, ◌≤◌, ◌+◌, All, IfOk, None, length};
 ghost use Rattle.std.specs.Option.{ForSome};
 ghost use Rattle.rail_base.specs.Stations.{IsTrain};
-ghost use Rattle.bound_ticks.specs.Chains.{chain_of, end_ticks};
-ghost use Rattle.leg_targets.specs.Visits.{origin_of};
+ghost use Rattle.bound_ticks.specs.Chains.{end_ticks};
 ghost use Rattle.bound_ticks.specs.Walks.{IsLeg};
 
 use crate::legs::Ride;
@@ -25,6 +24,8 @@ pub(crate) struct Chain<'a> {
 }
 
 impl Chain<'_> {
+    ghost use Rattle.bound_ticks.specs.Rides.{legs_ticks, last_ticks};
+
     /// The least ticks of all legs.
     pub(crate) fn ticks(
         &self,
@@ -35,8 +36,7 @@ impl Chain<'_> {
         requires legs { All (IsLeg self.now.interlocking.now) legs.now }
         requires at_most_64 { length legs.now ≤ 64 }
         requires from { ForSome from (λ v. IsTrain self.now.interlocking.now.design.station v.train) }
-        ensures { let i = self.now.interlocking.now in IfOk result (λ n. n
-            ≡ chain_of i.design.station i.routes self.now.most (origin_of from) (origin_of self.now.to) legs.now) }
+        ensures { IfOk result (λ n. n ≡ legs_ticks self.now from legs.now) }
     {
         match legs {
             [] => Ok(0),
@@ -58,8 +58,7 @@ impl Chain<'_> {
     fn end_ticks(&self, alloc: Global, from: Option<Visit>, leg: &Leg) -> Result<u64, AllocError>
         requires leg { IsLeg self.now.interlocking.now leg.now }
         requires from { ForSome from (λ v. IsTrain self.now.interlocking.now.design.station v.train) }
-        ensures { let i = self.now.interlocking.now in IfOk result (λ n. n
-            ≡ end_ticks i.design.station i.routes self.now.most (origin_of from) (origin_of self.now.to) leg.now) }
+        ensures { IfOk result (λ n. n ≡ last_ticks self.now from leg.now) }
     {
         let Some(visit) = self.to else {
             return Ok(0);

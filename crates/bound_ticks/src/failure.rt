@@ -1,6 +1,6 @@
 //! Whether a certificate shows that its requirement fails.
 
-ghost use Rattle.std.specs.Prelude.{◌≡◌, ◌≤◌, true, IfOk, None, Some, ℕ};
+ghost use Rattle.std.specs.Prelude.{◌≡◌, ◌≤◌, true, IfOk, None, Some};
 ghost use Rattle.std.specs.Option.{ForSome};
 ghost use Rattle.rail_base.specs.Stations.{IsTrain};
 ghost use Rattle.interlocking.specs.declared.railway.Interlocking.{Interlocking};
@@ -8,9 +8,11 @@ ghost use Rattle.cone_spec.specs.declared.Cone.{Cone};
 ghost use Rattle.bound_spec.specs.declared.Bound.{Bound};
 ghost use Rattle.bound_spec.specs.declared.Origin.TheVariants as origin;
 ghost use Rattle.bound_spec.specs.Validity.{is_too_late, is_too_long, names_design, shows_failure};
-ghost use Rattle.bound_ticks.specs.Claims.{cone_shows_of, from_of, made_at, passes_of, shows_by};
-ghost use Rattle.bound_ticks.specs.Claims.{ticks_between_of, ticks_of, to_of};
+ghost use Rattle.bound_ticks.specs.Claims.{from_of, made_at, shows_by, to_of};
 ghost use Rattle.leg_targets.specs.Visits.{origin_of, visit_of};
+ghost use Rattle.bound_ticks.specs.Rides.{takes_too_long, ticks_until, ticks_from_to, passes_from_to, fails_by};
+ghost use Rattle.bound_ticks.specs.Rides.{cone_makes};
+ghost use Rattle.cone_form.specs.Contentions.{over};
 
 use crate::ahead::Between;
 use crate::chain::Chain;
@@ -34,10 +36,8 @@ pub fn shows_failure(
     contention: &Contention,
     bound: &Bound,
 ) -> Result<bool, AllocError>
-    requires names { let i = contention.now.interlocking.now in
-        names_design i.design.station i.routes bound.now ≡ true }
-    ensures { let i = contention.now.interlocking.now in
-        IfOk result (λ b. b ≡ shows_failure i.design.station i.routes bound.now) }
+    requires names { over contention.now names_design bound.now ≡ true }
+    ensures { IfOk result (λ b. b ≡ over contention.now shows_failure bound.now) }
 {
     let stretches = stretches_of(alloc, contention.interlocking, bound.legs.as_slice())?;
     if stretches > MOST_LOOKS {
@@ -80,8 +80,7 @@ impl Claim<'_> {
 
     /// Whether so many ticks between the visits are too many.
     fn is_too_long(&self, ticks: u64) -> bool
-        ensures { let i = self.now.contention.interlocking.now in result
-            ≡ is_too_long i.design.station i.routes self.now.bound.now.requirement ticks }
+        ensures { result ≡ takes_too_long self.now ticks }
     {
         is_too_long(self.contention.interlocking, self.bound.requirement, ticks)
     }
@@ -89,8 +88,7 @@ impl Claim<'_> {
     /// The least ticks from the grant of the first command.
     fn ticks_to(&self, alloc: Global, to: Option<Visit>) -> Result<u64, AllocError>
         requires { ForSome to (λ v. IsTrain self.now.contention.interlocking.now.design.station v.train) }
-        ensures ticks { IfOk result (λ n. n
-            ≡ ticks_of self.now.contention.interlocking.now self.now.most self.now.bound.now (origin_of to)) }
+        ensures ticks { IfOk result (λ n. n ≡ ticks_until self.now to) }
         ensures at_most_5529664 { IfOk result (λ n. n ≤ 5529664) }
     {
         let chain = Chain {
@@ -105,8 +103,7 @@ impl Claim<'_> {
     fn ticks_between(&self, alloc: Global, from: Visit, to: Visit) -> Result<u64, AllocError>
         requires from { IsTrain self.now.contention.interlocking.now.design.station from.train }
         requires to { IsTrain self.now.contention.interlocking.now.design.station to.train }
-        ensures { let i = self.now.contention.interlocking.now in IfOk result (λ n. n
-            ≡ ticks_between_of i self.now.most self.now.bound.now (visit_of from) (visit_of to)) }
+        ensures { IfOk result (λ n. n ≡ ticks_from_to self.now from to) }
     {
         let chain = Chain {
             interlocking: self.contention.interlocking,
@@ -120,8 +117,7 @@ impl Claim<'_> {
     fn passes_between(&self, alloc: Global, from: Visit, to: Visit) -> Result<bool, AllocError>
         requires from { IsTrain self.now.contention.interlocking.now.design.station from.train }
         requires to { IsTrain self.now.contention.interlocking.now.design.station to.train }
-        ensures { let i = self.now.contention.interlocking.now in IfOk result (λ b. b
-            ≡ passes_of i self.now.most self.now.bound.now (visit_of from) (visit_of to)) }
+        ensures { IfOk result (λ b. b ≡ passes_from_to self.now from to) }
     {
         if from.number <= 1 {
             return Ok(self.is_too_long(self.ticks_to(alloc, Some(to))?));
@@ -153,8 +149,7 @@ impl Claim<'_> {
 
     /// Whether it is shown where the first visit is made in the first tick.
     fn by_first_tick(&self, alloc: Global) -> Result<bool, AllocError>
-        ensures { IfOk result (λ b. b
-            ≡ shows_by self.now.contention.interlocking.now self.now.bound.now origin.FirstTick) }
+        ensures { IfOk result (λ b. b ≡ fails_by self.now origin.FirstTick) }
     {
         if self.from().is_none() {
             return Ok(false);
@@ -188,8 +183,7 @@ impl<'a> Claim<'a> {
         requires origin { self.now.bound.now.origin ≡ origin.Cone tick cone.now }
         requires from { IsTrain self.now.contention.interlocking.now.design.station from.train }
         requires visit { from_of self.now.contention.interlocking.now self.now.bound.now ≡ Some (visit_of from) }
-        ensures { IfOk result (λ b. b
-            ≡ cone_shows_of self.now.contention.interlocking.now self.now.bound.now tick (visit_of from)) }
+        ensures { IfOk result (λ b. b ≡ cone_makes self.now tick from) }
     {
         let made = visit_in_run(alloc, &self.contention, cone, from.train, from.number)?;
         Ok(is_made_at(tick, made))
@@ -198,8 +192,7 @@ impl<'a> Claim<'a> {
     /// Whether it is shown where the first visit is made at a tick in the run of a cone.
     fn by_cone(&self, alloc: Global, tick: u64, cone: &'a Cone) -> Result<bool, AllocError>
         requires { self.now.bound.now.origin ≡ origin.Cone tick cone.now }
-        ensures { IfOk result (λ b. b
-            ≡ shows_by self.now.contention.interlocking.now self.now.bound.now (origin.Cone tick cone.now)) }
+        ensures { IfOk result (λ b. b ≡ fails_by self.now (origin.Cone tick cone.now)) }
     {
         let Some(from) = self.from() else {
             return Ok(false);
@@ -218,8 +211,7 @@ impl<'a> Claim<'a> {
 
     /// Whether it is shown by its origin.
     fn origin_shows(&self, alloc: Global) -> Result<bool, AllocError>
-        ensures { IfOk result (λ b. b
-            ≡ shows_by self.now.contention.interlocking.now self.now.bound.now self.now.bound.now.origin) }
+        ensures { IfOk result (λ b. b ≡ fails_by self.now self.now.bound.now.origin) }
     {
         match &self.bound.origin {
             Origin::Visit => self.by_visit(alloc),

@@ -1,13 +1,10 @@
 //! The least ticks of a leg.
 
-ghost use Rattle.std.specs.Prelude.{◌≡◌, ◌<◌, ◌≤◌, ◌^◌, All, IfOk, length, map, Option, option_map};
+ghost use Rattle.std.specs.Prelude.{◌≡◌, ◌<◌, ◌≤◌, ◌^◌, All, IfOk, length, Option};
 ghost use Rattle.std.specs.Option.{ForSome};
 ghost use Rattle.rail_base.specs.Routes.{IsRoute};
 ghost use Rattle.rail_base.specs.Stations.{IsTrain};
-ghost use Rattle.rail_course.specs.Tracks.{routes_at};
-ghost use Rattle.bound_spec.specs.Certificates.{VisitOf};
 ghost use Rattle.bound_ticks.specs.Chains.{leg_to_release, leg_to_visit, ticks_on, to_release, to_visit};
-ghost use Rattle.leg_targets.specs.Visits.{origin_of, visit_of};
 ghost use Rattle.bound_ticks.specs.Walks.{IsLeg};
 
 use crate::walks::walks_of;
@@ -32,11 +29,12 @@ pub struct Ride<'a> {
 }
 
 impl Ride<'_> {
+    ghost use Rattle.bound_ticks.specs.Rides.{ride_to_visit, ride_to_release, walk_to_place, walk_to_visit, walk_to_release};
+
     /// The least ticks to a visit over all walks of the leg.
     pub fn leg_to_visit(&self, alloc: Global, visit: Visit) -> Result<u64, AllocError>
         requires { IsTrain self.now.interlocking.now.design.station visit.train }
-        ensures { let i = self.now.interlocking.now in let from = origin_of self.now.from in IfOk result (λ n. n
-            ≡ leg_to_visit i.design.station i.routes self.now.most from self.now.leg.now (visit_of visit)) }
+        ensures { IfOk result (λ n. n ≡ ride_to_visit self.now visit) }
     {
         let walks = walks_of(alloc, &self.interlocking.routes, self.leg.places.as_slice())?;
         let mut least = self.most;
@@ -49,8 +47,7 @@ impl Ride<'_> {
     /// The least ticks to a release over all walks of the leg.
     pub fn leg_to_release(&self, alloc: Global, next: &[RouteNo]) -> Result<u64, AllocError>
         requires { All (IsRoute self.now.interlocking.now.routes) next.now }
-        ensures { let i = self.now.interlocking.now in let from = origin_of self.now.from in IfOk result (λ n. n
-            ≡ leg_to_release i.design.station i.routes self.now.most from self.now.leg.now next.now) }
+        ensures { IfOk result (λ n. n ≡ ride_to_release self.now next.now) }
     {
         let walks = walks_of(alloc, &self.interlocking.routes, self.leg.places.as_slice())?;
         let mut least = self.most;
@@ -65,9 +62,7 @@ impl Ride<'_> {
         requires walk { All (IsRoute self.now.interlocking.now.routes) walk.now }
         requires at_most_64 { length walk.now ≤ 64 }
         requires place { place < 2 ^ 47 }
-        ensures { let i = self.now.interlocking.now in let rs = routes_at i.routes walk.now in
-            let from = origin_of self.now.from in IfOk result (λ n. n
-            ≡ ticks_on i.design.station i.routes self.now.most from self.now.leg.now.train rs place) }
+        ensures { IfOk result (λ n. n ≡ walk_to_place self.now walk.now place) }
     {
         let train = self.leg.train;
         match self.from {
@@ -92,9 +87,7 @@ impl Ride<'_> {
         requires walk { All (IsRoute self.now.interlocking.now.routes) walk.now }
         requires at_most_64 { length walk.now ≤ 64 }
         requires visit { IsTrain self.now.interlocking.now.design.station visit.train }
-        ensures { let i = self.now.interlocking.now in let rs = routes_at i.routes walk.now in
-            let from = origin_of self.now.from in let train = self.now.leg.now.train in IfOk result (λ n. n
-            ≡ to_visit i.design.station i.routes self.now.most from train (visit_of visit) rs) }
+        ensures { IfOk result (λ n. n ≡ walk_to_visit self.now walk.now visit) }
     {
         self.ticks_on(alloc, walk, target(self.interlocking, visit, walk))
     }
@@ -109,9 +102,7 @@ impl Ride<'_> {
         requires walk { All (IsRoute self.now.interlocking.now.routes) walk.now }
         requires at_most_64 { length walk.now ≤ 64 }
         requires next { All (IsRoute self.now.interlocking.now.routes) next.now }
-        ensures { let i = self.now.interlocking.now in let rs = routes_at i.routes walk.now in
-            let from = origin_of self.now.from in let train = self.now.leg.now.train in IfOk result (λ n. n
-            ≡ to_release i.design.station i.routes self.now.most from train next.now rs) }
+        ensures { IfOk result (λ n. n ≡ walk_to_release self.now walk.now next.now) }
     {
         let mut least = self.most;
         for route in next {

@@ -8,6 +8,7 @@ ghost use Rattle.bound_spec.specs.Validity.{most_looks, stretches_in, stretches_
 ghost use Rattle.bound_spec.specs.Validity.{stretches_of_walk};
 ghost use Rattle.bound_ticks.specs.Looks.{cap};
 ghost use Rattle.bound_ticks.specs.Walks.{IsLeg};
+ghost use Rattle.interlocking.specs.Plans.{on};
 
 use crate::walks::{first_routes, walks_of};
 use bound_spec::Leg;
@@ -26,8 +27,7 @@ pub fn stretches_of(
     legs: &[Leg],
 ) -> Result<u64, AllocError>
     requires { All (IsLeg interlocking.now) legs.now }
-    ensures { let d = interlocking.now.design.station in
-        IfOk result (λ n. n ≡ cap (stretches_of d interlocking.now.routes legs.now)) }
+    ensures { IfOk result (λ n. n ≡ cap (on interlocking.now stretches_of legs.now)) }
 {
     match legs {
         [] => Ok(0),
@@ -70,8 +70,7 @@ fn stretches_in(routes: &RouteTable, walk: &[RouteNo]) -> u64
 /// The stretches of a walk, by itself and with each route that goes on where it ends.
 fn stretches_of_walk(interlocking: &Interlocking, walk: &[RouteNo]) -> u64
     requires { All (IsRoute interlocking.now.routes) walk.now }
-    ensures { let routes = interlocking.now.routes in result
-        ≡ cap (stretches_of_walk interlocking.now.design.station routes (routes_at routes walk.now)) }
+    ensures { result ≡ cap (on interlocking.now stretches_of_walk (routes_at interlocking.now.routes walk.now)) }
 {
     let routes = &interlocking.routes;
     let own = stretches_in(routes, walk);
@@ -92,8 +91,7 @@ fn stretches_of_leg(
     places: usize,
 ) -> Result<u64, AllocError>
     requires { IsLeg interlocking.now leg.now }
-    ensures { let d = interlocking.now.design.station in
-        IfOk result (λ n. n ≡ cap (stretches_of_leg d interlocking.now.routes leg.now places)) }
+    ensures { IfOk result (λ n. n ≡ cap (on interlocking.now stretches_of_leg leg.now places)) }
 {
     let walks = walks_of(alloc, &interlocking.routes, leg.places.as_slice())?;
     let mut count = 0;

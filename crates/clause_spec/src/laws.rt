@@ -1,44 +1,31 @@
 //! Laws of the base, each the contract of a function that does nothing.
 
-ghost use Rattle.std.specs.Prelude.{◌≡◌, ℕ, ◌*◌, ◌≤◌, Bool, true, List, None, length};
-ghost use Rattle.std.specs.List.{list_all};
+ghost use Rattle.std.specs.Prelude.{ℕ, ◌≤◌, List};
 ghost use Rattle.rail_base.specs.declared.station.Station.{Station};
 ghost use Rattle.rail_base.specs.declared.route.Route.{Route};
-ghost use Rattle.rail_base.specs.declared.plan.Command.{Command};
-ghost use Rattle.sat_clause.specs.Clauses.{clause_holds};
 ghost use Rattle.rail_spec.specs.Track.{routes_of};
-ghost use Rattle.rail_spec.specs.Feasible.{IsFeasible, IsInfeasible, IsRunnable};
-ghost use Rattle.clause_spec.specs.Clauses.{base_clauses, past_limit};
-ghost use Rattle.clause_spec.specs.Models.{model_of, decoded};
-ghost use Rattle.clause_spec.specs.Variables.{pairs};
-ghost use Rattle.clause_spec.specs.Laws.{VisitsAll, Agrees, NoneBy, AreLiteralsInRange};
+ghost use Rattle.rail_spec.specs.Feasible.{IsInfeasible};
+ghost use Rattle.clause_spec.specs.Laws.{NoneBy, AreLiteralsInRange, EachBase, FeasibleHaveModels, DecodedHaveModels};
+ghost use Rattle.clause_spec.specs.Laws.{PlansHaveModels, ModelsArePlans, BoundsPairs};
 
 /// The model of a plan that can be carried out, and whose paths make all visits, makes the base true.
 pub fn plans_are_models()
-    ensures { (d : Station) (routes : List Route) (n : ℕ) (plan : List (List Command)) → 1 ≤ n
-        → IsRunnable d routes n plan → VisitsAll d routes plan
-        → list_all (clause_holds (model_of d routes n plan)) (base_clauses d routes n) ≡ true }
+    ensures { EachBase PlansHaveModels }
 {}
 
 /// So does the model of each feasible plan.
 pub fn feasible_plans_are_models()
-    ensures { (d : Station) (n : ℕ) (plan : List (List Command)) → 1 ≤ n → IsFeasible d n plan
-        → list_all (clause_holds (model_of d (routes_of d) n plan)) (base_clauses d (routes_of d) n) ≡ true }
+    ensures { (d : Station) (n : ℕ) → 1 ≤ n → FeasibleHaveModels d n }
 {}
 
 /// Values that make the base true give a plan that can be carried out, and whose model has them.
 pub fn models_are_plans()
-    ensures { (d : Station) (routes : List Route) (n : ℕ) (values : ℕ → Bool) → 1 ≤ n
-        → list_all (clause_holds values) (base_clauses d routes n) ≡ true
-        → IsRunnable d routes n (decoded d routes n values) ×
-        Agrees d routes n (model_of d routes n (decoded d routes n values)) values }
+    ensures { EachBase ModelsArePlans }
 {}
 
 /// Its model makes the base true, too.
 pub fn decoded_plans_are_models()
-    ensures { (d : Station) (routes : List Route) (n : ℕ) (values : ℕ → Bool) → 1 ≤ n
-        → list_all (clause_holds values) (base_clauses d routes n) ≡ true
-        → list_all (clause_holds (model_of d routes n (decoded d routes n values))) (base_clauses d routes n) ≡ true }
+    ensures { EachBase DecodedHaveModels }
 {}
 
 /// The variables of the base are numbered from 1, and none of its clauses says by which step all is given at the
@@ -54,6 +41,5 @@ pub fn none_by_is_infeasible()
 
 /// A base with no more literals than a limit has at most half as many pairs of commands that contend.
 pub fn bases_within_a_limit_have_few_pairs()
-    ensures { (d : Station) (routes : List Route) (n limit : ℕ) → past_limit limit 0 (base_clauses d routes n) ≡ None
-        → 2 * length (pairs d routes) ≤ limit }
+    ensures { (d : Station) (routes : List Route) (n : ℕ) → BoundsPairs d routes n }
 {}

@@ -1,5 +1,5 @@
 -- A cone with its train paths: what its run is, and what is asked of it.
-use Rattle.std.specs.Prelude.{ℕ, ◌+◌, ◌-◌, Bool, ◌&&◌, List, map, nat_le, Option, is_none}
+use Rattle.std.specs.Prelude.{ℕ, ◌+◌, ◌-◌, Bool, ◌&&◌, List, map, nat_le, Option, is_none, ◌≡◌}
 use Rattle.std.specs.List.{list_all}
 use Rattle.rail_base.specs.declared.station.Station.{Station}
 use Rattle.rail_base.specs.declared.station.Order.{Order}
@@ -27,6 +27,8 @@ use Rattle.dispatch_run.specs.FollowedTrains.{AreFollowedTrains}
 use Rattle.cone_run.specs.declared.layout.ConeLayout.{ConeLayout}
 use Rattle.cone_run.specs.Checks.{IsEntry}
 use Rattle.cone_run.specs.Runs.{run_of, visit_in_run}
+use Rattle.rail_base.specs.Stations.{within_of, order_of}
+use Rattle.rail_base.specs.declared.plan.Violation.TheVariants as violation
 
 module _ (l : ConeLayout) where
   -- the station
@@ -126,3 +128,11 @@ module _ (l : ConeLayout) where
   -- the tick of a visit, where the cone's commands are granted or held up as it says
   abbrev pub visit_in_layout : TrainNo → ℕ → Option ℕ
   visit_in_layout = visit_in_run l.contention.interlocking.now l.cone.now
+
+  -- an answer says whether the cone shows this within, whatever its number
+  abbrev pub ShowsWithin : Within → Bool → Type 0
+  ShowsWithin within answer = (w : ℕ) → within_of station_of w ≡ within → answer ≡ shows_violation (violation.Within w)
+
+  -- and this order
+  abbrev pub ShowsOrder : Order → Bool → Type 0
+  ShowsOrder order answer = (o : ℕ) → order_of station_of o ≡ order → answer ≡ shows_violation (violation.Order o)

@@ -6,10 +6,14 @@ use Rattle.interlocking.specs.declared.railway.Interlocking.{Interlocking}
 use Rattle.cone_spec.specs.declared.ConeTrain.{ConeTrain}
 use Rattle.cone_spec.specs.declared.Cone.{Cone}
 use Rattle.cone_spec.specs.declared.ConeFault.{ConeFault}
-use Rattle.cone_spec.specs.Cones.{named, of_cone}
+use Rattle.cone_spec.specs.Cones.{named, of_cone, free_path}
 use Rattle.cone_spec.specs.Validity.{fault_of, free_granted, holder_fits, cone_visit}
 use Rattle.quiet_spec.specs.Histories.{history_at}
 use Rattle.rail_base.specs.declared.history.TrainHistory.{TrainHistory}
+use Rattle.rail_base.specs.declared.station.Station.{Station}
+use Rattle.rail_base.specs.declared.route.Route.{Route}
+use Rattle.rail_base.specs.declared.route.RouteNo.{RouteNo}
+use Rattle.rail_base.specs.Stations.{trains}
 
 -- the last tick of a cone's run: the greatest horizon
 abbrev pub last_tick : Cone → ℕ
@@ -29,3 +33,7 @@ module _ (i : Interlocking) (k : Cone) where
   -- what happens to each train in the run, up to the greatest horizon
   abbrev pub run_of : List TrainHistory
   run_of = history_at i.design.station i.routes (of_cone k) (last_tick k)
+
+-- the free path of each train of the station
+abbrev pub all_free_paths : Station → List Route → Cone → List (List RouteNo)
+all_free_paths d routes k = map (free_path k) (trains d)

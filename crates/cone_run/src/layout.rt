@@ -1,9 +1,9 @@
 //! A cone with what is worked out of it once.
 
-ghost use Rattle.std.specs.Prelude.{◌≡◌, true, map};
-ghost use Rattle.rail_base.specs.Stations.{trains};
+ghost use Rattle.std.specs.Prelude.{◌≡◌, true};
 ghost use Rattle.cone_form.specs.Fits.{fits};
-ghost use Rattle.cone_spec.specs.Cones.{free_path};
+ghost use Rattle.interlocking.specs.Plans.{on};
+ghost use Rattle.cone_run.specs.Runs.{all_free_paths};
 
 use cone_form::Contention;
 use cone_spec::Cone;
@@ -17,6 +17,5 @@ pub(crate) struct ConeLayout<'a> {
     pub train_paths: TrainPaths<'a>,
     pub ghost known: { fits contention.interlocking.now cone.now ≡ true },
     pub ghost over: { train_paths.given.interlocking.now ≡ contention.interlocking.now },
-    pub ghost given: { train_paths.given.paths.now
-        ≡ map (free_path cone.now) (trains contention.interlocking.now.design.station) },
+    pub ghost given: { train_paths.given.paths.now ≡ on contention.interlocking.now all_free_paths cone.now },
 }

@@ -4,6 +4,7 @@ ghost use Rattle.std.specs.Prelude.{◌≡◌, true, IfOk};
 ghost use Rattle.rail_course.specs.Tracks.{ArePaths};
 ghost use Rattle.cone_spec.specs.Cones.{free_path};
 ghost use Rattle.cone_form.specs.Fits.{fits};
+ghost use Rattle.interlocking.specs.Plans.{on};
 
 use cone_form::free_path;
 use cone_spec::Cone;
@@ -20,8 +21,7 @@ pub(crate) fn free_paths(
     cone: &Cone,
 ) -> Result<Vec<List<RouteNo>>, AllocError>
     requires { fits interlocking.now cone.now ≡ true }
-    ensures { IfOk result (λ paths. ArePaths interlocking.now.design.station interlocking.now.routes
-        (free_path cone.now) paths.items) }
+    ensures { IfOk result (λ paths. on interlocking.now ArePaths (free_path cone.now) paths.items) }
 {
     let mut paths = Vec::new(alloc);
     for number in 1..interlocking.design.station.trains.len() as u32 + 1 {

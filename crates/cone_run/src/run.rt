@@ -8,6 +8,7 @@ ghost use Rattle.dispatch_run.specs.FollowedTrains.{IsTraffic};
 ghost use Rattle.cone_form.specs.Fits.{fits};
 ghost use Rattle.cone_run.specs.Layouts.{history_in};
 ghost use Rattle.cone_run.specs.Runs.{last_tick, run_of};
+ghost use Rattle.interlocking.specs.Plans.{on};
 
 use crate::layout::ConeLayout;
 use crate::paths::free_paths;
@@ -85,9 +86,7 @@ fn history_of(
     requires traffic { IsTraffic dispatch traffic.now }
     requires same { dispatch ≡ of_cone cone.now }
     requires at_most_86400 { last ≤ 86400 }
-    ensures { IfOk result (λ h. h.items
-        ≡ history_at traffic.now.interlocking.now.design.station traffic.now.interlocking.now.routes
-        (of_cone cone.now) last) }
+    ensures { IfOk result (λ h. h.items ≡ on traffic.now.interlocking.now history_at (of_cone cone.now) last) }
 {
     let progress = traffic.run(alloc, last)?;
     Ok(progress.histories)

@@ -1,9 +1,9 @@
 //! Whether the violation of a cone is certain in its run.
 
-ghost use Rattle.std.specs.Prelude.{◌≡◌, ◌≤◌, ℕ, IfOk};
-ghost use Rattle.rail_base.specs.Stations.{IsTrain, order_of, within_of};
+ghost use Rattle.std.specs.Prelude.{◌≡◌, ◌≤◌, IfOk};
+ghost use Rattle.rail_base.specs.Stations.{IsTrain};
 ghost use Rattle.rail_base.specs.declared.plan.Violation.TheVariants as violation;
-ghost use Rattle.cone_run.specs.Layouts.{comes_after, comes_late, shows_violation, station_of};
+ghost use Rattle.cone_run.specs.Layouts.{comes_after, comes_late, shows_violation, station_of, ShowsWithin, ShowsOrder};
 
 use crate::checked::ConeRun;
 use crate::visits::place_of;
@@ -67,8 +67,7 @@ impl ConeRun<'_> {
     fn shows_within(&self, within: &Within) -> bool
         requires from { IsTrain (station_of self.now.layout) within.now.from_train }
         requires to { IsTrain (station_of self.now.layout) within.now.to_train }
-        ensures { (w : ℕ) → within_of (station_of self.now.layout) w ≡ within.now
-            → result ≡ shows_violation self.now.layout (violation.Within w) }
+        ensures { ShowsWithin self.now.layout within.now result }
     {
         let last = horizon_of(self.layout.cone, within.from_train);
         match self.visit_tick(last, within.from_train, within.from_visit) {
@@ -94,8 +93,7 @@ impl ConeRun<'_> {
     fn shows_order(&self, order: &Order) -> bool
         requires first { IsTrain (station_of self.now.layout) order.now.first_train }
         requires then_ { IsTrain (station_of self.now.layout) order.now.then_train }
-        ensures { (o : ℕ) → order_of (station_of self.now.layout) o ≡ order.now
-            → result ≡ shows_violation self.now.layout (violation.Order o) }
+        ensures { ShowsOrder self.now.layout order.now result }
     {
         let last = horizon_of(self.layout.cone, order.then_train);
         match self.visit_tick(last, order.then_train, order.then_visit) {

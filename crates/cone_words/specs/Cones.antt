@@ -15,6 +15,7 @@ use Rattle.cone_spec.specs.declared.ConeTrain.{ConeTrain}
 use Rattle.rail_base.specs.Names.{section_name, train_name}
 use Rattle.cone_words.specs.Names.{makes_text, nodes_text}
 use Rattle.cone_words.specs.Phrases.{joined, sentence, ticks_text, path_text}
+use Rattle.rail_base.specs.declared.route.RouteNo.{RouteNo}
 
 -- what no plan that meets the design has
 abbrev pub opening_line : ℕ → List ℕ
@@ -85,3 +86,23 @@ failure_text d (violation.Visit t k) = missed_text d t k ++ by_horizon_text d
 abbrev pub cone_sentences : Station → List Route → ℕ → Cone → List (List ℕ)
 cone_sentences d routes n c =
     opening_line n ∷ parts_sentences d routes n c ++ sentence n (failure_text d c.violation) ∷ []
+
+-- the trains of a cone
+abbrev pub trains_sentences : Station → ℕ → List ConeTrain → List (List ℕ)
+trains_sentences d n trains = map (λ t. sentence n (train_text d t)) trains
+
+-- its pairs
+abbrev pub pairs_sentences : Station → List Route → ℕ → List (Command × Command) → List (List ℕ)
+pairs_sentences d routes n pairs = map (λ p. sentence n (pair_text d routes p)) pairs
+
+-- what a within asks for
+abbrev pub within_text : Station → ℕ → List ℕ
+within_text d w = failure_text d (violation.Within w)
+
+-- that a train is not granted a command
+abbrev pub ungranted_text : Station → TrainNo → ℕ → List ℕ
+ungranted_text d t j = failure_text d (violation.Grant t j)
+
+-- the sections that two routes share
+abbrev pub shared_text : Station → List Route → RouteNo → RouteNo → List ℕ
+shared_text d routes r q = sections_text d (shared (route_at routes r) (route_at routes q))

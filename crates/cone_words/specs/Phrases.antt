@@ -2,6 +2,10 @@
 use Rattle.std.specs.Prelude.{ℕ, ◌==◌, if◌then◌else◌, List, [], ◌∷◌, ◌++◌, codes, decimal}
 use Rattle.std.specs.List.{flat_map}
 use Rattle.rail_base.specs.declared.route.RouteNo.{RouteNo}
+use Rattle.rail_base.specs.declared.station.Station.{Station}
+use Rattle.rail_base.specs.declared.station.NodeNo.{NodeNo}
+use Rattle.rail_base.specs.declared.station.SectionNo.{SectionNo}
+use Rattle.rail_base.specs.Names.{node_name, section_name}
 
 -- each of these, after the words
 abbrev pub each_after : {X : Type 0} → List ℕ → (X → List ℕ) → List X → List ℕ
@@ -35,3 +39,15 @@ any_route_text rs = codes "route " ++ joined (codes " or ") route_number rs
 -- `route 3, route 5`
 abbrev pub path_text : List RouteNo → List ℕ
 path_text rs = codes "route " ++ joined (codes ", route ") route_number rs
+
+-- nodes, each after ` or `
+abbrev pub each_node : Station → List NodeNo → List ℕ
+each_node d nodes = each_after (codes " or ") (node_name d) nodes
+
+-- nodes with ` or ` between them
+abbrev pub joined_nodes : Station → List NodeNo → List ℕ
+joined_nodes d nodes = joined (codes " or ") (node_name d) nodes
+
+-- sections, each after a comma
+abbrev pub each_section : Station → List SectionNo → List ℕ
+each_section d sections = each_after (codes ", ") (section_name d) sections

@@ -1,12 +1,13 @@
 //! The sentences about a cone. An error is want of memory.
 
-ghost use Rattle.std.specs.Prelude.{◌≡◌, ◌++◌, ◌∷◌, [], codes, decimal, map, IfOk, OnOk};
+ghost use Rattle.std.specs.Prelude.{◌≡◌, ◌++◌, ◌∷◌, [], IfOk, OnOk};
 ghost use Rattle.rail_outside.specs.Lines.{lines_of};
-ghost use Rattle.cone_words.specs.Phrases.{sentence};
 ghost use Rattle.rail_base.specs.declared.plan.Violation.TheVariants as violation;
 ghost use Rattle.cone_words.specs.Cones.{followed_text, opening_line, holder_text, train_text, pair_text};
-ghost use Rattle.cone_words.specs.Cones.{parts_sentences};
-ghost use Rattle.cone_words.specs.Cones.{missed_text, by_horizon_text, failure_text, cone_sentences};
+ghost use Rattle.cone_words.specs.Cones.{parts_sentences, missed_text, by_horizon_text, failure_text, cone_sentences};
+ghost use Rattle.cone_words.specs.Cones.{trains_sentences, pairs_sentences, within_text, ungranted_text};
+ghost use Rattle.rail_text.specs.Added.{AddsLines, AddsText};
+ghost use Rattle.interlocking.specs.Plans.{on};
 
 use crate::entries::{order_of, within_of};
 use crate::phrases::{most_ticks, put_makes, put_nodes, put_path, put_shared, put_ticks};
@@ -28,8 +29,7 @@ pub fn push_parts(
     cone: &Cone,
     lines: &mut Vec<Vec<u8>>,
 ) -> Result<(), AllocError>
-    ensures { let i = interlocking.now in OnOk result (lines_of lines.new.items
-        ≡ lines_of lines.old.items ++ parts_sentences i.design.station i.routes line cone.now) }
+    ensures { OnOk result (AddsLines lines.old lines.new (on interlocking.now parts_sentences line cone.now)) }
 {
     push_trains(
         alloc,
@@ -62,8 +62,7 @@ pub fn push_cone(
     cone: &Cone,
     lines: &mut Vec<Vec<u8>>,
 ) -> Result<(), AllocError>
-    ensures { let i = interlocking.now in OnOk result (lines_of lines.new.items
-        ≡ lines_of lines.old.items ++ cone_sentences i.design.station i.routes line cone.now) }
+    ensures { OnOk result (AddsLines lines.old lines.new (on interlocking.now cone_sentences line cone.now)) }
 {
     push_opening(alloc, line, lines)?;
     push_parts(alloc, interlocking, line, cone, lines)?;
@@ -124,8 +123,7 @@ fn pair_text(
     first: Command,
     second: Command,
 ) -> Result<Vec<u8>, AllocError>
-    ensures { let i = interlocking.now in
-        IfOk result (λ text. text.items ≡ pair_text i.design.station i.routes (first, second)) }
+    ensures { IfOk result (λ text. text.items ≡ on interlocking.now pair_text (first, second)) }
 {
     let design = &interlocking.design;
     let mut text = Vec::from_slice(alloc, train_name(design, second.train))?;
@@ -155,8 +153,7 @@ fn push_trains(
     trains: &[ConeTrain],
     lines: &mut Vec<Vec<u8>>,
 ) -> Result<(), AllocError>
-    ensures { OnOk result (lines_of lines.new.items
-        ≡ lines_of lines.old.items ++ map (λ t. sentence line (train_text design.now.station t)) trains.now) }
+    ensures { OnOk result (AddsLines lines.old lines.new (trains_sentences design.now.station line trains.now)) }
 {
     for train in trains {
         let text = train_text(alloc, design, train)?;
@@ -173,8 +170,7 @@ fn push_pairs(
     pairs: &[(Command, Command)],
     lines: &mut Vec<Vec<u8>>,
 ) -> Result<(), AllocError>
-    ensures { let i = interlocking.now in OnOk result (lines_of lines.new.items
-        ≡ lines_of lines.old.items ++ map (λ p. sentence line (pair_text i.design.station i.routes p)) pairs.now) }
+    ensures { OnOk result (AddsLines lines.old lines.new (on interlocking.now pairs_sentences line pairs.now)) }
 {
     for (first, second) in pairs {
         let text = pair_text(alloc, interlocking, *first, *second)?;
@@ -216,8 +212,7 @@ fn put_within(
     interlocking: &Interlocking,
     number: u32,
 ) -> Result<(), AllocError>
-    ensures { OnOk result (text.new.items
-        ≡ text.old.items ++ failure_text interlocking.now.design.station (violation.Within number)) }
+    ensures { OnOk result (AddsText text.old text.new (within_text interlocking.now.design.station number)) }
 {
     let design = &interlocking.design;
     let within = within_of(design, number);
@@ -234,8 +229,7 @@ fn put_within(
 
 /// Appends that an order fails.
 fn put_order(text: &mut Vec<u8>, design: &Design, number: u32) -> Result<(), AllocError>
-    ensures { OnOk result (text.new.items
-        ≡ text.old.items ++ failure_text design.now.station (violation.Order number)) }
+    ensures { OnOk result (AddsText text.old text.new (failure_text design.now.station (violation.Order number))) }
 {
     let order = order_of(design, number);
     put_missed(text, design, order.first_train, order.first_visit)?;
@@ -254,8 +248,7 @@ fn put_ungranted(
     train: TrainNo,
     command: u32,
 ) -> Result<(), AllocError>
-    ensures { OnOk result (text.new.items
-        ≡ text.old.items ++ failure_text design.now.station (violation.Grant train command)) }
+    ensures { OnOk result (AddsText text.old text.new (ungranted_text design.now.station train command)) }
 {
     text.extend_from_slice(b"so ")?;
     text.extend_from_slice(train_name(design, train))?;

@@ -1,12 +1,14 @@
 //! Phrases that sentences are made of. An error is want of memory.
 
-ghost use Rattle.std.specs.Prelude.{◌≡◌, ◌++◌, ◌==◌, codes, decimal, IfOk, OnOk, if◌then◌else◌};
+ghost use Rattle.std.specs.Prelude.{◌≡◌, ◌++◌, ◌==◌, IfOk, OnOk};
 ghost use Rattle.rail_base.specs.Routes.{route_at, shared};
 ghost use Rattle.rail_spec.specs.Requirements.{most_ticks};
 ghost use Rattle.rail_base.specs.Names.{node_name, section_name};
 ghost use Rattle.cone_words.specs.Names.{makes_text, nodes_text};
 ghost use Rattle.cone_words.specs.Phrases.{each_after, joined, ticks_text, route_number, any_route_text, path_text};
-ghost use Rattle.cone_words.specs.Cones.{sections_text};
+ghost use Rattle.cone_words.specs.Phrases.{each_node, joined_nodes, each_section};
+ghost use Rattle.cone_words.specs.Cones.{sections_text, shared_text};
+ghost use Rattle.rail_text.specs.Added.{AddsText};
 
 use crate::entries::{has_section, nodes_of_visit, sections_of};
 use rail_base::design::Design;
@@ -88,9 +90,7 @@ pub fn put_shared(
     route: RouteNo,
     other: RouteNo,
 ) -> Result<(), AllocError>
-    ensures { OnOk result (text.new.items
-        ≡ text.old.items
-        ++ sections_text design.now.station (shared (route_at routes.now route) (route_at routes.now other))) }
+    ensures { OnOk result (AddsText text.old text.new (shared_text design.now.station routes.now route other)) }
 {
     let found = shared_sections(alloc, routes, route, other)?;
     put_sections(text, design, &found)
@@ -122,8 +122,7 @@ fn put_joined(text: &mut Vec<u8>, between: &[u8], routes: &[RouteNo]) -> Result<
 
 /// Appends ` or ` and a node, for each of these.
 fn put_each_node(text: &mut Vec<u8>, design: &Design, nodes: &[NodeNo]) -> Result<(), AllocError>
-    ensures { OnOk result (text.new.items
-        ≡ text.old.items ++ each_after (codes " or ") (node_name design.now.station) nodes.now) }
+    ensures { OnOk result (AddsText text.old text.new (each_node design.now.station nodes.now)) }
 {
     for node in nodes {
         text.extend_from_slice(b" or ")?;
@@ -134,8 +133,7 @@ fn put_each_node(text: &mut Vec<u8>, design: &Design, nodes: &[NodeNo]) -> Resul
 
 /// Appends nodes, with ` or ` between each and the next.
 fn put_joined_nodes(text: &mut Vec<u8>, design: &Design, nodes: &[NodeNo]) -> Result<(), AllocError>
-    ensures { OnOk result (text.new.items
-        ≡ text.old.items ++ joined (codes " or ") (node_name design.now.station) nodes.now) }
+    ensures { OnOk result (AddsText text.old text.new (joined_nodes design.now.station nodes.now)) }
 {
     match nodes {
         [] => Ok(()),
@@ -152,8 +150,7 @@ fn put_each_section(
     design: &Design,
     sections: &[SectionNo],
 ) -> Result<(), AllocError>
-    ensures { OnOk result (text.new.items
-        ≡ text.old.items ++ each_after (codes ", ") (section_name design.now.station) sections.now) }
+    ensures { OnOk result (AddsText text.old text.new (each_section design.now.station sections.now)) }
 {
     for section in sections {
         text.extend_from_slice(b", ")?;

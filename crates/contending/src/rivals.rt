@@ -1,13 +1,9 @@
 //! The commands that contend with a command.
 
 ghost use Rattle.std.specs.Prelude.{◌≡◌, ◌≤◌, ◌++◌, ◌==◌, if◌then◌else◌, [], List, IfOk, OnOk, filter, length, map};
-ghost use Rattle.rail_base.specs.Routes.{IsRoute};
-ghost use Rattle.rail_base.specs.Stations.{IsTrain};
-ghost use Rattle.rail_base.specs.declared.station.Station.{Station};
-ghost use Rattle.rail_base.specs.declared.route.Route.{Route};
-ghost use Rattle.rail_spec.specs.Plans.{all_commands, contend, is_command};
-ghost use Rattle.clause_spec.specs.Variables.{pairs as contending};
+ghost use Rattle.rail_spec.specs.Plans.{is_command};
 ghost use Rattle.contending.specs.Rows.{commands_in, rivals};
+ghost use Rattle.contending.specs.Rivals.{GivesRivals};
 
 use crate::pairs::ContendingPairs;
 use crate::places::has_row;
@@ -27,9 +23,7 @@ impl ContendingPairs {
     pub fn rivals(&self, alloc: Global, command: Command) -> Result<Vec<Command>, AllocError>
         ensures pairs { IfOk result (λ cs. map (λ c. (command, c)) cs.items
             ≡ filter (λ p. is_command p.0 command) self.now) }
-        ensures all { (d : Station) (routes : List Route) → self.now ≡ contending d routes
-            → IsTrain d command.train → IsRoute routes command.route
-            → IfOk result (λ cs. cs.items ≡ filter (contend routes command) (all_commands d routes)) }
+        ensures all { GivesRivals self.now command result }
     {
         if !has_row(self.trains, &self.rows, command) {
             return Ok(Vec::new(alloc));

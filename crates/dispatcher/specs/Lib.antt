@@ -2,3 +2,4 @@
 pub mod Queues
 pub mod Waits
 pub mod Planned
+pub mod Turned

@@ -1,10 +1,9 @@
 //! How a command leaves and enters the queues of its sections.
 
-ghost use Rattle.std.specs.Prelude.{◌≡◌, ◌++◌, ◌==◌, [], if◌then◌else◌, All, OnOk, filter, length, map};
+ghost use Rattle.std.specs.Prelude.{◌≡◌, All, OnOk, length};
 ghost use Rattle.rail_base.specs.declared.station.SectionNo.{SectionNo};
-ghost use Rattle.rail_base.specs.Routes.{has_section};
 ghost use Rattle.dispatcher.specs.Queues.{IsWithin, queue_at};
-ghost use Rattle.dispatcher.specs.Waits.{wait_until};
+ghost use Rattle.dispatcher.specs.Turned.{left_by, AddsReleases};
 
 use crate::lists::{empty, put};
 use rail_base::list::List;
@@ -17,8 +16,7 @@ use std::alloc::{AllocError, Global};
 pub(crate) fn leave(queues: &mut Vec<List<Wait>>, alloc: Global, route: &Route)
     requires { All (λ p. IsWithin (length queues.old.items) p.0) route.now.sections }
     ensures same_length { length queues.new.items ≡ length queues.old.items }
-    ensures left { (z : SectionNo) → queue_at queues.new.items z
-        ≡ (if has_section route.now z then [] else queue_at queues.old.items z) }
+    ensures left { (z : SectionNo) → queue_at queues.new.items z ≡ left_by queues.old.items z route.now }
 {
     for part in route.sections.as_slice() {
         empty(queues, alloc, part.0.0);
@@ -33,8 +31,7 @@ pub(crate) fn enter(
 ) -> Result<(), AllocError>
     requires { All (λ r. IsWithin (length queues.old.items) r.section) releases.now }
     ensures same_length { length queues.new.items ≡ length queues.old.items }
-    ensures entered { OnOk result ((z : SectionNo) → queue_at queues.new.items z
-        ≡ queue_at queues.old.items z ++ map (wait_until train) (filter (λ r. r.section.0 == z.0) releases.now)) }
+    ensures entered { OnOk result (AddsReleases queues.old.items queues.new.items train releases.now) }
 {
     for release in releases {
         let wait = Wait {

@@ -1,7 +1,8 @@
 //! Lists by number.
 
-ghost use Rattle.std.specs.Prelude.{◌≡◌, ℕ, ◌≤◌, ◌++◌, ◌∷◌, [], ◌==◌, if◌then◌else◌, IfOk, OnOk, length};
+ghost use Rattle.std.specs.Prelude.{◌≡◌, ℕ, ◌≤◌, [], ◌==◌, if◌then◌else◌, IfOk, OnOk, length};
 ghost use Rattle.rail_base.specs.Numbering.{entry};
+ghost use Rattle.dispatcher.specs.Turned.{with_item};
 
 use rail_base::list::List;
 use std::alloc::{AllocError, Global};
@@ -33,8 +34,7 @@ pub(crate) fn put<T: Drop>(lists: &mut Vec<List<T>>, number: u32, item: T) -> Re
     requires at_least_one { 1 ≤ number }
     requires within { number ≤ length lists.old.items }
     ensures same_length { length lists.new.items ≡ length lists.old.items }
-    ensures put { OnOk result ((n : ℕ) → entry [] lists.new.items n
-        ≡ (if number == n then entry [] lists.old.items n ++ item ∷ [] else entry [] lists.old.items n)) }
+    ensures put { OnOk result ((n : ℕ) → entry [] lists.new.items n ≡ with_item number item lists.old.items n) }
 {
     lists[number as usize - 1].push(item)?;
     Ok(())

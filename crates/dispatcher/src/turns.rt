@@ -1,12 +1,8 @@
 //! The queues after a step of a plan.
 
-ghost use Rattle.std.specs.Prelude.{◌≡◌, ◌++◌, [], if◌then◌else◌, All, OnOk, length, map};
-ghost use Rattle.std.specs.List.{list_any};
-ghost use Rattle.rail_base.specs.declared.station.SectionNo.{SectionNo};
-ghost use Rattle.rail_base.specs.Routes.{has_section, route_at};
+ghost use Rattle.std.specs.Prelude.{◌≡◌, All, OnOk, length};
 ghost use Rattle.rail_course.specs.Itineraries.{IsCommandIn};
-ghost use Rattle.dispatcher.specs.Queues.{on_section, queue_at, these_or};
-ghost use Rattle.dispatcher.specs.Waits.{wait_in};
+ghost use Rattle.dispatcher.specs.Turned.{HasQueues, AreTurned, AreLeft, AreEntered};
 
 use crate::enter::{enter, leave};
 use rail_base::list::List;
@@ -21,13 +17,10 @@ pub(crate) fn turn(
     alloc: Global,
     step: &[Command],
 ) -> Result<(), AllocError>
-    requires every_section { length queues.old.items
-        ≡ length train_paths.now.given.interlocking.now.design.station.sections }
+    requires every_section { HasQueues train_paths.now.given queues.old.items }
     requires step { All (IsCommandIn train_paths.now.given) step.now }
     ensures same_length { length queues.new.items ≡ length queues.old.items }
-    ensures turned { OnOk result ((z : SectionNo) → queue_at queues.new.items z
-        ≡ these_or (map (wait_in train_paths.now.given z)
-        (on_section train_paths.now.given.interlocking.now.routes z step.now)) (queue_at queues.old.items z)) }
+    ensures turned { OnOk result (AreTurned queues.old.items queues.new.items train_paths.now.given step.now) }
 {
     leave_all(train_paths, queues, alloc, step);
     enter_all(train_paths, queues, alloc, step)?;
@@ -41,14 +34,10 @@ fn leave_all(
     alloc: Global,
     step: &[Command],
 )
-    requires every_section { length queues.old.items
-        ≡ length train_paths.now.given.interlocking.now.design.station.sections }
+    requires every_section { HasQueues train_paths.now.given queues.old.items }
     requires step { All (IsCommandIn train_paths.now.given) step.now }
     ensures same_length { length queues.new.items ≡ length queues.old.items }
-    ensures left { (z : SectionNo) → queue_at queues.new.items z
-        ≡ (if list_any (λ c. has_section (route_at train_paths.now.given.interlocking.now.routes c.route) z) step.now
-        then []
-        else queue_at queues.old.items z) }
+    ensures left { AreLeft queues.old.items queues.new.items train_paths.now.given step.now }
 {
     for command in step {
         leave(
@@ -66,14 +55,10 @@ fn enter_all(
     alloc: Global,
     step: &[Command],
 ) -> Result<(), AllocError>
-    requires every_section { length queues.old.items
-        ≡ length train_paths.now.given.interlocking.now.design.station.sections }
+    requires every_section { HasQueues train_paths.now.given queues.old.items }
     requires step { All (IsCommandIn train_paths.now.given) step.now }
     ensures same_length { length queues.new.items ≡ length queues.old.items }
-    ensures entered { OnOk result ((z : SectionNo) → queue_at queues.new.items z
-        ≡ queue_at queues.old.items z
-        ++ map (wait_in train_paths.now.given z)
-        (on_section train_paths.now.given.interlocking.now.routes z step.now)) }
+    ensures entered { OnOk result (AreEntered queues.old.items queues.new.items train_paths.now.given step.now) }
 {
     for command in step {
         let releases = train_paths.releases_of(alloc, *command)?;

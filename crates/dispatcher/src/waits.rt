@@ -3,10 +3,10 @@
 ghost use Rattle.std.specs.Prelude.{◌≡◌, ◌&&◌, List, IfOk, IfSome, OnOk, length};
 ghost use Rattle.std.specs.List.{list_all};
 ghost use Rattle.rail_base.specs.declared.state.TrainState.{TrainState};
-ghost use Rattle.rail_base.specs.Routes.{IsRoute, route_at, sections};
+ghost use Rattle.rail_base.specs.Routes.{IsRoute};
 ghost use Rattle.rail_course.specs.Waits.{is_over};
-ghost use Rattle.dispatcher.specs.Queues.{queue_at};
 ghost use Rattle.dispatcher.specs.Waits.{lets_pass};
+ghost use Rattle.dispatcher.specs.Turned.{AsksQueues, AsksMore};
 
 use interlocking::Interlocking;
 use rail_base::list::List;
@@ -24,9 +24,7 @@ pub(crate) fn waits_of(
 ) -> Result<Vec<Wait>, AllocError>
     requires route { IsRoute interlocking.now.routes command.route }
     requires every_section { length queues.now ≡ length interlocking.now.design.station.sections }
-    ensures { IfOk result (λ own. (s : List TrainState) → list_all (is_over s) own.items
-        ≡ list_all (λ z. list_all (lets_pass s command.train) (queue_at queues.now z))
-        (sections (route_at interlocking.now.routes command.route))) }
+    ensures { IfOk result (λ own. AsksQueues interlocking.now.routes queues.now command own.items) }
 {
     let mut waits = Vec::new(alloc);
     for part in interlocking.route(command.route).sections.as_slice() {
@@ -52,8 +50,7 @@ fn merge(first: Wait, second: Wait) -> Option<Wait>
 
 /// Adds two waits, or one in place of them where they are for the same command.
 fn push_two(waits: &mut Vec<Wait>, first: Wait, second: Wait) -> Result<(), AllocError>
-    ensures { OnOk result ((s : List TrainState) → list_all (is_over s) waits.new.items
-        ≡ (list_all (is_over s) waits.old.items && (is_over s first && is_over s second))) }
+    ensures { OnOk result (AsksMore waits.old.items waits.new.items (λ s. is_over s first && is_over s second)) }
 {
     let Some(both) = merge(first, second) else {
         waits.push(first)?;
@@ -66,8 +63,7 @@ fn push_two(waits: &mut Vec<Wait>, first: Wait, second: Wait) -> Result<(), Allo
 
 /// Adds a wait; one for the same command as the last one is merged with it.
 fn push_wait(waits: &mut Vec<Wait>, wait: Wait) -> Result<(), AllocError>
-    ensures { OnOk result ((s : List TrainState) → list_all (is_over s) waits.new.items
-        ≡ (list_all (is_over s) waits.old.items && is_over s wait)) }
+    ensures { OnOk result (AsksMore waits.old.items waits.new.items (λ s. is_over s wait)) }
 {
     let Some(last) = waits.pop() else {
         waits.push(wait)?;
@@ -79,8 +75,7 @@ fn push_wait(waits: &mut Vec<Wait>, wait: Wait) -> Result<(), AllocError>
 
 /// Adds a wait of a train, if it is for another one.
 fn push_other(waits: &mut Vec<Wait>, wait: Wait, train: TrainNo) -> Result<(), AllocError>
-    ensures { OnOk result ((s : List TrainState) → list_all (is_over s) waits.new.items
-        ≡ (list_all (is_over s) waits.old.items && lets_pass s train wait)) }
+    ensures { OnOk result (AsksMore waits.old.items waits.new.items (λ s. lets_pass s train wait)) }
 {
     if wait.train == train {
         return Ok(());
@@ -91,8 +86,7 @@ fn push_other(waits: &mut Vec<Wait>, wait: Wait, train: TrainNo) -> Result<(), A
 
 /// Adds the waits of a queue that are for other trains.
 fn push_queue(waits: &mut Vec<Wait>, queue: &[Wait], train: TrainNo) -> Result<(), AllocError>
-    ensures { OnOk result ((s : List TrainState) → list_all (is_over s) waits.new.items
-        ≡ (list_all (is_over s) waits.old.items && list_all (lets_pass s train) queue.now)) }
+    ensures { OnOk result (AsksMore waits.old.items waits.new.items (λ s. list_all (lets_pass s train) queue.now)) }
 {
     for wait in queue {
         push_other(waits, *wait, train)?;

@@ -2,3 +2,4 @@
 pub mod Bounds
 pub mod Sentences
 pub mod Laws
+pub mod Ends

@@ -1,21 +1,21 @@
 //! The sentences about a bound. An error is want of memory.
 
-ghost use Rattle.std.specs.Prelude.{◌≡◌, ◌≤◌, ◌++◌, ◌∷◌, [], true, codes, decimal, All, IfOk, OnOk};
+ghost use Rattle.std.specs.Prelude.{◌≡◌, ◌≤◌, ◌++◌, ◌∷◌, [], true, All, IfOk, OnOk};
 ghost use Rattle.std.specs.Option.{ForSome};
 ghost use Rattle.rail_base.specs.Stations.{IsTrain};
-ghost use Rattle.rail_outside.specs.Lines.{lines_of};
 ghost use Rattle.bound_spec.specs.declared.Requirement.TheVariants as requirement;
 ghost use Rattle.bound_spec.specs.Validity.{names_design, followed};
 ghost use Rattle.leg_targets.specs.Visits.{origin_of, visit_of};
 ghost use Rattle.bound_ticks.specs.Walks.{IsLeg};
-ghost use Rattle.bound_ticks.specs.Claims.{requirement_fits};
 ghost use Rattle.rail_base.specs.declared.station.Station.{Station};
 ghost use Rattle.cone_words.specs.Phrases.{sentence};
-ghost use Rattle.cone_words.specs.Cones.{parts_sentences};
-ghost use Rattle.evidence_words.specs.Bounds.{after_of, arrives_text, bound_sentences, chain_sentences, counted_after};
-ghost use Rattle.evidence_words.specs.Bounds.{end_text};
-ghost use Rattle.evidence_words.specs.Bounds.{end_tick, first_tick, horizon_text, origin_of_visit_text, origin_parts};
-ghost use Rattle.evidence_words.specs.Bounds.{made_text, origin_text, origin_tick, passed, since_text, start_text};
+ghost use Rattle.evidence_words.specs.Bounds.{after_of, bound_sentences, chain_sentences, counted_after, end_tick};
+ghost use Rattle.evidence_words.specs.Bounds.{first_tick, horizon_text, origin_parts, made_text, origin_text};
+ghost use Rattle.evidence_words.specs.Bounds.{origin_tick, passed, start_text};
+ghost use Rattle.rail_text.specs.Added.{AddsLines, AddsText};
+ghost use Rattle.interlocking.specs.Plans.{on};
+ghost use Rattle.evidence_words.specs.Ends.{said_of_arrival, said_of_end, said_since, said_of_origin};
+ghost use Rattle.evidence_words.specs.Ends.{visit_origin_text};
 
 use crate::legs::{Chain, put_moment};
 use bound_spec::{Bound, Leg, Origin, Requirement};
@@ -42,8 +42,7 @@ pub fn push_bound(
     lines: &mut Vec<Vec<u8>>,
 ) -> Result<(), AllocError>
     requires { let i = interlocking.now in names_design i.design.station i.routes bound.now ≡ true }
-    ensures { let i = interlocking.now in OnOk result (lines_of lines.new.items
-        ≡ lines_of lines.old.items ++ bound_sentences i.design.station i.routes bound.now line) }
+    ensures { OnOk result (AddsLines lines.old lines.new (on interlocking.now bound_sentences bound.now line)) }
 {
     let from = visit_from(interlocking, bound.requirement);
     let after = counted_after(&bound.origin, from);
@@ -68,8 +67,7 @@ fn put_start(text: &mut Vec<u8>) -> Result<(), AllocError>
 
 /// Appends a visit with its nodes.
 fn put_made(text: &mut Vec<u8>, design: &Design, visit: Visit) -> Result<(), AllocError>
-    ensures { let d = design.now.station in OnOk result (text.new.items
-        ≡ text.old.items ++ made_text d (visit_of visit)) }
+    ensures { OnOk result (AddsText text.old text.new (made_text design.now.station (visit_of visit))) }
 {
     put_makes(text, design, visit.train, visit.number)?;
     put_nodes(text, design, visit.train, visit.number)?;
@@ -83,8 +81,7 @@ fn put_origin_of_visit(
     visit: Visit,
     origin: &Origin,
 ) -> Result<(), AllocError>
-    ensures { OnOk result (text.new.items
-        ≡ text.old.items ++ origin_of_visit_text design.now.station (visit_of visit) origin.now) }
+    ensures { OnOk result (AddsText text.old text.new (visit_origin_text design.now.station visit origin.now)) }
 {
     match origin {
         Origin::Visit => {
@@ -133,8 +130,7 @@ fn push_origin_parts(
     origin: &Origin,
     lines: &mut Vec<Vec<u8>>,
 ) -> Result<(), AllocError>
-    ensures { let i = interlocking.now in OnOk result (lines_of lines.new.items
-        ≡ lines_of lines.old.items ++ origin_parts i.design.station i.routes line origin.now) }
+    ensures { OnOk result (AddsLines lines.old lines.new (on interlocking.now origin_parts line origin.now)) }
 {
     match origin {
         Origin::Visit => Ok(()),
@@ -206,8 +202,7 @@ fn origin_tick(origin: &Origin) -> u64
 impl End<'_> {
     /// Appends that a visit is made no earlier than the legs are through.
     fn put_arrives(&self, text: &mut Vec<u8>, train: TrainNo, visit: u32) -> Result<(), AllocError>
-        ensures { let d = self.now.interlocking.now.design.station in OnOk result (text.new.items
-            ≡ text.old.items ++ arrives_text d (origin_of self.now.after) self.now.tick train visit) }
+        ensures { OnOk result (AddsText text.old text.new (said_of_arrival self.now train visit)) }
     {
         let design = &self.interlocking.design;
         text.extend_from_slice(b"so ")?;
@@ -220,8 +215,7 @@ impl End<'_> {
 
     /// Appends the tick of the first visit, where ticks are those of the run.
     fn put_since(&self, text: &mut Vec<u8>) -> Result<(), AllocError>
-        ensures { OnOk result (text.new.items
-            ≡ text.old.items ++ since_text (origin_of self.now.after) self.now.origin_tick) }
+        ensures { OnOk result (AddsText text.old text.new (said_since self.now)) }
     {
         match self.after {
             None => {
@@ -235,8 +229,7 @@ impl End<'_> {
 
     /// Appends the horizon.
     fn put_horizon(&self, text: &mut Vec<u8>) -> Result<(), AllocError>
-        ensures { OnOk result (text.new.items
-            ≡ text.old.items ++ horizon_text self.now.interlocking.now.design.station) }
+        ensures { OnOk result (AddsText text.old text.new (horizon_text self.now.interlocking.now.design.station)) }
     {
         text.extend_from_slice(b"; the horizon is tick ")?;
         put_number(text, self.interlocking.design.horizon())?;
@@ -245,9 +238,7 @@ impl End<'_> {
 
     /// Appends that a within fails.
     fn put_within(&self, text: &mut Vec<u8>, number: u32) -> Result<(), AllocError>
-        ensures { let d = self.now.interlocking.now.design.station in OnOk result (text.new.items
-            ≡ text.old.items ++ end_text d (origin_of self.now.after) self.now.origin_tick self.now.tick
-            (requirement.Within number)) }
+        ensures { OnOk result (AddsText text.old text.new (said_of_end self.now (requirement.Within number))) }
     {
         let within = within_of(&self.interlocking.design, number);
         self.put_arrives(text, within.to_train, within.to_visit)?;
@@ -261,9 +252,7 @@ impl End<'_> {
 
     /// Appends that an order fails.
     fn put_order(&self, text: &mut Vec<u8>, number: u32) -> Result<(), AllocError>
-        ensures { let d = self.now.interlocking.now.design.station in OnOk result (text.new.items
-            ≡ text.old.items ++ end_text d (origin_of self.now.after) self.now.origin_tick self.now.tick
-            (requirement.Order number)) }
+        ensures { OnOk result (AddsText text.old text.new (said_of_end self.now (requirement.Order number))) }
     {
         let order = order_of(&self.interlocking.design, number);
         self.put_arrives(text, order.first_train, order.first_visit)?;
@@ -281,9 +270,7 @@ impl End<'_> {
 
     /// Appends that a grant comes after the horizon.
     fn put_grant(&self, text: &mut Vec<u8>, command: Command) -> Result<(), AllocError>
-        ensures { let d = self.now.interlocking.now.design.station in OnOk result (text.new.items
-            ≡ text.old.items ++ end_text d (origin_of self.now.after) self.now.origin_tick self.now.tick
-            (requirement.Grant command)) }
+        ensures { OnOk result (AddsText text.old text.new (said_of_end self.now (requirement.Grant command))) }
     {
         let design = &self.interlocking.design;
         text.extend_from_slice(b"so ")?;
@@ -298,8 +285,7 @@ impl End<'_> {
 
     /// Appends when the legs are through, and what is asked for.
     fn put_end(&self, text: &mut Vec<u8>, requirement: Requirement) -> Result<(), AllocError>
-        ensures { let d = self.now.interlocking.now.design.station in OnOk result (text.new.items
-            ≡ text.old.items ++ end_text d (origin_of self.now.after) self.now.origin_tick self.now.tick requirement) }
+        ensures { OnOk result (AddsText text.old text.new (said_of_end self.now requirement)) }
     {
         match requirement {
             Requirement::Within { within } => self.put_within(text, within),
@@ -342,8 +328,7 @@ fn push_chain(
     requires train { ForSome after (λ v. IsTrain interlocking.now.design.station v.train) }
     ensures end { let i = interlocking.now in
         IfOk result (λ n. n ≡ end_tick i.design.station i.routes bound.now) }
-    ensures lines { let i = interlocking.now in OnOk result (lines_of lines.new.items
-        ≡ lines_of lines.old.items ++ chain_sentences i.design.station i.routes bound.now line) }
+    ensures lines { OnOk result (AddsLines lines.old lines.new (on interlocking.now chain_sentences bound.now line)) }
 {
     let legs = bound.legs.as_slice();
     let most = most_followed(alloc, interlocking, legs)?;
@@ -366,9 +351,7 @@ fn push_origin(
     from: Option<Visit>,
     lines: &mut Vec<Vec<u8>>,
 ) -> Result<(), AllocError>
-    ensures { let i = interlocking.now in let d = i.design.station in OnOk result (lines_of lines.new.items
-        ≡ lines_of lines.old.items ++ (sentence line (origin_text d origin.now (origin_of from))
-        ∷ origin_parts d i.routes line origin.now)) }
+    ensures { OnOk result (AddsLines lines.old lines.new (said_of_origin interlocking.now line origin.now from)) }
 {
     let text = origin_text(alloc, &interlocking.design, origin, from)?;
     push_sentence(alloc, lines, line, &text)?;
@@ -383,9 +366,7 @@ fn push_end(
     requirement: Requirement,
     lines: &mut Vec<Vec<u8>>,
 ) -> Result<(), AllocError>
-    ensures { let d = end.now.interlocking.now.design.station in OnOk result (lines_of lines.new.items
-        ≡ lines_of lines.old.items ++ sentence line
-        (end_text d (origin_of end.now.after) end.now.origin_tick end.now.tick requirement) ∷ []) }
+    ensures { OnOk result (AddsLines lines.old lines.new (sentence line (said_of_end end.now requirement) ∷ [])) }
 {
     let mut text = Vec::new(alloc);
     end.put_end(&mut text, requirement)?;

@@ -1,11 +1,11 @@
 //! The sentences about the legs of a bound, one after the other. An error is want of memory.
 
-ghost use Rattle.std.specs.Prelude.{◌≡◌, ◌≤◌, ◌+◌, ◌++◌, All, IfOk, OnOk, codes, decimal, length};
+ghost use Rattle.std.specs.Prelude.{◌≡◌, ◌≤◌, ◌+◌, ◌++◌, All, IfOk, OnOk};
 ghost use Rattle.std.specs.Option.{ForSome};
 ghost use Rattle.rail_base.specs.Stations.{IsTrain};
-ghost use Rattle.rail_outside.specs.Lines.{lines_of};
 ghost use Rattle.leg_targets.specs.Visits.{origin_of};
 ghost use Rattle.evidence_words.specs.Bounds.{moment_text};
+ghost use Rattle.rail_text.specs.Added.{AddsLines};
 
 use crate::places::{leg_text, put_meeting};
 use bound_spec::{Leg, first_train, last_routes};
@@ -58,6 +58,7 @@ pub struct Chain<'a> {
 }
 
 impl Chain<'_> {
+    ghost use Rattle.evidence_words.specs.Ends.{end_of_legs, last_ticks, said_of_legs, said_of_leg, said_of_wait, said_of_waiting};
     ghost use Rattle.bound_ticks.specs.Chains.{chain_of, end_ticks};
     ghost use Rattle.bound_ticks.specs.Walks.{IsLeg};
     ghost use Rattle.std.specs.Prelude.{◌∷◌, []};
@@ -75,16 +76,10 @@ impl Chain<'_> {
         lines: &mut Vec<Vec<u8>>,
     ) -> Result<u64, AllocError>
         requires legs { All (IsLeg self.now.interlocking.now) legs.now }
-        requires at_most_10_000_000 { let i = self.now.interlocking.now in let d = i.design.station in
-            tick + chain_of d i.routes self.now.most (origin_of from) (origin_of self.now.to) legs.now ≤ 10000000 }
+        requires at_most_10_000_000 { end_of_legs self.now from tick legs.now ≤ 10000000 }
         requires from { ForSome from (λ v. IsTrain self.now.interlocking.now.design.station v.train) }
-        ensures end { let i = self.now.interlocking.now in let d = i.design.station in
-            IfOk result (λ n. n
-            ≡ tick + chain_of d i.routes self.now.most (origin_of from) (origin_of self.now.to) legs.now) }
-        ensures lines { let i = self.now.interlocking.now in OnOk result (lines_of lines.new.items
-            ≡ lines_of lines.old.items
-            ++ legs_sentences i.design.station i.routes self.now.most self.now.line (origin_of self.now.after)
-            (origin_of from) tick legs.now) }
+        ensures end { IfOk result (λ n. n ≡ end_of_legs self.now from tick legs.now) }
+        ensures lines { OnOk result (AddsLines lines.old lines.new (said_of_legs self.now from tick legs.now)) }
     {
         match legs {
             [] => Ok(tick),
@@ -114,8 +109,7 @@ impl Chain<'_> {
         leg: &Leg,
         rest: &[Leg],
     ) -> Result<Vec<u8>, AllocError>
-        ensures { let i = self.now.interlocking.now in IfOk result (λ text. text.items
-            ≡ wait_text i.design.station i.routes (origin_of self.now.after) tick leg.now rest.now) }
+        ensures { IfOk result (λ text. text.items ≡ said_of_wait self.now tick leg.now rest.now) }
     {
         let design = &self.interlocking.design;
         let first = first_routes(rest);
@@ -135,8 +129,7 @@ impl Chain<'_> {
     fn end_ticks(&self, alloc: Global, from: Option<Visit>, leg: &Leg) -> Result<u64, AllocError>
         requires leg { IsLeg self.now.interlocking.now leg.now }
         requires from { ForSome from (λ v. IsTrain self.now.interlocking.now.design.station v.train) }
-        ensures { let i = self.now.interlocking.now in IfOk result (λ n. n
-            ≡ end_ticks i.design.station i.routes self.now.most (origin_of from) (origin_of self.now.to) leg.now) }
+        ensures { IfOk result (λ n. n ≡ last_ticks self.now from leg.now) }
     {
         let Some(visit) = self.to else {
             return Ok(0);
@@ -152,8 +145,7 @@ impl Chain<'_> {
 
     /// Appends the sentence about a leg.
     fn push_leg(&self, alloc: Global, leg: &Leg, lines: &mut Vec<Vec<u8>>) -> Result<(), AllocError>
-        ensures { let i = self.now.interlocking.now in OnOk result (lines_of lines.new.items
-            ≡ lines_of lines.old.items ++ sentence self.now.line (leg_text i.design.station leg.now) ∷ []) }
+        ensures { OnOk result (AddsLines lines.old lines.new (said_of_leg self.now leg.now ∷ [])) }
     {
         let text = leg_text(alloc, &self.interlocking.design, leg)?;
         push_sentence(alloc, lines, self.line, &text)
@@ -168,10 +160,7 @@ impl Chain<'_> {
         rest: &[Leg],
         lines: &mut Vec<Vec<u8>>,
     ) -> Result<(), AllocError>
-        ensures { let i = self.now.interlocking.now in let d = i.design.station in
-            OnOk result (lines_of lines.new.items
-            ≡ lines_of lines.old.items ++ (sentence self.now.line (leg_text d leg.now)
-            ∷ sentence self.now.line (wait_text d i.routes (origin_of self.now.after) tick leg.now rest.now) ∷ [])) }
+        ensures { OnOk result (AddsLines lines.old lines.new (said_of_waiting self.now tick leg.now rest.now)) }
     {
         self.push_leg(alloc, leg, lines)?;
         let text = self.wait_text(alloc, tick, leg, rest)?;

@@ -3,7 +3,9 @@
 ghost use Rattle.std.specs.Prelude.{◌≡◌, ◌++◌, codes, IfOk, OnOk};
 ghost use Rattle.bound_spec.specs.Certificates.{kept_out};
 ghost use Rattle.cone_words.specs.Phrases.{each_after, joined};
-ghost use Rattle.evidence_words.specs.Bounds.{leg_text, meeting_text, only, place_text, unused_text};
+ghost use Rattle.evidence_words.specs.Bounds.{leg_text, only, place_text, unused_text};
+ghost use Rattle.rail_text.specs.Added.{AddsText};
+ghost use Rattle.evidence_words.specs.Ends.{said_of_meeting};
 
 use bound_spec::{Leg, Place, routes_of};
 use cone_words::{put_any_route, put_shared};
@@ -31,8 +33,7 @@ pub fn put_meeting(
     last: &[RouteNo],
     first: &[RouteNo],
 ) -> Result<(), AllocError>
-    ensures { let i = interlocking.now in OnOk result (text.new.items
-        ≡ text.old.items ++ meeting_text i.design.station i.routes (only last.now) (only first.now)) }
+    ensures { OnOk result (AddsText text.old text.new (said_of_meeting interlocking.now last.now first.now)) }
 {
     let Some(route) = only(last) else {
         return text.extend_from_slice(b"what the two routes share");

@@ -1,8 +1,9 @@
 //! The sentences about the evidence of a line.
 
-ghost use Rattle.std.specs.Prelude.{◌≡◌, ◌++◌, true, OnOk};
-ghost use Rattle.rail_outside.specs.Lines.{lines_of};
+ghost use Rattle.std.specs.Prelude.{◌≡◌, true, OnOk};
 ghost use Rattle.evidence_words.specs.Sentences.{evidence_sentences, names_what_is_there};
+ghost use Rattle.rail_text.specs.Added.{AddsLines};
+ghost use Rattle.interlocking.specs.Plans.{on};
 
 use crate::bounds::push_bound;
 use bound_spec::Evidence;
@@ -25,8 +26,7 @@ pub fn push_evidence(
 ) -> Result<(), AllocError>
     requires names { let i = interlocking.now in
         names_what_is_there i.design.station i.routes evidence.now ≡ true }
-    ensures { let i = interlocking.now in OnOk result (lines_of lines.new.items
-        ≡ lines_of lines.old.items ++ evidence_sentences i.design.station i.routes line evidence.now) }
+    ensures { OnOk result (AddsLines lines.old lines.new (on interlocking.now evidence_sentences line evidence.now)) }
 {
     match evidence {
         Evidence::Cone(cone) => push_cone(alloc, interlocking, line, cone, lines),

@@ -1,8 +1,9 @@
 //! The distance on which a train gains its speed.
 
-ghost use Rattle.std.specs.Prelude.{◌≡◌, ◌<◌, ◌≤◌, ◌+◌, ◌-◌, ◌^◌, not, ◌&&◌, ◌||◌, nat_abs, nat_lt, nat_le};
+ghost use Rattle.std.specs.Prelude.{◌≡◌, ◌<◌, ◌≤◌, ◌+◌, ◌-◌, ◌||◌, nat_abs};
 ghost use Rattle.rail_motion.specs.Track.{IsRising, stretches_of};
 ghost use Rattle.free_spec.specs.Free.{behind, rise};
+ghost use Rattle.free_moves.specs.Moves.{span_allows};
 
 use rail_motion::Span;
 
@@ -51,8 +52,7 @@ fn end_of(span: &Span) -> u64
 fn allows(span: &Span, from: u64, accel: u64, place: u64, speed: u64) -> bool
     requires accel { 1 ≤ accel }
     requires speed { speed ≤ 100000 }
-    ensures { result ≡ (not (nat_lt from (nat_abs span.now.end) && nat_le (nat_abs span.now.end) place)
-        || nat_le (rise accel speed (nat_abs span.now.limit)) (place - nat_abs span.now.end)) }
+    ensures { result ≡ span_allows span.now from accel place speed }
 {
     let end = end_of(span);
     end <= from || end > place || rise(accel, speed, span.limit as u64) <= place - end

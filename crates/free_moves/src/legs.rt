@@ -1,16 +1,13 @@
 //! The least ticks of trips on legs, and whatever follows a walk.
 
-ghost use Rattle.std.specs.Prelude.{◌≡◌, ◌<◌, ◌≤◌, ◌^◌, ◌+◌, All, IfOk, length, None, Some, if◌then◌else◌, nat_abs};
+ghost use Rattle.std.specs.Prelude.{◌≡◌, ◌<◌, ◌≤◌, ◌^◌, ◌+◌, All, IfOk, length, None, Some, if◌then◌else◌};
 ghost use Rattle.std.specs.Option.{ForSome};
 ghost use Rattle.rail_motion.specs.Ranges.{IsPlace};
 ghost use Rattle.rail_motion.specs.Track.{end_of};
 ghost use Rattle.rail_base.specs.Routes.{IsRoute, route_at};
 ghost use Rattle.cone_spec.specs.Validity.{from_boundary};
-ghost use Rattle.rail_course.specs.Tracks.{routes_at, path_length};
-ghost use Rattle.free_spec.specs.Free.{steps, steps_from_stop};
-ghost use Rattle.free_spec.specs.Legs.{following, least_over, least_whatever_follows, with_next};
-ghost use Rattle.free_moves.specs.Moves.{free_on};
-ghost use Rattle.free_moves.specs.Trips.{trip_ticks};
+ghost use Rattle.free_spec.specs.Legs.{following};
+ghost use Rattle.free_moves.specs.Trips.{least_trip_ticks, track_ticks, path_ticks, next_ticks, least_with_next};
 
 use crate::following::{exits, from_boundary, goes_further, is_dead, length_of};
 use crate::moves::LegTrack;
@@ -25,9 +22,7 @@ impl Trip<'_> {
     pub(crate) fn least_ticks(&self, alloc: Global, path: &[RouteNo]) -> Result<u64, AllocError>
         requires routes { All (IsRoute self.now.interlocking.now.routes) path.now }
         requires at_most_64 { length path.now ≤ 64 }
-        ensures { let routes = self.now.interlocking.now.routes in
-            let walk = routes_at routes path.now in
-            IfOk result (λ n. n ≡ least_whatever_follows (trip_ticks self.now) routes walk (from_boundary walk)) }
+        ensures { IfOk result (λ n. n ≡ least_trip_ticks self.now path.now) }
     {
         let routes = &self.interlocking.routes;
         let rest = from_boundary(routes, path);
@@ -40,10 +35,7 @@ impl Trip<'_> {
 
     /// The least ticks of the trip on the track of a leg, or one more than its most where so many don't reach.
     fn ticks_on(&self, track: &LegTrack) -> u64
-        ensures { let gain = nat_abs track.now.motor.accel + nat_abs track.now.motor.brake in
-            result ≡ (if self.now.waits
-            then steps_from_stop (free_on track.now) gain self.now.from 0 self.now.most self.now.from self.now.to
-            else steps (free_on track.now) self.now.most self.now.from self.now.to) }
+        ensures { result ≡ track_ticks self.now track.now }
     {
         if self.waits {
             track.steps_from_stop(self.most, self.from, self.to)
@@ -62,8 +54,7 @@ impl Trip<'_> {
     ) -> Result<u64, AllocError>
         requires routes { All (IsRoute self.now.interlocking.now.routes) path.now }
         requires at_most_65 { length path.now ≤ 65 }
-        ensures { IfOk result (λ n. n ≡ trip_ticks self.now
-            (record { routes = routes_at self.now.interlocking.now.routes path.now; closed = closed; rest = rest })) }
+        ensures { IfOk result (λ n. n ≡ path_ticks self.now path.now closed rest) }
     {
         let interlocking = self.interlocking;
         let spans = spans_of(alloc, interlocking, path)?;
@@ -89,9 +80,7 @@ impl Trip<'_> {
         requires routes { All (IsRoute self.now.interlocking.now.routes) path.now }
         requires next { IsRoute self.now.interlocking.now.routes next }
         requires at_most_64 { length path.now ≤ 64 }
-        ensures { let routes = self.now.interlocking.now.routes in
-            let longer = with_next (routes_at routes path.now) rest (route_at routes next) in
-            IfOk result (λ n. n ≡ trip_ticks self.now longer) }
+        ensures { IfOk result (λ n. n ≡ next_ticks self.now path.now rest next) }
     {
         let mut longer = Vec::new(alloc);
         longer.extend_from_slice(path)?;
@@ -110,9 +99,7 @@ impl Trip<'_> {
     ) -> Result<u64, AllocError>
         requires routes { All (IsRoute self.now.interlocking.now.routes) path.now }
         requires at_most_64 { length path.now ≤ 64 }
-        ensures { let routes = self.now.interlocking.now.routes in
-            let legs = following routes (routes_at routes path.now) rest in
-            IfOk result (λ n. n ≡ least_over (trip_ticks self.now) first legs) }
+        ensures { IfOk result (λ n. n ≡ least_with_next self.now path.now rest first) }
     {
         let routes = &self.interlocking.routes;
         let mut least = first;

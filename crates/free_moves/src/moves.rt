@@ -1,10 +1,8 @@
 //! Free moves.
 
 ghost use Rattle.std.specs.Prelude.{◌≡◌, ◌<◌, ◌≤◌, ◌+◌, ◌^◌, nat_abs};
-ghost use Rattle.rail_motion.specs.Motor.{rates_of};
-ghost use Rattle.rail_motion.specs.Track.{stretches_of, end_of};
 ghost use Rattle.rail_spec.specs.Motion.{can_brake};
-ghost use Rattle.free_moves.specs.Moves.{is_free_on, free_on};
+ghost use Rattle.free_moves.specs.Moves.{is_free_on, free_on, can_brake_on};
 
 use crate::gains::{behind, rise};
 use rail_motion::{Ahead, Motor, is_permitted};
@@ -73,10 +71,7 @@ impl LegTrack<'_> {
     fn can_brake(&self, place: u64, speed: u64) -> bool
         requires place { place < 2 ^ 47 }
         requires speed { speed ≤ nat_abs self.now.motor.top }
-        ensures { let motor = self.now.motor in
-            let track = stretches_of self.now.ahead.spans.now in
-            let end = end_of self.now.ahead.end in
-            result ≡ can_brake speed (nat_abs motor.brake) (nat_abs motor.tail) track end place speed }
+        ensures { result ≡ can_brake_on self.now place speed }
     {
         let next = speed as i64;
         is_permitted(&self.motor, &self.ahead, place as i64, next, next)

@@ -1,8 +1,8 @@
 //! Steps of free moves.
 
-ghost use Rattle.std.specs.Prelude.{◌≡◌, ◌<◌, ◌≤◌, ◌+◌, ◌^◌, nat_abs};
+ghost use Rattle.std.specs.Prelude.{◌≡◌, ◌<◌, ◌≤◌, ◌+◌, ◌^◌};
 ghost use Rattle.free_spec.specs.Free.{steps, steps_from_stop};
-ghost use Rattle.free_moves.specs.Moves.{free_on};
+ghost use Rattle.free_moves.specs.Moves.{free_on, waited_on};
 
 use crate::moves::LegTrack;
 
@@ -31,8 +31,7 @@ impl LegTrack<'_> {
     pub(crate) fn steps_from_stop(&self, most: u64, from: u64, to: u64) -> u64
         requires at_most_86400 { most ≤ 86400 }
         requires to { to < 2 ^ 47 }
-        ensures { let gain = nat_abs self.now.motor.accel + nat_abs self.now.motor.brake in
-            result ≡ steps_from_stop (free_on self.now) gain from 0 most from to }
+        ensures { result ≡ waited_on self.now most from to }
     {
         let gain = self.accel() + self.brake();
         let mut place = from;

@@ -4,7 +4,7 @@ ghost use Rattle.std.specs.Prelude.{◌≡◌, ◌<◌, ◌≤◌, ◌^◌, All,
 ghost use Rattle.rail_base.specs.Routes.{IsRoute};
 ghost use Rattle.rail_base.specs.Stations.{IsTrain};
 ghost use Rattle.bound_spec.specs.Rides.{on_ticks, run_ticks};
-ghost use Rattle.rail_course.specs.Tracks.{routes_at};
+ghost use Rattle.free_moves.specs.Trips.{walk_run_ticks, walk_on_ticks};
 
 use crate::trips::Trip;
 use interlocking::Interlocking;
@@ -27,8 +27,7 @@ pub fn run_ticks(
     requires at_most_64 { length walk.now ≤ 64 }
     requires place { place < 2 ^ 47 }
     requires at_most_86400 { most ≤ 86400 }
-    ensures { let d = interlocking.now.design.station in let routes = interlocking.now.routes in
-        IfOk result (λ ticks. ticks ≡ run_ticks d routes most train (routes_at routes walk.now) place) }
+    ensures { IfOk result (λ n. n ≡ walk_run_ticks interlocking.now most train walk.now place) }
 {
     let trip = Trip {
         interlocking,
@@ -58,8 +57,7 @@ pub fn on_ticks(
     requires at_most_64 { length walk.now ≤ 64 }
     requires place { place < 2 ^ 47 }
     requires at_most_86400 { most ≤ 86400 }
-    ensures { let d = interlocking.now.design.station in let routes = interlocking.now.routes in
-        IfOk result (λ ticks. ticks ≡ on_ticks d routes most train (routes_at routes walk.now) from place) }
+    ensures { IfOk result (λ n. n ≡ walk_on_ticks interlocking.now most train walk.now from place) }
 {
     let trip = Trip {
         interlocking,

@@ -1,5 +1,5 @@
 -- How far a head can come in a tick on a leg: routes in a row, of which nothing is known before them. Places are in mm from the start of the leg.
-use Rattle.std.specs.Prelude.{ℕ, zero, suc, ◌+◌, ◌-◌, ◌*◌, ◌/◌, min, max, Bool, true, not, ◌&&◌, ◌||◌, if◌then◌else◌, List, [], ◌∷◌, nat_le, nat_lt, Option}
+use Rattle.std.specs.Prelude.{ℕ, zero, suc, ◌+◌, ◌-◌, ◌*◌, ◌/◌, min, max, Bool, true, not, ◌&&◌, ◌||◌, if◌then◌else◌, List, [], ◌∷◌, nat_le, nat_lt, Option, ◌≡◌, ◌≤◌}
 use Rattle.rail_base.specs.Numbering.{greatest}
 use Rattle.rail_spec.specs.Motion.{MotorSeen, SpanSeen, can_brake}
 
@@ -40,3 +40,8 @@ steps_from_stop move c x0 j (suc h) x y =
     let next = min (x + move x) (x0 + c * (suc j * (suc j + 1)) / 2) in
     let later = steps_from_stop move c x0 (suc j) h next y in
     if nat_le y x then 0 else suc later
+
+-- a speed below one that is free is free, where the motor reaches that
+abbrev pub LowerIsFree : MotorSeen → List SpanSeen → Option ℕ → Type 0
+LowerIsFree m ss end = (rest : Bool) (x u w : ℕ) → u ≤ m.top → w ≤ u
+    → is_free m ss end rest x u ≡ true → is_free m ss end rest x w ≡ true

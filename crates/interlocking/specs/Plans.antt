@@ -1,9 +1,15 @@
 -- What plans over an interlocking are.
 use Rattle.std.specs.Prelude.{ℕ, Bool, List}
+use Rattle.rail_base.specs.declared.station.Station.{Station}
+use Rattle.rail_base.specs.declared.route.Route.{Route}
 use Rattle.rail_base.specs.declared.plan.Command.{Command}
 use Rattle.rail_spec.specs.Feasible as feasible
 use Rattle.rail_spec.specs.Plans as plans
 use Rattle.interlocking.specs.declared.railway.Interlocking.{Interlocking}
+
+-- what is said of a station and its routes, of those of the interlocking
+abbrev pub on {ℓ} : {A : Type ℓ} → Interlocking → (Station → List Route → A) → A
+on i word = word i.design.station i.routes
 
 module _ (i : Interlocking) where
   -- every command of the plan names a train and a route

@@ -1,15 +1,14 @@
 //! The places on walks to which legs lead, in mm from the start of the walk.
 
-ghost use Rattle.std.specs.Prelude.{◌≡◌, ◌≤◌, ◌+◌, ◌*◌, List, ℤ, All, length};
+ghost use Rattle.std.specs.Prelude.{◌≡◌, ◌≤◌, ◌+◌, ◌*◌, All, length};
 ghost use Rattle.rail_base.specs.declared.station.NodeNo.{NodeNo};
 ghost use Rattle.rail_base.specs.Numbering.{after_first};
 ghost use Rattle.rail_base.specs.Routes.{IsRoute, release_offset, route_at, shared};
 ghost use Rattle.rail_base.specs.Stations.{IsTrain};
 ghost use Rattle.rail_spec.specs.Plans.{has_node};
-ghost use Rattle.rail_course.specs.Tracks.{routes_at};
 ghost use Rattle.bound_spec.specs.Certificates.{first_in, nodes_of_visit, target, visit_offset, visit_place};
 ghost use Rattle.bound_spec.specs.Rides.{greatest_of, release_place};
-ghost use Rattle.leg_targets.specs.Visits.{visit_of};
+ghost use Rattle.leg_targets.specs.Visits.{release_on, target_on, visit_place_on};
 
 use interlocking::{Interlocking, has_node};
 use rail_base::design::Design;
@@ -36,8 +35,7 @@ pub fn release_place(
     requires walk { All (IsRoute interlocking.now.routes) walk.now }
     requires at_most_64 { length walk.now ≤ 64 }
     requires next { IsRoute interlocking.now.routes next }
-    ensures place { let routes = interlocking.now.routes in let rs = routes_at routes walk.now in
-        result ≡ release_place interlocking.now.design.station train rs (route_at routes next) }
+    ensures place { result ≡ release_on interlocking.now train walk.now next }
     ensures within_walk { result ≤ length walk.now * 40000000000 + 4294967295 }
 {
     let routes = &interlocking.routes;
@@ -60,8 +58,7 @@ pub fn target(interlocking: &Interlocking, visit: Visit, walk: &[RouteNo]) -> u6
     requires train { IsTrain interlocking.now.design.station visit.train }
     requires walk { All (IsRoute interlocking.now.routes) walk.now }
     requires at_most_64 { length walk.now ≤ 64 }
-    ensures place { let rs = routes_at interlocking.now.routes walk.now in
-        result ≡ target interlocking.now.design.station (visit_of visit) rs }
+    ensures place { result ≡ target_on interlocking.now visit walk.now }
     ensures within_walk { result ≤ length walk.now * 40000000000 }
 {
     let routes = &interlocking.routes;
@@ -79,8 +76,7 @@ pub fn target(interlocking: &Interlocking, visit: Visit, walk: &[RouteNo]) -> u6
 pub fn visit_place(interlocking: &Interlocking, visit: Visit, walk: &[RouteNo]) -> u64
     requires train { IsTrain interlocking.now.design.station visit.train }
     requires walk { All (IsRoute interlocking.now.routes) walk.now }
-    ensures { let rs = routes_at interlocking.now.routes walk.now in
-        result ≡ visit_place interlocking.now.design.station (visit_of visit) rs }
+    ensures { result ≡ visit_place_on interlocking.now visit walk.now }
 {
     match walk {
         [] => 0,

@@ -1,12 +1,12 @@
 //! The clauses that the lines of a file leave.
 
-ghost use Rattle.std.specs.Prelude.{◌≡◌, ◌∷◌, ◌++◌, IfOk, OnOk, Ok, Err, Some, None, is_some, true, List, ℕ};
+ghost use Rattle.std.specs.Prelude.{◌≡◌, ◌∷◌, IfOk, OnOk, Ok, Err, None, is_some, true, List, ℕ};
 ghost use Rattle.sat_clause.specs.Clauses.{live_clause, without};
-ghost use Rattle.sat_clause.specs.Hints.{follow_of};
-ghost use Rattle.log_checker.specs.Verdict.{at_first, with_clause, is_derived, forgotten, by_follow, by_evidence};
-ghost use Rattle.log_checker.specs.Verdict.{by_forget, derived_by, forgotten_by};
+ghost use Rattle.log_checker.specs.Verdict.{at_first, with_clause, is_derived, forgotten, by_evidence, derived_by};
+ghost use Rattle.log_checker.specs.Verdict.{forgotten_by};
 ghost use Rattle.log_checker.specs.declared.check_result.Reason.{Reason};
 ghost use Rattle.log_checker.specs.declared.database.Fault.TheVariants.{Bad};
+ghost use Rattle.log_checker.specs.Faults.{IfBad};
 
 use crate::check_result::Reason;
 use crate::refuter::{RefuteFault, Refuter};
@@ -73,8 +73,7 @@ impl ClauseDatabase {
         shown: Option<u32>,
     ) -> Result<(), Fault>
         ensures ok { OnOk result (derived_by self.old clause.now hints.now shown ≡ Ok self.new) }
-        ensures bad { (reason : Reason) → result ≡ Err (Bad reason)
-            → derived_by self.old clause.now hints.now shown ≡ Err reason }
+        ensures bad { IfBad result (λ reason. derived_by self.old clause.now hints.now shown ≡ Err reason) }
     {
         match follows(marks, &self.clauses, clause, hints) {
             Ok(Follow::Yes) => self.push(clause, true, shown),
@@ -93,8 +92,7 @@ impl ClauseDatabase {
         evidence: &Evidence,
     ) -> Result<(), Fault>
         ensures ok { OnOk result (by_evidence self.old (R.refute refuter.now evidence.now) ≡ Ok self.new) }
-        ensures bad { (reason : Reason) → result ≡ Err (Bad reason)
-            → by_evidence self.old (R.refute refuter.now evidence.now) ≡ Err reason }
+        ensures bad { IfBad result (λ reason. by_evidence self.old (R.refute refuter.now evidence.now) ≡ Err reason) }
     {
         match refuter.clause_of(alloc, evidence) {
             Ok(clause) => self.push(&clause, false, None),

@@ -7,6 +7,7 @@ ghost use Rattle.log_checker.specs.Verdict.{if_within, may_stand, parsed, steps_
 ghost use Rattle.log_checker.specs.declared.check_result.Reason.{Reason};
 ghost use Rattle.log_checker.specs.declared.check_result.Reason.TheVariants.{Text};
 ghost use Rattle.log_checker.specs.declared.database.Fault.TheVariants.{Bad};
+ghost use Rattle.log_checker.specs.Faults.{IfBad};
 
 use crate::check_result::Reason;
 use crate::database::{ClauseDatabase, Fault};
@@ -100,8 +101,7 @@ fn is_within(head: Head, line: &Line, vars: u32) -> bool
 /// The line that is parsed from a piece of a file.
 fn line_in(alloc: Global, head: Head, vars: u32, piece: &Piece<'_>) -> Result<Line, Fault>
     ensures ok { IfOk result (λ line. parsed head vars (line_of_piece piece.now) ≡ Some line) }
-    ensures bad { (reason : Reason) → result ≡ Err (Bad reason)
-        → (reason ≡ Text) × (parsed head vars (line_of_piece piece.now) ≡ None) }
+    ensures bad { IfBad result (λ reason. (reason ≡ Text) × (parsed head vars (line_of_piece piece.now) ≡ None)) }
 {
     if !piece.ended {
         return Err(Fault::Bad(Reason::Text));

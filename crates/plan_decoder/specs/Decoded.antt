@@ -4,7 +4,7 @@ use Rattle.rail_base.specs.declared.station.Station.{Station}
 use Rattle.rail_base.specs.declared.route.Route.{Route}
 use Rattle.rail_base.specs.declared.plan.Command.{Command}
 use Rattle.clause_spec.specs.Variables.{Variable, By, number_of}
-use Rattle.clause_spec.specs.Models.{given_by}
+use Rattle.clause_spec.specs.Models.{given_by, given_in}
 use Rattle.sat_core.specs.Models.{value_in}
 
 module _ (d : Station) (routes : List Route) (n : ℕ) (values : List Bool) where
@@ -19,3 +19,7 @@ module _ (d : Station) (routes : List Route) (n : ℕ) (values : List Bool) wher
   -- where the values say that all is given by step k, there are at most k steps
   abbrev pub EndsAsSaid : List (List Command) → Type 0
   EndsAsSaid steps = (k : ℕ) → 1 ≤ k → k ≤ n → says (By k) ≡ true → length steps ≤ k
+
+  -- the commands that they give by a step and not by the one before
+  abbrev pub new_in : ℕ → List Command
+  new_in step = given_in d routes n says step

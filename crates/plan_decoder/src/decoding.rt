@@ -1,19 +1,14 @@
 //! How the plan of values is put together, step by step.
 
-ghost use Rattle.std.specs.Prelude.{◌≡◌, ℕ, ◌≤◌, ◌<◌, ◌-◌, ◌++◌, ◌∷◌, [], List, true, filter, length, take, IfOk};
-ghost use Rattle.std.specs.Prelude.{IsFalse, IsTrue, OnOk};
-ghost use Rattle.std.specs.List.{list_all};
+ghost use Rattle.std.specs.Prelude.{◌≡◌, ℕ, ◌≤◌, ◌<◌, ◌-◌, ◌++◌, ◌∷◌, [], List, filter, length, take, IfOk, IsFalse};
+ghost use Rattle.std.specs.Prelude.{IsTrue, OnOk};
 ghost use Rattle.rail_base.specs.declared.station.Station.{Station};
 ghost use Rattle.rail_base.specs.declared.route.Route.{Route};
-ghost use Rattle.rail_spec.specs.Feasible.{IsRunnable};
 ghost use Rattle.rail_spec.specs.Plans.{commands_of};
-ghost use Rattle.sat_clause.specs.Clauses.{clause_holds};
-ghost use Rattle.sat_core.specs.Models.{value_in};
-ghost use Rattle.clause_spec.specs.Clauses.{base_clauses};
-ghost use Rattle.clause_spec.specs.Laws.{Agrees};
-ghost use Rattle.clause_spec.specs.Models.{cut_off, decoded, given_by, given_in, model_of};
-ghost use Rattle.plan_encoding.specs.Bases.{HasCommand, IsBaseOf};
-ghost use Rattle.plan_decoder.specs.Decoded.{EndsAsSaid, is_new, says};
+ghost use Rattle.clause_spec.specs.Models.{cut_off, given_by, given_in};
+ghost use Rattle.plan_encoding.specs.Bases.{HasCommand, IsBaseOf, OfBase};
+ghost use Rattle.plan_decoder.specs.Decoded.{is_new, says, new_in};
+ghost use Rattle.plan_decoder.specs.Plans.{IsDecoded, DecodesRunnable, DecodesInAgreement, DecodesAsSaid};
 
 use plan_encoding::Base;
 use rail_base::list::List;
@@ -31,17 +26,10 @@ use std::alloc::{AllocError, Global};
 ///
 /// Want of memory.
 pub fn decode(alloc: Global, base: &Base, values: &Assignment) -> Result<Plan, AllocError>
-    ensures value { (d : Station) (routes : List Route) (n : ℕ) → IsBaseOf d routes n base.now
-        → IfOk result (λ plan. plan.steps ≡ decoded d routes n (value_in values.now)) }
-    ensures runnable { (d : Station) (routes : List Route) (n : ℕ) → IsBaseOf d routes n base.now → 1 ≤ n
-        → list_all (clause_holds (value_in values.now)) (base_clauses d routes n) ≡ true
-        → IfOk result (λ plan. IsRunnable d routes n plan.steps) }
-    ensures agrees { (d : Station) (routes : List Route) (n : ℕ) → IsBaseOf d routes n base.now → 1 ≤ n
-        → list_all (clause_holds (value_in values.now)) (base_clauses d routes n) ≡ true
-        → IfOk result (λ plan. Agrees d routes n (model_of d routes n plan.steps) (value_in values.now)) }
-    ensures ends { (d : Station) (routes : List Route) (n : ℕ) → IsBaseOf d routes n base.now
-        → list_all (clause_holds (value_in values.now)) (base_clauses d routes n) ≡ true
-        → IfOk result (λ plan. EndsAsSaid d routes n values.now plan.steps) }
+    ensures value { IsDecoded base.now values.now result }
+    ensures runnable { DecodesRunnable base.now values.now result }
+    ensures agrees { DecodesInAgreement base.now values.now result }
+    ensures ends { DecodesAsSaid base.now values.now result }
 {
     let mut steps = Vec::new(alloc);
     for step in 1..=base.counts().steps {
@@ -57,8 +45,7 @@ pub fn decode(alloc: Global, base: &Base, values: &Assignment) -> Result<Plan, A
 fn is_given(base: &Base, values: &Assignment, command: Command, step: u32) -> bool
     requires command { HasCommand base.now command }
     requires step { step ≤ base.now.steps }
-    ensures { (d : Station) (routes : List Route) (n : ℕ) → IsBaseOf d routes n base.now
-        → result ≡ given_by (says d routes n values.now) command step }
+    ensures { OfBase base.now (λ d routes n. result ≡ given_by (says d routes n values.now) command step) }
 {
     if step == 0 {
         return false;
@@ -71,8 +58,7 @@ fn is_new(base: &Base, values: &Assignment, command: Command, step: u32) -> bool
     requires command { HasCommand base.now command }
     requires at_least_one { 1 ≤ step }
     requires within { step ≤ base.now.steps }
-    ensures { (d : Station) (routes : List Route) (n : ℕ) → IsBaseOf d routes n base.now
-        → result ≡ is_new d routes n values.now step command }
+    ensures { OfBase base.now (λ d routes n. result ≡ is_new d routes n values.now step command) }
 {
     is_given(base, values, command, step) && !is_given(base, values, command, step - 1)
 }
@@ -133,8 +119,7 @@ fn given_in(
 ) -> Result<List<Command>, AllocError>
     requires at_least_one { 1 ≤ step }
     requires within { step ≤ base.now.steps }
-    ensures { (d : Station) (routes : List Route) (n : ℕ) → IsBaseOf d routes n base.now
-        → IfOk result (λ commands. commands ≡ given_in d routes n (says d routes n values.now) step) }
+    ensures { OfBase base.now (λ d routes n. IfOk result (λ cs. cs ≡ new_in d routes n values.now step)) }
 {
     let mut commands = Vec::new(alloc);
     for train in 1..=base.counts().trains {

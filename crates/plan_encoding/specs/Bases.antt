@@ -1,13 +1,17 @@
 -- What a base is.
-use Rattle.std.specs.Prelude.{ℕ, ◌≡◌, ◌≤◌, true, List, length, map, Some}
+use Rattle.std.specs.Prelude.{ℕ, ◌≡◌, ◌≤◌, true, List, length, map, Some, if◌then◌else◌, Option, None}
 use Rattle.sat_clause.specs.Clauses.{Store}
 use Rattle.rail_base.specs.declared.station.Station.{Station}
 use Rattle.rail_base.specs.declared.route.Route.{Route}
 use Rattle.rail_base.specs.declared.plan.Command.{Command}
-use Rattle.clause_spec.specs.Variables.{pairs}
+use Rattle.clause_spec.specs.Variables.{pairs, Given, Before, numbered, yes}
 use Rattle.clause_spec.specs.Clauses.{base_clauses, past_limit}
 use Rattle.plan_encoding.specs.declared.sink.BaseFault.{BaseFault}
 use Rattle.plan_encoding.specs.declared.sink.BaseFault.TheVariants.{TooLarge, Memory}
+use Rattle.rail_base.specs.declared.station.TrainNo.{TrainNo}
+use Rattle.rail_base.specs.declared.route.RouteNo.{RouteNo}
+use Rattle.rail_spec.specs.Plans.{contend}
+use Rattle.sat_clause.specs.declared.lit.Lit.{Lit}
 
 -- how many trains, routes and steps there are, the pairs that contend, and clauses
 pub record Numbered : Type 0 where
@@ -36,3 +40,15 @@ pub record IsBaseOf (d : Station) (table : List Route) (n : ℕ) (b : Numbered) 
 abbrev pub IsRefused : Station → List Route → ℕ → BaseFault → Type 0
 IsRefused d routes n (TooLarge k) = past_limit 16000000 0 (base_clauses d routes n) ≡ Some k
 IsRefused d routes n Memory = Unit {0}
+
+-- it is so of each design and number of steps of which this is the base
+abbrev pub OfBase : Numbered → (Station → List Route → ℕ → Type 0) → Type 0
+OfBase base Is = (d : Station) (routes : List Route) (n : ℕ) → IsBaseOf d routes n base → Is d routes n
+
+-- the literal that a train is given a route by a step
+abbrev pub given_number : Station → List Route → ℕ → TrainNo → RouteNo → ℕ → Lit
+given_number d routes n t r i = numbered d routes n (yes (Given (record { train = t; route = r }) i))
+
+-- the literal that one command is given before another, where they contend
+abbrev pub before_number : Station → List Route → ℕ → Command → Command → Option Lit
+before_number d routes n e c = if contend routes e c then Some (numbered d routes n (yes (Before e c))) else None

@@ -1,10 +1,12 @@
 //! How the base of a design is made: all clauses are emitted twice, first to count their literals, then to keep them.
 
-ghost use Rattle.std.specs.Prelude.{◌≡◌, IfOk, OnOk, IfErr, None};
-ghost use Rattle.clause_spec.specs.Clauses.{base_clauses, clauses, past_limit};
+ghost use Rattle.std.specs.Prelude.{IfOk, OnOk, IfErr};
+ghost use Rattle.clause_spec.specs.Clauses.{base_clauses, clauses};
 ghost use Rattle.plan_encoding.specs.Bases.{IsBaseOf, IsRefused};
 ghost use Rattle.plan_encoding.specs.Families.{alone, together, defining};
 ghost use Rattle.plan_encoding.specs.Encoders.{Emits, Stops, over};
+ghost use Rattle.interlocking.specs.Plans.{on};
+ghost use Rattle.clause_spec.specs.Laws.{HasFewLiterals};
 
 use crate::encoder::Encoder;
 use crate::numbered::{Base, base_of};
@@ -64,8 +66,7 @@ impl Tables<'_> {
 /// `TooLarge` exactly where the clauses have more than 16,000,000 literals; `Memory` where memory is wanting.
 pub fn base(alloc: Global, interlocking: &Interlocking, steps: Steps) -> Result<Base, BaseFault>
     ensures base { IfOk result (IsBaseOf interlocking.now.design.station interlocking.now.routes steps.count) }
-    ensures within { OnOk result (past_limit 16000000 0
-        (base_clauses interlocking.now.design.station interlocking.now.routes steps.count) ≡ None) }
+    ensures within { OnOk result (HasFewLiterals (on interlocking.now base_clauses steps.count)) }
     ensures fault { IfErr result (IsRefused interlocking.now.design.station interlocking.now.routes steps.count) }
 {
     let encoder = Encoder {

@@ -1,11 +1,10 @@
 //! A base, and the numbers of its variables.
 
-ghost use Rattle.std.specs.Prelude.{◌≡◌, ℕ, ◌≤◌, List, Some, None, if◌then◌else◌, length};
+ghost use Rattle.std.specs.Prelude.{◌≡◌, ℕ, ◌≤◌, List, Some, None, length};
 ghost use Rattle.rail_base.specs.declared.station.Station.{Station};
 ghost use Rattle.rail_base.specs.declared.route.Route.{Route};
-ghost use Rattle.rail_spec.specs.Plans.{contend};
-ghost use Rattle.clause_spec.specs.Variables.{Given, Before, By, yes, numbered, variable_count};
-ghost use Rattle.plan_encoding.specs.Bases.{HasCommand, IsBaseOf};
+ghost use Rattle.clause_spec.specs.Variables.{By, yes, numbered, variable_count};
+ghost use Rattle.plan_encoding.specs.Bases.{HasCommand, IsBaseOf, OfBase, given_number, before_number};
 
 use contending::ContendingPairs;
 use interlocking::{Interlocking, Steps};
@@ -57,8 +56,7 @@ impl Base {
     pub fn given_lit(&self, train: TrainNo, route: RouteNo, step: u32) -> Lit
         requires command { HasCommand self.now (record { train = train; route = route }) }
         requires step { step ≤ self.now.steps }
-        ensures { (d : Station) (routes : List Route) (n : ℕ) → IsBaseOf d routes n self.now
-            → result ≡ numbered d routes n (yes (Given (record { train = train; route = route }) step)) }
+        ensures { OfBase self.now (λ d routes n. result ≡ given_number d routes n train route step) }
     {
         Lit {
             var: ((train.0 - 1) * self.routes + (route.0 - 1)) * self.steps.count + step,
@@ -70,9 +68,7 @@ impl Base {
     pub fn before(&self, first: Command, second: Command) -> Option<Lit>
         requires first { HasCommand self.now first }
         requires second { HasCommand self.now second }
-        ensures { (d : Station) (routes : List Route) (n : ℕ) → IsBaseOf d routes n self.now
-            → result ≡
-            (if contend routes first second then Some (numbered d routes n (yes (Before first second))) else None) }
+        ensures { OfBase self.now (λ d routes n. result ≡ before_number d routes n first second) }
     {
         match self.pairs.place(first, second) {
             Some(place) => Some(Lit {
@@ -86,8 +82,7 @@ impl Base {
     /// The literal that all is given by a step.
     pub fn selector(&self, step: u32) -> Lit
         requires { step ≤ self.now.steps }
-        ensures { (d : Station) (routes : List Route) (n : ℕ) → IsBaseOf d routes n self.now
-            → result ≡ numbered d routes n (yes (By step)) }
+        ensures { OfBase self.now (λ d routes n. result ≡ numbered d routes n (yes (By step))) }
     {
         Lit {
             var: self.trains * self.routes * self.steps.count + self.pairs.count() as u32 + step,

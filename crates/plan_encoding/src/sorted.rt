@@ -1,9 +1,10 @@
 //! The base with the clauses that each train comes in turn with the next one that is like it.
 
-ghost use Rattle.std.specs.Prelude.{◌≡◌, IfOk, OnOk, IfErr, None};
-ghost use Rattle.clause_spec.specs.Clauses.{past_limit};
+ghost use Rattle.std.specs.Prelude.{IfOk, OnOk, IfErr};
 ghost use Rattle.alike_clause_spec.specs.Sorted.{sorted_base};
 ghost use Rattle.plan_encoding.specs.Sorted.{IsSortedBaseOf, IsSortedRefused};
+ghost use Rattle.interlocking.specs.Plans.{on};
+ghost use Rattle.clause_spec.specs.Laws.{HasFewLiterals};
 
 use crate::encoder::Encoder;
 use crate::numbered::{Base, base_of};
@@ -34,8 +35,7 @@ pub fn sorted_base(
     steps: Steps,
 ) -> Result<SortedBase, BaseFault>
     ensures base { IfOk result (IsSortedBaseOf interlocking.now.design.station interlocking.now.routes steps.count) }
-    ensures within { OnOk result (past_limit 16000000 0
-        (sorted_base interlocking.now.design.station interlocking.now.routes steps.count) ≡ None) }
+    ensures within { OnOk result (HasFewLiterals (on interlocking.now sorted_base steps.count)) }
     ensures fault { IfErr result
         (IsSortedRefused interlocking.now.design.station interlocking.now.routes steps.count) }
 {

@@ -1,9 +1,9 @@
 //! What is asked at the ticks of a run.
 
-ghost use Rattle.std.specs.Prelude.{◌≡◌, ◌<◌, false, None};
+ghost use Rattle.std.specs.Prelude.{◌≡◌, ◌<◌, None};
 ghost use Rattle.rail_require.specs.Ticks.{HasNumbers};
 ghost use Rattle.rail_require.specs.Violations.{violation_in};
-ghost use Rattle.plan_run.specs.Due.{IsDue, may_fail};
+ghost use Rattle.plan_run.specs.Due.{IsDue, may_fail, StaysDue, HoldsElse};
 
 use crate::due::next_due;
 use dispatch_run::Progress;
@@ -14,8 +14,7 @@ use rail_require::violation_of_history;
 /// The next tick, up to the last, at which a greatest time may end. It stays until it comes, or a visit is made.
 pub(crate) fn due_after(design: &Design, progress: &Progress, due: u64, last: u64) -> u64
     requires now { progress.now.tick < last }
-    requires stays { may_fail progress.now due ≡ false
-        → IsDue design.now.station progress.now.histories.items progress.now.tick last due }
+    requires stays { StaysDue design.now.station progress.now due last }
     ensures { IsDue design.now.station progress.now.histories.items progress.now.tick last result }
 {
     if may_fail(progress, due) {
@@ -28,8 +27,7 @@ pub(crate) fn due_after(design: &Design, progress: &Progress, due: u64, last: u6
 /// The first violation that is certain at the tick of a run. It is looked for only where something may fail.
 pub(crate) fn violation_now(design: &Design, progress: &Progress, due: u64) -> Option<Violation>
     requires numbers { HasNumbers progress.now.histories.items }
-    requires else_none { may_fail progress.now due ≡ false
-        → violation_in design.now.station progress.now.histories.items progress.now.tick ≡ None }
+    requires else_none { HoldsElse design.now.station progress.now due }
     ensures { result ≡ violation_in design.now.station progress.now.histories.items progress.now.tick }
 {
     if may_fail(progress, due) {

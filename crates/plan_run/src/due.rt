@@ -1,9 +1,8 @@
 //! When a greatest time may end.
 
-ghost use Rattle.std.specs.Prelude.{◌≡◌, ◌⊎◌, ◌≤◌, ◌<◌, ◌+◌, ◌-◌};
+ghost use Rattle.std.specs.Prelude.{◌⊎◌, ◌≤◌, ◌<◌, ◌+◌, ◌-◌};
 ghost use Rattle.rail_base.specs.declared.station.Within.{Within};
-ghost use Rattle.rail_base.specs.Members.{In};
-ghost use Rattle.plan_run.specs.Due.{IsNotDue};
+ghost use Rattle.plan_run.specs.Due.{IsNotDue, NoneIsDue};
 
 use rail_base::design::Design;
 use rail_base::station::Within;
@@ -14,8 +13,7 @@ pub(crate) fn next_due(design: &Design, history: &[TrainHistory], now: u64, last
     requires now { now < last }
     ensures after { now < result }
     ensures within { result ≤ last }
-    ensures undue { (w : Within) → In w design.now.station.withins
-        → IsNotDue design.now.station history.now now (result - 1 - now) w }
+    ensures undue { NoneIsDue design.now.station history.now now (result - 1 - now) }
 {
     now + 1 + all_open_for(design, history, now, last - now - 1)
 }
@@ -51,8 +49,7 @@ fn ticks_before(due: u64, tick: u64, most: u64) -> u64
 fn all_open_for(design: &Design, history: &[TrainHistory], tick: u64, most: u64) -> u64
     requires { tick < 18446744073709551615 }
     ensures within { result ≤ most }
-    ensures undue { (w : Within) → In w design.now.station.withins
-        → IsNotDue design.now.station history.now tick result w }
+    ensures undue { NoneIsDue design.now.station history.now tick result }
 {
     let mut quiet = most;
     for within in design.station.withins.as_slice() {

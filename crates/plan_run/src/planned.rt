@@ -1,8 +1,9 @@
 //! The traffic of a plan.
 
-ghost use Rattle.std.specs.Prelude.{◌≡◌, IfOk};
-ghost use Rattle.rail_spec.specs.Dispatches.{of_plan};
+ghost use Rattle.std.specs.Prelude.{IfOk};
 ghost use Rattle.dispatch_run.specs.FollowedTrains.{AreFollowedTrains};
+ghost use Rattle.interlocking.specs.Plans.{on};
+ghost use Rattle.rail_course.specs.Dispatched.{dispatch_of};
 
 use dispatch_run::FollowedTrain;
 use rail_course::PlannedJourneys;
@@ -13,9 +14,7 @@ pub(crate) fn followed_trains<'a>(
     run: &PlannedJourneys<'a>,
     alloc: Global,
 ) -> Result<Vec<FollowedTrain<'a>>, AllocError>
-    ensures { IfOk result
-        (λ f. AreFollowedTrains run.now.interlocking.now.design.station run.now.interlocking.now.routes
-        (of_plan run.now.interlocking.now.routes run.now.plan.now.steps) f.items) }
+    ensures { IfOk result (λ f. on run.now.interlocking.now AreFollowedTrains (dispatch_of run.now) f.items) }
 {
     let mut followed_trains = Vec::new(alloc);
     for journey in run.journeys {

@@ -1,14 +1,14 @@
 //! The verdict of a plan.
 
-ghost use Rattle.std.specs.Prelude.{◌≡◌, ℕ, true, IfOk, None};
-ghost use Rattle.rail_spec.specs.Plans.{is_executable};
+ghost use Rattle.std.specs.Prelude.{◌≡◌, IfOk, None};
 ghost use Rattle.rail_spec.specs.Feasible.{IsWellFormed};
 ghost use Rattle.rail_spec.specs.Requirements.{path_violation};
 ghost use Rattle.rail_spec.specs.Histories.{verdict_of};
-ghost use Rattle.rail_spec.specs.Safety.{Clash, KeepsToTrack};
-ghost use Rattle.rail_laws.specs.Progress.{IsGrantedInTime};
+ghost use Rattle.rail_spec.specs.Safety.{KeepsToTrack};
 ghost use Rattle.rail_spec.specs.Dispatches.{Dispatch};
 ghost use Rattle.plan_run.specs.Planned.{IsPlanned};
+ghost use Rattle.interlocking.specs.Plans.{on};
+ghost use Rattle.rail_laws.specs.Plans.{StaysApart, GrantsInTime};
 
 use crate::asked::{due_after, violation_now};
 use crate::planned::followed_trains;
@@ -34,13 +34,10 @@ pub fn simulate(
     ticks: u64,
 ) -> Result<Verdict, AllocError>
     requires formed { IsWellFormed interlocking.now.design.station interlocking.now.routes 256 plan.now.steps }
-    ensures value { IfOk result (λ v. v
-        ≡ verdict_of interlocking.now.design.station interlocking.now.routes plan.now.steps ticks) }
+    ensures value { IfOk result (λ v. v ≡ on interlocking.now verdict_of plan.now.steps ticks) }
     ensures keeps { KeepsToTrack interlocking.now.design.station interlocking.now.routes plan.now.steps }
-    ensures granted { is_executable interlocking.now.design.station interlocking.now.routes plan.now.steps ≡ true
-        → IsGrantedInTime interlocking.now.design.station interlocking.now.routes plan.now.steps }
-    ensures apart { is_executable interlocking.now.design.station interlocking.now.routes plan.now.steps ≡ true
-        → (k : ℕ) → Clash interlocking.now.design.station interlocking.now.routes plan.now.steps k → ⊥ }
+    ensures granted { on interlocking.now GrantsInTime plan.now.steps }
+    ensures apart { on interlocking.now StaysApart plan.now.steps }
 {
     run_plan(alloc, interlocking, plan, ticks)
 }
@@ -55,11 +52,8 @@ fn verdict_by_events(
 ) -> Result<Verdict, AllocError>
     ghost dispatch: { Dispatch }
     requires planned { IsPlanned dispatch traffic.now plan.now.steps }
-    requires paths { path_violation traffic.now.interlocking.now.design.station traffic.now.interlocking.now.routes
-        plan.now.steps ≡ None }
-    ensures { IfOk result (λ v. v
-        ≡ verdict_of traffic.now.interlocking.now.design.station traffic.now.interlocking.now.routes
-        plan.now.steps ticks) }
+    requires paths { on traffic.now.interlocking.now path_violation plan.now.steps ≡ None }
+    ensures { IfOk result (λ v. v ≡ on traffic.now.interlocking.now verdict_of plan.now.steps ticks) }
 {
     let design = &traffic.interlocking.design;
     let last = ticks.min(design.horizon());
@@ -88,9 +82,7 @@ fn verdict_by_events(
 
 /// The verdict of the plan that is run.
 fn verdict(run: &PlannedJourneys, alloc: Global, ticks: u64) -> Result<Verdict, AllocError>
-    ensures { IfOk result (λ v. v
-        ≡ verdict_of run.now.interlocking.now.design.station run.now.interlocking.now.routes
-        run.now.plan.now.steps ticks) }
+    ensures { IfOk result (λ v. v ≡ on run.now.interlocking.now verdict_of run.now.plan.now.steps ticks) }
 {
     let Some(violation) = run.path_violation() else {
         let followed_trains = followed_trains(run, alloc)?;
@@ -118,8 +110,7 @@ fn run_plan<'a>(
     ticks: u64,
 ) -> Result<Verdict, AllocError>
     requires { IsWellFormed interlocking.now.design.station interlocking.now.routes 256 plan.now.steps }
-    ensures { IfOk result (λ v. v
-        ≡ verdict_of interlocking.now.design.station interlocking.now.routes plan.now.steps ticks) }
+    ensures { IfOk result (λ v. v ≡ on interlocking.now verdict_of plan.now.steps ticks) }
 {
     let paths = paths_of(alloc, interlocking, plan)?;
     let given = Itineraries {

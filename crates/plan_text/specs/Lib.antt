@@ -1,2 +1,3 @@
 -- The text of a plan.
 pub mod Text
+pub mod Laws

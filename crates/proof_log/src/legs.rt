@@ -2,7 +2,7 @@
 
 ghost use Rattle.std.specs.Prelude.{◌≡◌, IfOk, Some, None, Err};
 ghost use Rattle.proof_log.specs.Parts.{made};
-ghost use Rattle.proof_log.specs.Reading.{words_left};
+ghost use Rattle.proof_log.specs.Reading.{words_left, ReadsPart};
 ghost use Rattle.proof_log.specs.declared.line.LineFault.TheVariants.{Text};
 ghost use Rattle.proof_log.specs.Bounds.{among_by, among, place_of, places, some_places, leg, legs, some_legs};
 
@@ -35,8 +35,7 @@ pub fn some_legs<'a>(
 
 /// A place of some routes, after the word `a`.
 fn among<'a>(alloc: Global, words: Option<&'a [u8]>) -> Result<(Place, Option<&'a [u8]>), LineFault>
-    ensures ok { IfOk result (λ found.
-        made among_by (among (words_left words.entry)) ≡ Some (found.0, words_left found.1)) }
+    ensures ok { ReadsPart result (made among_by (among (words_left words.entry))) }
     ensures text { result ≡ Err Text → made among_by (among (words_left words.entry)) ≡ None }
 {
     let (routes, after) = train_path(alloc, words)?;
@@ -50,8 +49,7 @@ fn place_of<'a>(
     kind: &[u8],
     words: Option<&'a [u8]>,
 ) -> Result<(Place, Option<&'a [u8]>), LineFault>
-    ensures ok { IfOk result (λ found.
-        place_of kind.now (words_left words.entry) ≡ Some (found.0, words_left found.1)) }
+    ensures ok { ReadsPart result (place_of kind.now (words_left words.entry)) }
     ensures text { result ≡ Err Text → place_of kind.now (words_left words.entry) ≡ None }
 {
     if kind == b"n".as_slice() {

@@ -1,9 +1,9 @@
 //! The lists of a line, each ended by the word `0`.
 
-ghost use Rattle.std.specs.Prelude.{◌≡◌, IfOk, List, Option, ℕ, Some, None, Err};
+ghost use Rattle.std.specs.Prelude.{◌≡◌, List, Option, ℕ, Some, None, Err};
 ghost use Rattle.proof_log.specs.Words.{members_of, literal_of, route_of, clause_number_of};
 ghost use Rattle.proof_log.specs.Parts.{has_member};
-ghost use Rattle.proof_log.specs.Reading.{words_left};
+ghost use Rattle.proof_log.specs.Reading.{words_left, ReadsPart};
 ghost use Rattle.proof_log.specs.declared.line.LineFault.TheVariants.{Text};
 
 use crate::line::LineFault;
@@ -60,8 +60,7 @@ pub fn read_members<'a, M: Member>(
     alloc: Global,
     words: Option<&'a [u8]>,
 ) -> Result<(List<M>, Option<&'a [u8]>), LineFault>
-    ensures ok { IfOk result (λ found.
-        members_of M.member_of (words_left words.entry) ≡ Some (found.0, words_left found.1)) }
+    ensures ok { ReadsPart result (members_of M.member_of (words_left words.entry)) }
     ensures text { result ≡ Err Text → members_of M.member_of (words_left words.entry) ≡ None }
 {
     let mut members = List::new(alloc);

@@ -1,9 +1,9 @@
 //! Origins from the words of a line.
 
-ghost use Rattle.std.specs.Prelude.{◌≡◌, IfOk, Some, None, Err};
+ghost use Rattle.std.specs.Prelude.{◌≡◌, Some, None, Err};
 ghost use Rattle.bound_spec.specs.Certificates.{violation_of};
 ghost use Rattle.proof_log.specs.Parts.{made};
-ghost use Rattle.proof_log.specs.Reading.{words_left};
+ghost use Rattle.proof_log.specs.Reading.{words_left, ReadsPart};
 ghost use Rattle.proof_log.specs.declared.line.LineFault.TheVariants.{Text};
 ghost use Rattle.proof_log.specs.Bounds.{cone_by, cone_parts, origin_of, origin};
 
@@ -22,8 +22,7 @@ pub fn origin<'a>(
     requirement: Requirement,
     words: Option<&'a [u8]>,
 ) -> Result<(Origin, Option<&'a [u8]>), LineFault>
-    ensures ok { IfOk result (λ found.
-        origin requirement (words_left words.entry) ≡ Some (found.0, words_left found.1)) }
+    ensures ok { ReadsPart result (origin requirement (words_left words.entry)) }
     ensures text { result ≡ Err Text → origin requirement (words_left words.entry) ≡ None }
 {
     let Some(text) = words else {
@@ -54,8 +53,7 @@ fn cone<'a>(
     requirement: Requirement,
     words: Option<&'a [u8]>,
 ) -> Result<(Origin, Option<&'a [u8]>), LineFault>
-    ensures ok { IfOk result (λ found.
-        made (cone_by requirement) (cone_parts (words_left words.entry)) ≡ Some (found.0, words_left found.1)) }
+    ensures ok { ReadsPart result (made (cone_by requirement) (cone_parts (words_left words.entry))) }
     ensures text { result ≡ Err Text → made (cone_by requirement) (cone_parts (words_left words.entry)) ≡ None }
 {
     let Some((tick, after)) = horizon(words) else {
@@ -78,8 +76,7 @@ fn origin_of<'a>(
     kind: &[u8],
     words: Option<&'a [u8]>,
 ) -> Result<(Origin, Option<&'a [u8]>), LineFault>
-    ensures ok { IfOk result (λ found.
-        origin_of requirement kind.now (words_left words.entry) ≡ Some (found.0, words_left found.1)) }
+    ensures ok { ReadsPart result (origin_of requirement kind.now (words_left words.entry)) }
     ensures text { result ≡ Err Text → origin_of requirement kind.now (words_left words.entry) ≡ None }
 {
     if kind == b"from".as_slice() {

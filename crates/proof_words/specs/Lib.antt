@@ -2,3 +2,4 @@
 pub mod Meanings
 pub mod Named
 pub mod Explained
+pub mod Said

@@ -1,14 +1,15 @@
 //! The sentences about the lines of a proof file. An error is want of memory.
 
-ghost use Rattle.std.specs.Prelude.{◌≡◌, ◌++◌, true, All, IfOk, OnOk, Some, flat_map};
+ghost use Rattle.std.specs.Prelude.{◌≡◌, true, All, IfOk, OnOk, Some};
 ghost use Rattle.rail_base.specs.Numbering.{after_first};
 ghost use Rattle.rail_outside.specs.Lines.{lines_of};
 ghost use Rattle.rail_text.specs.Lines.{line_of_piece as piece_of};
 ghost use Rattle.rail_text.specs.Cursors.{lines_left};
 ghost use Rattle.rail_text.specs.Pieces.{pieces};
-ghost use Rattle.proof_log.specs.Lines.{line_in_bytes};
-ghost use Rattle.proof_words.specs.Meanings.{file_sentences, line_sentences, piece_sentences};
+ghost use Rattle.proof_words.specs.Meanings.{file_sentences};
 ghost use Rattle.proof_words.specs.Named.{IsNamedPiece, names_line};
+ghost use Rattle.rail_text.specs.Added.{AddsLines};
+ghost use Rattle.proof_words.specs.Said.{said_of_line, said_of_piece, said_of_pieces};
 
 use evidence_words::push_evidence;
 use interlocking::Interlocking;
@@ -43,8 +44,7 @@ fn push_line(
     lines: &mut Vec<Vec<u8>>,
 ) -> Result<(), AllocError>
     requires { names_line interlocking.now.design.station line.now ≡ true }
-    ensures { OnOk result (lines_of lines.new.items
-        ≡ lines_of lines.old.items ++ line_sentences interlocking.now.design.station number (Some line.now)) }
+    ensures { OnOk result (AddsLines lines.old lines.new (said_of_line interlocking.now number line.now)) }
 {
     match line {
         Line::Derive { .. } => Ok(()),
@@ -61,8 +61,7 @@ fn push_piece(
     lines: &mut Vec<Vec<u8>>,
 ) -> Result<(), AllocError>
     requires { IsNamedPiece interlocking.now.design.station (piece_of piece.now) }
-    ensures { OnOk result (lines_of lines.new.items
-        ≡ lines_of lines.old.items ++ piece_sentences interlocking.now.design.station (piece_of piece.now)) }
+    ensures { OnOk result (AddsLines lines.old lines.new (said_of_piece interlocking.now piece.now)) }
 {
     match read_line(alloc, piece.bytes) {
         Ok(line) => push_line(alloc, interlocking, piece.line, &line, lines),
@@ -79,9 +78,7 @@ fn push_pieces(
     lines: &mut Vec<Vec<u8>>,
 ) -> Result<(), AllocError>
     requires { All (IsNamedPiece interlocking.now.design.station) (lines_left pieces) }
-    ensures { OnOk result (lines_of lines.new.items
-        ≡ lines_of lines.old.items
-        ++ flat_map (piece_sentences interlocking.now.design.station) (lines_left pieces.entry)) }
+    ensures { OnOk result (AddsLines lines.old lines.new (said_of_pieces interlocking.now pieces.entry)) }
 {
     'pieces: for piece in pieces {
         push_piece(alloc, interlocking, &piece, lines)?;

@@ -1,5 +1,5 @@
 -- Trains under other numbers, and the plans that give their commands to these.
-use Rattle.std.specs.Prelude.{◌≡◌, ℕ, ◌+◌, List, [], ◌∷◌, map, if◌then◌else◌}
+use Rattle.std.specs.Prelude.{◌≡◌, ℕ, ◌+◌, List, [], ◌∷◌, map, if◌then◌else◌, ◌↔◌}
 use Rattle.std.specs.List.{list_any}
 use Rattle.rail_base.specs.declared.station.Station.{Station}
 use Rattle.rail_base.specs.declared.station.Order.{Order}
@@ -9,6 +9,9 @@ use Rattle.rail_base.specs.declared.plan.Command.{Command}
 use Rattle.rail_base.specs.Members.{In}
 use Rattle.rail_base.specs.Stations.{train_of, IsTrain}
 use Rattle.rail_spec.specs.Plans.{is_train}
+use Rattle.rail_base.specs.declared.route.Route.{Route}
+use Rattle.rail_spec.specs.Dispatches.{state_of, of_plan, state_at}
+use Rattle.rail_spec.specs.Feasible.{IsFeasible}
 
 -- the command, given to the train's other number
 abbrev pub renamed_command : (TrainNo → TrainNo) → Command → Command
@@ -51,3 +54,13 @@ abbrev pub first_step : List (List Command) → TrainNo → ℕ
 first_step [] t = 1
 first_step (step ∷ steps) t =
     if list_any (λ c. is_train c.train t) step then 1 else first_step steps t + 1
+
+-- in the run of a plan with other trains each other train is where its train is in the plan's own
+abbrev pub RunsAreRenamed : Station → (TrainNo → TrainNo) → Type 0
+RunsAreRenamed d other = (routes : List Route) (plan : List (List Command)) (k : ℕ) (x : TrainNo)
+    → state_of (state_at d routes (of_plan routes (renamed other plan)) k) (other x)
+    ≡ state_of (state_at d routes (of_plan routes plan) k) x
+
+-- a plan is feasible exactly where it is so with the other trains
+abbrev pub StaysFeasible : Station → (TrainNo → TrainNo) → Type 0
+StaysFeasible d other = (n : ℕ) (plan : List (List Command)) → IsFeasible d n (renamed other plan) ↔ IsFeasible d n plan

@@ -57,3 +57,12 @@ pub record HasBegunBy (d : Station) (routes : List Route) (plan : List (List Com
   pub starts : starts_in (first_visit (train_of d t)) (route_at routes route).start ≡ true
   pub given : has_command plan (record { train = t; route = route }) ≡ true
   pub no_later : step_of plan (record { train = t; route = route }) ≤ step_of plan c
+
+-- it is so of every list of pairs of trains that are alike
+abbrev pub EachPairing : (Station → List (TrainNo × TrainNo) → Type 0) → Type 0
+EachPairing Is = (d : Station) (pairs : List (TrainNo × TrainNo)) → ArePairs d pairs → Is d pairs
+
+-- where a train's first command comes no later than another's, by the step of each command of the other it has begun
+abbrev pub EarlierHasBegun : Station → List Route → ℕ → List (List Command) → Type 0
+EarlierHasBegun d routes n plan = (t : TrainNo) (c : Command) → IsTrain d t → first_step plan t ≤ first_step plan c.train
+    → has_command plan c ≡ true → HasBegunBy d routes plan t c

@@ -1,40 +1,30 @@
 //! Laws of trains that are alike, each the contract of a function that does nothing.
 
-ghost use Rattle.std.specs.Prelude.{◌≡◌, ◌↔◌, ℕ, ◌≤◌, true, List};
+ghost use Rattle.std.specs.Prelude.{◌↔◌, ℕ, List};
 ghost use Rattle.rail_base.specs.declared.station.Station.{Station};
 ghost use Rattle.rail_base.specs.declared.station.TrainNo.{TrainNo};
-ghost use Rattle.rail_base.specs.declared.route.Route.{Route};
 ghost use Rattle.rail_base.specs.declared.plan.Command.{Command};
 ghost use Rattle.rail_base.specs.Members.{In};
 ghost use Rattle.rail_base.specs.Stations.{IsTrain};
-ghost use Rattle.rail_spec.specs.Dispatches.{state_of, of_plan, state_at};
-ghost use Rattle.rail_spec.specs.Feasible.{IsWellFormed, IsFeasible, IsInfeasible};
-ghost use Rattle.rail_spec.specs.Plans.{has_command};
-ghost use Rattle.rail_alike.specs.Renaming.{Renames, renamed, first_step};
-ghost use Rattle.rail_alike.specs.Alike.{AreAlike, AreNeighbors, exchange, exchanged};
+ghost use Rattle.rail_spec.specs.Feasible.{IsFeasible, IsInfeasible};
+ghost use Rattle.rail_alike.specs.Renaming.{Renames, RunsAreRenamed, StaysFeasible};
+ghost use Rattle.rail_alike.specs.Alike.{AreAlike, AreNeighbors, exchange};
 ghost use Rattle.rail_alike.specs.Tests.{neighbors};
-ghost use Rattle.rail_alike.specs.Turns.{AllInTurn, AreNamed, ArePairs, ComeInTurn, HasAllInTurn, HasBegunBy, InTurn};
-ghost use Rattle.rail_alike.specs.Turns.{NoneInTurn};
+ghost use Rattle.rail_alike.specs.Turns.{AllInTurn, AreNamed, ArePairs, ComeInTurn, HasAllInTurn, InTurn, NoneInTurn};
+ghost use Rattle.rail_alike.specs.Turns.{EachPairing, EarlierHasBegun};
+ghost use Rattle.rail_laws.specs.Plans.{EachWellFormed};
 
 /// Where two trains are exchanged that are alike, each moves as the other did, and any other train as it did. So it is
 /// with any renaming of trains that the design doesn't notice.
 pub fn runs_are_exchanged()
-    ensures two { (d : Station) (t u : TrainNo) → AreAlike d t u
-        → (routes : List Route) (plan : List (List Command)) (k : ℕ) (x : TrainNo)
-        → state_of (state_at d routes (of_plan routes (exchanged t u plan)) k) (exchange t u x)
-        ≡ state_of (state_at d routes (of_plan routes plan) k) x }
-    ensures any { (d : Station) (other : TrainNo → TrainNo) → Renames d other
-        → (routes : List Route) (plan : List (List Command)) (k : ℕ) (x : TrainNo)
-        → state_of (state_at d routes (of_plan routes (renamed other plan)) k) (other x)
-        ≡ state_of (state_at d routes (of_plan routes plan) k) x }
+    ensures two { (d : Station) (t u : TrainNo) → AreAlike d t u → RunsAreRenamed d (exchange t u) }
+    ensures any { (d : Station) (other : TrainNo → TrainNo) → Renames d other → RunsAreRenamed d other }
 {}
 
 /// A plan is feasible exactly where it is so with the two exchanged, or with trains so renamed.
 pub fn plans_stay_feasible()
-    ensures two { (d : Station) (t u : TrainNo) → AreAlike d t u
-        → (n : ℕ) (plan : List (List Command)) → IsFeasible d n (exchanged t u plan) ↔ IsFeasible d n plan }
-    ensures any { (d : Station) (other : TrainNo → TrainNo) → Renames d other
-        → (n : ℕ) (plan : List (List Command)) → IsFeasible d n (renamed other plan) ↔ IsFeasible d n plan }
+    ensures two { (d : Station) (t u : TrainNo) → AreAlike d t u → StaysFeasible d (exchange t u) }
+    ensures any { (d : Station) (other : TrainNo → TrainNo) → Renames d other → StaysFeasible d other }
 {}
 
 /// Each train is like itself; where one is like another, that one is like it; and trains that are like one train are
@@ -48,11 +38,9 @@ pub fn likeness_goes_on()
 /// Where there is a feasible plan, there is one in which of each pair of trains that are alike the earlier is given its
 /// first command in a step no later than the other's. So where no plan that does so is feasible, none is.
 pub fn pairs_come_in_turn()
-    ensures of_pairs { (d : Station) (n : ℕ) (pairs : List (TrainNo × TrainNo)) → ArePairs d pairs
-        → ComeInTurn d n pairs }
-    ensures named { (d : Station) (pairs : List (TrainNo × TrainNo)) → ArePairs d pairs → AreNamed d pairs }
-    ensures none { (d : Station) (n : ℕ) (pairs : List (TrainNo × TrainNo)) → ArePairs d pairs
-        → NoneInTurn d n pairs → IsInfeasible d n }
+    ensures of_pairs { EachPairing (λ d pairs. (n : ℕ) → ComeInTurn d n pairs) }
+    ensures named { EachPairing AreNamed }
+    ensures none { EachPairing (λ d pairs. (n : ℕ) → NoneInTurn d n pairs → IsInfeasible d n) }
 {}
 
 /// The neighbors are exactly the trains that are alike with none between that is like them, and where they come in turn
@@ -71,7 +59,5 @@ pub fn all_alike_come_in_turn()
 /// Where two trains come in turn, by the step of each command of the later one the earlier is given a route that starts
 /// at its first visit.
 pub fn the_earlier_has_begun()
-    ensures { (d : Station) (routes : List Route) (n : ℕ) (plan : List (List Command)) → IsWellFormed d routes n plan
-        → (t : TrainNo) (c : Command) → IsTrain d t → first_step plan t ≤ first_step plan c.train
-        → has_command plan c ≡ true → HasBegunBy d routes plan t c }
+    ensures { EachWellFormed EarlierHasBegun }
 {}

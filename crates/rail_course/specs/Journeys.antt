@@ -3,12 +3,13 @@ use Rattle.std.specs.Prelude.{◌≡◌, List, All, map}
 use Rattle.rail_base.specs.declared.station.Station.{Station}
 use Rattle.rail_base.specs.declared.route.Route.{Route}
 use Rattle.rail_base.specs.Stations.{trains}
-use Rattle.rail_spec.specs.Dispatches.{Dispatch}
+use Rattle.rail_spec.specs.Dispatches.{Dispatch, of_plan}
 use Rattle.rail_course.specs.declared.journey.Journey.{Journey}
 use Rattle.rail_course.specs.Milestones.{AreMilestones, ComeInTurn}
 use Rattle.rail_course.specs.TrainPaths.{IsTrainPath}
 use Rattle.rail_course.specs.Ready.{GiveWhatIsReady}
 use Rattle.rail_course.specs.Releases.{releases_of_train}
+use Rattle.rail_base.specs.declared.plan.Command.{Command}
 
 -- the journey is that of its train
 pub record IsJourney (d : Station) (routes : List Route) (p : Dispatch) (j : Journey) : Type 0 where
@@ -22,3 +23,7 @@ pub record IsJourney (d : Station) (routes : List Route) (p : Dispatch) (j : Jou
 pub record AreJourneys (d : Station) (routes : List Route) (p : Dispatch) (js : List Journey) : Type 0 where
   pub all : map (λ (j : Journey). j.train_path.now.train) js ≡ trains d
   pub each : All (IsJourney d routes p) js
+
+-- these are the journeys of all trains in a plan, in file order
+abbrev pub ArePlanJourneys : Station → List Route → List (List Command) → List Journey → Type 0
+ArePlanJourneys d routes plan js = AreJourneys d routes (of_plan routes plan) js

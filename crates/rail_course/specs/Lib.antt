@@ -13,3 +13,4 @@ pub mod Journeys
 pub mod Itineraries
 pub mod Planned
 pub mod Runs
+pub mod Dispatched

@@ -1,8 +1,15 @@
 -- The nodes of a route as nodes of a path.
-use Rattle.std.specs.Prelude.{ℕ, ◌+◌, ℤ, nat_abs}
+use Rattle.std.specs.Prelude.{ℕ, ◌+◌, ℤ, nat_abs, ◌≡◌, ◌++◌, List, Vec}
 use Rattle.rail_base.specs.declared.station.NodeNo.{NodeNo}
 use Rattle.rail_base.specs.declared.state.PathNode.{PathNode}
+use Rattle.std.specs.declared.alloc.Global.{Global}
+use Rattle.rail_base.specs.declared.route.Route.{Route}
+use Rattle.rail_spec.specs.Visits.{path_nodes_after}
 
 -- a node of a route that begins there and has that number in the path
 abbrev pub path_node_at : ℕ → ℕ → NodeNo × ℤ → PathNode
 path_node_at offset j p = record { node = p.0; offset = offset + nat_abs p.1; command = j }
+
+-- the nodes of these routes, as those after the first of a path, are added from where they begin
+abbrev pub AddsNodes : Vec PathNode Global → Vec PathNode Global → ℕ → List Route → Type 0
+AddsNodes before after begin rs = after.items ≡ before.items ++ path_nodes_after begin 2 rs

@@ -13,7 +13,7 @@ use Rattle.rail_base.specs.Routes.{route_at, sections}
 use Rattle.rail_base.specs.Stations.{IsTrain}
 use Rattle.rail_spec.specs.Dispatches.{Dispatch, state_of, state_at, has_released, is_ready}
 use Rattle.rail_course.specs.declared.waits.Wait.{Wait}
-use Rattle.rail_course.specs.Waits.{is_over}
+use Rattle.rail_course.specs.Waits.{is_over, waits_of_train}
 
 module _ (d : Station) (routes : List Route) (p : Dispatch) where
   -- the states show what is granted and what is released at a tick of the run, wherever else trains are in them
@@ -28,3 +28,7 @@ module _ (d : Station) (routes : List Route) (p : Dispatch) where
     pub next : (k : ℕ) (s : List TrainState) → ShowTick k s → (r : RouteNo) (own : List Wait)
         → slice_get (p.path t) (state_of s t).granted ≡ Some r → slice_get waits (state_of s t).granted ≡ Some own
         → list_all (is_over s) own ≡ is_ready d routes p s (record { train = t; route = r })
+
+-- the waits of each train give what is ready
+abbrev pub WaitsGiveWhatIsReady : Station → List Route → Dispatch → Type 0
+WaitsGiveWhatIsReady d routes p = (t : TrainNo) → GiveWhatIsReady d routes p t (waits_of_train d routes p t)

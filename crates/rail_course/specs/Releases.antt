@@ -1,5 +1,5 @@
 -- When a train has released the sections of its path.
-use Rattle.std.specs.Prelude.{◌+◌, Bool, ◌&&◌, List, map, flat_map, length, nat_le, nat_lt, sum_by}
+use Rattle.std.specs.Prelude.{◌+◌, Bool, ◌&&◌, List, map, flat_map, length, nat_le, nat_lt, sum_by, ◌≡◌, ◌++◌, Vec}
 use Rattle.rail_base.specs.declared.station.Station.{Station}
 use Rattle.rail_base.specs.declared.station.SectionNo.{SectionNo}
 use Rattle.rail_base.specs.declared.station.TrainNo.{TrainNo}
@@ -11,6 +11,7 @@ use Rattle.rail_base.specs.Stations.{train_length}
 use Rattle.rail_base.specs.Routes.{route_at, sections, release_offset, length_mm}
 use Rattle.rail_spec.specs.Dispatches.{Dispatch, routes_before}
 use Rattle.rail_course.specs.declared.journey.Release.{Release}
+use Rattle.std.specs.declared.alloc.Global.{Global}
 
 -- the release has come
 abbrev pub is_released : TrainState → Release → Bool
@@ -34,3 +35,7 @@ module _ (d : Station) (routes : List Route) (p : Dispatch) where
   -- those of all its routes
   abbrev pub releases_of_train : TrainNo → List Release
   releases_of_train t = flat_map (releases_of_route t) (p.path t)
+
+-- these releases are added
+abbrev pub AddsReleases : Vec Release Global → Vec Release Global → List Release → Type 0
+AddsReleases before after more = after.items ≡ before.items ++ more

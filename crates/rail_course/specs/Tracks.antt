@@ -1,5 +1,5 @@
 -- Routes whose numbers name something and whose offsets are in range.
-use Rattle.std.specs.Prelude.{◌≡◌, ℕ, ◌≤◌, ◌<◌, ◌^◌, List, All, map, flat_map, length, nat_abs, sum_by}
+use Rattle.std.specs.Prelude.{◌≡◌, ℕ, ◌≤◌, ◌<◌, ◌^◌, List, All, map, flat_map, length, nat_abs, sum_by, ◌++◌, Vec}
 use Rattle.rail_base.specs.declared.station.Station.{Station}
 use Rattle.rail_base.specs.declared.station.EdgeNo.{EdgeNo}
 use Rattle.rail_base.specs.declared.station.SectionNo.{SectionNo}
@@ -9,6 +9,13 @@ use Rattle.rail_base.specs.declared.route.RouteNo.{RouteNo}
 use Rattle.rail_base.specs.declared.plan.Command.{Command}
 use Rattle.rail_base.specs.Stations.{IsEdge, IsTrain, edge_of, length_of, per_tick_speed, trains}
 use Rattle.rail_base.specs.Routes.{IsRoute, route_at, length_mm, release_offset}
+use Rattle.rail_spec.specs.Track.{routes_of, edge_ends}
+use Rattle.rail_spec.specs.Plans.{path}
+use Rattle.rail_spec.specs.Motion.{SpanSeen}
+use Rattle.rail_spec.specs.Dispatches.{stretches, stretch}
+use Rattle.std.specs.declared.alloc.Global.{Global}
+use Rattle.rail_motion.specs.declared.Span.{Span}
+use Rattle.rail_motion.specs.Track.{stretches_of}
 
 -- the edge is there, has a length, and has a limit of 1 to 100,000 mm per tick
 pub record HasLimit (d : Station) (e : EdgeNo) : Type 0 where
@@ -55,3 +62,23 @@ pub record ArePaths (d : Station) (routes : List Route) (path : TrainNo → List
   pub all : paths ≡ map path (trains d)
   pub path_a_train : length paths ≡ length d.trains
   pub range : All (IsPathInRange routes) paths
+
+-- the path of each train is in range
+abbrev pub PathsAreInRange : Station → List (List Command) → Type 0
+PathsAreInRange d plan = (t : TrainNo) → IsPathInRange (routes_of d) (path plan t)
+
+-- the path of each train in a plan
+abbrev pub all_paths : Station → List Route → List (List Command) → List (List RouteNo)
+all_paths d routes plan = map (path plan) (trains d)
+
+-- the stretches of the track of these routes
+abbrev pub stretches_along : Station → List Route → List RouteNo → List SpanSeen
+stretches_along d routes path = stretches d (routes_at routes path)
+
+-- the stretches of edges, from a place on
+abbrev pub stretches_from : Station → ℕ → List EdgeNo → List SpanSeen
+stretches_from d begin edges = map (stretch d) (edge_ends d begin edges)
+
+-- these stretches are added
+abbrev pub AddsSpans : Vec Span Global → Vec Span Global → List SpanSeen → Type 0
+AddsSpans before after more = stretches_of after.items ≡ stretches_of before.items ++ more

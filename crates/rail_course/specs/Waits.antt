@@ -8,9 +8,10 @@ use Rattle.rail_base.specs.declared.state.TrainState.{TrainState}
 use Rattle.rail_base.specs.Members.{In}
 use Rattle.rail_base.specs.Stations.{train_length}
 use Rattle.rail_base.specs.Routes.{route_at, share, length_mm}
-use Rattle.rail_spec.specs.Dispatches.{Dispatch, state_of, routes_before}
+use Rattle.rail_spec.specs.Dispatches.{Dispatch, state_of, routes_before, is_ready}
 use Rattle.interlocking.specs.Sections.{last_release}
 use Rattle.rail_course.specs.declared.waits.Wait.{Wait}
+use Rattle.std.specs.List.{list_all}
 
 -- the wait is over: the command is granted, and the head of its train is far enough
 abbrev pub is_over : List TrainState → Wait → Bool
@@ -37,3 +38,12 @@ module _ (d : Station) (routes : List Route) (p : Dispatch) where
   -- who waits shares a section with what it waits for
   abbrev pub IsContending : Type 0
   IsContending = (c e : Command) → In e (p.before c) → share (route_at routes e.route) (route_at routes c.route) ≡ true
+
+-- it is so of every dispatch in which who waits shares a section with what it waits for
+abbrev pub EachContending : (Station → List Route → Dispatch → Type 0) → Type 0
+EachContending Is = (d : Station) (routes : List Route) (p : Dispatch) → IsContending d routes p → Is d routes p
+
+-- a command is ready exactly where its waits are over
+abbrev pub IsReadyWhenOver : Station → List Route → Dispatch → Type 0
+IsReadyWhenOver d routes p = (s : List TrainState) (c : Command)
+    → is_ready d routes p s c ≡ list_all (is_over s) (waits_of d routes p c)

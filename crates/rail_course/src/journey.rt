@@ -1,11 +1,12 @@
 //! The journeys of trains.
 
-ghost use Rattle.std.specs.Prelude.{◌≡◌, ◌++◌, IfOk, OnOk, map, nat_abs};
+ghost use Rattle.std.specs.Prelude.{◌≡◌, IfOk, OnOk, map, nat_abs};
 ghost use Rattle.rail_base.specs.Routes.{IsRoute};
 ghost use Rattle.rail_base.specs.Stations.{IsTrain};
 ghost use Rattle.rail_course.specs.Itineraries.{IsCommandIn, IsTrainPathIn, IsJourneyIn, releases_in};
 ghost use Rattle.rail_course.specs.Itineraries.{route_releases_in};
 ghost use Rattle.rail_course.specs.Milestones.{ComeInTurn};
+ghost use Rattle.rail_course.specs.Releases.{AddsReleases};
 
 use crate::milestones::{Milestone, release_milestones};
 use crate::train_path::TrainPath;
@@ -80,8 +81,7 @@ impl<'a> TrainPaths<'a> {
     ) -> Result<(), AllocError>
         requires train { IsTrain self.now.given.interlocking.now.design.station train }
         requires number { IsRoute self.now.given.interlocking.now.routes number }
-        ensures { OnOk result (releases.new.items
-            ≡ releases.old.items ++ route_releases_in self.now.given train number) }
+        ensures { OnOk result (AddsReleases releases.old releases.new (route_releases_in self.now.given train number)) }
     {
         let command = Command {
             train,

@@ -1,8 +1,8 @@
 //! The journeys of a plan.
 
 ghost use Rattle.rail_spec.specs.Feasible.{IsWellFormed};
-ghost use Rattle.rail_spec.specs.Dispatches.{of_plan};
-ghost use Rattle.rail_course.specs.Journeys.{AreJourneys};
+ghost use Rattle.rail_course.specs.Journeys.{ArePlanJourneys};
+ghost use Rattle.interlocking.specs.Plans.{on};
 
 use crate::journey::Journey;
 use interlocking::Interlocking;
@@ -15,6 +15,5 @@ pub struct PlannedJourneys<'a> {
     pub plan: &'a Plan,
     pub journeys: &'a [Journey<'a>],
     pub ghost formed: { IsWellFormed interlocking.now.design.station interlocking.now.routes 256 plan.now.steps },
-    pub ghost led: { AreJourneys interlocking.now.design.station interlocking.now.routes
-        (of_plan interlocking.now.routes plan.now.steps) journeys.now },
+    pub ghost led: { on interlocking.now ArePlanJourneys plan.now.steps journeys.now },
 }

@@ -3,6 +3,7 @@
 ghost use Rattle.std.specs.Prelude.{◌≡◌, ◌<◌, ◌^◌, is_none, length};
 ghost use Rattle.std.specs.List.{position_from};
 ghost use Rattle.rail_spec.specs.Requirements.{path_violation};
+ghost use Rattle.interlocking.specs.Plans.{on};
 
 use crate::journeys::PlannedJourneys;
 use rail_base::plan::Violation;
@@ -11,8 +12,7 @@ use rail_base::state::PathNode;
 impl PlannedJourneys<'_> {
     /// The first visit, by train, that no path makes.
     pub fn path_violation(&self) -> Option<Violation>
-        ensures { result ≡ path_violation self.now.interlocking.now.design.station self.now.interlocking.now.routes
-            self.now.plan.now.steps }
+        ensures { result ≡ on self.now.interlocking.now path_violation self.now.plan.now.steps }
     {
         for journey in self.journeys {
             if let Some(visit) = first_missed(journey.train_path.visits.as_slice()) {

@@ -1,12 +1,12 @@
 //! The nodes of a path, and those at which visits are made.
 
-ghost use Rattle.std.specs.Prelude.{◌≡◌, ◌<◌, ◌≤◌, ◌+◌, ◌^◌, ◌++◌, ◌∷◌, List, ℕ, All, IfOk, OnOk, map, nat_abs, length};
+ghost use Rattle.std.specs.Prelude.{◌≡◌, ◌<◌, ◌+◌, ◌^◌, ◌++◌, ◌∷◌, List, All, IfOk, OnOk, map, nat_abs};
 ghost use Rattle.rail_base.specs.Numbering.{after_first, first_of_list, from_first};
 ghost use Rattle.rail_base.specs.Routes.{IsRoute, route_at};
 ghost use Rattle.rail_spec.specs.Plans.{has_node};
-ghost use Rattle.rail_spec.specs.Visits.{path_nodes, path_nodes_after, visits_at, visits_on};
+ghost use Rattle.rail_spec.specs.Visits.{path_nodes, visits_on};
 ghost use Rattle.rail_course.specs.Tracks.{routes_at, path_length};
-ghost use Rattle.rail_course.specs.PathNodes.{path_node_at};
+ghost use Rattle.rail_course.specs.PathNodes.{path_node_at, AddsNodes};
 ghost use Rattle.rail_course.specs.Milestones.{ComeInTurn};
 
 use interlocking::{Interlocking, has_node};
@@ -95,8 +95,7 @@ fn push_path_nodes_after(
 ) -> Result<(), AllocError>
     requires named { All (IsRoute interlocking.now.routes) path.now }
     requires below_2_47 { begin + path_length interlocking.now.routes path.now < 2 ^ 47 }
-    ensures { OnOk result (path_nodes.new.items
-        ≡ path_nodes.old.items ++ path_nodes_after begin 2 (routes_at interlocking.now.routes path.now)) }
+    ensures { OnOk result (AddsNodes path_nodes.old path_nodes.new begin (routes_at interlocking.now.routes path.now)) }
 {
     let mut offset = begin;
     let mut command: usize = 2;

@@ -1,10 +1,10 @@
 //! The paths that a plan gives the trains, and their train paths.
 
-ghost use Rattle.std.specs.Prelude.{◌≡◌, IfOk, map};
-ghost use Rattle.rail_base.specs.Stations.{trains};
+ghost use Rattle.std.specs.Prelude.{◌≡◌, IfOk};
 ghost use Rattle.rail_spec.specs.Feasible.{IsWellFormed};
 ghost use Rattle.rail_spec.specs.Plans.{path};
-ghost use Rattle.rail_course.specs.Tracks.{ArePaths};
+ghost use Rattle.rail_course.specs.Tracks.{ArePaths, all_paths};
+ghost use Rattle.interlocking.specs.Plans.{on};
 
 use crate::train_paths::TrainPaths;
 use interlocking::Interlocking;
@@ -22,8 +22,7 @@ pub fn paths_of(
     plan: &Plan,
 ) -> Result<Vec<List<RouteNo>>, AllocError>
     requires { IsWellFormed interlocking.now.design.station interlocking.now.routes 256 plan.now.steps }
-    ensures { IfOk result (λ paths. ArePaths interlocking.now.design.station interlocking.now.routes
-        (path plan.now.steps) paths.items) }
+    ensures { IfOk result (λ paths. on interlocking.now ArePaths (path plan.now.steps) paths.items) }
 {
     let mut paths = Vec::new(alloc);
     for number in 1..interlocking.design.station.trains.len() as u32 + 1 {
@@ -38,8 +37,6 @@ pub fn paths_of(
 pub struct PlannedTrainPaths<'a> {
     pub train_paths: TrainPaths<'a>,
     pub plan: &'a Plan,
-    pub ghost formed: { IsWellFormed train_paths.given.interlocking.now.design.station
-        train_paths.given.interlocking.now.routes 256 plan.now.steps },
-    pub ghost paths: { train_paths.given.paths.now
-        ≡ map (path plan.now.steps) (trains train_paths.given.interlocking.now.design.station) },
+    pub ghost formed: { on train_paths.given.interlocking.now IsWellFormed 256 plan.now.steps },
+    pub ghost paths: { train_paths.given.paths.now ≡ on train_paths.given.interlocking.now all_paths plan.now.steps },
 }

@@ -1,12 +1,11 @@
 //! The spans of a path, each an edge's.
 
-ghost use Rattle.std.specs.Prelude.{◌≡◌, ◌<◌, ◌≤◌, ◌+◌, ◌^◌, ◌++◌, All, IfOk, OnOk, map, sum_by};
+ghost use Rattle.std.specs.Prelude.{◌≡◌, ◌<◌, ◌+◌, ◌^◌, All, IfOk, OnOk, sum_by};
 ghost use Rattle.rail_motion.specs.Track.{stretches_of, IsRising, LeastAhead, NoneSlower};
-ghost use Rattle.rail_base.specs.Stations.{IsEdge, edge_of, length_of, per_tick_speed};
+ghost use Rattle.rail_base.specs.Stations.{edge_of, length_of, per_tick_speed};
 ghost use Rattle.rail_base.specs.Routes.{IsRoute};
-ghost use Rattle.rail_spec.specs.Track.{edge_ends};
-ghost use Rattle.rail_spec.specs.Dispatches.{stretch, stretches};
-ghost use Rattle.rail_course.specs.Tracks.{HasLimit, routes_at, path_length};
+ghost use Rattle.rail_course.specs.Tracks.{HasLimit, path_length, stretches_along, stretches_from, AddsSpans};
+ghost use Rattle.interlocking.specs.Plans.{on};
 
 use interlocking::Interlocking;
 use rail_base::design::Design;
@@ -24,8 +23,7 @@ pub fn spans_of(
 ) -> Result<Vec<Span>, AllocError>
     requires named { All (IsRoute interlocking.now.routes) path.now }
     requires below_2_47 { path_length interlocking.now.routes path.now < 2 ^ 47 }
-    ensures track { IfOk result (λ spans. stretches_of spans.items
-        ≡ stretches interlocking.now.design.station (routes_at interlocking.now.routes path.now)) }
+    ensures track { IfOk result (λ spans. stretches_of spans.items ≡ on interlocking.now stretches_along path.now) }
     ensures rising { IfOk result (λ spans. IsRising spans.items) }
     ensures none_slower { IfOk result (λ spans. NoneSlower spans.items) }
     ensures least { IfOk result (λ spans. LeastAhead spans.items) }
@@ -52,8 +50,7 @@ fn path_spans(
 ) -> Result<Vec<Span>, AllocError>
     requires named { All (IsRoute interlocking.now.routes) path.now }
     requires below_2_47 { path_length interlocking.now.routes path.now < 2 ^ 47 }
-    ensures track { IfOk result (λ spans. stretches_of spans.items
-        ≡ stretches interlocking.now.design.station (routes_at interlocking.now.routes path.now)) }
+    ensures track { IfOk result (λ spans. stretches_of spans.items ≡ on interlocking.now stretches_along path.now) }
     ensures rising { IfOk result (λ spans. IsRising spans.items) }
 {
     let mut spans = Vec::new(alloc);
@@ -75,8 +72,7 @@ fn push_spans(
 ) -> Result<(), AllocError>
     requires edges { All (HasLimit design.now.station) edges.now }
     requires below_2_47 { begin + sum_by (length_of design.now.station) edges.now < 2 ^ 47 }
-    ensures { OnOk result (stretches_of spans.new.items ≡ stretches_of spans.old.items
-        ++ map (stretch design.now.station) (edge_ends design.now.station begin edges.now)) }
+    ensures { OnOk result (AddsSpans spans.old spans.new (stretches_from design.now.station begin edges.now)) }
 {
     let mut offset = begin;
     for edge in edges.as_slice() {

@@ -16,7 +16,7 @@ use Rattle.rail_base.specs.declared.route.Finish.TheVariants as finish
 use Rattle.rail_base.specs.Members.{In, Pairs, Differ}
 use Rattle.rail_base.specs.Stations.{IsNode, IsEdge, IsSignal, edge_of, node_of, signal_of, through, far_end, length_of}
 use Rattle.rail_base.specs.Stations.{section_of}
-use Rattle.rail_spec.specs.Track.{route_of, edge_ends, first_occurrences}
+use Rattle.rail_spec.specs.Track.{route_of, edge_ends, first_occurrences, all_walks, RepeatsEdge}
 
 -- ---- what stands at an end
 
@@ -141,3 +141,11 @@ pub record IsAsItsEdges (d : Station) (r : Route) : Type 0 where
   pub rising : Pairs (λ (m n : EdgeNo × ℕ). m.1 < n.1) (edge_ends d 0 r.edges)
   pub inside : (e : EdgeNo) (n : ℕ) → In (e, n) (edge_ends d 0 r.edges) → (1 ≤ n) × (n ≤ sum_by (length_of d) r.edges)
   pub whole : (e : EdgeNo) × In (e, sum_by (length_of d) r.edges) (edge_ends d 0 r.edges)
+
+-- some path closes badly where this edge comes next
+abbrev pub SomeClosesBadly : Station → EdgeNo → Type 0
+SomeClosesBadly d e = (s : Start) × (edges : List EdgeNo) × IsStart d s × ClosesBadly d s edges e
+
+-- the search meets no edge again
+abbrev pub NoneRepeats : Station → Type 0
+NoneRepeats d = (e : EdgeNo) → In (RepeatsEdge e) (all_walks d) → ⊥

@@ -2,3 +2,5 @@
 pub mod Elementary
 pub mod Progress
 pub mod Tails
+pub mod Plans
+pub mod Speeds

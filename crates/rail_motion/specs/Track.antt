@@ -1,5 +1,5 @@
 -- The track ahead as the definitions of motion have it.
-use Rattle.std.specs.Prelude.{◌≡◌, ℕ, ℤ, ◌+◌, ◌*◌, ◌/◌, ◌<◌, ◌≤◌, ◌<ℤ◌, ◌≤ℤ◌, List, map, length, slice_index_or, AllPairs, nat_abs, Option, option_map}
+use Rattle.std.specs.Prelude.{◌≡◌, ℕ, ℤ, ◌+◌, ◌*◌, ◌/◌, ◌<◌, ◌≤◌, ◌<ℤ◌, ◌≤ℤ◌, List, map, length, slice_index_or, AllPairs, nat_abs, Option, option_map, ◌⊎◌}
 use Rattle.rail_motion.specs.declared.Span.{Span}
 use Rattle.rail_spec.specs.Motion.{SpanSeen}
 
@@ -56,3 +56,19 @@ pub record IsSlowestOfBlock (spans : List Span) (i slowest : ℕ) : Type 0 where
 abbrev pub LeastAhead : List Span → Type 0
 LeastAhead spans = (i j m : ℕ) (d : Span) → i < j → j < m → m < length spans → m ≡ i + (slice_index_or spans i d).least_in
     → (slice_index_or spans m d).limit ≤ℤ (slice_index_or spans j d).limit
+
+-- from a span on each is marked with where the limit is lower
+abbrev pub AreMarkedSlower : List Span → ℕ → Type 0
+AreMarkedSlower spans from = (i : ℕ) (d : Span) → from ≤ i → i < length spans
+    → IsNextSlower spans i (i + (slice_index_or spans i d).slower_in)
+
+-- each is marked with the slowest of its block
+abbrev pub AreMarkedSlowest : List Span → Type 0
+AreMarkedSlowest spans = (i : ℕ) (d : Span) → i < length spans
+    → IsSlowestOfBlock spans i (i + (slice_index_or spans i d).least_in)
+
+-- the spans between one and the one that is so many on have limits that are not lower, or that allow a speed
+abbrev pub NoneInTheWay : List Span → ℕ → ℕ → ℕ → Type 0
+NoneInTheWay spans index further speed = (j : ℕ) (d : Span) → index < j → j < index + further → j < length spans
+    → ((slice_index_or spans index d).limit ≤ℤ (slice_index_or spans j d).limit)
+    ⊎ (speed ≤ nat_abs (slice_index_or spans j d).limit)

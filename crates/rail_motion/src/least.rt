@@ -1,8 +1,9 @@
 //! Where the least limit of the next spans is.
 
-ghost use Rattle.std.specs.Prelude.{◌≡◌, ◌<◌, ◌≤◌, ◌+◌, ℕ, length, slice_index_or};
+ghost use Rattle.std.specs.Prelude.{◌≡◌, ◌<◌, ◌≤◌, ◌+◌, ℕ, length};
 ghost use Rattle.rail_motion.specs.declared.Span.{Span};
 ghost use Rattle.rail_motion.specs.Track.{stretches_of, IsRising, IsSlowestOfBlock, LeastAhead, NoneSlower};
+ghost use Rattle.rail_motion.specs.Track.{AreMarkedSlowest};
 
 use crate::Span;
 
@@ -14,8 +15,7 @@ const BLOCK: usize = 32;
 /// where the limit is lower.
 pub fn mark_least(spans: &mut [Span])
     ensures track { stretches_of spans.new ≡ stretches_of spans.old }
-    ensures slowest { (i : ℕ) (d : Span) → i < length spans.new
-        → IsSlowestOfBlock spans.new i (i + (slice_index_or spans.new i d).least_in) }
+    ensures slowest { AreMarkedSlowest spans.new }
     ensures least { LeastAhead spans.new }
     ensures none_slower { NoneSlower spans.old → NoneSlower spans.new }
     ensures rising { IsRising spans.old → IsRising spans.new }

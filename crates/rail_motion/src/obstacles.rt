@@ -1,12 +1,12 @@
 //! What is in the way of full braking: track with a lower limit, or the end of authority.
 
-ghost use Rattle.std.specs.Prelude.{◌≡◌, ◌⊎◌, ◌<◌, ◌≤◌, ◌+◌, ◌-◌, ◌^◌, All, IsTrue, None, Some, is_none, nat_abs};
-ghost use Rattle.std.specs.Prelude.{◌*◌, ◌≤ℤ◌, ℕ, length, nat_le, nat_lt, slice_index_or, false, true};
+ghost use Rattle.std.specs.Prelude.{◌≡◌, ◌⊎◌, ◌<◌, ◌≤◌, ◌+◌, ◌-◌, ◌^◌, All, IsTrue, None, Some, is_none, nat_abs, ◌*◌};
+ghost use Rattle.std.specs.Prelude.{length, nat_le, nat_lt, false, true};
 ghost use Rattle.rail_motion.specs.declared.Span.{Span};
 ghost use Rattle.std.specs.Option.{ForSome};
 ghost use Rattle.rail_motion.specs.Braking.{faster_distance};
 ghost use Rattle.rail_motion.specs.Obstacles.{forbids, IsObstacle};
-ghost use Rattle.rail_motion.specs.Track.{stretches_of, IsRising, LeastAhead, NoneSlower};
+ghost use Rattle.rail_motion.specs.Track.{stretches_of, IsRising, LeastAhead, NoneSlower, NoneInTheWay};
 ghost use Rattle.rail_spec.specs.Motion.{can_brake, may_stop};
 
 use crate::Span;
@@ -108,9 +108,7 @@ fn hop(spans: &[Span], index: usize, speed: u64) -> usize
     requires least { LeastAhead spans.now }
     requires within { index < length spans.now }
     ensures at_least_one { 1 ≤ result }
-    ensures none { (j : ℕ) (d : Span) → index < j → j < index + result → j < length spans.now
-        → ((slice_index_or spans.now index d).limit ≤ℤ (slice_index_or spans.now j d).limit)
-        ⊎ (speed ≤ nat_abs (slice_index_or spans.now j d).limit) }
+    ensures none { NoneInTheWay spans.now index result speed }
 {
     let span = spans[index];
     let least = index.saturating_add(span.least_in);

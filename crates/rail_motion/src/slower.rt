@@ -1,16 +1,15 @@
 //! Where the limit is lower again.
 
-ghost use Rattle.std.specs.Prelude.{◌≡◌, ◌<◌, ◌≤◌, ◌+◌, ◌<ℤ◌, ◌≤ℤ◌, ℕ, length, slice_index_or};
+ghost use Rattle.std.specs.Prelude.{◌≡◌, ◌<◌, ◌≤◌, ◌+◌, length};
 ghost use Rattle.rail_motion.specs.declared.Span.{Span};
-ghost use Rattle.rail_motion.specs.Track.{stretches_of, IsNextSlower, IsRising, NoneSlower};
+ghost use Rattle.rail_motion.specs.Track.{stretches_of, IsNextSlower, IsRising, NoneSlower, AreMarkedSlower};
 
 use crate::Span;
 
 /// Notes for each span in how many spans the limit is lower, or the track ends. Ends and limits stay as they are.
 pub fn mark_slower(spans: &mut [Span])
     ensures track { stretches_of spans.new ≡ stretches_of spans.old }
-    ensures nearest { (i : ℕ) (d : Span) → i < length spans.new
-        → IsNextSlower spans.new i (i + (slice_index_or spans.new i d).slower_in) }
+    ensures nearest { AreMarkedSlower spans.new 0 }
     ensures none_slower { NoneSlower spans.new }
     ensures rising { IsRising spans.old → IsRising spans.new }
 {
@@ -25,8 +24,7 @@ pub fn mark_slower(spans: &mut [Span])
 /// The nearest span with a lower limit after one, after which all are marked, or the number of spans.
 fn next_slower(spans: &[Span], index: usize) -> usize
     requires index { index < length spans.now }
-    requires marked { (i : ℕ) (d : Span) → index < i → i < length spans.now
-        → IsNextSlower spans.now i (i + (slice_index_or spans.now i d).slower_in) }
+    requires marked { AreMarkedSlower spans.now (index + 1) }
     ensures { IsNextSlower spans.now index result }
 {
     let mut next = index + 1;

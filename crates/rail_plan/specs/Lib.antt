@@ -7,3 +7,4 @@ pub mod Reading
 pub mod Text
 pub mod WellFormed
 pub mod Interlocked
+pub mod Laws

@@ -1,10 +1,15 @@
 -- The ticks that a history has of grants and visits.
-use Rattle.std.specs.Prelude.{ℕ, ◌<◌, ◌^◌, ◌==◌, Bool, false, List, [], map, length, nat_le, nat_lt, Option, None, Some}
+use Rattle.std.specs.Prelude.{ℕ, ◌<◌, ◌^◌, ◌==◌, Bool, false, List, [], map, length, nat_le, nat_lt, Option, None, Some, ◌≡◌, true}
 use Rattle.std.specs.Prelude.{option_map, All}
 use Rattle.std.specs.List.{list_any}
 use Rattle.rail_base.specs.declared.station.TrainNo.{TrainNo}
 use Rattle.rail_base.specs.declared.history.TrainHistory.{TrainHistory}
 use Rattle.rail_base.specs.Numbering.{entry, one_to}
+use Rattle.rail_base.specs.declared.station.Station.{Station}
+use Rattle.rail_base.specs.declared.route.Route.{Route}
+use Rattle.rail_base.specs.declared.plan.Command.{Command}
+use Rattle.rail_spec.specs.Plans.{is_well_formed, path}
+use Rattle.rail_spec.specs.Histories.{history_at}
 
 -- what happened to the train of this number
 abbrev pub history_of : List TrainHistory → TrainNo → TrainHistory
@@ -57,3 +62,16 @@ has_visit_at k history = list_any (makes_visit_at k) history
 abbrev pub HasNumbers : List TrainHistory → Type 0
 HasNumbers history = (length history < 2 ^ 32)
     × All (λ t. (length t.grants < 2 ^ 32) × (length t.visits < 2 ^ 32)) history
+
+-- the history of the plan's run has numbers at every tick
+abbrev pub HistoriesHaveNumbers : Station → List Route → List (List Command) → Type 0
+HistoriesHaveNumbers d routes plan = (k : ℕ) → HasNumbers (history_at d routes plan k)
+
+-- each train's path has fewer than 2^32 routes
+abbrev pub PathsAreShort : List (List Command) → Type 0
+PathsAreShort plan = (t : TrainNo) → length (path plan t) < 2 ^ 32
+
+-- so it is where the plan is well formed for fewer than 2^32 steps
+abbrev pub FormedHaveNumbers : Station → List Route → List (List Command) → Type 0
+FormedHaveNumbers d routes plan = (n : ℕ) → n < 2 ^ 32 → is_well_formed d routes n plan ≡ true
+    → HistoriesHaveNumbers d routes plan

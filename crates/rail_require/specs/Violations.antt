@@ -1,5 +1,5 @@
 -- Which violations are certain at a tick, as a history shows it, and whether all is done.
-use Rattle.std.specs.Prelude.{ℕ, Bool, false, not, ◌&&◌, ◌==◌, List, ◌++◌, map, flat_map, length, nat_le, Option}
+use Rattle.std.specs.Prelude.{ℕ, Bool, false, not, ◌&&◌, ◌==◌, List, ◌++◌, map, flat_map, length, nat_le, Option, ◌≡◌, ◌≤◌}
 use Rattle.std.specs.Prelude.{is_some, find}
 use Rattle.std.specs.List.{list_all}
 use Rattle.rail_base.specs.declared.station.Station.{Station}
@@ -10,8 +10,11 @@ use Rattle.rail_base.specs.declared.plan.Violation.TheVariants as violation
 use Rattle.rail_base.specs.declared.history.TrainHistory.{TrainHistory}
 use Rattle.rail_base.specs.Numbering.{one_to}
 use Rattle.rail_base.specs.Stations.{horizon, order_of, within_of}
-use Rattle.rail_spec.specs.Requirements.{is_after, most_ticks}
+use Rattle.rail_spec.specs.Requirements.{is_after, most_ticks, violation_at, is_done}
 use Rattle.rail_require.specs.Ticks.{trains, command_numbers, visit_numbers, grant_tick, visit_tick, is_by, is_before}
+use Rattle.rail_base.specs.declared.route.Route.{Route}
+use Rattle.rail_base.specs.declared.plan.Command.{Command}
+use Rattle.rail_spec.specs.Histories.{history_at}
 
 -- the greatest time ends at tick k, up to the horizon, and the other visit isn't made by then
 abbrev pub is_late : Station → List TrainHistory → ℕ → Within → Bool
@@ -65,3 +68,13 @@ violation_in d history k = find (is_certain d history k) (possible_violations d 
 -- each command of each train is granted, and each visit made
 abbrev pub is_done_in : List TrainHistory → Bool
 is_done_in history = list_all (λ t. list_all (λ g. is_some g.1) t.grants && list_all is_some t.visits) history
+
+-- where the history is that of a run at a tick, the violation is the run's there
+abbrev pub IsOfRun : Station → List TrainHistory → ℕ → Option Violation → Type 0
+IsOfRun d history tick v = (routes : List Route) (plan : List (List Command)) → 1 ≤ tick
+    → history ≡ history_at d routes plan tick → v ≡ violation_at d routes plan tick
+
+-- where the history is that of a run at a tick, the answer says whether the run is done there
+abbrev pub SaysWhetherDone : List TrainHistory → Bool → Type 0
+SaysWhetherDone history answer = (d : Station) (routes : List Route) (plan : List (List Command)) (k : ℕ) → 1 ≤ k
+    → history ≡ history_at d routes plan k → answer ≡ is_done d routes plan k

@@ -2,16 +2,12 @@
 //! is done. Ticks are those of the run; nothing here takes memory.
 #![tactic(auto)]
 
-ghost use Rattle.std.specs.Prelude.{◌≡◌, ◌≤◌, ◌++◌, ◌&&◌, ℕ, List, find, is_some, true};
+ghost use Rattle.std.specs.Prelude.{◌≡◌, ◌++◌, ◌&&◌, find, is_some, true};
 ghost use Rattle.std.specs.List.{list_all};
-ghost use Rattle.rail_base.specs.declared.station.Station.{Station};
-ghost use Rattle.rail_base.specs.declared.route.Route.{Route};
-ghost use Rattle.rail_base.specs.declared.plan.Command.{Command};
-ghost use Rattle.rail_spec.specs.Histories.{history_at};
-ghost use Rattle.rail_spec.specs.Requirements.{is_done, violation_at};
+ghost use Rattle.rail_spec.specs.Requirements.{is_done};
 ghost use Rattle.rail_require.specs.Ticks.{HasNumbers};
 ghost use Rattle.rail_require.specs.Violations.{violation_in, is_done_in, is_certain, grant_violations};
-ghost use Rattle.rail_require.specs.Violations.{visit_violations};
+ghost use Rattle.rail_require.specs.Violations.{visit_violations, IsOfRun, SaysWhetherDone};
 
 mod failures;
 pub mod laws;
@@ -28,9 +24,7 @@ pub use ticks::visit_tick;
 pub fn first_violation(design: &Design, history: &History, tick: u64) -> Option<Violation>
     requires { HasNumbers history.now }
     ensures value { result ≡ violation_in design.now.station history.now tick }
-    ensures run { (routes : List Route) (plan : List (List Command)) → 1 ≤ tick
-        → history.now ≡ history_at design.now.station routes plan tick
-        → result ≡ violation_at design.now.station routes plan tick }
+    ensures run { IsOfRun design.now.station history.now tick result }
 {
     violation_of_history(design, history.as_slice(), tick)
 }
@@ -43,9 +37,7 @@ pub fn violation_of_history(
 ) -> Option<Violation>
     requires { HasNumbers history.now }
     ensures value { result ≡ violation_in design.now.station history.now tick }
-    ensures run { (routes : List Route) (plan : List (List Command)) → 1 ≤ tick
-        → history.now ≡ history_at design.now.station routes plan tick
-        → result ≡ violation_at design.now.station routes plan tick }
+    ensures run { IsOfRun design.now.station history.now tick result }
 {
     late_within(design, history, tick)
         .or_else(|| broken_order(design, history, tick))
@@ -55,8 +47,7 @@ pub fn violation_of_history(
 /// Whether each command of each train is granted, and each visit made.
 pub fn is_done(history: &History) -> bool
     ensures value { result ≡ is_done_in history.now }
-    ensures run { (d : Station) (routes : List Route) (plan : List (List Command)) (k : ℕ) → 1 ≤ k
-        → history.now ≡ history_at d routes plan k → result ≡ is_done d routes plan k }
+    ensures run { SaysWhetherDone history.now result }
 {
     are_done(history.as_slice())
 }
@@ -64,8 +55,7 @@ pub fn is_done(history: &History) -> bool
 /// The same of the trains that are not made a history yet.
 pub fn are_done(history: &[TrainHistory]) -> bool
     ensures value { result ≡ is_done_in history.now }
-    ensures run { (d : Station) (routes : List Route) (plan : List (List Command)) (k : ℕ) → 1 ≤ k
-        → history.now ≡ history_at d routes plan k → result ≡ is_done d routes plan k }
+    ensures run { SaysWhetherDone history.now result }
 {
     all_ended(history) && all_done(history)
 }

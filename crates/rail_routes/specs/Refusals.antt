@@ -1,5 +1,5 @@
 -- Designs whose routes are listed, and why those of others are refused.
-use Rattle.std.specs.Prelude.{◌≡◌, ℕ, zero, suc, ◌≤◌, List, [], ◌∷◌, Option, None, Some, flat_map, length}
+use Rattle.std.specs.Prelude.{◌≡◌, ℕ, zero, suc, ◌≤◌, List, [], ◌∷◌, Option, None, Some, flat_map, length, ◌≢◌}
 use Rattle.rail_base.specs.declared.station.Station.{Station}
 use Rattle.rail_base.specs.declared.route.Route.{Route}
 use Rattle.rail_base.specs.declared.route.Start.{Start}
@@ -7,6 +7,7 @@ use Rattle.rail_base.specs.Numbering.{first_of_list}
 use Rattle.rail_spec.specs.Track.{Walk, Whole, RepeatsEdge, all_walks, walks_from, edges_met_again, route_from}
 use Rattle.rail_routes.specs.declared.fault.RouteFault.{RouteFault}
 use Rattle.rail_routes.specs.declared.fault.RouteFault.TheVariants as fault
+use Rattle.rail_base.specs.declared.station.EdgeNo.{EdgeNo}
 
 -- at most 2,000 paths close, and none meets an edge again
 pub record CanBeListed (d : Station) : Type 0 where
@@ -35,3 +36,11 @@ abbrev pub IsFaultOf : ℕ → List Walk → RouteFault → Type 0
 IsFaultOf room cs (fault.RepeatsEdge e) = fault_of room cs ≡ Some (fault.RepeatsEdge e)
 IsFaultOf room cs fault.TooMany = fault_of room cs ≡ Some fault.TooMany
 IsFaultOf room cs fault.Memory = Unit {0}
+
+-- the search meets some edge again
+abbrev pub SomeRepeats : Station → Type 0
+SomeRepeats d = (e : EdgeNo) × HasFault d (fault.RepeatsEdge e)
+
+-- the fault is found, and is no want of memory
+abbrev pub HasReason : Station → RouteFault → Type 0
+HasReason d x = (x ≢ fault.Memory) × HasFault d x

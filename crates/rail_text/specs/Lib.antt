@@ -3,3 +3,4 @@ pub mod Pieces
 pub mod Lines
 pub mod Cursors
 pub mod Laws
+pub mod Added

@@ -1,9 +1,10 @@
 //! The check of a clause by its hints.
 
-ghost use Rattle.std.specs.Prelude.{◌≡◌, ℕ, Bool, true, IfOk, OnOk, Ok, IsTrue, map, [], ◌++◌};
-ghost use Rattle.sat_clause.specs.Clauses.{clause_holds, opposite};
-ghost use Rattle.sat_clause.specs.Hints.{same_lit, open_lits, unit_of, at_last, follow_of, hints_hold};
+ghost use Rattle.std.specs.Prelude.{◌≡◌, IfOk, OnOk, Ok, map, [], ◌++◌};
+ghost use Rattle.sat_clause.specs.Clauses.{opposite};
+ghost use Rattle.sat_clause.specs.Hints.{same_lit, open_lits, unit_of, at_last, follow_of};
 ghost use Rattle.sat_clause.specs.declared.follow.Follow.TheVariants.{Yes};
+ghost use Rattle.rup_check.specs.Sound.{Follows};
 
 use crate::assigned::Assigned;
 use sat_clause::{Arena, Follow, Lit};
@@ -52,9 +53,7 @@ pub fn follows(
     hints: &[u64],
 ) -> Result<Follow, AllocError>
     ensures value { IfOk result (λ answer. answer ≡ follow_of arena.now clause.now hints.now) }
-    ensures sound { result ≡ Ok Yes → (values : ℕ → Bool)
-        → IsTrue (hints_hold values arena.now hints.now)
-        → IsTrue (clause_holds values clause.now) }
+    ensures sound { result ≡ Ok Yes → Follows arena.now hints.now clause.now }
 {
     let answer = answer(&mut marks.assigned, arena, clause, hints);
     marks.assigned.clear();

@@ -21,3 +21,13 @@ pub record IsBlocked (seen : Seen) (loose : List ℕ) (count : ℕ) (e : Entry) 
 -- so it is with each entry of the lists
 abbrev pub AllBlocked : Seen → List ℕ → ℕ → List (Vec Entry) → Type 0
 AllBlocked seen loose count lists = All (All (IsBlocked seen loose count)) (entries lists)
+
+-- what is blocked stays so
+abbrev pub StaysBlocked : List (Vec Entry) → List (Vec Entry) → Type 0
+StaysBlocked before after = (seen : Seen) (loose : List ℕ) (count : ℕ) → AllBlocked seen loose count before
+    → AllBlocked seen loose count after
+
+-- so it does where an entry that is put in is blocked
+abbrev pub StaysBlockedWith : Entry → List (Vec Entry) → List (Vec Entry) → Type 0
+StaysBlockedWith e before after = (seen : Seen) (loose : List ℕ) (count : ℕ) → IsBlocked seen loose count e
+    → AllBlocked seen loose count before → AllBlocked seen loose count after

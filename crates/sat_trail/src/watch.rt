@@ -1,18 +1,17 @@
 ghost use Rattle.std.specs.Prelude.{◌≡◌, ◌++◌, ◌∷◌, [], ◌<◌, ◌≤◌, ◌+◌, ◌⊎◌, ℕ, List, true, false, not, nat_eq, map};
-ghost use Rattle.std.specs.Prelude.{length, IfOk, OnOk, OnErr, IfSome, IfNone, Some, None, IsSome, IsTrue, IsFalse};
-ghost use Rattle.std.specs.Prelude.{MatchOption, take, drop, set, slice_get, slice_index_or};
+ghost use Rattle.std.specs.Prelude.{length, IfOk, OnOk, OnErr, IfSome, IfNone, Some, None, IsTrue, IsFalse, take, drop};
+ghost use Rattle.std.specs.Prelude.{set, slice_get, slice_index_or};
 ghost use Rattle.std.specs.List.{All, filter};
 ghost use Rattle.sat_clause.specs.declared.lit.Lit.{Lit};
-ghost use Rattle.sat_clause.specs.Clauses.{opposite, live_clause};
+ghost use Rattle.sat_clause.specs.Clauses.{opposite};
 ghost use Rattle.sat_clause.specs.Hints.{same_lit, is_assigned, open_lits, unit_of};
-ghost use Rattle.sat_clause.specs.Closed.{IsClosed};
 ghost use Rattle.sat_trail.specs.Trails.{lits, IsTrail, AllIn, depth};
 ghost use Rattle.sat_trail.specs.Attached.{Seen, AreLive, IsSameBut, attached_clause, is_among};
-ghost use Rattle.sat_trail.specs.Blockers.{IsBlocked, AllBlocked};
+ghost use Rattle.sat_trail.specs.Blockers.{IsBlocked, AllBlocked, StaysBlocked, StaysBlockedWith};
 ghost use Rattle.sat_trail.specs.Forced.{IsForced, VarsUpTo};
 ghost use Rattle.sat_trail.specs.Walks.{IsConflict, IsClosedOrFalse};
-ghost use Rattle.sat_trail.specs.Watches.{code_of, row_at, edit, entries, rows, IsCut, other_in, IsWatching};
-ghost use Rattle.sat_trail.specs.Watches.{IsOpenPair, IsLooseOrWatched, Pending, Looked, OthersAreFalse};
+ghost use Rattle.sat_trail.specs.Watches.{code_of, row_at, edit, entries, rows, IsCut, other_in, IsOpenPair};
+ghost use Rattle.sat_trail.specs.Watches.{OthersAreFalse};
 ghost use Rattle.sat_trail.specs.Scans.{IsPropagation};
 ghost use Rattle.sat_trail.specs.Settled.{IsSettled};
 ghost use Rattle.sat_trail.specs.Watching.{row_in, IsWatchingIn, AllBlockedIn, IsLooseOrWatchedIn, PendingIn, LookedIn};
@@ -56,9 +55,7 @@ pub fn put_entry(
     requires { place < length lists.old.items }
     ensures ok { OnOk result (rows lists.new.items ≡ edit (λ r. r ++ id ∷ []) (rows lists.old.items) place) }
     ensures err { OnErr result (rows lists.new.items ≡ rows lists.old.items) }
-    ensures blocked { (seen : Seen) (loose : List ℕ) (count : ℕ)
-        → IsBlocked seen loose count (record { id = id; blocker = blocker })
-        → AllBlocked seen loose count lists.old.items → AllBlocked seen loose count lists.new.items }
+    ensures blocked { StaysBlockedWith (record { id = id; blocker = blocker }) lists.old.items lists.new.items }
 {
     lists[place].push(Entry { id, blocker })?;
     Ok(())
@@ -144,8 +141,7 @@ pub fn empty_lists(alloc: Global, count: usize) -> Result<Vec<Vec<Entry>>, Alloc
 fn cut_entry(lists: &mut Vec<Vec<Entry>>, place: usize, i: usize)
     requires { i < length (row_at (rows lists.old.items) place) }
     ensures cut { IsCut (rows lists.old.items) (rows lists.new.items) place i }
-    ensures blocked { (seen : Seen) (loose : List ℕ) (count : ℕ)
-        → AllBlocked seen loose count lists.old.items → AllBlocked seen loose count lists.new.items }
+    ensures blocked { StaysBlocked lists.old.items lists.new.items }
 {
     lists[place].swap_remove(i);
 }
@@ -163,8 +159,7 @@ fn set_blocker(lists: &mut Vec<Vec<Entry>>, place: usize, i: usize, entry: Entry
     requires within { i < length (row_at (rows lists.old.items) place) }
     requires same { entry.id ≡ slice_index_or (row_at (rows lists.old.items) place) i 0 }
     ensures rows { rows lists.new.items ≡ rows lists.old.items }
-    ensures blocked { (seen : Seen) (loose : List ℕ) (count : ℕ) → IsBlocked seen loose count entry
-        → AllBlocked seen loose count lists.old.items → AllBlocked seen loose count lists.new.items }
+    ensures blocked { StaysBlockedWith entry lists.old.items lists.new.items }
 {
     put_at(&mut lists[place], i, entry);
 }

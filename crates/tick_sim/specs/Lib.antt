@@ -1,3 +1,4 @@
 -- Runs as the simulator makes them.
 pub mod Running
 pub mod Pairs
+pub mod Rides

@@ -9,11 +9,12 @@ use Rattle.rail_base.specs.declared.station.TrainNo.{TrainNo}
 use Rattle.rail_spec.specs.Histories.{history_at, train_history, verdict_of}
 use Rattle.rail_spec.specs.Plans.{path_routes}
 use Rattle.rail_spec.specs.Requirements.{path_violation}
-use Rattle.rail_spec.specs.Dispatches.{Dispatch, of_plan, granted_after, moved, tick, state_at}
+use Rattle.rail_spec.specs.Dispatches.{Dispatch, of_plan, granted_after, moved, tick, state_at, stretches, state_of}
 use Rattle.rail_course.specs.declared.journey.Journey.{Journey}
 use Rattle.rail_course.specs.Journeys.{IsJourney}
 use Rattle.rail_course.specs.declared.journeys.PlannedJourneys.{PlannedJourneys}
 use Rattle.rail_course.specs.Runs.{CanMove, IsNow, IsReached}
+use Rattle.rail_spec.specs.Motion.{SpanSeen}
 
 module _ (r : PlannedJourneys) where
   -- the dispatch of its plan
@@ -72,3 +73,11 @@ module _ (r : PlannedJourneys) where
   -- what so many ticks show of the plan
   abbrev pub verdict_in : ℕ → Verdict
   verdict_in = verdict_of r.interlocking.now.design.station r.interlocking.now.routes r.plan.now.steps
+
+  -- the track of the first routes of a train's path, so many of them
+  abbrev pub stretches_granted : TrainNo → ℕ → List SpanSeen
+  stretches_granted t granted = stretches r.interlocking.now.design.station (first_routes t granted)
+
+  -- the train after the tick after these states
+  abbrev pub moved_next : TrainNo → List TrainState → TrainState
+  moved_next t states = moved_in t (state_of states t) (granted_in states t)

@@ -5,8 +5,9 @@ ghost use Rattle.std.specs.Option.{ForSome};
 ghost use Rattle.rail_motion.specs.Ranges.{IsPlace};
 ghost use Rattle.rail_motion.specs.Track.{end_of, stretches_of};
 ghost use Rattle.rail_spec.specs.Plans.{path};
-ghost use Rattle.rail_spec.specs.Dispatches.{authority, state_of, stretches};
-ghost use Rattle.tick_sim.specs.Running.{CanMoveIn, IsReachedIn, first_routes, granted_in, moved_in, tick_in};
+ghost use Rattle.rail_spec.specs.Dispatches.{authority, state_of};
+ghost use Rattle.tick_sim.specs.Running.{CanMoveIn, IsReachedIn, moved_in, tick_in};
+ghost use Rattle.tick_sim.specs.Rides.{track_granted, routes_granted, state_after};
 
 use crate::ride::Ride;
 use rail_base::state::TrainState;
@@ -48,10 +49,8 @@ impl<'a> Ride<'a> {
     /// The track ahead of the train where it is granted so many commands.
     fn ahead(&self, granted: usize) -> Ahead<'a>
         requires { granted ≤ length (path self.now.run.plan.now.steps self.now.journey.now.train_path.now.train) }
-        ensures spans { stretches_of result.spans.now ≡ stretches self.now.run.interlocking.now.design.station
-            (first_routes self.now.run self.now.journey.now.train_path.now.train granted) }
-        ensures end { end_of result.end
-            ≡ authority (first_routes self.now.run self.now.journey.now.train_path.now.train granted) }
+        ensures spans { stretches_of result.spans.now ≡ track_granted self.now granted }
+        ensures end { end_of result.end ≡ authority (routes_granted self.now granted) }
     {
         let train_path = self.journey.train_path;
         let prefixes = train_path.prefixes.as_slice();
@@ -79,8 +78,7 @@ impl<'a> Ride<'a> {
     /// The train after the tick before which all trains are in these states.
     fn next_state(&self, states: &[TrainState]) -> TrainState
         requires { IsReachedIn self.now.run states.now }
-        ensures { let t = self.now.journey.now.train_path.now.train in
-            result ≡ moved_in self.now.run t (state_of states.now t) (granted_in self.now.run states.now t) }
+        ensures { result ≡ state_after self.now states.now }
     {
         let journey = self.journey;
         let state = state_of(states, journey.train_path.train);

@@ -1,12 +1,12 @@
 //! The verdict of a plan.
 
-ghost use Rattle.std.specs.Prelude.{◌≡◌, ℕ, true, IfOk, None};
-ghost use Rattle.rail_spec.specs.Plans.{is_executable};
+ghost use Rattle.std.specs.Prelude.{◌≡◌, IfOk, None};
 ghost use Rattle.rail_spec.specs.Feasible.{IsWellFormed};
 ghost use Rattle.rail_spec.specs.Histories.{verdict_of};
-ghost use Rattle.rail_spec.specs.Safety.{Clash, KeepsToTrack};
-ghost use Rattle.rail_laws.specs.Progress.{IsGrantedInTime};
+ghost use Rattle.rail_spec.specs.Safety.{KeepsToTrack};
 ghost use Rattle.tick_sim.specs.Running.{path_violation_in, states_in, verdict_in};
+ghost use Rattle.interlocking.specs.Plans.{on};
+ghost use Rattle.rail_laws.specs.Plans.{StaysApart, GrantsInTime};
 
 use crate::histories::{first_histories, next_histories};
 use crate::moves::next_states;
@@ -32,13 +32,10 @@ pub fn simulate(
     ticks: u64,
 ) -> Result<Verdict, AllocError>
     requires formed { IsWellFormed interlocking.now.design.station interlocking.now.routes 256 plan.now.steps }
-    ensures value { IfOk result (λ v. v
-        ≡ verdict_of interlocking.now.design.station interlocking.now.routes plan.now.steps ticks) }
+    ensures value { IfOk result (λ v. v ≡ on interlocking.now verdict_of plan.now.steps ticks) }
     ensures keeps { KeepsToTrack interlocking.now.design.station interlocking.now.routes plan.now.steps }
-    ensures granted { is_executable interlocking.now.design.station interlocking.now.routes plan.now.steps ≡ true
-        → IsGrantedInTime interlocking.now.design.station interlocking.now.routes plan.now.steps }
-    ensures apart { is_executable interlocking.now.design.station interlocking.now.routes plan.now.steps ≡ true
-        → (k : ℕ) → Clash interlocking.now.design.station interlocking.now.routes plan.now.steps k → ⊥ }
+    ensures granted { on interlocking.now GrantsInTime plan.now.steps }
+    ensures apart { on interlocking.now StaysApart plan.now.steps }
 {
     run_plan(alloc, interlocking, plan, ticks)
 }
@@ -104,8 +101,7 @@ fn run_plan<'a>(
     ticks: u64,
 ) -> Result<Verdict, AllocError>
     requires { IsWellFormed interlocking.now.design.station interlocking.now.routes 256 plan.now.steps }
-    ensures { IfOk result (λ v. v
-        ≡ verdict_of interlocking.now.design.station interlocking.now.routes plan.now.steps ticks) }
+    ensures { IfOk result (λ v. v ≡ on interlocking.now verdict_of plan.now.steps ticks) }
 {
     let paths = paths_of(alloc, interlocking, plan)?;
     let given = Itineraries {

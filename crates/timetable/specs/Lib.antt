@@ -1,2 +1,3 @@
 pub mod Lines
 pub mod Timetable
+pub mod Parts

@@ -3,6 +3,7 @@
 ghost use Rattle.std.specs.Prelude.{◌≡◌, ◌++◌, decimal, IfOk};
 ghost use Rattle.timetable.specs.Lines.{is_path_failure, met_line, failure, failure_line};
 ghost use Rattle.rail_base.specs.Names.{train_name};
+ghost use Rattle.timetable.specs.Parts.{failed_train};
 
 use crate::events::put_tick;
 use rail_base::design::Design;
@@ -55,8 +56,7 @@ fn train_failure(
     counted: &[u8],
     number: u32,
 ) -> Result<Vec<u8>, AllocError>
-    ensures { IfOk result (λ line. line.items
-        ≡ what.now ++ train_name design.now.station train ++ counted.now ++ decimal number) }
+    ensures { IfOk result (λ line. line.items ≡ failed_train design.now.station what.now train counted.now number) }
 {
     let mut line = Vec::from_slice(alloc, what)?;
     line.extend_from_slice(train_name(design, train))?;

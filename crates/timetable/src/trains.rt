@@ -2,7 +2,9 @@
 
 ghost use Rattle.std.specs.Prelude.{◌≡◌, ◌++◌, OnOk};
 ghost use Rattle.timetable.specs.Lines.{lines_of};
-ghost use Rattle.timetable.specs.Timetable.{grant_lines, pass_lines, visit_lines, train_lines, history_lines};
+ghost use Rattle.timetable.specs.Timetable.{grant_lines, pass_lines, visit_lines, history_lines};
+ghost use Rattle.rail_text.specs.Added.{AddsLines};
+ghost use Rattle.timetable.specs.Parts.{numbered_lines};
 
 use crate::events::{grant_line, pass_line, train_line, visit_line};
 use rail_base::design::Design;
@@ -18,8 +20,7 @@ pub fn push_history(
     history: &[TrainHistory],
     lines: &mut Vec<Vec<u8>>,
 ) -> Result<(), AllocError>
-    ensures { OnOk result (lines_of lines.new.items
-        ≡ lines_of lines.old.items ++ history_lines design.now.station history.now) }
+    ensures { OnOk result (AddsLines lines.old lines.new (history_lines design.now.station history.now)) }
 {
     for (index, train) in history.iter().enumerate() {
         push_train(alloc, design, index + 1, train, lines)?;
@@ -50,8 +51,7 @@ fn push_passes(
     passes: &[(NodeNo, Option<u64>)],
     lines: &mut Vec<Vec<u8>>,
 ) -> Result<(), AllocError>
-    ensures { OnOk result (lines_of lines.new.items
-        ≡ lines_of lines.old.items ++ pass_lines design.now.station passes.now) }
+    ensures { OnOk result (AddsLines lines.old lines.new (pass_lines design.now.station passes.now)) }
 {
     for (node, tick) in passes {
         if let Some(tick) = tick {
@@ -68,8 +68,7 @@ fn push_visits(
     visits: &[Option<(NodeNo, u64)>],
     lines: &mut Vec<Vec<u8>>,
 ) -> Result<(), AllocError>
-    ensures { OnOk result (lines_of lines.new.items
-        ≡ lines_of lines.old.items ++ visit_lines design.now.station visits.now) }
+    ensures { OnOk result (AddsLines lines.old lines.new (visit_lines design.now.station visits.now)) }
 {
     for (index, visit) in visits.iter().enumerate() {
         if let Some((node, tick)) = visit {
@@ -87,8 +86,7 @@ fn push_train(
     train: &TrainHistory,
     lines: &mut Vec<Vec<u8>>,
 ) -> Result<(), AllocError>
-    ensures { OnOk result (lines_of lines.new.items
-        ≡ lines_of lines.old.items ++ train_lines design.now.station (record { 0 = number }) train.now) }
+    ensures { OnOk result (AddsLines lines.old lines.new (numbered_lines design.now.station number train.now)) }
 {
     lines.push(train_line(alloc, design, number)?)?;
     push_grants(alloc, train.grants.as_slice(), lines)?;

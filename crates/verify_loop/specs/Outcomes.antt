@@ -31,6 +31,7 @@ use Rattle.verify_loop.specs.declared.outcome.Outcome.{Outcome}
 use Rattle.verify_loop.specs.declared.outcome.Outcome.TheVariants.{Plan, Infeasible, ConflictsSpent, TicksSpent}
 use Rattle.verify_loop.specs.declared.outcome.Outcome.TheVariants.{LogSpent, TooLarge, Memory}
 use Rattle.sat_clause.specs.declared.lit.Lit.{Lit}
+use Rattle.rail_base.specs.Members.{Differ}
 
 -- a plan that failed, and what shows that it does
 pub record Refutal : Type 0 where
@@ -165,3 +166,7 @@ module _ (m : Method) (d : Station) (n : ℕ) where
   Fits (TooLarge literals) = Unit {0}
   Fits Memory = Unit {0}
   Fits _ = past_limit 16000000 0 first_clauses ≡ None
+
+-- plans that are refuted so, from no evidence on, differ
+abbrev pub RefutedDiffer : Method → Station → Type 0
+RefutedDiffer m d = (n : ℕ) → 1 ≤ n → (rs : List Refutal) → AreRefuted m d n [] rs → Differ (plans_of rs)

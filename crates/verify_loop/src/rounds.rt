@@ -1,13 +1,13 @@
 //! A search, round after round.
 
-ghost use Rattle.std.specs.Prelude.{◌≡◌, ◌≤◌, ◌<◌, ◌+◌, [], ◌∷◌, IfOk, IfErr, None};
-ghost use Rattle.clause_spec.specs.Clauses.{past_limit};
+ghost use Rattle.std.specs.Prelude.{◌≡◌, ◌≤◌, ◌<◌, ◌+◌, [], ◌∷◌, IfOk, IfErr};
 ghost use Rattle.verify_loop.specs.Bases.{IsBaseFor};
 ghost use Rattle.verify_loop.specs.Outcomes.{first_clauses};
 ghost use Rattle.verify_loop.specs.Searching.{state_in};
 ghost use Rattle.rail_spec.specs.Feasible.{IsInfeasible};
 ghost use Rattle.plan_exclusion.specs.Failures.{FailsSo};
 ghost use Rattle.sat_core.specs.Runs.{Ends};
+ghost use Rattle.clause_spec.specs.Laws.{HasFewLiterals};
 
 use crate::outcome::{Budgets, Outcome};
 use bound_finder::Finder;
@@ -50,8 +50,7 @@ pub(crate) struct PlanSearch<'a> {
     pub ghost numbers: { IsBaseFor interlocking.now base.now },
     pub ghost at_least_one: { 1 ≤ base.now.steps },
     pub ghost at_most_256: { base.now.steps ≤ 256 },
-    pub ghost fits: { past_limit 16000000 0
-        (first_clauses method interlocking.now.design.station base.now.steps) ≡ None },
+    pub ghost fits: { HasFewLiterals (first_clauses method interlocking.now.design.station base.now.steps) },
 }
 
 impl PlanSearch<'_> {

@@ -1,6 +1,5 @@
-use Rattle.std.proofs.Common.{◌≡◌, ◌<◌, ◌≤◌, ◌+◌, ℕ, length, slice_index_or}
-use Rattle.rail_motion.specs.declared.Span.{Span}
-use Rattle.rail_motion.specs.Track.{stretches_of, IsNextSlower}
+use Rattle.std.proofs.Common.{◌≡◌, ◌≤◌, length}
+use Rattle.rail_motion.specs.Track.{stretches_of, AreMarkedSlower}
 use Rattle.rail_motion.proofs.slower.mark_slower.Given as goal
 
 -- those that are done are marked
@@ -8,7 +7,7 @@ abbrev pub invariant-loop-left : goal.invariant-loop-left
 invariant-loop-left l = record {
   within : l.left ≤ length l.spans;
   track : stretches_of l.spans ≡ stretches_of l.fn.spans;
-  marked : (i : ℕ) (d : Span) → l.left ≤ i → i < length l.spans → IsNextSlower l.spans i (i + (slice_index_or l.spans i d).slower_in);
+  marked : AreMarkedSlower l.spans l.left;
 }
 
 abbrev pub decreases-loop-left : goal.decreases-loop-left

@@ -10,7 +10,7 @@ loop-next-preserved c =
     let n = c.loop-next.next in
     let m = n + (slice_index_or spans n c.index-spans-next-in-loop-next.result).slower_in in
     let invariant = c.loop-next.invariant in
-    let next : IsNextSlower spans n m = c.requires.marked n c.index-spans-next-in-loop-next.result invariant.after c.loop-next-test.true in
+    let next : IsNextSlower spans n m = c.requires.marked n c.index-spans-next-in-loop-next.result (let after = invariant.after in omega arith) c.loop-next-test.true in
     let past = next.after in
     let a = c.index-spans-index.result.limit_range.at_least in
     let b = c.index-spans-next.result.limit_range.at_least in

@@ -8,4 +8,4 @@ pub returns-clause-not_both : goal.returns-clause-not_both
 returns-clause-not_both c = not_both
 
 pub returns-clause-one_reason : goal.returns-clause-one_reason
-returns-clause-one_reason c = one_reason
+returns-clause-one_reason c = λ d x y a b. one_reason d x y a.0 b.0 a.1 b.1
