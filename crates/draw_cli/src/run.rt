@@ -1,10 +1,11 @@
 //! The top call.
 
-ghost use Rattle.std.specs.Prelude.{◌≡◌, ◌≤◌, Some};
+ghost use Rattle.std.specs.Prelude.{◌≡◌, ◌≤◌, ◌↔◌, true, None, Some};
 ghost use Rattle.rail_outside.specs.Files.{Files};
 ghost use Rattle.rail_outside.specs.Growth.{Rose, GrowsByPrefix};
 ghost use Rattle.rail_words.specs.Words.{texts_of};
 ghost use Rattle.rail_cli.specs.Replies.{OnReply, reply_seen};
+ghost use Rattle.rail_cli.specs.Statuses.{is_answered};
 ghost use Rattle.draw_cli.specs.Answers.{IsAnswerTo, asks_to};
 ghost use Rattle.draw_cli.specs.Replies.{PrintsAnswer, PrintsSome, RepliesSome};
 ghost use Rattle.draw_cli.specs.Wanted.{wanted_of};
@@ -37,6 +38,9 @@ pub fn run_draw<S: Shelf, O: Sink>(
     // Over any shelf, also one of which nothing is known, such an answer for some bytes of the files is printed.
     ensures for_some_files { PrintsSome (wanted_of (texts_of words.now)) result
         (O.written out.old) (O.written out.new) (O.puts out.old) (O.puts out.new) }
+
+    // Status 2 comes exactly where the words ask for nothing.
+    ensures usage { is_answered result ≡ true → (result ≡ Status.Usage) ↔ (wanted_of (texts_of words.now) ≡ None) }
 
     // A fault comes only where its side has counted one.
     ensures shelf_fault { result ≡ Status.ShelfFault → Rose (S.fault_count shelf.old) (S.fault_count shelf.new) }

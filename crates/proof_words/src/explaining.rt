@@ -16,9 +16,9 @@ use std::alloc::{AllocError, Global};
 /// What a proof file says.
 #[derive(Drop)]
 pub enum Explained {
-    /// It shows that there is no plan. The sentences about its cones and bounds, in the order of the file, each with
-    /// its LF.
-    Sentences(Vec<Vec<u8>>),
+    /// It shows that there is no plan of so many steps. The sentences about its cones and bounds, in the order of the
+    /// file, each with its LF.
+    Sentences { steps: u32, lines: Vec<Vec<u8>> },
     /// It does not show that: its first bad line, and why it is bad.
     Refused(CheckResult),
 }
@@ -37,11 +37,10 @@ pub fn explain(
 {
     let shown = judge(alloc, interlocking, base, bytes)?;
     match shown {
-        CheckResult::Yes { .. } => Ok(Explained::Sentences(file_sentences(
-            alloc,
-            interlocking,
-            bytes,
-        )?)),
+        CheckResult::Yes { steps } => {
+            let lines = file_sentences(alloc, interlocking, bytes)?;
+            Ok(Explained::Sentences { steps, lines })
+        }
         CheckResult::No { .. } => Ok(Explained::Refused(shown)),
     }
 }

@@ -12,3 +12,4 @@ pub mod Finding
 pub mod AnyShelf
 pub mod Trying
 pub mod Verdicts
+pub mod Using

@@ -1,5 +1,5 @@
 -- Answers and those of a check of the same files.
-use Rattle.std.proofs.Common.{◌≡◌, ◌≢◌, ℕ, List, Some, None, Result, Ok, Err, refl, ap, sym, ◌∙◌}
+use Rattle.std.proofs.Common.{◌≡◌, ◌≢◌, ℕ, List, take, drop, Some, None, Result, Ok, Err, refl, ap, sym, ◌∙◌}
 use Rattle.infra_reader.specs.Design.{design_of}
 use Rattle.log_checker.specs.declared.check_result.CheckResult.{CheckResult}
 use Rattle.log_checker.specs.declared.check_result.CheckResult.TheVariants.{Yes, No}
@@ -13,13 +13,13 @@ use Rattle.rail_spec.specs.Track.{routes_of}
 use Rattle.rail_cli.specs.declared.status.Status.TheVariants.{Done}
 use Rattle.rail_cli.specs.declared.input.InputFile.TheVariants as file
 use Rattle.rail_cli.specs.Statuses.{is_verdict}
-use Rattle.rail_cli.specs.Answers.{ReplySeen, within_limit, with_routes, and_then, design_in, unless_refused, with_clauses, reply_for, checked_against, with_proof, check_reply}
+use Rattle.rail_cli.specs.Texts.{yes_line}
+use Rattle.rail_cli.specs.Answers.{ReplySeen, one_line, within_limit, with_routes, and_then, design_in, unless_refused, with_clauses, reply_for, checked_against, with_proof, check_reply}
 use Rattle.rail_cli.proofs.Deciding.{answered_next}
 use Rattle.rail_cli.proofs.Passing.{passed, long_refuses, design_refuses, clauses_refuse}
 use Rattle.rail_cli.proofs.Refusing.{file_is}
-use Rattle.rail_cli.proofs.AnyShelf.{with_design}
 use Rattle.why_cli.specs.Answers.{usage, sentences_or_shown, explained_against, text_explained, steps_in, explained_where, proof_explained, proof_by_head, explanation_reply}
-use Rattle.why_cli.specs.Laws.{RefusesAsCheck, ExplainsWhereYes, HeadsNameSteps, NoStepsIsUsage}
+use Rattle.why_cli.specs.Laws.{RefusesAsCheck, ExplainsWhereYes, SaysDigests, HeadsNameSteps, NoStepsIsUsage}
 
 -- ---- what a check does not answer with yes
 
@@ -28,19 +28,19 @@ goes_on : {X : Type 0} (r : Result X ReplySeen) (f g : X → ReplySeen) → ((x 
 goes_on (Ok x) f g h other = h x other
 goes_on (Err a) f g h other = refl
 
-shown_so : (lines : List (List ℕ)) (shown : CheckResult) → (reply_for shown).status ≢ Done → sentences_or_shown (sentences_where_yes lines shown) ≡ reply_for shown
-shown_so lines (Yes k) other = absurd (other refl)
-shown_so lines (No line reason) other = refl
+shown_so : (design proof : List ℕ) (lines : List (List ℕ)) (shown : CheckResult) → (reply_for shown).status ≢ Done → sentences_or_shown design proof (sentences_where_yes lines shown) ≡ reply_for shown
+shown_so design proof lines (Yes k) other = absurd (other refl)
+shown_so design proof lines (No line reason) other = refl
 
-proof_refused : (n : ℕ) (d : Station) (bytes : List ℕ) → (with_proof n d bytes).status ≢ Done → proof_explained n d bytes ≡ with_proof n d bytes
-proof_refused n d bytes other =
-    goes_on (with_clauses Cones n d) (λ same. unless_refused (within_limit file.Proof bytes) (explained_against d n)) (λ same. unless_refused (within_limit file.Proof bytes) (checked_against d n))
-    (λ same. goes_on (within_limit file.Proof bytes) (explained_against d n) (checked_against d n) (λ text. shown_so (file_sentences d text) (judged d n text))) other
+proof_refused : (design : List ℕ) (n : ℕ) (d : Station) (bytes : List ℕ) → (with_proof n d bytes).status ≢ Done → proof_explained design n d bytes ≡ with_proof n d bytes
+proof_refused design n d bytes other =
+    goes_on (with_clauses Cones n d) (λ same. unless_refused (within_limit file.Proof bytes) (explained_against design d n)) (λ same. unless_refused (within_limit file.Proof bytes) (checked_against d n))
+    (λ same. goes_on (within_limit file.Proof bytes) (explained_against design d n) (checked_against d n) (λ text. shown_so design text (file_sentences d text) (judged d n text))) other
 
 pub refuses_as_check : RefusesAsCheck
 refuses_as_check n design_bytes proof_bytes other =
-    goes_on (within_limit file.Design design_bytes) (λ text. unless_refused (design_in text) (λ d. proof_explained n d proof_bytes)) (λ text. unless_refused (design_in text) (λ d. with_proof n d proof_bytes))
-    (λ text. goes_on (design_in text) (λ d. proof_explained n d proof_bytes) (λ d. with_proof n d proof_bytes) (λ d. proof_refused n d proof_bytes)) other
+    goes_on (within_limit file.Design design_bytes) (λ text. unless_refused (design_in text) (λ d. proof_explained text n d proof_bytes)) (λ text. unless_refused (design_in text) (λ d. with_proof n d proof_bytes))
+    (λ text. goes_on (design_in text) (λ d. proof_explained text n d proof_bytes) (λ d. with_proof n d proof_bytes) (λ d. proof_refused text n d proof_bytes)) other
 
 -- ---- what it answers with yes
 
@@ -58,7 +58,10 @@ pub record Passes (n : ℕ) (design_bytes proof_bytes : List ℕ) : Type 0 where
   pub design : Station
   pub text : within_limit file.Design design_bytes ≡ Ok design_bytes
   pub reads : design_in design_bytes ≡ Ok design
-  pub answer : explanation_reply (Some n) design_bytes proof_bytes ≡ sentences_or_shown (Ok (file_sentences design proof_bytes))
+  pub steps : ℕ
+  pub is_shown : judged design n proof_bytes ≡ Yes steps
+  pub is_checked : check_reply n design_bytes proof_bytes ≡ one_line Done (yes_line steps)
+  pub answer : explanation_reply (Some n) design_bytes proof_bytes ≡ sentences_or_shown design_bytes proof_bytes (Ok (steps, file_sentences design proof_bytes))
 
 pub passes : (n : ℕ) (design_bytes proof_bytes : List ℕ) → (check_reply n design_bytes proof_bytes).status ≡ Done → Passes n design_bytes proof_bytes
 passes n design_bytes proof_bytes done =
@@ -75,12 +78,17 @@ passes n design_bytes proof_bytes done =
       design = d;
       text = one.is ∙ ap (λ (t : List ℕ). Ok t) (sym text);
       reads = ap design_in text ∙ two.is;
+      steps = shown.steps;
+      is_shown = ap (judged d n) bytes ∙ shown.is;
+      is_checked = all ∙ ap reply_for shown.is;
       answer =
-          with_design design_bytes one.read one.is (λ e. proof_explained n e proof_bytes) d two.is
-          ∙ (answered_next (with_clauses Cones n d) three.read (λ same. unless_refused (within_limit file.Proof proof_bytes) (explained_against d n)) three.is
-          ∙ (answered_next (within_limit file.Proof proof_bytes) four.read (explained_against d n) four.is
-          ∙ (ap (λ v. sentences_or_shown (sentences_where_yes (file_sentences d four.read) v)) shown.is
-          ∙ ap (λ (b : List ℕ). sentences_or_shown (Ok (file_sentences d b))) (sym bytes))));
+          answered_next (within_limit file.Design design_bytes) one.read (λ t. unless_refused (design_in t) (λ e. proof_explained t n e proof_bytes)) one.is
+          ∙ (answered_next (design_in one.read) d (λ e. proof_explained one.read n e proof_bytes) two.is
+          ∙ (answered_next (with_clauses Cones n d) three.read (λ same. unless_refused (within_limit file.Proof proof_bytes) (explained_against one.read d n)) three.is
+          ∙ (answered_next (within_limit file.Proof proof_bytes) four.read (explained_against one.read d n) four.is
+          ∙ (ap (λ v. sentences_or_shown one.read four.read (sentences_where_yes (file_sentences d four.read) v)) shown.is
+          ∙ (ap (λ (b : List ℕ). sentences_or_shown b four.read (Ok (shown.steps, file_sentences d four.read))) (sym text)
+          ∙ ap (λ (b : List ℕ). sentences_or_shown design_bytes b (Ok (shown.steps, file_sentences d b))) (sym bytes))))));
     }
 
 pub explains_where_yes : ExplainsWhereYes
@@ -88,7 +96,16 @@ explains_where_yes n design_bytes proof_bytes d reads done =
     let p = passes n design_bytes proof_bytes done in
     let one : Ok p.design ≡ Ok d = sym p.reads ∙ reads in
     let same : p.design ≡ d = cc in
-    p.answer ∙ ap (λ (e : Station). sentences_or_shown (Ok (file_sentences e proof_bytes))) same
+    record {
+      steps = p.steps;
+      checked = p.is_checked;
+      answer = p.answer ∙ ap (λ (e : Station). sentences_or_shown design_bytes proof_bytes (Ok (p.steps, file_sentences e proof_bytes))) same;
+    }
+
+pub says_digests : SaysDigests
+says_digests n design_bytes proof_bytes done =
+    let p = passes n design_bytes proof_bytes done in
+    ap (λ (a : ReplySeen). take 2 (drop 1 a.lines)) p.answer
 
 -- ---- the status
 
@@ -96,20 +113,20 @@ same_status : {X : Type 0} (r : Result X ReplySeen) (f g : X → ReplySeen) → 
 same_status (Ok x) f g h = h x
 same_status (Err a) f g h = refl
 
-shown_status : (lines : List (List ℕ)) (shown : CheckResult) → (sentences_or_shown (sentences_where_yes lines shown)).status ≡ (reply_for shown).status
-shown_status lines (Yes k) = refl
-shown_status lines (No line reason) = refl
+shown_status : (design proof : List ℕ) (lines : List (List ℕ)) (shown : CheckResult) → (sentences_or_shown design proof (sentences_where_yes lines shown)).status ≡ (reply_for shown).status
+shown_status design proof lines (Yes k) = refl
+shown_status design proof lines (No line reason) = refl
 
-proof_status : (n : ℕ) (d : Station) (bytes : List ℕ) → (proof_explained n d bytes).status ≡ (with_proof n d bytes).status
-proof_status n d bytes =
-    same_status (with_clauses Cones n d) (λ same. unless_refused (within_limit file.Proof bytes) (explained_against d n)) (λ same. unless_refused (within_limit file.Proof bytes) (checked_against d n))
-    (λ same. same_status (within_limit file.Proof bytes) (explained_against d n) (checked_against d n) (λ text. shown_status (file_sentences d text) (judged d n text)))
+proof_status : (design : List ℕ) (n : ℕ) (d : Station) (bytes : List ℕ) → (proof_explained design n d bytes).status ≡ (with_proof n d bytes).status
+proof_status design n d bytes =
+    same_status (with_clauses Cones n d) (λ same. unless_refused (within_limit file.Proof bytes) (explained_against design d n)) (λ same. unless_refused (within_limit file.Proof bytes) (checked_against d n))
+    (λ same. same_status (within_limit file.Proof bytes) (explained_against design d n) (checked_against d n) (λ text. shown_status design text (file_sentences d text) (judged d n text)))
 
 -- it is that of a check
 pub status_as_check : (n : ℕ) (design_bytes proof_bytes : List ℕ) → (explanation_reply (Some n) design_bytes proof_bytes).status ≡ (check_reply n design_bytes proof_bytes).status
 status_as_check n design_bytes proof_bytes =
-    same_status (within_limit file.Design design_bytes) (λ text. unless_refused (design_in text) (λ d. proof_explained n d proof_bytes)) (λ text. unless_refused (design_in text) (λ d. with_proof n d proof_bytes))
-    (λ text. same_status (design_in text) (λ d. proof_explained n d proof_bytes) (λ d. with_proof n d proof_bytes) (λ d. proof_status n d proof_bytes))
+    same_status (within_limit file.Design design_bytes) (λ text. unless_refused (design_in text) (λ d. proof_explained text n d proof_bytes)) (λ text. unless_refused (design_in text) (λ d. with_proof n d proof_bytes))
+    (λ text. same_status (design_in text) (λ d. proof_explained text n d proof_bytes) (λ d. with_proof n d proof_bytes) (λ d. proof_status text n d proof_bytes))
 
 -- ---- steps that the head names
 
@@ -117,25 +134,26 @@ after_both : {X : Type 0} (r : Result X ReplySeen) (f g : X → ReplySeen) → (
 after_both (Ok x) f g h = h x
 after_both (Err a) f g h = refl
 
-module _ (bytes : List ℕ) (fits : within_limit file.Proof bytes ≡ Ok bytes) (d : Station) where
-  by_head : proof_by_head d bytes ≡ explained_where (steps_in bytes) d bytes
-  by_head = answered_next (within_limit file.Proof bytes) bytes (λ text. explained_where (steps_in text) d text) fits
+module _ (design : List ℕ) (bytes : List ℕ) (fits : within_limit file.Proof bytes ≡ Ok bytes) (d : Station) where
+  by_head : proof_by_head design d bytes ≡ explained_where design (steps_in bytes) d bytes
+  by_head = answered_next (within_limit file.Proof bytes) bytes (λ text. explained_where design (steps_in text) d text) fits
 
-  given : (n : ℕ) → proof_explained n d bytes ≡ text_explained n d bytes
-  given n = after_both (with_clauses Cones n d) (λ same. unless_refused (within_limit file.Proof bytes) (explained_against d n)) (λ same. explained_against d n bytes)
-      (λ same. answered_next (within_limit file.Proof bytes) bytes (explained_against d n) fits)
+  given : (n : ℕ) → proof_explained design n d bytes ≡ text_explained design n d bytes
+  given n = after_both (with_clauses Cones n d) (λ same. unless_refused (within_limit file.Proof bytes) (explained_against design d n)) (λ same. explained_against design d n bytes)
+      (λ same. answered_next (within_limit file.Proof bytes) bytes (explained_against design d n) fits)
 
-  pub as_given : (n : ℕ) → steps_in bytes ≡ Some n → proof_by_head d bytes ≡ proof_explained n d bytes
-  as_given n named = by_head ∙ (ap (λ s. explained_where s d bytes) named ∙ sym (given n))
+  pub as_given : (n : ℕ) → steps_in bytes ≡ Some n → proof_by_head design d bytes ≡ proof_explained design n d bytes
+  as_given n named = by_head ∙ (ap (λ s. explained_where design s d bytes) named ∙ sym (given n))
 
-  pub not_named : steps_in bytes ≡ None → proof_by_head d bytes ≡ usage
-  not_named none = by_head ∙ ap (λ s. explained_where s d bytes) none
+  pub not_named : steps_in bytes ≡ None → proof_by_head design d bytes ≡ usage
+  not_named none = by_head ∙ ap (λ s. explained_where design s d bytes) none
 
 pub heads_name_steps : HeadsNameSteps
 heads_name_steps n design_bytes proof_bytes fits named =
-    after_both (within_limit file.Design design_bytes) (λ text. unless_refused (design_in text) (λ d. proof_by_head d proof_bytes)) (λ text. unless_refused (design_in text) (λ d. proof_explained n d proof_bytes))
-    (λ text. after_both (design_in text) (λ d. proof_by_head d proof_bytes) (λ d. proof_explained n d proof_bytes) (λ d. as_given proof_bytes fits d n named))
+    after_both (within_limit file.Design design_bytes) (λ text. unless_refused (design_in text) (λ d. proof_by_head text d proof_bytes)) (λ text. unless_refused (design_in text) (λ d. proof_explained text n d proof_bytes))
+    (λ text. after_both (design_in text) (λ d. proof_by_head text d proof_bytes) (λ d. proof_explained text n d proof_bytes) (λ d. as_given text proof_bytes fits d n named))
 
 pub no_steps_is_usage : NoStepsIsUsage
 no_steps_is_usage design_bytes proof_bytes d short reads fits none =
-    with_design design_bytes design_bytes short (λ e. proof_by_head e proof_bytes) d reads ∙ not_named proof_bytes fits d none
+    answered_next (within_limit file.Design design_bytes) design_bytes (λ t. unless_refused (design_in t) (λ e. proof_by_head t e proof_bytes)) short
+    ∙ (answered_next (design_in design_bytes) d (λ e. proof_by_head design_bytes e proof_bytes) reads ∙ not_named design_bytes proof_bytes fits d none)

@@ -3,3 +3,4 @@ pub mod Asking
 pub mod Checking
 pub mod Showing
 pub mod Printing
+pub mod Using

@@ -1,13 +1,17 @@
 -- Runs that say yes, and runs of which nothing is refused.
-use Rattle.std.proofs.Common.{◌≡◌, ℕ, ◌≤◌, ◌&&◌, Bool, true, false, nat_le, if◌then◌else◌, List, [], ◌∷◌, Option, Some, None, Ok, refl, ap, sym, ◌∙◌, subst, leb-true}
+use Rattle.std.proofs.Common.{◌≡◌, ℕ, ◌≤◌, ◌&&◌, Bool, true, false, nat_le, if◌then◌else◌, List, [], ◌∷◌, ◌++◌, Option, Some, None, Ok, refl, ap, sym, ◌∙◌, subst, leb-true}
 use Rattle.std.specs.List.{concat}
 use Rattle.infra_reader.specs.Design.{design_of}
 use Rattle.log_checker.specs.Verdict.{head_in}
+use Rattle.infra_reader.proofs.Reading.{spelled_admitted}
 use Rattle.proof_judge.specs.Judged.{judged}
+use Rattle.proof_judge.proofs.Sound.{yes_infeasible}
 use Rattle.proof_log.specs.declared.head.Head.{Head}
 use Rattle.proof_log.specs.declared.head.Head.TheVariants.{Plain, Named, Sorted}
 use Rattle.proof_words.specs.Meanings.{file_sentences}
 use Rattle.rail_base.specs.declared.station.Station.{Station}
+use Rattle.rail_base.specs.Admitted.{IsAdmitted}
+use Rattle.rail_spec.specs.Feasible.{IsInfeasible}
 use Rattle.rail_base.proofs.Members.{and_left}
 use Rattle.rail_cli.specs.declared.status.Status.{Status}
 use Rattle.rail_cli.specs.declared.status.Status.TheVariants.{Done}
@@ -16,7 +20,6 @@ use Rattle.rail_cli.specs.Statuses.{is_answered, is_verdict}
 use Rattle.rail_cli.specs.Answers.{ReplySeen, within_limit, with_routes, and_then, design_in, unless_refused, reply_for, check_reply}
 use Rattle.rail_cli.specs.Prints.{Prints}
 use Rattle.rail_cli.specs.Verdicts.{IsVerdict}
-use Rattle.rail_cli.proofs.Judging.{checked_shows}
 use Rattle.rail_cli.proofs.Passing.{passed, long_refuses, design_refuses, read-same}
 use Rattle.rail_cli.proofs.Refusing.{file_is, file_fits}
 use Rattle.rail_cli.proofs.Verdicts.{checked_so, told_verdict}
@@ -28,6 +31,7 @@ use Rattle.rail_words.specs.Requests.{RequestSeen, simulate, routes, verify, che
 use Rattle.rail_words.specs.Requests as requests
 use Rattle.rail_words.proofs.Ranges.{requests_in_range}
 use Rattle.why_words.specs.Wanted.{Wanted, AreStepsInRange, two_names, check_words, by_check, or_else, wanted_of}
+use Rattle.why_cli.specs.Heads.{head_lines}
 use Rattle.why_cli.specs.Answers.{if_in_range, steps_named, steps_in, steps_for, explained_where, proof_by_head, explanation_reply, answer_to, answer_of}
 use Rattle.why_cli.specs.Shows.{Explains, ExplainsProof, IsUnrefused}
 use Rattle.why_cli.proofs.Checking.{heads_name_steps, status_as_check, passes}
@@ -85,17 +89,17 @@ record Names (bytes : List ℕ) : Type 0 where
   fits : within_limit file.Proof bytes ≡ Ok bytes
   named : steps_in bytes ≡ Some steps
 
-where_some : (s : Option ℕ) (d : Station) (text : List ℕ) → is_verdict (explained_where s d text).status ≡ true → (n : ℕ) × (s ≡ Some n)
-where_some None d text verdict = absurd (cc)
-where_some (Some n) d text verdict = (n, refl)
+where_some : (design : List ℕ) (s : Option ℕ) (d : Station) (text : List ℕ) → is_verdict (explained_where design s d text).status ≡ true → (n : ℕ) × (s ≡ Some n)
+where_some design None d text verdict = absurd (cc)
+where_some design (Some n) d text verdict = (n, refl)
 
 names : (design_bytes proof_bytes : List ℕ) → (explanation_reply None design_bytes proof_bytes).status ≡ Done → Names proof_bytes
 names design_bytes proof_bytes done =
-    let one = passed (within_limit file.Design design_bytes) (λ text. unless_refused (design_in text) (λ e. proof_by_head e proof_bytes)) (long_refuses file.Design design_bytes) (ap is_verdict done) in
-    let two = passed (design_in one.read) (λ e. proof_by_head e proof_bytes) (design_refuses (and_then (design_of one.read) with_routes)) one.verdict in
-    let three = passed (within_limit file.Proof proof_bytes) (λ text. explained_where (steps_in text) two.read text) (long_refuses file.Proof proof_bytes) two.verdict in
+    let one = passed (within_limit file.Design design_bytes) (λ text. unless_refused (design_in text) (λ e. proof_by_head text e proof_bytes)) (long_refuses file.Design design_bytes) (ap is_verdict done) in
+    let two = passed (design_in one.read) (λ e. proof_by_head one.read e proof_bytes) (design_refuses (and_then (design_of one.read) with_routes)) one.verdict in
+    let three = passed (within_limit file.Proof proof_bytes) (λ text. explained_where one.read (steps_in text) two.read text) (long_refuses file.Proof proof_bytes) two.verdict in
     let same : proof_bytes ≡ three.read = file_is file.Proof proof_bytes three.read three.is in
-    let some = where_some (steps_in three.read) two.read three.read three.verdict in
+    let some = where_some one.read (steps_in three.read) two.read three.read three.verdict in
     record { steps = some.0; fits = three.is ∙ ap (λ (t : List ℕ). Ok t) (sym same); named = ap steps_in same ∙ some.1 }
 
 -- ---- an answer that says yes
@@ -132,14 +136,16 @@ module _ (files : Files) (words : List (List ℕ)) (t : Status) (text new_text :
       let yes_to_check : (check_reply g.most design proof).status ≡ Done = sym (status_as_check g.most design proof) ∙ (ap (λ (a : ReplySeen). a.status) (sym g.same) ∙ yes) in
       let p = passes g.most design proof yes_to_check in
       let same : d ≡ p.design = read-same design d p.design e.parses_design p.reads in
-      let s = checked_shows g.most design proof d g.some e.parses_design yes_to_check in
+      let good : IsAdmitted p.design = subst IsAdmitted same (spelled_admitted design d e.parses_design) in
+      let s = yes_infeasible p.design good g.most p.steps proof g.some p.is_shown in
       record {
         most = g.most;
         are_most = g.are_most;
-        steps = s.steps;
-        within = s.within;
-        text = prints.written answered ∙ (ap (λ (a : ReplySeen). grown text (concat a.lines)) (so ∙ (g.same ∙ p.answer)) ∙ ap (λ (x : Station). grown text (concat (file_sentences x proof))) (sym same));
-        none = s.none;
+        steps = p.steps;
+        within = s.0;
+        is_checked = p.is_checked;
+        text = prints.written answered ∙ (ap (λ (a : ReplySeen). grown text (concat a.lines)) (so ∙ (g.same ∙ p.answer)) ∙ ap (λ (x : Station). grown text (concat (head_lines design proof p.steps ++ file_sentences x proof))) (sym same));
+        none = subst (λ (x : Station). IsInfeasible x p.steps) (sym same) s.1;
       }
 
   -- a run of which nothing is refused

@@ -1,6 +1,6 @@
--- The answer to the words of a command line, for the files that are held: where a check of these files says yes, the
--- sentences about the proof's lines, and else what the check answers.
-use Rattle.std.specs.Prelude.{ℕ, ◌&&◌, nat_le, if◌then◌else◌, List, [], ◌∷◌, codes}
+-- The answer to the words of a command line, for the files that are held: where a check of these files says yes, lines about the
+-- files and the number of steps and the sentences about the proof's lines, and else what the check answers.
+use Rattle.std.specs.Prelude.{ℕ, ◌&&◌, nat_le, if◌then◌else◌, List, [], ◌∷◌, ◌++◌, codes}
 use Rattle.std.specs.Prelude.{Option, Some, None, Result, Ok, Err}
 use Rattle.log_checker.specs.declared.check_result.CheckResult.{CheckResult}
 use Rattle.log_checker.specs.Verdict.{head_in}
@@ -16,6 +16,7 @@ use Rattle.rail_outside.specs.Files.{Files}
 use Rattle.rail_outside.specs.Asks.{Ask, fetched}
 use Rattle.rail_text.specs.Pieces.{pieces}
 use Rattle.why_words.specs.Wanted.{Wanted, wanted_of}
+use Rattle.why_cli.specs.Heads.{head_lines}
 
 -- how the program is used
 abbrev pub usage_line : List ℕ
@@ -27,18 +28,18 @@ usage = one_line Usage usage_line
 
 -- ---- what the text of a proof says of a design
 
--- the sentences, or what is shown in their place
-abbrev pub sentences_or_shown : Result (List (List ℕ)) CheckResult → ReplySeen
-sentences_or_shown (Ok lines) = record { status = Done; lines = lines }
-sentences_or_shown (Err shown) = reply_for shown
+-- the lines about the two files and the number of steps, and then the sentences, or what is shown in their place
+abbrev pub sentences_or_shown : List ℕ → List ℕ → Result (ℕ × List (List ℕ)) CheckResult → ReplySeen
+sentences_or_shown design proof (Ok said) = record { status = Done; lines = head_lines design proof said.0 ++ said.1 }
+sentences_or_shown design proof (Err shown) = reply_for shown
 
--- for plans of n steps
-abbrev pub explained_against : Station → ℕ → List ℕ → ReplySeen
-explained_against d n text = sentences_or_shown (explained_of d n text)
+-- for plans of n steps, where the design has these bytes
+abbrev pub explained_against : List ℕ → Station → ℕ → List ℕ → ReplySeen
+explained_against design d n text = sentences_or_shown design text (explained_of d n text)
 
 -- the same, where the clauses of the design are few
-abbrev pub text_explained : ℕ → Station → List ℕ → ReplySeen
-text_explained n d text = unless_refused (with_clauses Cones n d) (λ same. explained_against d n text)
+abbrev pub text_explained : List ℕ → ℕ → Station → List ℕ → ReplySeen
+text_explained design n d text = unless_refused (with_clauses Cones n d) (λ same. explained_against design d n text)
 
 -- ---- how many steps
 
@@ -65,32 +66,32 @@ steps_for None text = steps_in text
 -- ---- answers
 
 -- the answer for a design and n steps, for the bytes of the proof
-abbrev pub proof_explained : ℕ → Station → List ℕ → ReplySeen
-proof_explained n d proof_bytes =
+abbrev pub proof_explained : List ℕ → ℕ → Station → List ℕ → ReplySeen
+proof_explained design n d proof_bytes =
     unless_refused (with_clauses Cones n d) (λ same.
-    unless_refused (within_limit file.Proof proof_bytes) (explained_against d n))
+    unless_refused (within_limit file.Proof proof_bytes) (explained_against design d n))
 
 -- the answer for the text of a proof and as many steps as are named, if any are
-abbrev pub explained_where : Option ℕ → Station → List ℕ → ReplySeen
-explained_where (Some n) d text = text_explained n d text
-explained_where None d text = usage
+abbrev pub explained_where : List ℕ → Option ℕ → Station → List ℕ → ReplySeen
+explained_where design (Some n) d text = text_explained design n d text
+explained_where design None d text = usage
 
 -- the answer for a design and as many steps as the head of the proof names, for the bytes of the proof
-abbrev pub proof_by_head : Station → List ℕ → ReplySeen
-proof_by_head d proof_bytes =
-    unless_refused (within_limit file.Proof proof_bytes) (λ text. explained_where (steps_in text) d text)
+abbrev pub proof_by_head : List ℕ → Station → List ℕ → ReplySeen
+proof_by_head design d proof_bytes =
+    unless_refused (within_limit file.Proof proof_bytes) (λ text. explained_where design (steps_in text) d text)
 
 -- the answer for a design and the steps that are given, or else as many as the head of the proof names
-abbrev pub proof_for : Option ℕ → Station → List ℕ → ReplySeen
-proof_for (Some n) d proof_bytes = proof_explained n d proof_bytes
-proof_for None d proof_bytes = proof_by_head d proof_bytes
+abbrev pub proof_for : List ℕ → Option ℕ → Station → List ℕ → ReplySeen
+proof_for design (Some n) d proof_bytes = proof_explained design n d proof_bytes
+proof_for design None d proof_bytes = proof_by_head design d proof_bytes
 
 -- the same, for the bytes of the design and of the proof
 abbrev pub explanation_reply : Option ℕ → List ℕ → List ℕ → ReplySeen
 explanation_reply steps design_bytes proof_bytes =
     unless_refused (within_limit file.Design design_bytes) (λ design_text.
     unless_refused (design_in design_text) (λ d.
-    proof_for steps d proof_bytes))
+    proof_for design_text steps d proof_bytes))
 
 -- the answer to what is wanted, which may be nothing, for the bytes of the design and of the proof
 abbrev pub answer_given : List ℕ → List ℕ → Option Wanted → ReplySeen

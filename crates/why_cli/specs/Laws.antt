@@ -1,12 +1,16 @@
 -- What the answers have to do with those of a check, and what is answered where nothing is asked for.
-use Rattle.std.specs.Prelude.{◌≡◌, ◌≢◌, ℕ, List, Ok, Some, None}
+use Rattle.std.specs.Prelude.{◌≡◌, ◌≢◌, ℕ, List, [], ◌∷◌, ◌++◌, Ok, Some, None, codes, decimal, drop, length, take}
+use Rattle.hex.specs.Hex.{encode_lower}
+use Rattle.sha2.specs.Sha256.{sha256}
 use Rattle.proof_words.specs.Meanings.{file_sentences}
 use Rattle.rail_base.specs.declared.station.Station.{Station}
 use Rattle.rail_cli.specs.declared.status.Status.TheVariants.{Done}
 use Rattle.rail_cli.specs.declared.input.InputFile.TheVariants as file
-use Rattle.rail_cli.specs.Answers.{check_reply, design_in, within_limit}
+use Rattle.rail_cli.specs.Answers.{check_reply, design_in, one_line, within_limit}
+use Rattle.rail_cli.specs.Texts.{yes_line}
 use Rattle.rail_outside.specs.Files.{Files}
 use Rattle.why_words.specs.Wanted.{wanted_of}
+use Rattle.why_cli.specs.Heads.{head_lines}
 use Rattle.why_cli.specs.Answers.{answer_of, explanation_reply, steps_in, usage}
 
 -- what a check does not answer with yes is answered as it is there, by the same status and line
@@ -14,11 +18,27 @@ abbrev pub RefusesAsCheck : Type 0
 RefusesAsCheck = (n : ℕ) (design_bytes proof_bytes : List ℕ) → (check_reply n design_bytes proof_bytes).status ≢ Done
     → explanation_reply (Some n) design_bytes proof_bytes ≡ check_reply n design_bytes proof_bytes
 
--- where a check says yes, so does the answer, and its lines are the sentences about the proof's lines
+-- a check answers `yes steps <k>`, and the answer has status 0, lines about the files and k, and the sentences about the proof's
+-- lines
+pub record Explains (n : ℕ) (design_bytes proof_bytes : List ℕ) (d : Station) : Type 0 where
+  pub steps : ℕ
+  pub checked : check_reply n design_bytes proof_bytes ≡ one_line Done (yes_line steps)
+  pub answer : explanation_reply (Some n) design_bytes proof_bytes
+      ≡ record { status = Done; lines = head_lines design_bytes proof_bytes steps ++ file_sentences d proof_bytes }
+
+-- where a check says yes, so does the answer, and about the same number of steps
 abbrev pub ExplainsWhereYes : Type 0
 ExplainsWhereYes = (n : ℕ) (design_bytes proof_bytes : List ℕ) (d : Station) → design_in design_bytes ≡ Ok d
-    → (check_reply n design_bytes proof_bytes).status ≡ Done
-    → explanation_reply (Some n) design_bytes proof_bytes ≡ record { status = Done; lines = file_sentences d proof_bytes }
+    → (check_reply n design_bytes proof_bytes).status ≡ Done → Explains n design_bytes proof_bytes d
+
+-- its second and third line say the SHA-256 digest of the bytes of each file, in hexadecimal digits, and how many bytes there are
+abbrev pub SaysDigests : Type 0
+SaysDigests = (n : ℕ) (design_bytes proof_bytes : List ℕ) → (check_reply n design_bytes proof_bytes).status ≡ Done
+    → take 2 (drop 1 (explanation_reply (Some n) design_bytes proof_bytes).lines)
+    ≡ (codes "design sha256 " ++ encode_lower (sha256 design_bytes)
+    ++ codes " bytes " ++ decimal (length design_bytes) ++ codes "\n")
+    ∷ (codes "proof sha256 " ++ encode_lower (sha256 proof_bytes)
+    ++ codes " bytes " ++ decimal (length proof_bytes) ++ codes "\n") ∷ []
 
 -- where no steps are given, the answer is that for the steps that the head of the proof names
 abbrev pub HeadsNameSteps : Type 0

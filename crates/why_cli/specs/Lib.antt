@@ -1,4 +1,5 @@
 -- What `rcv_why` answers.
+pub mod Heads
 pub mod Answers
 pub mod Replies
 pub mod Shows

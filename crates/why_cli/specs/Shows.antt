@@ -1,17 +1,21 @@
 -- Runs that say yes, and what they say.
-use Rattle.std.specs.Prelude.{◌≡◌, ℕ, ◌≤◌, List, length, Option, Some, Ok}
+use Rattle.std.specs.Prelude.{◌≡◌, ℕ, ◌≤◌, List, ◌++◌, length, Option, Some, None, Ok}
 use Rattle.std.specs.List.{concat}
 use Rattle.infra_reader.specs.Design.{design_of}
 use Rattle.plan_exclusion.specs.declared.method.Method.TheVariants.{Cones}
 use Rattle.proof_words.specs.Meanings.{file_sentences}
 use Rattle.rail_base.specs.declared.station.Station.{Station}
 use Rattle.rail_cli.specs.declared.input.InputFile.TheVariants as file
-use Rattle.rail_cli.specs.Texts.{limit_of}
+use Rattle.rail_cli.specs.declared.status.Status.{Status}
+use Rattle.rail_cli.specs.declared.status.Status.TheVariants.{Done, Usage}
+use Rattle.rail_cli.specs.Answers.{check_reply, one_line}
+use Rattle.rail_cli.specs.Texts.{limit_of, yes_line}
 use Rattle.rail_cli.specs.Verdicts.{IsDesignText, HasFewClauses}
 use Rattle.rail_outside.specs.Files.{Files}
 use Rattle.rail_outside.specs.Growth.{grown}
 use Rattle.rail_spec.specs.Feasible.{IsInfeasible}
 use Rattle.why_words.specs.Wanted.{Wanted, wanted_of}
+use Rattle.why_cli.specs.Heads.{head_lines}
 use Rattle.why_cli.specs.Answers.{steps_for}
 
 -- the words ask for the sentences about a proof, and the design's file spells this design
@@ -20,15 +24,27 @@ pub record Explains (files : Files) (words : List (List ℕ)) (d : Station) : Ty
   pub asked : wanted_of words ≡ Some wanted
   pub parses_design : design_of (files wanted.design) ≡ Ok d
 
--- what is printed are the sentences about the lines of the proof, and no plan of so many steps is feasible: that many
--- which are given or which the head of the proof names, or fewer
+-- what is printed are lines about the two files and a number of steps, and the sentences about the lines of the proof. It is the
+-- number that a check of the files prints, for as many steps as are given or as the head of the proof names, and no plan of so
+-- many steps is feasible
 pub record ExplainsProof (files : Files) (w : Wanted) (d : Station) (old new : Option (List ℕ)) : Type 0 where
   pub most : ℕ
   pub are_most : steps_for w.steps (files w.proof) ≡ Some most
   pub steps : ℕ
   pub within : steps ≤ most
-  pub text : new ≡ grown old (concat (file_sentences d (files w.proof)))
+  pub is_checked : check_reply most (files w.design) (files w.proof) ≡ one_line Done (yes_line steps)
+  pub text : new ≡ grown old (concat (head_lines (files w.design) (files w.proof) steps ++ file_sentences d (files w.proof)))
   pub none : IsInfeasible d steps
+
+-- they ask for nothing, or give no number of steps
+abbrev pub GivesNoSteps : Option Wanted → Type 0
+GivesNoSteps None = Unit {0}
+GivesNoSteps (Some w) = w.steps ≡ None
+
+-- words that ask for nothing are answered by how the program is used, and but for them only words that give no number of steps
+pub record IsUsageFor (wanted : Option Wanted) (s : Status) : Type 0 where
+  pub silence : wanted ≡ None → s ≡ Usage
+  pub cause : s ≡ Usage → GivesNoSteps wanted
 
 -- the words ask for that, and nothing is refused: the files are within their limits, one spells a design, the steps are
 -- given or named by the head of the proof, and the clauses for so many are few

@@ -14,6 +14,7 @@ ghost use Rattle.why_cli.specs.Answers.{proof_by_head, proof_explained, proof_fo
 ghost use Rattle.why_cli.specs.Answers.{usage_line};
 ghost use Rattle.why_cli.specs.Replies.{RepliesSome};
 
+use crate::heads::head_lines;
 use interlocking::{Interlocking, Steps};
 use log_checker::head_in;
 use plan_encoding::Base;
@@ -50,25 +51,38 @@ pub(crate) fn explanation_reply<S: Shelf>(
 {
     let design_bytes = fetch(alloc, shelf, InputFile::Design, wanted.design)?;
     let interlocking = admit(alloc, design_bytes.as_slice())?;
-    for_proof(alloc, shelf, &interlocking, wanted.steps, wanted.proof)
+    for_proof(
+        alloc,
+        shelf,
+        design_bytes.as_slice(),
+        &interlocking,
+        wanted.steps,
+        wanted.proof,
+    )
 }
 
 /// What the text of a proof says of a design, in sentences where it shows that there is no plan.
 fn reply_for(
     alloc: Global,
+    design_text: &[u8],
     interlocking: &Interlocking,
     base: Base,
     text: &[u8],
 ) -> Result<Reply, AllocError>
     requires { let d = interlocking.now.design.station in IsBaseOf d (routes_of d) base.steps base }
-    ensures { RepliesWith result (explained_against interlocking.now.design.station base.steps text.now) }
+    ensures { RepliesWith result
+        (explained_against design_text.now interlocking.now.design.station base.steps text.now) }
 {
     let said = explain(alloc, interlocking, base, text)?;
     match said {
-        Explained::Sentences(lines) => Ok(Reply {
-            status: Status::Done,
-            lines,
-        }),
+        Explained::Sentences { steps, mut lines } => {
+            let mut all = head_lines(alloc, design_text, text, steps)?;
+            all.append(&mut lines)?;
+            Ok(Reply {
+                status: Status::Done,
+                lines: all,
+            })
+        }
         Explained::Refused(shown) => make_reply(alloc, shown),
     }
 }
@@ -77,14 +91,16 @@ fn reply_for(
 fn proof_explained<S: Shelf>(
     alloc: Global,
     shelf: &mut S,
+    design_text: &[u8],
     interlocking: &Interlocking,
     steps: Steps,
     proof: &str,
 ) -> Result<Reply, Ending>
     ensures replies { (files : Files) → S.known_files shelf.old ≡ Some files
-        → Replies result (proof_explained steps.count interlocking.now.design.station (files proof.now)) }
+        → Replies result
+        (proof_explained design_text.now steps.count interlocking.now.design.station (files proof.now)) }
     ensures for_some_bytes { (bytes : List ℕ)
-        × Replies result (proof_explained steps.count interlocking.now.design.station bytes) }
+        × Replies result (proof_explained design_text.now steps.count interlocking.now.design.station bytes) }
     ensures cause { result ≡ Err Ending.ShelfFault → Rose (S.fault_count shelf.old) (S.fault_count shelf.new) }
     ensures never_falls { S.fault_count shelf.old ≤ S.fault_count shelf.new }
     ensures files_stay { S.known_files shelf.new ≡ S.known_files shelf.old }
@@ -92,7 +108,7 @@ fn proof_explained<S: Shelf>(
 {
     let base = encode(alloc, interlocking, steps)?;
     let bytes = fetch(alloc, shelf, InputFile::Proof, proof)?;
-    let reply = reply_for(alloc, interlocking, base, bytes.as_slice())?;
+    let reply = reply_for(alloc, design_text, interlocking, base, bytes.as_slice())?;
     Ok(reply)
 }
 
@@ -124,26 +140,33 @@ fn steps_named(head: Option<Head>) -> Option<u32>
 /// The reply for a number of steps, by the text of the proof.
 fn text_explained(
     alloc: Global,
+    design_text: &[u8],
     interlocking: &Interlocking,
     steps: Steps,
     text: &[u8],
 ) -> Result<Reply, Ending>
-    ensures replies { Replies result (text_explained steps.count interlocking.now.design.station text.now) }
+    ensures replies { Replies result
+        (text_explained design_text.now steps.count interlocking.now.design.station text.now) }
     ensures no_fault { result ≢ Err Ending.ShelfFault }
 {
     let base = encode(alloc, interlocking, steps)?;
-    let reply = reply_for(alloc, interlocking, base, text)?;
+    let reply = reply_for(alloc, design_text, interlocking, base, text)?;
     Ok(reply)
 }
 
 /// The reply for as many steps as the head of the proof names, by its text.
-fn text_by_head(alloc: Global, interlocking: &Interlocking, text: &[u8]) -> Result<Reply, Ending>
+fn text_by_head(
+    alloc: Global,
+    design_text: &[u8],
+    interlocking: &Interlocking,
+    text: &[u8],
+) -> Result<Reply, Ending>
     ensures replies { let d = interlocking.now.design.station in
-        Replies result (explained_where (steps_in text.now) d text.now) }
+        Replies result (explained_where design_text.now (steps_in text.now) d text.now) }
     ensures no_fault { result ≢ Err Ending.ShelfFault }
 {
     match steps_named(head_in(text)) {
-        Some(count) => text_explained(alloc, interlocking, Steps { count }, text),
+        Some(count) => text_explained(alloc, design_text, interlocking, Steps { count }, text),
         None => {
             let reply = usage(alloc)?;
             Ok(reply)
@@ -155,19 +178,21 @@ fn text_by_head(alloc: Global, interlocking: &Interlocking, text: &[u8]) -> Resu
 fn proof_by_head<S: Shelf>(
     alloc: Global,
     shelf: &mut S,
+    design_text: &[u8],
     interlocking: &Interlocking,
     proof: &str,
 ) -> Result<Reply, Ending>
     ensures replies { (files : Files) → S.known_files shelf.old ≡ Some files
-        → Replies result (proof_by_head interlocking.now.design.station (files proof.now)) }
-    ensures for_some_bytes { (bytes : List ℕ) × Replies result (proof_by_head interlocking.now.design.station bytes) }
+        → Replies result (proof_by_head design_text.now interlocking.now.design.station (files proof.now)) }
+    ensures for_some_bytes { (bytes : List ℕ)
+        × Replies result (proof_by_head design_text.now interlocking.now.design.station bytes) }
     ensures cause { result ≡ Err Ending.ShelfFault → Rose (S.fault_count shelf.old) (S.fault_count shelf.new) }
     ensures never_falls { S.fault_count shelf.old ≤ S.fault_count shelf.new }
     ensures files_stay { S.known_files shelf.new ≡ S.known_files shelf.old }
     ensures asks { GrowsByPrefix (S.asked shelf.old) (S.asked shelf.new) (fetched proof.now ∷ []) }
 {
     let bytes = fetch(alloc, shelf, InputFile::Proof, proof)?;
-    text_by_head(alloc, interlocking, bytes.as_slice())
+    text_by_head(alloc, design_text, interlocking, bytes.as_slice())
 }
 
 /// The reply for the steps that are given, or else as many as the head of the proof names, by the name of the proof's
@@ -175,21 +200,30 @@ fn proof_by_head<S: Shelf>(
 fn for_proof<S: Shelf>(
     alloc: Global,
     shelf: &mut S,
+    design_text: &[u8],
     interlocking: &Interlocking,
     steps: Option<u32>,
     proof: &str,
 ) -> Result<Reply, Ending>
     requires { AreStepsInRange steps }
     ensures replies { (files : Files) → S.known_files shelf.old ≡ Some files
-        → Replies result (proof_for steps interlocking.now.design.station (files proof.now)) }
-    ensures for_some_bytes { (bytes : List ℕ) × Replies result (proof_for steps interlocking.now.design.station bytes) }
+        → Replies result (proof_for design_text.now steps interlocking.now.design.station (files proof.now)) }
+    ensures for_some_bytes { (bytes : List ℕ)
+        × Replies result (proof_for design_text.now steps interlocking.now.design.station bytes) }
     ensures cause { result ≡ Err Ending.ShelfFault → Rose (S.fault_count shelf.old) (S.fault_count shelf.new) }
     ensures never_falls { S.fault_count shelf.old ≤ S.fault_count shelf.new }
     ensures files_stay { S.known_files shelf.new ≡ S.known_files shelf.old }
     ensures asks { GrowsByPrefix (S.asked shelf.old) (S.asked shelf.new) (fetched proof.now ∷ []) }
 {
     match steps {
-        Some(count) => proof_explained(alloc, shelf, interlocking, Steps { count }, proof),
-        None => proof_by_head(alloc, shelf, interlocking, proof),
+        Some(count) => proof_explained(
+            alloc,
+            shelf,
+            design_text,
+            interlocking,
+            Steps { count },
+            proof,
+        ),
+        None => proof_by_head(alloc, shelf, design_text, interlocking, proof),
     }
 }

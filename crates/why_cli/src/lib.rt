@@ -3,10 +3,12 @@
 #![tactic(auto)]
 
 mod explaining;
+mod heads;
 mod laws;
 mod run;
 
 pub use laws::{
-    explains_where_yes, heads_name_steps, no_steps_is_usage, refuses_as_check, silence_is_usage,
+    explains_where_yes, heads_name_steps, no_steps_is_usage, refuses_as_check, says_digests,
+    silence_is_usage,
 };
 pub use run::run_why;

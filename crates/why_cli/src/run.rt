@@ -12,7 +12,7 @@ ghost use Rattle.rail_cli.specs.Verdicts.{IsVerdict};
 ghost use Rattle.why_words.specs.Wanted.{wanted_of};
 ghost use Rattle.why_cli.specs.Answers.{answer_of, asks_of};
 ghost use Rattle.why_cli.specs.Replies.{PrintsSome, RepliesSome};
-ghost use Rattle.why_cli.specs.Shows.{Explains, IsUnrefused, ExplainsProof};
+ghost use Rattle.why_cli.specs.Shows.{Explains, ExplainsProof, IsUnrefused, IsUsageFor};
 
 use crate::explaining::{explanation_reply, usage};
 use rail_cli::{Ending, Reply, Status, print};
@@ -41,7 +41,8 @@ pub fn run_why<S: Shelf, O: Sink>(
     ensures for_some_files { PrintsSome (wanted_of (texts_of words.now)) result
         (O.written out.old) (O.written out.new) (O.puts out.old) (O.puts out.new) }
 
-    // Sentences are printed only where the design has no plan, and they are those about the lines of the proof.
+    // Sentences are printed only where the design has no plan of as many steps as the lines before them say. That is the
+    // number that a check of the files prints, and the sentences are those about the lines of the proof.
     ensures infeasible { (files : Files) → S.known_files shelf.old ≡ Some files → (d : Station)
         → (e : Explains files (texts_of words.now) d) → result ≡ Status.Done
         → ExplainsProof files e.wanted d (O.written out.old) (O.written out.new) }
@@ -49,6 +50,9 @@ pub fn run_why<S: Shelf, O: Sink>(
     // Where nothing is refused, a run comes to a verdict: the sentences, or the first bad line.
     ensures has_verdict { (files : Files) → S.known_files shelf.old ≡ Some files
         → IsUnrefused files (texts_of words.now) → is_answered result ≡ true → IsVerdict result }
+
+    // Status 2 comes where the words ask for nothing, and else only where they give no number of steps.
+    ensures usage { is_answered result ≡ true → IsUsageFor (wanted_of (texts_of words.now)) result }
 
     // A fault comes only where its side has counted one.
     ensures shelf_fault { result ≡ Status.ShelfFault → Rose (S.fault_count shelf.old) (S.fault_count shelf.new) }

@@ -23,4 +23,4 @@ returns-in_err-interlocking-clause-for_some_files g c =
 pub returns-clause-for_some_files : goal.returns-clause-for_some_files
 returns-clause-for_some_files g c =
     all_read c.for_proof.result (wanted_by c.args.wanted) c.in_ok-design_bytes.design_bytes.items c.in_ok-design_bytes.ensures.for_some_bytes c.in_ok-interlocking.interlocking.design.station
-    (ap design_in (sym c.as_slice.ensures.value) ∙ c.in_ok-interlocking.ensures.reads) c.for_proof.ensures.for_some_bytes
+    (ap design_in (sym c.as_slice.ensures.value) ∙ c.in_ok-interlocking.ensures.reads) (rw c.as_slice-2.ensures.value at c.for_proof.ensures.for_some_bytes)

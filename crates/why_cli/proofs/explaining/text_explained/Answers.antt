@@ -13,5 +13,5 @@ reply_for-requires c =
 pub returns-clause-replies : goal.returns-clause-replies
 returns-clause-replies c =
     let d = c.args.interlocking.now.design.station in
-    text_told c.args.steps.count d c.args.text.now c.in_ok-reply.reply c.in_ok-base.ensures.reads
-    (c.in_ok-reply.ensures ∙ ap (λ (n : ℕ). explained_against d n c.args.text.now) c.in_ok-base.ensures.base.steps)
+    text_told c.args.design_text.now c.args.steps.count d c.args.text.now c.in_ok-reply.reply c.in_ok-base.ensures.reads
+    (c.in_ok-reply.ensures ∙ ap (λ (n : ℕ). explained_against c.args.design_text.now d n c.args.text.now) c.in_ok-base.ensures.base.steps)

@@ -4,6 +4,7 @@ use Rattle.why_words.specs.Wanted.{wanted_of}
 use Rattle.why_cli.specs.Answers.{answer_of}
 use Rattle.why_cli.proofs.Printing.{prints_reply, prints_some, told_so, told_some, want_prints, fault_prints}
 use Rattle.why_cli.proofs.Showing.{tells_why, has_verdict}
+use Rattle.why_cli.proofs.Using.{usage_for}
 use Rattle.why_cli.proofs.run.run_why.Goals as goal
 
 pub returns-in-Ok-clause-answer : goal.returns-in-Ok-clause-answer
@@ -53,3 +54,13 @@ returns-in-Err-ShelfFault-clause-answer g c = λ files reply_for. silent_at_shel
 
 pub returns-in-Err-ShelfFault-clause-for_some_files : goal.returns-in-Err-ShelfFault-clause-for_some_files
 returns-in-Err-ShelfFault-clause-for_some_files g c = fault_prints (wanted_of (texts_of c.args.words.now)) _ _
+
+pub returns-in-Ok-clause-usage : goal.returns-in-Ok-clause-usage
+returns-in-Ok-clause-usage g c =
+    let wanted = wanted_of (texts_of c.args.words.now) in
+    usage_for wanted c.print.result _ _ _ _ (prints_some c.print.result _ _ _ _ c.in-Ok.reply c.print.ensures.prints wanted c.in-Ok.ensures.for_some_files)
+
+pub returns-in-Err-RefusedWith-clause-usage : goal.returns-in-Err-RefusedWith-clause-usage
+returns-in-Err-RefusedWith-clause-usage g c =
+    let wanted = wanted_of (texts_of c.args.words.now) in
+    usage_for wanted c.print-in-Err-RefusedWith.result _ _ _ _ (prints_some c.print-in-Err-RefusedWith.result _ _ _ _ c.in-Err-RefusedWith.reply c.print-in-Err-RefusedWith.ensures.prints wanted (told_some c.in-Err-RefusedWith.field-0 c.in-Err-RefusedWith.reply wanted c.in-Err-RefusedWith.field-0-is c.in-Err-RefusedWith.ensures.for_some_files))
