@@ -18,6 +18,10 @@ OPENS = re.compile(r"\s*(pub )?data ")
 CASE = re.compile(r"\s+(?:pub )?([A-Za-z_][\w\-]*)\s*:")
 CLAUSE = re.compile(r"ensures (\w+) \{(.*?)\}\s*(?=\n\s*(?:ensures|//|\n|$)|\Z)", re.S)
 QUALIFIED = re.compile(r"\b([A-Za-z_]\w*)\.([A-Za-z_][\w'\-]*)")
+# in the prose of the page: a file with its lines, and how many definitions of how many lines a promise rests on
+FILE_LINES = re.compile(r"`([\w/.\-]+\.(?:rt|antt))`\s+\(([\d,]+)(?:\s+lines)?[;)]")
+RESTS = re.compile(r"\b([MPIT])\s+(?:rests\s+)?on\s+(\d+)(?:\s+definitions,\s+which\s+are|)\s+\(?([\d,]+)")
+LETTERS = {"met": "M", "planned": "P", "infeasible": "I", "tried": "T"}
 
 
 def uses(text):
@@ -102,6 +106,20 @@ def reached(call, taken):
     return found
 
 
+def number(text):
+    return int(text.replace(",", ""))
+
+
+def wrong_files(page):
+    """What the page's prose says otherwise of how many lines a file has. A name without a folder is in that of the name before."""
+    folder = ""
+    for name, lines in FILE_LINES.findall(page):
+        path = TOP / "crates" / (name if "/" in name else f"{folder}/{name}")
+        folder = path.parent.relative_to(TOP / "crates")
+        if not path.exists() or path.read_text().count("\n") != number(lines):
+            yield f"{folder / path.name}: has not {lines} lines, as the prose says"
+
+
 def main():
     parser = argparse.ArgumentParser(description=__doc__)
     parser.add_argument("--names", action="store_true", help="also print the definitions that no promise rests on")
@@ -109,8 +127,11 @@ def main():
     text = CALL.read_text()
     head = text[text.index("pub fn run_words") :]
     below = {clause: reached(call, uses(text)) for clause, call in CLAUSE.findall(head[: head.index("\n{")])}
-    told = {row[0]: int(row[1]) for row in re.findall(r"^\| `([^`]+\.antt)` \| (\d+) \|", PAGE.read_text(), re.M)}
+    page = PAGE.read_text()
+    told = {row[0]: int(row[1]) for row in re.findall(r"^\| `([^`]+\.antt)` \| (\d+) \|", page, re.M)}
+    rests = {letter: (int(many), number(lines)) for letter, many, lines in RESTS.findall(page)}
     faults = [f"{clause}: no such clause" for clause in PROMISES if clause not in below]
+    faults += wrong_files(page)
     for path in sorted({path for found in below.values() for path, _ in found}):
         short = str(path.relative_to(TOP / "crates"))
         lines = Definitions.of(path).lines
@@ -131,6 +152,8 @@ def main():
         count = sum(1 for _ in below[clause])
         size = sum(len(list(filter(str.strip, Definitions.of(path).texts[name]))) for path, name in below[clause])
         print(f"{clause}: {count} definitions of {size} lines in {len({path for path, _ in below[clause]})} files")
+        if rests.get(LETTERS[clause]) != (count, size):
+            faults.append(f"{clause}: the prose does not say that it rests on {count} definitions of {size} lines")
     print("\n".join(faults) or "the page is as the definitions are")
     return 1 if faults else 0
 
