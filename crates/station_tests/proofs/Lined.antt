@@ -2,7 +2,7 @@
 use Rattle.std.proofs.Common.{◌≡◌, true, length, refl}
 use Rattle.rail_base.specs.Admission.{is_admitted}
 use Rattle.rail_spec.specs.Track.{routes_of}
-use Rattle.crate_tests.specs.Line.{line_station, line_routes}
+use Rattle.station_tests.specs.Line.{line_station, line_routes}
 
 pub line_admitted : is_admitted line_station ≡ true
 unfolding line_station

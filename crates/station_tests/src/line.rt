@@ -1,7 +1,7 @@
 //! A station of two sections in a row between boundaries, with a signal between them, and one train.
 
 ghost use Rattle.std.specs.Prelude.{◌≡◌, [], ◌∷◌, false, true, IfOk, length};
-ghost use Rattle.crate_tests.specs.Line.{line_station, line_routes};
+ghost use Rattle.station_tests.specs.Line.{line_station, line_routes};
 
 use crate::stations::{edge, name, node, one, train, two, vehicle};
 use interlocking::Interlocking;

@@ -123,9 +123,9 @@ fn heads_are_read_and_written(rt: HostRuntime) -> Result<(), AllocError> {
             },
         ),
         (
-            b"rcvlog 2 4294967295 0",
+            b"rcvlog 2 999999999999999999 0",
             Head::Named {
-                version: 4_294_967_295,
+                version: 999_999_999_999_999_999,
                 steps: 0,
             },
         ),
@@ -137,9 +137,9 @@ fn heads_are_read_and_written(rt: HostRuntime) -> Result<(), AllocError> {
             },
         ),
         (
-            b"rcvlog 4 4294967295 0",
+            b"rcvlog 4 999999999999999999 0",
             Head::Sorted {
-                version: 4_294_967_295,
+                version: 999_999_999_999_999_999,
                 steps: 0,
             },
         ),
@@ -162,11 +162,11 @@ fn other_heads_are_refused(rt: HostRuntime) {
         b"rcvlog 2 1",
         b"rcvlog 2 01 2",
         b"rcvlog 2 1 2 3",
-        b"rcvlog 2 4294967296 1",
+        b"rcvlog 2 1000000000000000000 1",
         b"rcvlog 3 1 2",
         b"rcvlog 4",
         b"rcvlog 4 1",
-        b"rcvlog 4 1 4294967296",
+        b"rcvlog 4 1 1000000000000000000",
         b"log 1",
     ];
     for bytes in rows {

@@ -4,7 +4,7 @@ use Rattle.sat_trail.specs.Trails.{IsTrail}
 use Rattle.sat_trail.specs.Forced.{VarsUpTo}
 use Rattle.sat_trail.specs.View.{View}
 use Rattle.sat_trail.proofs.Stores.{attached-push, trail-store, vars-push}
-use Rattle.crate_tests.proofs.trails.add.Goals as goal
+use Rattle.text_tests.proofs.trails.add.Goals as goal
 
 pub returns-clause-attached : goal.returns-clause-attached
 returns-clause-attached c = attached-push c.args.arena.now c.push.new.self c.args.trail.now.attached c.attach.new.self.attached c.args.clause.now c.in_ok-id.id c.requires.attached c.in_ok-id.ensures.ok.1 (ap (λ (v : View). v.attached) c.in_ok-attach.ensures.ok) c.in_ok-id.ensures.ok.0

@@ -1,6 +1,6 @@
 -- The station is written out, and what is said of it computes.
 use Rattle.std.proofs.Common.{refl}
-use Rattle.crate_tests.proofs.alike.design.Goals as goal
+use Rattle.station_tests.proofs.alike.design.Goals as goal
 
 pub invariant_of-result : goal.invariant_of-result
 invariant_of-result c =

@@ -4,7 +4,7 @@ use Rattle.std.proofs.lemmas.List.Elements.{All-push}
 use Rattle.std.proofs.lemmas.List.Quantifiers.{all_pairs_push}
 use Rattle.rail_motion.specs.declared.Span.{Span}
 use Rattle.rail_motion.specs.Track.{IsRising}
-use Rattle.crate_tests.proofs.motion.unmarked_spans.Goals as goal
+use Rattle.motion_tests.proofs.motion.unmarked_spans.Goals as goal
 
 -- one span more, past those before it
 push_rising : (xs ys : List Span) (y : Span) (n : ℕ) → ys ≡ xs ++ y ∷ [] → IsRising xs → All (λ s. s.end ≤ℤ pos n) xs → pos n <ℤ y.end → IsRising ys

@@ -1,6 +1,6 @@
 use Rattle.std.proofs.Common.{◌*◌, pos, ◌≤ℤ◌, All}
 use Rattle.rail_motion.specs.Track.{IsRising}
-use Rattle.crate_tests.proofs.motion.unmarked_spans.Given as goal
+use Rattle.motion_tests.proofs.motion.unmarked_spans.Given as goal
 
 abbrev pub invariant-loop-i : goal.invariant-loop-i
 invariant-loop-i l = record {

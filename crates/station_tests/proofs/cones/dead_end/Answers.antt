@@ -1,6 +1,6 @@
 -- The station is written out, and what is said of it computes.
 use Rattle.std.proofs.Common.{refl}
-use Rattle.crate_tests.proofs.cones.dead_end.Goals as goal
+use Rattle.station_tests.proofs.cones.dead_end.Goals as goal
 
 pub returns-clause-admitted : goal.returns-clause-admitted
 returns-clause-admitted c =
