@@ -333,7 +333,7 @@ def head_of(text):
             words.end()
             return (1, None, None)
         if version in (b"2", b"4"):
-            head = (int(version), words.number(), words.number())
+            head = (int(version), words.long(), words.long())
             words.end()
             return head
         return None

@@ -1,4 +1,4 @@
-//! The clauses that the lines of a file leave.
+//! The clauses that the lines of a file leave. Nothing is said of them after a line that was not taken.
 
 ghost use Rattle.std.specs.Prelude.{◌≡◌, ◌∷◌, IfOk, OnOk, Ok, Err, None, is_some, true, List, ℕ};
 ghost use Rattle.sat_clause.specs.Clauses.{live_clause, without};

@@ -1,4 +1,4 @@
-//! One line of a proof file.
+//! One line of a proof file. Of the clauses nothing is said after a line that was not taken.
 
 ghost use Rattle.std.specs.Prelude.{◌≡◌, nat_le, IfOk, OnOk, Ok, Err, Some, None, if◌then◌else◌};
 ghost use Rattle.std.specs.List.{list_all};

@@ -30,7 +30,7 @@ use Rattle.proof_log.specs.Heads.{head_text, keeps_head}
 use Rattle.proof_log.specs.BoundText.{requirement_words, origin_words, place_words, leg_words, bound_line_words, is_of, keeps_route, keeps_requirement, keeps_origin, keeps_place, keeps_leg, keeps_bound}
 use Rattle.sat_core.specs.Texts.{ended}
 use Rattle.proof_log.specs.declared.line.Line.TheVariants.{Derive, Refute, Forget}
-use Rattle.proof_log.specs.Words.{greatest_variable, greatest_clause_number, is_from_1_to, is_small}
+use Rattle.proof_log.specs.Words.{greatest_variable, greatest_clause_number, is_from_1_to, is_small, is_plain}
 use Rattle.proof_log.specs.Parts.{has_member, is_nothing}
 use Rattle.proof_log.specs.Lines.{is_increasing}
 use Rattle.proof_log.specs.ConeText.{literal_word, route_word, list_words, command_words, violation_words, holder_words, train_words, pair_words, cone_line_words, keeps_command, keeps_violation, keeps_holder, keeps_path, keeps_train, keeps_pair, keeps_cone}
@@ -87,6 +87,9 @@ from-1 greatest number most h = up-to greatest number most (both (nat_le 1 numbe
 
 small-apart : (number : ℕ) → is_small number ≡ true → is_one_line (decimal number) ≡ true
 small-apart number h = up-to greatest_variable number (lit< tt) h
+
+plain-apart : (number : ℕ) → is_plain number ≡ true → is_one_line (decimal number) ≡ true
+plain-apart number h = up-to greatest_clause_number number (lit< tt) h
 
 literal-apart : (var : ℕ) (negated : Bool) → is_from_1_to greatest_variable var ≡ true → is_one_line (literal_word (record { var = var; negated = negated })) ≡ true
 literal-apart var true h = from-1 greatest_variable var (lit< tt) h
@@ -229,8 +232,8 @@ evidence-apart (evidence.Bound b) h = bound-apart b h
 pub head-apart : (head : Head) → keeps_head head ≡ true → is_one_line (head_text head) ≡ true
 head-apart heads.Plain h = refl
 head-apart (heads.Named version steps) h =
-    let p = both (is_small version) (is_small steps) h in
-    joined (codes "rcvlog") (codes "2" ∷ decimal version ∷ decimal steps ∷ []) refl (rw (small-apart version p.0, small-apart steps p.1) refl)
+    let p = both (is_plain version) (is_plain steps) h in
+    joined (codes "rcvlog") (codes "2" ∷ decimal version ∷ decimal steps ∷ []) refl (rw (plain-apart version p.0, plain-apart steps p.1) refl)
 head-apart (heads.Sorted version steps) h =
-    let p = both (is_small version) (is_small steps) h in
-    joined (codes "rcvlog") (codes "4" ∷ decimal version ∷ decimal steps ∷ []) refl (rw (small-apart version p.0, small-apart steps p.1) refl)
+    let p = both (is_plain version) (is_plain steps) h in
+    joined (codes "rcvlog") (codes "4" ∷ decimal version ∷ decimal steps ∷ []) refl (rw (plain-apart version p.0, plain-apart steps p.1) refl)

@@ -88,22 +88,23 @@ denied_infeasible d admitted head n k some denies plan feasible =
       holds_of_evidence = evidence_holds d admitted n some m.plan m.feasible;
     }) (ap values (sym (by_number d n k)) ∙ m.by)
 
-under_so : (d : Station) → IsAdmitted d → (head : Head) (n k : ℕ) (bytes : List ℕ) → 1 ≤ n → judged_under head d n bytes ≡ Yes k → (k ≤ n) × IsInfeasible d k
+under_so : (d : Station) → IsAdmitted d → (head : Head) (n k : ℕ) (bytes : List ℕ) → 1 ≤ n → judged_under head d n bytes ≡ Yes k → (1 ≤ k) × ((k ≤ n) × IsInfeasible d k)
 under_so d admitted head n k bytes some e =
     let denies = shown-so head (refuted d n) (variable_count d (routes_of d) n) n (all_live (clauses_under head d n)) k bytes e in
-    (denies.at_most_steps, denied_infeasible d admitted head n k some denies)
+    let first : 0 < k = denies.least (omega arith) in
+    (omega arith, (denies.at_most_steps, denied_infeasible d admitted head n k some denies))
 
-by_so : (d : Station) → IsAdmitted d → (n k : ℕ) (bytes : List ℕ) → 1 ≤ n → (head : Option Head) → judged_by d n bytes head ≡ Yes k → (k ≤ n) × IsInfeasible d k
+by_so : (d : Station) → IsAdmitted d → (n k : ℕ) (bytes : List ℕ) → 1 ≤ n → (head : Option Head) → judged_by d n bytes head ≡ Yes k → (1 ≤ k) × ((k ≤ n) × IsInfeasible d k)
 by_so d admitted n k bytes some None e = under_so d admitted Plain n k bytes some e
 by_so d admitted n k bytes some (Some Plain) e = under_so d admitted Plain n k bytes some e
 by_so d admitted n k bytes some (Some (Named version steps)) e = go (not (version == d.version && steps == n)) e
   where
-    go : (differs : Bool) → (if differs then No 1 HeadDiffers else judged_under (Named version steps) d n bytes) ≡ Yes k → (k ≤ n) × IsInfeasible d k
+    go : (differs : Bool) → (if differs then No 1 HeadDiffers else judged_under (Named version steps) d n bytes) ≡ Yes k → (1 ≤ k) × ((k ≤ n) × IsInfeasible d k)
     go true e = absurd (cc)
     go false e = under_so d admitted (Named version steps) n k bytes some e
 by_so d admitted n k bytes some (Some (Sorted version steps)) e = go (not (version == d.version && steps == n)) (is_some (past_limit 16000000 0 (clauses_under (Sorted version steps) d n))) e
   where
-    go : (differs large : Bool) → (if differs then No 1 HeadDiffers else if large then No 1 BaseTooLarge else judged_under (Sorted version steps) d n bytes) ≡ Yes k → (k ≤ n) × IsInfeasible d k
+    go : (differs large : Bool) → (if differs then No 1 HeadDiffers else if large then No 1 BaseTooLarge else judged_under (Sorted version steps) d n bytes) ≡ Yes k → (1 ≤ k) × ((k ≤ n) × IsInfeasible d k)
     go true large e = absurd (cc)
     go false true e = absurd (cc)
     go false false e = under_so d admitted (Sorted version steps) n k bytes some e

@@ -68,7 +68,7 @@ judged_by d n bytes None = judged_under Plain d n bytes
 abbrev pub judged : Station → ℕ → List ℕ → CheckResult
 judged d n bytes = judged_by d n bytes (head_in (pieces bytes))
 
--- where a file shows k, no plan of k steps is feasible, whoever wrote the file
+-- where a file shows k, which is from 1 to n, no plan of k steps is feasible, whoever wrote the file
 abbrev pub YesIsInfeasible : Type 0
 YesIsInfeasible = (d : Station) → IsAdmitted d → (n k : ℕ) (bytes : List ℕ) → 1 ≤ n
-    → judged d n bytes ≡ Yes k → (k ≤ n) × IsInfeasible d k
+    → judged d n bytes ≡ Yes k → (1 ≤ k) × ((k ≤ n) × IsInfeasible d k)

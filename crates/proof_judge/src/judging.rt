@@ -98,10 +98,10 @@ fn judge_clauses(
 }
 
 /// Whether a head that names this version of designs and so many steps names these.
-fn names_question(interlocking: &Interlocking, steps: Steps, version: u32, named: u32) -> bool
+fn names_question(interlocking: &Interlocking, steps: Steps, version: u64, named: u64) -> bool
     ensures { result ≡ (version == interlocking.now.design.station.version && named == steps.count) }
 {
-    version == interlocking.design.station.version && named == steps.count
+    version == u64::from(interlocking.design.station.version) && named == u64::from(steps.count)
 }
 
 /// What the bytes of a file that is to have this head show over the clauses of a base, which are those that the head
@@ -141,8 +141,8 @@ fn judge_base(
 fn judge_turns(
     alloc: Global,
     interlocking: &Interlocking,
-    version: u32,
-    named: u32,
+    version: u64,
+    named: u64,
     sorted: SortedBase,
     bytes: &[u8],
 ) -> Result<CheckResult, AllocError>
@@ -178,8 +178,8 @@ fn judge_named(
     alloc: Global,
     interlocking: &Interlocking,
     base: Base,
-    version: u32,
-    named: u32,
+    version: u64,
+    named: u64,
     bytes: &[u8],
 ) -> Result<CheckResult, AllocError>
     requires base { let d = interlocking.now.design.station in IsBaseOf d (routes_of d) base.steps base }
@@ -202,8 +202,8 @@ fn judge_sorted(
     alloc: Global,
     interlocking: &Interlocking,
     steps: Steps,
-    version: u32,
-    named: u32,
+    version: u64,
+    named: u64,
     bytes: &[u8],
 ) -> Result<CheckResult, AllocError>
     ensures { IfOk result (λ shown. shown

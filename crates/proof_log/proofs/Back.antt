@@ -15,8 +15,8 @@ use Rattle.rail_base.specs.declared.route.RouteNo.{RouteNo}
 use Rattle.cone_spec.specs.declared.Cone.{Cone}
 use Rattle.cone_spec.specs.declared.ConeTrain.{ConeTrain}
 use Rattle.sat_clause.specs.declared.lit.Lit.{Lit}
-use Rattle.proof_log.specs.Words.{greatest_variable, greatest_clause_number, is_from_1_to, is_small, is_space, line_words, plain_number_of, if_small, small_number_of, if_from_1_to, variable_of, route_of, clause_number_of, literal_of, is_end, member_before, members_of}
-use Rattle.proof_log.specs.Parts.{WithRest, made, with_next, first_of, has_member, if_any, parts_of, all_parts, small_number, two_numbers, command_by, command, violation, is_nothing, written_holder, train_prefix, train_path, train_by, cone_train, pair, cone}
+use Rattle.proof_log.specs.Words.{greatest_variable, greatest_clause_number, is_from_1_to, is_small, is_plain, is_space, line_words, plain_number_of, if_small, small_number_of, if_from_1_to, variable_of, route_of, clause_number_of, literal_of, is_end, member_before, members_of}
+use Rattle.proof_log.specs.Parts.{WithRest, made, with_next, first_of, has_member, if_any, parts_of, all_parts, small_number, two_numbers, plain_number, two_plain_numbers, command_by, command, violation, is_nothing, written_holder, train_prefix, train_path, train_by, cone_train, pair, cone}
 use Rattle.proof_log.specs.ConeText.{literal_word, route_word, list_words, command_words, violation_words, holder_words, train_words, pair_words, cone_line_words, keeps_command, keeps_violation, keeps_holder, keeps_path, keeps_train, keeps_pair, keeps_cone}
 use Rattle.proof_log.proofs.Written.{stops, none-back, marked, after_mark, zero-word}
 use Rattle.sat_clause.proofs.Sound.{both}
@@ -170,6 +170,12 @@ module _ (back : NumbersReadBack) where
   pub numbers-read : Back (λ n. decimal n.0 ∷ decimal n.1 ∷ []) (λ n. is_small n.0 && is_small n.1) two_numbers
   numbers-read = next-back (λ n. decimal n ∷ []) is_small small_number (λ n. decimal n ∷ []) is_small small_number small-read small-read
 
+  plain-read : Back (λ n. decimal n ∷ []) is_plain plain_number
+  plain-read = first-back plain_number_of decimal is_plain (number-back back)
+
+  pub plain_numbers-read : Back (λ n. decimal n.0 ∷ decimal n.1 ∷ []) (λ n. is_plain n.0 && is_plain n.1) two_plain_numbers
+  plain_numbers-read = next-back (λ n. decimal n ∷ []) is_plain plain_number (λ n. decimal n ∷ []) is_plain plain_number plain-read plain-read
+
   command-read : Back command_words keeps_command command
   command-read = made-back command_by (λ c. (c.train.0, c.route.0)) (λ n. decimal n.0 ∷ decimal n.1 ∷ []) (λ n. is_small n.0 && is_small n.1) command_words keeps_command two_numbers (λ c h. (refl, refl, h)) numbers-read
 
@@ -312,6 +318,9 @@ parts-spaceless write good each (x ∷ xs) h =
 
 pub numbers-spaceless : (m n : ℕ) → (is_small m && is_small n) ≡ true → list_all spaceless (decimal m ∷ decimal n ∷ []) ≡ true
 numbers-spaceless m n h = let p = both (is_small m) (is_small n) h in rw (small-spaceless m p.0, small-spaceless n p.1) refl
+
+pub plain_numbers-spaceless : (m n : ℕ) → (is_plain m && is_plain n) ≡ true → list_all spaceless (decimal m ∷ decimal n ∷ []) ≡ true
+plain_numbers-spaceless m n h = let p = both (is_plain m) (is_plain n) h in rw (number-spaceless m p.0, number-spaceless n p.1) refl
 
 violation-spaceless : (v : Violation) → keeps_violation v ≡ true → list_all spaceless (violation_words v) ≡ true
 violation-spaceless (Path train visit) h = numbers-spaceless train.0 visit h

@@ -7,23 +7,23 @@ use Rattle.rail_text.specs.Laws.{NumbersReadBack}
 use Rattle.proof_log.specs.declared.head.Head.{Head}
 use Rattle.proof_log.specs.declared.head.Head.TheVariants.{Plain, Named, Sorted}
 use Rattle.proof_log.specs.Words.{line_words}
-use Rattle.proof_log.specs.Parts.{made, two_numbers}
+use Rattle.proof_log.specs.Parts.{made, two_plain_numbers}
 use Rattle.proof_log.specs.Lines.{if_all}
 use Rattle.proof_log.specs.Heads.{head_words, head_text, keeps_head, named_by, sorted_by, head_of_version, head_after, head_of_words, head_of}
-use Rattle.proof_log.proofs.Written.{some-told, choose, named-told, numbers_words, keeps_numbers, numbers-told, all-told}
-use Rattle.proof_log.proofs.Back.{numbers-read, split-back, numbers-spaceless}
+use Rattle.proof_log.proofs.Written.{some-told, choose, named-told, numbers_words, keeps_plain_numbers, plain_numbers-told, all-told}
+use Rattle.proof_log.proofs.Back.{plain_numbers-read, split-back, plain_numbers-spaceless}
 
 -- ---- read back
 
 split-head : (h : Head) → keeps_head h ≡ true → line_words (head_text h) ≡ head_words h
 split-head Plain keeps = split-back (codes "rcvlog") (codes "1" ∷ []) refl refl
-split-head (Named version steps) keeps = split-back (codes "rcvlog") (codes "2" ∷ decimal version ∷ decimal steps ∷ []) refl (numbers-spaceless version steps keeps)
-split-head (Sorted version steps) keeps = split-back (codes "rcvlog") (codes "4" ∷ decimal version ∷ decimal steps ∷ []) refl (numbers-spaceless version steps keeps)
+split-head (Named version steps) keeps = split-back (codes "rcvlog") (codes "2" ∷ decimal version ∷ decimal steps ∷ []) refl (plain_numbers-spaceless version steps keeps)
+split-head (Sorted version steps) keeps = split-back (codes "rcvlog") (codes "4" ∷ decimal version ∷ decimal steps ∷ []) refl (plain_numbers-spaceless version steps keeps)
 
 head-back : NumbersReadBack → (h : Head) → keeps_head h ≡ true → head_of_words (head_words h) ≡ Some h
 head-back back Plain keeps = refl
-head-back back (Named version steps) keeps = rw (numbers-read back (version, steps) [] keeps) refl
-head-back back (Sorted version steps) keeps = rw (numbers-read back (version, steps) [] keeps) refl
+head-back back (Named version steps) keeps = rw (plain_numbers-read back (version, steps) [] keeps) refl
+head-back back (Sorted version steps) keeps = rw (plain_numbers-read back (version, steps) [] keeps) refl
 
 pub read-back : NumbersReadBack → (h : Head) → keeps_head h ≡ true → head_of (head_text h) ≡ Some h
 read-back back h keeps = ap head_of_words (split-head h keeps) ∙ head-back back h keeps
@@ -45,12 +45,12 @@ version-told : (version : List ℕ) (more : List (List ℕ)) (h : Head) → head
 version-told version more h e =
     choose version (codes "1") (if_all (Some (Plain, more))) _ h
     (λ n. all-told after_name keeps_head (version ∷ more) (Some (Plain, more)) h (some-told after_name keeps_head (version ∷ more) Plain more (ap (λ k. k ∷ more) n, refl)))
-    (choose version (codes "2") (if_all (made named_by (two_numbers more))) _ h
-    (λ n. all-told after_name keeps_head (version ∷ more) (made named_by (two_numbers more)) h
-    (named-told (codes "2") named_by numbers_words keeps_numbers after_name keeps_head (λ x. refl) (λ x g. g) version more (two_numbers more) (numbers-told more) n))
-    (choose version (codes "4") (if_all (made sorted_by (two_numbers more))) None h
-    (λ n. all-told after_name keeps_head (version ∷ more) (made sorted_by (two_numbers more)) h
-    (named-told (codes "4") sorted_by numbers_words keeps_numbers after_name keeps_head (λ x. refl) (λ x g. g) version more (two_numbers more) (numbers-told more) n))
+    (choose version (codes "2") (if_all (made named_by (two_plain_numbers more))) _ h
+    (λ n. all-told after_name keeps_head (version ∷ more) (made named_by (two_plain_numbers more)) h
+    (named-told (codes "2") named_by numbers_words keeps_plain_numbers after_name keeps_head (λ x. refl) (λ x g. g) version more (two_plain_numbers more) (plain_numbers-told more) n))
+    (choose version (codes "4") (if_all (made sorted_by (two_plain_numbers more))) None h
+    (λ n. all-told after_name keeps_head (version ∷ more) (made sorted_by (two_plain_numbers more)) h
+    (named-told (codes "4") sorted_by numbers_words keeps_plain_numbers after_name keeps_head (λ x. refl) (λ x g. g) version more (two_plain_numbers more) (plain_numbers-told more) n))
     (λ none. absurd (cc)) (bytes_eq version (codes "4")) refl)
     (bytes_eq version (codes "2")) refl)
     (bytes_eq version (codes "1")) refl e

@@ -4,8 +4,8 @@ use Rattle.std.specs.List.{join_with_byte}
 use Rattle.std.specs.Str.{bytes_eq}
 use Rattle.proof_log.specs.declared.head.Head.{Head}
 use Rattle.proof_log.specs.declared.head.Head.TheVariants.{Plain, Named, Sorted}
-use Rattle.proof_log.specs.Words.{line_words, is_small}
-use Rattle.proof_log.specs.Parts.{made, two_numbers}
+use Rattle.proof_log.specs.Words.{line_words, is_plain}
+use Rattle.proof_log.specs.Parts.{made, two_plain_numbers}
 use Rattle.proof_log.specs.Lines.{if_all}
 
 -- `rcvlog` and the version of the file; but for the plain head also the version of the design, and the number of steps
@@ -18,11 +18,11 @@ head_words (Sorted version steps) = codes "rcvlog" ∷ codes "4" ∷ decimal ver
 abbrev pub head_text : Head → List ℕ
 head_text h = join_with_byte 32 (head_words h)
 
--- no number is too great
+-- no number has more than 18 digits
 abbrev pub keeps_head : Head → Bool
 keeps_head Plain = true
-keeps_head (Named version steps) = is_small version && is_small steps
-keeps_head (Sorted version steps) = is_small version && is_small steps
+keeps_head (Named version steps) = is_plain version && is_plain steps
+keeps_head (Sorted version steps) = is_plain version && is_plain steps
 
 -- the heads by the two numbers
 abbrev pub named_by : ℕ × ℕ → Head
@@ -35,8 +35,8 @@ sorted_by numbers = Sorted numbers.0 numbers.1
 abbrev pub head_of_version : List ℕ → List (List ℕ) → Option Head
 head_of_version version words =
     if bytes_eq version (codes "1") then if_all (Some (Plain, words))
-    else if bytes_eq version (codes "2") then if_all (made named_by (two_numbers words))
-    else if bytes_eq version (codes "4") then if_all (made sorted_by (two_numbers words))
+    else if bytes_eq version (codes "2") then if_all (made named_by (two_plain_numbers words))
+    else if bytes_eq version (codes "4") then if_all (made sorted_by (two_plain_numbers words))
     else None
 
 -- the head by the words after the first

@@ -15,7 +15,7 @@ abbrev pub LinesHaveOneText : Type 0
 LinesHaveOneText = (bytes : List ℕ) (line : Line) → line_in_bytes bytes ≡ Some line
     → (text_of_line line ≡ bytes) × IsTrue (keeps_grammar line)
 
--- the text of a head whose numbers are not too great is read as that head
+-- the text of a head whose numbers have at most 18 digits is read as that head
 abbrev pub HeadsReadBack : Type 0
 HeadsReadBack = (head : Head) → IsTrue (keeps_head head) → head_of (head_text head) ≡ Some head
 

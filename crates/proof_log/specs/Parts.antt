@@ -65,6 +65,13 @@ small_number words = first_of small_number_of words
 abbrev pub two_numbers : WithRest (ℕ × ℕ)
 two_numbers words = with_next (small_number words) small_number
 
+abbrev pub plain_number : WithRest ℕ
+plain_number words = first_of plain_number_of words
+
+-- of at most 18 digits each
+abbrev pub two_plain_numbers : WithRest (ℕ × ℕ)
+two_plain_numbers words = with_next (plain_number words) plain_number
+
 -- a command, by its train and its route
 abbrev pub command_by : ℕ × ℕ → Command
 command_by numbers = record { train = record { 0 = numbers.0 }; route = record { 0 = numbers.1 } }

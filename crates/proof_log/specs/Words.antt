@@ -47,6 +47,10 @@ abbrev pub if_small : Option ℕ → Option ℕ
 if_small None = None
 if_small (Some number) = if is_small number then Some number else None
 
+-- at most the greatest number of 18 digits
+abbrev pub is_plain : ℕ → Bool
+is_plain number = nat_le number greatest_clause_number
+
 -- a small number, which may be 0
 abbrev pub small_number_of : List ℕ → Option ℕ
 small_number_of word = if_small (plain_number_of word)

@@ -1,4 +1,5 @@
-//! The text of bounds, each word after a space.
+//! The text of bounds, each word after a space. An error is want of memory; then a part of what is appended
+//! may stand there.
 
 ghost use Rattle.std.specs.Prelude.{◌≡◌, ◌++◌, flat_map, OnOk};
 ghost use Rattle.proof_log.specs.Writing.{spaced};

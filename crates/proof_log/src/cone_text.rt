@@ -1,4 +1,5 @@
-//! The text of cones, each word after a space.
+//! The text of cones, each word after a space. An error is want of memory; then a part of what is appended
+//! may stand there.
 
 ghost use Rattle.std.specs.Prelude.{◌≡◌, ◌∷◌, ◌++◌, [], flat_map, map, decimal, codes, OnOk};
 ghost use Rattle.proof_log.specs.ConeText.{route_word, list_words, command_words, violation_words, holder_words};

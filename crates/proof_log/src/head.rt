@@ -1,14 +1,14 @@
 //! The first line of a proof file.
 
 ghost use Rattle.std.specs.Prelude.{◌≡◌, ◌++◌, ◌∷◌, [], IfOk, decimal};
-ghost use Rattle.proof_log.specs.Parts.{made, two_numbers};
+ghost use Rattle.proof_log.specs.Parts.{made, two_plain_numbers};
 ghost use Rattle.proof_log.specs.Lines.{if_all};
 ghost use Rattle.proof_log.specs.Heads.{head_of, head_after, head_of_version, named_by, sorted_by, head_text};
 ghost use Rattle.proof_log.specs.Reading.{words_left};
 ghost use Rattle.proof_log.specs.Writing.{spaced};
 
-use crate::cone_text::put_two;
-use crate::parts::two_numbers;
+use crate::cone_text::put_spaced;
+use crate::parts::two_plain_numbers;
 use crate::words::first_word;
 use std::alloc::{AllocError, Global};
 
@@ -18,13 +18,14 @@ pub enum Head {
     /// They are those of the base.
     Plain,
     /// They are those of the base, for designs of this version and plans of so many steps.
-    Named { version: u32, steps: u32 },
+    Named { version: u64, steps: u64 },
     /// They are those of the base and of trains that come in turn, for designs of this version and plans of so many
     /// steps. Bounds may stand in the file.
-    Sorted { version: u32, steps: u32 },
+    Sorted { version: u64, steps: u64 },
 }
 
-/// The head that is parsed from the first line of a file, without the LF that ends it. None where it is none.
+/// The head that is parsed from the first line of a file, without the LF that ends it. None where it is none. Its numbers
+/// have at most 18 digits.
 pub fn read_head(bytes: &[u8]) -> Option<Head>
     ensures { result ≡ head_of bytes.now }
 {
@@ -60,17 +61,17 @@ fn whole(head: Head, after: Option<&[u8]>) -> Option<Head>
 
 /// The head of a base, by the version of the design and the number of steps.
 fn named_head(text: Option<&[u8]>) -> Option<Head>
-    ensures { result ≡ if_all (made named_by (two_numbers (words_left text.entry))) }
+    ensures { result ≡ if_all (made named_by (two_plain_numbers (words_left text.entry))) }
 {
-    let ((version, steps), after) = two_numbers(text)?;
+    let ((version, steps), after) = two_plain_numbers(text)?;
     whole(Head::Named { version, steps }, after)
 }
 
 /// The head of sorted trains, by the version of the design and the number of steps.
 fn sorted_head(text: Option<&[u8]>) -> Option<Head>
-    ensures { result ≡ if_all (made sorted_by (two_numbers (words_left text.entry))) }
+    ensures { result ≡ if_all (made sorted_by (two_plain_numbers (words_left text.entry))) }
 {
-    let ((version, steps), after) = two_numbers(text)?;
+    let ((version, steps), after) = two_plain_numbers(text)?;
     whole(Head::Sorted { version, steps }, after)
 }
 
@@ -98,10 +99,11 @@ fn head_after(text: Option<&[u8]>) -> Option<Head>
 }
 
 /// The text of a head by its first two words, the version of the design and the number of steps.
-fn write_named(alloc: Global, words: &[u8], version: u32, steps: u32) -> Result<Vec<u8>, AllocError>
+fn write_named(alloc: Global, words: &[u8], version: u64, steps: u64) -> Result<Vec<u8>, AllocError>
     ensures { IfOk result (λ text. text.items ≡ words.now ++ spaced (decimal version ∷ decimal steps ∷ [])) }
 {
     let mut text = Vec::from_slice(alloc, words)?;
-    put_two(&mut text, version, steps)?;
+    put_spaced(&mut text, version)?;
+    put_spaced(&mut text, steps)?;
     Ok(text)
 }

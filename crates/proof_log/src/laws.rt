@@ -16,14 +16,14 @@ pub fn lines_have_one_text()
     ensures { LinesHaveOneText }
 {}
 
-/// The text of a head whose numbers are not too great is read as that head.
+/// The text of a head whose numbers have at most 18 digits is read as that head.
 pub fn heads_read_back()
     ensures { HeadsReadBack }
 {
     numbers_read_back();
 }
 
-/// Bytes that are read as a head are the one text of that head, whose numbers are not too great.
+/// Bytes that are read as a head are the one text of that head, whose numbers have at most 18 digits.
 pub fn heads_have_one_text()
     ensures { HeadsHaveOneText }
 {}

@@ -9,7 +9,7 @@ ghost use Rattle.proof_log.specs.Bounds.{cone_by, cone_parts, origin_of, origin}
 
 use crate::cones::{cone_pairs, some_trains};
 use crate::line::LineFault;
-use crate::parts::horizon;
+use crate::parts::plain_number;
 use crate::words::first_word;
 use bound_spec::{Origin, Requirement};
 use cone_spec::Cone;
@@ -56,7 +56,7 @@ fn cone<'a>(
     ensures ok { ReadsPart result (made (cone_by requirement) (cone_parts (words_left words.entry))) }
     ensures text { result ≡ Err Text → made (cone_by requirement) (cone_parts (words_left words.entry)) ≡ None }
 {
-    let Some((tick, after)) = horizon(words) else {
+    let Some((tick, after)) = plain_number(words) else {
         return Err(LineFault::Text);
     };
     let (trains, after) = some_trains(alloc, after)?;

@@ -2,14 +2,14 @@
 
 ghost use Rattle.std.specs.Prelude.{◌≡◌};
 ghost use Rattle.rail_base.specs.declared.plan.Violation.TheVariants.{Within, Order};
-ghost use Rattle.proof_log.specs.Words.{plain_number_of};
-ghost use Rattle.proof_log.specs.Parts.{first_of, made, small_number, two_numbers, train_prefix, command, pair};
+ghost use Rattle.proof_log.specs.Parts.{made, small_number, two_numbers, plain_number, two_plain_numbers};
+ghost use Rattle.proof_log.specs.Parts.{train_prefix, command, pair};
 ghost use Rattle.proof_log.specs.Parts.{path_by};
 ghost use Rattle.proof_log.specs.Parts.{grant_by, visit_by, violation, violation_of, written_holder};
 ghost use Rattle.proof_log.specs.Reading.{words_left, with_words};
 
 use crate::words;
-use crate::words::{first_word, plain_number};
+use crate::words::first_word;
 use rail_base::plan::{Command, Violation};
 use rail_base::route::RouteNo;
 use rail_base::station::TrainNo;
@@ -24,11 +24,11 @@ pub fn small_number(text: Option<&[u8]>) -> Option<(u32, Option<&[u8]>)>
 }
 
 /// A number of at most 18 digits, and the words after it.
-pub fn horizon(text: Option<&[u8]>) -> Option<(u64, Option<&[u8]>)>
-    ensures { with_words result ≡ first_of plain_number_of (words_left text.entry) }
+pub fn plain_number(text: Option<&[u8]>) -> Option<(u64, Option<&[u8]>)>
+    ensures { with_words result ≡ plain_number (words_left text.entry) }
 {
     let (word, after) = first_word(text?);
-    let number = plain_number(word)?;
+    let number = words::plain_number(word)?;
     Some((number, after))
 }
 
@@ -41,12 +41,21 @@ pub fn two_numbers(text: Option<&[u8]>) -> Option<((u32, u32), Option<&[u8]>)>
     Some(((first, second), after))
 }
 
+/// Two numbers of at most 18 digits each.
+pub fn two_plain_numbers(text: Option<&[u8]>) -> Option<((u64, u64), Option<&[u8]>)>
+    ensures { with_words result ≡ two_plain_numbers (words_left text.entry) }
+{
+    let (first, after) = plain_number(text)?;
+    let (second, after) = plain_number(after)?;
+    Some(((first, second), after))
+}
+
 /// A train, its horizon, and how many of its commands are free.
 pub fn train_prefix(text: Option<&[u8]>) -> Option<((u32, (u64, u32)), Option<&[u8]>)>
     ensures { with_words result ≡ train_prefix (words_left text.entry) }
 {
     let (train, after) = small_number(text)?;
-    let (last, after) = horizon(after)?;
+    let (last, after) = plain_number(after)?;
     let (free, after) = small_number(after)?;
     Some(((train, (last, free)), after))
 }

@@ -376,7 +376,7 @@ module _ (files : Files) (words : List (List ℕ)) (n : ℕ) (d : Station) (s : 
       let some : 1 ≤ n = (requests_in_range words (verify n s.conflicts s.ticks s.bounds s.design_name s.proof_name) s.asked).0 in
       record {
         text = prints.written answered ∙ (ap (λ (a : ReplySeen). grown text (concat a.lines)) line ∙ ap (grown text) (append-nil (infeasible_line n)));
-        none = (yes_infeasible d (spelled_admitted (files s.design_name) d s.parses_design) n n log.log some log.proves.shows).1;
+        none = (yes_infeasible d (spelled_admitted (files s.design_name) d s.parses_design) n n log.log some log.proves.shows).1.1;
         stored = log;
         passes = log_passes q log.log log.proves.within_limit log.proves.shows;
       }

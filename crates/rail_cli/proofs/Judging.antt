@@ -54,6 +54,7 @@ told_done (No line reason) done = absurd (cc)
 -- it is `yes steps <k>`, and no plan of k steps is feasible
 pub record Shows (n : ℕ) (d : Station) (a : ReplySeen) : Type 0 where
   pub steps : ℕ
+  pub least : 1 ≤ steps
   pub within : steps ≤ n
   pub answer : a ≡ one_line Done (yes_line steps)
   pub none : IsInfeasible d steps
@@ -62,7 +63,7 @@ judged_shows : (n : ℕ) (d : Station) (bytes : List ℕ) → IsAdmitted d → 1
 judged_shows n d bytes good some done =
     let t = told_done (judged d n bytes) done in
     let s = yes_infeasible d good n t.steps bytes some t.is in
-    record { steps = t.steps; within = s.0; answer = ap reply_for t.is; none = s.1 }
+    record { steps = t.steps; least = s.0; within = s.1.0; answer = ap reply_for t.is; none = s.1.1 }
 
 pub checked_shows : (n : ℕ) (design_bytes proof_bytes : List ℕ) (d : Station) → 1 ≤ n → design_of design_bytes ≡ Ok d → (check_reply n design_bytes proof_bytes).status ≡ Done → Shows n d (check_reply n design_bytes proof_bytes)
 checked_shows n design_bytes proof_bytes d some spells done =
@@ -75,7 +76,7 @@ checked_shows n design_bytes proof_bytes d some spells done =
     let all : check_reply n design_bytes proof_bytes ≡ checked_against two.read n four.read = one.comes ∙ (two.comes ∙ (three.comes ∙ four.comes)) in
     let good : IsAdmitted two.read = subst IsAdmitted same (spelled_admitted design_bytes d spells) in
     let shows = judged_shows n two.read four.read good some (ap (λ (a : ReplySeen). a.status) (sym all) ∙ done) in
-    record { steps = shows.steps; within = shows.within; answer = all ∙ shows.answer; none = subst (λ (e : Station). IsInfeasible e shows.steps) (sym same) shows.none }
+    record { steps = shows.steps; least = shows.least; within = shows.within; answer = all ∙ shows.answer; none = subst (λ (e : Station). IsInfeasible e shows.steps) (sym same) shows.none }
 
 -- what is printed of it
 pub tells_infeasible : (files : Files) (found : Outcome) (words : List (List ℕ)) (n : ℕ) (d : Station) (t : Status) (text new_text : Option (List ℕ)) (pieces new_pieces : Option (List (List ℕ)))
@@ -88,6 +89,7 @@ tells_infeasible files found words n d t text new_text pieces new_pieces prints 
     let shows = checked_shows n (files c.design_name) (files c.proof_name) d some c.parses_design status in
     record {
       steps = shows.steps;
+      least = shows.least;
       within = shows.within;
       text = prints.written answered ∙ (ap (λ (a : ReplySeen). grown text (concat a.lines)) (so ∙ shows.answer) ∙ ap (grown text) (append-nil (yes_line shows.steps)));
       none = shows.none;

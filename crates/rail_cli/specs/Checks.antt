@@ -15,9 +15,10 @@ pub record Checks (files : Files) (words : List (List ℕ)) (n : ℕ) (d : Stati
   pub asked : request_of words ≡ Some (check n design_name proof_name)
   pub parses_design : design_of (files design_name) ≡ Ok d
 
--- what is printed is `yes steps <k>`, and no plan of k steps is feasible
+-- what is printed is `yes steps <k>`, for one step or more, and no plan of k steps is feasible
 pub record ReportsInfeasible (n : ℕ) (d : Station) (old new : Option (List ℕ)) : Type 0 where
   pub steps : ℕ
+  pub least : 1 ≤ steps
   pub within : steps ≤ n
   pub text : new ≡ grown old (yes_line steps)
   pub none : IsInfeasible d steps

@@ -175,8 +175,8 @@ impl PlanSearch<'_> {
     /// The clauses of the base, given to a solver whose recorder stops at these calls.
     fn start(&self, stops: &[u64]) -> Result<SearchState> {
         let head = Head::Named {
-            version: self.interlocking.design.station.version,
-            steps: self.base.steps().count,
+            version: u64::from(self.interlocking.design.station.version),
+            steps: u64::from(self.base.steps().count),
         };
         let line = write_head(self.alloc, head)?;
         let Ok(text) = Text::new(self.alloc, MOST, line.as_slice()) else {

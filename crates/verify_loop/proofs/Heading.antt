@@ -7,21 +7,21 @@ use Rattle.plan_exclusion.specs.declared.method.Method.{Method}
 use Rattle.plan_exclusion.specs.declared.method.Method.TheVariants.{Cones, Bounds}
 use Rattle.proof_judge.specs.Judged.{judged_by, judged_under}
 use Rattle.proof_log.specs.Heads.{keeps_head}
-use Rattle.proof_log.specs.Words.{is_small}
+use Rattle.proof_log.specs.Words.{is_plain}
 use Rattle.rail_base.specs.declared.station.Station.{Station}
 use Rattle.rail_base.specs.Admitted.{IsAdmitted}
 use Rattle.rail_base.proofs.Members.{and_both}
 use Rattle.verify_loop.specs.Outcomes.{head, first_clauses}
 
--- its numbers are small
-numbers_small : (d : Station) (n : ℕ) → IsAdmitted d → n ≤ 256 → (is_small d.version && is_small n) ≡ true
-numbers_small d n good few =
+-- its numbers have few digits
+numbers_plain : (d : Station) (n : ℕ) → IsAdmitted d → n ≤ 256 → (is_plain d.version && is_plain n) ≡ true
+numbers_plain d n good few =
     let most = good.version.1 in
-    and_both (is_small d.version) (is_small n) (le-leb d.version 4294967295 (omega arith)) (le-leb n 4294967295 (omega arith))
+    and_both (is_plain d.version) (is_plain n) (le-leb d.version 999_999_999_999_999_999 (omega arith)) (le-leb n 999_999_999_999_999_999 (omega arith))
 
 pub kept_so : (m : Method) (d : Station) (n : ℕ) → IsAdmitted d → n ≤ 256 → keeps_head (head m d n) ≡ true
-kept_so Cones d n good few = numbers_small d n good few
-kept_so Bounds d n good few = numbers_small d n good few
+kept_so Cones d n good few = numbers_plain d n good few
+kept_so Bounds d n good few = numbers_plain d n good few
 
 -- it names the design and the number of steps
 names_own : (d : Station) (n : ℕ) → (d.version == d.version && n == n) ≡ true

@@ -196,7 +196,7 @@ module _ (m : Method) (d : Station) (n : ℕ) (b : Budgets) (some : 1 ≤ n) (re
       }
 
       pub infeasible_so : keeps_head (head m d n) ≡ true → past_limit 16000000 0 (first_clauses m d n) ≡ None → IsAdmitted d → EndedRunsAreAccepted → YesIsInfeasible → IsInfeasible d n
-      infeasible_so kept fits good accepted sound = (sound d good n n new.text some (shown_so kept fits accepted)).1
+      infeasible_so kept fits good accepted sound = (sound d good n n new.text some (shown_so kept fits accepted)).1.1
 
     -- of these, of which the search goes on with one more
     module _ (not_empty : core ≡ [] → ⊥) (less : steps < n) (unsaid : HasUnit recorder.arena (opposite (by_step (vars d n) n steps)) → ⊥) where

@@ -113,12 +113,12 @@ fn proof_explained<S: Shelf>(
 }
 
 /// A number of steps, where it is from 1 to 256.
-fn if_in_range(steps: u32) -> Option<u32>
+fn if_in_range(steps: u64) -> Option<u32>
     ensures value { result ≡ if_in_range steps }
     ensures range { AreStepsInRange result }
 {
     if 1 <= steps && steps <= 256 {
-        Some(steps)
+        Some(steps as u32)
     } else {
         None
     }

@@ -14,7 +14,7 @@ use Rattle.proof_judge.proofs.Under.{by_head}
 use Rattle.proof_judge.proofs.judging.judge.Goals as goal
 
 sound : {E : Type 0} (d : Station) → IsAdmitted d → (n : ℕ) (bytes : List ℕ) → 1 ≤ n → (r : Result CheckResult E) → IfOk r (λ shown. shown ≡ judged d n bytes) → (k : ℕ) → r ≡ Ok (Yes k) → IsInfeasible d k
-sound d good n bytes some r value k e = (yes_infeasible d good n k bytes some (sym (subst (λ z. IfOk z (λ shown. shown ≡ judged d n bytes)) e value))).1
+sound d good n bytes some r value k e = (yes_infeasible d good n k bytes some (sym (subst (λ z. IfOk z (λ shown. shown ≡ judged d n bytes)) e value))).1.1
 
 pub returns-in-Some-Sorted-clause-value : goal.returns-in-Some-Sorted-clause-value
 returns-in-Some-Sorted-clause-value c =
