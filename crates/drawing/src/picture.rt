@@ -1,13 +1,13 @@
 //! Shapes that are put into a picture.
 
-ghost use Rattle.std.specs.Prelude.{◌≡◌, ◌+◌, ◌++◌, [], ◌∷◌, length, OnOk};
+ghost use Rattle.std.specs.Prelude.{◌≡◌, ◌+◌, ◌++◌, [], ◌∷◌, length, OnErr, OnOk};
 ghost use Rattle.drawing.specs.Drawing.{words_in};
 
 use crate::shape::{Anchor, Color, Picture, Point, Shape};
 use rail_base::list::{List, Name};
 use std::alloc::{AllocError, Global};
 
-/// Appends a line from one point to the next. `Err` is want of memory.
+/// Appends a line from one point to the next. `Err` is want of memory, and leaves the picture as it was.
 pub fn put_line(
     picture: &mut Picture,
     points: Vec<Point>,
@@ -18,6 +18,7 @@ pub fn put_line(
         ≡ picture.old ++ Shape.Line points.items color width ∷ []) }
     ensures words { OnOk result (words_in picture.new ≡ words_in picture.old) }
     ensures size { OnOk result (length picture.new ≡ length picture.old + 1) }
+    ensures same { OnErr result (picture.new ≡ picture.old) }
 {
     picture.push(Shape::Line {
         points: List::from_vec(points),
@@ -26,7 +27,7 @@ pub fn put_line(
     })
 }
 
-/// Appends a filled bar, by its left upper corner. `Err` is want of memory.
+/// Appends a filled bar, by its left upper corner. `Err` is want of memory, and leaves the picture as it was.
 pub fn put_bar(
     picture: &mut Picture,
     corner: Point,
@@ -37,6 +38,7 @@ pub fn put_bar(
     ensures shape { OnOk result (picture.new ≡ picture.old ++ Shape.Bar corner width height color ∷ []) }
     ensures words { OnOk result (words_in picture.new ≡ words_in picture.old) }
     ensures size { OnOk result (length picture.new ≡ length picture.old + 1) }
+    ensures same { OnErr result (picture.new ≡ picture.old) }
 {
     picture.push(Shape::Bar {
         corner,
@@ -46,7 +48,7 @@ pub fn put_bar(
     })
 }
 
-/// Appends a filled disc. `Err` is want of memory.
+/// Appends a filled disc. `Err` is want of memory, and leaves the picture as it was.
 pub fn put_dot(
     picture: &mut Picture,
     center: Point,
@@ -56,6 +58,7 @@ pub fn put_dot(
     ensures shape { OnOk result (picture.new ≡ picture.old ++ Shape.Dot center radius color ∷ []) }
     ensures words { OnOk result (words_in picture.new ≡ words_in picture.old) }
     ensures size { OnOk result (length picture.new ≡ length picture.old + 1) }
+    ensures same { OnErr result (picture.new ≡ picture.old) }
 {
     picture.push(Shape::Dot {
         center,
@@ -64,7 +67,7 @@ pub fn put_dot(
     })
 }
 
-/// Appends a text that counts as words. `Err` is want of memory.
+/// Appends a text that counts as words. `Err` is want of memory, and leaves the picture as it was.
 pub fn put_words(
     picture: &mut Picture,
     place: Point,
@@ -75,6 +78,7 @@ pub fn put_words(
     ensures shape { OnOk result (picture.new ≡ picture.old ++ Shape.Words place anchor color text.items ∷ []) }
     ensures words { OnOk result (words_in picture.new ≡ words_in picture.old ++ text.items ∷ []) }
     ensures size { OnOk result (length picture.new ≡ length picture.old + 1) }
+    ensures same { OnErr result (picture.new ≡ picture.old) }
 {
     picture.push(Shape::Words {
         place,
@@ -84,7 +88,7 @@ pub fn put_words(
     })
 }
 
-/// Appends a text that counts for nothing. `Err` is want of memory.
+/// Appends a text that counts for nothing. `Err` is want of memory, and leaves the picture as it was.
 pub fn put_note(
     picture: &mut Picture,
     place: Point,
@@ -95,6 +99,7 @@ pub fn put_note(
     ensures shape { OnOk result (picture.new ≡ picture.old ++ Shape.Note place anchor color text.items ∷ []) }
     ensures words { OnOk result (words_in picture.new ≡ words_in picture.old) }
     ensures size { OnOk result (length picture.new ≡ length picture.old + 1) }
+    ensures same { OnErr result (picture.new ≡ picture.old) }
 {
     picture.push(Shape::Note {
         place,

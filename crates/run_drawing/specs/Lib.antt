@@ -1,2 +1,4 @@
 -- What a picture of a run says.
+pub mod Laws
+pub mod Requirements
 pub mod Words

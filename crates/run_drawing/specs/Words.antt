@@ -1,5 +1,5 @@
 -- The words of a picture of a run, and how many shapes it has at most.
-use Rattle.std.specs.Prelude.{ℕ, ◌+◌, ◌-◌, ◌*◌, List, [], ◌∷◌, ◌++◌, map, length, take, codes, decimal, Option}
+use Rattle.std.specs.Prelude.{ℕ, ◌+◌, ◌-◌, ◌*◌, List, [], ◌∷◌, ◌++◌, map, length, take, Option}
 use Rattle.std.specs.Prelude.{option_map}
 use Rattle.std.specs.List.{enumerate_from, filter_map, flat_map, sum_by}
 use Rattle.rail_base.specs.declared.station.Station.{Station}
@@ -10,12 +10,19 @@ use Rattle.rail_base.specs.declared.history.Verdict.{Verdict}
 use Rattle.rail_base.specs.declared.history.Verdict.TheVariants.{Met, Failed, Undecided}
 use Rattle.rail_base.specs.Names.{train_name}
 use Rattle.timetable.specs.Timetable.{timetable_of}
+use Rattle.run_drawing.specs.Requirements.{requirement_texts, visit_text}
 
 -- what happened to the trains
 abbrev pub history_in : Verdict → List TrainHistory
 history_in (Met history tick) = history
 history_in (Failed history tick violation) = history
 history_in Undecided = []
+
+-- the deciding tick, and 0 where nothing is decided
+abbrev pub last_tick : Verdict → ℕ
+last_tick (Met history tick) = tick
+last_tick (Failed history tick violation) = tick
+last_tick Undecided = 0
 
 -- the first of some lines, without its LF
 abbrev pub first_text : List (List ℕ) → List ℕ
@@ -29,10 +36,6 @@ outcome_text d verdict = first_text (timetable_of d verdict)
 -- the name of a train
 abbrev pub name_of : Train → List ℕ
 name_of train = train.name
-
--- `<train> visit <j>`
-abbrev pub visit_text : List ℕ → ℕ → List ℕ
-visit_text name number = name ++ codes " visit " ++ decimal number
 
 -- the same of a visit with its number, where it is made
 abbrev pub visit_line_of : List ℕ → ℕ × Option (NodeNo × ℕ) → Option (List ℕ)
@@ -51,9 +54,11 @@ history_texts d history =
 abbrev pub frame_words : Station → Verdict → List (List ℕ)
 frame_words d verdict = outcome_text d verdict ∷ map name_of d.trains ++ d.sections
 
--- and each visit that is made
+-- and each visit that is made, and what came of each order and each within
 abbrev pub run_words : Station → Verdict → List (List ℕ)
-run_words d verdict = frame_words d verdict ++ history_texts d (history_in verdict)
+run_words d verdict =
+    frame_words d verdict ++ history_texts d (history_in verdict)
+    ++ requirement_texts d (history_in verdict) (last_tick verdict)
 
 -- ---- how many shapes
 

@@ -4,6 +4,8 @@
 
 mod axes;
 mod bars;
+mod ending;
+mod laws;
 mod outcome;
 mod picture;
 mod requirements;
@@ -11,4 +13,5 @@ mod scale;
 mod trains;
 mod visits;
 
+pub use laws::endings_are_so;
 pub use picture::run_picture;

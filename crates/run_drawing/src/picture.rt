@@ -3,8 +3,9 @@
 ghost use Rattle.std.specs.Prelude.{◌≡◌, ◌+◌, ◌≤◌, ◌++◌, length, IfOk, OnOk};
 ghost use Rattle.drawing.specs.Drawing.{words_in};
 ghost use Rattle.rail_base.specs.Names.{train_name};
-ghost use Rattle.run_drawing.specs.Words.{frame_size, frame_words, history_in, history_size, history_texts, run_size};
-ghost use Rattle.run_drawing.specs.Words.{run_words, train_size, visit_texts};
+ghost use Rattle.run_drawing.specs.Requirements.{requirement_texts};
+ghost use Rattle.run_drawing.specs.Words.{frame_size, frame_words, history_in, history_size, history_texts, last_tick};
+ghost use Rattle.run_drawing.specs.Words.{run_size, run_words, train_size, visit_texts};
 
 use crate::axes::{put_levels, put_times};
 use crate::bars::{put_holdings, put_rows, row_of};
@@ -24,7 +25,8 @@ use std::alloc::{AllocError, Global};
 
 /// The picture of what a run of a plan shows, by the routes of the design. Its words are how the run ends, the names of
 /// all trains and of all sections, each in the order of their numbers, and `<train> visit <j>` for each visit that is
-/// made, in the order of trains and of their visits.
+/// made, in the order of trains and of their visits, and then what is asked of each order and each within and what came
+/// of it, as `order <o>: <train> visit <j> before <train> visit <i>: met`.
 ///
 /// Across runs the time, in s; down lie the nodes, by their levels along the track. A train's line leads through the
 /// nodes that it passes, and stays at one where a route from there is granted later. Below there is a row for each
@@ -54,7 +56,7 @@ pub fn run_picture(
     put_requirements(
         alloc,
         &mut picture,
-        station,
+        design,
         history,
         last,
         scale.left,
@@ -75,7 +77,9 @@ fn history_in(verdict: &Verdict) -> &[TrainHistory]
 }
 
 /// The deciding tick; 0 where the verdict is undecided.
-fn last_tick(verdict: &Verdict) -> u64 {
+fn last_tick(verdict: &Verdict) -> u64
+    ensures { result ≡ last_tick verdict.now }
+{
     match verdict {
         Verdict::Met { tick, .. } => *tick,
         Verdict::Failed { tick, .. } => *tick,
@@ -134,20 +138,23 @@ fn put_history(
 fn put_requirements(
     alloc: Global,
     picture: &mut Picture,
-    station: &Station,
+    design: &Design,
     history: &[TrainHistory],
     last: u64,
     left: u64,
     top: u64,
 ) -> Result<(), AllocError>
-    ensures words { OnOk result (words_in picture.new ≡ words_in picture.old) }
-    ensures size { OnOk result (length picture.new
-        ≡ length picture.old + length station.now.orders + length station.now.withins) }
+    ensures words { OnOk result (words_in picture.new
+        ≡ words_in picture.old ++ requirement_texts design.now.station history.now last) }
+    ensures size { let d = design.now.station in
+        OnOk result (length picture.new ≡ length picture.old + length d.orders + length d.withins) }
 {
-    let many = station.orders.len() as u64;
+    let many = design.station.orders.len() as u64;
     let below = many.saturating_mul(LINE).saturating_add(top);
-    put_orders(alloc, picture, station, history, left, top)?;
-    put_withins(alloc, picture, station, history, last, left, below)
+    let orders = design.station.orders.as_slice();
+    put_orders(alloc, picture, design, orders, history, left, top)?;
+    let withins = design.station.withins.as_slice();
+    put_withins(alloc, picture, design, withins, history, last, left, below)
 }
 
 /// Appends the axes, how the run ends, and the names of trains and sections.

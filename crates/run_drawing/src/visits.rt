@@ -3,7 +3,8 @@
 ghost use Rattle.std.specs.Prelude.{◌≡◌, ◌+◌, ◌*◌, ◌≤◌, [], ◌∷◌, ◌++◌, length, IfOk, OnOk};
 ghost use Rattle.drawing.specs.Drawing.{words_in};
 ghost use Rattle.rail_base.specs.Names.{train_name};
-ghost use Rattle.run_drawing.specs.Words.{visit_text, visit_texts};
+ghost use Rattle.run_drawing.specs.Requirements.{visit_text};
+ghost use Rattle.run_drawing.specs.Words.{visit_texts};
 
 use crate::scale::Scale;
 use crate::trains::train_color;

@@ -4,7 +4,8 @@ use Rattle.std.proofs.lemmas.List.FromFn.{length-enumerate_from}
 use Rattle.drawing.specs.Drawing.{words_in}
 use Rattle.rail_base.specs.declared.station.NodeNo.{NodeNo}
 use Rattle.timetable.proofs.Lines.{numbered, all_numbered}
-use Rattle.run_drawing.specs.Words.{visit_text, visit_line_of}
+use Rattle.run_drawing.specs.Requirements.{visit_text}
+use Rattle.run_drawing.specs.Words.{visit_line_of}
 use Rattle.run_drawing.proofs.Telling.{none_told, one_told}
 use Rattle.run_drawing.proofs.visits.put_visits.Goals as goal
 use Rattle.run_drawing.proofs.visits.put_visits.Goals.{in-Some+in_ok-put_visit, in_default}
