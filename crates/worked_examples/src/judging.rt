@@ -20,12 +20,20 @@ pub fn may_leave(leaves: &Leaves<'_>, proof: Option<&str>, calls: u64) -> bool {
     let is_there = leaves
         .has_proof
         .is_none_or(|wanted| wanted == proof.is_some());
-    let has_count = leaves
+    let has_cone_count = leaves
         .cone_count
-        .is_none_or(|wanted| wanted == cone_count(text));
+        .is_none_or(|wanted| wanted == lines_with(text, "r "));
+    let has_bound_count = leaves
+        .bound_count
+        .is_none_or(|wanted| wanted == lines_with(text, "b "));
     let has_cones = leaves.cones.iter().all(|cone| has_line(text, cone));
     let has_calls = leaves.calls.is_none_or(|wanted| wanted == calls);
-    is_there && has_text(leaves, text) && has_count && has_cones && has_calls
+    is_there
+        && has_text(leaves, text)
+        && has_cone_count
+        && has_bound_count
+        && has_cones
+        && has_calls
 }
 
 /// Whether a text is one of some.
@@ -54,9 +62,12 @@ fn begins_so(command: &Command, text: &[u8]) -> bool
     }
 }
 
-/// How many lines of a proof file are those of cones.
-fn cone_count(proof: &str) -> u64 {
-    proof.lines().filter(|line| line.starts_with("r ")).count() as u64
+/// How many lines of a proof file begin so.
+fn lines_with(proof: &str, prefix: &str) -> u64 {
+    proof
+        .lines()
+        .filter(|line| line.starts_with(prefix))
+        .count() as u64
 }
 
 /// Whether a line is one of a proof file.

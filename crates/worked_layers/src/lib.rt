@@ -1,5 +1,5 @@
-//! Worked examples below the commands: runs and searches whose budgets no command gives, and clauses for which none
-//! asks.
+//! Worked examples below the commands: runs and searches whose budgets no command gives, clauses for which none asks,
+//! and each plan run from event to event and tick by tick.
 #![tactic(auto)]
 
 use anyhow::{Result, ensure};
@@ -7,7 +7,7 @@ use infra_reader::read_design;
 use interlocking::{Interlocking, Steps};
 use plan_encoding::sorted_base;
 use plan_exclusion::Method;
-use rail_base::history::Verdict;
+use rail_base::history::{TrainHistory, Verdict};
 use rail_plan::reading::read_plan;
 use rail_routes::interlocking;
 use sat_clause::Lit;
@@ -27,6 +27,69 @@ pub fn wrong_layers(rt: &impl Print, alloc: Global, row: &Row<'_>, texts: &[Text
     let searches = wrong_searches(rt, alloc, &interlocking, row)?;
     let turns = wrong_turns(rt, alloc, &interlocking, row)?;
     Ok(runs.saturating_add(searches).saturating_add(turns))
+}
+
+/// Whether a plan shows the same from event to event and tick by tick, up to the horizon: the verdict, its tick, its
+/// violation and what happened to each train. `None` where the files of a worked example have no plan to be run.
+pub fn runs_both_ways(alloc: Global, texts: &[Text]) -> Result<Option<bool>> {
+    let Ok(design) = read_design(alloc, bytes_of(texts, "design.toml")) else {
+        return Ok(None);
+    };
+    let Ok(interlocking) = interlocking(alloc, design) else {
+        return Ok(None);
+    };
+    let Ok(plan) = read_plan(alloc, &interlocking, bytes_of(texts, "plan.json")) else {
+        return Ok(None);
+    };
+    let ticks = interlocking.design.horizon();
+    let by_events = plan_run::simulate(alloc, &interlocking, &plan, ticks)?;
+    let by_ticks = tick_sim::simulate(alloc, &interlocking, &plan, ticks)?;
+    Ok(Some(is_same(&by_events, &by_ticks)))
+}
+
+/// Whether two verdicts are one.
+fn is_same(one: &Verdict, other: &Verdict) -> bool {
+    match (one, other) {
+        (
+            Verdict::Met { history, tick },
+            Verdict::Met {
+                history: histories,
+                tick: at,
+            },
+        ) => tick == at && are_same(history.as_slice(), histories.as_slice()),
+        (
+            Verdict::Failed {
+                history,
+                tick,
+                violation,
+            },
+            Verdict::Failed {
+                history: histories,
+                tick: at,
+                violation: way,
+            },
+        ) => {
+            tick == at && violation == way && are_same(history.as_slice(), histories.as_slice())
+        }
+        _ => false,
+    }
+}
+
+/// Whether the same happened to all trains.
+fn are_same(history: &[TrainHistory], other: &[TrainHistory]) -> bool {
+    history.len() == other.len()
+        && history
+            .iter()
+            .zip(other.iter())
+            .all(|(one, other)| is_same_train(one, other))
+}
+
+/// Whether the same happened to two trains.
+fn is_same_train(one: &TrainHistory, other: &TrainHistory) -> bool {
+    one.grants.as_slice() == other.grants.as_slice()
+        && one.passes.as_slice() == other.passes.as_slice()
+        && one.releases.as_slice() == other.releases.as_slice()
+        && one.visits.as_slice() == other.visits.as_slice()
 }
 
 /// The bytes of a file of a worked example; none where it has no such file.

@@ -41,6 +41,8 @@ pub struct Leaves<'a> {
     pub text: Option<&'a str>,
     /// How many lines of cones it has.
     pub cone_count: Option<u64>,
+    /// How many lines of bounds it has.
+    pub bound_count: Option<u64>,
     /// Some of these lines.
     pub cones: Vec<&'a str>,
     /// How many calls of the shelf were made by then.
@@ -48,7 +50,7 @@ pub struct Leaves<'a> {
 }
 
 /// The keys of a command.
-const KEYS: [&str; 13] = [
+const KEYS: [&str; 14] = [
     "words",
     "status",
     "prints",
@@ -59,6 +61,7 @@ const KEYS: [&str; 13] = [
     "has_proof",
     "leaves",
     "cone_count",
+    "bound_count",
     "cones",
     "calls",
     "twice",
@@ -93,6 +96,7 @@ fn leaves_of<'a>(alloc: Global, fields: Fields<'a>) -> Result<Leaves<'a>> {
         has_proof: fields.flag("has_proof")?,
         text: fields.text("leaves")?,
         cone_count: fields.number("cone_count")?,
+        bound_count: fields.number("bound_count")?,
         calls: fields.number("calls")?,
         cones: fields.texts(alloc, "cones")?,
     })
