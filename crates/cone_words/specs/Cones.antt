@@ -1,5 +1,7 @@
 -- Cones in sentences.
-use Rattle.std.specs.Prelude.{ℕ, List, [], ◌∷◌, ◌++◌, map, codes, decimal, Option, None, Some}
+use Rattle.std.specs.Prelude.{ℕ, Bool, true, false, ◌||◌, if◌then◌else◌, nat_le, List, [], ◌∷◌, ◌++◌, map, codes, decimal}
+use Rattle.std.specs.Prelude.{Option, None, Some}
+use Rattle.std.specs.List.{flat_map, list_any}
 use Rattle.rail_base.specs.declared.station.Station.{Station}
 use Rattle.rail_base.specs.declared.station.SectionNo.{SectionNo}
 use Rattle.rail_base.specs.declared.station.TrainNo.{TrainNo}
@@ -12,14 +14,17 @@ use Rattle.rail_base.specs.Stations.{horizon, order_of, within_of}
 use Rattle.rail_spec.specs.Requirements.{most_ticks}
 use Rattle.cone_spec.specs.declared.Cone.{Cone}
 use Rattle.cone_spec.specs.declared.ConeTrain.{ConeTrain}
+use Rattle.cone_spec.specs.Cones.{all_free}
 use Rattle.rail_base.specs.Names.{section_name, train_name}
 use Rattle.cone_words.specs.Names.{makes_text, nodes_text}
-use Rattle.cone_words.specs.Phrases.{joined, sentence, ticks_text, path_text}
+use Rattle.cone_words.specs.Phrases.{joined, sentence}
+use Rattle.cone_words.specs.Routes.{path_text, route_text}
+use Rattle.cone_words.specs.Times.{tick_text, ticks_text}
 use Rattle.rail_base.specs.declared.route.RouteNo.{RouteNo}
 
 -- what no plan that meets the design has
 abbrev pub opening_line : ℕ → List ℕ
-opening_line n = sentence n (codes "no plan that meets the design is one in which this is so:")
+opening_line n = sentence n (codes "no plan in which this is so meets the design:")
 
 -- `z4, z5`
 abbrev pub sections_text : Station → List SectionNo → List ℕ
@@ -28,33 +33,80 @@ sections_text d zs = joined (codes ", ") (section_name d) zs
 -- ---- what is so
 
 -- the command that holds up the first one that waits, if there is one
-abbrev pub holder_text : Station → Option Command → List ℕ
-holder_text d None = []
-holder_text d (Some h) =
-    codes ", and the next one waits for " ++ train_name d h.train ++ codes " to leave route " ++ decimal h.route.0
+abbrev pub holder_text : Station → List Route → Option Command → List ℕ
+holder_text d routes None = []
+holder_text d routes (Some h) =
+    codes ", and the next one waits for " ++ train_name d h.train ++ codes " to leave route " ++ route_text d routes h.route
 
 -- a train: up to which tick it is followed, and its path
-abbrev pub followed_text : Station → ConeTrain → List ℕ
-followed_text d c =
-    train_name d c.train ++ codes " is followed up to tick " ++ decimal c.horizon
-    ++ codes " over " ++ path_text c.path
+abbrev pub followed_text : Station → List Route → ConeTrain → List ℕ
+followed_text d routes c =
+    train_name d c.train ++ codes " is followed up to " ++ tick_text d c.horizon
+    ++ codes " over " ++ path_text d routes c.path
 
 -- the same, and how many commands of it are granted by then
-abbrev pub train_text : Station → ConeTrain → List ℕ
-train_text d c =
-    followed_text d c ++ codes "; by then it is granted " ++ decimal c.free ++ codes " of them" ++ holder_text d c.holder
+abbrev pub train_text : Station → List Route → ConeTrain → List ℕ
+train_text d routes c =
+    followed_text d routes c ++ codes "; by then it is granted " ++ decimal c.free ++ codes " of them"
+    ++ holder_text d routes c.holder
+
+-- the violation is that the path misses a visit
+abbrev pub is_of_path : Violation → Bool
+is_of_path (violation.Path t j) = true
+is_of_path (violation.Within w) = false
+is_of_path (violation.Order o) = false
+is_of_path (violation.Grant t j) = false
+is_of_path (violation.Visit t j) = false
+
+-- the cone says that the train goes no further than its path: where all commands of it are granted, and where the path misses a visit
+abbrev pub goes_no_further : Cone → ConeTrain → Bool
+goes_no_further k c = all_free c || is_of_path k.violation
+
+abbrev pub end_text : Station → TrainNo → List ℕ
+end_text d t = train_name d t ++ codes " goes no further"
+
+-- `<train> goes no further`, where the cone says so
+abbrev pub end_sentences : Station → ℕ → Cone → ConeTrain → List (List ℕ)
+end_sentences d n k c =
+    if goes_no_further k c then sentence n (end_text d c.train) ∷ [] else []
 
 -- a pair: the second command waits until the first one's route is left where the two share sections
 abbrev pub pair_text : Station → List Route → Command × Command → List ℕ
 pair_text d routes p =
-    train_name d p.1.train ++ codes " is granted route " ++ decimal p.1.route.0 ++ codes " only after "
-    ++ train_name d p.0.train ++ codes ", by route " ++ decimal p.0.route.0 ++ codes ", has left "
+    train_name d p.1.train ++ codes " is granted route " ++ route_text d routes p.1.route ++ codes " only after "
+    ++ train_name d p.0.train ++ codes ", by route " ++ route_text d routes p.0.route ++ codes ", has left "
     ++ sections_text d (shared (route_at routes p.0.route) (route_at routes p.1.route))
 
--- its trains, and then its pairs
+-- a command of the train is granted
+abbrev pub is_granted_some : ConeTrain → Bool
+is_granted_some c = nat_le 1 c.free
+
+-- what is said of all other commands, where the cone has granted ones
+abbrev pub others_sentences : ℕ → Cone → List (List ℕ)
+others_sentences n k =
+    if list_any is_granted_some k.trains
+    then sentence n (codes "of all other routes that share a section with one granted here, none goes before it but where this is said") ∷ []
+    else []
+
+-- a train of a cone, with where it ends
+abbrev pub train_sentences : Station → List Route → ℕ → Cone → ConeTrain → List (List ℕ)
+train_sentences d routes n k t = sentence n (train_text d routes t) ∷ end_sentences d n k t
+
+-- these trains of it
+abbrev pub trains_sentences : Station → List Route → ℕ → Cone → List ConeTrain → List (List ℕ)
+trains_sentences d routes n k trains = flat_map (train_sentences d routes n k) trains
+
+-- its pairs
+abbrev pub pairs_sentences : Station → List Route → ℕ → List (Command × Command) → List (List ℕ)
+pairs_sentences d routes n pairs = map (λ p. sentence n (pair_text d routes p)) pairs
+
+-- its pairs, and then all others
+abbrev pub order_sentences : Station → List Route → ℕ → Cone → List (List ℕ)
+order_sentences d routes n c = pairs_sentences d routes n c.pairs ++ others_sentences n c
+
+-- its trains, and then in which order commands are
 abbrev pub parts_sentences : Station → List Route → ℕ → Cone → List (List ℕ)
-parts_sentences d routes n c =
-    map (λ t. sentence n (train_text d t)) c.trains ++ map (λ p. sentence n (pair_text d routes p)) c.pairs
+parts_sentences d routes n c = trains_sentences d routes n c c.trains ++ order_sentences d routes n c
 
 -- ---- how it fails
 
@@ -63,15 +115,15 @@ abbrev pub missed_text : Station → TrainNo → ℕ → List ℕ
 missed_text d t k =
     codes "so " ++ train_name d t ++ codes " does not make visit " ++ decimal k ++ nodes_text d t k
 
--- `, by tick <k>, the horizon`
+-- `, by tick <k> (<t> s), the horizon`
 abbrev pub by_horizon_text : Station → List ℕ
-by_horizon_text d = codes ", by tick " ++ decimal (horizon d) ++ codes ", the horizon"
+by_horizon_text d = codes ", by " ++ tick_text d (horizon d) ++ codes ", the horizon"
 
 -- the failure, with what is asked for
 abbrev pub failure_text : Station → Violation → List ℕ
-failure_text d (violation.Path t k) = missed_text d t k ++ codes ", if it goes no further"
+failure_text d (violation.Path t k) = missed_text d t k
 failure_text d (violation.Within w) = let within = within_of d w in
-    missed_text d within.to_train within.to_visit ++ codes ", within " ++ ticks_text (most_ticks d within)
+    missed_text d within.to_train within.to_visit ++ codes ", within " ++ ticks_text d (most_ticks d within)
     ++ codes " after " ++ makes_text d within.from_train within.from_visit ++ codes ", as within " ++ decimal w
     ++ codes " asks"
 failure_text d (violation.Order o) = let order = order_of d o in
@@ -86,14 +138,6 @@ failure_text d (violation.Visit t k) = missed_text d t k ++ by_horizon_text d
 abbrev pub cone_sentences : Station → List Route → ℕ → Cone → List (List ℕ)
 cone_sentences d routes n c =
     opening_line n ∷ parts_sentences d routes n c ++ sentence n (failure_text d c.violation) ∷ []
-
--- the trains of a cone
-abbrev pub trains_sentences : Station → ℕ → List ConeTrain → List (List ℕ)
-trains_sentences d n trains = map (λ t. sentence n (train_text d t)) trains
-
--- its pairs
-abbrev pub pairs_sentences : Station → List Route → ℕ → List (Command × Command) → List (List ℕ)
-pairs_sentences d routes n pairs = map (λ p. sentence n (pair_text d routes p)) pairs
 
 -- what a within asks for
 abbrev pub within_text : Station → ℕ → List ℕ

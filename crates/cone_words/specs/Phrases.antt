@@ -1,7 +1,6 @@
 -- Phrases that sentences are made of.
-use Rattle.std.specs.Prelude.{ℕ, ◌==◌, if◌then◌else◌, List, [], ◌∷◌, ◌++◌, codes, decimal}
+use Rattle.std.specs.Prelude.{ℕ, List, [], ◌∷◌, ◌++◌, codes, decimal}
 use Rattle.std.specs.List.{flat_map}
-use Rattle.rail_base.specs.declared.route.RouteNo.{RouteNo}
 use Rattle.rail_base.specs.declared.station.Station.{Station}
 use Rattle.rail_base.specs.declared.station.NodeNo.{NodeNo}
 use Rattle.rail_base.specs.declared.station.SectionNo.{SectionNo}
@@ -23,22 +22,6 @@ line_head n = codes "line " ++ decimal n ++ codes ": "
 -- a sentence about a line of the file, with its LF
 abbrev pub sentence : ℕ → List ℕ → List ℕ
 sentence n text = line_head n ++ text ++ codes "\n"
-
--- `1 tick`, `2 ticks`
-abbrev pub ticks_text : ℕ → List ℕ
-ticks_text n = decimal n ++ (if n == 1 then codes " tick" else codes " ticks")
-
--- the number of a route
-abbrev pub route_number : RouteNo → List ℕ
-route_number r = decimal r.0
-
--- `route 3 or 5`
-abbrev pub any_route_text : List RouteNo → List ℕ
-any_route_text rs = codes "route " ++ joined (codes " or ") route_number rs
-
--- `route 3, route 5`
-abbrev pub path_text : List RouteNo → List ℕ
-path_text rs = codes "route " ++ joined (codes ", route ") route_number rs
 
 -- nodes, each after ` or `
 abbrev pub each_node : Station → List NodeNo → List ℕ

@@ -1,17 +1,23 @@
-//! The sentences about a cone. An error is want of memory.
+//! The sentences about a cone. An error is want of memory; then a part of what is appended may stand there.
 
 ghost use Rattle.std.specs.Prelude.{◌≡◌, ◌++◌, ◌∷◌, [], IfOk, OnOk};
+ghost use Rattle.std.specs.List.{list_any};
 ghost use Rattle.rail_outside.specs.Lines.{lines_of};
 ghost use Rattle.rail_base.specs.declared.plan.Violation.TheVariants as violation;
 ghost use Rattle.cone_words.specs.Cones.{followed_text, opening_line, holder_text, train_text, pair_text};
 ghost use Rattle.cone_words.specs.Cones.{parts_sentences, missed_text, by_horizon_text, failure_text, cone_sentences};
-ghost use Rattle.cone_words.specs.Cones.{trains_sentences, pairs_sentences, within_text, ungranted_text};
+ghost use Rattle.cone_words.specs.Cones.{train_sentences, trains_sentences, pairs_sentences, order_sentences};
+ghost use Rattle.cone_words.specs.Phrases.{sentence};
+ghost use Rattle.cone_words.specs.Cones.{end_sentences, end_text, others_sentences, goes_no_further, is_of_path, is_granted_some};
+ghost use Rattle.cone_words.specs.Cones.{within_text, ungranted_text};
 ghost use Rattle.rail_text.specs.Added.{AddsLines, AddsText};
 ghost use Rattle.interlocking.specs.Plans.{on};
 
 use crate::entries::{order_of, within_of};
-use crate::phrases::{most_ticks, put_makes, put_nodes, put_path, put_shared, put_ticks};
+use crate::phrases::{most_ticks, put_makes, put_nodes, put_shared};
+use crate::routes::{put_path, put_route};
 use crate::sentences::push_sentence;
+use crate::times::{put_tick, put_ticks};
 use cone_spec::{Cone, ConeTrain};
 use interlocking::Interlocking;
 use rail_base::design::Design;
@@ -21,7 +27,7 @@ use rail_base::station::TrainNo;
 use rail_text::put_number;
 use std::alloc::{AllocError, Global};
 
-/// Appends what is so in a cone: its trains, and then its pairs.
+/// Appends what is so in a cone: its trains, and then in which order commands are.
 pub fn push_parts(
     alloc: Global,
     interlocking: &Interlocking,
@@ -33,12 +39,13 @@ pub fn push_parts(
 {
     push_trains(
         alloc,
-        &interlocking.design,
+        interlocking,
         line,
+        cone,
         cone.trains.as_slice(),
         lines,
     )?;
-    push_pairs(alloc, interlocking, line, cone.pairs.as_slice(), lines)?;
+    push_order(alloc, interlocking, line, cone, lines)?;
     Ok(())
 }
 
@@ -50,7 +57,7 @@ pub fn push_opening(alloc: Global, line: u64, lines: &mut Vec<Vec<u8>>) -> Resul
         alloc,
         lines,
         line,
-        b"no plan that meets the design is one in which this is so:",
+        b"no plan in which this is so meets the design:",
     )
 }
 
@@ -74,45 +81,54 @@ pub fn push_cone(
 /// Appends what holds up the first command that waits.
 fn put_holder(
     text: &mut Vec<u8>,
-    design: &Design,
+    interlocking: &Interlocking,
     holder: Option<Command>,
 ) -> Result<(), AllocError>
-    ensures { OnOk result (text.new.items ≡ text.old.items ++ holder_text design.now.station holder) }
+    ensures { OnOk result (AddsText text.old text.new (on interlocking.now holder_text holder)) }
 {
     match holder {
         None => Ok(()),
         Some(command) => {
             text.extend_from_slice(b", and the next one waits for ")?;
-            text.extend_from_slice(train_name(design, command.train))?;
+            text.extend_from_slice(train_name(&interlocking.design, command.train))?;
             text.extend_from_slice(b" to leave route ")?;
-            put_number(text, u64::from(command.route.0))?;
+            put_route(text, interlocking, command.route)?;
             Ok(())
         }
     }
 }
 
 /// Appends a train's name, up to which tick it is followed, and its path.
-fn put_followed(text: &mut Vec<u8>, design: &Design, train: &ConeTrain) -> Result<(), AllocError>
-    ensures { OnOk result (text.new.items ≡ text.old.items ++ followed_text design.now.station train.now) }
+fn put_followed(
+    text: &mut Vec<u8>,
+    interlocking: &Interlocking,
+    train: &ConeTrain,
+) -> Result<(), AllocError>
+    ensures { OnOk result (AddsText text.old text.new (on interlocking.now followed_text train.now)) }
 {
+    let design = &interlocking.design;
     text.extend_from_slice(train_name(design, train.train))?;
-    text.extend_from_slice(b" is followed up to tick ")?;
-    put_number(text, train.horizon)?;
+    text.extend_from_slice(b" is followed up to ")?;
+    put_tick(text, design, train.horizon)?;
     text.extend_from_slice(b" over ")?;
-    put_path(text, train.path.as_slice())?;
+    put_path(text, interlocking, train.path.as_slice())?;
     Ok(())
 }
 
 /// What a cone says of a train.
-fn train_text(alloc: Global, design: &Design, train: &ConeTrain) -> Result<Vec<u8>, AllocError>
-    ensures { IfOk result (λ text. text.items ≡ train_text design.now.station train.now) }
+fn train_text(
+    alloc: Global,
+    interlocking: &Interlocking,
+    train: &ConeTrain,
+) -> Result<Vec<u8>, AllocError>
+    ensures { IfOk result (λ text. text.items ≡ on interlocking.now train_text train.now) }
 {
     let mut text = Vec::new(alloc);
-    put_followed(&mut text, design, train)?;
+    put_followed(&mut text, interlocking, train)?;
     text.extend_from_slice(b"; by then it is granted ")?;
     put_number(&mut text, u64::from(train.free))?;
     text.extend_from_slice(b" of them")?;
-    put_holder(&mut text, design, train.holder)?;
+    put_holder(&mut text, interlocking, train.holder)?;
     Ok(text)
 }
 
@@ -128,11 +144,11 @@ fn pair_text(
     let design = &interlocking.design;
     let mut text = Vec::from_slice(alloc, train_name(design, second.train))?;
     text.extend_from_slice(b" is granted route ")?;
-    put_number(&mut text, u64::from(second.route.0))?;
+    put_route(&mut text, interlocking, second.route)?;
     text.extend_from_slice(b" only after ")?;
     text.extend_from_slice(train_name(design, first.train))?;
     text.extend_from_slice(b", by route ")?;
-    put_number(&mut text, u64::from(first.route.0))?;
+    put_route(&mut text, interlocking, first.route)?;
     text.extend_from_slice(b", has left ")?;
     put_shared(
         alloc,
@@ -145,20 +161,142 @@ fn pair_text(
     Ok(text)
 }
 
-/// Appends the trains of a cone.
-fn push_trains(
+/// Whether the violation is that the path misses a visit.
+fn is_of_path(violation: Violation) -> bool
+    ensures { result ≡ is_of_path violation }
+{
+    match violation {
+        Violation::Path { .. } => true,
+        Violation::Within { .. }
+        | Violation::Order { .. }
+        | Violation::Grant { .. }
+        | Violation::Visit { .. } => false,
+    }
+}
+
+/// Whether a cone says that one of its trains goes no further.
+fn goes_no_further(cone: &Cone, train: &ConeTrain) -> bool
+    ensures { result ≡ goes_no_further cone.now train.now }
+{
+    train.path.len() <= train.free as usize || is_of_path(cone.violation)
+}
+
+/// That a train goes no further.
+fn end_text(alloc: Global, design: &Design, train: TrainNo) -> Result<Vec<u8>, AllocError>
+    ensures { IfOk result (λ text. text.items ≡ end_text design.now.station train) }
+{
+    let mut text = Vec::from_slice(alloc, train_name(design, train))?;
+    text.extend_from_slice(b" goes no further")?;
+    Ok(text)
+}
+
+/// Appends that a train goes no further.
+fn push_ending(
     alloc: Global,
     design: &Design,
     line: u64,
+    train: TrainNo,
+    lines: &mut Vec<Vec<u8>>,
+) -> Result<(), AllocError>
+    ensures { OnOk result (AddsLines lines.old lines.new (sentence line (end_text design.now.station train) ∷ [])) }
+{
+    let text = end_text(alloc, design, train)?;
+    push_sentence(alloc, lines, line, &text)?;
+    Ok(())
+}
+
+/// Appends that a train of a cone goes no further, where the cone says so.
+fn push_end(
+    alloc: Global,
+    design: &Design,
+    line: u64,
+    cone: &Cone,
+    train: &ConeTrain,
+    lines: &mut Vec<Vec<u8>>,
+) -> Result<(), AllocError>
+    ensures { OnOk result (AddsLines lines.old lines.new (end_sentences design.now.station line cone.now train.now)) }
+{
+    if !goes_no_further(cone, train) {
+        return Ok(());
+    }
+    push_ending(alloc, design, line, train.train, lines)
+}
+
+/// Appends what a cone says of one of its trains.
+fn push_train(
+    alloc: Global,
+    interlocking: &Interlocking,
+    line: u64,
+    cone: &Cone,
+    train: &ConeTrain,
+    lines: &mut Vec<Vec<u8>>,
+) -> Result<(), AllocError>
+    ensures { OnOk result (AddsLines lines.old lines.new
+        (on interlocking.now train_sentences line cone.now train.now)) }
+{
+    let text = train_text(alloc, interlocking, train)?;
+    push_sentence(alloc, lines, line, &text)?;
+    push_end(alloc, &interlocking.design, line, cone, train, lines)?;
+    Ok(())
+}
+
+/// Appends what a cone says of these of its trains.
+fn push_trains(
+    alloc: Global,
+    interlocking: &Interlocking,
+    line: u64,
+    cone: &Cone,
     trains: &[ConeTrain],
     lines: &mut Vec<Vec<u8>>,
 ) -> Result<(), AllocError>
-    ensures { OnOk result (AddsLines lines.old lines.new (trains_sentences design.now.station line trains.now)) }
+    ensures { OnOk result (AddsLines lines.old lines.new
+        (on interlocking.now trains_sentences line cone.now trains.now)) }
 {
     for train in trains {
-        let text = train_text(alloc, design, train)?;
-        push_sentence(alloc, lines, line, &text)?;
+        push_train(alloc, interlocking, line, cone, train, lines)?;
     }
+    Ok(())
+}
+
+/// Whether a command of one of these trains is granted.
+fn are_granted_some(trains: &[ConeTrain]) -> bool
+    ensures { result ≡ list_any is_granted_some trains.now }
+{
+    trains.iter().any(|train| 1 <= train.free)
+}
+
+/// Appends what a cone says of all other commands, where it has granted ones.
+fn push_others(
+    alloc: Global,
+    line: u64,
+    cone: &Cone,
+    lines: &mut Vec<Vec<u8>>,
+) -> Result<(), AllocError>
+    ensures { OnOk result (AddsLines lines.old lines.new (others_sentences line cone.now)) }
+{
+    if !are_granted_some(cone.trains.as_slice()) {
+        return Ok(());
+    }
+    push_sentence(
+        alloc,
+        lines,
+        line,
+        b"of all other routes that share a section with one granted here, none goes before it but where this is said",
+    )
+}
+
+/// Appends in which order a cone says that commands are.
+fn push_order(
+    alloc: Global,
+    interlocking: &Interlocking,
+    line: u64,
+    cone: &Cone,
+    lines: &mut Vec<Vec<u8>>,
+) -> Result<(), AllocError>
+    ensures { OnOk result (AddsLines lines.old lines.new (on interlocking.now order_sentences line cone.now)) }
+{
+    push_pairs(alloc, interlocking, line, cone.pairs.as_slice(), lines)?;
+    push_others(alloc, line, cone, lines)?;
     Ok(())
 }
 
@@ -200,8 +338,8 @@ fn put_missed(
 fn put_by_horizon(text: &mut Vec<u8>, design: &Design) -> Result<(), AllocError>
     ensures { OnOk result (text.new.items ≡ text.old.items ++ by_horizon_text design.now.station) }
 {
-    text.extend_from_slice(b", by tick ")?;
-    put_number(text, design.horizon())?;
+    text.extend_from_slice(b", by ")?;
+    put_tick(text, design, design.horizon())?;
     text.extend_from_slice(b", the horizon")?;
     Ok(())
 }
@@ -218,7 +356,7 @@ fn put_within(
     let within = within_of(design, number);
     put_missed(text, design, within.to_train, within.to_visit)?;
     text.extend_from_slice(b", within ")?;
-    put_ticks(text, most_ticks(design, &within))?;
+    put_ticks(text, design, most_ticks(design, &within))?;
     text.extend_from_slice(b" after ")?;
     put_makes(text, design, within.from_train, within.from_visit)?;
     text.extend_from_slice(b", as within ")?;
@@ -270,10 +408,7 @@ fn put_failure(
 {
     let design = &interlocking.design;
     match violation {
-        Violation::Path { train, visit } => {
-            put_missed(text, design, train, visit)?;
-            text.extend_from_slice(b", if it goes no further")
-        }
+        Violation::Path { train, visit } => put_missed(text, design, train, visit),
         Violation::Within { within } => put_within(text, interlocking, within),
         Violation::Order { order } => put_order(text, design, order),
         Violation::Grant { train, command } => put_ungranted(text, design, train, command),

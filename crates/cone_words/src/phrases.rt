@@ -1,11 +1,10 @@
-//! Phrases that sentences are made of. An error is want of memory.
+//! Phrases that sentences are made of. An error is want of memory; then a part of what is appended may stand there.
 
-ghost use Rattle.std.specs.Prelude.{◌≡◌, ◌++◌, ◌==◌, IfOk, OnOk};
+ghost use Rattle.std.specs.Prelude.{◌≡◌, ◌++◌, IfOk, OnOk};
 ghost use Rattle.rail_base.specs.Routes.{route_at, shared};
 ghost use Rattle.rail_spec.specs.Requirements.{most_ticks};
 ghost use Rattle.rail_base.specs.Names.{node_name, section_name};
 ghost use Rattle.cone_words.specs.Names.{makes_text, nodes_text};
-ghost use Rattle.cone_words.specs.Phrases.{each_after, joined, ticks_text, route_number, any_route_text, path_text};
 ghost use Rattle.cone_words.specs.Phrases.{each_node, joined_nodes, each_section};
 ghost use Rattle.cone_words.specs.Cones.{sections_text, shared_text};
 ghost use Rattle.rail_text.specs.Added.{AddsText};
@@ -23,34 +22,6 @@ pub fn most_ticks(design: &Design, within: &Within) -> u64
     ensures { result ≡ most_ticks design.now.station within.now }
 {
     u64::from(within.max_ms / design.station.tick_ms)
-}
-
-/// Appends a number of ticks.
-pub fn put_ticks(text: &mut Vec<u8>, ticks: u64) -> Result<(), AllocError>
-    ensures { OnOk result (text.new.items ≡ text.old.items ++ ticks_text ticks) }
-{
-    put_number(text, ticks)?;
-    if ticks == 1 {
-        text.extend_from_slice(b" tick")
-    } else {
-        text.extend_from_slice(b" ticks")
-    }
-}
-
-/// Appends routes, of which any may be the one.
-pub fn put_any_route(text: &mut Vec<u8>, routes: &[RouteNo]) -> Result<(), AllocError>
-    ensures { OnOk result (text.new.items ≡ text.old.items ++ any_route_text routes.now) }
-{
-    text.extend_from_slice(b"route ")?;
-    put_joined(text, b" or ", routes)
-}
-
-/// Appends routes in a row.
-pub fn put_path(text: &mut Vec<u8>, routes: &[RouteNo]) -> Result<(), AllocError>
-    ensures { OnOk result (text.new.items ≡ text.old.items ++ path_text routes.now) }
-{
-    text.extend_from_slice(b"route ")?;
-    put_joined(text, b", route ", routes)
 }
 
 /// Appends `<train> makes visit <k>`.
@@ -94,30 +65,6 @@ pub fn put_shared(
 {
     let found = shared_sections(alloc, routes, route, other)?;
     put_sections(text, design, &found)
-}
-
-/// Appends the words and a route, for each of these.
-fn put_each_route(text: &mut Vec<u8>, between: &[u8], routes: &[RouteNo]) -> Result<(), AllocError>
-    ensures { OnOk result (text.new.items ≡ text.old.items ++ each_after between.now route_number routes.now) }
-{
-    for route in routes {
-        text.extend_from_slice(between)?;
-        put_number(text, u64::from(route.0))?;
-    }
-    Ok(())
-}
-
-/// Appends routes, with the words between each and the next.
-fn put_joined(text: &mut Vec<u8>, between: &[u8], routes: &[RouteNo]) -> Result<(), AllocError>
-    ensures { OnOk result (text.new.items ≡ text.old.items ++ joined between.now route_number routes.now) }
-{
-    match routes {
-        [] => Ok(()),
-        [first, rest @ ..] => {
-            put_number(text, u64::from(first.0))?;
-            put_each_route(text, between, rest)
-        }
-    }
 }
 
 /// Appends ` or ` and a node, for each of these.

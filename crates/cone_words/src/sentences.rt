@@ -1,4 +1,4 @@
-//! Sentences about a line of a file. An error is want of memory.
+//! Sentences about a line of a file. An error is want of memory; then a part of what is appended may stand there.
 
 ghost use Rattle.std.specs.Prelude.{◌≡◌, ◌++◌, ◌∷◌, [], codes, decimal, IfOk, OnOk};
 ghost use Rattle.rail_outside.specs.Lines.{lines_of};

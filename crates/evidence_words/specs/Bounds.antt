@@ -20,7 +20,9 @@ use Rattle.bound_ticks.specs.Chains.{chain_of, leg_to_release}
 use Rattle.bound_ticks.specs.Walks.{first_routes}
 use Rattle.rail_base.specs.Names.{train_name}
 use Rattle.cone_words.specs.Names.{makes_text, nodes_text}
-use Rattle.cone_words.specs.Phrases.{joined, sentence, ticks_text, any_route_text}
+use Rattle.cone_words.specs.Phrases.{joined, sentence}
+use Rattle.cone_words.specs.Routes.{any_route_text, route_text}
+use Rattle.cone_words.specs.Times.{tick_text, ticks_text}
 use Rattle.cone_words.specs.Cones.{opening_line, parts_sentences, sections_text}
 
 -- ---- from when ticks are counted
@@ -63,9 +65,9 @@ origin_of_visit_text d v origin.Visit =
     codes "ticks are counted from when " ++ made_text d v
 origin_of_visit_text d v origin.Start = start_text
 origin_of_visit_text d v origin.FirstTick =
-    made_text d v ++ codes ", at tick 1, since it waits for no other train"
+    made_text d v ++ codes ", at " ++ tick_text d 1 ++ codes ", since it waits for no other train"
 origin_of_visit_text d v (origin.Cone k c) =
-    made_text d v ++ codes ", at tick " ++ decimal k ++ codes ", since:"
+    made_text d v ++ codes ", at " ++ tick_text d k ++ codes ", since:"
 
 abbrev pub origin_text : Station → Origin → Option VisitOf → List ℕ
 origin_text d o None = start_text
@@ -78,25 +80,25 @@ origin_parts d routes n origin.Start = []
 origin_parts d routes n origin.FirstTick = []
 origin_parts d routes n (origin.Cone k c) = parts_sentences d routes n c
 
--- `tick 7`, or `7 ticks after <train> makes visit 1`
+-- `tick 7 (7 s)`, or `7 ticks (7 s) after <train> makes visit 1`
 abbrev pub moment_text : Station → Option VisitOf → ℕ → List ℕ
-moment_text d None n = codes "tick " ++ decimal n
-moment_text d (Some v) n = ticks_text n ++ codes " after " ++ makes_text d v.train v.number
+moment_text d None n = tick_text d n
+moment_text d (Some v) n = ticks_text d n ++ codes " after " ++ makes_text d v.train v.number
 
 -- ---- legs
 
 -- `, since it does not use route 4 or 8`
-abbrev pub unused_text : List RouteNo → List ℕ
-unused_text [] = []
-unused_text (r ∷ rs) = codes ", since it does not use " ++ any_route_text (r ∷ rs)
+abbrev pub unused_text : Station → List Route → List RouteNo → List ℕ
+unused_text d routes [] = []
+unused_text d routes (r ∷ rs) = codes ", since it does not use " ++ any_route_text d routes (r ∷ rs)
 
 -- the routes of a place, of which the train uses one
-abbrev pub place_text : Place → List ℕ
-place_text p = any_route_text (routes_of_place p) ++ unused_text (kept_out p)
+abbrev pub place_text : Station → List Route → Place → List ℕ
+place_text d routes p = any_route_text d routes (routes_of_place p) ++ unused_text d routes (kept_out p)
 
 -- the train, and its places in order
-abbrev pub leg_text : Station → Leg → List ℕ
-leg_text d l = train_name d l.train ++ codes " takes " ++ joined (codes ", then ") place_text l.places
+abbrev pub leg_text : Station → List Route → Leg → List ℕ
+leg_text d routes l = train_name d l.train ++ codes " takes " ++ joined (codes ", then ") (place_text d routes) l.places
 
 -- the one of these, if there is just one
 abbrev pub only : List RouteNo → Option RouteNo
@@ -113,7 +115,7 @@ meeting_text d routes None q = codes "what the two routes share"
 -- the train of the first of these legs is not granted its first route before this moment: it waits for the leg before
 abbrev pub wait_text : Station → List Route → Option VisitOf → ℕ → Leg → List Leg → List ℕ
 wait_text d routes after tick l ls =
-    train_name d (first_leg ls).train ++ codes " cannot be granted " ++ any_route_text (first_routes ls)
+    train_name d (first_leg ls).train ++ codes " cannot be granted " ++ any_route_text d routes (first_routes ls)
     ++ codes " before " ++ moment_text d after tick ++ codes ": it waits for " ++ train_name d l.train
     ++ codes " to leave "
     ++ meeting_text d routes (only (routes_of_place (last_of_leg l))) (only (first_routes ls))
@@ -126,9 +128,9 @@ module _ (d : Station) (routes : List Route) (h : ℕ) where
   -- each leg, and from when on the next one is granted its first route
   abbrev pub legs_sentences : ℕ → Option VisitOf → Option VisitOf → ℕ → List Leg → List (List ℕ)
   legs_sentences n after from tick [] = []
-  legs_sentences n after from tick (l ∷ []) = sentence n (leg_text d l) ∷ []
+  legs_sentences n after from tick (l ∷ []) = sentence n (leg_text d routes l) ∷ []
   legs_sentences n after from tick (l ∷ m ∷ ls) =
-      sentence n (leg_text d l)
+      sentence n (leg_text d routes l)
       ∷ sentence n (wait_text d routes after (next_tick from tick l (m ∷ ls)) l (m ∷ ls))
       ∷ legs_sentences n after None (next_tick from tick l (m ∷ ls)) (m ∷ ls)
 
@@ -139,26 +141,26 @@ abbrev pub arrives_text : Station → Option VisitOf → ℕ → TrainNo → ℕ
 arrives_text d after tick t k =
     codes "so " ++ makes_text d t k ++ nodes_text d t k ++ codes ", no earlier than " ++ moment_text d after tick
 
--- ` after tick 40`, where ticks are those of the run
-abbrev pub since_text : Option VisitOf → ℕ → List ℕ
-since_text None k = codes " after tick " ++ decimal k
-since_text (Some v) k = []
+-- ` after tick 40 (40 s)`, where ticks are those of the run
+abbrev pub since_text : Station → Option VisitOf → ℕ → List ℕ
+since_text d None k = codes " after " ++ tick_text d k
+since_text d (Some v) k = []
 
 -- the horizon
 abbrev pub horizon_text : Station → List ℕ
-horizon_text d = codes "; the horizon is tick " ++ decimal (horizon d)
+horizon_text d = codes "; the horizon is " ++ tick_text d (horizon d)
 
 -- when the legs are through, and what is asked for; k is the tick of the visit from which it is asked for, where that is known
-abbrev pub end_text : Station → Option VisitOf → ℕ → ℕ → Requirement → List ℕ
-end_text d after k tick (requirement.Within w) = let within = within_of d w in
+abbrev pub end_text : Station → List Route → Option VisitOf → ℕ → ℕ → Requirement → List ℕ
+end_text d routes after k tick (requirement.Within w) = let within = within_of d w in
     arrives_text d after tick within.to_train within.to_visit ++ codes "; within " ++ decimal w ++ codes " allows "
-    ++ ticks_text (most_ticks d within) ++ since_text after k
-end_text d after k tick (requirement.Order o) = let order = order_of d o in
+    ++ ticks_text d (most_ticks d within) ++ since_text d after k
+end_text d routes after k tick (requirement.Order o) = let order = order_of d o in
     arrives_text d after tick order.first_train order.first_visit ++ codes "; order " ++ decimal o
     ++ codes " asks for it before " ++ makes_text d order.then_train order.then_visit
-end_text d after k tick (requirement.Visit t v) = arrives_text d after tick t v ++ horizon_text d
-end_text d after k tick (requirement.Grant c) =
-    codes "so " ++ train_name d c.train ++ codes " cannot be granted route " ++ decimal c.route.0 ++ codes " before "
+end_text d routes after k tick (requirement.Visit t v) = arrives_text d after tick t v ++ horizon_text d
+end_text d routes after k tick (requirement.Grant c) =
+    codes "so " ++ train_name d c.train ++ codes " cannot be granted route " ++ route_text d routes c.route ++ codes " before "
     ++ moment_text d after tick ++ horizon_text d
 
 -- ---- the whole
@@ -184,4 +186,4 @@ module _ (d : Station) (routes : List Route) (b : Bound) where
   bound_sentences n =
       opening_line n ∷ sentence n (origin_text d b.origin (visit_from d b.requirement))
       ∷ (origin_parts d routes n b.origin ++ chain_sentences n
-      ++ sentence n (end_text d after_of (origin_tick b.origin) end_tick b.requirement) ∷ [])
+      ++ sentence n (end_text d routes after_of (origin_tick b.origin) end_tick b.requirement) ∷ [])

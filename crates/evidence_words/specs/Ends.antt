@@ -34,7 +34,7 @@ module _ (c : Chain) where
 
   -- the sentence of a leg
   abbrev pub said_of_leg : Leg → List ℕ
-  said_of_leg leg = sentence c.line (leg_text c.interlocking.now.design.station leg)
+  said_of_leg leg = sentence c.line (on c.interlocking.now leg_text leg)
 
   -- what the leg after it waits for
   abbrev pub said_of_wait : ℕ → Leg → List Leg → List ℕ
@@ -52,11 +52,11 @@ module _ (e : End) where
   -- when the legs are through, and what is asked for
   abbrev pub said_of_end : Requirement → List ℕ
   said_of_end requirement =
-      end_text e.interlocking.now.design.station (origin_of e.after) e.origin_tick e.tick requirement
+      on e.interlocking.now end_text (origin_of e.after) e.origin_tick e.tick requirement
 
   -- from when ticks are those of the run
   abbrev pub said_since : List ℕ
-  said_since = since_text (origin_of e.after) e.origin_tick
+  said_since = since_text e.interlocking.now.design.station (origin_of e.after) e.origin_tick
 
 -- from when a visit's ticks are counted
 abbrev pub visit_origin_text : Station → Visit → Origin → List ℕ

@@ -3,3 +3,4 @@ pub mod Bounds
 pub mod Sentences
 pub mod Laws
 pub mod Ends
+pub mod So

@@ -1,4 +1,4 @@
-//! The sentences about a bound. An error is want of memory.
+//! The sentences about a bound. An error is want of memory; then a part of what is appended may stand there.
 
 ghost use Rattle.std.specs.Prelude.{◌≡◌, ◌≤◌, ◌++◌, ◌∷◌, [], true, All, IfOk, OnOk};
 ghost use Rattle.std.specs.Option.{ForSome};
@@ -21,8 +21,8 @@ use crate::legs::{Chain, put_moment};
 use bound_spec::{Bound, Leg, Origin, Requirement};
 use bound_ticks::{stretches_of, ticks_followed, visit_from, visit_to};
 use cone_words::{
-    most_ticks, order_of, push_opening, push_parts, push_sentence, put_makes, put_nodes, put_ticks,
-    within_of,
+    most_ticks, order_of, push_opening, push_parts, push_sentence, put_makes, put_nodes, put_route,
+    put_tick, put_ticks, within_of,
 };
 use interlocking::Interlocking;
 use leg_targets::Visit;
@@ -92,13 +92,15 @@ fn put_origin_of_visit(
         Origin::Start => put_start(text),
         Origin::FirstTick => {
             put_made(text, design, visit)?;
-            text.extend_from_slice(b", at tick 1, since it waits for no other train")?;
+            text.extend_from_slice(b", at ")?;
+            put_tick(text, design, 1)?;
+            text.extend_from_slice(b", since it waits for no other train")?;
             Ok(())
         }
         Origin::Cone { tick, .. } => {
             put_made(text, design, visit)?;
-            text.extend_from_slice(b", at tick ")?;
-            put_number(text, *tick)?;
+            text.extend_from_slice(b", at ")?;
+            put_tick(text, design, *tick)?;
             text.extend_from_slice(b", since:")?;
             Ok(())
         }
@@ -219,8 +221,8 @@ impl End<'_> {
     {
         match self.after {
             None => {
-                text.extend_from_slice(b" after tick ")?;
-                put_number(text, self.origin_tick)?;
+                text.extend_from_slice(b" after ")?;
+                put_tick(text, &self.interlocking.design, self.origin_tick)?;
                 Ok(())
             }
             Some(_) => Ok(()),
@@ -231,8 +233,9 @@ impl End<'_> {
     fn put_horizon(&self, text: &mut Vec<u8>) -> Result<(), AllocError>
         ensures { OnOk result (AddsText text.old text.new (horizon_text self.now.interlocking.now.design.station)) }
     {
-        text.extend_from_slice(b"; the horizon is tick ")?;
-        put_number(text, self.interlocking.design.horizon())?;
+        let design = &self.interlocking.design;
+        text.extend_from_slice(b"; the horizon is ")?;
+        put_tick(text, design, design.horizon())?;
         Ok(())
     }
 
@@ -245,7 +248,8 @@ impl End<'_> {
         text.extend_from_slice(b"; within ")?;
         put_number(text, u64::from(number))?;
         text.extend_from_slice(b" allows ")?;
-        put_ticks(text, most_ticks(&self.interlocking.design, &within))?;
+        let design = &self.interlocking.design;
+        put_ticks(text, design, most_ticks(design, &within))?;
         self.put_since(text)?;
         Ok(())
     }
@@ -276,7 +280,7 @@ impl End<'_> {
         text.extend_from_slice(b"so ")?;
         text.extend_from_slice(train_name(design, command.train))?;
         text.extend_from_slice(b" cannot be granted route ")?;
-        put_number(text, u64::from(command.route.0))?;
+        put_route(text, self.interlocking, command.route)?;
         text.extend_from_slice(b" before ")?;
         put_moment(text, design, self.after, self.tick)?;
         self.put_horizon(text)?;

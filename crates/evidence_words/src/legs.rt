@@ -1,4 +1,5 @@
-//! The sentences about the legs of a bound, one after the other. An error is want of memory.
+//! The sentences about the legs of a bound, one after the other. An error is want of memory; then a part of what is appended may
+//! stand there.
 
 ghost use Rattle.std.specs.Prelude.{◌≡◌, ◌≤◌, ◌+◌, ◌++◌, All, IfOk, OnOk};
 ghost use Rattle.std.specs.Option.{ForSome};
@@ -10,12 +11,11 @@ ghost use Rattle.rail_text.specs.Added.{AddsLines};
 use crate::places::{leg_text, put_meeting};
 use bound_spec::{Leg, first_train, last_routes};
 use bound_ticks::{Ride, first_routes};
-use cone_words::{push_sentence, put_any_route, put_makes, put_ticks};
+use cone_words::{push_sentence, put_any_route, put_makes, put_tick, put_ticks};
 use interlocking::Interlocking;
 use leg_targets::Visit;
 use rail_base::design::Design;
 use rail_base::names::train_name;
-use rail_text::put_number;
 use std::alloc::{AllocError, Global};
 
 /// Appends a tick of the run, or so many ticks after a visit.
@@ -29,12 +29,9 @@ pub fn put_moment(
         ≡ text.old.items ++ moment_text design.now.station (origin_of after) tick) }
 {
     match after {
-        None => {
-            text.extend_from_slice(b"tick ")?;
-            put_number(text, tick)
-        }
+        None => put_tick(text, design, tick),
         Some(visit) => {
-            put_ticks(text, tick)?;
+            put_ticks(text, design, tick)?;
             text.extend_from_slice(b" after ")?;
             put_makes(text, design, visit.train, visit.number)?;
             Ok(())
@@ -115,7 +112,7 @@ impl Chain<'_> {
         let first = first_routes(rest);
         let mut text = Vec::from_slice(alloc, train_name(design, first_train(rest)))?;
         text.extend_from_slice(b" cannot be granted ")?;
-        put_any_route(&mut text, first)?;
+        put_any_route(&mut text, self.interlocking, first)?;
         text.extend_from_slice(b" before ")?;
         put_moment(&mut text, design, self.after, tick)?;
         text.extend_from_slice(b": it waits for ")?;
@@ -147,7 +144,7 @@ impl Chain<'_> {
     fn push_leg(&self, alloc: Global, leg: &Leg, lines: &mut Vec<Vec<u8>>) -> Result<(), AllocError>
         ensures { OnOk result (AddsLines lines.old lines.new (said_of_leg self.now leg.now ∷ [])) }
     {
-        let text = leg_text(alloc, &self.interlocking.design, leg)?;
+        let text = leg_text(alloc, self.interlocking, leg)?;
         push_sentence(alloc, lines, self.line, &text)
     }
 

@@ -1,27 +1,31 @@
-//! The sentences about the places of legs. An error is want of memory.
+//! The sentences about the places of legs. An error is want of memory; then a part of what is appended may stand there.
 
-ghost use Rattle.std.specs.Prelude.{◌≡◌, ◌++◌, codes, IfOk, OnOk};
+ghost use Rattle.std.specs.Prelude.{◌≡◌, codes, IfOk, OnOk};
 ghost use Rattle.bound_spec.specs.Certificates.{kept_out};
 ghost use Rattle.cone_words.specs.Phrases.{each_after, joined};
 ghost use Rattle.evidence_words.specs.Bounds.{leg_text, only, place_text, unused_text};
 ghost use Rattle.rail_text.specs.Added.{AddsText};
 ghost use Rattle.evidence_words.specs.Ends.{said_of_meeting};
+ghost use Rattle.interlocking.specs.Plans.{on};
 
 use bound_spec::{Leg, Place, routes_of};
 use cone_words::{put_any_route, put_shared};
 use interlocking::Interlocking;
-use rail_base::design::Design;
 use rail_base::names::train_name;
 use rail_base::route::RouteNo;
 use std::alloc::{AllocError, Global};
 
 /// A leg: its train, and its places.
-pub fn leg_text(alloc: Global, design: &Design, leg: &Leg) -> Result<Vec<u8>, AllocError>
-    ensures { IfOk result (λ text. text.items ≡ leg_text design.now.station leg.now) }
+pub fn leg_text(
+    alloc: Global,
+    interlocking: &Interlocking,
+    leg: &Leg,
+) -> Result<Vec<u8>, AllocError>
+    ensures { IfOk result (λ text. text.items ≡ on interlocking.now leg_text leg.now) }
 {
-    let mut text = Vec::from_slice(alloc, train_name(design, leg.train))?;
+    let mut text = Vec::from_slice(alloc, train_name(&interlocking.design, leg.train))?;
     text.extend_from_slice(b" takes ")?;
-    put_places(&mut text, leg.places.as_slice())?;
+    put_places(&mut text, interlocking, leg.places.as_slice())?;
     Ok(text)
 }
 
@@ -62,46 +66,65 @@ fn kept_out(place: &Place) -> &[RouteNo]
 }
 
 /// Appends that the train uses none of these routes.
-fn put_unused(text: &mut Vec<u8>, routes: &[RouteNo]) -> Result<(), AllocError>
-    ensures { OnOk result (text.new.items ≡ text.old.items ++ unused_text routes.now) }
+fn put_unused(
+    text: &mut Vec<u8>,
+    interlocking: &Interlocking,
+    routes: &[RouteNo],
+) -> Result<(), AllocError>
+    ensures { OnOk result (AddsText text.old text.new (on interlocking.now unused_text routes.now)) }
 {
     match routes {
         [] => Ok(()),
         [_, ..] => {
             text.extend_from_slice(b", since it does not use ")?;
-            put_any_route(text, routes)
+            put_any_route(text, interlocking, routes)?;
+            Ok(())
         }
     }
 }
 
 /// Appends a place.
-fn put_place(text: &mut Vec<u8>, place: &Place) -> Result<(), AllocError>
-    ensures { OnOk result (text.new.items ≡ text.old.items ++ place_text place.now) }
+fn put_place(
+    text: &mut Vec<u8>,
+    interlocking: &Interlocking,
+    place: &Place,
+) -> Result<(), AllocError>
+    ensures { OnOk result (AddsText text.old text.new (on interlocking.now place_text place.now)) }
 {
-    put_any_route(text, routes_of(place))?;
-    put_unused(text, kept_out(place))
+    put_any_route(text, interlocking, routes_of(place))?;
+    put_unused(text, interlocking, kept_out(place))
 }
 
 /// Appends `, then ` and a place, for each of these.
-fn put_each_place(text: &mut Vec<u8>, places: &[Place]) -> Result<(), AllocError>
-    ensures { OnOk result (text.new.items ≡ text.old.items ++ each_after (codes ", then ") place_text places.now) }
+fn put_each_place(
+    text: &mut Vec<u8>,
+    interlocking: &Interlocking,
+    places: &[Place],
+) -> Result<(), AllocError>
+    ensures { OnOk result (AddsText text.old text.new
+        (each_after (codes ", then ") (on interlocking.now place_text) places.now)) }
 {
     for place in places {
         text.extend_from_slice(b", then ")?;
-        put_place(text, place)?;
+        put_place(text, interlocking, place)?;
     }
     Ok(())
 }
 
 /// Appends places in a row.
-fn put_places(text: &mut Vec<u8>, places: &[Place]) -> Result<(), AllocError>
-    ensures { OnOk result (text.new.items ≡ text.old.items ++ joined (codes ", then ") place_text places.now) }
+fn put_places(
+    text: &mut Vec<u8>,
+    interlocking: &Interlocking,
+    places: &[Place],
+) -> Result<(), AllocError>
+    ensures { OnOk result (AddsText text.old text.new
+        (joined (codes ", then ") (on interlocking.now place_text) places.now)) }
 {
     match places {
         [] => Ok(()),
         [first, rest @ ..] => {
-            put_place(text, first)?;
-            put_each_place(text, rest)
+            put_place(text, interlocking, first)?;
+            put_each_place(text, interlocking, rest)
         }
     }
 }

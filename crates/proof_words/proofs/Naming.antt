@@ -27,8 +27,15 @@ use Rattle.proof_log.specs.declared.line.Line.{Line}
 use Rattle.proof_log.specs.declared.line.Line.TheVariants.{Derive, Refute, Forget}
 use Rattle.proof_log.specs.Lines.{line_in_bytes}
 use Rattle.proof_judge.specs.Judged.{all_live, clauses_under, judged, judged_by, judged_under, refuted, unless}
+use Rattle.cone_clause.specs.Numbered.{numbered_clause}
+use Rattle.cone_spec.specs.declared.ConeFault.{ConeFault}
+use Rattle.cone_spec.specs.Validity as cone
 use Rattle.evidence_words.specs.Sentences.{names_what_is_there}
+use Rattle.evidence_words.specs.So.{is_valid}
+use Rattle.evidence_words.proofs.So.{sentences_deny as deny}
+use Rattle.proof_words.specs.Denied.{IsExplained, SentencesOfProofsDeny}
 use Rattle.proof_words.specs.Named.{IsNamedPiece, names_line}
+use Rattle.proof_words.proofs.Pieces.{in_all}
 
 -- ---- what shows a clause names what is there
 
@@ -47,7 +54,21 @@ names_there d n (evidence.Bound b) clause h =
     let none = none_of (fault_of d (routes_of d) b) (numbered_bound d (routes_of d) n b) clause h in
     and_left (names_design d (routes_of d) b) (is_consistent d (routes_of d) b) (no_fault (in_design d (routes_of d) b) (covered d (routes_of d) b) (shows_failure d (routes_of d) b) none)
 
+-- ---- and is valid
+
+none_of_cone : (f : Option ConeFault) (made clause : List Lit) → unless of.Cone f made ≡ Ok clause → is_none f ≡ true
+none_of_cone None made clause h = refl
+none_of_cone (Some f) made clause h = absurd (cc)
+
+valid_there : (d : Station) (n : ℕ) (e : Evidence) (clause : List Lit) → refuted d n e ≡ Ok clause → is_valid d e ≡ true
+valid_there d n (evidence.Cone c) clause h = none_of_cone (cone.fault_of d (routes_of d) c) (numbered_clause d (routes_of d) n c) clause h
+valid_there d n (evidence.Bound b) clause h = none_of (fault_of d (routes_of d) b) (numbered_bound d (routes_of d) n b) clause h
+
 -- ---- the lines that are taken
+
+-- the piece shows the clause of its cone or bound
+abbrev pub ShowsClause : (Evidence → Result (List Lit) EvidenceFault) → Piece → Type 0
+ShowsClause refute piece = (e : Evidence) → line_in_bytes piece.bytes ≡ Some (Refute e) → (clause : List Lit) × (refute e ≡ Ok clause)
 
 module _ (head : Head) (refute : Evidence → Result (List Lit) EvidenceFault) (vars steps : ℕ) where
   -- a cone or a bound of a line that is taken shows a clause
@@ -64,31 +85,27 @@ module _ (head : Head) (refute : Evidence → Result (List Lit) EvidenceFault) (
       stands false ok = absurd (cc)
       stands true ok = by (refute e) refl ok
 
-  -- each piece shows the clause of its cone or bound
-  abbrev pub ShowsClause : Piece → Type 0
-  ShowsClause piece = (e : Evidence) → line_in_bytes piece.bytes ≡ Some (Refute e) → (clause : List Lit) × (refute e ≡ Ok clause)
-
-  piece_taken : (s t : SoFar) (piece : Piece) → taken head refute vars steps s (parsed head vars piece) ≡ Ok t → ShowsClause piece
+  piece_taken : (s t : SoFar) (piece : Piece) → taken head refute vars steps s (parsed head vars piece) ≡ Ok t → ShowsClause refute piece
   piece_taken s t piece ok e is = evidence_taken s t piece.ended (line_in_bytes piece.bytes) e is ok
 
-  all_before : (p : Piece) (ps : List Piece) → ShowsClause p → All ShowsClause ps → All ShowsClause (p ∷ ps)
+  all_before : (p : Piece) (ps : List Piece) → ShowsClause refute p → All (ShowsClause refute) ps → All (ShowsClause refute) (p ∷ ps)
   all_before p ps first more zero other less = first
   all_before p ps first more (suc i) other less = more i other (omega arith)
 
-  pub all_taken : (here k : ℕ) (s : SoFar) (ps : List Piece) → result_from head refute vars steps here s ps ≡ Yes k → All ShowsClause ps
+  pub all_taken : (here k : ℕ) (s : SoFar) (ps : List Piece) → result_from head refute vars steps here s ps ≡ Yes k → All (ShowsClause refute) ps
   all_taken here k s [] found = λ i other less. absurd (omega arith)
   all_taken here k s (p ∷ ps) found = next (taken head refute vars steps s (parsed head vars p)) refl found (λ t later. all_taken (here + 1) k t ps later)
     where
       next : (r : Result SoFar Reason) → taken head refute vars steps s (parsed head vars p) ≡ r → after_line here r (λ t. result_from head refute vars steps (here + 1) t ps) ≡ Yes k
-          → ((t : SoFar) → result_from head refute vars steps (here + 1) t ps ≡ Yes k → All ShowsClause ps) → All ShowsClause (p ∷ ps)
+          → ((t : SoFar) → result_from head refute vars steps (here + 1) t ps ≡ Yes k → All (ShowsClause refute) ps) → All (ShowsClause refute) (p ∷ ps)
       next (Err reason) is found more = absurd (cc)
       next (Ok t) is found more = all_before p ps (piece_taken s t p is) (more t found)
 
-  pub all_shown : (k : ℕ) (base : Store) (ps : List Piece) → result_of head refute vars steps base ps ≡ Yes k → All ShowsClause (after_first ps)
+  pub all_shown : (k : ℕ) (base : Store) (ps : List Piece) → result_of head refute vars steps base ps ≡ Yes k → All (ShowsClause refute) (after_first ps)
   all_shown k base [] found = absurd (cc)
   all_shown k base (p ∷ ps) found = go (is_headed head p) found
     where
-      go : (b : Bool) → (if b then result_from head refute vars steps 2 (at_first base) ps else No 1 Text) ≡ Yes k → All ShowsClause ps
+      go : (b : Bool) → (if b then result_from head refute vars steps 2 (at_first base) ps else No 1 Text) ≡ Yes k → All (ShowsClause refute) ps
       go false found = absurd (cc)
       go true found = all_taken 2 k (at_first base) ps found
 
@@ -100,32 +117,46 @@ module _ (d : Station) (n : ℕ) where
   named_line (Refute e) h = h e refl
   named_line (Forget clauses) h = refl
 
-  piece_named : (head : Head) (vars : ℕ) (p : Piece) → ShowsClause head (refuted d n) vars n p → IsNamedPiece d p
-  piece_named head vars p shows line is = named_line line (λ e same. let c = shows e (is ∙ ap Some same) in names_there d n e c.0 c.1)
+  piece_named : (p : Piece) → ShowsClause (refuted d n) p → IsNamedPiece d p
+  piece_named p shows line is = named_line line (λ e same. let c = shows e (is ∙ ap Some same) in names_there d n e c.0 c.1)
 
-  under_named : (head : Head) (bytes : List ℕ) (k : ℕ) → judged_under head d n bytes ≡ Yes k → All (IsNamedPiece d) (after_first (pieces bytes))
-  under_named head bytes k found i other less =
-      let vars = variable_count d (routes_of d) n in
-      piece_named head vars (get_or (after_first (pieces bytes)) i other) (all_shown head (refuted d n) vars n k (all_live (clauses_under head d n)) (pieces bytes) found i other less)
+  -- all lines show their clauses
+  abbrev AllShow : List ℕ → Type 0
+  AllShow bytes = All (ShowsClause (refuted d n)) (after_first (pieces bytes))
 
-  by_named : (bytes : List ℕ) (head : Option Head) (k : ℕ) → judged_by d n bytes head ≡ Yes k → All (IsNamedPiece d) (after_first (pieces bytes))
-  by_named bytes None k found = under_named Plain bytes k found
-  by_named bytes (Some Plain) k found = under_named Plain bytes k found
-  by_named bytes (Some (Named version steps)) k found = differs (not (version == d.version && steps == n)) found
+  under_shown : (head : Head) (bytes : List ℕ) (k : ℕ) → judged_under head d n bytes ≡ Yes k → AllShow bytes
+  under_shown head bytes k found = all_shown head (refuted d n) (variable_count d (routes_of d) n) n k (all_live (clauses_under head d n)) (pieces bytes) found
+
+  by_shown : (bytes : List ℕ) (head : Option Head) (k : ℕ) → judged_by d n bytes head ≡ Yes k → AllShow bytes
+  by_shown bytes None k found = under_shown Plain bytes k found
+  by_shown bytes (Some Plain) k found = under_shown Plain bytes k found
+  by_shown bytes (Some (Named version steps)) k found = differs (not (version == d.version && steps == n)) found
     where
-      differs : (b : Bool) → (if b then No 1 HeadDiffers else judged_under (Named version steps) d n bytes) ≡ Yes k → All (IsNamedPiece d) (after_first (pieces bytes))
+      differs : (b : Bool) → (if b then No 1 HeadDiffers else judged_under (Named version steps) d n bytes) ≡ Yes k → AllShow bytes
       differs true found = absurd (cc)
-      differs false found = under_named (Named version steps) bytes k found
-  by_named bytes (Some (Sorted version steps)) k found = differs (not (version == d.version && steps == n)) found
+      differs false found = under_shown (Named version steps) bytes k found
+  by_shown bytes (Some (Sorted version steps)) k found = differs (not (version == d.version && steps == n)) found
     where
-      large : (b : Bool) → (if b then No 1 BaseTooLarge else judged_under (Sorted version steps) d n bytes) ≡ Yes k → All (IsNamedPiece d) (after_first (pieces bytes))
+      large : (b : Bool) → (if b then No 1 BaseTooLarge else judged_under (Sorted version steps) d n bytes) ≡ Yes k → AllShow bytes
       large true found = absurd (cc)
-      large false found = under_named (Sorted version steps) bytes k found
+      large false found = under_shown (Sorted version steps) bytes k found
 
-      differs : (b : Bool) → (if b then No 1 HeadDiffers else if is_some (past_limit 16000000 0 (clauses_under (Sorted version steps) d n)) then No 1 BaseTooLarge else judged_under (Sorted version steps) d n bytes) ≡ Yes k → All (IsNamedPiece d) (after_first (pieces bytes))
+      differs : (b : Bool) → (if b then No 1 HeadDiffers else if is_some (past_limit 16000000 0 (clauses_under (Sorted version steps) d n)) then No 1 BaseTooLarge else judged_under (Sorted version steps) d n bytes) ≡ Yes k → AllShow bytes
       differs true found = absurd (cc)
       differs false found = large (is_some (past_limit 16000000 0 (clauses_under (Sorted version steps) d n))) found
 
+  judged_shown : (bytes : List ℕ) (k : ℕ) → judged d n bytes ≡ Yes k → AllShow bytes
+  judged_shown bytes k found = by_shown bytes (head_in (pieces bytes)) k found
+
   -- where a file shows k, each cone and bound of its lines names what the design has
   pub judged_named : (bytes : List ℕ) (k : ℕ) → judged d n bytes ≡ Yes k → All (IsNamedPiece d) (after_first (pieces bytes))
-  judged_named bytes k found = by_named bytes (head_in (pieces bytes)) k found
+  judged_named bytes k found i other less = piece_named (get_or (after_first (pieces bytes)) i other) (judged_shown bytes k found i other less)
+
+  -- and is valid
+  pub judged_valid : (bytes : List ℕ) (k : ℕ) → judged d n bytes ≡ Yes k → (e : Evidence) → IsExplained bytes e → is_valid d e ≡ true
+  judged_valid bytes k found e is =
+      let shows = in_all (ShowsClause (refuted d n)) (after_first (pieces bytes)) (judged_shown bytes k found) is.piece is.there e is.spells in
+      valid_there d n e shows.0 shows.1
+
+pub proofs_deny : SentencesOfProofsDeny
+proofs_deny d admitted n k bytes found e is m plan so feasible = deny d admitted m plan feasible e (judged_valid d n bytes k found e is) so

@@ -3,6 +3,8 @@
 #![tactic(auto)]
 
 mod explaining;
+mod laws;
 mod meanings;
 
 pub use explaining::{Explained, explain};
+pub use laws::sentences_of_proofs_deny;

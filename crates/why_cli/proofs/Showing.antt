@@ -6,6 +6,8 @@ use Rattle.log_checker.specs.Verdict.{head_in}
 use Rattle.infra_reader.proofs.Reading.{spelled_admitted}
 use Rattle.proof_judge.specs.Judged.{judged}
 use Rattle.proof_judge.proofs.Sound.{yes_infeasible}
+use Rattle.proof_words.proofs.Naming.{proofs_deny}
+use Rattle.proof_words.specs.Denied.{EachLineDenies}
 use Rattle.proof_log.specs.declared.head.Head.{Head}
 use Rattle.proof_log.specs.declared.head.Head.TheVariants.{Plain, Named, Sorted}
 use Rattle.proof_words.specs.Meanings.{file_sentences}
@@ -142,10 +144,11 @@ module _ (files : Files) (words : List (List ℕ)) (t : Status) (text new_text :
         most = g.most;
         are_most = g.are_most;
         steps = p.steps;
-        within = s.0;
+        within = s.1.0;
         is_checked = p.is_checked;
         text = prints.written answered ∙ (ap (λ (a : ReplySeen). grown text (concat a.lines)) (so ∙ (g.same ∙ p.answer)) ∙ ap (λ (x : Station). grown text (concat (head_lines design proof p.steps ++ file_sentences x proof))) (sym same));
-        none = subst (λ (x : Station). IsInfeasible x p.steps) (sym same) s.1;
+        none = subst (λ (x : Station). IsInfeasible x p.steps) (sym same) s.1.1;
+        denies = subst (λ (x : Station). EachLineDenies x proof) (sym same) (proofs_deny p.design good g.most p.steps proof p.is_shown);
       }
 
   -- a run of which nothing is refused

@@ -3,6 +3,7 @@ use Rattle.std.specs.Prelude.{◌≡◌, ℕ, ◌≤◌, List, ◌++◌, length,
 use Rattle.std.specs.List.{concat}
 use Rattle.infra_reader.specs.Design.{design_of}
 use Rattle.plan_exclusion.specs.declared.method.Method.TheVariants.{Cones}
+use Rattle.proof_words.specs.Denied.{EachLineDenies}
 use Rattle.proof_words.specs.Meanings.{file_sentences}
 use Rattle.rail_base.specs.declared.station.Station.{Station}
 use Rattle.rail_cli.specs.declared.input.InputFile.TheVariants as file
@@ -26,7 +27,8 @@ pub record Explains (files : Files) (words : List (List ℕ)) (d : Station) : Ty
 
 -- what is printed are lines about the two files and a number of steps, and the sentences about the lines of the proof. It is the
 -- number that a check of the files prints, for as many steps as are given or as the head of the proof names, and no plan of so
--- many steps is feasible
+-- many steps is feasible. And each line of the proof that has sentences stands for a law about the design: a plan of which all that
+-- they say is so is not feasible
 pub record ExplainsProof (files : Files) (w : Wanted) (d : Station) (old new : Option (List ℕ)) : Type 0 where
   pub most : ℕ
   pub are_most : steps_for w.steps (files w.proof) ≡ Some most
@@ -35,6 +37,7 @@ pub record ExplainsProof (files : Files) (w : Wanted) (d : Station) (old new : O
   pub is_checked : check_reply most (files w.design) (files w.proof) ≡ one_line Done (yes_line steps)
   pub text : new ≡ grown old (concat (head_lines (files w.design) (files w.proof) steps ++ file_sentences d (files w.proof)))
   pub none : IsInfeasible d steps
+  pub denies : EachLineDenies d (files w.proof)
 
 -- they ask for nothing, or give no number of steps
 abbrev pub GivesNoSteps : Option Wanted → Type 0

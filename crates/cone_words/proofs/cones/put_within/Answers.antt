@@ -4,7 +4,7 @@ use Rattle.rail_base.specs.declared.station.Within.{Within}
 use Rattle.cone_words.specs.Names.{makes_text}
 use Rattle.cone_words.specs.Cones.{missed_text}
 use Rattle.rail_spec.specs.Requirements.{most_ticks}
-use Rattle.cone_words.specs.Phrases.{ticks_text}
+use Rattle.cone_words.specs.Times.{ticks_text}
 use Rattle.cone_words.proofs.cones.put_within.Goals as goal
 
 pub returns : goal.returns
@@ -13,7 +13,7 @@ returns c =
     let old = c.args.text.now.items in
     let t1 = first_as old _ _ _ c.in_ok-put_missed.ensures (ap (λ (w : Within). missed_text d w.to_train w.to_visit) c.within_of-within.ensures) in
     let t2 = more_as old _ _ _ _ _ t1 c.in_ok-extend_from_slice.ensures.items refl in
-    let t3 = more_as old _ _ _ _ _ t2 c.in_ok-put_ticks.ensures (ap ticks_text (c.most_ticks.ensures ∙ ap (most_ticks d) c.within_of-within.ensures)) in
+    let t3 = more_as old _ _ _ _ _ t2 c.in_ok-put_ticks.ensures (ap (ticks_text d) (c.most_ticks.ensures ∙ ap (most_ticks d) c.within_of-within.ensures)) in
     let t4 = more_as old _ _ _ _ _ t3 c.in_ok-extend_from_slice-2.ensures.items refl in
     let t5 = more_as old _ _ _ _ _ t4 c.in_ok-put_makes.ensures (ap (λ (w : Within). makes_text d w.from_train w.from_visit) c.within_of-within.ensures) in
     let t6 = more_as old _ _ _ _ _ t5 c.in_ok-extend_from_slice-3.ensures.items refl in

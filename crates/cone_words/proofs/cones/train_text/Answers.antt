@@ -5,8 +5,9 @@ use Rattle.cone_words.proofs.cones.train_text.Goals as goal
 
 pub returns : goal.returns
 returns c =
-    let d = c.args.design.now.station in
-    let t1 = c.in_ok-put_followed.ensures ∙ ap (λ ys. ys ++ followed_text d c.args.train.now) c.new-text.ensures.items in
+    let d = c.args.interlocking.now.design.station in
+    let routes = c.args.interlocking.now.routes in
+    let t1 = c.in_ok-put_followed.ensures ∙ ap (λ ys. ys ++ followed_text d routes c.args.train.now) c.new-text.ensures.items in
     let t2 = then_as _ _ _ _ _ t1 c.in_ok-extend_from_slice.ensures.items refl in
     let t3 = then_as _ _ _ _ _ t2 c.in_ok-put_number.ensures.ok (ap decimal c.from.ensures) in
     let t4 = then_as _ _ _ _ _ t3 c.in_ok-extend_from_slice-2.ensures.items refl in

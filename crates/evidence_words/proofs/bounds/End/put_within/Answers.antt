@@ -4,7 +4,7 @@ use Rattle.rail_base.specs.declared.station.Within.{Within}
 use Rattle.leg_targets.specs.Visits.{origin_of}
 use Rattle.evidence_words.specs.Bounds.{arrives_text}
 use Rattle.rail_spec.specs.Requirements.{most_ticks}
-use Rattle.cone_words.specs.Phrases.{ticks_text}
+use Rattle.cone_words.specs.Times.{ticks_text}
 use Rattle.evidence_words.proofs.bounds.End.put_within.Goals as goal
 
 pub returns : goal.returns
@@ -16,5 +16,5 @@ returns c =
     let t2 = more_as old _ _ _ _ _ t1 c.in_ok-extend_from_slice.ensures.items refl in
     let t3 = more_as old _ _ _ _ _ t2 c.in_ok-put_number.ensures.ok (ap decimal c.from.ensures) in
     let t4 = more_as old _ _ _ _ _ t3 c.in_ok-extend_from_slice-2.ensures.items refl in
-    let t5 = more_as old _ _ _ _ _ t4 c.in_ok-put_ticks.ensures (ap ticks_text (c.most_ticks.ensures ∙ ap (most_ticks d) c.within_of-within.ensures)) in
+    let t5 = more_as old _ _ _ _ _ t4 c.in_ok-put_ticks.ensures (ap (ticks_text d) (c.most_ticks.ensures ∙ ap (most_ticks d) c.within_of-within.ensures)) in
     more_as old _ _ _ _ _ t5 c.in_ok-put_since.ensures refl

@@ -2,7 +2,7 @@ use Rattle.std.proofs.Common.{List, refl, ap, ap₂, ◌∙◌}
 use Rattle.cone_words.proofs.Joining.{then_as}
 use Rattle.rail_base.specs.declared.route.RouteNo.{RouteNo}
 use Rattle.rail_base.specs.Names.{train_name}
-use Rattle.cone_words.specs.Phrases.{any_route_text}
+use Rattle.cone_words.specs.Routes.{any_route_text}
 use Rattle.evidence_words.specs.Bounds.{meeting_text, only}
 use Rattle.evidence_words.proofs.legs.Chain.wait_text.Goals as goal
 
@@ -12,7 +12,7 @@ returns c =
     let d = i.design.station in
     let t1 = c.in_ok-text.ensures.items ∙ (c.train_name.ensures ∙ ap (train_name d) c.first_train.ensures) in
     let t2 = then_as _ _ _ _ _ t1 c.in_ok-extend_from_slice.ensures.items refl in
-    let t3 = then_as _ _ _ _ _ t2 c.in_ok-put_any_route.ensures (ap any_route_text c.first_routes-first.ensures) in
+    let t3 = then_as _ _ _ _ _ t2 c.in_ok-put_any_route.ensures (ap (any_route_text d i.routes) c.first_routes-first.ensures) in
     let t4 = then_as _ _ _ _ _ t3 c.in_ok-extend_from_slice-2.ensures.items refl in
     let t5 = then_as _ _ _ _ _ t4 c.in_ok-put_moment.ensures refl in
     let t6 = then_as _ _ _ _ _ t5 c.in_ok-extend_from_slice-3.ensures.items refl in
