@@ -181,7 +181,7 @@ def bound_line(chance, design):
 
 def with_time(text, key, place, ms):
     """The text of the design with another number behind a key."""
-    found = list(re.finditer(key + rb"\s*=\s*(\d+)", text))
+    found = list(re.finditer(key + rb"\s*=\s*([\d_]+)", text))
     if ms < 1 or place >= len(found):
         return text
     start, end = found[place].span(1)
@@ -204,7 +204,7 @@ def with_ticks(chance, text, design, words):
     if what[0] != "within":
         return text
     most = ticks + chance.choice((0, -1)) + (1 - tick if origin == "cone" else 0)
-    return with_time(text, b"max_ms", what[1] - 1, max(most, 0) * design.tick)
+    return with_time(text, b"max_ms", what[1] - 1, most * design.tick)
 
 
 def with_other_visits(chance, text):
@@ -226,7 +226,7 @@ def made_file(chance, text, n):
     if chance.random() < 0.4:
         words, just = cone_line(chance, design)
         if just is not None and words[1] == "within":
-            text = with_time(text, b"max_ms", words[2] - 1, max(just, 0) * design.tick)
+            text = with_time(text, b"max_ms", words[2] - 1, just * design.tick)
     else:
         words = bound_line(chance, design)
         if chance.random() < 0.8:
