@@ -1,6 +1,8 @@
 //! Finders of lower bounds.
 
-ghost use Rattle.std.specs.Prelude.{◌<◌, IfSome, length};
+ghost use Rattle.std.specs.Prelude.{◌≡◌, ◌<◌, true, All, IfOk, IfSome, length};
+ghost use Rattle.bound_spec.specs.Validity.{names_design};
+ghost use Rattle.cone_form.specs.Contentions.{over};
 
 use crate::choosing::{Breadth, Form, has_route};
 use crate::goals::{Goal, goals};
@@ -9,6 +11,7 @@ use crate::links::{Link, Search};
 use crate::paths::{Given, Paths, Span};
 use crate::tables::Tables;
 use crate::ticks::Ticks;
+use bound_design::names_design;
 use bound_spec::{Bound, Leg, Origin};
 use cone_form::Contention;
 use rail_base::history::History;
@@ -50,15 +53,17 @@ impl Finder {
         }
     }
 
-    /// Bounds that may exclude a plan that fails in this way, the best first; each is still to be judged and tried
-    /// against the plan. `Err` where memory ran out; the finder may then be used on.
+    /// Bounds that may exclude a plan that fails in this way, the best first. What they name is there in the design; each
+    /// is still to be judged and tried against the plan. `Err` where memory ran out; the finder may then be used on.
     pub fn bounds(
         &mut self,
         contention: &Contention,
         plan: &Plan,
         history: &History,
         violation: Violation,
-    ) -> Result<Vec<Bound>, AllocError> {
+    ) -> Result<Vec<Bound>, AllocError>
+        ensures { IfOk result (λ bounds. All (λ bound. over contention.now names_design bound ≡ true) bounds.items) }
+    {
         let interlocking = contention.interlocking;
         if self.tables.is_none() {
             self.tables = Some(Tables::of(self.alloc, interlocking)?);
@@ -79,8 +84,26 @@ impl Finder {
         };
         search.waits = search.find_waits()?;
         let found = search.candidates(goals.as_slice())?;
-        search.in_order(found)
+        let bounds = search.in_order(found)?;
+        in_design(self.alloc, contention, bounds)
     }
+}
+
+/// Those of which the design has all that they name, in order.
+fn in_design(
+    alloc: Global,
+    contention: &Contention,
+    bounds: Vec<Bound>,
+) -> Result<Vec<Bound>, AllocError>
+    ensures { IfOk result (λ kept. All (λ bound. over contention.now names_design bound ≡ true) kept.items) }
+{
+    let mut kept = Vec::new(alloc);
+    for bound in bounds {
+        if names_design(alloc, contention, &bound)? {
+            kept.push(bound)?;
+        }
+    }
+    Ok(kept)
 }
 
 impl Search<'_> {
