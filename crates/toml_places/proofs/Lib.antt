@@ -1,0 +1,4 @@
+pub mod Turns
+pub mod Begun
+pub mod Behind
+pub mod Reading
