@@ -16,4 +16,4 @@ pub use laws::sentences_of_cones_deny;
 pub use phrases::{most_ticks, put_makes, put_nodes, put_shared};
 pub use routes::{put_any_route, put_route};
 pub use sentences::push_sentence;
-pub use times::{put_tick, put_ticks};
+pub use times::{ms_of, put_tick, put_ticks};

@@ -27,7 +27,7 @@ pub fn put_tick(text: &mut Vec<u8>, design: &Design, tick: u64) -> Result<(), Al
 }
 
 /// So many ticks in ms, as far as 64 bits go.
-fn ms_of(design: &Design, ticks: u64) -> u64
+pub fn ms_of(design: &Design, ticks: u64) -> u64
     ensures { result ≡ ms_of design.now.station ticks }
 {
     ticks.saturating_mul(u64::from(design.station.tick_ms))

@@ -3,4 +3,5 @@ pub mod Bounds
 pub mod Sentences
 pub mod Laws
 pub mod Ends
+pub mod Failings
 pub mod So

@@ -58,6 +58,21 @@ pub fn push_bound(
     push_end(alloc, &end, line, bound.requirement, lines)
 }
 
+/// The tick at which the legs of a bound are through at the earliest.
+pub fn end_tick(
+    alloc: Global,
+    interlocking: &Interlocking,
+    bound: &Bound,
+) -> Result<u64, AllocError>
+    requires { let i = interlocking.now in names_design i.design.station i.routes bound.now ≡ true }
+    ensures { let i = interlocking.now in
+        IfOk result (λ n. n ≡ end_tick i.design.station i.routes bound.now) }
+{
+    let after = counted_after(&bound.origin, visit_from(interlocking, bound.requirement));
+    let mut sentences = Vec::new(alloc);
+    push_chain(alloc, interlocking, 0, bound, after, &mut sentences)
+}
+
 /// Appends that ticks are those of the run.
 fn put_start(text: &mut Vec<u8>) -> Result<(), AllocError>
     ensures { OnOk result (text.new.items ≡ text.old.items ++ start_text) }
@@ -190,7 +205,7 @@ struct End<'a> {
 }
 
 /// The tick of the run at which the visit is made from which ticks are counted, where that is known.
-fn origin_tick(origin: &Origin) -> u64
+pub fn origin_tick(origin: &Origin) -> u64
     ensures { result ≡ origin_tick origin.now }
 {
     match origin {

@@ -4,3 +4,4 @@ pub mod Meanings
 pub mod Named
 pub mod Explained
 pub mod Said
+pub mod Summaries

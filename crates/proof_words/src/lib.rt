@@ -3,8 +3,10 @@
 #![tactic(auto)]
 
 mod explaining;
+mod failings;
 mod laws;
 mod meanings;
+mod summary;
 
 pub use explaining::{Explained, explain};
 pub use laws::sentences_of_proofs_deny;

@@ -6,18 +6,21 @@ ghost use Rattle.rail_outside.specs.Lines.{lines_of};
 ghost use Rattle.rail_text.specs.Lines.{line_of_piece as piece_of};
 ghost use Rattle.rail_text.specs.Cursors.{lines_left};
 ghost use Rattle.rail_text.specs.Pieces.{pieces};
-ghost use Rattle.proof_words.specs.Meanings.{file_sentences};
+ghost use Rattle.proof_words.specs.Meanings.{file_sentences, lines_sentences};
 ghost use Rattle.proof_words.specs.Named.{IsNamedPiece, names_line};
 ghost use Rattle.rail_text.specs.Added.{AddsLines};
 ghost use Rattle.proof_words.specs.Said.{said_of_line, said_of_piece, said_of_pieces};
 
+use crate::failings::file_failings;
+use crate::summary::push_summary;
 use evidence_words::push_evidence;
 use interlocking::Interlocking;
 use proof_log::{Line, LineFault, read_line};
 use rail_text::{Cursor, Piece};
 use std::alloc::{AllocError, Global};
 
-/// The sentences about the lines of a proof file after its head, where each cone and bound names what the design has.
+/// The sentences about a proof file, where each cone and bound names what the design has: those about its lines after
+/// the head, and what they have in common.
 pub(crate) fn file_sentences(
     alloc: Global,
     interlocking: &Interlocking,
@@ -25,6 +28,21 @@ pub(crate) fn file_sentences(
 ) -> Result<Vec<Vec<u8>>, AllocError>
     requires { All (IsNamedPiece interlocking.now.design.station) (after_first (pieces bytes.now)) }
     ensures { IfOk result (λ lines. lines_of lines.items ≡ file_sentences interlocking.now.design.station bytes.now) }
+{
+    let mut lines = lines_sentences(alloc, interlocking, bytes)?;
+    let failings = file_failings(alloc, interlocking, bytes)?;
+    push_summary(alloc, &interlocking.design, failings.as_slice(), &mut lines)?;
+    Ok(lines)
+}
+
+/// The sentences about the lines of a proof file after its head.
+fn lines_sentences(
+    alloc: Global,
+    interlocking: &Interlocking,
+    bytes: &[u8],
+) -> Result<Vec<Vec<u8>>, AllocError>
+    requires { All (IsNamedPiece interlocking.now.design.station) (after_first (pieces bytes.now)) }
+    ensures { IfOk result (λ lines. lines_of lines.items ≡ lines_sentences interlocking.now.design.station bytes.now) }
 {
     let mut lines = Vec::new(alloc);
     let mut cursor = Cursor::new(bytes);

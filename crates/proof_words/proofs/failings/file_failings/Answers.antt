@@ -4,7 +4,7 @@ use Rattle.rail_text.specs.Cursors.{lines_left}
 use Rattle.rail_text.specs.Lines.{line_of_piece}
 use Rattle.rail_text.specs.Pieces.{Line, pieces}
 use Rattle.proof_words.specs.Named.{IsNamedPiece}
-use Rattle.proof_words.proofs.meanings.file_sentences.Goals as goal
+use Rattle.proof_words.proofs.failings.file_failings.Goals as goal
 
 pub push_pieces-requires : goal.push_pieces-requires
 push_pieces-requires c =
