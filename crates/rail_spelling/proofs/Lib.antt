@@ -1,0 +1,11 @@
+mod Numbers
+mod Agreeing
+mod Entries
+mod Sections
+mod One
+mod Once
+mod Values
+mod Tables
+mod Reading
+mod Spelled
+mod Unique

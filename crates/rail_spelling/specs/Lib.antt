@@ -1,0 +1,3 @@
+-- What bytes spell: a design, and a plan.
+pub mod Designs
+pub mod Laws

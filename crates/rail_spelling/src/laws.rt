@@ -1,0 +1,13 @@
+//! What is read from bytes is what they spell, and nothing else is.
+
+ghost use Rattle.rail_spelling.specs.Laws.{DesignsAreSpelled, SpelledDesignsAreOne};
+
+/// Bytes spell the design that is read from them.
+pub fn designs_are_spelled()
+    ensures { DesignsAreSpelled }
+{}
+
+/// Bytes in which nothing is refused spell no design but the one that is read from them.
+pub fn spelled_designs_are_one()
+    ensures { SpelledDesignsAreOne }
+{}
