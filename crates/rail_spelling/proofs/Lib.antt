@@ -9,3 +9,4 @@ mod Tables
 mod Reading
 mod Spelled
 mod Unique
+mod Plans

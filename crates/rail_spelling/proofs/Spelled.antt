@@ -1,10 +1,8 @@
 -- The design that is read from a document is spelled by it.
-use Rattle.std.proofs.Common.{◌≡◌, ℕ, zero, suc, ◌+◌, ◌/◌, ◌≤◌, ◌<◌, inl, inr, ℤ, pos, negsuc, Bool, true, false, cond, not, ◌&&◌, nat_le, nat_lt, if◌then◌else◌, List, [], ◌∷◌, ◌++◌, map, length, Some, bytes_eq, refl, sym, ap, ap₂, subst, ◌∙◌, arith}
+use Rattle.std.proofs.Common.{◌≡◌, ℕ, ◌/◌, ◌≤◌, ◌<◌, ℤ, pos, negsuc, Bool, true, ◌&&◌, nat_le, nat_lt, if◌then◌else◌, List, [], ◌++◌, map, length, Some, refl, sym, ap, ◌∙◌, arith}
 use Rattle.std.proofs.Math.Nat.{div-le_self}
-use Rattle.std.specs.List.{position_or_len}
 use Rattle.std.specs.Str.{is_utf8}
 use Rattle.toml.specs.Parse.{parse_document}
-use Rattle.std.proofs.lemmas.Slice.Eq.{bytes_eq-Decides}
 use Rattle.toml.specs.Data.{Members, string}
 use Rattle.design_table.specs.declared.key.Key.TheVariants as keys
 use Rattle.design_table.specs.declared.place.EntryKind.TheVariants as kinds
@@ -21,9 +19,8 @@ use Rattle.rail_base.specs.declared.station.Train.{Train}
 use Rattle.rail_base.specs.Admitted.{IsAdmitted, Ranges}
 use Rattle.rail_base.specs.Members.{In}
 use Rattle.rail_base.specs.Names.{node_name, section_name, train_name}
-use Rattle.rail_base.specs.Numbering.{entry}
 use Rattle.rail_base.specs.Stations.{IsNode, IsVehicle, IsTrain, no_train, no_vehicle, vehicle_at}
-use Rattle.rail_base.proofs.Lists.{in_map, length-map}
+use Rattle.rail_base.proofs.Lists.{in_map}
 use Rattle.rail_base.proofs.Members.{and_right}
 use Rattle.infra_reader.specs.Limits.{unless_from, count_outside, array_outside, vehicle_outside, train_outside, within_outside, times_outside, track_outside, traffic_outside, out_of_range}
 use Rattle.infra_reader.specs.Names.{Names, names_of, number_in, section_names}
@@ -31,46 +28,10 @@ use Rattle.infra_reader.specs.Stations.{number_32, nodes_in, node_in, edge_in, s
 use Rattle.rail_spelling.specs.Designs.{Spells, each_once}
 use Rattle.rail_spelling.proofs.Entries.{good_edge, good_signal, good_vehicle, good_train}
 use Rattle.rail_spelling.proofs.One.{no_node}
+use Rattle.rail_spelling.proofs.Numbers.{name_back, entry_back, map_made}
 use Rattle.rail_spelling.proofs.Once.{same_once}
 use Rattle.rail_spelling.proofs.Tables.{has_tables, none_in, no_left, no_right, passes}
 use Rattle.rail_spelling.proofs.Values.{spells_name, spells_flag, spells_side, spells_exactly, spells_whole, spells_visits, number}
-
--- ---- the name of a number that a name has
-
-name_back : (names : List (List ℕ)) (name : List ℕ) → number_in names name ≤ length names → entry [] names (number_in names name) ≡ name
-name_back [] name h = absurd (omega arith)
-name_back (n ∷ ns) name h = go (bytes_eq name n) refl h (name_back ns name)
-  where
-    place : ℕ
-    place = position_or_len (bytes_eq name) ns
-
-    go : (b : Bool) → bytes_eq name n ≡ b → cond (not b) (1 + place) 0 + 1 ≤ length (n ∷ ns) → (place + 1 ≤ length ns → entry [] ns (place + 1) ≡ name) → entry [] (n ∷ ns) (cond (not b) (1 + place) 0 + 1) ≡ name
-    go true e h later = sym ((bytes_eq-Decides name n).0 e)
-    go false e h later =
-        let next : 1 + place + 1 ≡ suc (suc place) = omega arith in
-        let same : place + 1 ≡ suc place = omega arith in
-        ap (entry [] (n ∷ ns)) next ∙ ap (entry [] ns) (sym same) ∙ later (omega arith)
-
--- what is made of the entry of a number
-entry_made : {X Y : Type 0} (make : X → Y) (other : X) (xs : List X) (n : ℕ) → make (entry other xs n) ≡ entry (make other) (map make xs) n
-entry_made make other xs zero = refl
-entry_made make other [] (suc n) = refl
-entry_made make other (x ∷ xs) (suc zero) = refl
-entry_made make other (x ∷ xs) (suc (suc n)) = entry_made make other xs (suc n)
-
--- what is made of entries that are made of others
-map_made : {P X Y : Type 0} (f : X → Y) (make : P → X) (g : P → Y) (ps : List P) → ((p : P) → In p ps → f (make p) ≡ g p) → map f (map make ps) ≡ map g ps
-map_made f make g [] same = refl
-map_made f make g (p ∷ ps) same = ap₂ (λ y ys. y ∷ ys) (same p (inl refl)) (map_made f make g ps (λ q m. same q (inr m)))
-
--- the same of entries' names
-entry_back : {P X : Type 0} (name : X → List ℕ) (make : P → X) (parsed : P → List ℕ) (other : X) (ps : List P) (text : List ℕ) → name other ≡ [] → ((p : P) → name (make p) ≡ parsed p)
-    → number_in (map parsed ps) text ≤ length (map make ps) → name (entry other (map make ps) (number_in (map parsed ps) text)) ≡ text
-entry_back name make parsed other ps text unnamed same high =
-    let number = number_in (map parsed ps) text in
-    entry_made name other (map make ps) number
-    ∙ ap₂ (λ none names. entry none names number) unnamed (map_made name make parsed ps (λ p m. same p))
-    ∙ name_back (map parsed ps) text (subst (λ n. number ≤ n) (length-map make ps ∙ sym (length-map parsed ps)) high)
 
 -- ---- numbers in range
 
