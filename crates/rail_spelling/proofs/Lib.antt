@@ -10,3 +10,4 @@ mod Reading
 mod Spelled
 mod Unique
 mod Plans
+mod Asked

@@ -207,7 +207,7 @@ module _ (d : Station) (routes : List Route) (named : IsNamed d) (good : IsAdmit
       let name : train_name d c.train ≡ train_name d k.train = cc in
       let route : c.route.0 ≡ k.route.0 = cc in
       let number = one_number (λ (t : Train). t.name) no_train refl d.trains c.train.0 k.train.0 good.train_names named.trains
-          (leb-true 1 c.train.0 (and_left low high there)) (leb-true c.train.0 (length d.trains) (and_right low high there)) name in
+      (leb-true 1 c.train.0 (and_left low high there)) (leb-true c.train.0 (length d.trains) (and_right low high there)) name in
       λ i. record { train = record { 0 = number i }; route = record { 0 = route i } }
 
   one_step : (step other : List Command) → ((c : Command) → In c step → is_of d routes c ≡ true) → step_value d step ≡ step_value d other → step ≡ other
