@@ -8,6 +8,6 @@ mod Values
 mod Tables
 mod Reading
 mod Spelled
-mod Unique
+pub mod Unique
 mod Plans
-mod Asked
+pub mod Asked

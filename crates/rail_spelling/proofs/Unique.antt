@@ -1,4 +1,4 @@
--- What is read is spelled, and nothing else is.
+-- What is read is spelled, and nothing else is: a design, and a plan of it.
 use Rattle.std.proofs.Common.{◌≡◌, ℕ, List, [], map, Ok, refl, sym, subst, ◌∙◌, true≢false, true}
 use Rattle.std.specs.List.{list_all}
 use Rattle.design_table.specs.Parsed.{ParsedNode, ParsedVehicle, ParsedTrain, ParsedSheet}
@@ -20,9 +20,10 @@ use Rattle.infra_reader.specs.Stations.{node_in, vehicle_in, train_in, station_o
 use Rattle.infra_reader.proofs.Reading.{spelled_admitted}
 use Rattle.infra_reader.proofs.Spelling.{has_names}
 use Rattle.rail_spelling.specs.Designs.{Spells}
-use Rattle.rail_spelling.specs.Laws.{DesignsAreSpelled, SpelledDesignsAreOne}
+use Rattle.rail_spelling.specs.Laws.{DesignsAreSpelled, SpelledDesignsAreOne, PlansAreSpelled, SpelledPlansAreOne}
 use Rattle.rail_spelling.proofs.Once.{same_once}
 use Rattle.rail_spelling.proofs.One.{IsNamed, one_design}
+use Rattle.rail_spelling.proofs.Plans.{plan_spelled, spelled_plan_one}
 use Rattle.rail_spelling.proofs.Reading.{table_read, document_read}
 use Rattle.rail_spelling.proofs.Sections.{once_back}
 use Rattle.rail_spelling.proofs.Spelled.{spelled}
@@ -49,7 +50,7 @@ station_named s named = record {
 
 -- ---- the laws
 
-pub design_named : (bytes : List ℕ) (d : Station) → design_of bytes ≡ Ok d → IsNamed d
+design_named : (bytes : List ℕ) (d : Station) → design_of bytes ≡ Ok d → IsNamed d
 design_named bytes d e =
     let file = table_read (toml_of bytes) d e in
     subst IsNamed file.station (station_named (sheet_of file.keys) (has_names file.keys file.forms))
@@ -63,3 +64,9 @@ designs_spelled bytes d e =
 
 pub spelled_one : SpelledDesignsAreOne
 spelled_one bytes d other e spells = sym (one_design bytes d other (design_named bytes d e) (spelled_admitted bytes d e) (designs_spelled bytes d e) spells)
+
+pub plans_spelled : PlansAreSpelled
+plans_spelled d routes bytes plan e = plan_spelled d routes bytes plan e
+
+pub spelled_plans_one : SpelledPlansAreOne
+spelled_plans_one file d e routes bytes plan other read spells = spelled_plan_one d routes (design_named file d e) (spelled_admitted file d e) bytes plan other read spells
