@@ -17,3 +17,4 @@ mod Ascii
 mod Values
 mod ReadTexts
 mod ReadingBack
+mod Lengths

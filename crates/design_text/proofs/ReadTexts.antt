@@ -294,7 +294,7 @@ module _ (d : Station) (admitted : is_admitted d ≡ true) where
         ),
       )
 
-  text_parts : design_text d ≡ parts_text (first_part d ∷ more_parts d)
+  pub text_parts : design_text d ≡ parts_text (first_part d ∷ more_parts d)
   unfolding design_lines
   text_parts =
       seven_joined (number_line keys.Version d.version) (number_line keys.TickMs d.tick_ms) (number_line keys.HorizonMs d.horizon_ms)

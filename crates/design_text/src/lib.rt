@@ -8,5 +8,5 @@ mod laws;
 mod lines;
 mod part;
 
-pub use laws::texts_read_back;
+pub use laws::{texts_are_short, texts_read_back};
 pub use lines::design_lines;
