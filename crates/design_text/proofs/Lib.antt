@@ -16,5 +16,5 @@ mod Rules
 mod Ascii
 mod Values
 mod ReadTexts
-mod ReadingBack
-mod Lengths
+pub mod ReadingBack
+pub mod Lengths
