@@ -1,0 +1,91 @@
+-- What is asked for.
+use Rattle.std.proofs.Common.{◌≡◌, ℕ, ◌≤◌, true, false, List, [], ◌∷◌, inl, inr, ◌⊎◌, Option, Some, None, Result, Ok, Err, refl, ap, sym, ◌∙◌, subst}
+use Rattle.std.specs.Prelude.{◌↔◌}
+use Rattle.design_text.specs.Texts.{design_text}
+use Rattle.design_text.proofs.Lengths.{texts_are_short}
+use Rattle.design_text.proofs.ReadingBack.{read_back}
+use Rattle.infra_reader.specs.Design.{design_of}
+use Rattle.rail_base.specs.declared.station.Station.{Station}
+use Rattle.rail_base.specs.Admission.{is_admitted}
+use Rattle.std.specs.List.{concat}
+use Rattle.rail_outside.specs.Files.{Files}
+use Rattle.rail_outside.specs.Growth.{grown}
+use Rattle.rail_cli.specs.declared.status.Status.{Status}
+use Rattle.rail_cli.specs.declared.status.Status.TheVariants.{Done, Usage}
+use Rattle.rail_cli.specs.declared.input.InputFile.TheVariants as file
+use Rattle.rail_cli.specs.Answers.{ReplySeen, and_then, design_in, unless_refused, within_limit}
+use Rattle.rail_cli.specs.Statuses.{is_answered}
+use Rattle.rail_cli.proofs.Using.{IsNoUsage, long_is_no_usage, design_is_no_usage}
+use Rattle.workload.specs.Made.{made}
+use Rattle.workload.proofs.Admitting.{made_admitted}
+use Rattle.design_cli.specs.Answers.{answer_given, answer_to, design_asked, file_answer, names_in, printed, text_answer, usage}
+use Rattle.design_cli.specs.Reports.{PrintsAnswer, PrintsDesign, PrintsSome, PrintsUnreadOf, Reports}
+use Rattle.design_cli.specs.Wanted.{IsInRange, Wanted, in_file, of_trial}
+
+-- ---- the design that is printed
+
+-- the answer for the design that is asked for
+next_answer : {X : Type 0} (r : Result X ReplySeen) (read : X → Result Station ReplySeen) (answer : X → ReplySeen) (d : Station) → and_then r read ≡ Ok d → ((x : X) → read x ≡ Ok d → answer x ≡ printed d) → unless_refused r answer ≡ printed d
+next_answer (Ok x) read answer d e each = each x e
+next_answer (Err a) read answer d e each = absurd (cc)
+
+text_is : (text : List ℕ) (d : Station) → design_in text ≡ Ok d → text_answer text ≡ printed d
+text_is text d e = ap (λ r. unless_refused r printed) e
+
+pub answer_is : (files : Files) (wanted : Option Wanted) (d : Station) → design_asked files wanted ≡ Ok d → answer_to files wanted ≡ printed d
+answer_is files None d e = absurd (cc)
+answer_is files (Some (in_file name)) d e = next_answer (within_limit file.Design (files name)) design_in text_answer d e (λ text is. text_is text d is)
+answer_is files (Some (of_trial seed size)) d e = let same : made seed size ≡ d = cc in ap printed same
+
+module _ (s : Status) (text new_text : Option (List ℕ)) (pieces new_pieces : Option (List (List ℕ))) where
+  pub prints_design : (a : ReplySeen) (names : List (List ℕ)) (d : Station) → a ≡ printed d → is_admitted d ≡ true → Reports a names s text new_text pieces new_pieces → s ≡ Done → PrintsDesign d text new_text
+  prints_design a names d is admitted (inl h) done = record {
+    written = subst (λ (b : ReplySeen). (new_text ≡ grown text (concat b.lines))) is (h.prints.written (ap is_answered done));
+    reads_back = read_back d admitted;
+    fits = texts_are_short d admitted;
+  }
+  prints_design a names d is admitted (inr h) done = let e : false ≡ true = sym h.prints.unanswered ∙ ap is_answered done in absurd (cc)
+
+-- the station of a trial is admitted
+pub trial_admitted : (seed size : ℕ) (d : Station) → (1 ≤ size) × (size ≤ 6) → made seed size ≡ d → is_admitted d ≡ true
+trial_admitted seed size d range is = subst (λ (e : Station). is_admitted e ≡ true) is (made_admitted seed size range.0 range.1)
+
+-- its size is in range
+pub in_range : (w : Wanted) (seed size : ℕ) → w ≡ of_trial seed size → IsInRange w → (1 ≤ size) × (size ≤ 6)
+in_range w seed size is h = subst IsInRange is h
+
+-- it is the one that is made
+pub trial_made : (files : Files) (seed size : ℕ) (d : Station) → design_asked files (Some (of_trial seed size)) ≡ Ok d → made seed size ≡ d
+trial_made files seed size d is = cc
+
+-- ---- how the program is used
+
+other_status : {X : Type 0} (r : Result X ReplySeen) (next : X → ReplySeen) → IsNoUsage r → ((x : X) → (next x).status ≡ Usage → ⊥) → (unless_refused r next).status ≡ Usage → ⊥
+other_status (Ok x) next refusals others is = others x is
+other_status (Err a) next refusals others is = refusals a refl is
+
+printed_other : (d : Station) → (printed d).status ≡ Usage → ⊥
+printed_other d is = let kind : Done ≡ Usage = is in absurd (cc)
+
+text_other : (text : List ℕ) → (text_answer text).status ≡ Usage → ⊥
+text_other text = other_status (design_in text) printed (design_is_no_usage text) printed_other
+
+given_other : (bytes : List ℕ) (w : Wanted) → (answer_given bytes (Some w)).status ≡ Usage → ⊥
+given_other bytes (in_file name) = other_status (within_limit file.Design bytes) text_answer (long_is_no_usage file.Design bytes) text_other
+given_other bytes (of_trial seed size) = printed_other (made seed size)
+
+silent : (bytes : List ℕ) (wanted : Option Wanted) → (answer_given bytes wanted).status ≡ Usage → wanted ≡ None
+silent bytes None is = refl
+silent bytes (Some w) is = absurd (given_other bytes w is)
+
+used : (bytes : List ℕ) (wanted : Option Wanted) → wanted ≡ None → (answer_given bytes wanted).status ≡ Usage
+used bytes None is = refl
+used bytes (Some w) is = absurd (cc)
+
+module _ (wanted : Option Wanted) (s : Status) (text new_text : Option (List ℕ)) (pieces new_pieces : Option (List (List ℕ))) where
+  pub usage_for : PrintsSome wanted s text new_text pieces new_pieces → is_answered s ≡ true → (s ≡ Usage) ↔ (wanted ≡ None)
+  usage_for p answered = go p.reports
+    where
+      go : Reports (answer_given p.bytes wanted) (names_in wanted) s text new_text pieces new_pieces → (s ≡ Usage) ↔ (wanted ≡ None)
+      go (inl h) = (λ is. silent p.bytes wanted (sym (h.prints.status answered) ∙ is), λ none. h.prints.status answered ∙ used p.bytes wanted none)
+      go (inr h) = let e : false ≡ true = sym h.prints.unanswered ∙ answered in absurd (cc)

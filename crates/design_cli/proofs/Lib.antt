@@ -1,0 +1,4 @@
+pub mod Reporting
+pub mod Reading
+pub mod Asking
+pub mod Comparing

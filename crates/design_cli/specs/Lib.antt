@@ -1,0 +1,6 @@
+-- What `rcv_design` answers.
+pub mod Wanted
+pub mod Words
+pub mod Answers
+pub mod Reports
+pub mod Laws

@@ -1,0 +1,8 @@
+-- What is asked for, by its bytes.
+use Rattle.design_cli.specs.declared.wanted.Wanted.{Wanted as Asking}
+use Rattle.design_cli.specs.declared.wanted.Wanted.TheVariants.{InFile, OfTrial}
+use Rattle.design_cli.specs.Wanted.{Wanted, in_file, of_trial}
+
+abbrev pub wanted_by : Asking → Wanted
+wanted_by (InFile design) = in_file design.now
+wanted_by (OfTrial seed size) = of_trial seed size
