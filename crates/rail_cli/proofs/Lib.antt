@@ -13,3 +13,4 @@ pub mod AnyShelf
 pub mod Trying
 pub mod Verdicts
 pub mod Using
+pub mod Shortly

@@ -7,6 +7,7 @@ pub mod Answers
 pub mod Simulations
 pub mod Checks
 pub mod Searches
+pub mod Short
 pub mod Passes
 pub mod Trials
 pub mod Verdicts

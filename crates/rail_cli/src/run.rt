@@ -6,6 +6,7 @@ ghost use Rattle.rail_base.specs.declared.plan.Command.{Command};
 ghost use Rattle.rail_outside.specs.Files.{Files};
 ghost use Rattle.rail_outside.specs.Growth.{Rose, GrowsByPrefix};
 ghost use Rattle.rail_words.specs.Requests.{IsRequestInRange, request_of, trial};
+ghost use Rattle.rail_spelling.specs.Lines.{CheckLine, SimulateLine, TrialLine, VerifyLine, Word};
 ghost use Rattle.rail_words.specs.Laws.{AsksForNothing};
 ghost use Rattle.rail_words.specs.Words.{texts_of, request_seen};
 ghost use Rattle.verify_loop.specs.declared.outcome.Outcome.{Outcome};
@@ -16,6 +17,7 @@ ghost use Rattle.rail_cli.specs.Prints.{Prints, PrintsSome};
 ghost use Rattle.rail_cli.specs.Replies.{reply_seen, OnEnd, OnReply, RefusesFile, RepliesSo, RepliesSome};
 ghost use Rattle.rail_cli.specs.Replies.{DecidesRequest, Tries};
 ghost use Rattle.rail_cli.specs.Searches.{Finds, Leaves, Searches, ReportsNone, ReportsPlan};
+ghost use Rattle.rail_cli.specs.Short.{Checked, Found, FoundNone, IsVerdict, Simulated};
 ghost use Rattle.rail_cli.specs.Simulations.{Simulates, ReportsFeasible, DoneWhereFeasible};
 ghost use Rattle.rail_cli.specs.Trials.{ReportsTrial};
 ghost use Rattle.rail_cli.specs.Verdicts.{IsUnrefused, HasVerdict};
@@ -86,8 +88,25 @@ pub fn run_words<S: Shelf, O: Sink>(
         → ReportsNone files s.design_name s.proof_name n d (O.written out.old) (O.written out.new)
         (S.known_files shelf.new) }
 
+    // The same in short, of plain command lines and of files by what they spell.
+    ensures simulated { (files : Files) → S.known_files shelf.old ≡ Some files → (design plan : Word)
+        → SimulateLine (texts_of words.now) design plan → IsVerdict result
+        → Simulated (files design) (files plan) result }
+    ensures checked { (files : Files) → S.known_files shelf.old ≡ Some files → (n : ℕ) (design proof : Word)
+        → CheckLine (texts_of words.now) n design proof → result ≡ Status.Done
+        → Checked (files design) n (O.written out.old) (O.written out.new) }
+    ensures found { (files : Files) → S.known_files shelf.old ≡ Some files → (n : ℕ) (design proof : Word)
+        → VerifyLine (texts_of words.now) n design proof → result ≡ Status.Done
+        → Found (files design) n (O.written out.old) (O.written out.new) }
+    ensures found_none { (files : Files) → S.known_files shelf.old ≡ Some files → (n : ℕ) (design proof : Word)
+        → VerifyLine (texts_of words.now) n design proof → result ≡ Status.No
+        → FoundNone (files design) n (O.written out.old) (O.written out.new) }
+
     // A trial asks nothing of the shelf, so this holds over any.
     ensures tried { (seed size : ℕ) → request_of (texts_of words.now) ≡ Some (trial seed size)
+        → ReportsTrial seed size result (O.written out.old) (O.written out.new) }
+
+    ensures tried_by_line { (seed size : ℕ) → TrialLine (texts_of words.now) seed size
         → ReportsTrial seed size result (O.written out.old) (O.written out.new) }
 
     // Where nothing is refused, a run comes to a verdict, unless a search has spent a budget.

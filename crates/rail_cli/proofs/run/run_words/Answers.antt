@@ -1,4 +1,5 @@
 use Rattle.std.proofs.Common.{rules, ◌≡◌, ◌↔◌, Err, Ok, None, refl}
+use Rattle.rail_spelling.proofs.Asked.{trial_asked}
 use Rattle.rail_words.specs.Words.{texts_of}
 use Rattle.rail_words.specs.Requests.{request_of}
 use Rattle.rail_words.proofs.Asks.{silence_has_a_cause}
@@ -9,6 +10,7 @@ use Rattle.rail_cli.specs.Searches.{Leaves}
 use Rattle.rail_cli.specs.Simulations.{DoneWhereFeasible}
 use Rattle.rail_cli.proofs.Deciding.{told_reply}
 use Rattle.rail_cli.proofs.Finding.{may_want, finds_so, told_so, run_so, run_infeasible, run_met, tells_plan, tells_none}
+use Rattle.rail_cli.proofs.Shortly.{checked, found, found_none, no_verdict, simulated}
 use Rattle.rail_cli.proofs.Leaving.{run_leaves, told_status}
 use Rattle.rail_cli.proofs.Trying.{tries_trial, told_trial_reply, tells_nothing, tells_trial}
 use Rattle.rail_cli.proofs.Silence.{silent_for_memory, silent_at_shelf}
@@ -109,3 +111,45 @@ returns-in-Err-Memory-clause-for_some_files g c = want_prints (request_of (texts
 
 pub returns-in-Err-ShelfFault-clause-for_some_files : goal.returns-in-Err-ShelfFault-clause-for_some_files
 returns-in-Err-ShelfFault-clause-for_some_files g c = fault_prints (request_of (texts_of c.args.words.now)) _ _
+
+pub returns-in-Ok-clause-simulated : goal.returns-in-Ok-clause-simulated
+returns-in-Ok-clause-simulated g c = λ files told design plan line verdict. simulated files (texts_of c.args.words.now) c.print.result _ _ _ _ (returns-in-Ok-clause-answer g c files told) design plan (returns-in-Ok-clause-met g c files told) line verdict
+
+pub returns-in-Ok-clause-checked : goal.returns-in-Ok-clause-checked
+returns-in-Ok-clause-checked g c = λ files told n design proof line done. checked files (texts_of c.args.words.now) c.print.result _ _ _ _ (returns-in-Ok-clause-answer g c files told) n design proof (returns-in-Ok-clause-infeasible g c files told n) line done
+
+pub returns-in-Ok-clause-found : goal.returns-in-Ok-clause-found
+returns-in-Ok-clause-found g c = λ files told n design proof line done. found files (texts_of c.args.words.now) c.print.result _ _ _ _ (returns-in-Ok-clause-answer g c files told) n design proof line (returns-in-Ok-clause-planned g c files told n) done
+
+pub returns-in-Ok-clause-found_none : goal.returns-in-Ok-clause-found_none
+returns-in-Ok-clause-found_none g c = λ files told n design proof line no. found_none files (texts_of c.args.words.now) c.print.result _ _ _ _ (returns-in-Ok-clause-answer g c files told) n design proof line (g.S.Shelf.known_files c.reply.new.shelf) (returns-in-Ok-clause-proven g c files told n) no
+
+pub returns-in-Err-RefusedWith-clause-simulated : goal.returns-in-Err-RefusedWith-clause-simulated
+returns-in-Err-RefusedWith-clause-simulated g c = λ files told design plan line verdict. simulated files (texts_of c.args.words.now) c.print-in-Err-RefusedWith.result _ _ _ _ (returns-in-Err-RefusedWith-clause-answer g c files told) design plan (returns-in-Err-RefusedWith-clause-met g c files told) line verdict
+
+pub returns-in-Err-RefusedWith-clause-checked : goal.returns-in-Err-RefusedWith-clause-checked
+returns-in-Err-RefusedWith-clause-checked g c = λ files told n design proof line done. checked files (texts_of c.args.words.now) c.print-in-Err-RefusedWith.result _ _ _ _ (returns-in-Err-RefusedWith-clause-answer g c files told) n design proof (returns-in-Err-RefusedWith-clause-infeasible g c files told n) line done
+
+pub returns-in-Err-RefusedWith-clause-found : goal.returns-in-Err-RefusedWith-clause-found
+returns-in-Err-RefusedWith-clause-found g c = λ files told n design proof line done. found files (texts_of c.args.words.now) c.print-in-Err-RefusedWith.result _ _ _ _ (returns-in-Err-RefusedWith-clause-answer g c files told) n design proof line (returns-in-Err-RefusedWith-clause-planned g c files told n) done
+
+pub returns-in-Err-RefusedWith-clause-found_none : goal.returns-in-Err-RefusedWith-clause-found_none
+returns-in-Err-RefusedWith-clause-found_none g c = λ files told n design proof line no. found_none files (texts_of c.args.words.now) c.print-in-Err-RefusedWith.result _ _ _ _ (returns-in-Err-RefusedWith-clause-answer g c files told) n design proof line (g.S.Shelf.known_files c.reply.new.shelf) (returns-in-Err-RefusedWith-clause-proven g c files told n) no
+
+pub returns-in-Err-Memory-clause-simulated : goal.returns-in-Err-Memory-clause-simulated
+returns-in-Err-Memory-clause-simulated g c = λ files told design plan line verdict. absurd (no_verdict _ refl verdict)
+
+pub returns-in-Err-ShelfFault-clause-simulated : goal.returns-in-Err-ShelfFault-clause-simulated
+returns-in-Err-ShelfFault-clause-simulated g c = λ files told design plan line verdict. absurd (no_verdict _ refl verdict)
+
+pub returns-in-Ok-clause-tried_by_line : goal.returns-in-Ok-clause-tried_by_line
+returns-in-Ok-clause-tried_by_line g c = λ seed size line. returns-in-Ok-clause-tried g c seed size (trial_asked (texts_of c.args.words.now) seed size line)
+
+pub returns-in-Err-RefusedWith-clause-tried_by_line : goal.returns-in-Err-RefusedWith-clause-tried_by_line
+returns-in-Err-RefusedWith-clause-tried_by_line g c = λ seed size line. returns-in-Err-RefusedWith-clause-tried g c seed size (trial_asked (texts_of c.args.words.now) seed size line)
+
+pub returns-in-Err-Memory-clause-tried_by_line : goal.returns-in-Err-Memory-clause-tried_by_line
+returns-in-Err-Memory-clause-tried_by_line g c = λ seed size line. returns-in-Err-Memory-clause-tried g c seed size (trial_asked (texts_of c.args.words.now) seed size line)
+
+pub returns-in-Err-ShelfFault-clause-tried_by_line : goal.returns-in-Err-ShelfFault-clause-tried_by_line
+returns-in-Err-ShelfFault-clause-tried_by_line g c = λ seed size line. returns-in-Err-ShelfFault-clause-tried g c seed size (trial_asked (texts_of c.args.words.now) seed size line)
