@@ -29,6 +29,10 @@ pub record AreLeast (graph : List (List ℕ)) (starts : List ℕ) (found : List 
   pub one_a_node : length found ≡ length graph
   pub each : (q : ℕ) → q < length graph → IsLeast graph starts q (slice_index_or found q None)
 
+-- each number of steps is at most n
+abbrev pub AreWithin : ℕ → List (Option ℕ) → Type 0
+AreWithin n found = (q k : ℕ) → slice_index_or found q None ≡ Some k → k ≤ n
+
 -- a graph with the same nodes, in which each step leads the other way
 pub record IsTurned (graph back : List (List ℕ)) : Type 0 where
   pub same_nodes : length back ≡ length graph

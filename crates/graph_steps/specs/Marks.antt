@@ -1,5 +1,6 @@
 -- What a search knows: in how many steps it came to each node, and the nodes to which it came last.
-use Rattle.std.specs.Prelude.{ℕ, ◌+◌, List, [], ◌∷◌, ◌++◌, slice_index_or, slice_set, Option, Some, None, is_none, if◌then◌else◌}
+use Rattle.std.specs.Prelude.{ℕ, ◌+◌, List, [], ◌∷◌, ◌++◌, slice_index_or, slice_set, Option, Some, None, is_none}
+use Rattle.std.specs.Prelude.{if◌then◌else◌}
 use Rattle.graph_steps.specs.Graphs.{next}
 
 -- the steps to each node, and the nodes to which it came last
@@ -10,7 +11,8 @@ pub record Marked : Type 0 where
 -- it comes to a node
 abbrev pub mark : ℕ → Marked → ℕ → Marked
 mark steps m q =
-    if is_none (slice_index_or m.found q None) then record { found = slice_set m.found q (Some steps); front = m.front ++ q ∷ [] }
+    if is_none (slice_index_or m.found q None)
+    then record { found = slice_set m.found q (Some steps); front = m.front ++ q ∷ [] }
     else m
 
 -- it comes to these nodes, one after another

@@ -1,7 +1,7 @@
 //! The least number of steps to each node.
 
 ghost use Rattle.std.specs.Prelude.{◌≡◌, ◌<◌, All, IfOk, OnOk, None, [], length, replicate};
-ghost use Rattle.graph_steps.specs.Graphs.{AreLeast, IsGraph};
+ghost use Rattle.graph_steps.specs.Graphs.{AreLeast, AreWithin, IsGraph};
 ghost use Rattle.graph_steps.specs.Marks.{mark, mark_all, mark_next};
 
 use rail_base::list::List;
@@ -15,7 +15,8 @@ pub fn least_steps(
 ) -> Result<Vec<Option<usize>>, AllocError>
     requires graph { IsGraph graph.now }
     requires starts { All (λ p. p < length graph.now) starts.now }
-    ensures { IfOk result (λ found. AreLeast graph.now starts.now found.items) }
+    ensures least { IfOk result (λ found. AreLeast graph.now starts.now found.items) }
+    ensures few { IfOk result (λ found. AreWithin (length graph.now) found.items) }
 {
     let mut found = none_found(alloc, graph.len())?;
     let mut front = Vec::new(alloc);

@@ -24,7 +24,7 @@ use Rattle.rail_laws.proofs.Standing.{in_path}
 use Rattle.rail_laws.proofs.Given.{command_in_path}
 use Rattle.rail_laws.proofs.Lengths.{path_few}
 use Rattle.way_spec.specs.Ways.{IsWalk, visits_along}
-use Rattle.way_spec.specs.Laws.{CommandsAreLive, NeedsWays, PathsAreWays, TakesFewest}
+use Rattle.way_spec.specs.Laws.{CommandsAreLive, NeedsWays, PathsAreWays, TakesFewest, TakesFewestOfAll}
 
 -- ---- all visits are made
 
@@ -129,6 +129,9 @@ module _ (d : Station) (n : ℕ) (plan : List (List Command)) (f : IsFeasible d 
       let a = fewest.none_fewer (path plan t) (paths_are_ways t known) in
       let b = path_few t plan (one_a_step d (routes_of d) n plan f.runnable.well_formed) in
       omega arith
+
+pub takes_fewest_of_all : (d : Station) (n : ℕ) (plan : List (List Command)) → IsFeasible d n plan → TakesFewestOfAll d plan
+takes_fewest_of_all d n plan f k least = takes_fewest d n plan f least.train k least.there least.of_train
 
 pub needs_ways : (d : Station) → NeedsWays d
 needs_ways d t known none n plan f = none (path plan t, paths_are_ways d n plan f t known)

@@ -8,7 +8,7 @@ use Rattle.rail_base.specs.Stations.{IsTrain}
 use Rattle.rail_spec.specs.Feasible.{IsFeasible, IsInfeasible}
 use Rattle.rail_spec.specs.Plans.{commands, path}
 use Rattle.rail_spec.specs.Track.{routes_of}
-use Rattle.way_spec.specs.Ways.{HasWay, IsFewestRoutes, IsLive, IsWay}
+use Rattle.way_spec.specs.Ways.{HasWay, IsFewestRoutes, IsFewestSteps, IsLive, IsWay}
 
 -- it is so of every feasible plan, whatever the number of steps
 abbrev pub EachFeasible : (Station → List (List Command) → Type 0) → Type 0
@@ -25,6 +25,10 @@ CommandsAreLive d plan = (c : Command) → In c (commands plan) → IsLive d (ro
 -- it has at least as many steps as a train's shortest way has routes
 abbrev pub TakesFewest : Station → List (List Command) → Type 0
 TakesFewest d plan = (t : TrainNo) (k : ℕ) → IsTrain d t → IsFewestRoutes d (routes_of d) t k → k ≤ length plan
+
+-- so it has at least as many as the longest of these
+abbrev pub TakesFewestOfAll : Station → List (List Command) → Type 0
+TakesFewestOfAll d plan = (n : ℕ) → IsFewestSteps d (routes_of d) n → n ≤ length plan
 
 -- a train without a way makes a design infeasible
 abbrev pub NeedsWays : Station → Type 0

@@ -15,7 +15,8 @@ use Rattle.rail_spec.specs.Plans.{begins_in, goes_on, route_at}
 use Rattle.rail_spec.specs.Visits.{path_nodes, visits_on}
 
 module _ (d : Station) (routes : List Route) (t : TrainNo) where
-  -- routes of the design: the first begins at a boundary of the train's first visit, and each next one goes on where the one before ends
+  -- routes of the design: the first begins at a boundary of the train's first visit, and each next one goes on where the
+  -- one before ends
   pub record IsWalk (rs : List RouteNo) : Type 0 where
     pub named : (r : RouteNo) → In r rs → IsRoute routes r
     pub begins : begins_in (first_visit (train_of d t)) (map (route_at routes) rs) ≡ true
@@ -42,7 +43,7 @@ module _ (d : Station) (routes : List Route) (t : TrainNo) where
   abbrev pub CanMakeFirst : ℕ → Type 0
   CanMakeFirst k = (rs : List RouteNo) × IsWalk rs × MakesFirst k rs
 
-  -- the first of its visits that is not made on any walk on which those before are made
+  -- no walk of it makes its first k visits, and some walk makes those before the k-th
   pub record IsFirstUnmade (k : ℕ) : Type 0 where
     pub at_least_one : 1 ≤ k
     pub theirs : k ≤ length (train_of d t).visits
@@ -69,7 +70,8 @@ module _ (d : Station) (routes : List Route) (t : TrainNo) where
     pub each : (r : RouteNo) → In r rs ↔ IsLive r
     pub in_order : Pairs (λ (r q : RouteNo). r.0 < q.0) rs
 
-  -- n is one more than the signals at which its live routes start: more routes no train has in a plan, since none starts twice at one signal
+  -- n is one more than the signals at which its live routes start: more routes no train has in a plan, since its first route
+  -- starts at a boundary, and no two at one signal
   pub record IsMostRoutes (n : ℕ) : Type 0 where
     pub signals : List SignalNo
     pub each : (s : SignalNo) → In s signals ↔ IsLiveStart s
@@ -77,6 +79,13 @@ module _ (d : Station) (routes : List Route) (t : TrainNo) where
     pub so_many : n ≡ length signals + 1
 
 module _ (d : Station) (routes : List Route) where
+  -- the shortest way of some train has n routes, and that of each has so many at most
+  pub record IsFewestSteps (n : ℕ) : Type 0 where
+    pub train : TrainNo
+    pub there : IsTrain d train
+    pub of_train : IsFewestRoutes d routes train n
+    pub each : (t : TrainNo) → IsTrain d t → (k : ℕ) × IsFewestRoutes d routes t k × (k ≤ n)
+
   -- m is the sum of the most routes of all trains
   pub record IsMostSteps (m : ℕ) : Type 0 where
     pub most : TrainNo → ℕ

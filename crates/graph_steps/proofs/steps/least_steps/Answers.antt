@@ -56,4 +56,8 @@ loop-alloc-preserved c =
 pub returns : goal.returns
 returns c =
     let now : Marked = record { found = c.loop-alloc.found.items; front = c.loop-alloc.front.items } in
-    are_least c.args.graph.now c.args.starts.now c.loop-alloc.steps now c.loop-alloc.invariant (nil_from_length c.loop-alloc.front.items (sym (ap length c.as_slice.ensures.value) ∙ eqb-true (length c.as_slice.result.now) 0 (sym c.is_empty.ensures ∙ c.loop-alloc-test.false)))
+    let none = nil_from_length c.loop-alloc.front.items (sym (ap length c.as_slice.ensures.value) ∙ eqb-true (length c.as_slice.result.now) 0 (sym c.is_empty.ensures ∙ c.loop-alloc-test.false)) in
+    record {
+      least = are_least c.args.graph.now c.args.starts.now c.loop-alloc.steps now c.loop-alloc.invariant none;
+      few = λ q k f. let l = c.loop-alloc.invariant.few q k f in let r = c.loop-alloc.invariant.room in omega arith;
+    }
