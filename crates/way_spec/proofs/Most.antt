@@ -21,7 +21,7 @@ use Rattle.rail_base.proofs.Lists.{in_append, in_append_left, in_append_right, i
 use Rattle.rail_laws.proofs.Given.{path_is}
 use Rattle.rail_laws.proofs.Sums.{sum_by-less}
 use Rattle.way_spec.specs.Ways.{IsLiveStart, IsMostRoutes, IsMostSteps}
-use Rattle.way_spec.specs.Laws.{HasShortPlan, NoneOfAny}
+use Rattle.way_spec.specs.Laws.{HasMostRoutes, HasShortPlan, NoneOfAny}
 use Rattle.way_spec.proofs.Paths.{has_train, in_trains, in_trains_back, path_is_walk, paths_are_ways, starts_differ}
 use Rattle.way_spec.proofs.Shortening.{without_empty, more_steps, stays_feasible}
 
@@ -121,6 +121,9 @@ module _ (d : Station) (n : ℕ) (plan : List (List Command)) (f : IsFeasible d 
       let same = length-map (route_at (routes_of d)) (path plan t) in
       let is = most.so_many in
       omega arith
+
+pub has_most_routes : (d : Station) (n : ℕ) (plan : List (List Command)) → IsFeasible d n plan → HasMostRoutes d plan
+has_most_routes d n plan f t m known most = path_at_most d n plan f t known m most
 
 -- ---- all commands
 

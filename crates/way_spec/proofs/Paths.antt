@@ -24,7 +24,7 @@ use Rattle.rail_laws.proofs.Standing.{in_path}
 use Rattle.rail_laws.proofs.Given.{command_in_path}
 use Rattle.rail_laws.proofs.Lengths.{path_few}
 use Rattle.way_spec.specs.Ways.{IsWalk, visits_along}
-use Rattle.way_spec.specs.Laws.{CommandsAreLive, NeedsWays, PathsAreWays, TakesFewest, TakesFewestOfAll}
+use Rattle.way_spec.specs.Laws.{CommandsAreLive, NeedsWays, PathsAreWays, TakesFewest, TakesFewestOfAll, VisitingPathsAreWays}
 
 -- ---- all visits are made
 
@@ -113,6 +113,9 @@ module _ (d : Station) (routes : List Route) (n : ℕ) (plan : List (List Comman
       and_right (begins && follows) apart (and_left (begins && follows && apart) ends (its_path t known))
 
 -- ---- the laws
+
+pub visiting : (d : Station) (routes : List Route) (n : ℕ) (plan : List (List Command)) → IsWellFormed d routes n plan → VisitingPathsAreWays d routes n plan
+visiting d routes n plan f t known made = record { walk = path_is_walk d routes n plan f t known; makes_all = made }
 
 module _ (d : Station) (n : ℕ) (plan : List (List Command)) (f : IsFeasible d n plan) where
   pub paths_are_ways : PathsAreWays d plan
