@@ -12,3 +12,5 @@ mod line;
 mod on_a_line;
 #[cfg(test)]
 mod stations;
+#[cfg(test)]
+mod ways;

@@ -1,0 +1,4 @@
+pub mod Leading
+pub mod Marking
+pub mod Searching
+pub mod Turning

@@ -1,0 +1,3 @@
+-- Graphs, and in how many steps they lead from node to node.
+pub mod Graphs
+pub mod Marks

@@ -1,0 +1,3 @@
+-- Walks and ways of trains.
+pub mod Ways
+pub mod Laws
