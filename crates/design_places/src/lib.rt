@@ -3,5 +3,7 @@
 
 mod keys;
 mod places;
+mod shown;
 
 pub use places::place_in;
+pub use shown::{push_place, push_spot};
