@@ -2,8 +2,7 @@
 
 ghost use Rattle.std.specs.Prelude.{◌≡◌, ◌≤◌, ◌<◌, ◌==◌, All, IfOk, filter, length, map, slice_index};
 ghost use Rattle.rail_base.specs.Numbering.{count_from};
-ghost use Rattle.rail_base.specs.Routes.{IsRoute};
-ghost use Rattle.train_ways.specs.Pairs.{all_made, all_onward, begins, graph, made_before, pair_of, route_of, starts};
+ghost use Rattle.train_ways.specs.Pairs.{all_made, all_onward, graph, pair_of, route_of, starts};
 
 use crate::visits::made_behind;
 use interlocking::{Interlocking, starts_in};

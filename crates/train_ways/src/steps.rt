@@ -3,6 +3,7 @@
 ghost use Rattle.std.specs.Prelude.{IfOk, IfSome, None, ◌≡◌, ◌≤◌, max};
 ghost use Rattle.rail_base.specs.declared.station.TrainNo.{TrainNo};
 ghost use Rattle.rail_base.specs.Stations.{IsTrain};
+ghost use Rattle.interlocking.specs.Plans.{on};
 ghost use Rattle.way_spec.specs.Ways.{HasWay, IsFewestSteps, IsMostRoutes, IsMostSteps};
 
 use crate::onward::OnwardRoutes;
@@ -20,9 +21,8 @@ impl OnwardRoutes<'_> {
     pub fn fewest_steps(&self, alloc: Global) -> Result<Option<u32>, AllocError>
         ensures none { IfOk result (λ fewest. fewest ≡ None → (t : TrainNo)
             × IsTrain self.now.interlocking.now.design.station t
-            × (HasWay self.now.interlocking.now.design.station self.now.interlocking.now.routes t → ⊥)) }
-        ensures some { IfOk result (λ fewest. IfSome fewest (λ n. IsFewestSteps
-            self.now.interlocking.now.design.station self.now.interlocking.now.routes n)) }
+            × (on self.now.interlocking.now HasWay t → ⊥)) }
+        ensures some { IfOk result (λ fewest. IfSome fewest (λ n. on self.now.interlocking.now IsFewestSteps n)) }
     {
         let mut most = 0;
         for number in 1..self.interlocking.design.station.trains.len() as u32 + 1 {
@@ -41,8 +41,7 @@ impl OnwardRoutes<'_> {
     ///
     /// Want of memory alone.
     pub fn most_steps(&self, alloc: Global) -> Result<u64, AllocError>
-        ensures { IfOk result (λ most. IsMostSteps
-            self.now.interlocking.now.design.station self.now.interlocking.now.routes most) }
+        ensures { IfOk result (λ most. on self.now.interlocking.now IsMostSteps most) }
     {
         let mut most = 0;
         for number in 1..self.interlocking.design.station.trains.len() as u32 + 1 {
@@ -54,8 +53,7 @@ impl OnwardRoutes<'_> {
     /// How many routes a train has at the most in a plan.
     fn most_routes(&self, alloc: Global, train: TrainNo) -> Result<usize, AllocError>
         requires { IsTrain self.now.interlocking.now.design.station train }
-        ensures most { IfOk result (λ most. IsMostRoutes
-            self.now.interlocking.now.design.station self.now.interlocking.now.routes train most) }
+        ensures most { IfOk result (λ most. on self.now.interlocking.now IsMostRoutes train most) }
         ensures few { IfOk result (λ most. most ≤ 2001) }
     {
         let live = self.live_routes(alloc, train)?;

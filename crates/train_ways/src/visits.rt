@@ -1,6 +1,6 @@
 //! How many visits are made on a route.
 
-ghost use Rattle.std.specs.Prelude.{◌≡◌, ◌≤◌, ◌+◌, length};
+ghost use Rattle.std.specs.Prelude.{◌≡◌, ◌≤◌, length};
 ghost use Rattle.rail_base.specs.Numbering.{after_first};
 ghost use Rattle.train_ways.specs.Pairs.{made_at, made_behind};
 

@@ -1,8 +1,9 @@
 //! What can be asked of a train's ways.
 
-ghost use Rattle.std.specs.Prelude.{IfOk, IfSome, MatchOption, None, ◌≡◌, ◌≤◌, length};
+ghost use Rattle.std.specs.Prelude.{IfOk, IfSome, None, ◌≡◌};
 ghost use Rattle.rail_base.specs.Stations.{IsTrain, train_of};
-ghost use Rattle.way_spec.specs.Ways.{AreLive, HasWay, IsFewestRoutes, IsFirstUnmade, IsMostRoutes, IsMostSteps};
+ghost use Rattle.interlocking.specs.Plans.{on};
+ghost use Rattle.way_spec.specs.Ways.{AreLive, HasWay, IsFewestRoutes, IsFirstUnmade};
 ghost use Rattle.train_ways.specs.Search.{IsSearch};
 
 use crate::onward::OnwardRoutes;
@@ -36,10 +37,8 @@ impl OnwardRoutes<'_> {
     /// Want of memory alone.
     pub fn first_unmade(&self, alloc: Global, train: TrainNo) -> Result<Option<u32>, AllocError>
         requires { IsTrain self.now.interlocking.now.design.station train }
-        ensures none { IfOk result (λ visit. visit ≡ None
-            → HasWay self.now.interlocking.now.design.station self.now.interlocking.now.routes train) }
-        ensures some { IfOk result (λ visit. IfSome visit (λ k. IsFirstUnmade
-            self.now.interlocking.now.design.station self.now.interlocking.now.routes train k)) }
+        ensures none { IfOk result (λ visit. visit ≡ None → on self.now.interlocking.now HasWay train) }
+        ensures some { IfOk result (λ visit. IfSome visit (λ k. on self.now.interlocking.now IsFirstUnmade train k)) }
     {
         let search = self.search(alloc, train)?;
         let most = most_made(&search.made, &search.found);
@@ -57,10 +56,9 @@ impl OnwardRoutes<'_> {
     /// Want of memory alone.
     pub fn fewest_routes(&self, alloc: Global, train: TrainNo) -> Result<Option<u32>, AllocError>
         requires { IsTrain self.now.interlocking.now.design.station train }
-        ensures none { IfOk result (λ fewest. fewest ≡ None
-            → HasWay self.now.interlocking.now.design.station self.now.interlocking.now.routes train → ⊥) }
-        ensures some { IfOk result (λ fewest. IfSome fewest (λ n. IsFewestRoutes
-            self.now.interlocking.now.design.station self.now.interlocking.now.routes train n)) }
+        ensures none { IfOk result (λ fewest. fewest ≡ None → on self.now.interlocking.now HasWay train → ⊥) }
+        ensures some { IfOk result (λ fewest. IfSome fewest
+            (λ n. on self.now.interlocking.now IsFewestRoutes train n)) }
     {
         let search = self.search(alloc, train)?;
         Ok(match least_to(&search.made, &search.found, search.width) {
@@ -76,8 +74,7 @@ impl OnwardRoutes<'_> {
     /// Want of memory alone.
     pub fn live_routes(&self, alloc: Global, train: TrainNo) -> Result<Vec<RouteNo>, AllocError>
         requires { IsTrain self.now.interlocking.now.design.station train }
-        ensures { IfOk result (λ live. AreLive
-            self.now.interlocking.now.design.station self.now.interlocking.now.routes train live.items) }
+        ensures { IfOk result (λ live. on self.now.interlocking.now AreLive train live.items) }
     {
         let search = self.search(alloc, train)?;
         let back = turned_back(alloc, &search.next)?;
