@@ -1,0 +1,6 @@
+pub mod Entries
+pub mod Names
+pub mod Tracks
+pub mod Limits
+pub mod Faults
+pub mod Words
