@@ -5,6 +5,11 @@ use Rattle.std.specs.declared.alloc.AllocError.{AllocError}
 use Rattle.std.specs.declared.alloc.Global.{Global}
 use Rattle.std.proofs.lemmas.List.{drop_more}
 use Rattle.std.proofs.lemmas.List.Folds.{find-append}
+use Rattle.toml.specs.Data.{no_members}
+use Rattle.toml.specs.View.{items_view, view}
+use Rattle.toml.specs.declared.value.Value.{Value}
+use Rattle.design_table.specs.Forms.{list_of_items}
+use Rattle.design_table.specs.Sheet.{members_of}
 use Rattle.design_table.specs.Texts.{texts, visits_seen}
 use Rattle.std.specs.List.{HoldsAt, find, slice_get}
 use Rattle.std.specs.Option.{option_copied, option_map_or, option_or}
@@ -53,3 +58,14 @@ module _ (p : List ℕ → Bool) (vs : List (Vec (Bor (List ℕ)) Global)) (k : 
 
   pub found_later : o ≡ None → find p (names_from vs (k + 1)) ≡ total
   found_later e = sym (in_two ∙ rw e refl)
+
+-- ---- the entries of an array of the document
+
+listed : (vs : List Value) → list_of_items (items_view vs) ≡ map view vs
+listed [] = refl
+listed (v ∷ vs) = ap (λ ds. view v ∷ ds) (listed vs)
+
+-- the keys of one of them
+pub listed_at : (vs : List Value) (n : ℕ) (o : Option Value) → o ≡ slice_get vs n
+    → option_map_or members_of (slice_get (list_of_items (items_view vs)) n) no_members ≡ option_map_or (λ v. members_of (view v)) o no_members
+listed_at vs n o e = rw (listed vs) (seen_at view members_of no_members vs n o e)

@@ -16,13 +16,14 @@ use Rattle.fault_words.specs.Entries.{number_at, text_at, top_number, toward_at,
 use Rattle.fault_words.specs.Limits.{field_words, top_words}
 use Rattle.fault_words.specs.Names.{first_number, unknown_name}
 use Rattle.fault_words.specs.Tracks.{edges_at, inner_node, is_boundary, signal_beside, visits_of}
-use Rattle.fault_words.specs.Words.{edges_words, is_words, kind_text}
+use Rattle.fault_words.specs.Words.{edges_words, is_words, kind_text, line_of}
 
 -- ---- D03: `the name pw stands already at node 3`
 
 abbrev pub repeated_words : ParsedSheet → EntryKind → ℕ → List ℕ
-repeated_words s kind i = codes "the name " ++ text_at s kind i keys.Name ++ codes " stands already at " ++ kind_text kind
-    ++ codes " " ++ decimal (first_number s kind i)
+repeated_words s kind i =
+    codes "the name " ++ text_at s kind i keys.Name ++ codes " stands already at " ++ kind_text kind ++ codes " "
+    ++ decimal (first_number s kind i)
 
 -- ---- D04: `there is no node pw_1`
 
@@ -36,7 +37,8 @@ named_kind keys.ToTrain = kinds.Train
 named_kind _ = kinds.Node
 
 abbrev pub unknown_words : ParsedSheet → EntryKind → ℕ → Key → List ℕ
-unknown_words s kind i key = codes "there is no " ++ kind_text (named_kind key) ++ codes " " ++ unknown_name s kind i key
+unknown_words s kind i key =
+    codes "there is no " ++ kind_text (named_kind key) ++ codes " " ++ unknown_name s kind i key
 
 -- ---- D06: `node pw has edges x1, x2, x3 at side a and edge x4 at side b: ..`, or `edge x joins node pw to itself`
 
@@ -46,11 +48,14 @@ sides_words s node = edges_words (edges_at s node A) ++ codes " at side a and " 
     ++ codes " at side b"
 
 abbrev pub node_words : ParsedSheet → ℕ → List ℕ
-node_words s i = codes "node " ++ text_at s kinds.Node i keys.Name ++ codes " has " ++ sides_words s (text_at s kinds.Node i keys.Name)
+node_words s i =
+    let node = text_at s kinds.Node i keys.Name in
+    codes "node " ++ node ++ codes " has " ++ sides_words s node
     ++ codes ": at most two may be at one side, and then one at the other"
 
 abbrev pub loop_words : ParsedSheet → ℕ → List ℕ
-loop_words s i = codes "edge " ++ text_at s kinds.Edge i keys.Name ++ codes " joins node " ++ text_at s kinds.Edge i keys.From
+loop_words s i =
+    codes "edge " ++ text_at s kinds.Edge i keys.Name ++ codes " joins node " ++ text_at s kinds.Edge i keys.From
     ++ codes " to itself"
 
 abbrev pub crowded_words : ParsedSheet → EntryKind → ℕ → List ℕ
@@ -65,8 +70,9 @@ abbrev pub edges_of : ParsedSheet → List ℕ → List (List ℕ)
 edges_of s node = edges_at s node A ++ edges_at s node B
 
 abbrev pub boundary_words : ParsedSheet → ℕ → List ℕ
-boundary_words s i = codes "boundary " ++ text_at s kinds.Node i keys.Name ++ codes " has "
-    ++ edges_words (edges_of s (text_at s kinds.Node i keys.Name)) ++ codes ", and is to have one"
+boundary_words s i =
+    let node = text_at s kinds.Node i keys.Name in
+    codes "boundary " ++ node ++ codes " has " ++ edges_words (edges_of s node) ++ codes ", and is to have one"
 
 -- ---- D08: `signal s stands at boundary b1`, or `signal s stands at node n toward a, as signal q does`
 
@@ -76,7 +82,8 @@ side_text B = codes "b"
 
 abbrev pub beside_words : ParsedSheet → List ℕ → Side → List ℕ
 beside_words s node side =
-    codes "node " ++ node ++ codes " toward " ++ side_text side ++ codes ", as signal " ++ signal_beside s node side ++ codes " does"
+    codes "node " ++ node ++ codes " toward " ++ side_text side ++ codes ", as signal " ++ signal_beside s node side
+    ++ codes " does"
 
 -- where a signal stands, whose node has this name
 abbrev pub signal_place_words : ParsedSheet → List ℕ → Side → List ℕ
@@ -85,7 +92,8 @@ signal_place_words s node side =
     else beside_words s node side
 
 abbrev pub signal_words : ParsedSheet → ℕ → List ℕ
-signal_words s i = codes "signal " ++ text_at s kinds.Signal i keys.Name ++ codes " stands at "
+signal_words s i =
+    codes "signal " ++ text_at s kinds.Signal i keys.Name ++ codes " stands at "
     ++ signal_place_words s (text_at s kinds.Signal i keys.Node) (toward_at s i)
 
 -- ---- D09: `speed_mm_s is 3, which is 0 mm in a tick of 100 ms`
@@ -110,7 +118,8 @@ first_nodes [] = []
 first_nodes (visit ∷ visits) = visit
 
 abbrev pub start_words : ParsedSheet → ℕ → List ℕ
-start_words s i = codes "train " ++ text_at s kinds.Train i keys.Name ++ codes " begins at "
+start_words s i =
+    codes "train " ++ text_at s kinds.Train i keys.Name ++ codes " begins at "
     ++ inner_node s (first_nodes (visits_at s i)) ++ codes ", which is no boundary"
 
 -- ---- D11: `train A has 2 visits, and no visit 3`
@@ -127,7 +136,8 @@ abbrev pub count_visits : ℕ → List ℕ
 count_visits n = decimal n ++ (if n == 1 then codes " visit" else codes " visits")
 
 abbrev pub missing_words : ParsedSheet → List ℕ → ℤ → List ℕ
-missing_words s train n = codes "train " ++ train ++ codes " has " ++ count_visits (visits_of s train) ++ codes ", and no visit "
+missing_words s train n =
+    codes "train " ++ train ++ codes " has " ++ count_visits (visits_of s train) ++ codes ", and no visit "
     ++ signed_decimal n
 
 -- ---- D12: `a way round comes back to edge x`
@@ -168,11 +178,6 @@ fault_words s c (places.Entry kind i) = entry_fault s c kind i
 fault_words s c (places.Field kind i key) = field_fault s c kind i key
 fault_words s c places.Routes = routes_fault c
 fault_words s c _ = []
-
--- a sentence is a line, and no words are none
-abbrev pub line_of : List ℕ → List ℕ
-line_of [] = []
-line_of (first ∷ more) = (first ∷ more) ++ codes "\n"
 
 -- what is wrong with the sheet that is refused with this code at this place
 abbrev pub fault_sentence : ParsedSheet → Code → Place → List ℕ

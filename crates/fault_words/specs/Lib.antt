@@ -4,3 +4,4 @@ pub mod Tracks
 pub mod Limits
 pub mod Faults
 pub mod Words
+pub mod Forms

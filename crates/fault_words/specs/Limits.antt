@@ -1,5 +1,6 @@
 -- What is allowed of numbers and counts, and what is not.
-use Rattle.std.specs.Prelude.{ℕ, ℤ, ◌+◌, Bool, true, false, not, List, [], ◌++◌, length, codes, decimal, slice_get, if◌then◌else◌}
+use Rattle.std.specs.Prelude.{ℕ, ℤ, ◌+◌, Bool, true, false, not, if◌then◌else◌, List, [], ◌++◌, length, slice_get}
+use Rattle.std.specs.Prelude.{codes, decimal}
 use Rattle.std.specs.Fmt.{signed_decimal}
 use Rattle.std.specs.List.{position_or_len}
 use Rattle.std.specs.Option.{option_map_or}
@@ -81,7 +82,8 @@ nodes_at visits k = option_map_or length (slice_get visits k) 0
 
 -- `visit 2 has 65 nodes, and 1 to 64 are allowed`
 abbrev pub visit_words : List (List (List ℕ)) → ℕ → List ℕ
-visit_words visits k = codes "visit " ++ decimal (k + 1) ++ codes " has " ++ decimal (nodes_at visits k) ++ codes " nodes"
+visit_words visits k =
+    codes "visit " ++ decimal (k + 1) ++ codes " has " ++ decimal (nodes_at visits k) ++ codes " nodes"
     ++ allowed_words 1 64
 
 -- `there are 17 visits, and 1 to 16 are allowed`, or what one of them has

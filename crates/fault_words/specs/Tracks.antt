@@ -1,5 +1,6 @@
 -- The track of a sheet, by names.
-use Rattle.std.specs.Prelude.{ℕ, Bool, true, false, not, ◌&&◌, List, [], ◌∷◌, ◌++◌, bytes_eq, length, if◌then◌else◌, unwrap_or}
+use Rattle.std.specs.Prelude.{ℕ, Bool, true, false, not, ◌&&◌, if◌then◌else◌, List, [], ◌∷◌, ◌++◌, bytes_eq, length}
+use Rattle.std.specs.Prelude.{unwrap_or}
 use Rattle.std.specs.List.{find, flat_map, list_any}
 use Rattle.std.specs.Option.{option_map_or}
 use Rattle.design_table.specs.declared.sheet.Side.{Side}
@@ -32,7 +33,8 @@ is_boundary s name = list_any (λ (n : ParsedNode). bytes_eq n.name name && n.bo
 -- the first signal at this node for this side
 abbrev pub signal_beside : ParsedSheet → List ℕ → Side → List ℕ
 signal_beside s node side =
-    option_map_or (λ (q : ParsedSignal). q.name) (find (λ q. bytes_eq q.node node && is_side q.toward side) s.signals) []
+    let is_there = λ (q : ParsedSignal). bytes_eq q.node node && is_side q.toward side in
+    option_map_or (λ (q : ParsedSignal). q.name) (find is_there s.signals) []
 
 -- the first of these names that is no boundary's
 abbrev pub inner_node : ParsedSheet → List (List ℕ) → List ℕ

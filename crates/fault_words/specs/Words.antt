@@ -27,3 +27,8 @@ is_words key n = key_text key ++ codes " is " ++ signed_decimal n
 -- `, and 1 to 128 are allowed`
 abbrev pub allowed_words : ℕ → ℕ → List ℕ
 allowed_words low high = codes ", and " ++ decimal low ++ codes " to " ++ decimal high ++ codes " are allowed"
+
+-- a sentence is a line, and no words are none
+abbrev pub line_of : List ℕ → List ℕ
+line_of [] = []
+line_of (first ∷ more) = (first ∷ more) ++ codes "\n"

@@ -18,7 +18,7 @@ use crate::entries::{entry, number_at, text_at, top_number, toward_at};
 use crate::limits::{put_field, put_top};
 use crate::names::{first_number, unknown_name};
 use crate::tracks::{edges_at, inner_node, is_boundary, signal_beside, visits_of};
-use crate::words::{put_edges, put_is, put_kind, put_text, put_whole};
+use crate::words::{end_line, put_edges, put_is, put_kind, put_text, put_whole};
 use design_table::{Code, EntryKind, Key, Place, Sheet, Side};
 use rail_text::put_number;
 use std::alloc::{AllocError, Global};
@@ -427,8 +427,6 @@ pub fn fault_sentence(
     ensures { IfOk result (λ text. text.items ≡ fault_sentence (sheet_seen sheet.now) code place) }
 {
     let mut text = fault_words(alloc, sheet, code, place)?;
-    if !text.is_empty() {
-        text.push(b'\n')?;
-    }
+    end_line(&mut text)?;
     Ok(text)
 }

@@ -3,10 +3,12 @@
 
 mod entries;
 mod faults;
+mod forms;
 mod limits;
 mod names;
 mod tracks;
 mod words;
 
 pub use faults::fault_sentence;
+pub use forms::form_sentence;
 pub use names::first_place;

@@ -34,7 +34,8 @@ fn push_ends<'a>(
     node: &str,
     side: Side,
 ) -> Result<(), AllocError>
-    ensures { OnOk result (texts names.new.items ≡ texts names.old.items ++ ends_at node.now side (edge_seen edge.now)) }
+    ensures { OnOk result (texts names.new.items
+        ≡ texts names.old.items ++ ends_at node.now side (edge_seen edge.now)) }
 {
     push_name(
         names,

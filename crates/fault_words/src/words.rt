@@ -4,7 +4,7 @@ ghost use Rattle.std.specs.Prelude.{◌≡◌, ◌++◌, OnOk};
 ghost use Rattle.std.specs.Fmt.{signed_decimal};
 ghost use Rattle.design_table.specs.Texts.{texts};
 ghost use Rattle.rail_text.specs.Added.{AddsText};
-ghost use Rattle.fault_words.specs.Words.{allowed_words, each_name, edges_words, is_words, kind_text};
+ghost use Rattle.fault_words.specs.Words.{allowed_words, each_name, edges_words, is_words, kind_text, line_of};
 
 use design_table::{EntryKind, Key};
 use rail_text::put_number;
@@ -79,4 +79,14 @@ pub(crate) fn put_allowed(text: &mut Vec<u8>, low: u64, high: u64) -> Result<(),
     put_text(text, " to ")?;
     put_number(text, high)?;
     put_text(text, " are allowed")
+}
+
+/// Appends an LF where there are words before it.
+pub(crate) fn end_line(text: &mut Vec<u8>) -> Result<(), AllocError>
+    ensures { OnOk result (text.new.items ≡ line_of text.old.items) }
+{
+    if !text.is_empty() {
+        text.push(b'\n')?;
+    }
+    Ok(())
 }
