@@ -5,3 +5,4 @@ pub mod Limits
 pub mod Faults
 pub mod Words
 pub mod Forms
+pub mod Laws

@@ -4,6 +4,7 @@
 mod entries;
 mod faults;
 mod forms;
+pub mod laws;
 mod limits;
 mod names;
 mod tracks;
