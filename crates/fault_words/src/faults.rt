@@ -417,7 +417,7 @@ fn fault_words(
 }
 
 /// The sentence that says what is wrong with a sheet that is refused with one of D03 to D13 at this place, with its LF.
-/// It has no byte where the code is another one, or is never given at such a place. An error is want of memory.
+/// It has no byte where the code is another one, or is given at no place of this form. An error is want of memory.
 pub fn fault_sentence(
     alloc: Global,
     sheet: &Sheet,

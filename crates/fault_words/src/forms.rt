@@ -215,8 +215,8 @@ fn form_words(
 }
 
 /// The sentence that says what is wrong with a document that is refused with D02 at this place, with its LF. `unknown`
-/// is the name of the key there, which is said where nothing asks for it. It has no byte where D02 is never given at
-/// such a place. An error is want of memory.
+/// is the name of the key there, which is said where nothing asks for it. It has no byte for the file as a whole and its
+/// routes. An error is want of memory.
 pub fn form_sentence(
     alloc: Global,
     table: &Table,
