@@ -1,0 +1,10 @@
+use Rattle.std.proofs.Common.{◌≡◌, drop}
+use Rattle.std.specs.List.{find}
+use Rattle.design_table.specs.Texts.{texts}
+use Rattle.design_table.specs.Views.{sheet_seen}
+use Rattle.fault_words.specs.Names.{is_unknown}
+use Rattle.fault_words.proofs.names.unknown_among.Given as goal
+
+-- it is to be found in the rest
+abbrev pub invariant-loop-name : goal.invariant-loop-name
+invariant-loop-name l = find (is_unknown (sheet_seen l.sheet)) (texts (drop l.name-index l.names)) ≡ find (is_unknown (sheet_seen l.sheet)) (texts l.names)

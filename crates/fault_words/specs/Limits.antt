@@ -1,0 +1,120 @@
+-- What is allowed of numbers and counts, and what is not.
+use Rattle.std.specs.Prelude.{ℕ, ℤ, ◌+◌, Bool, true, false, not, if◌then◌else◌, List, [], ◌++◌, length, slice_get}
+use Rattle.std.specs.Prelude.{codes, decimal}
+use Rattle.std.specs.Fmt.{signed_decimal}
+use Rattle.std.specs.List.{position_or_len}
+use Rattle.std.specs.Option.{option_map_or}
+use Rattle.design_table.specs.declared.key.Key.{Key}
+use Rattle.design_table.specs.declared.key.Key.TheVariants as keys
+use Rattle.design_table.specs.declared.place.EntryKind.{EntryKind}
+use Rattle.design_table.specs.declared.place.EntryKind.TheVariants as kinds
+use Rattle.design_table.specs.Parsed.{ParsedSheet}
+use Rattle.rail_base.specs.Admission.{is_from}
+use Rattle.fault_words.specs.Entries.{number_at, visits_at}
+use Rattle.fault_words.specs.Words.{allowed_words, is_words, kind_text}
+
+-- ---- numbers
+
+-- the least number that is allowed at a key of an entry
+abbrev pub least_of : Key → ℕ
+least_of keys.MaxMs = 0
+least_of _ = 1
+
+-- the greatest, in mm, mm/s, mm/s2 or ms
+abbrev pub greatest_of : EntryKind → Key → ℕ
+greatest_of kinds.Edge keys.LengthMm = 10000000
+greatest_of kinds.Vehicle keys.LengthMm = 2000000
+greatest_of kinds.Within keys.MaxMs = 86400000
+greatest_of _ _ = 100000
+
+-- `length_mm is 0, and 1 to 10000000 are allowed`
+abbrev pub number_words : Key → ℤ → ℕ → ℕ → List ℕ
+number_words key n low high = is_words key n ++ allowed_words low high
+
+-- `, and 1 to 86400 ticks of 1000 ms are allowed`
+abbrev pub ticks_words : ℤ → List ℕ
+ticks_words tick_ms = codes ", and 1 to 86400 ticks of " ++ signed_decimal tick_ms ++ codes " ms are allowed"
+
+-- `horizon_ms is 0, and 1 to 86400 ticks of 1000 ms are allowed`
+abbrev pub horizon_words : ParsedSheet → List ℕ
+horizon_words s = is_words keys.HorizonMs s.horizon_ms ++ ticks_words s.tick_ms
+
+-- ---- counts
+
+-- how many entries of a kind there are
+abbrev pub count_of : ParsedSheet → EntryKind → ℕ
+count_of s kinds.Node = length s.nodes
+count_of s kinds.Edge = length s.edges
+count_of s kinds.Signal = length s.signals
+count_of s kinds.Vehicle = length s.vehicles
+count_of s kinds.Train = length s.trains
+count_of s kinds.Order = length s.orders
+count_of s kinds.Within = length s.withins
+
+-- how many there are to be at least, and at most
+abbrev pub fewest_of : EntryKind → ℕ
+fewest_of kinds.Train = 1
+fewest_of _ = 0
+
+abbrev pub most_of : EntryKind → ℕ
+most_of kinds.Node = 2000
+most_of kinds.Edge = 4000
+most_of kinds.Signal = 1000
+most_of kinds.Vehicle = 64
+most_of kinds.Train = 128
+most_of kinds.Order = 256
+most_of kinds.Within = 256
+
+-- `there are 129 trains, and 1 to 128 are allowed`
+abbrev pub count_words : ParsedSheet → EntryKind → List ℕ
+count_words s kind = codes "there are " ++ decimal (count_of s kind) ++ codes " " ++ kind_text kind ++ codes "s"
+    ++ allowed_words (fewest_of kind) (most_of kind)
+
+-- ---- visits
+
+-- the place of the first visit that has no node, or more than 64, counted from 0
+abbrev pub first_crowded : List (List (List ℕ)) → ℕ
+first_crowded visits = position_or_len (λ visit. not (is_from 1 64 (length visit))) visits
+
+-- how many nodes the visit at a place has
+abbrev pub nodes_at : List (List (List ℕ)) → ℕ → ℕ
+nodes_at visits k = option_map_or length (slice_get visits k) 0
+
+-- `visit 2 has 65 nodes, and 1 to 64 are allowed`
+abbrev pub visit_words : List (List (List ℕ)) → ℕ → List ℕ
+visit_words visits k =
+    codes "visit " ++ decimal (k + 1) ++ codes " has " ++ decimal (nodes_at visits k) ++ codes " nodes"
+    ++ allowed_words 1 64
+
+-- `there are 17 visits, and 1 to 16 are allowed`, or what one of them has
+abbrev pub visits_words : List (List (List ℕ)) → List ℕ
+visits_words visits =
+    if is_from 1 16 (length visits) then visit_words visits (first_crowded visits)
+    else codes "there are " ++ decimal (length visits) ++ codes " visits" ++ allowed_words 1 16
+
+-- ---- at a place
+
+-- a number at the top, or how many entries there are
+abbrev pub top_words : ParsedSheet → Key → List ℕ
+top_words s keys.Version = number_words keys.Version s.version 1 2
+top_words s keys.TickMs = number_words keys.TickMs s.tick_ms 100 1000
+top_words s keys.HorizonMs = horizon_words s
+top_words s keys.Node = count_words s kinds.Node
+top_words s keys.Edge = count_words s kinds.Edge
+top_words s keys.Signal = count_words s kinds.Signal
+top_words s keys.Vehicle = count_words s kinds.Vehicle
+top_words s keys.Train = count_words s kinds.Train
+top_words s keys.Order = count_words s kinds.Order
+top_words s keys.Within = count_words s kinds.Within
+top_words s _ = []
+
+-- the key is that of visits
+abbrev pub is_visits : Key → Bool
+is_visits keys.Visits = true
+is_visits _ = false
+
+-- the visits of an entry, or a number
+abbrev pub field_words : ParsedSheet → EntryKind → ℕ → Key → List ℕ
+field_words s kind i key =
+    if is_visits key then visits_words (visits_at s i)
+    else number_words key (number_at s kind i key) (least_of key) (greatest_of kind key)
