@@ -1,0 +1,6 @@
+//! A refused design in words: where its fault stands in the text, and what is wrong there.
+#![tactic(auto)]
+
+mod refused;
+
+pub use refused::push_refused;
