@@ -2,6 +2,10 @@
 //! with an error, it is want of memory.
 #![tactic(auto)]
 
+mod ends;
 mod looks;
+mod sections;
 
+pub use ends::push_dead_ends;
 pub use looks::push_looks;
+pub use sections::push_slipped_sections;
