@@ -2,5 +2,7 @@
 #![tactic(auto)]
 
 mod refused;
+mod unread;
 
 pub use refused::push_refused;
+pub use unread::unread_lines;
