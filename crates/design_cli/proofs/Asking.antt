@@ -1,10 +1,8 @@
 -- What is asked for.
-use Rattle.std.proofs.Common.{◌≡◌, ℕ, ◌≤◌, true, false, List, [], ◌∷◌, inl, inr, ◌⊎◌, Option, Some, None, Result, Ok, Err, refl, ap, sym, ◌∙◌, subst}
+use Rattle.std.proofs.Common.{◌≡◌, ℕ, ◌≤◌, true, false, List, inl, inr, Option, Some, None, Result, Ok, Err, refl, ap, sym, ◌∙◌, subst}
 use Rattle.std.specs.Prelude.{◌↔◌}
-use Rattle.design_text.specs.Texts.{design_text}
 use Rattle.design_text.proofs.Lengths.{texts_are_short}
 use Rattle.design_text.proofs.ReadingBack.{read_back}
-use Rattle.infra_reader.specs.Design.{design_of}
 use Rattle.rail_base.specs.declared.station.Station.{Station}
 use Rattle.rail_base.specs.Admission.{is_admitted}
 use Rattle.std.specs.List.{concat}
@@ -18,8 +16,8 @@ use Rattle.rail_cli.specs.Statuses.{is_answered}
 use Rattle.rail_cli.proofs.Using.{IsNoUsage, long_is_no_usage, design_is_no_usage}
 use Rattle.workload.specs.Made.{made}
 use Rattle.workload.proofs.Admitting.{made_admitted}
-use Rattle.design_cli.specs.Answers.{answer_given, answer_to, design_asked, file_answer, names_in, printed, text_answer, usage}
-use Rattle.design_cli.specs.Reports.{PrintsAnswer, PrintsDesign, PrintsSome, PrintsUnreadOf, Reports}
+use Rattle.design_cli.specs.Answers.{answer_given, answer_to, design_asked, names_in, printed, text_answer}
+use Rattle.design_cli.specs.Reports.{PrintsDesign, PrintsSome, Reports}
 use Rattle.design_cli.specs.Wanted.{IsInRange, Wanted, in_file, of_trial}
 
 -- ---- the design that is printed

@@ -1,15 +1,15 @@
 -- Answers, and those of `rcv routes` for the same file.
-use Rattle.std.proofs.Common.{◌≡◌, ◌≢◌, ℕ, List, Result, Ok, Err, refl, ap, sym, ◌∙◌}
+use Rattle.std.proofs.Common.{◌≡◌, ◌≢◌, ℕ, List, Result, Ok, Err, refl, ap, ◌∙◌}
 use Rattle.infra_reader.specs.Design.{design_of}
 use Rattle.rail_base.specs.declared.station.Station.{Station}
 use Rattle.rail_cli.specs.declared.status.Status.TheVariants.{Done}
 use Rattle.rail_cli.specs.declared.input.InputFile.TheVariants as file
 use Rattle.rail_cli.specs.Statuses.{is_verdict}
-use Rattle.rail_cli.specs.Answers.{ReplySeen, and_then, design_in, routes_answer, routes_reply, unless_refused, with_routes, within_limit}
+use Rattle.rail_cli.specs.Answers.{ReplySeen, and_then, design_in, routes_answer, unless_refused, with_routes, within_limit}
 use Rattle.rail_cli.proofs.Deciding.{answered_next}
 use Rattle.rail_cli.proofs.Passing.{passed, long_refuses, design_refuses}
 use Rattle.rail_cli.proofs.Refusing.{file_is}
-use Rattle.design_cli.specs.Answers.{file_answer, printed, text_answer}
+use Rattle.design_cli.specs.Answers.{printed, text_answer}
 use Rattle.design_cli.specs.Laws.{PrintsWhereRoutesAreListed, RefusesAsRoutes}
 
 listed_or : (q : Result Station ReplySeen) → (unless_refused q routes_answer).status ≢ Done → unless_refused q printed ≡ unless_refused q routes_answer

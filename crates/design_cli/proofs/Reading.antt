@@ -1,11 +1,11 @@
 -- Replies, one reading after the other.
-use Rattle.std.proofs.Common.{◌≡◌, ℕ, true, List, [], Result, Ok, Err, Vec, Global, refl, ap, sym, ◌∙◌, subst}
+use Rattle.std.proofs.Common.{◌≡◌, ℕ, List, Result, Ok, Err, Vec, Global, refl, ap, sym, ◌∙◌, subst}
 use Rattle.rail_base.specs.declared.station.Station.{Station}
 use Rattle.rail_cli.specs.declared.reply.Reply.{Reply}
 use Rattle.rail_cli.specs.declared.ending.Ending.{Ending}
 use Rattle.rail_cli.specs.declared.ending.Ending.TheVariants as ending
 use Rattle.rail_cli.specs.declared.input.InputFile.TheVariants as file
-use Rattle.rail_cli.specs.Answers.{ReplySeen, and_then, design_in, unless_refused, within_limit}
+use Rattle.rail_cli.specs.Answers.{ReplySeen, and_then, design_in, within_limit}
 use Rattle.rail_cli.specs.Replies.{OnReply, ReadsOrEnds, Replies, reply_seen}
 use Rattle.rail_cli.proofs.AnyShelf.{ends_so}
 use Rattle.rail_cli.proofs.Deciding.{answered_next}

@@ -2,7 +2,7 @@
 use Rattle.std.specs.Prelude.{◌≡◌, ◌≢◌, ℕ, List, Ok}
 use Rattle.rail_base.specs.declared.station.Station.{Station}
 use Rattle.rail_cli.specs.declared.status.Status.TheVariants.{Done}
-use Rattle.rail_cli.specs.Answers.{ReplySeen, design_in, routes_reply}
+use Rattle.rail_cli.specs.Answers.{design_in, routes_reply}
 use Rattle.design_cli.specs.Answers.{file_answer, printed}
 
 -- where the routes of a design are not listed, the answer is the same, by status and line

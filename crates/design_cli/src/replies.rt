@@ -1,7 +1,6 @@
 //! The reply to what is wanted.
 
 ghost use Rattle.std.specs.Prelude.{◌≡◌, ◌≢◌, ◌≤◌, [], ◌∷◌, true, Ok, Some, Err, ℕ, List};
-ghost use Rattle.infra_reader.specs.Design.{design_of};
 ghost use Rattle.rail_base.specs.Admission.{is_admitted};
 ghost use Rattle.rail_base.specs.declared.station.Station.{Station};
 ghost use Rattle.rail_outside.specs.Asks.{fetched};
@@ -10,8 +9,7 @@ ghost use Rattle.rail_outside.specs.Growth.{Rose, GrowsByPrefix};
 ghost use Rattle.rail_cli.specs.Answers.{design_in};
 ghost use Rattle.rail_cli.specs.Replies.{OnReply, Replies, RepliesWith};
 ghost use Rattle.workload.specs.Made.{made};
-ghost use Rattle.design_text.specs.Texts.{design_text};
-ghost use Rattle.design_cli.specs.Answers.{design_in_file, file_answer, printed, text_answer, usage, usage_line};
+ghost use Rattle.design_cli.specs.Answers.{design_in_file, file_answer, printed, text_answer, usage};
 
 use design_text::design_lines;
 use rail_base::design::Design;

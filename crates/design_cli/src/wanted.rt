@@ -1,7 +1,7 @@
 //! What words ask for.
 
-ghost use Rattle.std.specs.Prelude.{◌≡◌, ◌++◌, ◌∷◌, [], IfOk, OnOk, Some, None, Err, option_map};
-ghost use Rattle.rail_words.specs.Requests.{IsRequestInRange, request_of};
+ghost use Rattle.std.specs.Prelude.{◌≡◌, ◌++◌, [], IfOk, OnOk, Some, None, Err, option_map};
+ghost use Rattle.rail_words.specs.Requests.{request_of};
 ghost use Rattle.rail_words.specs.Words.{request_seen, texts_of};
 ghost use Rattle.design_cli.specs.Wanted.{IsInRange, by_request, command_for, rcv_words};
 ghost use Rattle.design_cli.specs.Words.{wanted_by};

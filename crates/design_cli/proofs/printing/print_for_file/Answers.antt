@@ -1,5 +1,5 @@
-use Rattle.std.proofs.Common.{rules, [], ◌∷◌}
-use Rattle.design_cli.proofs.Reporting.{ok_is_reply, refused_is_reply, reports_ok, reports_refused, reports_unread, unread_is_no_answer, want_reports}
+use Rattle.std.proofs.Common.{[], ◌∷◌}
+use Rattle.design_cli.proofs.Reporting.{reports_ok, reports_refused, reports_unread, want_reports}
 use Rattle.design_cli.proofs.printing.print_for_file.Goals as goal
 
 pub returns-in-Ok-clause-prints : goal.returns-in-Ok-clause-prints

@@ -1,4 +1,3 @@
-use Rattle.std.proofs.Common.{rules}
 use Rattle.design_cli.proofs.Reporting.{answers_with, want_answers}
 use Rattle.design_cli.proofs.printing.print_reply.Goals as goal
 

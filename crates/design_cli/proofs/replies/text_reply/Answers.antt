@@ -1,4 +1,4 @@
-use Rattle.std.proofs.Common.{◌≡◌, true, rules, Ok, subst}
+use Rattle.std.proofs.Common.{◌≡◌, true, rules, subst}
 use Rattle.interlocking.specs.declared.railway.Interlocking.{Interlocking}
 use Rattle.rail_base.specs.Admission.{is_admitted}
 use Rattle.rail_base.specs.declared.station.Station.{Station}

@@ -1,10 +1,9 @@
-use Rattle.std.proofs.Common.{rules, Some, None, inl}
+use Rattle.std.proofs.Common.{Some}
 use Rattle.rail_words.specs.Requests.{request_of}
 use Rattle.rail_words.specs.Words.{texts_of}
-use Rattle.design_cli.specs.Answers.{answer_to, names_in, usage}
 use Rattle.design_cli.specs.Wanted.{by_request}
 use Rattle.design_cli.specs.Words.{wanted_by}
-use Rattle.design_cli.proofs.Reporting.{asked_design, asked_grows, asked_reports, asked_some, none_asked, usage_some, want_reports, want_some}
+use Rattle.design_cli.proofs.Reporting.{asked_design, asked_grows, asked_reports, asked_some}
 use Rattle.design_cli.proofs.run.run_asked.Goals as goal
 
 pub returns-in-Ok-clause-answer : goal.returns-in-Ok-clause-answer

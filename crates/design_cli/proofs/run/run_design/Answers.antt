@@ -1,4 +1,4 @@
-use Rattle.std.proofs.Common.{◌≡◌, sym, ap, ◌∙◌}
+use Rattle.std.proofs.Common.{sym, ap, ◌∙◌}
 use Rattle.rail_words.specs.Requests.{request_of}
 use Rattle.rail_words.specs.Words.{texts_of}
 use Rattle.design_cli.specs.Answers.{answer_to, names_in}

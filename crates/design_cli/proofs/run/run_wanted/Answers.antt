@@ -1,4 +1,4 @@
-use Rattle.std.proofs.Common.{◌≡◌, true, rules, Some, inl, refl}
+use Rattle.std.proofs.Common.{◌≡◌, true, rules, Some, inl}
 use Rattle.rail_base.specs.Admission.{is_admitted}
 use Rattle.workload.specs.Made.{made}
 use Rattle.design_cli.specs.Answers.{file_answer, printed}
