@@ -1,0 +1,3 @@
+-- The names by which routes are shown, and plans with them.
+pub mod Shown
+pub mod Laws

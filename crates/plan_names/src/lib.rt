@@ -1,0 +1,4 @@
+//! Plans with the names of edges in place of route numbers.
+#![tactic(auto)]
+
+pub mod laws;
