@@ -22,7 +22,7 @@ use Rattle.rail_laws.proofs.Walk.{is_end_same, is_end_refl, before_not_self}
 use Rattle.rail_laws.proofs.RouteLaws.{start_leaves, start_end_is, route_is, routes_rise}
 use Rattle.rail_laws.proofs.AsEdges.{told}
 use Rattle.plan_names.specs.Shown.{edge_name, edge_names, direction, directed, directed_names, same_names, routes_over, is_shared, shown}
-use Rattle.plan_names.proofs.Names.{same_refl, only_one, in_order, name_tells, no_direction}
+use Rattle.plan_names.proofs.EdgeNames.{same_refl, only_one, in_order, name_tells, no_direction}
 
 -- the first edge is at this end, and all of them are a walk from it
 abbrev pub Begins : Station → End → List EdgeNo → Type 0

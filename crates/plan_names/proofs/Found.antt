@@ -1,6 +1,7 @@
 -- The route that is shown by some names is found by them.
-use Rattle.std.proofs.Common.{◌≡◌, ◌⊎◌, inl, inr, cond, not, lt-ltb, ℕ, zero, suc, ◌+◌, ◌≤◌, ◌<◌, Bool, true, false, List, [], ◌∷◌, length, get_or, Option, Some, None, option_map, position, refl, sym, ap, subst, ◌∙◌, arith}
+use Rattle.std.proofs.Common.{◌≡◌, ◌⊎◌, inl, inr, cond, not, lt-ltb, ℕ, zero, suc, ◌+◌, ◌≤◌, ◌<◌, Bool, true, false, List, [], ◌∷◌, length, get_or, Option, Some, None, option_map, position, refl, sym, ap, ap₂, map, nat_lt, subst, ◌∙◌, arith}
 use Rattle.std.specs.List.{position_or_len}
+use Rattle.std.proofs.lemmas.List.{length-map}
 use Rattle.std.proofs.lemmas.List.Quantifiers.{position-Some}
 use Rattle.rail_base.specs.declared.station.Station.{Station}
 use Rattle.rail_base.specs.declared.route.Route.{Route}
@@ -15,7 +16,7 @@ use Rattle.rail_base.proofs.Members.{false_unless}
 use Rattle.rail_base.proofs.Lists.{in_entry}
 use Rattle.rail_laws.proofs.RouteLaws.{routes_differ}
 use Rattle.plan_names.specs.Shown.{same_names, shown, number_named}
-use Rattle.plan_names.proofs.Names.{same_refl, same_true}
+use Rattle.plan_names.proofs.EdgeNames.{same_refl, same_true}
 use Rattle.plan_names.proofs.Apart.{shown_apart}
 
 first_place : {X : Type 0} (test : X → Bool) (other : X) (xs : List X) (n : ℕ) → Differ xs → 1 ≤ n → n ≤ length xs
@@ -33,12 +34,23 @@ first_place test other (x ∷ xs) (suc (suc n)) differ low high passes only =
 entry_is : {X : Type 0} (other : X) (xs : List X) (i : ℕ) → entry other xs (i + 1) ≡ get_or xs i other
 entry_is other xs i = subst (λ n. entry other xs n ≡ get_or xs i other) (let e : suc i ≡ i + 1 = omega arith in e) refl
 
+-- places in a list of what f gives
+place_map : {X Y : Type 0} (test : Y → Bool) (f : X → Y) (xs : List X) → position_or_len test (map f xs) ≡ position_or_len (λ x. test (f x)) xs
+place_map test f [] = refl
+place_map test f (x ∷ xs) = ap (λ n. cond (not (test (f x))) (1 + n) 0) (place_map test f xs)
+
+position_map : {X Y : Type 0} (test : Y → Bool) (f : X → Y) (xs : List X) → position test (map f xs) ≡ position (λ x. test (f x)) xs
+position_map test f xs = ap₂ (λ l m. cond (nat_lt l m) (Some l) None) (place_map test f xs) (length-map xs f)
+
 module _ (d : Station) (adm : is_admitted d ≡ true) where
   abbrev shown_by : List (List ℕ) → Route → Bool
   shown_by names r = same_names (shown d (routes_of d) r) names
 
   abbrev numbered : ℕ → RouteNo
   numbered i = record { 0 = i + 1 }
+
+  by_map : (names : List (List ℕ)) → number_named d (routes_of d) names ≡ option_map numbered (position (shown_by names) (routes_of d))
+  by_map names = ap (option_map numbered) (position_map (λ s. same_names s names) (shown d (routes_of d)) (routes_of d))
 
   pub stood_for : (names : List (List ℕ)) (n : RouteNo) → IsRoute (routes_of d) n × (shown d (routes_of d) (route_at (routes_of d) n) ≡ names) → number_named d (routes_of d) names ≡ Some n
   stood_for names n (there, is) =
@@ -47,11 +59,11 @@ module _ (d : Station) (adm : is_admitted d ≡ true) where
       let at : l + 1 ≡ n.0 = first_place (shown_by names) no_route (routes_of d) n.0 (routes_differ d (admitted d adm)) there.0 there.1 passes
       (λ r m e. shown_apart d adm r (route_at (routes_of d) n) m (in_entry no_route (routes_of d) n.0 there.0 there.1) (same_true (shown d (routes_of d) r) names e ∙ sym is)) in
       let high = there.1 in
-      ap (λ b. option_map numbered (cond b (Some l) None)) (lt-ltb l (length (routes_of d)) (omega arith))
+      by_map names ∙ ap (λ b. option_map numbered (cond b (Some l) None)) (lt-ltb l (length (routes_of d)) (omega arith))
       ∙ ap (λ (k : ℕ). Some (let r : RouteNo = record { 0 = k } in r)) at
 
   pub stand_for : (names : List (List ℕ)) (n : RouteNo) → number_named d (routes_of d) names ≡ Some n → IsRoute (routes_of d) n × (shown d (routes_of d) (route_at (routes_of d) n) ≡ names)
-  stand_for names n h = go (position (shown_by names) (routes_of d)) refl h
+  stand_for names n h = go (position (shown_by names) (routes_of d)) refl (sym (by_map names) ∙ h)
     where
       is_shown : (i : ℕ) → position (shown_by names) (routes_of d) ≡ Some i → IsRoute (routes_of d) (numbered i) × (shown d (routes_of d) (route_at (routes_of d) (numbered i)) ≡ names)
       is_shown i at =

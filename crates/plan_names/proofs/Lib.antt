@@ -1,3 +1,4 @@
-mod Names
+mod EdgeNames
 mod Apart
 mod Found
+mod Turns

@@ -1,3 +1,4 @@
 -- The names by which routes are shown, and plans with them.
 pub mod Shown
 pub mod Laws
+pub mod Edges

@@ -48,7 +48,10 @@ is_shared d routes names = nat_le 2 (length (routes_over d routes names))
 abbrev pub shown : Station → List Route → Route → List (List ℕ)
 shown d routes r = if is_shared d routes (edge_names d r) then directed_names d r else edge_names d r
 
+-- the route whose names these are, where those of all routes are listed by number
+abbrev pub number_among : List (List (List ℕ)) → List (List ℕ) → Option RouteNo
+number_among all names = option_map (λ i. record { 0 = i + 1 }) (position (λ shown. same_names shown names) all)
+
 -- the route that is shown by these names
 abbrev pub number_named : Station → List Route → List (List ℕ) → Option RouteNo
-number_named d routes names =
-    option_map (λ i. record { 0 = i + 1 }) (position (λ r. same_names (shown d routes r) names) routes)
+number_named d routes names = number_among (map (shown d routes) routes) names

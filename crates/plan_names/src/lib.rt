@@ -2,3 +2,8 @@
 #![tactic(auto)]
 
 pub mod laws;
+mod names;
+mod numbers;
+
+pub use names::shown_routes;
+pub use numbers::number_named;
