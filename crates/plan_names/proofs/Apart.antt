@@ -1,5 +1,5 @@
 -- The names by which routes are shown tell them apart.
-use Rattle.std.proofs.Common.{◌≡◌, ℕ, zero, suc, ◌≤◌, ◌<◌, ◌⊎◌, inl, inr, Bool, true, false, if◌then◌else◌, List, [], ◌∷◌, ◌++◌, map, length, nat_le, refl, sym, ap, ap₂, subst, ◌∙◌, arith, true≢false, ◌==◌, ℤ, eq-eqb, eqb-true}
+use Rattle.std.proofs.Common.{◌≡◌, ℕ, ◌≤◌, ◌<◌, ◌⊎◌, inl, inr, Bool, true, false, if◌then◌else◌, List, [], ◌∷◌, ◌++◌, map, length, nat_le, refl, sym, ap, ap₂, subst, ◌∙◌, arith, true≢false, ◌==◌, ℤ, eq-eqb, eqb-true}
 use Rattle.std.proofs.lemmas.Bool.{leb-false}
 use Rattle.std.proofs.lemmas.List.{same_from_push}
 use Rattle.rail_base.specs.declared.station.Station.{Station}
@@ -13,7 +13,7 @@ use Rattle.rail_base.specs.declared.route.Start.{Start}
 use Rattle.rail_base.specs.declared.route.Start.TheVariants as start
 use Rattle.rail_base.specs.Admission.{is_admitted}
 use Rattle.rail_base.specs.Members.{In}
-use Rattle.rail_base.specs.Stations.{is_end, through, far_end, edge_of, node_of, signal_of, IsEdge}
+use Rattle.rail_base.specs.Stations.{is_end, through, far_end, edge_of, node_of, signal_of}
 use Rattle.rail_spec.specs.Track.{start_end, routes_of}
 use Rattle.rail_laws.specs.Elementary.{IsAt, IsStart, LeavesBy, IsWalk, reached, EndsFirst, IsRouteOf, IsBefore, RouteBefore, start_node, start_side}
 use Rattle.rail_base.proofs.Admitting.{admitted}

@@ -1,5 +1,5 @@
 -- The route that is shown by some names is found by them.
-use Rattle.std.proofs.Common.{◌≡◌, ◌⊎◌, inl, inr, cond, not, lt-ltb, ℕ, zero, suc, ◌+◌, ◌≤◌, ◌<◌, Bool, true, false, List, [], ◌∷◌, length, get_or, Option, Some, None, option_map, position, refl, sym, ap, ap₂, map, nat_lt, subst, ◌∙◌, arith}
+use Rattle.std.proofs.Common.{◌≡◌, inl, inr, cond, not, lt-ltb, ℕ, zero, suc, ◌+◌, ◌≤◌, Bool, true, false, List, [], ◌∷◌, length, get_or, Option, Some, None, option_map, position, refl, sym, ap, ap₂, map, nat_lt, subst, ◌∙◌, arith}
 use Rattle.std.specs.List.{position_or_len}
 use Rattle.std.proofs.lemmas.List.{length-map}
 use Rattle.std.proofs.lemmas.List.Quantifiers.{position-Some}
@@ -19,7 +19,7 @@ use Rattle.plan_names.specs.Shown.{same_names, shown, number_named}
 use Rattle.plan_names.proofs.EdgeNames.{same_refl, same_true}
 use Rattle.plan_names.proofs.Apart.{shown_apart}
 
-first_place : {X : Type 0} (test : X → Bool) (other : X) (xs : List X) (n : ℕ) → Differ xs → 1 ≤ n → n ≤ length xs
+pub first_place : {X : Type 0} (test : X → Bool) (other : X) (xs : List X) (n : ℕ) → Differ xs → 1 ≤ n → n ≤ length xs
     → test (entry other xs n) ≡ true → ((x : X) → In x xs → test x ≡ true → x ≡ entry other xs n) → position_or_len test xs + 1 ≡ n
 first_place test other xs zero differ low high passes only = absurd (omega arith)
 first_place test other [] (suc n) differ low high passes only = absurd (omega arith)
@@ -39,7 +39,7 @@ place_map : {X Y : Type 0} (test : Y → Bool) (f : X → Y) (xs : List X) → p
 place_map test f [] = refl
 place_map test f (x ∷ xs) = ap (λ n. cond (not (test (f x))) (1 + n) 0) (place_map test f xs)
 
-position_map : {X Y : Type 0} (test : Y → Bool) (f : X → Y) (xs : List X) → position test (map f xs) ≡ position (λ x. test (f x)) xs
+pub position_map : {X Y : Type 0} (test : Y → Bool) (f : X → Y) (xs : List X) → position test (map f xs) ≡ position (λ x. test (f x)) xs
 position_map test f xs = ap₂ (λ l m. cond (nat_lt l m) (Some l) None) (place_map test f xs) (length-map xs f)
 
 module _ (d : Station) (adm : is_admitted d ≡ true) where

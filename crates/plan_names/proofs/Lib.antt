@@ -2,3 +2,4 @@ mod EdgeNames
 mod Apart
 mod Found
 mod Turns
+mod Back

@@ -2,3 +2,4 @@
 pub mod Shown
 pub mod Laws
 pub mod Edges
+pub mod Plans

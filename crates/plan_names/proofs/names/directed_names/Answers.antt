@@ -1,4 +1,4 @@
-use Rattle.std.proofs.Common.{◌≡◌, ◌<◌, ◌++◌, [], ◌∷◌, length, sym, ap, ◌∙◌, subst, arith, refl}
+use Rattle.std.proofs.Common.{◌∙◌}
 use Rattle.plan_names.proofs.Turns.{edge_at, turn_directed}
 use Rattle.plan_names.proofs.names.directed_names.Goals as goal
 

@@ -1,4 +1,4 @@
-use Rattle.std.proofs.Common.{◌≡◌, ◌+◌, ◌≤◌, Bool, true, false, length, take, cond, sym, ap, ◌∙◌, arith, refl}
+use Rattle.std.proofs.Common.{◌+◌, true, false, length, take, cond, ap, ◌∙◌, arith}
 use Rattle.plan_names.specs.Shown.{edge_names, routes_over}
 use Rattle.plan_names.proofs.Turns.{route_edges, of_table, next_over}
 use Rattle.plan_names.proofs.names.is_shared.Goals as goal

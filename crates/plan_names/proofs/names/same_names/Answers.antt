@@ -1,4 +1,4 @@
-use Rattle.std.proofs.Common.{◌≡◌, ◌<◌, length, sym, ap, ◌∙◌, subst, arith, refl}
+use Rattle.std.proofs.Common.{length, sym, ap, arith}
 use Rattle.plan_names.specs.Shown.{edge_name}
 use Rattle.plan_names.proofs.Turns.{edge_at, lengths_apart}
 use Rattle.plan_names.proofs.names.same_names.Goals as goal

@@ -1,5 +1,3 @@
-use Rattle.std.proofs.Common.{◌≡◌, ◌<◌, length, subst, sym, ap, ◌∙◌}
-use Rattle.rail_base.proofs.Contained.{in_at}
 use Rattle.plan_names.proofs.Turns.{route_edges, route_nodes, of_table}
 use Rattle.plan_names.proofs.names.shown_routes.Goals as goal
 

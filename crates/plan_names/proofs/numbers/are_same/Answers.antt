@@ -1,4 +1,4 @@
-use Rattle.std.proofs.Common.{◌≡◌, length, sym, ap, ◌∙◌, arith}
+use Rattle.std.proofs.Common.{sym, arith}
 use Rattle.plan_names.proofs.Turns.{many_apart}
 use Rattle.plan_names.proofs.numbers.are_same.Goals as goal
 
