@@ -1,0 +1,5 @@
+mod EdgeNames
+mod Apart
+mod Found
+mod Turns
+mod Back

@@ -1,0 +1,10 @@
+-- What the code that makes the names owes.
+use Rattle.std.specs.Prelude.{List}
+use Rattle.rail_base.specs.declared.station.Station.{Station}
+use Rattle.rail_base.specs.declared.station.EdgeNo.{EdgeNo}
+use Rattle.rail_base.specs.Members.{In}
+use Rattle.rail_base.specs.Stations.{IsEdge}
+
+-- edges have these numbers
+abbrev pub AreEdges : Station → List EdgeNo → Type 0
+AreEdges d es = (e : EdgeNo) → In e es → IsEdge d e
