@@ -1,5 +1,7 @@
 -- What one turn of a loop over edges adds.
-use Rattle.std.proofs.Common.{◌≡◌, ℕ, zero, suc, ◌+◌, ◌≤◌, ◌<◌, ℤ, Bool, true, false, ◌&&◌, List, [], ◌∷◌, ◌++◌, map, length, cond, take, get_or, bytes_eq, refl, sym, ap, ap₂, subst, ◌∙◌, arith}
+use Rattle.std.proofs.Common.{◌≡◌, ℕ, zero, suc, ◌+◌, ◌≤◌, ◌<◌, ℤ, Bool, true, false, ◌&&◌, List, [], ◌∷◌, ◌++◌, map, length, cond, take, get_or, bytes_eq, refl, sym, ap, ap₂, subst, ◌∙◌, arith, Result, Ok, Err}
+use Rattle.std.specs.Prelude.{MatchResult}
+use Rattle.std.specs.Result.{IsOk}
 use Rattle.std.proofs.lemmas.List.{length-map}
 use Rattle.rail_base.specs.declared.station.Station.{Station}
 use Rattle.rail_base.specs.declared.station.EdgeNo.{EdgeNo}
@@ -95,3 +97,8 @@ module _ (d : Station) where
 -- what a loop takes from a table is in the list that the table is
 pub of_table : {X : Type 0} (items table list : List X) (i : ℕ) (x other : X) → items ≡ table → table ≡ list → i < length items → x ≡ get_or items i other → In x list
 of_table items table list i x other e f l is = subst (λ y. In y list) (sym is) (subst (λ ys. i < length ys → In (get_or ys i other) list) (sym (e ∙ f)) (λ m. in_at list i other m) l)
+
+-- what is no error is there
+pub there_unless : {T E : Type 0} (r : Result T E) (A : T → Type 0) (B : E → Type 0) → MatchResult r A B → ((e : E) → B e → ⊥) → IsOk r
+there_unless (Ok x) A B m none = refl
+there_unless (Err e) A B m none = absurd (none e m)
