@@ -1,5 +1,5 @@
 ghost use Rattle.std.specs.Prelude.{◌≡◌, ◌≤◌, ◌+◌, ◌++◌, ◌∷◌, [], true, length, IsTrue, IsFalse, OnOk, OnErr, IfOk};
-ghost use Rattle.std.specs.Prelude.{IfErr};
+ghost use Rattle.std.specs.Prelude.{IfErr, IfNone, ◌^◌, ◌%◌};
 ghost use Rattle.sat_clause.specs.declared.follow.Follow.TheVariants.{Yes};
 ghost use Rattle.sat_clause.specs.Hints.{follow_of};
 ghost use Rattle.sat_clause.specs.Closed.{IsConsistent};
@@ -43,6 +43,7 @@ pub struct Solver<R: Recorder> {
     ghost same: { R.clauses recorder ≡ arena },
     ghost holds: { Holds arena trail vars },
     ghost counted: { derives ≤ length arena },
+    ghost lines: { trail.parts.lines ≡ derives },
     ghost same_learnt: { R.learnt recorder ≡ learnt.items },
     ghost ascending: { ascends 0 learnt.items (length arena) ≡ true },
     ghost alive: { live ≤ live_among arena learnt.items },
@@ -183,23 +184,39 @@ impl<R: Recorder> Solver<R> {
 impl<R: Recorder> Solver<R> {
     ghost use Rattle.sat_core.specs.Runs.{IsRoundEnd, Ends, IsEnd, IsStep, IsRecorded, IsForgot, Forgot};
     ghost use Rattle.sat_core.specs.Solvers.{state_in};
+    ghost use Rattle.sat_core.specs.Sparing.{IsSparing, IsInParts};
     ghost use Rattle.sat_core.specs.Lines.{MayForget};
     ghost use Rattle.sat_trail.specs.Attached.{is_among, IsBehindNone};
     ghost use Rattle.sat_core.specs.Answers.{IsFinal, IsLearntBeyond};
 
     /// Looks for values under which all clauses and assumptions are true, recording at most `left` lines.
     /// No two assumptions may be opposites. After each answer the solver stands at no assumption, and may be asked
-    /// again.
+    /// again. From the question to the first derive line, between two, and after the last, at most as many decisions
+    /// are made as there are variables, each while the earlier ones stand: so the search begins anew only beside a
+    /// derive line.
     pub fn solve(&mut self, assumptions: &[Lit], left: u64) -> Answer
         requires assumed { AllIn self.old.vars assumptions.now }
         requires consistent { IsConsistent assumptions.now }
         ensures run { Ends (state_in self.old) (state_in self.new) assumptions.now self.old.vars left result }
         ensures vars { self.new.vars ≡ self.old.vars }
         ensures level { depth self.new.trail.steps ≡ 0 }
+        ensures sparing { IsSparing self.old.vars self.new.trail }
+        ensures parts { IsInParts self.old.trail self.new.trail self.new.derives }
     {
+        self.begin();
         let answer = self.search(assumptions, left);
         self.go_back(0);
         answer
+    }
+
+    /// Counts decisions anew, as a question begins.
+    fn begin(&mut self)
+        ensures state { state_in self.new ≡ state_in self.old }
+        ensures vars { self.new.vars ≡ self.old.vars }
+        ensures undecided { self.new.trail.pace.made ≡ 0 }
+        ensures questions { self.new.trail.parts.questions ≡ (self.old.trail.parts.questions + 1) % 2 ^ 64 }
+    {
+        self.trail.begin_question();
     }
 
     /// Takes off the levels above the one given.
@@ -209,6 +226,8 @@ impl<R: Recorder> Solver<R> {
         ensures same_learnt { self.new.learnt.items ≡ self.old.learnt.items }
         ensures vars { self.new.vars ≡ self.old.vars }
         ensures depth { depth self.new.trail.steps ≤ level }
+        ensures pace { self.new.trail.pace ≡ self.old.trail.pace }
+        ensures parts { self.new.trail.parts ≡ self.old.trail.parts }
     {
         self.order.free(self.trail.steps(), level);
         self.trail.back(level);
@@ -230,6 +249,8 @@ impl<R: Recorder> Solver<R> {
         ensures fault { IfErr result
             (IsFaultAt (R.limit self.old.recorder) (R.text self.old.recorder) (derive_line clause.now hints.now)) }
         ensures vars { self.new.vars ≡ self.old.vars }
+        ensures undecided { OnOk result (self.new.trail.pace.made ≡ 0) }
+        ensures questions { self.new.trail.parts.questions ≡ self.old.trail.parts.questions }
     {
         self.order.raise_all(&self.arena, hints);
         let level = if self.restarts.begins() { 0 } else { level };
@@ -249,6 +270,7 @@ impl<R: Recorder> Solver<R> {
         self.learnt.push_reserved(id);
         self.live = self.live.saturating_add(1);
         self.derives += 1;
+        self.trail.begin_line(self.derives);
         Ok(())
     }
 
@@ -280,6 +302,8 @@ impl<R: Recorder> Solver<R> {
         ensures err { OnErr result (state_in self.new ≡ state_in self.old) }
         ensures same_learnt { self.new.learnt.items ≡ self.old.learnt.items }
         ensures vars { self.new.vars ≡ self.old.vars }
+        ensures pace { self.new.trail.pace ≡ self.old.trail.pace }
+        ensures parts { self.new.trail.parts ≡ self.old.trail.parts }
     {
         self.recorder.forget(id)?;
         self.trail.detach(&self.arena, id);
@@ -293,6 +317,8 @@ impl<R: Recorder> Solver<R> {
         ensures gone { (assumptions : _) → Forgot assumptions (state_in self.old) (state_in self.new) }
         ensures same_learnt { self.new.learnt.items ≡ self.old.learnt.items }
         ensures vars { self.new.vars ≡ self.old.vars }
+        ensures pace { self.new.trail.pace ≡ self.old.trail.pace }
+        ensures parts { self.new.trail.parts ≡ self.old.trail.parts }
     {
         if place >= self.learnt.len() {
             return Ok(());
@@ -309,6 +335,8 @@ impl<R: Recorder> Solver<R> {
     fn forget_some(&mut self)
         ensures gone { (assumptions : _) → Forgot assumptions (state_in self.old) (state_in self.new) }
         ensures vars { self.new.vars ≡ self.old.vars }
+        ensures pace { self.new.trail.pace ≡ self.old.trail.pace }
+        ensures parts { self.new.trail.parts ≡ self.old.trail.parts }
     {
         if self.live <= self.room {
             return;
@@ -335,8 +363,10 @@ impl<R: Recorder> Solver<R> {
     fn search(&mut self, assumptions: &[Lit], left: u64) -> Answer
         requires assumed { AllIn self.old.vars assumptions.now }
         requires consistent { IsConsistent assumptions.now }
+        requires undecided { self.old.trail.pace.made ≡ 0 }
         ensures run { Ends (state_in self.old) (state_in self.new) assumptions.now self.old.vars left result }
         ensures vars { self.new.vars ≡ self.old.vars }
+        ensures questions { self.new.trail.parts.questions ≡ self.old.trail.parts.questions }
     {
         'derive: for done in 0..=left {
             if let Some(answer) = self.step(assumptions, done == left) {
@@ -351,8 +381,11 @@ impl<R: Recorder> Solver<R> {
     fn step(&mut self, assumptions: &[Lit], last: bool) -> Option<Answer>
         requires assumed { AllIn self.old.vars assumptions.now }
         requires consistent { IsConsistent assumptions.now }
+        requires undecided { self.old.trail.pace.made ≡ 0 }
         ensures step { IsStep (state_in self.old) (state_in self.new) assumptions.now self.old.vars last result }
         ensures vars { self.new.vars ≡ self.old.vars }
+        ensures undecided { IfNone result (self.new.trail.pace.made ≡ 0) }
+        ensures questions { self.new.trail.parts.questions ≡ self.old.trail.parts.questions }
     {
         match self.round(assumptions) {
             Err(AllocError) => Some(Answer::Memory),
@@ -368,6 +401,7 @@ impl<R: Recorder> Solver<R> {
         requires final_ { IsFinal (R.clauses self.old.recorder) _assumptions.now why.clause.items why.hints.items }
         ensures end { IsEnd (state_in self.old) (state_in self.new) _assumptions.now self.old.vars last result }
         ensures vars { self.new.vars ≡ self.old.vars }
+        ensures questions { self.new.trail.parts.questions ≡ self.old.trail.parts.questions }
     {
         if last {
             return Answer::Spent {
@@ -394,6 +428,8 @@ impl<R: Recorder> Solver<R> {
             why.clause.items why.hints.items }
         ensures step { IsStep (state_in self.old) (state_in self.new) _assumptions.now self.old.vars last result }
         ensures vars { self.new.vars ≡ self.old.vars }
+        ensures undecided { IfNone result (self.new.trail.pace.made ≡ 0) }
+        ensures questions { self.new.trail.parts.questions ≡ self.old.trail.parts.questions }
     {
         if last {
             return Some(Answer::Spent {
@@ -420,8 +456,10 @@ impl<R: Recorder> Solver<R> {
     fn round(&mut self, assumptions: &[Lit]) -> Result<RoundEnd, AllocError>
         requires assumed { AllIn self.old.vars assumptions.now }
         requires consistent { IsConsistent assumptions.now }
+        requires undecided { self.old.trail.pace.made ≡ 0 }
         ensures state { state_in self.new ≡ state_in self.old }
         ensures vars { self.new.vars ≡ self.old.vars }
+        ensures parts { self.new.trail.parts ≡ self.old.trail.parts }
         ensures found { IfOk result (λ f. IsRoundEnd (R.clauses self.old.recorder) assumptions.now self.old.vars f) }
     {
         if let Some(found) = resume(

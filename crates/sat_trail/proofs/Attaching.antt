@@ -8,13 +8,15 @@ use Rattle.sat_clause.specs.Clauses.{Store, live_clause, opposite}
 use Rattle.sat_clause.specs.Hints.{same_lit, is_assigned, unit_of}
 use Rattle.sat_clause.specs.Closed.{IsInactive, IsClosed, IsConsistent}
 use Rattle.sat_trail.specs.declared.step.Step.{Step}
+use Rattle.sat_trail.specs.declared.pace.Pace.{Pace}
+use Rattle.sat_trail.specs.declared.pace.Parts.{Parts}
 use Rattle.sat_trail.specs.declared.pair.Pair.{Pair}
 use Rattle.sat_trail.specs.declared.status.Propagation.{Propagation}
 use Rattle.sat_trail.specs.declared.status.Propagation.TheVariants as propagation
 use Rattle.sat_trail.specs.Trails.{lits, depth, IsTrail}
 use Rattle.sat_trail.specs.Attached.{is_among, attached_clause, with_attached, without_attached, AreLive}
 use Rattle.sat_trail.specs.Scans.{InactiveAmong, IsPropagation, SaysAmong}
-use Rattle.sat_trail.specs.View.{View}
+use Rattle.sat_trail.specs.View.{View, empty_view}
 use Rattle.sat_trail.specs.Watches.{code_of, row_at, edit, stands_by, Satisfied, IsGuarded, IsWatched, IsWatching, IsOpenPair, IsLooseOrWatched}
 use Rattle.sat_trail.proofs.Members.{told, same-self}
 use Rattle.sat_trail.proofs.Closes.{none-open, unit-others, unit-new}
@@ -23,7 +25,7 @@ use Rattle.sat_trail.proofs.Places.{trail-consistent}
 use Rattle.sat_trail.proofs.Rows.{edit-length, among-put, among-before}
 use Rattle.sat_trail.proofs.Standby.{stands-assigned, stands-higher, stands-shorter, stands-low, stands-kept, low-filter, AllLow}
 use Rattle.sat_trail.proofs.Stores.{attached-same, attached-other, detached-same, detached-other}
-use Rattle.sat_trail.proofs.Watched.{entry_at-more, entry_at-there, not-done}
+use Rattle.sat_trail.proofs.Watched.{entry_at-more, entry_at-there, not-done, watching-more}
 
 pub on-either : {A E : Type 0} (r : Result A E) (P Q R : Type 0) → OnOk r P → OnErr r Q → (P → R) → (Q → R) → R
 on-either (Ok x) P Q R p q f g = f p
@@ -271,7 +273,18 @@ pub watching-same : (v new : View) (loose : List ℕ) (rows : List (List ℕ)) (
 watching-same v new loose rows pairs h e x = let P : View → Type 0 = λ z. IsWatching z loose rows pairs h in subst P (sym e) x
 
 -- nothing is attached at the start
-pub watching-none : (v : View) (loose : List ℕ) (rows : List (List ℕ)) (pairs : List Pair) (vars n : ℕ) → v ≡ record { vars = vars; attached = []; steps = [] } → length rows ≡ n → n ≡ vars * 2 + 2 → IsWatching v loose rows pairs 0
+pub watching-none : (v : View) (loose : List ℕ) (rows : List (List ℕ)) (pairs : List Pair) (vars n : ℕ) → v ≡ empty_view vars → length rows ≡ n → n ≡ vars * 2 + 2 → IsWatching v loose rows pairs 0
 watching-none v loose rows pairs vars n e s m =
     let P : View → Type 0 = λ z. IsWatching z loose rows pairs 0 in
     subst P (sym e) (record { size = s ∙ m; within = omega arith; all = λ id c f. absurd (cc) })
+
+-- the same steps are watched, however decisions are counted
+watching-counted : (v : View) (loose : List ℕ) (rows : List (List ℕ)) (pairs : List Pair) (h : ℕ) (pace : Pace) (parts : Parts) → IsWatching v loose rows pairs h → IsWatching (record v { pace = pace; parts = parts }) loose rows pairs h
+watching-counted v loose rows pairs h pace parts x = record { size = x.size; within = x.within; all = x.all }
+
+pub watching-paced : (v new : View) (loose : List ℕ) (rows : List (List ℕ)) (pairs : List Pair) (h : ℕ) (pace : Pace) (parts : Parts) → new ≡ record v { pace = pace; parts = parts } → IsWatching v loose rows pairs h → IsWatching new loose rows pairs h
+watching-paced v new loose rows pairs h pace parts e x = let P : View → Type 0 = λ z. IsWatching z loose rows pairs h in subst P (sym e) (watching-counted v loose rows pairs h pace parts x)
+
+-- a decision was made
+pub watching-decided : (v new : View) (loose : List ℕ) (rows : List (List ℕ)) (pairs : List Pair) (h : ℕ) (s : Step) (pace : Pace) → new ≡ record v { steps = v.steps ++ s ∷ []; pace = pace } → IsWatching v loose rows pairs h → IsWatching new loose rows pairs h
+watching-decided v new loose rows pairs h s pace e x = watching-paced (record v { steps = v.steps ++ s ∷ [] }) new loose rows pairs h pace v.parts e (watching-more v _ loose rows pairs h (s ∷ []) refl x)

@@ -5,6 +5,8 @@ use Rattle.std.proofs.lemmas.Bool.Decides.{eqb_tells, leb_tells}
 use Rattle.sat_clause.specs.declared.lit.Lit.{Lit}
 use Rattle.sat_clause.specs.Clauses.{Store}
 use Rattle.sat_clause.specs.Hints.{is_assigned}
+use Rattle.sat_trail.specs.declared.pace.Pace.{Pace}
+use Rattle.sat_trail.specs.declared.pace.Parts.{Parts}
 use Rattle.sat_trail.specs.declared.step.Step.{Step}
 use Rattle.sat_trail.specs.Trails.{lits, depth, IsTrail, IsLevelled}
 use Rattle.sat_trail.specs.Attached.{is_among, attached_clause, with_attached, without_attached, AreLive}
@@ -35,8 +37,12 @@ settled-steps v new ids n top more a e s = record {
 pub settled-forced : (v new : View) (ids : List ℕ) (n top : ℕ) → IsForced v new → IsSettled v ids n top → IsSettled new ids n top
 settled-forced v new ids n top f s = settled-steps v new ids n top f.more f.attached f.steps s
 
-pub settled-push : (v new : View) (ids : List ℕ) (n top : ℕ) (s : Step) → new ≡ record v { steps = v.steps ++ s ∷ [] } → IsSettled v ids n top → IsSettled new ids n top
-settled-push v new ids n top s e x = settled-steps v new ids n top (s ∷ []) (ap (λ (z : View). z.attached) e) (ap (λ (z : View). z.steps) e) x
+settled-counted : (v : View) (ids : List ℕ) (n top : ℕ) (pace : Pace) (parts : Parts) → IsSettled v ids n top → IsSettled (record v { pace = pace; parts = parts }) ids n top
+settled-counted v ids n top pace parts x = record { within = x.within; ids_to_top = x.ids_to_top; true_first = x.true_first }
+
+-- however decisions are counted
+pub settled-paced : (v new : View) (ids : List ℕ) (n top : ℕ) (pace : Pace) (parts : Parts) → new ≡ record v { pace = pace; parts = parts } → IsSettled v ids n top → IsSettled new ids n top
+settled-paced v new ids n top pace parts e x = let P : View → Type 0 = λ z. IsSettled z ids n top in subst P (sym e) (settled-counted v ids n top pace parts x)
 
 -- where levels are taken off
 pub settled-back : (v new : View) (ids : List ℕ) (n top level : ℕ) → new ≡ record v { steps = filter (up_to level) v.steps } → IsSettled v ids n top → IsSettled new ids n top

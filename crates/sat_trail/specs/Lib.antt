@@ -2,6 +2,7 @@ pub mod Attached
 pub mod Blockers
 pub mod Forced
 pub mod Marks
+pub mod Paces
 pub mod Scans
 pub mod Standing
 pub mod Stores

@@ -4,6 +4,7 @@
 mod assigned;
 mod entry;
 mod needed;
+mod pace;
 mod pair;
 mod scan;
 mod settled;
@@ -13,6 +14,7 @@ mod trail;
 mod walk;
 mod watch;
 
+pub use pace::{Pace, Parts};
 pub use step::Step;
 pub use trail::Trail;
 pub use walk::{Learnt, analyze, analyze_final, refute_choice};

@@ -11,6 +11,8 @@ ghost use Rattle.sat_trail.specs.Trails.{value_of, lit_at, decision, HasValue};
 ghost use Rattle.sat_trail.specs.Attached.{AreLive, attached_clause, with_attached, without_attached, IsBehindNone};
 ghost use Rattle.sat_trail.specs.Forced.{IsForced, VarsUpTo, IsTotal};
 ghost use Rattle.sat_trail.specs.Walks.{IsConflict, IsClosedOrFalse};
+ghost use Rattle.sat_trail.specs.Paces.{after_decision, anew, with_line, with_question};
+ghost use Rattle.sat_trail.specs.View.{empty_view};
 
 use crate::assigned::Assigned;
 use crate::settled::{Settled, settle, without};
@@ -48,7 +50,7 @@ impl Model for Trail {
 impl Trail {
     /// Nothing is assigned or attached, and no level is open. The variables are those from 1 to `vars`.
     pub fn new(alloc: Global, vars: u32) -> Result<Trail, AllocError>
-        ensures { IfOk result (λ t. t ≡ record { vars = vars; attached = []; steps = [] }) }
+        ensures { IfOk result (λ t. t ≡ empty_view vars) }
     {
         let assigned = Assigned::new(alloc, vars)?;
         let count = vars as usize * 2 + 2;
@@ -107,14 +109,33 @@ impl Trail {
         self.assigned.holds(l)
     }
 
-    /// Opens a level with this literal alone. Its variable may have no value yet.
+    /// Opens a level with this literal alone, and counts the decision. Its variable may have no value yet.
     pub fn decide(&mut self, lit: Lit)
         requires fresh { IsFresh (lits self.old.steps) lit }
         requires in_vars { IsIn self.old.vars lit }
-        ensures pushed { self.new ≡ record self.old { steps = self.old.steps ++ decision self.old.steps lit ∷ [] } }
+        ensures pushed { self.new ≡ record self.old {
+          steps = self.old.steps ++ decision self.old.steps lit ∷ [];
+          pace = after_decision self.old.pace (depth self.old.steps);
+        } }
         ensures room { length self.old.steps < self.old.vars }
+        ensures depth { depth self.old.steps < self.old.vars }
     {
         self.assigned.decide(lit);
+    }
+
+    /// Counts decisions anew, as a question begins.
+    pub fn begin_question(&mut self)
+        ensures { self.new ≡ record self.old { pace = anew self.old.pace; parts = with_question self.old.parts } }
+    {
+        self.assigned.begin_question();
+    }
+
+    /// Counts decisions anew, after the line of this number, which is the next one.
+    pub fn begin_line(&mut self, line: u64)
+        requires { line ≡ self.old.parts.lines + 1 }
+        ensures { self.new ≡ record self.old { pace = anew self.old.pace; parts = with_line self.old.parts line } }
+    {
+        self.assigned.begin_line(line);
     }
 
     /// Takes off the levels above the one given. What is left is a prefix of the steps.

@@ -1,4 +1,4 @@
-use Rattle.std.proofs.Common.{◌≡◌, [], sym, subst, true, ℕ}
+use Rattle.std.proofs.Common.{arith, ◌≡◌, [], sym, subst, true, ℕ}
 use Rattle.sat_clause.specs.Hints.{is_assigned}
 use Rattle.sat_trail.specs.Trails.{AllIn}
 use Rattle.sat_trail.specs.Forced.{VarsUpTo}
@@ -13,7 +13,7 @@ pub assume-requires-clause-assumed : goal.assume-requires-clause-assumed
 assume-requires-clause-assumed c = let P : ℕ → Type 0 = λ z. AllIn z c.args.assumptions.now in subst P (sym c.requires.holds.0) c.requires.assumed
 
 pub assume-requires-clause-good : goal.assume-requires-clause-good
-assume-requires-clause-good c = holds-good c.args.arena.now c.args.trail.now c.args.vars c.requires.holds
+assume-requires-clause-good c = holds-good c.args.arena.now c.args.trail.now c.args.vars c.requires.holds (let m = c.requires.undecided in omega arith)
 
 pub assume-requires-clause-only : goal.assume-requires-clause-only
 assume-requires-clause-only c = λ l m. absurd (let e = none-decided 0 c.args.trail.now.steps c.steps.ensures.levelled c.requires.at_level_zero in let z : is_assigned [] l ≡ true = rw e at m in cc)

@@ -6,6 +6,8 @@ use Rattle.sat_core.proofs.solver.Solver.forget_some.Given as goal
 abbrev pub invariant-old : goal.invariant-old
 invariant-old g l = record {
   vars : l.self.vars ≡ l.initial.self.vars;
+  pace : l.self.trail.pace ≡ l.fn.self.trail.pace;
+  parts : l.self.trail.parts ≡ l.fn.self.trail.parts;
   gone : (assumptions : List Lit) → Forgot assumptions
       (state_of (g.R.Recorder.clauses l.fn.self.recorder) (g.R.Recorder.text l.fn.self.recorder) (g.R.Recorder.limit l.fn.self.recorder) (g.R.Recorder.learnt l.fn.self.recorder) l.fn.self.derives)
       (state_of (g.R.Recorder.clauses l.self.recorder) (g.R.Recorder.text l.self.recorder) (g.R.Recorder.limit l.self.recorder) (g.R.Recorder.learnt l.self.recorder) l.self.derives);
