@@ -1,5 +1,5 @@
-mod Names
-mod Plain
-mod Ordered
-mod ReadBack
-mod Trains
+pub mod Names
+pub mod Plain
+pub mod Ordered
+pub mod ReadBack
+pub mod Trains

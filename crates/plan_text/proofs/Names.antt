@@ -30,7 +30,7 @@ is_low b h = elim (either (is_from 48 57 b || is_from 65 90 b || is_from 97 122 
   ]
 ]
 
-all_low : (bs : List ℕ) → list_all is_name_byte bs ≡ true → IsAscii bs
+pub all_low : (bs : List ℕ) → list_all is_name_byte bs ≡ true → IsAscii bs
 all_low [] h i = omega arith
 all_low (b ∷ bs) h zero = is_low b (and_left (is_name_byte b) (list_all is_name_byte bs) h)
 all_low (b ∷ bs) h (suc i) = all_low bs (and_right (is_name_byte b) (list_all is_name_byte bs) h) i

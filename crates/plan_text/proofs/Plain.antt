@@ -25,7 +25,7 @@ use Rattle.plan_text.specs.Text.{command_value, step_value, plan_value, in_file_
 
 -- ---- no floats
 
-no_floats : {X : Type 0} (f : X → Data) (xs : List X) → ((x : X) → has_float (f x) ≡ false) → items_have_float (items_of (map f xs)) ≡ false
+pub no_floats : {X : Type 0} (f : X → Data) (xs : List X) → ((x : X) → has_float (f x) ≡ false) → items_have_float (items_of (map f xs)) ≡ false
 no_floats f [] h = refl
 no_floats f (x ∷ xs) h = ap₂ (λ a b. a || b) (h x) (no_floats f xs h)
 
@@ -68,7 +68,7 @@ shallow f (x ∷ xs) n h = let first = h x in let rest = shallow f xs n h in ome
 -- ---- reading
 
 mutual
-  of_outline : (d : Data) → IsPlain d → of_json (outline d) ≡ Some d
+  pub of_outline : (d : Data) → IsPlain d → of_json (outline d) ≡ Some d
   of_outline null h = absurd h
   of_outline (boolean b) h = absurd h
   of_outline (number (unsigned n)) h = ap (option_map number) (number_of-decimal n h)
@@ -87,7 +87,7 @@ mutual
       ∙ ap (option_map (item d)) (of_outlines ds h.1)
 
 mutual
-  numbers : (d : Data) → IsPlain d → HasNumbers (outline d)
+  pub numbers : (d : Data) → IsPlain d → HasNumbers (outline d)
   numbers null h = absurd h
   numbers (boolean b) h = absurd h
   numbers (number (unsigned n)) h = IsNumber-decimal n h
@@ -121,7 +121,7 @@ comma_text true = IsUtf8-are_ascii (44 ∷ []) refl
 comma_text false = IsUtf8-nil
 
 mutual
-  text : (d : Data) → IsPlain d → IsUtf8 (compact_text d)
+  pub text : (d : Data) → IsPlain d → IsUtf8 (compact_text d)
   text null h = absurd h
   text (boolean b) h = absurd h
   text (number (unsigned n)) h = digits_text n h

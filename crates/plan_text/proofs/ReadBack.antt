@@ -41,7 +41,7 @@ use Rattle.plan_text.proofs.Plain.{IsPlain, plain_items, shallow, parsed}
 
 -- ---- the shape
 
-all_listed : (ds : List Data) → list_of_items (items_of ds) ≡ ds
+pub all_listed : (ds : List Data) → list_of_items (items_of ds) ≡ ds
 all_listed [] = refl
 all_listed (d ∷ ds) = ap (λ es. d ∷ es) (all_listed ds)
 
@@ -151,7 +151,7 @@ module _ (d : Station) (good : is_admitted d ≡ true) (routes : List Route) (pl
 
   -- ---- the value
 
-  plain : length routes < 2 ^ 32 → IsPlain (plan_value d plan)
+  pub plain : length routes < 2 ^ 32 → IsPlain (plan_value d plan)
   plain few = (IsUtf8-are_ascii (codes "steps") refl, plain_items (step_value d) plan (λ step m. plain_items (command_value d) (in_file_order d step) (λ c n. command step c m n)))
     where
       command : (step : List Command) (c : Command) → In step plan → In c (in_file_order d step) → IsPlain (command_value d c)
@@ -162,7 +162,7 @@ module _ (d : Station) (good : is_admitted d ≡ true) (routes : List Route) (pl
           let lower : 2 ^ 32 < 2 ^ 64 = omega arith in
           (name_is_text d good c.train (train_there d routes plan named c k), (omega arith, tt))
 
-  low : tree.depth (outline (plan_value d plan)) ≤ max_depth
+  pub low : tree.depth (outline (plan_value d plan)) ≤ max_depth
   low = let l = shallow (step_value d) plan 2 (λ step. let l = shallow (command_value d) (in_file_order d step) 1 (λ c. omega arith) in omega arith) in omega arith
 
   -- ---- the plan
