@@ -75,7 +75,7 @@ module _ (d : Station) (adm : is_admitted d ≡ true) where
       go (inr (inl less)) = absurd (entries_apart (λ (a b : Edge). a.name ≡ b.name → ⊥) no_edge d.edges g.0 e.0 (admitted d adm).edge_names k.0 less h.1 (sym same))
       go (inr (inr one)) = ap (λ (n : ℕ). let e : EdgeNo = record { 0 = n } in e) one
 
-  name_bytes : (e : EdgeNo) → IsEdge d e → list_all is_name_byte (edge_name d e) ≡ true
+  pub name_bytes : (e : EdgeNo) → IsEdge d e → list_all is_name_byte (edge_name d e) ≡ true
   name_bytes e k =
       let names = map (λ (u : Edge). u.name) d.edges in
       let named : are_named d ≡ true = and_right (are_few d && is_timed d) (are_named d) (and_left (are_few d && is_timed d && are_named d) (is_sound_track d) (and_left (are_few d && is_timed d && are_named d && is_sound_track d) (is_sound_traffic d) adm)) in

@@ -1,5 +1,5 @@
 mod EdgeNames
 mod Apart
-mod Found
+pub mod Found
 mod Turns
-mod Back
+pub mod Texts

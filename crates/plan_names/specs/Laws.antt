@@ -1,5 +1,5 @@
 -- What the laws say of the names of routes.
-use Rattle.std.specs.Prelude.{◌≡◌, ◌↔◌, true, ℕ, List, map, Some}
+use Rattle.std.specs.Prelude.{◌≡◌, ◌↔◌, true, ℕ, List, Some}
 use Rattle.rail_base.specs.declared.station.Station.{Station}
 use Rattle.rail_base.specs.declared.route.Route.{Route}
 use Rattle.rail_base.specs.declared.route.RouteNo.{RouteNo}
@@ -7,10 +7,6 @@ use Rattle.rail_base.specs.Admission.{is_admitted}
 use Rattle.rail_base.specs.Members.{In}
 use Rattle.rail_base.specs.Routes.{IsRoute, route_at}
 use Rattle.rail_spec.specs.Track.{routes_of}
-use Rattle.rail_base.specs.declared.plan.Command.{Command}
-use Rattle.rail_spec.specs.Feasible.{names_only}
-use Rattle.plan_text.specs.Text.{in_file_order}
-use Rattle.plan_names.specs.Plans.{named_plan, plan_named}
 use Rattle.plan_names.specs.Shown.{shown, number_named}
 
 -- routes of an admitted design that are shown by the same names are one
@@ -23,8 +19,3 @@ abbrev pub NamesStandForRoutes : Station → Type 0
 NamesStandForRoutes d = is_admitted d ≡ true → (names : List (List ℕ)) (n : RouteNo)
     → (number_named d (routes_of d) names ≡ Some n)
     ↔ (IsRoute (routes_of d) n × (shown d (routes_of d) (route_at (routes_of d) n) ≡ names))
-
--- a plan that is shown with names is read from them as that plan, each step in file order
-abbrev pub NamedPlansComeBack : Station → Type 0
-NamedPlansComeBack d = is_admitted d ≡ true → (plan : List (List Command)) → names_only d (routes_of d) plan ≡ true
-    → plan_named d (routes_of d) (named_plan d (routes_of d) plan) ≡ Some (map (in_file_order d) plan)

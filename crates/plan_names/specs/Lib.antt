@@ -1,5 +1,5 @@
--- The names by which routes are shown, and plans with them.
+-- The names by which routes are shown.
 pub mod Shown
 pub mod Laws
 pub mod Edges
-pub mod Plans
+pub mod Values

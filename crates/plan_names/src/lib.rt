@@ -1,4 +1,4 @@
-//! Plans with the names of edges in place of route numbers.
+//! The names of edges by which routes are shown.
 #![tactic(auto)]
 
 pub mod laws;

@@ -3,7 +3,7 @@
 ghost use Rattle.std.specs.Prelude.{◌≡◌, IfOk, IsUtf8};
 ghost use Rattle.serde_json.specs.View.{view};
 ghost use Rattle.plan_names.specs.Edges.{AreTexts};
-ghost use Rattle.plan_names.specs.Plans.{names_value};
+ghost use Rattle.plan_names.specs.Values.{names_value};
 
 use rail_base::list::Name;
 use serde_json::{Value, json};

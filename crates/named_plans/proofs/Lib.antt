@@ -1,0 +1,10 @@
+mod Trailing
+mod Spaced
+mod Back
+mod Shown
+mod Gathered
+mod Shallow
+mod Again
+mod Floats
+mod Empty
+mod Lines
