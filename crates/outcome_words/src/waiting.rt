@@ -1,0 +1,150 @@
+//! Waits in words. An error is want of memory; then a part of what is appended may stand there.
+
+ghost use Rattle.std.specs.Prelude.{◌≡◌, IfOk, OnOk};
+ghost use Rattle.std.specs.List.{flat_map};
+ghost use Rattle.rail_base.specs.Stations.{trains};
+ghost use Rattle.rail_text.specs.Added.{AddsLines, AddsText};
+ghost use Rattle.outcome_words.specs.Waits.{end_text, release_text, start_text, wait_text};
+ghost use Rattle.outcome_words.specs.Waits.{wait_lines, waits_in};
+ghost use Rattle.outcome_words.specs.Runs.{of_shown};
+
+use crate::run::ShownRun;
+use crate::visits::put_time;
+use crate::waits::{Wait, wait_of};
+use rail_base::design::Design;
+use rail_base::history::TrainHistory;
+use rail_base::names::{entry, node_name, section_name, signal_name, train_name};
+use rail_base::plan::Command;
+use rail_base::route::Start;
+use rail_base::station::{SectionNo, TrainNo};
+use std::alloc::{AllocError, Global};
+
+/// Appends where a route starts.
+fn put_start(text: &mut Vec<u8>, design: &Design, start: Start) -> Result<(), AllocError>
+    ensures { OnOk result (AddsText text.old text.new (start_text design.now.station start)) }
+{
+    match start {
+        Start::Boundary(node) => {
+            text.extend_from_slice(b"outside ")?;
+            text.extend_from_slice(node_name(design, node))
+        }
+        Start::Signal(signal) => {
+            text.extend_from_slice(b"at ")?;
+            text.extend_from_slice(signal_name(design, signal))
+        }
+    }
+}
+
+/// Appends that a wait goes on to the end, where its command is not granted.
+fn put_end(text: &mut Vec<u8>, granted: bool) -> Result<(), AllocError>
+    ensures { OnOk result (AddsText text.old text.new (end_text granted)) }
+{
+    if granted {
+        return Ok(());
+    }
+    text.extend_from_slice(b", to the end")
+}
+
+/// Appends which command is to release which section.
+fn put_releasing(
+    text: &mut Vec<u8>,
+    design: &Design,
+    command: Command,
+    section: SectionNo,
+) -> Result<(), AllocError>
+    ensures { OnOk result (AddsText text.old text.new
+        (release_text design.now.station (Some (command, section)))) }
+{
+    text.extend_from_slice(b", for ")?;
+    text.extend_from_slice(train_name(design, command.train))?;
+    text.extend_from_slice(b" to release ")?;
+    text.extend_from_slice(section_name(design, section))?;
+    Ok(())
+}
+
+/// Appends what is waited for, if there is something.
+fn put_release(
+    text: &mut Vec<u8>,
+    design: &Design,
+    release: Option<(Command, SectionNo)>,
+) -> Result<(), AllocError>
+    ensures { OnOk result (AddsText text.old text.new (release_text design.now.station release)) }
+{
+    match release {
+        None => Ok(()),
+        Some((command, section)) => put_releasing(text, design, command, section),
+    }
+}
+
+/// That a train waits.
+fn wait_text(
+    alloc: Global,
+    design: &Design,
+    train: TrainNo,
+    wait: Wait,
+) -> Result<Vec<u8>, AllocError>
+    ensures { IfOk result (λ line. line.items ≡ wait_text design.now.station train wait) }
+{
+    let mut line = Vec::from_slice(alloc, train_name(design, train))?;
+    line.extend_from_slice(b" waits ")?;
+    put_start(&mut line, design, wait.start)?;
+    line.extend_from_slice(b" from ")?;
+    put_time(&mut line, design, wait.from)?;
+    line.extend_from_slice(b" for ")?;
+    put_time(&mut line, design, wait.until.saturating_sub(wait.from))?;
+    put_end(&mut line, wait.granted)?;
+    put_release(&mut line, design, wait.release)?;
+    line.push(b'\n')?;
+    Ok(line)
+}
+
+/// Appends the waits of a train of which this has happened.
+fn push_waits(
+    alloc: Global,
+    run: &ShownRun,
+    train: TrainNo,
+    history: &TrainHistory,
+    lines: &mut Vec<Vec<u8>>,
+) -> Result<(), AllocError>
+    ensures { OnOk result (AddsLines lines.old lines.new (of_shown run.now waits_in train history.now)) }
+{
+    let design = &run.interlocking.design;
+    for (index, grant) in history.grants.as_slice().iter().enumerate() {
+        if let Some(wait) = wait_of(run, train, history, index, *grant) {
+            let line = wait_text(alloc, design, train, wait)?;
+            lines.push(line)?;
+        }
+    }
+    Ok(())
+}
+
+/// Appends the waits of a train.
+fn push_train(
+    alloc: Global,
+    run: &ShownRun,
+    train: TrainNo,
+    lines: &mut Vec<Vec<u8>>,
+) -> Result<(), AllocError>
+    ensures { OnOk result (AddsLines lines.old lines.new (of_shown run.now wait_lines train)) }
+{
+    match entry(run.history, train.0 as usize) {
+        Some(history) => push_waits(alloc, run, train, history, lines),
+        None => Ok(()),
+    }
+}
+
+/// Appends the waits of all trains.
+pub(crate) fn push_trains(
+    alloc: Global,
+    run: &ShownRun,
+    lines: &mut Vec<Vec<u8>>,
+) -> Result<(), AllocError>
+    ensures { OnOk result (AddsLines lines.old lines.new
+        (flat_map (of_shown run.now wait_lines) (trains run.now.interlocking.now.design.station))) }
+{
+    let trains = run.interlocking.design.station.trains.len() as u32;
+    for number in 1..trains + 1 {
+        push_train(alloc, run, TrainNo(number), lines)?;
+    }
+    Ok(())
+}
