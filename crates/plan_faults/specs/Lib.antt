@@ -1,0 +1,4 @@
+pub mod Commands
+pub mod Reasons
+pub mod Kept
+pub mod Laws

@@ -1,0 +1,8 @@
+use Rattle.std.proofs.Common.{not, is_some, sym, ◌∙◌}
+use Rattle.serde_json.specs.View.{view}
+use Rattle.rail_plan.specs.Text.{command_of}
+use Rattle.plan_values.proofs.Found.{position_map}
+use Rattle.plan_places.proofs.shapes.first_no_command.Goals as goal
+
+pub returns-clause-place : goal.returns-clause-place
+returns-clause-place c = c.place_of_no_command.ensures.place ∙ sym (position_map (λ d. not (is_some (command_of d))) view c.args.values.now)
