@@ -1,12 +1,14 @@
 -- Readings that refuse, and readings that don't.
-use Rattle.std.proofs.Common.{◌≡◌, ℕ, ◌≤◌, Bool, true, false, List, [], ◌∷◌, map, length, nat_lt, nat_le, if◌then◌else◌, Some, Result, Ok, Err, IfOk, refl, ap, sym, ◌∙◌, arith}
+use Rattle.std.proofs.Common.{◌≡◌, ℕ, ◌≤◌, Bool, true, false, List, [], ◌∷◌, map, length, nat_lt, nat_le, if◌then◌else◌, Some, Result, Ok, Err, IfOk, refl, ap, sym, subst, ◌∙◌, arith}
 use Rattle.std.specs.declared.alloc.AllocError.{AllocError}
 use Rattle.std.proofs.lemmas.Bool.{le-ltb, lt-leb}
 use Rattle.design_table.specs.declared.fault.Code.{Code}
 use Rattle.design_table.specs.declared.fault.Code.TheVariants.{D12, D13}
+use Rattle.design_table.specs.declared.fault.DesignFault.{DesignFault}
+use Rattle.design_table.specs.declared.fault.DesignFault.TheVariants as design_fault
 use Rattle.design_table.specs.declared.place.Place.{Place}
 use Rattle.design_table.specs.declared.place.Place.TheVariants.{Routes}
-use Rattle.design_table.specs.Reads.{at, unless_at}
+use Rattle.design_table.specs.Reads.{Refuses, at, unless_at}
 use Rattle.infra_reader.specs.Design.{design_of}
 use Rattle.rail_base.specs.declared.station.Station.{Station}
 use Rattle.rail_base.specs.declared.station.EdgeNo.{EdgeNo}
@@ -35,6 +37,10 @@ pub found_again : (d : Station) (x : RouteFault) (e : EdgeNo) → x ≡ fault.Re
 found_again d (fault.RepeatsEdge f) e same h = let this : f ≡ e = cc in h ∙ ap (λ (y : EdgeNo). Some y) this
 found_again d fault.TooMany e same h = absurd (cc)
 found_again d fault.Memory e same h = absurd (cc)
+
+-- what a reader refuses is what reading gives
+pub refused_reading : {Y : Type 0} (e : DesignFault) (code : Code) (place : Place) (reading : Result Y (Code × Place)) → e ≡ design_fault.Refused code place → Refuses e reading → reading ≡ Err (code, place)
+refused_reading e code place reading is h = subst (λ (x : DesignFault). Refuses x reading) is h
 
 routes_answer : (d : Station) (es : List EdgeNo) (many : Bool) → es ≡ [] → many ≡ false → unless_at D12 (map edge_place es) (unless_at D13 (at many Routes) (Ok d)) ≡ Ok d
 routes_answer d [] false e f = refl

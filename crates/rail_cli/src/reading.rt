@@ -4,9 +4,10 @@ ghost use Rattle.std.specs.Prelude.{◌≡◌, ◌≤◌, [], ◌∷◌, IfOk, O
 ghost use Rattle.rail_outside.specs.Asks.{fetched};
 ghost use Rattle.rail_outside.specs.Files.{Files};
 ghost use Rattle.rail_outside.specs.Growth.{Rose, grown, GrowsByPrefix};
-ghost use Rattle.rail_cli.specs.Answers.{within_limit, design_in, with_routes, design_or_answer};
+ghost use Rattle.rail_cli.specs.Answers.{and_then, within_limit, design_in, with_routes, design_or_answer};
 ghost use Rattle.rail_cli.specs.Replies.{ReadsOrEnds, RefusesFile, OnlyRefuses};
 ghost use Rattle.infra_reader.specs.Design.{design_of};
+ghost use Rattle.design_table.specs.Reads.{GivesOrRefuses};
 
 use crate::ending::Ending;
 use crate::input::InputFile;
@@ -45,12 +46,46 @@ pub fn fetch<S: Shelf>(
     }
 }
 
+/// The design that is parsed from the bytes, with its routes. The error is the code and the place with which it is
+/// refused, or want of memory.
+pub fn admit_design(alloc: Global, bytes: &[u8]) -> Result<Interlocking, DesignFault>
+    ensures { GivesOrRefuses (λ i. i.design.station) result (and_then (design_of bytes.now) with_routes) }
+{
+    let design = read_design(alloc, bytes)?;
+    listed(alloc, design)
+}
+
+/// A design with its routes, where they can be listed.
+fn listed(alloc: Global, design: Design) -> Result<Interlocking, DesignFault>
+    ensures reads { GivesOrRefuses (λ i. i.design.station) result (with_routes design.station) }
+    ensures same { IfOk result (λ i. i.design ≡ design) }
+{
+    match interlocking(alloc, design) {
+        Ok(interlocking) => Ok(interlocking),
+        Err(RouteFault::RepeatsEdge { edge }) => Err(DesignFault::Refused {
+            code: Code::D12,
+            place: Place::Entry(EntryKind::Edge, u64::from(edge.0)),
+        }),
+        Err(RouteFault::TooMany) => Err(DesignFault::Refused {
+            code: Code::D13,
+            place: Place::Routes,
+        }),
+        Err(RouteFault::Memory) => Err(DesignFault::Memory),
+    }
+}
+
 /// The design that is parsed from the bytes, with its routes. The ending says why it is refused, or is want of memory.
 pub fn admit(alloc: Global, bytes: &[u8]) -> Result<Interlocking, Ending>
     ensures reads { ReadsOrEnds (λ i. i.design.station) result (design_in bytes.now) }
     ensures refuses { OnlyRefuses result }
 {
-    interlock(alloc, read(alloc, bytes)?)
+    match admit_design(alloc, bytes) {
+        Ok(interlocking) => Ok(interlocking),
+        Err(DesignFault::Refused { code, place }) => {
+            Err(ending_of(design_refused(alloc, code, place)))
+        }
+        Err(DesignFault::Memory) => Err(Ending::Memory),
+    }
 }
 
 /// A design with its routes.
@@ -59,26 +94,8 @@ pub(crate) fn interlock(alloc: Global, design: Design) -> Result<Interlocking, E
     ensures refuses { OnlyRefuses result }
     ensures same { IfOk result (λ i. i.design ≡ design) }
 {
-    match interlocking(alloc, design) {
+    match listed(alloc, design) {
         Ok(interlocking) => Ok(interlocking),
-        Err(RouteFault::RepeatsEdge { edge }) => {
-            let place = Place::Entry(EntryKind::Edge, u64::from(edge.0));
-            Err(ending_of(design_refused(alloc, Code::D12, place)))
-        }
-        Err(RouteFault::TooMany) => {
-            Err(ending_of(design_refused(alloc, Code::D13, Place::Routes)))
-        }
-        Err(RouteFault::Memory) => Err(Ending::Memory),
-    }
-}
-
-/// The design that is parsed from the bytes, before its routes are found.
-fn read(alloc: Global, bytes: &[u8]) -> Result<Design, Ending>
-    ensures reads { ReadsOrEnds (λ d. d.station) result (design_or_answer (design_of bytes.now)) }
-    ensures refuses { OnlyRefuses result }
-{
-    match read_design(alloc, bytes) {
-        Ok(design) => Ok(design),
         Err(DesignFault::Refused { code, place }) => {
             Err(ending_of(design_refused(alloc, code, place)))
         }

@@ -37,15 +37,15 @@ pub(crate) fn usage(alloc: Global) -> Result<Reply, AllocError>
     one_line(alloc, Status::Usage, usage_line(alloc)?)
 }
 
-/// A file is longer than its limit.
-pub(crate) fn too_long(alloc: Global, file: InputFile) -> Result<Reply, AllocError>
+/// A file is longer than its limit. The error is want of memory.
+pub fn too_long(alloc: Global, file: InputFile) -> Result<Reply, AllocError>
     ensures { RepliesWith result (one_line Status.TooLong (too_long_line file)) }
 {
     one_line(alloc, Status::TooLong, too_long_line(alloc, file)?)
 }
 
-/// The design is refused.
-pub(crate) fn design_refused(alloc: Global, code: Code, place: Place) -> Result<Reply, AllocError>
+/// The design is refused, with this code at this place. The error is want of memory.
+pub fn design_refused(alloc: Global, code: Code, place: Place) -> Result<Reply, AllocError>
     ensures { RepliesWith result (one_line Status.DesignRefused (design_refused_line code place)) }
 {
     one_line(
@@ -62,8 +62,8 @@ pub(crate) fn too_large(alloc: Global) -> Result<Reply, AllocError>
     one_line(alloc, Status::DesignRefused, too_large_line(alloc)?)
 }
 
-/// The plan is refused.
-pub(crate) fn plan_refused(
+/// The plan is refused, with this code at this place. The error is want of memory.
+pub fn plan_refused(
     alloc: Global,
     design: &Design,
     code: PlanCode,
