@@ -1,11 +1,11 @@
 //! The lines about a text that is no plan by its form.
 
-ghost use Rattle.std.specs.Prelude.{◌≡◌, IfOk};
+ghost use Rattle.std.specs.Prelude.{◌≡◌, ◌≤◌, length, IfOk};
 ghost use Rattle.rail_outside.specs.Lines.{lines_of};
 ghost use Rattle.serde_json.specs.View.{view};
 ghost use Rattle.rail_plan.specs.Text.{json_of};
 ghost use Rattle.plan_places.specs.Shapes.{shape_lines};
-ghost use Rattle.plan_fault_words.specs.Unread.{IsStop, SaysUnread};
+ghost use Rattle.plan_fault_words.specs.Unread.{IsStop, SaysUnread, said_line, stop_lines};
 
 use design_places::push_spot;
 use plan_places::push_shape;
@@ -26,15 +26,18 @@ fn line_start(text: &[u8], line: usize) -> usize {
     text.len()
 }
 
-/// The rest of a text from a line and a byte of it on, both counted from 1.
-fn rest_at(text: &[u8], line: usize, byte: usize) -> &[u8] {
+/// How many bytes of a text there are before a line and a byte of it, both counted from 1.
+fn place_at(text: &[u8], line: usize, byte: usize) -> usize
+    ensures { result ≤ length text.now }
+{
     let start = line_start(text, line);
-    let place = start.saturating_add(byte.saturating_sub(1));
-    &text[place.min(text.len())..]
+    start.saturating_add(byte.saturating_sub(1)).min(text.len())
 }
 
 /// What is wrong at the place where the reader of JSON stops.
-fn said_line(alloc: Global, is_cut: bool) -> Result<Vec<u8>, AllocError> {
+fn said_line(alloc: Global, is_cut: bool) -> Result<Vec<u8>, AllocError>
+    ensures { IfOk result (λ line. line.items ≡ said_line is_cut) }
+{
     if is_cut {
         Vec::from_slice(alloc, b"the file is no JSON: it ends too early\n")
     } else {
@@ -46,15 +49,31 @@ fn said_line(alloc: Global, is_cut: bool) -> Result<Vec<u8>, AllocError> {
 fn stop_lines(
     alloc: Global,
     text: &[u8],
-    rest: &[u8],
+    place: usize,
+    is_cut: bool,
+) -> Result<Vec<Vec<u8>>, AllocError>
+    requires { place ≤ length text.now }
+    ensures { IfOk result (λ lines. lines_of lines.items ≡ stop_lines text.now place is_cut) }
+{
+    let mut lines = Vec::new(alloc);
+    push_spot(alloc, text, &text[place..], &mut lines)?;
+    let line = said_line(alloc, is_cut)?;
+    lines.push(line)?;
+    Ok(lines)
+}
+
+/// The same, where the reader's fault says that it stops.
+fn stopped_lines(
+    alloc: Global,
+    text: &[u8],
+    line: usize,
+    byte: usize,
     is_cut: bool,
 ) -> Result<Vec<Vec<u8>>, AllocError>
     ensures { IfOk result (λ lines. IsStop text.now (lines_of lines.items)) }
 {
-    let mut lines = Vec::new(alloc);
-    push_spot(alloc, text, rest, &mut lines)?;
-    let line = said_line(alloc, is_cut)?;
-    lines.push(line)?;
+    let place = place_at(text, line, byte);
+    let lines = stop_lines(alloc, text, place, is_cut)?;
     Ok(lines)
 }
 
@@ -78,8 +97,8 @@ pub(crate) fn unread_lines(alloc: Global, bytes: &[u8]) -> Result<Vec<Vec<u8>>, 
             if error.is_memory() {
                 return Err(AllocError);
             }
-            let rest = rest_at(bytes, error.line(), error.column());
-            stop_lines(alloc, bytes, rest, error.is_eof())
+            let (line, byte) = (error.line(), error.column());
+            stopped_lines(alloc, bytes, line, byte, error.is_eof())
         }
     }
 }

@@ -14,4 +14,4 @@ returns-in-Ok c =
 pub returns-else-is_memory : goal.returns-else-is_memory
 returns-else-is_memory c =
     let is = json_refused c.args.bytes.now (c.in-Err.ensures.err (λ m. let t : c.is_memory.result ≡ true = c.is_memory.ensures.1 m in cc)) in
-    subst (λ (o : Option Data). IfOk c.stop_lines.result (λ lines. SaysUnread c.args.bytes.now o (lines_of lines.items))) (sym is) c.stop_lines.ensures
+    subst (λ (o : Option Data). IfOk c.stopped_lines.result (λ lines. SaysUnread c.args.bytes.now o (lines_of lines.items))) (sym is) c.stopped_lines.ensures
