@@ -1,5 +1,5 @@
 -- Runs, and what they print.
-use Rattle.std.proofs.Common.{◌≡◌, ◌≢◌, ℕ, true, false, inl, inr, List, [], ◌∷◌, Option, Some, None, Result, Ok, Err, refl, ap, sym, ◌∙◌, subst}
+use Rattle.std.proofs.Common.{◌≡◌, ◌≢◌, ℕ, true, false, inl, inr, List, [], ◌∷◌, Option, Some, None, Result, Ok, Err, refl, ap, ap₂, sym, ◌∙◌, subst}
 use Rattle.std.specs.declared.alloc.AllocError.{AllocError}
 use Rattle.rail_cli.specs.declared.status.Status.{Status}
 use Rattle.rail_cli.specs.declared.status.Status.TheVariants as statuses
@@ -12,15 +12,17 @@ use Rattle.rail_cli.specs.Replies.{OnReply, Replies, RepliesWith, reply_seen}
 use Rattle.rail_cli.specs.Statuses.{is_answered}
 use Rattle.rail_cli.proofs.Silence.{silent_for_memory}
 use Rattle.rail_base.specs.declared.station.Station.{Station}
+use Rattle.rail_base.specs.Members.{In}
 use Rattle.rail_outside.specs.Asks.{Ask}
 use Rattle.rail_outside.specs.Files.{Files}
 use Rattle.rail_outside.specs.Growth.{GrowsByPrefix}
 use Rattle.rail_words.specs.Requests.{request_of}
 use Rattle.rail_cli.proofs.Asking.{none_of}
 use Rattle.workload.specs.Made.{made}
-use Rattle.design_cli.specs.Answers.{answer_given, answer_to, asks_to, design_asked, file_answer, names_in, printed, usage}
+use Rattle.design_cli.specs.Answers.{answer_given, answer_to, asks_to, design_used, file_answer, names_in, plan_answer, printed, usage}
 use Rattle.design_cli.specs.Reports.{PrintsAnswer, PrintsUnread, PrintsSome, Reports, is_reply}
-use Rattle.design_cli.specs.Wanted.{Wanted, by_request, in_file, of_trial, rcv_words, wanted_of}
+use Rattle.design_cli.specs.declared.wanted.Form.{Form}
+use Rattle.design_cli.specs.Wanted.{Wanted, by_request, form_of, in_file, of_plan, of_trial, rcv_words, wanted_of}
 
 -- nothing is printed for want of memory
 pub want_answers : (a : ReplySeen) (text : Option (List ℕ)) (pieces : Option (List (List ℕ))) → PrintsAnswer a statuses.Memory text text pieces pieces
@@ -30,7 +32,7 @@ pub want_reports : (a : ReplySeen) (names : List (List ℕ)) (text : Option (Lis
 want_reports a names text pieces = inl (want_answers a text pieces)
 
 pub want_some : (wanted : Option Wanted) (text : Option (List ℕ)) (pieces : Option (List (List ℕ))) → PrintsSome wanted statuses.Memory text text pieces pieces
-want_some wanted text pieces = record { bytes = []; reports = want_reports (answer_given [] wanted) (names_in wanted) text pieces }
+want_some wanted text pieces = record { bytes = []; plan_bytes = []; reports = want_reports (answer_given [] [] wanted) (names_in wanted) text pieces }
 
 module _ (s : Status) (text new_text : Option (List ℕ)) (pieces new_pieces : Option (List (List ℕ))) where
   -- a reply is printed that is the answer
@@ -50,6 +52,11 @@ module _ (s : Status) (text new_text : Option (List ℕ)) (pieces new_pieces : O
   -- a file could not be read
   pub reports_unread : (name : List ℕ) (a : ReplySeen) → PrintsUnread name s text new_text pieces new_pieces → Reports a (name ∷ []) s text new_text pieces new_pieces
   reports_unread name a prints = inr (record { name = name; named = inl refl; prints = prints })
+
+  -- the names may be among others
+  pub reports_among : (a : ReplySeen) (names more : List (List ℕ)) → ((name : List ℕ) → In name names → In name more) → Reports a names s text new_text pieces new_pieces → Reports a more s text new_text pieces new_pieces
+  reports_among a names more among (inl h) = inl h
+  reports_among a names more among (inr h) = inr (record { name = h.name; named = among h.name h.named; prints = h.prints })
 
   pub unread_is_no_answer : (name : List ℕ) → PrintsUnread name s text new_text pieces new_pieces → s ≡ statuses.Done → false ≡ true
   unread_is_no_answer name prints is = sym prints.unanswered ∙ ap is_answered is
@@ -79,17 +86,21 @@ module _ (s : Status) (text new_text : Option (List ℕ)) (pieces new_pieces : O
 
   -- for some bytes of a file
   pub file_some : (name : List ℕ) → ((bytes : List ℕ) × Reports (file_answer bytes) (name ∷ []) s text new_text pieces new_pieces) → PrintsSome (Some (in_file name)) s text new_text pieces new_pieces
-  file_some name h = record { bytes = h.0; reports = h.1 }
+  file_some name h = record { bytes = h.0; plan_bytes = []; reports = h.1 }
 
   pub trial_some : (seed size : ℕ) → PrintsAnswer (printed (made seed size)) s text new_text pieces new_pieces → PrintsSome (Some (of_trial seed size)) s text new_text pieces new_pieces
-  trial_some seed size h = record { bytes = []; reports = inl h }
+  trial_some seed size h = record { bytes = []; plan_bytes = []; reports = inl h }
 
   pub usage_some : PrintsAnswer usage s text new_text pieces new_pieces → PrintsSome None s text new_text pieces new_pieces
-  usage_some h = record { bytes = []; reports = inl h }
+  usage_some h = record { bytes = []; plan_bytes = []; reports = inl h }
 
--- the design that is asked for
-pub asked_design : (files : Files) (wanted named : Option Wanted) (d : Station) → wanted ≡ named → design_asked files wanted ≡ Ok d → design_asked files named ≡ Ok d
-asked_design files wanted named d is h = ap (design_asked files) (sym is) ∙ h
+  -- for some bytes of two files
+  pub plan_some : (form : Form) (design plan : List ℕ) → ((bytes : List ℕ) × (plan_bytes : List ℕ) × Reports (plan_answer form bytes plan_bytes) (design ∷ plan ∷ []) s text new_text pieces new_pieces) → PrintsSome (Some (of_plan form design plan)) s text new_text pieces new_pieces
+  plan_some form design plan h = record { bytes = h.0; plan_bytes = h.1; reports = h.2 }
+
+-- the design that is used
+pub used_design : (files : Files) (wanted named : Option Wanted) (d : Station) → wanted ≡ named → design_used files wanted ≡ Ok d → design_used files named ≡ Ok d
+used_design files wanted named d is h = ap (design_used files) (sym is) ∙ h
 
 -- the calls of the shelf
 pub asked_grows : (wanted named : Option Wanted) (old new : Option (List Ask)) → wanted ≡ named → GrowsByPrefix old new (asks_to named) → GrowsByPrefix old new (asks_to wanted)
@@ -99,5 +110,13 @@ pub none_asked : (wanted : Option Wanted) (old : Option (List Ask)) → GrowsByP
 none_asked wanted old = none_of old (asks_to wanted)
 
 -- the words by which rcv is asked
-pub same_words : (words asked : List (List ℕ)) → asked ≡ rcv_words words → by_request (request_of asked) ≡ wanted_of words
-same_words words asked is = ap (λ ws. by_request (request_of ws)) is
+pub same_words : (words asked : List (List ℕ)) (form : Form) → form ≡ form_of words → asked ≡ rcv_words words → by_request form (request_of asked) ≡ wanted_of words
+same_words words asked form so is = ap₂ (λ f ws. by_request f (request_of ws)) so is
+
+-- one of two names
+pub first_name : (one other name : List ℕ) → In name (one ∷ []) → In name (one ∷ other ∷ [])
+first_name one other name (inl e) = inl e
+first_name one other name (inr m) = absurd m
+
+pub second_name : (one other name : List ℕ) → In name (other ∷ []) → In name (one ∷ other ∷ [])
+second_name one other name m = inr m

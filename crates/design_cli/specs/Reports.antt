@@ -48,11 +48,12 @@ abbrev pub Reports : ReplySeen → List (List ℕ) → Status → Option (List �
 Reports a names s text new_text pieces new_pieces =
     PrintsAnswer a s text new_text pieces new_pieces ⊎ PrintsUnreadOf names s text new_text pieces new_pieces
 
--- there are bytes of the file for which that is so
+-- there are bytes of the files of the design and of the plan for which that is so
 pub record PrintsSome (wanted : Option Wanted) (s : Status) (text new_text : Option (List ℕ))
     (pieces new_pieces : Option (List (List ℕ))) : Type 0 where
   pub bytes : List ℕ
-  pub reports : Reports (answer_given bytes wanted) (names_in wanted) s text new_text pieces new_pieces
+  pub plan_bytes : List ℕ
+  pub reports : Reports (answer_given bytes plan_bytes wanted) (names_in wanted) s text new_text pieces new_pieces
 
 -- the text of the design is printed, read as that design, and no longer than the file of a design may be
 pub record PrintsDesign (d : Station) (text new_text : Option (List ℕ)) : Type 0 where

@@ -1,6 +1,6 @@
 //! The reply to what is wanted.
 
-ghost use Rattle.std.specs.Prelude.{◌≡◌, ◌≢◌, ◌≤◌, [], ◌∷◌, true, Ok, Some, Err, ℕ, List};
+ghost use Rattle.std.specs.Prelude.{◌≡◌, ◌≢◌, ◌≤◌, [], ◌∷◌, true, IfOk, Ok, Some, Err, ℕ, List};
 ghost use Rattle.rail_base.specs.Admission.{is_admitted};
 ghost use Rattle.rail_base.specs.declared.station.Station.{Station};
 ghost use Rattle.rail_outside.specs.Asks.{fetched};
@@ -10,6 +10,7 @@ ghost use Rattle.rail_cli.specs.Answers.{design_in};
 ghost use Rattle.rail_cli.specs.Replies.{OnReply, Replies, RepliesWith};
 ghost use Rattle.workload.specs.Made.{made};
 ghost use Rattle.design_cli.specs.Answers.{design_in_file, file_answer, printed, text_answer, usage};
+ghost use Rattle.design_cli.specs.Answers.{usage_line};
 
 use design_text::design_lines;
 use rail_base::design::Design;
@@ -22,11 +23,19 @@ use workload::make;
 pub(crate) fn usage(alloc: Global) -> Result<Reply, AllocError>
     ensures { RepliesWith result usage }
 {
-    let line = Vec::from_slice(
+    one_line(alloc, Status::Usage, usage_line(alloc)?)
+}
+
+/// How the program is used.
+fn usage_line(alloc: Global) -> Result<Vec<u8>, AllocError>
+    ensures { IfOk result (λ line. line.items ≡ usage_line) }
+{
+    let mut line = Vec::from_slice(
         alloc,
-        b"usage: rcv_design DESIGN; rcv_design --trial SEED SIZE\n",
+        b"usage: rcv_design DESIGN; rcv_design --trial SEED SIZE; rcv_design --plan DESIGN PLAN; ",
     )?;
-    one_line(alloc, Status::Usage, line)
+    line.extend_from_slice(b"rcv_design --numbers DESIGN PLAN\n")?;
+    Ok(line)
 }
 
 /// The lines of a design.

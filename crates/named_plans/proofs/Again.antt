@@ -1,20 +1,18 @@
 -- A step in file order stays as it is when it is put into file order again.
-use Rattle.std.proofs.Common.{◌≡◌, ℕ, inl, inr, true, List, [], ◌∷◌, ◌++◌, map, filter, flat_map, refl, sym, ap, ap₂, ◌∙◌, eqb-true, codes}
+use Rattle.std.proofs.Common.{◌≡◌, List, [], ◌∷◌, ◌++◌, map, filter, refl, ap, ap₂, eqb-true, codes}
 use Rattle.serde_json.specs.Data.{Data, array, object, member, no_members}
 use Rattle.serde_json.specs.View.{items_of}
 use Rattle.serde_json.specs.Written.{compact_text}
 use Rattle.rail_base.specs.declared.station.Station.{Station}
-use Rattle.rail_base.specs.declared.station.TrainNo.{TrainNo}
 use Rattle.rail_base.specs.declared.plan.Command.{Command}
-use Rattle.rail_base.specs.Members.{In}
 use Rattle.rail_base.specs.Stations.{trains}
 use Rattle.rail_plan.proofs.Blocked.{joined_same}
 use Rattle.rail_plan.proofs.Empties.{in_trains_back}
 use Rattle.rail_spec.specs.Plans.{is_train}
-use Rattle.plan_text.specs.Text.{in_file_order, plan_value, plan_text}
+use Rattle.plan_text.specs.Text.{in_file_order, plan_text}
 use Rattle.plan_text.specs.Text as numbers
 use Rattle.plan_text.proofs.Ordered.{own}
-use Rattle.named_plans.specs.Text.{command_value, step_value, line_end, step_lines, named_lines}
+use Rattle.named_plans.specs.Text.{command_value, line_end, step_lines, named_lines}
 
 module _ (d : Station) where
   pub in_order_again : (step : List Command) → in_file_order d (in_file_order d step) ≡ in_file_order d step

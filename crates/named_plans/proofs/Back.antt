@@ -1,10 +1,10 @@
 -- A plan is read from its texts.
-use Rattle.std.proofs.Common.{◌≡◌, ℕ, ◌≤◌, ◌<◌, ◌^◌, inl, inr, true, false, List, [], ◌∷◌, ◌++◌, map, length, Option, Some, None, option_map, option_and_then, Ok, codes, IsUtf8, refl, sym, ap, ap₂, subst, ◌∙◌, arith, append_assoc, append-nil, cond, ◌&&◌, nat_le, leb-true}
+use Rattle.std.proofs.Common.{◌≡◌, ℕ, ◌≤◌, ◌<◌, ◌^◌, inl, inr, true, false, List, [], ◌∷◌, ◌++◌, map, length, Option, Some, option_map, option_and_then, Ok, codes, IsUtf8, refl, sym, ap, ap₂, subst, ◌∙◌, arith, append_assoc, append-nil, ◌&&◌, nat_le, leb-true}
 use Rattle.std.specs.List.{concat}
 use Rattle.std.proofs.lemmas.Str.{IsUtf8-append}
 use Rattle.json.specs.Print.{escape_byte, print_from}
 use Rattle.json.specs.Spaced.{AreGaps, print_spaced}
-use Rattle.json.specs.Token.{Token, begin_object, end_object, begin_array, end_array, key}
+use Rattle.json.specs.Token.{begin_object, end_object, begin_array, end_array, key}
 use Rattle.json.specs.Tree.{json_tokens, items_tokens}
 use Rattle.json.specs.Tree as tree
 use Rattle.json.proofs.Printed.Utf8.{IsUtf8-are_ascii}
@@ -19,7 +19,7 @@ use Rattle.rail_base.specs.declared.route.RouteNo.{RouteNo}
 use Rattle.rail_base.specs.Admission.{is_admitted}
 use Rattle.rail_base.specs.Members.{In}
 use Rattle.rail_base.specs.Routes.{IsRoute, route_at}
-use Rattle.rail_base.specs.Stations.{IsTrain, train_of}
+use Rattle.rail_base.specs.Stations.{train_of}
 use Rattle.rail_base.proofs.Members.{and_left, and_right, list_all_at}
 use Rattle.rail_base.proofs.Lists.{in_flat_map}
 use Rattle.rail_plan.specs.Reading.{plan_of, plan_of_text}
@@ -36,8 +36,8 @@ use Rattle.plan_text.proofs.ReadBack.{all_listed, plain, low, plans_read_back}
 use Rattle.plan_names.specs.Shown.{shown}
 use Rattle.plan_names.specs.Values.{names_value}
 use Rattle.plan_names.proofs.Found.{stood_for}
-use Rattle.named_plans.specs.Numbered.{all_shown, number_or_none, names_in, both, two_numbered, command_numbered, step_numbered, plan_numbered, named_plan_of}
-use Rattle.named_plans.specs.Text.{command_value, step_value, line_end, step_lines, named_lines, named_text}
+use Rattle.named_plans.specs.Numbered.{all_shown, number_or_none, names_in, both, command_numbered, step_numbered, plan_numbered, named_plan_of}
+use Rattle.named_plans.specs.Text.{command_value, step_value, line_end, step_lines, named_text}
 use Rattle.named_plans.proofs.Shown.{texts_at}
 use Rattle.named_plans.proofs.Spaced.{Pieces, close, close_tokens, close_gaps, gaps_more, print_close, items_end, items_print, line_read}
 use Rattle.named_plans.proofs.Trailing.{feed}

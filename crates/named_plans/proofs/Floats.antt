@@ -1,5 +1,5 @@
 -- A step with names has no floats.
-use Rattle.std.proofs.Common.{◌≡◌, false, ◌||◌, List, refl, ap, ap₂, ◌∙◌}
+use Rattle.std.proofs.Common.{◌≡◌, false, ◌||◌, List, refl, ap}
 use Rattle.serde_json.specs.Data.{string}
 use Rattle.serde_json.specs.Written.{has_float}
 use Rattle.rail_base.specs.declared.station.Station.{Station}

@@ -1,10 +1,10 @@
 mod Trailing
 mod Spaced
-mod Back
+pub mod Back
 mod Shown
 mod Gathered
 mod Shallow
-mod Again
+pub mod Again
 mod Floats
 mod Empty
 mod Lines

@@ -1,5 +1,5 @@
 -- A plan with numbers in place of names is no deeper than a text may be.
-use Rattle.std.proofs.Common.{◌≡◌, ℕ, ◌≤◌, max, List, [], ◌∷◌, Option, Some, None, option_map, option_and_then, refl, sym, ap, subst, ◌∙◌, arith, codes}
+use Rattle.std.proofs.Common.{◌≡◌, ℕ, ◌≤◌, List, [], ◌∷◌, Option, Some, None, option_map, option_and_then, refl, subst, arith, codes}
 use Rattle.serde_json.specs.Data.{Data, unsigned, number, string, array, object, member, no_members, depth, items_depth}
 use Rattle.serde_json.specs.Read.{max_depth}
 use Rattle.serde_json.specs.View.{items_of}

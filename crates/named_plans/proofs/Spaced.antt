@@ -1,17 +1,17 @@
 -- Texts with spaces between their tokens, and a line feed at the end: what they are read as.
-use Rattle.std.proofs.Common.{◌≡◌, ℕ, ◌≤◌, inl, inr, Bool, true, false, List, [], ◌∷◌, ◌++◌, map, fold, Option, Some, option_and_then, IsUtf8, refl, sym, ap, subst, ◌∙◌, append_assoc, append-nil}
+use Rattle.std.proofs.Common.{◌≡◌, ℕ, ◌≤◌, Bool, true, false, List, [], ◌∷◌, ◌++◌, map, fold, Some, option_and_then, IsUtf8, refl, sym, ap, subst, ◌∙◌, append_assoc, append-nil}
 use Rattle.json.specs.Json as json
-use Rattle.json.specs.Token.{Token, begin_array}
+use Rattle.json.specs.Token.{Token}
 use Rattle.json.specs.Lex.{tokens}
-use Rattle.json.specs.Print.{token_text, begins, ends, separator, print, print_from, ArePrintable}
-use Rattle.json.specs.Spaced.{IsGap, AreGaps, print_spaced}
-use Rattle.json.specs.Tree.{json_tokens, items_tokens, members_tokens}
+use Rattle.json.specs.Print.{token_text, ends, separator, print_from, ArePrintable}
+use Rattle.json.specs.Spaced.{AreGaps, print_spaced}
+use Rattle.json.specs.Tree.{json_tokens, items_tokens}
 use Rattle.json.specs.Tree as tree
-use Rattle.json.proofs.Printed.Tokens.{tokens-print_spaced, ends_push}
+use Rattle.json.proofs.Printed.Tokens.{tokens-print_spaced}
 use Rattle.json.proofs.Printed.Trees.{value-json_tokens, ArePrintable-json_tokens}
 use Rattle.serde_json.specs.Data.{Data, array, Items}
 use Rattle.serde_json.specs.Read.{of_json, read, max_depth}
-use Rattle.serde_json.specs.Written.{outline, items_outline, compact_text, items_text}
+use Rattle.serde_json.specs.Written.{outline, items_outline, items_text}
 use Rattle.serde_json.proofs.Texts.{print-outline}
 use Rattle.rail_plan.specs.Text.{json_of}
 use Rattle.rail_plan.proofs.Json.{json_found}

@@ -2,10 +2,10 @@ use Rattle.std.proofs.Common.{◌≡◌, true, rules, Some, inl}
 use Rattle.rail_base.specs.Admission.{is_admitted}
 use Rattle.workload.specs.Made.{made}
 use Rattle.design_cli.specs.Answers.{file_answer, printed}
-use Rattle.design_cli.specs.Wanted.{in_file, of_trial}
+use Rattle.design_cli.specs.Wanted.{in_file, of_plan, of_trial}
 use Rattle.design_cli.specs.Words.{wanted_by}
 use Rattle.design_cli.proofs.Asking.{in_range, trial_admitted, trial_made}
-use Rattle.design_cli.proofs.Reporting.{asked_design, asked_grows, asked_reports, asked_some, file_some, none_asked, on_reply, trial_some}
+use Rattle.design_cli.proofs.Reporting.{asked_grows, asked_reports, asked_some, file_some, none_asked, on_reply, trial_some, used_design}
 use Rattle.design_cli.proofs.run.run_wanted.Goals as goal
 
 pub returns-in-InFile-clause-answer : goal.returns-in-InFile-clause-answer
@@ -21,7 +21,7 @@ returns-in-InFile-clause-for_some_files g c =
 
 pub returns-in-InFile-clause-admitted : goal.returns-in-InFile-clause-admitted
 returns-in-InFile-clause-admitted g c = λ files known d is done.
-    on_reply c.file_reply-reply.result (is_admitted d ≡ true) (c.file_reply-reply.ensures.admitted files known d (asked_design files (Some (wanted_by c.args.wanted)) (Some (in_file c.in-InFile.design.now)) d (search rules) is)) (c.print_for_file.ensures.done done)
+    on_reply c.file_reply-reply.result (is_admitted d ≡ true) (c.file_reply-reply.ensures.admitted files known d (used_design files (Some (wanted_by c.args.wanted)) (Some (in_file c.in-InFile.design.now)) d (search rules) is)) (c.print_for_file.ensures.done done)
 
 pub returns-in-InFile-clause-asked : goal.returns-in-InFile-clause-asked
 returns-in-InFile-clause-asked g c = asked_grows (Some (wanted_by c.args.wanted)) (Some (in_file c.in-InFile.design.now)) _ _ (search rules) c.file_reply-reply.ensures.asks
@@ -39,7 +39,24 @@ returns-in-OfTrial-clause-for_some_files g c =
 pub returns-in-OfTrial-clause-admitted : goal.returns-in-OfTrial-clause-admitted
 returns-in-OfTrial-clause-admitted g c = λ files known d is done.
     trial_admitted c.in-OfTrial.seed c.in-OfTrial.size d (in_range (wanted_by c.args.wanted) c.in-OfTrial.seed c.in-OfTrial.size (search rules) c.requires)
-    (trial_made files c.in-OfTrial.seed c.in-OfTrial.size d (asked_design files (Some (wanted_by c.args.wanted)) (Some (of_trial c.in-OfTrial.seed c.in-OfTrial.size)) d (search rules) is))
+    (trial_made files c.in-OfTrial.seed c.in-OfTrial.size d (used_design files (Some (wanted_by c.args.wanted)) (Some (of_trial c.in-OfTrial.seed c.in-OfTrial.size)) d (search rules) is))
 
 pub returns-in-OfTrial-clause-asked : goal.returns-in-OfTrial-clause-asked
 returns-in-OfTrial-clause-asked g c = none_asked (Some (wanted_by c.args.wanted)) _
+
+pub returns-in-OfPlan-clause-answer : goal.returns-in-OfPlan-clause-answer
+returns-in-OfPlan-clause-answer g c = λ files known.
+    asked_reports c.run_plan.result _ _ _ _ files (Some (wanted_by c.args.wanted)) (Some (of_plan c.in-OfPlan.form c.in-OfPlan.design.now c.in-OfPlan.plan.now)) (search rules)
+    (c.run_plan.ensures.answer files known)
+
+pub returns-in-OfPlan-clause-for_some_files : goal.returns-in-OfPlan-clause-for_some_files
+returns-in-OfPlan-clause-for_some_files g c =
+    asked_some c.run_plan.result _ _ _ _ (Some (wanted_by c.args.wanted)) (Some (of_plan c.in-OfPlan.form c.in-OfPlan.design.now c.in-OfPlan.plan.now)) (search rules)
+    c.run_plan.ensures.for_some_files
+
+pub returns-in-OfPlan-clause-admitted : goal.returns-in-OfPlan-clause-admitted
+returns-in-OfPlan-clause-admitted g c = λ files known d is done.
+    c.run_plan.ensures.admitted files known d (used_design files (Some (wanted_by c.args.wanted)) (Some (of_plan c.in-OfPlan.form c.in-OfPlan.design.now c.in-OfPlan.plan.now)) d (search rules) is) done
+
+pub returns-in-OfPlan-clause-asked : goal.returns-in-OfPlan-clause-asked
+returns-in-OfPlan-clause-asked g c = asked_grows (Some (wanted_by c.args.wanted)) (Some (of_plan c.in-OfPlan.form c.in-OfPlan.design.now c.in-OfPlan.plan.now)) _ _ (search rules) c.run_plan.ensures.asked

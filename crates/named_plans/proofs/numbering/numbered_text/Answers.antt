@@ -1,4 +1,4 @@
-use Rattle.std.proofs.Common.{◌≡◌, None, option_and_then, option_map, ap, sym, ◌∙◌}
+use Rattle.std.proofs.Common.{option_and_then, option_map, ap, sym, ◌∙◌}
 use Rattle.serde_json.specs.View.{view}
 use Rattle.rail_plan.specs.Reading.{plan_of_text}
 use Rattle.rail_plan.specs.Text.{json_of, text_steps}

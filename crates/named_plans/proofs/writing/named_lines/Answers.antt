@@ -1,4 +1,4 @@
-use Rattle.std.proofs.Common.{◌≡◌, All, List, sym, subst}
+use Rattle.std.proofs.Common.{All, List, sym, subst}
 use Rattle.rail_base.specs.declared.plan.Command.{Command}
 use Rattle.rail_plan.specs.Named.{HaveRoutes}
 use Rattle.rail_plan.proofs.Named.{all_have_routes}

@@ -1,6 +1,4 @@
-use Rattle.std.proofs.Common.{◌≡◌, ◌++◌, map, ap, sym, ◌∙◌, arith}
-use Rattle.rail_outside.specs.Lines.{lines_of}
-use Rattle.named_plans.specs.Text.{step_lines}
+use Rattle.std.proofs.Common.{arith}
 use Rattle.named_plans.proofs.Lines.{all_lines}
 use Rattle.named_plans.proofs.writing.put_steps.Goals as goal
 
