@@ -1,6 +1,5 @@
 pub mod Reading
-pub mod Asking
 pub mod Checking
-pub mod Showing
-pub mod Printing
+pub mod Outcomes
 pub mod Using
+pub mod Showing

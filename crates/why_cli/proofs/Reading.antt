@@ -1,5 +1,5 @@
--- Replies, one reading after the other.
-use Rattle.std.proofs.Common.{◌≡◌, ℕ, List, [], Option, Some, None, Result, Ok, Err, Vec, Global, refl, ap, sym, ◌∙◌, subst}
+-- Replies, one reading after the other, and what is printed of them.
+use Rattle.std.proofs.Common.{◌≡◌, ℕ, inl, Bool, true, false, List, [], ◌∷◌, Option, Some, None, Result, Ok, Err, Vec, Global, refl, ap, sym, ◌∙◌, subst}
 use Rattle.plan_exclusion.specs.declared.method.Method.TheVariants.{Cones}
 use Rattle.proof_words.specs.declared.explaining.Explained.{Explained}
 use Rattle.proof_words.specs.Explained.{explained_of, sentences_or}
@@ -8,13 +8,23 @@ use Rattle.rail_cli.specs.declared.input.InputFile.TheVariants as file
 use Rattle.rail_cli.specs.declared.reply.Reply.{Reply}
 use Rattle.rail_cli.specs.declared.ending.Ending.{Ending}
 use Rattle.rail_cli.specs.declared.ending.Ending.TheVariants as ending
-use Rattle.rail_cli.specs.Answers.{ReplySeen, within_limit, design_in, unless_refused, with_clauses}
+use Rattle.rail_cli.specs.declared.status.Status.{Status}
+use Rattle.rail_cli.specs.declared.status.Status.TheVariants as statuses
+use Rattle.rail_cli.specs.Answers.{ReplySeen, within_limit, unless_refused, with_clauses}
 use Rattle.rail_cli.specs.Replies.{reply_seen, ReadsOrEnds, Replies}
+use Rattle.rail_base.specs.Members.{In}
 use Rattle.rail_cli.proofs.Deciding.{answered_next}
-use Rattle.rail_cli.proofs.AnyShelf.{ends_so}
+use Rattle.rail_cli.proofs.Refusing.{file_is}
+use Rattle.rail_outside.specs.Asks.{Ask}
+use Rattle.rail_outside.specs.Files.{Files}
+use Rattle.rail_outside.specs.Growth.{GrowsByPrefix}
+use Rattle.named_files.specs.declared.unmade.Unmade.{Unmade}
+use Rattle.named_files.specs.Replies.{Answers, Fetches, Makes, Reads, RepliesOf, unmade_of}
+use Rattle.named_files.proofs.Printing.{answers_one, goes_on, makes_same, of_read, of_refused, of_same, stops_at_file}
 use Rattle.why_words.specs.Wanted.{Wanted}
-use Rattle.why_cli.specs.Answers.{sentences_or_shown, explained_against, text_explained, steps_in, explained_where, proof_explained, proof_by_head, proof_for, explanation_reply}
-use Rattle.why_cli.specs.Replies.{RepliesSome}
+use Rattle.why_cli.specs.Answers.{sentences_or_shown, explained_against, text_explained, steps_in, explained_where, base_explained}
+use Rattle.why_cli.specs.Plans.{IsPlanAnswer, is_plan}
+use Rattle.why_cli.specs.Replies.{IsBaseAnswer, IsBaseText, IsFileAnswer, IsOfBaseKind, IsOfKind, PrintsAnswer, PrintsUsage, asks_to}
 
 -- ---- the text of a proof
 
@@ -22,82 +32,122 @@ use Rattle.why_cli.specs.Replies.{RepliesSome}
 pub said_so : (design : List ℕ) (d : Station) (m n : ℕ) (text : List ℕ) (said : Explained) (a : ReplySeen) → m ≡ n → sentences_or said ≡ explained_of d m text → a ≡ sentences_or_shown design text (sentences_or said) → a ≡ explained_against design d n text
 said_so design d m n text said a same is seen = seen ∙ (ap (sentences_or_shown design text) is ∙ ap (λ (k : ℕ). explained_against design d k text) same)
 
--- the bytes of the proof are its text, and the clauses are few
-pub proof_told : (design : List ℕ) (n : ℕ) (d : Station) (bytes text : List ℕ) (reply : Reply) → with_clauses Cones n d ≡ Ok d → within_limit file.Proof bytes ≡ Ok text → reply_seen reply ≡ explained_against design d n text → proof_explained design n d bytes ≡ reply_seen reply
-proof_told design n d bytes text reply clauses fits seen =
-    answered_next (with_clauses Cones n d) d (λ same. unless_refused (within_limit file.Proof bytes) (explained_against design d n)) clauses
-    ∙ (answered_next (within_limit file.Proof bytes) text (explained_against design d n) fits ∙ sym seen)
-
 pub text_told : (design : List ℕ) (n : ℕ) (d : Station) (text : List ℕ) (reply : Reply) → with_clauses Cones n d ≡ Ok d → reply_seen reply ≡ explained_against design d n text → text_explained design n d text ≡ reply_seen reply
 text_told design n d text reply clauses seen = answered_next (with_clauses Cones n d) d (λ same. explained_against design d n text) clauses ∙ sym seen
 
--- ---- for some bytes of the proof
+-- the steps of the head
+pub where_named : (r : Result Reply Ending) (design : List ℕ) (d : Station) (text : List ℕ) (named : Option ℕ) (n : ℕ) → named ≡ steps_in text → named ≡ Some n
+    → Replies r (text_explained design n d text) → Replies r (explained_where design (steps_in text) d text)
+where_named r design d text named n of_head is h = subst (λ (s : Option ℕ). Replies r (explained_where design s d text)) (sym is ∙ of_head) h
 
-module _ (r : Result Reply Ending) (design : List ℕ) (n : ℕ) (d : Station) where
-  abbrev ExplainedSo : Type 0
-  ExplainedSo = (bytes : List ℕ) × Replies r (proof_explained design n d bytes)
+-- ---- replies on a file
 
-  -- what is left where the clauses are few
-  abbrev with_bytes : List ℕ → ReplySeen
-  with_bytes bytes = unless_refused (within_limit file.Proof bytes) (explained_against design d n)
+-- where the answer is one, the same of a reading
+stops_here : (next : List ℕ → ReplySeen) (names : List (List ℕ)) (name : List ℕ) (e : Unmade) (reading : Result (List ℕ) ReplySeen)
+    → In name names → Reads (Err e) name reading → Makes (λ a. a ≡ unless_refused reading next) names (Err e)
+stops_here next names name e reading there h = makes_same (Answers reading (λ text a. a ≡ next text)) (λ a. a ≡ unless_refused reading next) names (Err e) (λ a. answers_one reading next a) (stops_at_file (λ text a. a ≡ next text) names name e reading there h)
 
-  pub no_base : {X : Type 0} (view : X → Station) (e : Ending) → r ≡ Err e → ReadsOrEnds view (Err e) (with_clauses Cones n d) → ExplainedSo
-  no_base view e is h = ([], ends_so r view e (with_clauses Cones n d) (λ same. with_bytes []) _ is h refl)
+goes_here : (next : List ℕ → ReplySeen) (reading : Result (List ℕ) ReplySeen) (text : List ℕ) (names : List (List ℕ)) (r : Result Reply Unmade)
+    → reading ≡ Ok text → Makes (λ a. a ≡ next text) names r → Makes (λ a. a ≡ unless_refused reading next) names r
+goes_here next reading text names r is made = makes_same (Answers reading (λ t a. a ≡ next t)) (λ a. a ≡ unless_refused reading next) names r (λ a. answers_one reading next a) (goes_on reading text (λ t a. a ≡ next t) names r is made)
 
-  pub no_proof : (e : Ending) → r ≡ Err e → with_clauses Cones n d ≡ Ok d → (bytes : List ℕ) × ReadsOrEnds (λ (v : Vec ℕ Global). v.items) (Err e) (within_limit file.Proof bytes) → ExplainedSo
-  no_proof e is few h = (h.0, ends_so r (λ (v : Vec ℕ Global). v.items) e _ (explained_against design d n) _ is h.1 (answered_next (with_clauses Cones n d) d (λ same. with_bytes h.0) few))
+-- the bytes that were read are the text
+kind_of : (bytes : List ℕ) (text : Vec ℕ Global) → within_limit file.Proof bytes ≡ Ok text.items → is_plan bytes ≡ is_plan text.items
+kind_of bytes text is = ap is_plan (file_is file.Proof bytes text.items is)
 
-  pub no_memory : r ≡ Err ending.Memory → ExplainedSo
-  no_memory is = ([], subst (λ (x : Result Reply Ending). Replies x (proof_explained design n d [])) (sym is) tt)
+-- what is said where the clauses are few
+base_kind : (design : List ℕ) (n : ℕ) (d : Station) (bytes : List ℕ) (plan : Bool) (a : ReplySeen)
+    → Answers (with_clauses Cones n d) (λ x. IsOfBaseKind plan design n d bytes) a → IsOfKind plan design (Some n) d bytes a
+base_kind design n d bytes true a h = h
+base_kind design n d bytes false a h = answers_one (with_clauses Cones n d) (λ x. base_explained design n d bytes) a h
 
-module _ (r : Result Reply Ending) (design : List ℕ) (d : Station) where
-  abbrev ByHeadSo : Type 0
-  ByHeadSo = (bytes : List ℕ) × Replies r (proof_by_head design d bytes)
+-- of a file
+module _ (known : Option Files) (design : List ℕ) (d : Station) (name : List ℕ) (r : Result Reply Unmade) where
+  -- the steps that are given, or none
+  pub for_given : (steps given : Option ℕ) → steps ≡ given → RepliesOf known name (IsFileAnswer design given d) r → RepliesOf known name (IsFileAnswer design steps d) r
+  for_given steps given is h = subst (λ (s : Option ℕ). RepliesOf known name (IsFileAnswer design s d) r) (sym is) h
 
-  -- what is left of a text
-  abbrev by_text : List ℕ → ReplySeen
-  by_text text = explained_where design (steps_in text) d text
+  -- the clauses are too many, or few
+  pub no_base : {X : Type 0} (view : X → Station) (n : ℕ) (e : Ending) → r ≡ Err (unmade_of e) → ReadsOrEnds view (Err e) (with_clauses Cones n d) → RepliesOf known name (IsFileAnswer design (Some n) d) r
+  no_base view n e is refused =
+      of_same known name (λ bytes. Answers (with_clauses Cones n d) (λ x. IsBaseAnswer design n d bytes)) (IsFileAnswer design (Some n) d) r
+      (λ bytes a. base_kind design n d bytes (is_plan bytes) a)
+      (of_refused known name r view (λ bytes x. IsBaseAnswer design n d bytes) e (with_clauses Cones n d) is refused)
 
-  pub no_text : (e : Ending) → r ≡ Err e → (bytes : List ℕ) × ReadsOrEnds (λ (v : Vec ℕ Global). v.items) (Err e) (within_limit file.Proof bytes) → ByHeadSo
-  no_text e is h = (h.0, ends_so r (λ (v : Vec ℕ Global). v.items) e _ by_text _ is h.1 refl)
+  pub with_base : (n m : ℕ) → m ≡ n → with_clauses Cones n d ≡ Ok d → RepliesOf known name (IsBaseAnswer design m d) r → RepliesOf known name (IsFileAnswer design (Some n) d) r
+  with_base n m same few of =
+      of_same known name (λ bytes. Answers (with_clauses Cones n d) (λ x. IsBaseAnswer design n d bytes)) (IsFileAnswer design (Some n) d) r
+      (λ bytes a. base_kind design n d bytes (is_plan bytes) a)
+      (of_read known name r (λ bytes (x : Station). IsBaseAnswer design n d bytes) (with_clauses Cones n d) d few (subst (λ (k : ℕ). RepliesOf known name (IsBaseAnswer design k d) r) same of))
 
-  pub text_read : (bytes text : List ℕ) → within_limit file.Proof bytes ≡ Ok text → Replies r (by_text text) → Replies r (proof_by_head design d bytes)
-  text_read bytes text fits h = subst (Replies r) (sym (answered_next (within_limit file.Proof bytes) text by_text fits)) h
+  -- the file could not be read, and so on: over clauses, and by the head of a proof
+  pub base_stops : (n : ℕ) (e : Unmade) → r ≡ Err e → Fetches known file.Proof name (Err e) → RepliesOf known name (IsBaseAnswer design n d) r
+  base_stops n e is h = record { bytes = h.bytes; held = h.held; makes = subst (Makes (IsBaseAnswer design n d h.bytes) (name ∷ [])) (sym is) (go (is_plan h.bytes) e h.reads) }
+    where
+      go : (plan : Bool) (x : Unmade) → Reads (Err x) name (within_limit file.Proof h.bytes) → Makes (IsOfBaseKind plan design n d h.bytes) (name ∷ []) (Err x)
+      go true x reads = stops_at_file (IsPlanAnswer d) (name ∷ []) name x (within_limit file.Proof h.bytes) (inl refl) reads
+      go false x reads = stops_here (explained_against design d n) (name ∷ []) name x (within_limit file.Proof h.bytes) (inl refl) reads
 
-  -- the steps of the head
-  pub where_named : (text : List ℕ) (named : Option ℕ) (n : ℕ) → named ≡ steps_in text → named ≡ Some n → Replies r (text_explained design n d text) → Replies r (by_text text)
-  where_named text named n of_head is h = subst (λ (s : Option ℕ). Replies r (explained_where design s d text)) (sym is ∙ of_head) h
+  pub head_stops : (e : Unmade) → r ≡ Err e → Fetches known file.Proof name (Err e) → RepliesOf known name (IsFileAnswer design None d) r
+  head_stops e is h = record { bytes = h.bytes; held = h.held; makes = subst (Makes (IsFileAnswer design None d h.bytes) (name ∷ [])) (sym is) (go (is_plan h.bytes) e h.reads) }
+    where
+      go : (plan : Bool) (x : Unmade) → Reads (Err x) name (within_limit file.Proof h.bytes) → Makes (IsOfKind plan design None d h.bytes) (name ∷ []) (Err x)
+      go true x reads = stops_at_file (IsPlanAnswer d) (name ∷ []) name x (within_limit file.Proof h.bytes) (inl refl) reads
+      go false x reads = stops_here (λ text. explained_where design (steps_in text) d text) (name ∷ []) name x (within_limit file.Proof h.bytes) (inl refl) reads
 
-  -- the steps that are given, or else those of the head
-  pub for_given : (steps : Option ℕ) (n : ℕ) (bytes : List ℕ) → steps ≡ Some n → Replies r (proof_explained design n d bytes) → Replies r (proof_for design steps d bytes)
-  for_given steps n bytes is h = subst (λ (s : Option ℕ). Replies r (proof_for design s d bytes)) (sym is) h
+  -- it is a plan, or a proof
+  pub base_plan : (n : ℕ) (text : Vec ℕ Global) → Fetches known file.Proof name (Ok text) → is_plan text.items ≡ true → Makes (IsPlanAnswer d text.items) (name ∷ []) r → RepliesOf known name (IsBaseAnswer design n d) r
+  base_plan n text h plan made = record {
+    bytes = h.bytes;
+    held = h.held;
+    makes = subst (λ (b : Bool). Makes (IsOfBaseKind b design n d h.bytes) (name ∷ []) r) (sym (kind_of h.bytes text h.reads ∙ plan)) (goes_on (within_limit file.Proof h.bytes) text.items (IsPlanAnswer d) (name ∷ []) r h.reads made);
+  }
 
-  pub for_head : (steps : Option ℕ) (bytes : List ℕ) → steps ≡ None → Replies r (proof_by_head design d bytes) → Replies r (proof_for design steps d bytes)
-  for_head steps bytes is h = subst (λ (s : Option ℕ). Replies r (proof_for design s d bytes)) (sym is) h
+  pub base_proof : (n : ℕ) (text : Vec ℕ Global) → Fetches known file.Proof name (Ok text) → is_plan text.items ≡ false → Makes (λ a. a ≡ explained_against design d n text.items) (name ∷ []) r → RepliesOf known name (IsBaseAnswer design n d) r
+  base_proof n text h plan made = record {
+    bytes = h.bytes;
+    held = h.held;
+    makes = subst (λ (b : Bool). Makes (IsOfBaseKind b design n d h.bytes) (name ∷ []) r) (sym (kind_of h.bytes text h.reads ∙ plan)) (goes_here (explained_against design d n) (within_limit file.Proof h.bytes) text.items (name ∷ []) r h.reads made);
+  }
 
--- ---- for some bytes of both files
+  pub base_text : (n : ℕ) (text : Vec ℕ Global) → Fetches known file.Proof name (Ok text) → Makes (IsBaseText (is_plan text.items) design n d text.items) (name ∷ []) r → RepliesOf known name (IsBaseAnswer design n d) r
+  base_text n text h made = go (is_plan text.items) refl made
+    where
+      go : (plan : Bool) → is_plan text.items ≡ plan → Makes (IsBaseText plan design n d text.items) (name ∷ []) r → RepliesOf known name (IsBaseAnswer design n d) r
+      go true is so = base_plan n text h is so
+      go false is so = base_proof n text h is so
 
-module _ (r : Result Reply Ending) (w : Wanted) where
-  abbrev WantedSo : Type 0
-  WantedSo = RepliesSome r (Some w)
+  pub head_plan : (text : Vec ℕ Global) → Fetches known file.Proof name (Ok text) → is_plan text.items ≡ true → Makes (IsPlanAnswer d text.items) (name ∷ []) r → RepliesOf known name (IsFileAnswer design None d) r
+  head_plan text h plan made = record {
+    bytes = h.bytes;
+    held = h.held;
+    makes = subst (λ (b : Bool). Makes (IsOfKind b design None d h.bytes) (name ∷ []) r) (sym (kind_of h.bytes text h.reads ∙ plan)) (goes_on (within_limit file.Proof h.bytes) text.items (IsPlanAnswer d) (name ∷ []) r h.reads made);
+  }
 
-  wanted_so : (a b : List ℕ) → Replies r (explanation_reply w.steps a b) → WantedSo
-  wanted_so a b h = record { design_bytes = a; proof_bytes = b; replies = h }
+  pub head_proof : (text : Vec ℕ Global) → Fetches known file.Proof name (Ok text) → is_plan text.items ≡ false → Makes (λ a. a ≡ explained_where design (steps_in text.items) d text.items) (name ∷ []) r → RepliesOf known name (IsFileAnswer design None d) r
+  head_proof text h plan made = record {
+    bytes = h.bytes;
+    held = h.held;
+    makes = subst (λ (b : Bool). Makes (IsOfKind b design None d h.bytes) (name ∷ []) r) (sym (kind_of h.bytes text h.reads ∙ plan))
+        (goes_here (λ t. explained_where design (steps_in t) d t) (within_limit file.Proof h.bytes) text.items (name ∷ []) r h.reads made);
+  }
 
-  -- what is left of the design's text, and then of the design
-  abbrev with_station : List ℕ → List ℕ → Station → ReplySeen
-  with_station design bytes d = proof_for design w.steps d bytes
+-- what an ending gives
+pub ending_makes : (a : ReplySeen) (names : List (List ℕ)) (e : Ending) (r : Result Reply Unmade) → r ≡ Err (unmade_of e) → Replies (Err e) a → Makes (λ b. b ≡ a) names r
+ending_makes a names (ending.RefusedWith reply) r is h = subst (Makes (λ b. b ≡ a) names) (sym is) (sym h)
+ending_makes a names ending.Memory r is h = subst (Makes (λ b. b ≡ a) names) (sym is) tt
+ending_makes a names ending.ShelfFault r is h = subst (Makes (λ b. b ≡ a) names) (sym is) tt
 
-  -- where the bytes of the design are its text
-  text_next : (bytes text proof : List ℕ) → within_limit file.Design bytes ≡ Ok text → explanation_reply w.steps bytes proof ≡ unless_refused (design_in text) (with_station text proof)
-  text_next bytes text proof fits = answered_next (within_limit file.Design bytes) text (λ t. unless_refused (design_in t) (with_station t proof)) fits
+-- ---- what is printed
 
-  pub no_design : (e : Ending) → r ≡ Err e → (bytes : List ℕ) × ReadsOrEnds (λ (v : Vec ℕ Global). v.items) (Err e) (within_limit file.Design bytes) → WantedSo
-  no_design e is h = wanted_so h.0 [] (ends_so r (λ (v : Vec ℕ Global). v.items) e _ (λ text. unless_refused (design_in text) (with_station text [])) _ is h.1 refl)
+module _ (s : Status) (text new_text : Option (List ℕ)) (pieces new_pieces : Option (List (List ℕ))) where
+  pub asked_for : (known : Option Files) (wanted : Option Wanted) (w : Wanted) → wanted ≡ Some w → PrintsAnswer known (Some w) s text new_text pieces new_pieces → PrintsAnswer known wanted s text new_text pieces new_pieces
+  asked_for known wanted w is h = subst (λ (x : Option Wanted). PrintsAnswer known x s text new_text pieces new_pieces) (sym is) h
 
-  module _ (text : List ℕ) (first : (bytes : List ℕ) × (within_limit file.Design bytes ≡ Ok text)) where
-    pub not_admitted : {X : Type 0} (view : X → Station) (e : Ending) → r ≡ Err e → ReadsOrEnds view (Err e) (design_in text) → WantedSo
-    not_admitted view e is h = wanted_so first.0 [] (ends_so r view e (design_in text) (with_station text []) _ is h (text_next first.0 text [] first.1))
+  pub usage_for_none : (known : Option Files) (wanted : Option Wanted) → wanted ≡ None → PrintsUsage s text new_text pieces new_pieces → PrintsAnswer known wanted s text new_text pieces new_pieces
+  usage_for_none known wanted is h =
+      subst (λ (x : Option Wanted). PrintsAnswer known x s text new_text pieces new_pieces) (sym is) (record { first_bytes = []; second_bytes = []; held = λ files told. (tt, tt); reports = h })
 
-    pub all_read : (d : Station) → design_in text ≡ Ok d → (bytes : List ℕ) × Replies r (proof_for text w.steps d bytes) → WantedSo
-    all_read d reads h = wanted_so first.0 h.0 (subst (Replies r) (sym (text_next first.0 text h.0 first.1 ∙ answered_next (design_in text) d (with_station text h.0) reads)) h.1)
+-- the calls of the shelf
+pub asked_grows : (wanted : Option Wanted) (w : Wanted) (old new : Option (List Ask)) → wanted ≡ Some w → GrowsByPrefix old new (asks_to (Some w)) → GrowsByPrefix old new (asks_to wanted)
+asked_grows wanted w old new is h = subst (λ (x : Option Wanted). GrowsByPrefix old new (asks_to x)) (sym is) h

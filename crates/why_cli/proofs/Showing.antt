@@ -32,35 +32,44 @@ use Rattle.rail_words.specs.Laws.{is_plain}
 use Rattle.rail_words.specs.Requests.{RequestSeen, simulate, routes, verify, check, trial, request_of}
 use Rattle.rail_words.specs.Requests as requests
 use Rattle.rail_words.proofs.Ranges.{requests_in_range}
-use Rattle.why_words.specs.Wanted.{Wanted, AreStepsInRange, two_names, check_words, by_check, or_else, wanted_of}
+use Rattle.why_words.specs.Wanted.{Wanted, AreStepsInRange, names_alone, check_words, by_check, of_design, or_else, wanted_of, words_with_proof}
 use Rattle.why_cli.specs.Heads.{head_lines}
-use Rattle.why_cli.specs.Answers.{if_in_range, steps_named, steps_in, steps_for, explained_where, proof_by_head, explanation_reply, answer_to, answer_of}
+use Rattle.why_cli.specs.Answers.{if_in_range, steps_named, steps_in, steps_for, explained_where, proof_by_head, explanation_reply}
+use Rattle.why_cli.specs.Plans.{is_plan}
+use Rattle.named_files.specs.Replies.{IsHeld, names_of}
+use Rattle.named_files.proofs.Printing.{answered}
+use Rattle.why_cli.specs.Replies.{IsAnswerOf, IsAnswerTo, IsBothAnswer, PrintsAnswer, design_name, file_name}
 use Rattle.why_cli.specs.Shows.{Explains, ExplainsProof, IsUnrefused}
 use Rattle.why_cli.proofs.Checking.{heads_name_steps, status_as_check, passes}
+use Rattle.why_cli.proofs.Using.{proof_answer}
 
 -- ---- steps that are given are in range
 
-abbrev asking : Option ℕ → List ℕ → List ℕ → Wanted
-asking steps design proof = record { steps = steps; design = design; proof = proof }
+abbrev asking : Option ℕ → List ℕ → Option (List ℕ) → Wanted
+asking steps design f = record { steps = steps; design = design; file = f }
 
-by_names : (plain : Bool) (design proof : List ℕ) (w : Wanted) → (if plain then Some (asking None design proof) else None) ≡ Some w → AreStepsInRange w.steps
-by_names true design proof w e = let same : asking None design proof ≡ w = cc in subst (λ (x : Wanted). AreStepsInRange x.steps) same tt
-by_names false design proof w e = absurd (cc)
+by_names : (plain : Bool) (design : List ℕ) (f : Option (List ℕ)) (w : Wanted) → (if plain then Some (asking None design f) else None) ≡ Some w → AreStepsInRange w.steps
+by_names true design f w e = let same : asking None design f ≡ w = cc in subst (λ (x : Wanted). AreStepsInRange x.steps) same tt
+by_names false design f w e = absurd (cc)
 
-two_in_range : (words : List (List ℕ)) (w : Wanted) → two_names words ≡ Some w → AreStepsInRange w.steps
-two_in_range [] w e = absurd (cc)
-two_in_range (program ∷ []) w e = absurd (cc)
-two_in_range (program ∷ design ∷ []) w e = absurd (cc)
-two_in_range (program ∷ design ∷ proof ∷ []) w e = by_names (is_plain design && is_plain proof) design proof w e
-two_in_range (program ∷ design ∷ proof ∷ word ∷ words) w e = absurd (cc)
+names_in_range : (words : List (List ℕ)) (w : Wanted) → names_alone words ≡ Some w → AreStepsInRange w.steps
+names_in_range [] w e = absurd (cc)
+names_in_range (program ∷ []) w e = absurd (cc)
+names_in_range (program ∷ design ∷ []) w e = by_names (is_plain design) design None w e
+names_in_range (program ∷ design ∷ proof ∷ []) w e = by_names (is_plain design && is_plain proof) design (Some proof) w e
+names_in_range (program ∷ design ∷ proof ∷ word ∷ words) w e = absurd (cc)
 
 check_in_range : (asked : Option RequestSeen) (w : Wanted) → ((a : RequestSeen) → asked ≡ Some a → requests.IsRequestInRange a) → by_check asked ≡ Some w → AreStepsInRange w.steps
 check_in_range None w range e = absurd (cc)
-check_in_range (Some (check n design proof)) w range e = let same : asking (Some n) design proof ≡ w = cc in subst (λ (x : Wanted). AreStepsInRange x.steps) same (range (check n design proof) refl)
+check_in_range (Some (check n design proof)) w range e = let same : asking (Some n) design (Some proof) ≡ w = cc in subst (λ (x : Wanted). AreStepsInRange x.steps) same (range (check n design proof) refl)
 check_in_range (Some (simulate design plan)) w range e = absurd (cc)
 check_in_range (Some (routes design)) w range e = absurd (cc)
 check_in_range (Some (verify n conflicts ticks bounds design proof)) w range e = absurd (cc)
 check_in_range (Some (trial seed size)) w range e = absurd (cc)
+
+alone_in_range : (first : Option Wanted) (w : Wanted) → ((x : Wanted) → first ≡ Some x → AreStepsInRange x.steps) → of_design first ≡ Some w → AreStepsInRange w.steps
+alone_in_range None w f e = absurd (cc)
+alone_in_range (Some x) w f e = let same : asking x.steps x.design None ≡ w = cc in subst (λ (y : Wanted). AreStepsInRange y.steps) same (f x refl)
 
 either : (first second : Option Wanted) (w : Wanted) → ((x : Wanted) → first ≡ Some x → AreStepsInRange x.steps) → ((x : Wanted) → second ≡ Some x → AreStepsInRange x.steps) → or_else first second ≡ Some w → AreStepsInRange w.steps
 either (Some x) second w f g e = f w e
@@ -68,7 +77,10 @@ either None second w f g e = g w e
 
 wanted_in_range : (words : List (List ℕ)) (w : Wanted) → wanted_of words ≡ Some w → AreStepsInRange w.steps
 wanted_in_range words w e =
-    either (two_names words) (by_check (request_of (check_words words))) w (two_in_range words) (λ x. check_in_range (request_of (check_words words)) x (requests_in_range (check_words words))) e
+    let checked = λ (ws : List (List ℕ)) (x : Wanted). check_in_range (request_of ws) x (requests_in_range ws) in
+    either (names_alone words) (or_else (by_check (request_of (check_words words))) (of_design (by_check (request_of (words_with_proof words))))) w (names_in_range words)
+    (λ x. either (by_check (request_of (check_words words))) (of_design (by_check (request_of (words_with_proof words)))) x (checked (check_words words))
+    (λ y. alone_in_range (by_check (request_of (words_with_proof words))) y (checked (words_with_proof words)))) e
 
 -- ---- steps that the head names
 
@@ -124,16 +136,30 @@ as_many : (steps : Option ℕ) (n : ℕ) (design_bytes proof_bytes : List ℕ) �
 as_many (Some k) n design_bytes proof_bytes fits is = ap (λ (s : Option ℕ). explanation_reply s design_bytes proof_bytes) is
 as_many None n design_bytes proof_bytes fits is = heads_name_steps n design_bytes proof_bytes fits is
 
-module _ (files : Files) (words : List (List ℕ)) (t : Status) (text new_text : Option (List ℕ)) (pieces new_pieces : Option (List (List ℕ))) (prints : Prints (answer_of files words) t text new_text pieces new_pieces) where
+module _ (known : Option Files) (files : Files) (words : List (List ℕ)) (t : Status) (text new_text : Option (List ℕ)) (pieces new_pieces : Option (List (List ℕ))) (h : PrintsAnswer known (wanted_of words) t text new_text pieces new_pieces) (told : known ≡ Some files) where
+  -- what an answered run prints of a proof
+  of_proof : (w : Wanted) (proof : List ℕ) → wanted_of words ≡ Some w → w.file ≡ Some proof → is_plan (files proof) ≡ false → is_answered t ≡ true → Prints (explanation_reply w.steps (files w.design) (files proof)) t text new_text pieces new_pieces
+  of_proof w proof asked named no_plan answered_so =
+      let p = answered t text new_text pieces new_pieces (IsAnswerTo (wanted_of words) h.first_bytes h.second_bytes) (names_of (design_name (wanted_of words)) (file_name (wanted_of words))) h.reports answered_so in
+      let held = h.held files told in
+      let of_design : h.first_bytes ≡ files w.design = subst (λ (x : Option Wanted). IsHeld files (design_name x) h.first_bytes) asked held.0 in
+      let of_named : IsHeld files w.file h.second_bytes = subst (λ (x : Option Wanted). IsHeld files (file_name x) h.second_bytes) asked held.1 in
+      let of_file : h.second_bytes ≡ files proof = subst (λ (f : Option (List ℕ)). IsHeld files f h.second_bytes) named of_named in
+      let right : IsAnswerOf w.steps w.file h.first_bytes h.second_bytes p.answer = subst (λ (x : Option Wanted). IsAnswerTo x h.first_bytes h.second_bytes p.answer) asked p.is_right in
+      let both : IsBothAnswer w.steps h.first_bytes h.second_bytes p.answer = subst (λ (f : Option (List ℕ)). IsAnswerOf w.steps f h.first_bytes h.second_bytes p.answer) named right in
+      let is : p.answer ≡ explanation_reply w.steps h.first_bytes h.second_bytes = proof_answer w.steps h.first_bytes h.second_bytes p.answer (ap is_plan of_file ∙ no_plan) both in
+      subst (λ (a : ReplySeen). Prints a t text new_text pieces new_pieces)
+      (is ∙ (ap (λ (b : List ℕ). explanation_reply w.steps b h.second_bytes) of_design ∙ ap (explanation_reply w.steps (files w.design)) of_file)) p.prints
+
   -- a run that says yes
-  pub tells_why : (d : Station) (e : Explains files words d) → t ≡ Done → ExplainsProof files e.wanted d text new_text
+  pub tells_why : (d : Station) (e : Explains files words d) → t ≡ Done → ExplainsProof files e.wanted e.proof d text new_text
   tells_why d e done =
       let w = e.wanted in
       let design = files w.design in
-      let proof = files w.proof in
-      let answered : is_answered t ≡ true = rw done refl in
-      let so : answer_of files words ≡ explanation_reply w.steps design proof = ap (answer_to files) e.asked in
-      let yes : (explanation_reply w.steps design proof).status ≡ Done = ap (λ (a : ReplySeen). a.status) (sym so) ∙ (sym (prints.status answered) ∙ done) in
+      let proof = files e.proof in
+      let answered_so : is_answered t ≡ true = rw done refl in
+      let prints = of_proof w e.proof e.asked e.proof_named e.no_plan answered_so in
+      let yes : (explanation_reply w.steps design proof).status ≡ Done = sym (prints.status answered_so) ∙ done in
       let g = gives w.steps design proof (wanted_in_range words w e.asked) yes in
       let yes_to_check : (check_reply g.most design proof).status ≡ Done = sym (status_as_check g.most design proof) ∙ (ap (λ (a : ReplySeen). a.status) (sym g.same) ∙ yes) in
       let p = passes g.most design proof yes_to_check in
@@ -146,18 +172,19 @@ module _ (files : Files) (words : List (List ℕ)) (t : Status) (text new_text :
         steps = p.steps;
         within = s.1.0;
         is_checked = p.is_checked;
-        text = prints.written answered ∙ (ap (λ (a : ReplySeen). grown text (concat a.lines)) (so ∙ (g.same ∙ p.answer)) ∙ ap (λ (x : Station). grown text (concat (head_lines design proof p.steps ++ file_sentences x proof))) (sym same));
+        text = prints.written answered_so ∙ (ap (λ (a : ReplySeen). grown text (concat a.lines)) (g.same ∙ p.answer) ∙ ap (λ (x : Station). grown text (concat (head_lines design proof p.steps ++ file_sentences x proof))) (sym same));
         none = subst (λ (x : Station). IsInfeasible x p.steps) (sym same) s.1.1;
         denies = subst (λ (x : Station). EachLineDenies x proof) (sym same) (proofs_deny p.design good g.most p.steps proof p.is_shown);
       }
 
   -- a run of which nothing is refused
   pub has_verdict : IsUnrefused files words → is_answered t ≡ true → IsVerdict t
-  has_verdict u answered =
+  has_verdict u answered_so =
       let w = u.wanted in
       let design = files w.design in
-      let proof = files w.proof in
-      let so : answer_of files words ≡ explanation_reply (Some u.steps) design proof = ap (answer_to files) u.asked ∙ as_many w.steps u.steps design proof (file_fits file.Proof proof u.within_limit) u.are_steps in
+      let proof = files u.proof in
+      let prints = of_proof w u.proof u.asked u.proof_named u.no_plan answered_so in
+      let so : explanation_reply w.steps design proof ≡ explanation_reply (Some u.steps) design proof = as_many w.steps u.steps design proof (file_fits file.Proof proof u.within_limit) u.are_steps in
       let of_check : (check_reply u.steps design proof).status ≡ (reply_for (judged u.design u.steps proof)).status = ap (λ (a : ReplySeen). a.status) (checked_so design u.design u.parses_design u.steps proof u.has_few_clauses u.within_limit) in
-      let status : t ≡ (reply_for (judged u.design u.steps proof)).status = prints.status answered ∙ (ap (λ (a : ReplySeen). a.status) so ∙ (status_as_check u.steps design proof ∙ of_check)) in
+      let status : t ≡ (reply_for (judged u.design u.steps proof)).status = prints.status answered_so ∙ (ap (λ (a : ReplySeen). a.status) so ∙ (status_as_check u.steps design proof ∙ of_check)) in
       subst IsVerdict (sym status) (told_verdict (judged u.design u.steps proof))

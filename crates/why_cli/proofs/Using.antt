@@ -1,5 +1,5 @@
 -- Which runs say how the program is used.
-use Rattle.std.proofs.Common.{◌≡◌, ℕ, true, List, Option, Some, None, Result, Ok, Err, refl, ap, sym, ◌∙◌}
+use Rattle.std.proofs.Common.{◌≡◌, ℕ, Bool, true, false, List, Option, Some, None, Result, Ok, Err, refl, ap, sym, ◌∙◌, subst}
 use Rattle.log_checker.specs.declared.check_result.CheckResult.{CheckResult}
 use Rattle.log_checker.specs.declared.check_result.CheckResult.TheVariants.{Yes, No}
 use Rattle.plan_exclusion.specs.declared.method.Method.TheVariants.{Cones}
@@ -11,11 +11,25 @@ use Rattle.rail_cli.specs.declared.status.Status.{Status}
 use Rattle.rail_cli.specs.declared.status.Status.TheVariants.{Usage}
 use Rattle.rail_cli.specs.declared.input.InputFile.TheVariants as file
 use Rattle.rail_cli.specs.Statuses.{is_answered}
-use Rattle.rail_cli.specs.Answers.{ReplySeen, within_limit, design_in, unless_refused, with_clauses}
+use Rattle.rail_cli.specs.Answers.{ReplySeen, and_then, within_limit, design_in, unless_refused, verdict_status, with_clauses, with_routes}
 use Rattle.rail_cli.proofs.Using.{IsNoUsage, long_is_no_usage, design_is_no_usage, clauses_are_no_usage}
 use Rattle.why_words.specs.Wanted.{Wanted}
-use Rattle.why_cli.specs.Answers.{sentences_or_shown, explained_against, proof_explained, explanation_reply, answer_given}
-use Rattle.why_cli.specs.Replies.{PrintsSome}
+use Rattle.design_table.specs.declared.fault.Code.{Code}
+use Rattle.design_table.specs.declared.place.Place.{Place}
+use Rattle.infra_reader.specs.Design.{design_of}
+use Rattle.rail_outside.specs.Files.{Files}
+use Rattle.named_files.specs.Replies.{Answers, names_of}
+use Rattle.why_cli.specs.Answers.{sentences_or_shown, explained_against, proof_explained, proof_for, explanation_reply}
+use Rattle.why_cli.specs.Designs.{IsClausesSaid, IsDesignAnswer, IsDesignSaid, IsReadSaid, IsSaidForSteps, IsTextSaid}
+use Rattle.why_cli.specs.Plans.{IsPlanAnswer, IsPlanFileAnswer, IsPlanSaid, IsReadPlanSaid, is_plan}
+use Rattle.why_cli.specs.Replies.{IsAnswerOf, IsAnswerTo, IsBothAnswer, IsFileAnswer, IsOfKind, IsTextAnswer, PrintsAnswer, design_name, file_name}
+use Rattle.named_files.proofs.Printing.{answered, answers_one}
+use Rattle.rail_base.specs.declared.history.Verdict.{Verdict}
+use Rattle.rail_base.specs.declared.history.Verdict.TheVariants as verdict
+use Rattle.rail_base.specs.declared.plan.Command.{Command}
+use Rattle.rail_plan.specs.Reading.{Refusal, plan_of}
+use Rattle.rail_cli.specs.Shows.{verdict_at_horizon}
+use Rattle.rail_spec.specs.Track.{routes_of}
 use Rattle.why_cli.specs.Shows.{GivesNoSteps, IsUsageFor}
 
 -- ---- answers of another status
@@ -34,25 +48,88 @@ proof_other design n d bytes =
     goes_on (with_clauses Cones n d) (λ same. unless_refused (within_limit file.Proof bytes) (explained_against design d n)) (clauses_are_no_usage n d)
     (λ same. goes_on (within_limit file.Proof bytes) (explained_against design d n) (long_is_no_usage file.Proof bytes) (λ text. shown_other design text (file_sentences d text) (judged d n text)))
 
--- where steps are given
-given_other : (n : ℕ) (design_bytes proof_bytes : List ℕ) → (explanation_reply (Some n) design_bytes proof_bytes).status ≡ Usage → ⊥
-given_other n design_bytes proof_bytes =
-    goes_on (within_limit file.Design design_bytes) (λ text. unless_refused (design_in text) (λ d. proof_explained text n d proof_bytes)) (long_is_no_usage file.Design design_bytes)
-    (λ text. goes_on (design_in text) (λ d. proof_explained text n d proof_bytes) (design_is_no_usage text) (λ d. proof_other text n d proof_bytes))
+-- ---- answers on a design alone
+
+answers_other : {X : Type 0} (reading : Result X ReplySeen) (right : X → ReplySeen → Type 0) (a : ReplySeen) → IsNoUsage reading → ((x : X) → right x a → a.status ≡ Usage → ⊥) → Answers reading right a → a.status ≡ Usage → ⊥
+answers_other (Ok x) right a other h so is = h x so is
+answers_other (Err refusal) right a other h so is = other refusal refl (ap (λ (b : ReplySeen). b.status) (sym so) ∙ is)
+
+said_other : (d : Station) (a : ReplySeen) → IsDesignSaid d a → a.status ≡ Usage → ⊥
+said_other d a so is = let done = so.status in absurd (cc)
+
+clauses_other : (n : ℕ) (d : Station) (reading : Result Station ReplySeen) (a : ReplySeen) → IsNoUsage reading → IsClausesSaid n d reading a → a.status ≡ Usage → ⊥
+clauses_other n d (Ok same) a other so is = said_other d a so is
+clauses_other n d (Err refusal) a other so is = other refusal refl (sym so.status ∙ is)
+
+steps_other : (steps : Option ℕ) (d : Station) (a : ReplySeen) → IsSaidForSteps steps d a → a.status ≡ Usage → ⊥
+steps_other None d a so is = said_other d a so is
+steps_other (Some n) d a so is = clauses_other n d (with_clauses Cones n d) a (clauses_are_no_usage n d) so is
+
+read_other : (steps : Option ℕ) (text : List ℕ) (reading : Result Station (Code × Place)) (a : ReplySeen) → IsReadSaid steps text reading a → a.status ≡ Usage → ⊥
+read_other steps text (Ok d) a so is = steps_other steps d a so is
+read_other steps text (Err refusal) a so is = let refused = so.status in absurd (cc)
+
+design_other : (steps : Option ℕ) (bytes : List ℕ) (a : ReplySeen) → IsDesignAnswer steps bytes a → a.status ≡ Usage → ⊥
+design_other steps bytes a so is =
+    answers_other (within_limit file.Design bytes) (IsTextSaid steps) a (long_is_no_usage file.Design bytes) (λ text. read_other steps text (and_then (design_of text) with_routes) a) so is
+
+-- ---- answers on a plan
+
+verdict_other : (v : Verdict) → verdict_status v ≡ Usage → ⊥
+verdict_other (verdict.Met history tick) is = absurd (cc)
+verdict_other (verdict.Failed history tick violation) is = absurd (cc)
+verdict_other verdict.Undecided is = absurd (cc)
+
+plan_other : (d : Station) (text : List ℕ) (reading : Result (List (List Command)) Refusal) (a : ReplySeen) → IsReadPlanSaid d text reading a → a.status ≡ Usage → ⊥
+plan_other d text (Ok plan) a so is = verdict_other (verdict_at_horizon d plan) (ap (λ (b : ReplySeen). b.status) (sym so) ∙ is)
+plan_other d text (Err refusal) a so is = let refused = so.status in absurd (cc)
+
+file_other : (d : Station) (bytes : List ℕ) (a : ReplySeen) → IsPlanFileAnswer d bytes a → a.status ≡ Usage → ⊥
+file_other d bytes a so is =
+    answers_other (within_limit file.Proof bytes) (IsPlanAnswer d) a (long_is_no_usage file.Proof bytes)
+    (λ text. answers_other (within_limit file.Plan text) (IsPlanSaid d) a (long_is_no_usage file.Plan text) (λ t. plan_other d t (plan_of d (routes_of d) t) a)) so is
+
+-- ---- answers on a file
+
+kind_other : (plan : Bool) (design : List ℕ) (n : ℕ) (d : Station) (bytes : List ℕ) (a : ReplySeen) → IsOfKind plan design (Some n) d bytes a → a.status ≡ Usage → ⊥
+kind_other true design n d bytes a so is = answers_other (with_clauses Cones n d) (λ same. IsPlanFileAnswer d bytes) a (clauses_are_no_usage n d) (λ same. file_other d bytes a) so is
+kind_other false design n d bytes a so is = proof_other design n d bytes (ap (λ (b : ReplySeen). b.status) (sym so) ∙ is)
+
+both_other : (n : ℕ) (design_bytes bytes : List ℕ) (a : ReplySeen) → IsBothAnswer (Some n) design_bytes bytes a → a.status ≡ Usage → ⊥
+both_other n design_bytes bytes a so is =
+    answers_other (within_limit file.Design design_bytes) (λ text. IsTextAnswer (Some n) text bytes) a (long_is_no_usage file.Design design_bytes)
+    (λ text. answers_other (design_in text) (λ d. IsFileAnswer text (Some n) d bytes) a (design_is_no_usage text) (λ d. kind_other (is_plan bytes) text n d bytes a)) so is
+
+-- of a file that is no plan it is the answer on a proof
+answers_more : {X : Type 0} (reading : Result X ReplySeen) (right other : X → ReplySeen → Type 0) (a : ReplySeen) → ((x : X) → right x a → other x a) → Answers reading right a → Answers reading other a
+answers_more (Ok x) right other a h so = h x so
+answers_more (Err refusal) right other a h so = so
+
+pub proof_answer : (steps : Option ℕ) (design_bytes bytes : List ℕ) (a : ReplySeen) → is_plan bytes ≡ false → IsBothAnswer steps design_bytes bytes a → a ≡ explanation_reply steps design_bytes bytes
+proof_answer steps design_bytes bytes a no_plan so =
+    let next = λ (text : List ℕ). unless_refused (design_in text) (λ d. proof_for text steps d bytes) in
+    answers_one (within_limit file.Design design_bytes) next a
+    (answers_more (within_limit file.Design design_bytes) (λ text. IsTextAnswer steps text bytes) (λ text b. b ≡ next text) a
+    (λ text h. answers_one (design_in text) (λ d. proof_for text steps d bytes) a
+    (answers_more (design_in text) (λ d. IsFileAnswer text steps d bytes) (λ d b. b ≡ proof_for text steps d bytes) a
+    (λ d k. subst (λ (plan : Bool). IsOfKind plan text steps d bytes a) no_plan k) h)) so)
 
 -- ---- what is printed
 
-no_steps : (steps : Option ℕ) (design_bytes proof_bytes : List ℕ) → (explanation_reply steps design_bytes proof_bytes).status ≡ Usage → steps ≡ None
-no_steps None design_bytes proof_bytes is = refl
-no_steps (Some n) design_bytes proof_bytes is = absurd (given_other n design_bytes proof_bytes is)
+answer_other : (steps : Option ℕ) (f : Option (List ℕ)) (design_bytes bytes : List ℕ) (a : ReplySeen) → IsAnswerOf steps f design_bytes bytes a → a.status ≡ Usage → steps ≡ None
+answer_other None f design_bytes bytes a so is = refl
+answer_other (Some n) None design_bytes bytes a so is = absurd (design_other (Some n) design_bytes a so is)
+answer_other (Some n) (Some name) design_bytes bytes a so is = absurd (both_other n design_bytes bytes a so is)
 
-gives_none : (wanted : Option Wanted) (design_bytes proof_bytes : List ℕ) → (answer_given design_bytes proof_bytes wanted).status ≡ Usage → GivesNoSteps wanted
-gives_none None design_bytes proof_bytes is = tt
-gives_none (Some w) design_bytes proof_bytes is = no_steps w.steps design_bytes proof_bytes is
+gives_none : (wanted : Option Wanted) (design_bytes proof_bytes : List ℕ) (a : ReplySeen) → IsAnswerTo wanted design_bytes proof_bytes a → a.status ≡ Usage → GivesNoSteps wanted
+gives_none None design_bytes proof_bytes a so is = tt
+gives_none (Some w) design_bytes proof_bytes a so is = answer_other w.steps w.file design_bytes proof_bytes a so is
 
-module _ (wanted : Option Wanted) (s : Status) (text new_text : Option (List ℕ)) (pieces new_pieces : Option (List (List ℕ))) where
-  pub usage_for : PrintsSome wanted s text new_text pieces new_pieces → is_answered s ≡ true → IsUsageFor wanted s
-  usage_for p answered = record {
-    silence = λ none. p.prints.status answered ∙ ap (λ (w : Option Wanted). (answer_given p.design_bytes p.proof_bytes w).status) none;
-    cause = λ is. gives_none wanted p.design_bytes p.proof_bytes (sym (p.prints.status answered) ∙ is);
-  }
+module _ (known : Option Files) (wanted : Option Wanted) (s : Status) (text new_text : Option (List ℕ)) (pieces new_pieces : Option (List (List ℕ))) where
+  pub usage_for : PrintsAnswer known wanted s text new_text pieces new_pieces → is_answered s ≡ true → IsUsageFor wanted s
+  usage_for h is =
+      let p = answered s text new_text pieces new_pieces (IsAnswerTo wanted h.first_bytes h.second_bytes) (names_of (design_name wanted) (file_name wanted)) h.reports is in
+      record {
+        silence = λ none. p.prints.status is ∙ ap (λ (b : ReplySeen). b.status) (subst (λ (w : Option Wanted). IsAnswerTo w h.first_bytes h.second_bytes p.answer) none p.is_right);
+        cause = λ usage. gives_none wanted h.first_bytes h.second_bytes p.answer p.is_right (sym (p.prints.status is) ∙ usage);
+      }

@@ -1,6 +1,6 @@
--- The answer to the words of a command line, for the files that are held: where a check of these files says yes, lines about the
--- files and the number of steps and the sentences about the proof's lines, and else what the check answers.
-use Rattle.std.specs.Prelude.{ℕ, ◌&&◌, nat_le, if◌then◌else◌, List, [], ◌∷◌, ◌++◌, codes}
+-- The answer for a design and a proof: where a check of these files says yes, lines about the files and the number of steps and the
+-- sentences about the proof's lines, and else what the check answers.
+use Rattle.std.specs.Prelude.{ℕ, ◌&&◌, nat_le, if◌then◌else◌, List, ◌++◌, codes}
 use Rattle.std.specs.Prelude.{Option, Some, None, Result, Ok, Err}
 use Rattle.log_checker.specs.declared.check_result.CheckResult.{CheckResult}
 use Rattle.log_checker.specs.Verdict.{head_in}
@@ -12,15 +12,12 @@ use Rattle.rail_base.specs.declared.station.Station.{Station}
 use Rattle.rail_cli.specs.declared.status.Status.TheVariants.{Done, Usage}
 use Rattle.rail_cli.specs.declared.input.InputFile.TheVariants as file
 use Rattle.rail_cli.specs.Answers.{ReplySeen, one_line, within_limit, design_in, unless_refused, with_clauses, reply_for}
-use Rattle.rail_outside.specs.Files.{Files}
-use Rattle.rail_outside.specs.Asks.{Ask, fetched}
 use Rattle.rail_text.specs.Pieces.{pieces}
-use Rattle.why_words.specs.Wanted.{Wanted, wanted_of}
 use Rattle.why_cli.specs.Heads.{head_lines}
 
 -- how the program is used
 abbrev pub usage_line : List ℕ
-usage_line = codes "usage: rcv_why [--steps N] DESIGN PROOF\n"
+usage_line = codes "usage: rcv_why [--steps N] DESIGN [PROOF or PLAN]\n"
 
 -- the answer to words that ask for nothing, or for no number of steps
 abbrev pub usage : ReplySeen
@@ -65,11 +62,14 @@ steps_for None text = steps_in text
 
 -- ---- answers
 
+-- the answer for a design and n steps whose clauses are few, for the bytes of the proof
+abbrev pub base_explained : List ℕ → ℕ → Station → List ℕ → ReplySeen
+base_explained design n d proof_bytes = unless_refused (within_limit file.Proof proof_bytes) (explained_against design d n)
+
 -- the answer for a design and n steps, for the bytes of the proof
 abbrev pub proof_explained : List ℕ → ℕ → Station → List ℕ → ReplySeen
 proof_explained design n d proof_bytes =
-    unless_refused (with_clauses Cones n d) (λ same.
-    unless_refused (within_limit file.Proof proof_bytes) (explained_against design d n))
+    unless_refused (with_clauses Cones n d) (λ same. base_explained design n d proof_bytes)
 
 -- the answer for the text of a proof and as many steps as are named, if any are
 abbrev pub explained_where : List ℕ → Option ℕ → Station → List ℕ → ReplySeen
@@ -92,28 +92,3 @@ explanation_reply steps design_bytes proof_bytes =
     unless_refused (within_limit file.Design design_bytes) (λ design_text.
     unless_refused (design_in design_text) (λ d.
     proof_for design_text steps d proof_bytes))
-
--- the answer to what is wanted, which may be nothing, for the bytes of the design and of the proof
-abbrev pub answer_given : List ℕ → List ℕ → Option Wanted → ReplySeen
-answer_given design_bytes proof_bytes None = usage
-answer_given design_bytes proof_bytes (Some w) = explanation_reply w.steps design_bytes proof_bytes
-
--- the same, for the files that are held
-abbrev pub answer_to : Files → Option Wanted → ReplySeen
-answer_to files None = usage
-answer_to files (Some w) = explanation_reply w.steps (files w.design) (files w.proof)
-
--- the answer to the words of a command line, the first of which is the program's name
-abbrev pub answer_of : Files → List (List ℕ) → ReplySeen
-answer_of files words = answer_to files (wanted_of words)
-
--- ---- what is asked of the shelf
-
--- the calls for what is wanted, in order
-abbrev pub asks_to : Option Wanted → List Ask
-asks_to None = []
-asks_to (Some w) = fetched w.design ∷ fetched w.proof ∷ []
-
--- the calls for the words of a command line
-abbrev pub asks_of : List (List ℕ) → List Ask
-asks_of words = asks_to (wanted_of words)

@@ -6,12 +6,12 @@ use Rattle.proof_words.specs.Meanings.{file_sentences}
 use Rattle.rail_base.specs.declared.station.Station.{Station}
 use Rattle.rail_cli.specs.declared.status.Status.TheVariants.{Done}
 use Rattle.rail_cli.specs.declared.input.InputFile.TheVariants as file
-use Rattle.rail_cli.specs.Answers.{check_reply, design_in, one_line, within_limit}
+use Rattle.rail_cli.specs.Answers.{ReplySeen, check_reply, design_in, one_line, within_limit}
 use Rattle.rail_cli.specs.Texts.{yes_line}
-use Rattle.rail_outside.specs.Files.{Files}
 use Rattle.why_words.specs.Wanted.{wanted_of}
 use Rattle.why_cli.specs.Heads.{head_lines}
-use Rattle.why_cli.specs.Answers.{answer_of, explanation_reply, steps_in, usage}
+use Rattle.why_cli.specs.Answers.{explanation_reply, steps_in, usage}
+use Rattle.why_cli.specs.Replies.{IsAnswerTo}
 
 -- what a check does not answer with yes is answered as it is there, by the same status and line
 abbrev pub RefusesAsCheck : Type 0
@@ -55,4 +55,5 @@ NoStepsIsUsage = (design_bytes proof_bytes : List ℕ) (d : Station)
 
 -- words that ask for nothing are answered by how the program is used, whatever the files are
 abbrev pub SilenceIsUsage : Type 0
-SilenceIsUsage = (files : Files) (words : List (List ℕ)) → wanted_of words ≡ None → answer_of files words ≡ usage
+SilenceIsUsage = (design_bytes file_bytes : List ℕ) (words : List (List ℕ)) (a : ReplySeen) → wanted_of words ≡ None
+    → IsAnswerTo (wanted_of words) design_bytes file_bytes a → a ≡ usage

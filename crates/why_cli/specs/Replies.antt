@@ -1,22 +1,94 @@
--- What a run prints of its answer.
-use Rattle.std.specs.Prelude.{ℕ, List, Option, Result}
+-- The answers to what is wanted, for the files that are held, and what a run prints of them.
+use Rattle.std.specs.Prelude.{◌≡◌, ℕ, Bool, true, false, List, [], Option, Some, None}
+use Rattle.named_files.specs.Replies.{Answers, asks_for}
+use Rattle.named_files.specs.Reports.{PrintsFor, Reports}
+use Rattle.rail_base.specs.declared.station.Station.{Station}
+use Rattle.rail_cli.specs.declared.input.InputFile.TheVariants as file
 use Rattle.rail_cli.specs.declared.status.Status.{Status}
-use Rattle.rail_cli.specs.declared.reply.Reply.{Reply}
-use Rattle.rail_cli.specs.declared.ending.Ending.{Ending}
-use Rattle.rail_cli.specs.Prints.{Prints}
-use Rattle.rail_cli.specs.Replies.{Replies}
-use Rattle.why_words.specs.Wanted.{Wanted}
-use Rattle.why_cli.specs.Answers.{answer_given}
+use Rattle.rail_cli.specs.Answers.{ReplySeen, design_in, within_limit}
+use Rattle.rail_outside.specs.Asks.{Ask}
+use Rattle.rail_outside.specs.Files.{Files}
+use Rattle.rail_words.specs.Words.{texts_of}
+use Rattle.why_words.specs.Wanted.{Wanted, check_words, wanted_of, words_with_proof}
+use Rattle.why_cli.specs.declared.run.CheckWords.{CheckWords}
+use Rattle.why_cli.specs.Answers.{base_explained, explained_against, proof_for, usage}
+use Rattle.why_cli.specs.Designs.{IsDesignAnswer}
+use Rattle.why_cli.specs.Plans.{IsPlanAnswer, IsPlanFileAnswer, IsPlanForSteps, is_plan}
 
--- the reply is the answer for some bytes of the files
-pub record RepliesSome (result : Result Reply Ending) (wanted : Option Wanted) : Type 0 where
-  pub design_bytes : List ℕ
-  pub proof_bytes : List ℕ
-  pub replies : Replies result (answer_given design_bytes proof_bytes wanted)
+-- ---- answers
 
--- there are bytes of the files whose answer the run prints
-pub record PrintsSome (wanted : Option Wanted) (s : Status) (text new_text : Option (List ℕ))
-    (pieces new_pieces : Option (List (List ℕ))) : Type 0 where
-  pub design_bytes : List ℕ
-  pub proof_bytes : List ℕ
-  pub prints : Prints (answer_given design_bytes proof_bytes wanted) s text new_text pieces new_pieces
+-- for the bytes of a file that is a plan, or a proof
+abbrev pub IsOfKind : Bool → List ℕ → Option ℕ → Station → List ℕ → ReplySeen → Type 0
+IsOfKind true design steps d bytes a = IsPlanForSteps steps d bytes a
+IsOfKind false design steps d bytes a = a ≡ proof_for design steps d bytes
+
+-- by its bytes
+abbrev pub IsFileAnswer : List ℕ → Option ℕ → Station → List ℕ → ReplySeen → Type 0
+IsFileAnswer design steps d bytes a = IsOfKind (is_plan bytes) design steps d bytes a
+
+-- the same, where the clauses for n steps are few
+abbrev pub IsOfBaseKind : Bool → List ℕ → ℕ → Station → List ℕ → ReplySeen → Type 0
+IsOfBaseKind true design n d bytes a = IsPlanFileAnswer d bytes a
+IsOfBaseKind false design n d bytes a = a ≡ base_explained design n d bytes
+
+abbrev pub IsBaseAnswer : List ℕ → ℕ → Station → List ℕ → ReplySeen → Type 0
+IsBaseAnswer design n d bytes a = IsOfBaseKind (is_plan bytes) design n d bytes a
+
+-- the same for a text that is no longer than a proof may be
+abbrev pub IsBaseText : Bool → List ℕ → ℕ → Station → List ℕ → ReplySeen → Type 0
+IsBaseText true design n d text a = IsPlanAnswer d text a
+IsBaseText false design n d text a = a ≡ explained_against design d n text
+
+-- for the text of a design and the bytes of a file
+abbrev pub IsTextAnswer : Option ℕ → List ℕ → List ℕ → ReplySeen → Type 0
+IsTextAnswer steps text bytes a = Answers (design_in text) (λ d. IsFileAnswer text steps d bytes) a
+
+-- for the bytes of a design and of a file
+abbrev pub IsBothAnswer : Option ℕ → List ℕ → List ℕ → ReplySeen → Type 0
+IsBothAnswer steps design_bytes bytes a = Answers (within_limit file.Design design_bytes) (λ text. IsTextAnswer steps text bytes) a
+
+-- the answer is one on a design alone, or on a design and a file
+abbrev pub IsAnswerOf : Option ℕ → Option (List ℕ) → List ℕ → List ℕ → ReplySeen → Type 0
+IsAnswerOf steps None design_bytes bytes a = IsDesignAnswer steps design_bytes a
+IsAnswerOf steps (Some name) design_bytes bytes a = IsBothAnswer steps design_bytes bytes a
+
+-- the answer is one to what is wanted, which may be nothing
+abbrev pub IsAnswerTo : Option Wanted → List ℕ → List ℕ → ReplySeen → Type 0
+IsAnswerTo None design_bytes bytes a = a ≡ usage
+IsAnswerTo (Some w) design_bytes bytes a = IsAnswerOf w.steps w.file design_bytes bytes a
+
+-- ---- files
+
+-- the name of the design, and of the other file, where there is one
+abbrev pub design_name : Option Wanted → Option (List ℕ)
+design_name None = None
+design_name (Some w) = Some w.design
+
+abbrev pub file_name : Option Wanted → Option (List ℕ)
+file_name None = None
+file_name (Some w) = w.file
+
+-- the calls of the shelf, in order
+abbrev pub asks_to : Option Wanted → List Ask
+asks_to wanted = asks_for (design_name wanted) (file_name wanted)
+
+-- the calls for the words of a command line
+abbrev pub asks_of : List (List ℕ) → List Ask
+asks_of words = asks_to (wanted_of words)
+
+-- ---- what is printed
+
+-- an answer to what is wanted, for some bytes of the files; where the shelf's files are known, they are theirs
+abbrev pub PrintsAnswer : Option Files → Option Wanted → Status → Option (List ℕ) → Option (List ℕ)
+    → Option (List (List ℕ)) → Option (List (List ℕ)) → Type 0
+PrintsAnswer known wanted s text new_text pieces new_pieces =
+    PrintsFor known (design_name wanted) (file_name wanted) (IsAnswerTo wanted) s text new_text pieces new_pieces
+
+-- how the program is used is printed, unless memory was wanting
+abbrev pub PrintsUsage : Status → Option (List ℕ) → Option (List ℕ) → Option (List (List ℕ)) → Option (List (List ℕ)) → Type 0
+PrintsUsage s text new_text pieces new_pieces = Reports (λ a. a ≡ usage) [] s text new_text pieces new_pieces
+
+-- the words with `check`, by themselves and with a proof behind
+pub record AreCheckWords (words : List (List ℕ)) (both : CheckWords) : Type 0 where
+  pub alone : texts_of both.alone.items ≡ check_words words
+  pub with_proof : texts_of both.with_proof.items ≡ words_with_proof words

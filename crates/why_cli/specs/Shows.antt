@@ -1,5 +1,5 @@
 -- Runs that say yes, and what they say.
-use Rattle.std.specs.Prelude.{◌≡◌, ℕ, ◌≤◌, List, ◌++◌, length, Option, Some, None, Ok}
+use Rattle.std.specs.Prelude.{◌≡◌, ℕ, ◌≤◌, false, List, ◌++◌, length, Option, Some, None, Ok}
 use Rattle.std.specs.List.{concat}
 use Rattle.infra_reader.specs.Design.{design_of}
 use Rattle.plan_exclusion.specs.declared.method.Method.TheVariants.{Cones}
@@ -18,26 +18,30 @@ use Rattle.rail_spec.specs.Feasible.{IsInfeasible}
 use Rattle.why_words.specs.Wanted.{Wanted, wanted_of}
 use Rattle.why_cli.specs.Heads.{head_lines}
 use Rattle.why_cli.specs.Answers.{steps_for}
+use Rattle.why_cli.specs.Plans.{is_plan}
 
--- the words ask for the sentences about a proof, and the design's file spells this design
+-- the words ask for the sentences about a proof, whose file is no plan, and the design's file spells this design
 pub record Explains (files : Files) (words : List (List ℕ)) (d : Station) : Type 0 where
   pub wanted : Wanted
   pub asked : wanted_of words ≡ Some wanted
+  pub proof : List ℕ
+  pub proof_named : wanted.file ≡ Some proof
+  pub no_plan : is_plan (files proof) ≡ false
   pub parses_design : design_of (files wanted.design) ≡ Ok d
 
 -- what is printed are lines about the two files and a number of steps, and the sentences about the lines of the proof. It is the
 -- number that a check of the files prints, for as many steps as are given or as the head of the proof names, and no plan of so
 -- many steps is feasible. And each line of the proof that has sentences stands for a law about the design: a plan of which all that
 -- they say is so is not feasible
-pub record ExplainsProof (files : Files) (w : Wanted) (d : Station) (old new : Option (List ℕ)) : Type 0 where
+pub record ExplainsProof (files : Files) (w : Wanted) (proof : List ℕ) (d : Station) (old new : Option (List ℕ)) : Type 0 where
   pub most : ℕ
-  pub are_most : steps_for w.steps (files w.proof) ≡ Some most
+  pub are_most : steps_for w.steps (files proof) ≡ Some most
   pub steps : ℕ
   pub within : steps ≤ most
-  pub is_checked : check_reply most (files w.design) (files w.proof) ≡ one_line Done (yes_line steps)
-  pub text : new ≡ grown old (concat (head_lines (files w.design) (files w.proof) steps ++ file_sentences d (files w.proof)))
+  pub is_checked : check_reply most (files w.design) (files proof) ≡ one_line Done (yes_line steps)
+  pub text : new ≡ grown old (concat (head_lines (files w.design) (files proof) steps ++ file_sentences d (files proof)))
   pub none : IsInfeasible d steps
-  pub denies : EachLineDenies d (files w.proof)
+  pub denies : EachLineDenies d (files proof)
 
 -- they ask for nothing, or give no number of steps
 abbrev pub GivesNoSteps : Option Wanted → Type 0
@@ -49,14 +53,17 @@ pub record IsUsageFor (wanted : Option Wanted) (s : Status) : Type 0 where
   pub silence : wanted ≡ None → s ≡ Usage
   pub cause : s ≡ Usage → GivesNoSteps wanted
 
--- the words ask for that, and nothing is refused: the files are within their limits, one spells a design, the steps are
+-- the words ask for that of a proof, and nothing is refused: the files are within their limits, one spells a design, the steps are
 -- given or named by the head of the proof, and the clauses for so many are few
 pub record IsUnrefused (files : Files) (words : List (List ℕ)) : Type 0 where
   pub wanted : Wanted
   pub asked : wanted_of words ≡ Some wanted
+  pub proof : List ℕ
+  pub proof_named : wanted.file ≡ Some proof
+  pub no_plan : is_plan (files proof) ≡ false
   pub design : Station
   pub parses_design : IsDesignText (files wanted.design) design
-  pub within_limit : length (files wanted.proof) ≤ limit_of file.Proof
+  pub within_limit : length (files proof) ≤ limit_of file.Proof
   pub steps : ℕ
-  pub are_steps : steps_for wanted.steps (files wanted.proof) ≡ Some steps
+  pub are_steps : steps_for wanted.steps (files proof) ≡ Some steps
   pub has_few_clauses : HasFewClauses Cones design steps

@@ -1,10 +1,14 @@
-//! What `rcv_why` does: from the words of a command line, over a shelf of files, to the sentences about a proof's cones
-//! and bounds that are printed, or to what a check of the files answers where it is not yes.
+//! What `rcv_why` does: from the words of a command line, over a shelf of files, to what is printed: of a design what is
+//! wrong with it, or what it asks for; of a plan what is wrong with it, or what its run shows; of a proof the sentences
+//! about its cones and bounds, or what a check of the files answers where it is not yes.
 #![tactic(auto)]
 
+mod designs;
 mod explaining;
 mod heads;
 mod laws;
+mod plans;
+mod replying;
 mod run;
 
 pub use laws::{

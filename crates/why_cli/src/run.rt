@@ -1,53 +1,50 @@
 //! The top call.
 
-ghost use Rattle.std.specs.Prelude.{◌≡◌, ◌≤◌, true, Some};
+ghost use Rattle.std.specs.Prelude.{◌≡◌, ◌≢◌, ◌≤◌, true, IfOk, Some};
 ghost use Rattle.rail_base.specs.declared.station.Station.{Station};
 ghost use Rattle.rail_outside.specs.Files.{Files};
 ghost use Rattle.rail_outside.specs.Growth.{Rose, GrowsByPrefix};
 ghost use Rattle.rail_words.specs.Words.{texts_of};
-ghost use Rattle.rail_cli.specs.Prints.{Prints};
-ghost use Rattle.rail_cli.specs.Replies.{Replies};
 ghost use Rattle.rail_cli.specs.Statuses.{is_answered};
 ghost use Rattle.rail_cli.specs.Verdicts.{IsVerdict};
-ghost use Rattle.why_words.specs.Wanted.{wanted_of};
-ghost use Rattle.why_cli.specs.Answers.{answer_of, asks_of};
-ghost use Rattle.why_cli.specs.Replies.{PrintsSome, RepliesSome};
+ghost use Rattle.why_words.specs.Wanted.{AreStepsInRange, wanted_of};
+ghost use Rattle.why_words.specs.Words.{wanted_by};
+ghost use Rattle.why_cli.specs.Replies.{AreCheckWords, PrintsAnswer, PrintsUsage, asks_of, asks_to};
 ghost use Rattle.why_cli.specs.Shows.{Explains, ExplainsProof, IsUnrefused, IsUsageFor};
 
-use crate::explaining::{explanation_reply, usage};
-use rail_cli::{Ending, Reply, Status, print};
+use crate::explaining::usage_made;
+use crate::replying::reply_to;
+use named_files::report;
+use rail_cli::Status;
 use rail_outside::{Shelf, Sink};
 use rail_words::WordsFault;
-use std::alloc::Global;
-use why_words::{check_words, read_wanted};
+use std::alloc::{AllocError, Global};
+use why_words::{Wanted, check_words, read_wanted, words_with_proof};
 
-/// Does what the words of a command line ask for, the first of which is the program's name: reads the design and the
-/// proof that they name from the shelf, checks the proof, and prints the sentences about its cones and bounds, or what
-/// the check answers where it is not yes. All of its text is made before the first line is printed.
+/// Does what the words of a command line ask for, the first of which is the program's name: reads the design that they
+/// name from the shelf, and the proof if they name one. Of a design alone it prints what is wrong with it, where it is
+/// refused, or what it asks for and what to look at. Of a proof it prints the sentences about its cones and bounds, or
+/// what a check answers where it is not yes. All of its text is made before the first line is printed.
 ///
-/// Where the shelf's files are known, the status and the text are those of the answer that these files give; want of
-/// memory, a fault of the shelf or a fault of the sink may come in its place.
+/// Where the shelf's files are known, the status and the text are those of an answer that these files give; want of
+/// memory, a fault of the shelf, with a line that names the file, or a fault of the sink may come in its place.
 pub fn run_why<S: Shelf, O: Sink>(
     alloc: Global,
     words: &[String],
     shelf: &mut S,
     out: &mut O,
 ) -> Status
-    ensures answer { (files : Files) → S.known_files shelf.old ≡ Some files
-        → Prints (answer_of files (texts_of words.now)) result
+    // Over any shelf, an answer for some bytes of the files is printed; where its files are known, they are theirs.
+    ensures answer { PrintsAnswer (S.known_files shelf.old) (wanted_of (texts_of words.now)) result
         (O.written out.old) (O.written out.new) (O.puts out.old) (O.puts out.new) }
 
-    // Over any shelf, also one of which nothing is known, that answer is printed for some bytes of the files.
-    ensures for_some_files { PrintsSome (wanted_of (texts_of words.now)) result
-        (O.written out.old) (O.written out.new) (O.puts out.old) (O.puts out.new) }
-
-    // Sentences are printed only where the design has no plan of as many steps as the lines before them say. That is the
-    // number that a check of the files prints, and the sentences are those about the lines of the proof.
+    // Of a proof, sentences are printed only where the design has no plan of as many steps as the lines before them say.
+    // That is the number that a check of the files prints, and the sentences are those about the lines of the proof.
     ensures infeasible { (files : Files) → S.known_files shelf.old ≡ Some files → (d : Station)
         → (e : Explains files (texts_of words.now) d) → result ≡ Status.Done
-        → ExplainsProof files e.wanted d (O.written out.old) (O.written out.new) }
+        → ExplainsProof files e.wanted e.proof d (O.written out.old) (O.written out.new) }
 
-    // Where nothing is refused, a run comes to a verdict: the sentences, or the first bad line.
+    // Where nothing is refused, a run over a proof comes to a verdict: the sentences, or the first bad line.
     ensures has_verdict { (files : Files) → S.known_files shelf.old ≡ Some files
         → IsUnrefused files (texts_of words.now) → is_answered result ≡ true → IsVerdict result }
 
@@ -64,31 +61,86 @@ pub fn run_why<S: Shelf, O: Sink>(
     ensures stored { S.known_files shelf.new ≡ S.known_files shelf.old }
     ensures asked { GrowsByPrefix (S.asked shelf.old) (S.asked shelf.new) (asks_of (texts_of words.now)) }
 {
-    match reply(alloc, words, shelf) {
-        Ok(reply) => print(&reply, out),
-        Err(Ending::RefusedWith(reply)) => print(&reply, out),
-        Err(Ending::Memory) => Status::Memory,
-        Err(Ending::ShelfFault) => Status::ShelfFault,
+    match both_words(alloc, words) {
+        Ok(both) => run_asked(alloc, words, &both, shelf, out),
+        Err(AllocError) => Status::Memory,
     }
 }
 
-/// The reply to the words of a command line.
-fn reply<S: Shelf>(alloc: Global, words: &[String], shelf: &mut S) -> Result<Reply, Ending>
-    ensures replies { (files : Files) → S.known_files shelf.old ≡ Some files
-        → Replies result (answer_of files (texts_of words.now)) }
-    ensures for_some_files { RepliesSome result (wanted_of (texts_of words.now)) }
-    ensures cause { result ≡ Err Ending.ShelfFault → Rose (S.fault_count shelf.old) (S.fault_count shelf.new) }
-    ensures never_falls { S.fault_count shelf.old ≤ S.fault_count shelf.new }
-    ensures files_stay { S.known_files shelf.new ≡ S.known_files shelf.old }
-    ensures asks { GrowsByPrefix (S.asked shelf.old) (S.asked shelf.new) (asks_of (texts_of words.now)) }
+/// The words with `check`, by themselves and with a proof behind.
+#[derive(Drop)]
+struct CheckWords {
+    alone: Vec<String>,
+    with_proof: Vec<String>,
+}
+
+/// Those for the words of a command line.
+fn both_words(alloc: Global, words: &[String]) -> Result<CheckWords, AllocError>
+    ensures { IfOk result (λ both. AreCheckWords (texts_of words.now) both) }
 {
-    let check = check_words(alloc, words)?;
-    match read_wanted(alloc, words, &check) {
-        Ok(wanted) => explanation_reply(alloc, shelf, wanted),
-        Err(WordsFault::Usage) => {
-            let reply = usage(alloc)?;
-            Ok(reply)
-        }
-        Err(WordsFault::Memory) => Err(Ending::Memory),
+    let alone = check_words(alloc, words)?;
+    let with_proof = words_with_proof(alloc, words)?;
+    Ok(CheckWords { alone, with_proof })
+}
+
+/// Does what the words ask for, by them and by those with `check`.
+fn run_asked<S: Shelf, O: Sink>(
+    alloc: Global,
+    words: &[String],
+    check: &CheckWords,
+    shelf: &mut S,
+    out: &mut O,
+) -> Status
+    requires { AreCheckWords (texts_of words.now) check.now }
+    ensures answer { PrintsAnswer (S.known_files shelf.old) (wanted_of (texts_of words.now)) result
+        (O.written out.old) (O.written out.new) (O.puts out.old) (O.puts out.new) }
+    ensures shelf_fault { result ≡ Status.ShelfFault → Rose (S.fault_count shelf.old) (S.fault_count shelf.new) }
+    ensures sink_fault { result ≡ Status.SinkFault → Rose (O.fault_count out.old) (O.fault_count out.new) }
+    ensures shelf_count { S.fault_count shelf.old ≤ S.fault_count shelf.new }
+    ensures sink_count { O.fault_count out.old ≤ O.fault_count out.new }
+    ensures stored { S.known_files shelf.new ≡ S.known_files shelf.old }
+    ensures asked { GrowsByPrefix (S.asked shelf.old) (S.asked shelf.new) (asks_of (texts_of words.now)) }
+{
+    match read_wanted(
+        alloc,
+        words,
+        check.alone.as_slice(),
+        check.with_proof.as_slice(),
+    ) {
+        Ok(wanted) => run_wanted(alloc, wanted, shelf, out),
+        Err(WordsFault::Usage) => print_usage(alloc, out),
+        Err(WordsFault::Memory) => Status::Memory,
     }
+}
+
+/// Prints how the program is used.
+fn print_usage<O: Sink>(alloc: Global, out: &mut O) -> Status
+    ensures answer { PrintsUsage result (O.written out.old) (O.written out.new) (O.puts out.old) (O.puts out.new) }
+    ensures no_shelf { result ≢ Status.ShelfFault }
+    ensures sink_fault { result ≡ Status.SinkFault → Rose (O.fault_count out.old) (O.fault_count out.new) }
+    ensures sink_count { O.fault_count out.old ≤ O.fault_count out.new }
+{
+    let made = usage_made(alloc);
+    report(alloc, made, out)
+}
+
+/// Prints what is wanted.
+fn run_wanted<S: Shelf, O: Sink>(
+    alloc: Global,
+    wanted: Wanted<'_>,
+    shelf: &mut S,
+    out: &mut O,
+) -> Status
+    requires { AreStepsInRange wanted.steps }
+    ensures answer { PrintsAnswer (S.known_files shelf.old) (Some (wanted_by wanted.entry)) result
+        (O.written out.old) (O.written out.new) (O.puts out.old) (O.puts out.new) }
+    ensures shelf_fault { result ≡ Status.ShelfFault → Rose (S.fault_count shelf.old) (S.fault_count shelf.new) }
+    ensures sink_fault { result ≡ Status.SinkFault → Rose (O.fault_count out.old) (O.fault_count out.new) }
+    ensures shelf_count { S.fault_count shelf.old ≤ S.fault_count shelf.new }
+    ensures sink_count { O.fault_count out.old ≤ O.fault_count out.new }
+    ensures stored { S.known_files shelf.new ≡ S.known_files shelf.old }
+    ensures asked { GrowsByPrefix (S.asked shelf.old) (S.asked shelf.new) (asks_to (Some (wanted_by wanted.entry))) }
+{
+    let made = reply_to(alloc, shelf, wanted);
+    report(alloc, made, out)
 }

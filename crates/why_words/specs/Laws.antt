@@ -5,14 +5,19 @@ use Rattle.rail_words.specs.Laws.{is_plain}
 use Rattle.rail_words.specs.Requests.{steps_of}
 use Rattle.why_words.specs.Wanted.{wanted_of}
 
--- `DESIGN PROOF` with plain names asks for the steps that the proof's head names
-abbrev pub NamesAreRead : Type 0
-NamesAreRead = (program design proof : Text) → is_plain design ≡ true → is_plain proof ≡ true
-    → wanted_of (program ∷ design ∷ proof ∷ []) ≡ Some (record { steps = None; design = design; proof = proof })
+-- `DESIGN` with a plain name asks for what is to be said of it
+abbrev pub NameIsRead : Type 0
+NameIsRead = (program design : Text) → is_plain design ≡ true
+    → wanted_of (program ∷ design ∷ []) ≡ Some (record { steps = None; design = design; file = None })
 
--- `--steps N DESIGN PROOF` with plain names asks for N steps
+-- `DESIGN FILE` with plain names asks for what is to be said of both
+abbrev pub NamesAreRead : Type 0
+NamesAreRead = (program design file : Text) → is_plain design ≡ true → is_plain file ≡ true
+    → wanted_of (program ∷ design ∷ file ∷ []) ≡ Some (record { steps = None; design = design; file = Some file })
+
+-- `--steps N DESIGN FILE` with plain names asks for that with N steps
 abbrev pub StepsAreRead : Type 0
-StepsAreRead = (program steps design proof : Text) (n : ℕ) → steps_of steps ≡ Some n
-    → is_plain design ≡ true → is_plain proof ≡ true
-    → wanted_of (program ∷ codes "--steps" ∷ steps ∷ design ∷ proof ∷ [])
-    ≡ Some (record { steps = Some n; design = design; proof = proof })
+StepsAreRead = (program steps design file : Text) (n : ℕ) → steps_of steps ≡ Some n
+    → is_plain design ≡ true → is_plain file ≡ true
+    → wanted_of (program ∷ codes "--steps" ∷ steps ∷ design ∷ file ∷ [])
+    ≡ Some (record { steps = Some n; design = design; file = Some file })

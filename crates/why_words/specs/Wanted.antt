@@ -1,27 +1,32 @@
--- What words ask for: `[--steps N] DESIGN PROOF` after the program's name, the steps being taken as `rcv check` takes them.
-use Rattle.std.specs.Prelude.{ℕ, ◌≤◌, ◌&&◌, List, [], ◌∷◌, Option, Some, None, codes, if◌then◌else◌}
+-- What words ask for: `[--steps N] DESIGN [FILE]` after the program's name, the steps being taken as `rcv check` takes them.
+use Rattle.std.specs.Prelude.{ℕ, ◌≤◌, ◌&&◌, List, [], ◌∷◌, ◌++◌, Option, Some, None, codes, if◌then◌else◌}
 use Rattle.clap.specs.Words.{Text}
 use Rattle.rail_words.specs.Laws.{is_plain}
 use Rattle.rail_words.specs.Requests.{RequestSeen, simulate, routes, verify, check, trial, request_of}
 
--- the sentences about a proof of a design, each by its file's name, for plans of so many steps, or of as many as the proof's head names
+-- what is to be said of a design, or of it and another file, a proof or a plan, each by its file's name; for plans of so many steps,
+-- where they are given
 pub record Wanted : Type 0 where
   pub steps : Option ℕ
   pub design : Text
-  pub proof : Text
+  pub file : Option Text
 
--- two names alone, neither empty nor beginning with a hyphen
-abbrev pub named : Text → Text → Option Wanted
-named design proof =
-    if is_plain design && is_plain proof then Some (record { steps = None; design = design; proof = proof }) else None
+-- one name alone, neither empty nor beginning with a hyphen
+abbrev pub named : Text → Option Wanted
+named design = if is_plain design then Some (record { steps = None; design = design; file = None }) else None
 
--- what `DESIGN PROOF` after the program's name ask for
-abbrev pub two_names : List Text → Option Wanted
-two_names [] = None
-two_names (program ∷ []) = None
-two_names (program ∷ design ∷ []) = None
-two_names (program ∷ design ∷ proof ∷ []) = named design proof
-two_names (program ∷ design ∷ proof ∷ word ∷ words) = None
+-- two such names
+abbrev pub both_named : Text → Text → Option Wanted
+both_named design file =
+    if is_plain design && is_plain file then Some (record { steps = None; design = design; file = Some file }) else None
+
+-- what `DESIGN` or `DESIGN FILE` after the program's name ask for
+abbrev pub names_alone : List Text → Option Wanted
+names_alone [] = None
+names_alone (program ∷ []) = None
+names_alone (program ∷ design ∷ []) = named design
+names_alone (program ∷ design ∷ file ∷ []) = both_named design file
+names_alone (program ∷ design ∷ file ∷ word ∷ words) = None
 
 -- the same words after `check`
 abbrev pub check_words : List Text → List Text
@@ -30,21 +35,32 @@ check_words (program ∷ words) = program ∷ codes "check" ∷ words
 
 -- what a check asks for
 abbrev pub by_check : Option RequestSeen → Option Wanted
-by_check (Some (check n design proof)) = Some (record { steps = Some n; design = design; proof = proof })
+by_check (Some (check n design proof)) = Some (record { steps = Some n; design = design; file = Some proof })
 by_check (Some (simulate design plan)) = None
 by_check (Some (routes design)) = None
 by_check (Some (verify n conflicts ticks bounds design proof)) = None
 by_check (Some (trial seed size)) = None
 by_check None = None
 
+-- the words after `check`, with a name of a proof behind them
+abbrev pub words_with_proof : List Text → List Text
+words_with_proof words = check_words words ++ codes "PROOF" ∷ []
+
+-- what is wanted of the design alone
+abbrev pub of_design : Option Wanted → Option Wanted
+of_design (Some w) = Some (record { steps = w.steps; design = w.design; file = None })
+of_design None = None
+
 -- the first, if there is one, or else the second
 abbrev pub or_else : Option Wanted → Option Wanted → Option Wanted
 or_else (Some w) other = Some w
 or_else None other = other
 
--- what the words ask for: two names, or what `rcv check` asks for by the same words
+-- what the words ask for: names alone, or what `rcv check` asks for by the same words, or by these with a proof that is left out here
 abbrev pub wanted_of : List Text → Option Wanted
-wanted_of words = or_else (two_names words) (by_check (request_of (check_words words)))
+wanted_of words =
+    or_else (names_alone words) (or_else (by_check (request_of (check_words words)))
+    (of_design (by_check (request_of (words_with_proof words)))))
 
 -- the steps, where they are given, are from 1 to 256
 abbrev pub AreStepsInRange : Option ℕ → Type 0

@@ -1,13 +1,18 @@
 //! Which words are taken.
 
-ghost use Rattle.why_words.specs.Laws.{NamesAreRead, StepsAreRead};
+ghost use Rattle.why_words.specs.Laws.{NameIsRead, NamesAreRead, StepsAreRead};
 
-/// `DESIGN PROOF` after the program's name, neither empty nor beginning with a hyphen, asks for that.
+/// `DESIGN` after the program's name, neither empty nor beginning with a hyphen, asks for what is to be said of it.
+pub fn name_is_read()
+    ensures { NameIsRead }
+{}
+
+/// `DESIGN FILE` after the program's name, neither empty nor beginning with a hyphen, asks for that.
 pub fn names_are_read()
     ensures { NamesAreRead }
 {}
 
-/// `--steps N DESIGN PROOF` after the program's name, N from 1 to 256 in digits, with such names, asks for that.
+/// `--steps N DESIGN FILE` after the program's name, N from 1 to 256 in digits, with such names, asks for that.
 pub fn steps_are_read()
     ensures { StepsAreRead }
 {}

@@ -3,19 +3,22 @@
 ghost use Rattle.std.specs.Prelude.{◌≡◌, ◌++◌, IfOk, OnOk, Some, None, Err, codes, option_map};
 ghost use Rattle.rail_words.specs.Laws.{is_plain};
 ghost use Rattle.rail_words.specs.Words.{request_seen, texts_of};
-ghost use Rattle.why_words.specs.Wanted.{AreStepsInRange, by_check, check_words, named, two_names, wanted_of};
+ghost use Rattle.rail_words.specs.Requests.{request_of};
+ghost use Rattle.why_words.specs.Wanted.{AreStepsInRange, both_named, by_check, check_words, named, names_alone};
+ghost use Rattle.why_words.specs.Wanted.{of_design, wanted_of, words_with_proof};
 ghost use Rattle.why_words.specs.Words.{wanted_by};
 
 use rail_words::{Request, WordsFault, read_words};
 use std::alloc::{AllocError, Global};
 
-/// The sentences about a proof of a design, each by its file's name.
+/// What is to be said of a design, or of it and another file, each by its file's name.
 #[derive(Clone, Copy, Debug, PartialEq, Eq)]
 pub struct Wanted<'a> {
-    /// For plans of so many steps, 1 to 256, or of as many as the proof's head names.
+    /// For plans of so many steps, 1 to 256, where they are given.
     pub steps: Option<u32>,
     pub design: &'a str,
-    pub proof: &'a str,
+    /// A proof or a plan.
+    pub file: Option<&'a str>,
 }
 
 /// The words with `check` after the program's name. The error is want of memory.
@@ -34,24 +37,64 @@ pub fn check_words(alloc: Global, words: &[String]) -> Result<Vec<String>, Alloc
     Ok(more)
 }
 
-/// What the words ask for, the first of which is the program's name, by themselves and with `check` after that name.
+/// The words with `check` after the program's name and a name of a proof behind them. The error is want of memory.
+pub fn words_with_proof(alloc: Global, words: &[String]) -> Result<Vec<String>, AllocError>
+    ensures { IfOk result (λ more. texts_of more.items ≡ words_with_proof (texts_of words.now)) }
+{
+    let mut more = check_words(alloc, words)?;
+    more.push(String::from_str(alloc, "PROOF")?)?;
+    Ok(more)
+}
+
+/// What the words ask for, the first of which is the program's name: by themselves, with `check` after that name, and so
+/// with a proof behind.
 pub fn read_wanted<'a>(
     alloc: Global,
     words: &'a [String],
     check: &'a [String],
+    with_proof: &'a [String],
 ) -> Result<Wanted<'a>, WordsFault>
     requires check { texts_of check.now ≡ check_words (texts_of words.now) }
+    requires with_proof { texts_of with_proof.now ≡ words_with_proof (texts_of words.now) }
     ensures ok { IfOk result (λ wanted. wanted_of (texts_of words.entry.now) ≡ Some (wanted_by wanted)) }
     ensures usage { result ≡ Err WordsFault.Usage → wanted_of (texts_of words.entry.now) ≡ None }
     ensures range { IfOk result (λ wanted. AreStepsInRange wanted.steps) }
 {
-    if let Some(wanted) = two_names(words) {
+    if let Some(wanted) = names_alone(words) {
         return Ok(wanted);
     }
-    match read_words(alloc, check) {
+    match asked_by_check(alloc, check) {
+        Ok(wanted) => Ok(wanted),
+        Err(WordsFault::Usage) => asked_of_design(alloc, with_proof),
+        Err(WordsFault::Memory) => Err(WordsFault::Memory),
+    }
+}
+
+/// What words ask `rcv check` for.
+fn asked_by_check<'a>(alloc: Global, words: &'a [String]) -> Result<Wanted<'a>, WordsFault>
+    ensures ok { IfOk result (λ wanted. by_check (request_of (texts_of words.entry.now)) ≡ Some (wanted_by wanted)) }
+    ensures usage { result ≡ Err WordsFault.Usage → by_check (request_of (texts_of words.entry.now)) ≡ None }
+    ensures range { IfOk result (λ wanted. AreStepsInRange wanted.steps) }
+{
+    match read_words(alloc, words) {
         Ok(request) => by_check(request).ok_or(WordsFault::Usage),
         Err(fault) => Err(fault),
     }
+}
+
+/// The same, of the design alone.
+fn asked_of_design<'a>(alloc: Global, words: &'a [String]) -> Result<Wanted<'a>, WordsFault>
+    ensures ok { IfOk result (λ wanted.
+        of_design (by_check (request_of (texts_of words.entry.now))) ≡ Some (wanted_by wanted)) }
+    ensures usage { result ≡ Err WordsFault.Usage → of_design (by_check (request_of (texts_of words.entry.now))) ≡ None }
+    ensures range { IfOk result (λ wanted. AreStepsInRange wanted.steps) }
+{
+    let Wanted { steps, design, .. } = asked_by_check(alloc, words)?;
+    Ok(Wanted {
+        steps,
+        design,
+        file: None,
+    })
 }
 
 /// Whether a name is neither empty nor begins with a hyphen.
@@ -64,29 +107,45 @@ fn is_plain(name: &str) -> bool
     }
 }
 
-/// What two names ask for.
-fn two_files<'a>(design: &'a str, proof: &'a str) -> Option<Wanted<'a>>
-    ensures { option_map wanted_by result ≡ named design.now proof.now }
+/// What a name asks for.
+fn named<'a>(design: &'a str) -> Option<Wanted<'a>>
+    ensures { option_map wanted_by result ≡ named design.entry.now }
 {
-    if is_plain(design) && is_plain(proof) {
+    if is_plain(design) {
         Some(Wanted {
             steps: None,
             design,
-            proof,
+            file: None,
         })
     } else {
         None
     }
 }
 
-/// What two names after the program's name ask for.
-fn two_names<'a>(words: &'a [String]) -> Option<Wanted<'a>>
-    ensures { option_map wanted_by result ≡ two_names (texts_of words.entry.now) }
+/// What two names ask for.
+fn both_named<'a>(design: &'a str, file: &'a str) -> Option<Wanted<'a>>
+    ensures { option_map wanted_by result ≡ both_named design.entry.now file.entry.now }
 {
-    if words.len() != 3 {
-        return None;
+    if is_plain(design) && is_plain(file) {
+        Some(Wanted {
+            steps: None,
+            design,
+            file: Some(file),
+        })
+    } else {
+        None
     }
-    two_files(words[1].as_str(), words[2].as_str())
+}
+
+/// What one or two names after the program's name ask for.
+fn names_alone<'a>(words: &'a [String]) -> Option<Wanted<'a>>
+    ensures { option_map wanted_by result ≡ names_alone (texts_of words.entry.now) }
+{
+    match words.len() {
+        2 => named(words[1].as_str()),
+        3 => both_named(words[1].as_str(), words[2].as_str()),
+        _ => None,
+    }
 }
 
 /// Appends copies of words. The error is want of memory.
@@ -111,7 +170,7 @@ fn by_check<'a>(request: Request<'a>) -> Option<Wanted<'a>>
         } => Some(Wanted {
             steps: Some(steps),
             design,
-            proof,
+            file: Some(proof),
         }),
         Request::Simulate { .. } => None,
         Request::Routes { .. } => None,

@@ -2,11 +2,12 @@ use Rattle.std.proofs.Common.{[]}
 use Rattle.rail_words.specs.Words.{texts_of}
 use Rattle.rail_cli.specs.declared.status.Status.TheVariants.{Memory}
 use Rattle.why_words.specs.Wanted.{wanted_of}
-use Rattle.why_cli.proofs.Printing.{want_prints}
+use Rattle.named_files.proofs.Printing.{prints_nothing_for}
+use Rattle.why_cli.specs.Replies.{IsAnswerTo, design_name, file_name}
 use Rattle.rcv_why.proofs.program.run.Goals as goal
 
 pub returns-in-Ok : goal.returns-in-Ok
 returns-in-Ok c = (texts_of c.as_slice.result.now, c.run_over_files.ensures)
 
 pub returns-in-Err : goal.returns-in-Err
-returns-in-Err c = ([], record { status = Memory; number_of = c.code.ensures; prints = want_prints (wanted_of []) _ _ })
+returns-in-Err c = ([], record { status = Memory; number_of = c.code.ensures; prints = prints_nothing_for _ (design_name (wanted_of [])) (file_name (wanted_of [])) (IsAnswerTo (wanted_of [])) _ _ })

@@ -1,7 +1,10 @@
-use Rattle.std.proofs.Common.{ap}
+use Rattle.std.proofs.Common.{ap, [], ◌∷◌, codes}
+use Rattle.rail_words.specs.Requests.{request_of}
 use Rattle.rail_words.proofs.Taken.{check_read}
-use Rattle.why_words.specs.Wanted.{by_check}
+use Rattle.why_words.specs.Wanted.{by_check, of_design, or_else, words_with_proof}
 use Rattle.why_words.proofs.laws.steps_are_read.Goals as goal
 
 pub returns : goal.returns
-returns c = λ program steps design proof n is plain_design plain_proof. ap by_check (check_read program steps design proof n is plain_design plain_proof)
+returns c = λ program steps design file n is plain_design plain_file.
+    ap (λ request. or_else (by_check request) (of_design (by_check (request_of (words_with_proof (program ∷ codes "--steps" ∷ steps ∷ design ∷ file ∷ []))))))
+    (check_read program steps design file n is plain_design plain_file)

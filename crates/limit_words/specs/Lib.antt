@@ -1,0 +1,3 @@
+-- How many steps can be asked for.
+pub mod Limits
+pub mod Lines

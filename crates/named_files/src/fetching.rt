@@ -1,0 +1,34 @@
+//! Files, read.
+
+ghost use Rattle.std.specs.Prelude.{◌≡◌, ◌≤◌, [], ◌∷◌, OnOk, true};
+ghost use Rattle.rail_outside.specs.Asks.{fetched};
+ghost use Rattle.rail_outside.specs.Growth.{Rose, grown, GrowsByPrefix};
+ghost use Rattle.named_files.specs.Replies.{Fetches, is_unread};
+
+use crate::unmade::Unmade;
+use rail_cli::{Ending, InputFile, fetch};
+use rail_outside::Shelf;
+use std::alloc::Global;
+
+/// The bytes of a file within its limit. The error says that there are more, or that it could not be read, or is want
+/// of memory.
+pub fn fetch_named<'a, S: Shelf>(
+    alloc: Global,
+    shelf: &mut S,
+    file: InputFile,
+    name: &'a str,
+) -> Result<Vec<u8>, Unmade<'a>>
+    ensures fetches { Fetches (S.known_files shelf.old) file name.entry.now result }
+    ensures cause { is_unread result ≡ true → Rose (S.fault_count shelf.old) (S.fault_count shelf.new) }
+    ensures never_falls { S.fault_count shelf.old ≤ S.fault_count shelf.new }
+    ensures files_stay { S.known_files shelf.new ≡ S.known_files shelf.old }
+    ensures asked { OnOk result (S.asked shelf.new ≡ grown (S.asked shelf.old) (fetched name.entry.now ∷ [])) }
+    ensures asks { GrowsByPrefix (S.asked shelf.old) (S.asked shelf.new) (fetched name.entry.now ∷ []) }
+{
+    match fetch(alloc, shelf, file, name) {
+        Ok(bytes) => Ok(bytes),
+        Err(Ending::RefusedWith(reply)) => Err(Unmade::Refused(reply)),
+        Err(Ending::Memory) => Err(Unmade::Memory),
+        Err(Ending::ShelfFault) => Err(Unmade::Unread(name)),
+    }
+}

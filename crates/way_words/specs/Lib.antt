@@ -1,0 +1,2 @@
+-- What the ways of trains say of a design.
+pub mod Ways
