@@ -3,9 +3,9 @@
 ghost use Rattle.std.specs.Prelude.{◌≡◌, ◌+◌, ◌++◌, ◌==◌, filter, map, IfOk, OnOk};
 ghost use Rattle.rail_base.specs.Stations.{train_length};
 ghost use Rattle.rail_base.specs.Routes.{route_at};
-ghost use Rattle.rail_spec.specs.Plans.{can_clear, commands, given_between, is_given_between};
+ghost use Rattle.rail_spec.specs.Plans.{can_clear, commands, given_between};
 ghost use Rattle.rail_plan.specs.Holds.{rest_after};
-ghost use Rattle.plan_faults.specs.Kept.{lacking_mm, wanted_mm};
+ghost use Rattle.plan_faults.specs.Kept.{is_given_between, lacking_mm, wanted_mm};
 
 use crate::routes::{exits, length_of, release_of};
 use interlocking::Interlocking;

@@ -52,11 +52,11 @@ share r q = list_any (λ p. has_section q p.0) r.sections
 abbrev pub release_offset : Route → SectionNo → ℕ
 release_offset r z = fold max 0 (map (λ p. nat_abs p.1) (filter (λ p. p.0.0 == z.0) r.sections))
 
+-- trains exit there
+abbrev pub is_exit : Finish → Bool
+is_exit (finish.Exit n) = true
+is_exit _ = false
+
 -- the route ends where trains exit
 abbrev pub exits : Route → Bool
 exits r = is_exit r.finish
-  where
-    is_exit : Finish → Bool
-    is_exit (finish.Exit n) = true
-    is_exit (finish.Signal s) = false
-    is_exit (finish.DeadEnd n) = false

@@ -31,8 +31,7 @@ opposite B = A
 abbrev pub is_side : Side → Side → Bool
 is_side A A = true
 is_side B B = true
-is_side A B = false
-is_side B A = false
+is_side _ _ = false
 
 -- the two are one side of one node
 abbrev pub is_end : End → End → Bool

@@ -7,12 +7,12 @@ use Rattle.rail_base.specs.declared.route.Start.{Start}
 use Rattle.rail_base.specs.declared.route.Finish.{Finish}
 use Rattle.rail_base.specs.Members.{In, Differ}
 use Rattle.rail_base.specs.Stations.{through, edge_of, leave, far_end}
-use Rattle.rail_spec.specs.Track.{start_end, finish_at, has_edge, Walk, Whole, RepeatsEdge, walk_or, walks, walks_from, all_walks, starts, route_from, routes_of}
+use Rattle.rail_spec.specs.Track.{start_end, finish_at, has_edge, Walk, Whole, RepeatsEdge, walks, walks_from, all_walks, starts, route_from, routes_of}
 use Rattle.rail_laws.specs.Elementary.{IsStart, EndsAt, IsWalk, reached, ClosesBadly}
 use Rattle.rail_base.specs.Admitted.{IsAdmitted}
 use Rattle.rail_base.proofs.Members.{list_any_gives, list_any_from}
 use Rattle.rail_base.proofs.Lists.{in_append_left, in_append_right, in_flat_map, in_flat_map_back}
-use Rattle.rail_laws.proofs.Walk.{at_from_leave, leave_from_at, branch_with, branch, differ_snoc, differ_new, finish_none, finish_told}
+use Rattle.rail_laws.proofs.Walk.{walk_or, at_from_leave, leave_from_at, branch_with, branch, differ_snoc, differ_new, finish_none, finish_told}
 use Rattle.rail_laws.proofs.RouteLaws.{few_edges, start_leaves, start_end_is, starts_from, starts_tell, walk_edges}
 
 module _ (d : Station) where

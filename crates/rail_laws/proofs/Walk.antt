@@ -9,14 +9,24 @@ use Rattle.rail_base.specs.declared.station.EdgeNo.{EdgeNo}
 use Rattle.rail_base.specs.declared.station.SignalNo.{SignalNo}
 use Rattle.rail_base.specs.declared.route.Finish.{Finish}
 use Rattle.rail_base.specs.declared.route.Finish.TheVariants as finish
-use Rattle.rail_base.specs.Numbering.{one_to}
+use Rattle.rail_base.specs.Numbering.{one_to, first_of_list}
+use Rattle.std.specs.Option.{option_or, option_map, unwrap_or}
 use Rattle.rail_base.specs.Members.{In, Pairs, Differ}
 use Rattle.rail_base.specs.Stations.{is_side, is_end, through, edge_of, node_of, signal_of, leave, far_end, IsEdge, IsSignal}
-use Rattle.rail_spec.specs.Track.{signals_at, is_empty, ends_by_signal, finish_at, has_edge, Walk, Whole, RepeatsEdge, walk_or, walks}
+use Rattle.rail_spec.specs.Track.{signals_at, is_empty, finish_at, has_edge, Walk, Whole, RepeatsEdge, walks}
 use Rattle.rail_laws.specs.Elementary.{IsAt, Governs, EndsAt, IsWalk, reached, EndsFirst, IsBefore}
 use Rattle.rail_base.specs.Admitted.{IsAdmitted}
 use Rattle.rail_base.proofs.Members.{and_left, and_right, and_both, in_filter, list_any_gives, list_any_from, either, or_left, or_right}
 use Rattle.rail_base.proofs.Lists.{in_filter_back, in_map, in_map_back, in_flat_map, in_flat_map_back, in_count, in_count_back, pairs_append, pairs_flat_map, pairs_filter, pairs_map, pairs_count, pairs_across}
+
+-- how a route ends at a node that is no boundary, with these signals for its train
+abbrev pub ends_by_signal : Station → End → List SignalNo → Option Finish
+ends_by_signal d end ss =
+    option_or (option_map finish.Signal (first_of_list ss)) (if is_empty (leave d (through end)) then Some (finish.DeadEnd end.node) else None)
+
+-- the path that ends, or else those that go on
+abbrev pub walk_or : Option Finish → List EdgeNo → List Walk → List Walk
+walk_or o path further = unwrap_or (option_map (λ f. Whole path f ∷ []) o) further
 
 -- ---- ends
 

@@ -15,8 +15,8 @@ use Rattle.rail_base.specs.Stations.{is_end, through, edge_of, node_of, leave, f
 use Rattle.rail_base.specs.Admitted.{IsAdmitted}
 use Rattle.rail_base.proofs.Contained.{in_at}
 use Rattle.rail_base.proofs.Lists.{in_append, in_append_left, in_append_right, pairs_append, pairs_across, pairs_left}
-use Rattle.rail_spec.specs.Track.{signals_at, is_empty, ends_by_signal, finish_at, has_edge, Walk, Whole, RepeatsEdge, walk_or, walks}
-use Rattle.rail_laws.proofs.Walk.{at_from_leave}
+use Rattle.rail_spec.specs.Track.{signals_at, is_empty, finish_at, has_edge, Walk, Whole, RepeatsEdge, walks}
+use Rattle.rail_laws.proofs.Walk.{at_from_leave, ends_by_signal, walk_or}
 use Rattle.rail_laws.proofs.RouteLaws.{few_edges}
 use Rattle.rail_routes.specs.declared.search.Level.{Level}
 use Rattle.rail_routes.specs.declared.search.Search.{Search}

@@ -1,11 +1,11 @@
 -- The closed paths that a search has still to come to.
 use Rattle.std.specs.Prelude.{◌≡◌, ℕ, ◌+◌, ◌-◌, ◌≤◌, if◌then◌else◌, List, [], ◌∷◌, ◌++◌, flat_map, reverse, drop, take}
-use Rattle.std.specs.Prelude.{length, Option, None, Some}
+use Rattle.std.specs.Prelude.{length, Option, None, Some, option_map, unwrap_or}
 use Rattle.rail_base.specs.declared.station.Station.{Station}
 use Rattle.rail_base.specs.declared.station.End.{End}
 use Rattle.rail_base.specs.declared.station.EdgeNo.{EdgeNo}
 use Rattle.rail_base.specs.Stations.{through, far_end, edge_of, leave, IsNode}
-use Rattle.rail_spec.specs.Track.{has_edge, finish_at, Walk, RepeatsEdge, walk_or, walks}
+use Rattle.rail_spec.specs.Track.{has_edge, finish_at, Walk, Whole, RepeatsEdge, walks}
 use Rattle.rail_spec.specs.Track as track
 use Rattle.rail_routes.specs.declared.search.Level.{Level}
 use Rattle.rail_routes.specs.declared.search.Search.{Search}
@@ -21,7 +21,8 @@ over d edges path end e =
     let there = far_end (edge_of d e) end in
     let longer = path ++ e ∷ [] in
     let further = walks edges d longer (through there) in
-    if has_edge path e then RepeatsEdge e ∷ [] else walk_or (finish_at d there) longer further
+    let closed = option_map (λ f. Whole longer f ∷ []) (finish_at d there) in
+    if has_edge path e then RepeatsEdge e ∷ [] else unwrap_or closed further
 
 -- those that go on from the front of a path over the edges that a level has still to try
 abbrev pub at_level : Station → List EdgeNo → Level → List Walk

@@ -88,23 +88,17 @@ all_commands d routes = flat_map (commands_of routes) (trains d)
 abbrev pub is_start : Start → Start → Bool
 is_start (start.Boundary m) (start.Boundary n) = m.0 == n.0
 is_start (start.Signal s) (start.Signal q) = s.0 == q.0
-is_start (start.Boundary m) (start.Signal q) = false
-is_start (start.Signal s) (start.Boundary n) = false
+is_start _ _ = false
 
 -- one route goes on where the other ends: at a signal
 abbrev pub goes_on : Finish → Start → Bool
 goes_on (finish.Signal s) (start.Signal q) = s.0 == q.0
-goes_on (finish.Signal s) (start.Boundary n) = false
-goes_on (finish.Exit m) _ = false
-goes_on (finish.DeadEnd m) _ = false
+goes_on _ _ = false
 
 -- both routes end at one signal
 abbrev pub end_at_one_signal : Finish → Finish → Bool
 end_at_one_signal (finish.Signal s) (finish.Signal q) = s.0 == q.0
-end_at_one_signal (finish.Signal s) (finish.Exit n) = false
-end_at_one_signal (finish.Signal s) (finish.DeadEnd n) = false
-end_at_one_signal (finish.Exit m) _ = false
-end_at_one_signal (finish.DeadEnd m) _ = false
+end_at_one_signal _ _ = false
 
 -- the node is one of these
 abbrev pub has_node : List NodeNo → NodeNo → Bool
@@ -142,14 +136,10 @@ is_well_formed d routes n plan = nat_le (length plan) n && list_all one_each pla
 
 -- ---- executable
 
--- the command e is of d's train, from d on, in a step before c's
-abbrev pub is_given_between : List (List Command) → Command → Command → Command → Bool
-is_given_between plan d c e = is_train e.train d.train
-    && nat_le (step_of plan d) (step_of plan e) && nat_lt (step_of plan e) (step_of plan c)
-
 -- the commands of d's train from d on, in steps before c's
 abbrev pub given_between : List (List Command) → Command → Command → List Command
-given_between plan d c = filter (is_given_between plan d c) (commands plan)
+given_between plan d c = filter (λ e. is_train e.train d.train
+    && nat_le (step_of plan d) (step_of plan e) && nat_lt (step_of plan e) (step_of plan c)) (commands plan)
 
 -- before c is given, d's train has been given so much track that it can leave the section
 abbrev pub can_clear : Station → List Route → List (List Command) → Command → Command → SectionNo → Bool

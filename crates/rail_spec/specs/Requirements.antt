@@ -19,8 +19,7 @@ use Rattle.rail_spec.specs.Visits.{visits_of_train, visit_tick}
 -- both ticks are there, and pass the test
 abbrev pub both : (ℕ → ℕ → Bool) → Option ℕ → Option ℕ → Bool
 both test (Some a) (Some b) = test a b
-both test (Some a) None = false
-both test None _ = false
+both test _ _ = false
 
 -- the numbers of a train's visits
 abbrev pub visit_numbers : Station → TrainNo → List ℕ
@@ -44,9 +43,13 @@ module _ (d : Station) (routes : List Route) (plan : List (List Command)) where
   abbrev pub granted_by : ℕ → TrainNo → ℕ → Bool
   granted_by k t j = nat_le j (state_of (state_at d routes (of_plan routes plan) k) t).granted
 
+  -- the tick, up to k, of a visit
+  abbrev pub visited_at : ℕ → TrainNo → ℕ → Option ℕ
+  visited_at k t j = visit_tick d routes (of_plan routes plan) k t j
+
   -- by tick k the visit is made
   abbrev pub visited_by : ℕ → TrainNo → ℕ → Bool
-  visited_by k t j = is_some (visit_tick d routes (of_plan routes plan) k t j)
+  visited_by k t j = is_some (visited_at k t j)
 
   -- by tick k all commands are granted and all visits are made
   abbrev pub is_done : ℕ → Bool
@@ -55,17 +58,13 @@ module _ (d : Station) (routes : List Route) (plan : List (List Command)) where
 
   -- the first visit's tick is before the other's
   abbrev pub keeps_order : ℕ → Order → Bool
-  keeps_order k o =
-      let first = visit_tick d routes (of_plan routes plan) k o.first_train o.first_visit in
-      let second = visit_tick d routes (of_plan routes plan) k o.then_train o.then_visit in
-      both nat_lt first second
+  keeps_order k o = both nat_lt (visited_at k o.first_train o.first_visit) (visited_at k o.then_train o.then_visit)
 
   -- the time from the one visit to the other is at most the given one
   abbrev pub keeps_within : ℕ → Within → Bool
   keeps_within k w =
-      let first = visit_tick d routes (of_plan routes plan) k w.from_train w.from_visit in
-      let second = visit_tick d routes (of_plan routes plan) k w.to_train w.to_visit in
-      both (λ from to. nat_le (to * d.tick_ms) (from * d.tick_ms + w.max_ms)) first second
+      let is_in_time = λ (from to : ℕ). nat_le (to * d.tick_ms) (from * d.tick_ms + w.max_ms) in
+      both is_in_time (visited_at k w.from_train w.from_visit) (visited_at k w.to_train w.to_visit)
 
   -- the plan meets the design
   abbrev pub meets : Bool
@@ -80,11 +79,10 @@ module _ (d : Station) (routes : List Route) (plan : List (List Command)) where
       (k == 1) && is_none (entry None (visits_of_train d routes (of_plan routes plan) t) j)
   is_certain k (violation.Within w) =
       let within = within_of d w in
-      let from = visit_tick d routes (of_plan routes plan) k within.from_train within.from_visit in
-      nat_le k (horizon d) && is_after (most_ticks d within) from k
+      nat_le k (horizon d) && is_after (most_ticks d within) (visited_at k within.from_train within.from_visit) k
       && not (visited_by k within.to_train within.to_visit)
   is_certain k (violation.Order o) = let order = order_of d o in
-      is_after 0 (visit_tick d routes (of_plan routes plan) k order.then_train order.then_visit) k
+      is_after 0 (visited_at k order.then_train order.then_visit) k
       && not (visited_by (k - 1) order.first_train order.first_visit)
   is_certain k (violation.Grant t j) = (k == horizon d) && not (granted_by k t j)
   is_certain k (violation.Visit t j) = (k == horizon d) && not (visited_by k t j)

@@ -1,6 +1,8 @@
 -- Track: the edges at an end, and the elementary routes of a design.
-use Rattle.std.specs.Prelude.{ℕ, zero, suc, ◌+◌, Bool, true, false, not, ◌==◌, if◌then◌else◌, List, [], ◌∷◌, ◌++◌, map}
+use Rattle.std.specs.Prelude.{ℕ, zero, suc, ◌+◌, Bool, not, ◌==◌, if◌then◌else◌, List, [], ◌∷◌, ◌++◌, map}
 use Rattle.std.specs.Prelude.{filter, flat_map, length, take, ℤ, pos, Option, None, Some, sum_by, fold, max}
+use Rattle.std.specs.Prelude.{is_none, option_map, unwrap_or}
+use Rattle.std.specs.Option.{option_or}
 use Rattle.std.specs.List.{list_any}
 use Rattle.rail_base.specs.declared.station.Station.{Station}
 use Rattle.rail_base.specs.declared.station.End.{End}
@@ -14,7 +16,7 @@ use Rattle.rail_base.specs.declared.route.Start.{Start}
 use Rattle.rail_base.specs.declared.route.Start.TheVariants as start
 use Rattle.rail_base.specs.declared.route.Finish.{Finish}
 use Rattle.rail_base.specs.declared.route.Finish.TheVariants as finish
-use Rattle.rail_base.specs.Numbering.{one_to}
+use Rattle.rail_base.specs.Numbering.{one_to, first_of_list}
 use Rattle.rail_base.specs.Stations.{is_end, through, far_end, edge_of, node_of, signal_of, leave, length_of}
 use Rattle.rail_base.specs.Stations.{section_of}
 
@@ -32,8 +34,7 @@ signals_at d end = filter (λ s. is_end (signal_end d s) end) (signal_numbers d)
 
 -- there is none
 abbrev pub is_empty : {X : Type 0} → List X → Bool
-is_empty [] = true
-is_empty (x ∷ xs) = false
+is_empty xs = is_none (first_of_list xs)
 
 -- where routes start, in the order of their nodes, and at one node toward a before toward b
 abbrev pub starts_at : Station → NodeNo → List Start
@@ -52,16 +53,13 @@ start_end d (start.Boundary n) =
     else record { node = n; side = A }
 start_end d (start.Signal s) = signal_end d s
 
--- how a route ends that reaches a node by this end, if it ends there
-abbrev pub ends_by_signal : Station → End → List SignalNo → Option Finish
-ends_by_signal d end (s ∷ ss) = Some (finish.Signal s)
-ends_by_signal d end [] = if is_empty (leave d (through end)) then Some (finish.DeadEnd end.node) else None
-
--- how a route ends that reaches a node by this end, if it ends there
+-- how a route ends that reaches a node by this end, if it ends there: at a boundary, or at the first signal for its train, or
+-- where no edge goes on
 abbrev pub finish_at : Station → End → Option Finish
 finish_at d end =
-    if (node_of d end.node).boundary then Some (finish.Exit end.node)
-    else ends_by_signal d end (signals_at d (through end))
+    let signal = option_map finish.Signal (first_of_list (signals_at d (through end))) in
+    let dead_end = if is_empty (leave d (through end)) then Some (finish.DeadEnd end.node) else None in
+    if (node_of d end.node).boundary then Some (finish.Exit end.node) else option_or signal dead_end
 
 -- the edge is one of these
 abbrev pub has_edge : List EdgeNo → EdgeNo → Bool
@@ -72,11 +70,6 @@ pub data Walk : Type 0 where
   Whole : List EdgeNo → Finish → Walk
   RepeatsEdge : EdgeNo → Walk
 
--- the path that ends, or else those that go on
-abbrev pub walk_or : Option Finish → List EdgeNo → List Walk → List Walk
-walk_or (Some finish) path further = Whole path finish ∷ []
-walk_or None path further = further
-
 -- all closed paths that go on over further edges from an end, those over an earlier edge first
 abbrev pub walks : ℕ → Station → List EdgeNo → End → List Walk
 walks zero d path end = []
@@ -84,7 +77,8 @@ walks (suc edges) d path end = flat_map (λ e.
     let there = far_end (edge_of d e) end in
     let longer = path ++ e ∷ [] in
     let further = walks edges d longer (through there) in
-    if has_edge path e then RepeatsEdge e ∷ [] else walk_or (finish_at d there) longer further) (leave d end)
+    let closed = option_map (λ f. Whole longer f ∷ []) (finish_at d there) in
+    if has_edge path e then RepeatsEdge e ∷ [] else unwrap_or closed further) (leave d end)
 
 -- all closed paths from a start
 abbrev pub walks_from : Station → Start → List Walk

@@ -1,5 +1,6 @@
 use Rattle.std.proofs.Common.{◌≡◌, ◌++◌, drop, filter}
-use Rattle.rail_spec.specs.Plans.{commands, is_given_between}
+use Rattle.rail_spec.specs.Plans.{commands}
+use Rattle.plan_faults.specs.Kept.{is_given_between}
 use Rattle.plan_faults.proofs.between.given_between.Given as goal
 
 abbrev pub invariant-loop-step : goal.invariant-loop-step

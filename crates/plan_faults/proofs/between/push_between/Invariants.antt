@@ -1,5 +1,5 @@
 use Rattle.std.proofs.Common.{◌≡◌, ◌++◌, drop, filter}
-use Rattle.rail_spec.specs.Plans.{is_given_between}
+use Rattle.plan_faults.specs.Kept.{is_given_between}
 use Rattle.plan_faults.proofs.between.push_between.Given as goal
 
 abbrev pub invariant-loop-command : goal.invariant-loop-command
