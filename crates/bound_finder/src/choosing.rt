@@ -1,9 +1,10 @@
 //! Which routes a place of a leg may have.
 
-use crate::goals::Goal;
-use crate::known::{contend, leads_to, route, starts_at_boundary, starts_like};
-use crate::links::Search;
-use crate::paths::Span;
+use crate::routes::{has_route, leads_to, starts_at_boundary, starts_like};
+use crate::search::BoundSearch;
+use bound_chains::goals::Goal;
+use bound_chains::known::{contend, route};
+use bound_chains::paths::Span;
 use bound_spec::Origin;
 use cone_form::is_named;
 use leg_targets::Visit;
@@ -70,11 +71,6 @@ pub(crate) struct Choice {
     pub before: u64,
 }
 
-/// Whether a route is one of these.
-pub(crate) fn has_route(routes: &[RouteNo], route: RouteNo) -> bool {
-    routes.iter().any(|other| *other == route)
-}
-
 impl Wide<'_, '_> {
     /// Whether this is the leg's last place.
     pub(crate) fn is_last(&self, place: usize) -> bool {
@@ -89,27 +85,27 @@ impl Wide<'_, '_> {
     }
 }
 
-impl Search<'_> {
+impl BoundSearch<'_> {
     /// Whether a train uses a route by the cone from which ticks are counted: it names it, or one that no other can
     /// follow.
     pub(crate) fn is_known(&self, form: &Form<'_>, train: TrainNo, number: RouteNo) -> bool {
         if form.names(train, number) {
             return true;
         }
-        let Some(route) = route(self.interlocking, number) else {
+        let Some(route) = route(self.chains.interlocking, number) else {
             return false;
         };
         let Start::Signal(signal) = route.start else {
             return false;
         };
-        let before = self.tables.before(route.start);
-        let is_only = self.tables.after(Finish::Signal(signal)).len() == 1;
+        let before = self.chains.tables.before(route.start);
+        let is_only = self.chains.tables.after(Finish::Signal(signal)).len() == 1;
         is_only && before.iter().any(|before| form.names(train, *before))
     }
 
     /// Whether the plan gives a train a route.
     pub(crate) fn is_used(&self, train: TrainNo, route: RouteNo) -> bool {
-        self.paths.step(Command { train, route }).is_some()
+        self.chains.paths.step(Command { train, route }).is_some()
     }
 
     /// The least ticks of a leg with a route at a place, over its own routes before and these walks behind; none where
@@ -122,19 +118,19 @@ impl Search<'_> {
         later: &[Vec<RouteNo>],
     ) -> Result<Option<u64>, AllocError> {
         let mut least = u64::MAX;
-        let mut walk = Vec::new(self.alloc);
+        let mut walk = Vec::new(self.chains.alloc);
         for own in wide.walk.iter().take(place) {
             walk.push(*own)?;
         }
         if let Some(own) = walk.as_slice().last() {
-            if !leads_to(self.interlocking, *own, &[route]) {
+            if !leads_to(self.chains.interlocking, *own, &[route]) {
                 return Ok(Some(least));
             }
         }
         walk.push(route)?;
         let length = walk.len();
         for rest in later {
-            if !leads_to(self.interlocking, route, rest.as_slice()) {
+            if !leads_to(self.chains.interlocking, route, rest.as_slice()) {
                 continue;
             }
             walk.truncate(length);
@@ -158,8 +154,8 @@ impl Search<'_> {
         most: usize,
     ) -> Result<Option<Choice>, AllocError> {
         let mut choice = Choice {
-            routes: Vec::new(self.alloc),
-            without: Vec::new(self.alloc),
+            routes: Vec::new(self.chains.alloc),
+            without: Vec::new(self.chains.alloc),
             ticks: u64::MAX,
             before: u64::MAX,
         };
@@ -188,7 +184,10 @@ impl Search<'_> {
 
     /// Whether a train uses a route after another command is given.
     fn is_after(&self, command: Command, earlier: Command) -> bool {
-        match (self.paths.step(command), self.paths.step(earlier)) {
+        match (
+            self.chains.paths.step(command),
+            self.chains.paths.step(earlier),
+        ) {
             (Some(step), Some(other)) => other < step,
             _ => true,
         }
@@ -203,9 +202,9 @@ impl Search<'_> {
             return true;
         };
         if visit.number <= 1 {
-            return starts_at_boundary(self.interlocking, route);
+            return starts_at_boundary(self.chains.interlocking, route);
         }
-        has_route(self.tables.visit(visit.train, visit.number), route)
+        has_route(self.chains.tables.visit(visit.train, visit.number), route)
     }
 
     /// Whether a route of a leg's first place contends with what the leg waits for, and is not used before that.
@@ -224,7 +223,7 @@ impl Search<'_> {
             train: wide.train,
             route,
         };
-        contend(self.interlocking, earlier, own) && self.is_after(own, earlier)
+        contend(self.chains.interlocking, earlier, own) && self.is_after(own, earlier)
     }
 
     /// Whether a route of a leg's last place contends with all that wait for the leg, and none of them is used before
@@ -242,14 +241,14 @@ impl Search<'_> {
                 train: next.train,
                 route: *other,
             };
-            contend(self.interlocking, own, later) && self.is_after(later, own)
+            contend(self.chains.interlocking, own, later) && self.is_after(later, own)
         })
     }
 
     /// Whether a route starts where the leg's own route does.
     fn is_alike(&self, wide: &Wide<'_, '_>, place: usize, route: RouteNo) -> bool {
         match wide.walk.get(place) {
-            Some(own) => starts_like(self.interlocking, route, *own),
+            Some(own) => starts_like(self.chains.interlocking, route, *own),
             None => false,
         }
     }
@@ -257,7 +256,7 @@ impl Search<'_> {
     /// Whether a route may be one of a place, apart from the ticks.
     fn admits(&self, wide: &Wide<'_, '_>, place: usize, route: RouteNo) -> bool {
         if place > 0 {
-            if starts_at_boundary(self.interlocking, route) {
+            if starts_at_boundary(self.chains.interlocking, route) {
                 return false;
             }
             if wide.form.breadth == Breadth::Alike && !self.is_alike(wide, place, route) {
@@ -277,13 +276,16 @@ impl Search<'_> {
     ) -> Result<Option<u64>, AllocError> {
         let Some(next) = wide.next else {
             return match wide.form.goal.to {
-                Some(to) => self.ticks_to_visit(wide.train, walk, wide.from, to),
+                Some(to) => self.chains.ticks_to_visit(wide.train, walk, wide.from, to),
                 None => Ok(Some(0)),
             };
         };
         let mut least = u64::MAX;
         for route in &next.routes {
-            match self.ticks_to_release(wide.train, walk, wide.from, *route)? {
+            match self
+                .chains
+                .ticks_to_release(wide.train, walk, wide.from, *route)?
+            {
                 Some(ticks) => least = least.min(ticks),
                 None => return Ok(None),
             }
@@ -302,7 +304,9 @@ impl Search<'_> {
             return Ok(Some(wide.ticks_before));
         }
         match wide.before {
-            Some((train, walk)) => self.ticks_to_release(train, walk, wide.before_from, route),
+            Some((train, walk)) => self
+                .chains
+                .ticks_to_release(train, walk, wide.before_from, route),
             None => Ok(Some(wide.ticks_before)),
         }
     }

@@ -4,13 +4,16 @@ ghost use Rattle.std.specs.Prelude.{◌≡◌, ◌<◌, true, All, IfOk, IfSome,
 ghost use Rattle.bound_spec.specs.Validity.{names_design};
 ghost use Rattle.cone_form.specs.Contentions.{over};
 
-use crate::choosing::{Breadth, Form, has_route};
-use crate::goals::{Goal, goals};
-use crate::known::contend;
-use crate::links::{Link, Search};
-use crate::paths::{Given, Paths, Span};
-use crate::tables::Tables;
-use crate::ticks::Ticks;
+use crate::choosing::{Breadth, Form};
+use crate::routes::has_route;
+use crate::search::BoundSearch;
+use bound_chains::goals::{Goal, goals};
+use bound_chains::known::contend;
+use bound_chains::links::Link;
+use bound_chains::paths::{Given, Paths, Span};
+use bound_chains::search::ChainSearch;
+use bound_chains::tables::Tables;
+use bound_chains::ticks::Ticks;
 use bound_design::names_design;
 use bound_spec::{Bound, Leg, Origin};
 use cone_form::Contention;
@@ -53,8 +56,9 @@ impl Finder {
         }
     }
 
-    /// Bounds that may exclude a plan that fails in this way, the best first. What they name is there in the design; each
-    /// is still to be judged and tried against the plan. `Err` where memory ran out; the finder may then be used on.
+    /// Bounds that may exclude a plan that fails in this way, the best first. What they name is there in the design;
+    /// each is still to be judged and tried against the plan. `Err` where memory ran out; the finder may then be used
+    /// on.
     pub fn bounds(
         &mut self,
         contention: &Contention,
@@ -73,16 +77,9 @@ impl Finder {
         };
         let paths = Paths::of(self.alloc, interlocking, plan)?;
         let goals = goals(self.alloc, interlocking, &paths, violation)?;
-        let mut search = Search {
-            alloc: self.alloc,
-            interlocking,
-            tables,
-            paths: &paths,
-            history,
-            ticks: &mut self.ticks,
-            waits: Vec::new(self.alloc),
-        };
-        search.waits = search.find_waits()?;
+        let ticks = &mut self.ticks;
+        let chains = ChainSearch::of(self.alloc, interlocking, tables, &paths, history, ticks)?;
+        let mut search = BoundSearch { chains };
         let found = search.candidates(goals.as_slice())?;
         let bounds = search.in_order(found)?;
         in_design(self.alloc, contention, bounds)
@@ -106,7 +103,7 @@ fn in_design(
     Ok(kept)
 }
 
-impl Search<'_> {
+impl BoundSearch<'_> {
     /// Whether no command stands before the first of a train that makes a goal's first visit there.
     fn begins_at_once(&self, goal: &Goal) -> bool {
         let Some(from) = goal.from else {
@@ -115,12 +112,13 @@ impl Search<'_> {
         if from.number != 1 {
             return false;
         }
-        let (first, end) = self.paths.span(from.train);
+        let (first, end) = self.chains.paths.span(from.train);
         if end <= first {
             return false;
         }
-        let routes = self.tables.visit(from.train, 1);
-        self.paths
+        let routes = self.chains.tables.visit(from.train, 1);
+        self.chains
+            .paths
             .commands(from.train)
             .iter()
             .filter(|given| has_route(routes, given.command.route))
@@ -129,8 +127,8 @@ impl Search<'_> {
 
     /// Whether no command of another train that contends with one stands before it.
     fn waits_for_none(&self, own: &Given) -> bool {
-        self.paths.given.iter().all(|given| {
-            own.step <= given.step || !contend(self.interlocking, given.command, own.command)
+        self.chains.paths.given.iter().all(|given| {
+            own.step <= given.step || !contend(self.chains.interlocking, given.command, own.command)
         })
     }
 
@@ -164,7 +162,7 @@ impl Search<'_> {
         legs: &[Span],
         breadth: Breadth,
     ) -> Result<Option<Bound>, AllocError> {
-        let Some(origin) = self.origin(goal)? else {
+        let Some(origin) = self.chains.origin(goal)? else {
             return Ok(None);
         };
         let legs = self.legs_in(goal, &origin, legs, breadth)?;
@@ -187,12 +185,12 @@ impl Search<'_> {
 
     /// A goal with each beginning from which its ticks may be counted, the best first.
     fn beginnings(&self, goal: &Goal) -> Result<Vec<Goal>, AllocError> {
-        let mut goals = vec![in self.alloc; *goal]?;
+        let mut goals = vec![in self.chains.alloc; *goal]?;
         if self.begins_at_once(goal) {
             goals.push(goal.from_first_tick())?;
         }
         if let Some(from) = goal.from
-            && let Some(tick) = self.visit_tick(from)
+            && let Some(tick) = self.chains.visit_tick(from)
         {
             goals.push(goal.from_cone(tick))?;
         }
@@ -201,7 +199,7 @@ impl Search<'_> {
 
     /// The chain that shows a goal to fail, with its bound, if there is one.
     fn candidate(&mut self, goal: Goal, links: &[Link]) -> Result<Option<Candidate>, AllocError> {
-        let Some(legs) = self.chain(&goal, links)? else {
+        let Some(legs) = self.chains.chain(&goal, links)? else {
             return Ok(None);
         };
         let Some(bound) = self.widest(&goal, legs.as_slice())? else {
@@ -232,8 +230,8 @@ impl Search<'_> {
 
     /// The chains of all goals that have one, each with its bound.
     fn candidates(&mut self, goals: &[Goal]) -> Result<Vec<Candidate>, AllocError> {
-        let links = self.links()?;
-        let mut all = Vec::new(self.alloc);
+        let links = self.chains.links()?;
+        let mut all = Vec::new(self.chains.alloc);
         for goal in goals {
             if let Some(found) = self.first_candidate(goal, links.as_slice())? {
                 all.push(found)?;
@@ -245,7 +243,7 @@ impl Search<'_> {
     /// The bounds of these, the shortest first, and behind them the shortest as it is without being widened.
     fn in_order(&mut self, found: Vec<Candidate>) -> Result<Vec<Bound>, AllocError> {
         let mut found = found;
-        let mut bounds = Vec::new(self.alloc);
+        let mut bounds = Vec::new(self.chains.alloc);
         let mut last = None;
         for index in 0..MOST_BOUNDS {
             let Some(least) = least_of(found.as_slice()) else {

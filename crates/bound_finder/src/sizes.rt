@@ -1,23 +1,23 @@
 //! How many literals the clause of a certificate has, roughly.
 
-use crate::goals::Goal;
-use crate::known::{count_routes, count_trains, share};
-use crate::links::Search;
+use crate::search::BoundSearch;
+use bound_chains::goals::Goal;
+use bound_chains::known::{count_routes, count_trains, share};
 use bound_spec::{Bound, Leg, Origin, Place};
 use cone_form::free_path;
 use cone_spec::Cone;
 use interlocking::Interlocking;
 use rail_base::route::RouteNo;
 
-impl Search<'_> {
+impl BoundSearch<'_> {
     /// How many literals a certificate's clause has, roughly.
     pub(crate) fn size(&self, goal: &Goal, bound: &Bound) -> usize {
         let legs = size_of_legs(bound.legs.as_slice());
         match (&bound.origin, goal.from) {
             (Origin::FirstTick, Some(from)) => {
-                let routes = self.tables.visit(from.train, 1);
-                let others = count_trains(self.interlocking).saturating_sub(1) as usize;
-                let sharing = count_sharing(self.interlocking, routes);
+                let routes = self.chains.tables.visit(from.train, 1);
+                let others = count_trains(self.chains.interlocking).saturating_sub(1) as usize;
+                let sharing = count_sharing(self.chains.interlocking, routes);
                 legs.saturating_add(sharing.saturating_mul(others))
             }
             (Origin::Cone { cone, .. }, _) => legs.saturating_add(self.size_of_cone(cone)),
@@ -27,10 +27,10 @@ impl Search<'_> {
 
     /// How many literals say what a cone takes for granted.
     fn size_of_cone(&self, cone: &Cone) -> usize {
-        let others = count_trains(self.interlocking).saturating_sub(1) as usize;
+        let others = count_trains(self.chains.interlocking).saturating_sub(1) as usize;
         let mut size = cone.pairs.len();
         for train in cone.trains.as_slice() {
-            let sharing = count_sharing(self.interlocking, free_path(cone, train.train));
+            let sharing = count_sharing(self.chains.interlocking, free_path(cone, train.train));
             size = size
                 .saturating_add(train.path.len())
                 .saturating_add(sharing.saturating_mul(others));

@@ -2,10 +2,11 @@
 
 ghost use Rattle.std.specs.Prelude.{◌<◌, length};
 
-use crate::choosing::{Breadth, Choice, Form, Meeting, Wide, has_route};
-use crate::known::{leads_to, route, starts_at_boundary};
-use crate::links::Search;
-use crate::paths::{Paths, Span};
+use crate::choosing::{Breadth, Choice, Form, Meeting, Wide};
+use crate::routes::{has_route, leads_to, starts_at_boundary};
+use crate::search::BoundSearch;
+use bound_chains::known::route;
+use bound_chains::paths::{Paths, Span};
 use bound_spec::{Leg, Place};
 use interlocking::Interlocking;
 use rail_base::list::List;
@@ -27,7 +28,7 @@ struct Widened {
     stretches: u64,
 }
 
-impl Search<'_> {
+impl BoundSearch<'_> {
     /// The legs of a chain's certificate, none where they can't be had in this breadth.
     pub(crate) fn legs(&mut self, form: &Form<'_>) -> Result<Option<List<Leg>>, AllocError> {
         let Some(mut ticks) = self.own_ticks(form)? else {
@@ -36,7 +37,7 @@ impl Search<'_> {
         let Some(mut slack) = slack(form, ticks.as_slice()) else {
             return Ok(None);
         };
-        let mut legs = Vec::new(self.alloc);
+        let mut legs = Vec::new(self.chains.alloc);
         let mut next: Option<Meeting> = None;
         let mut stretches = 0u64;
         for index in (0..form.legs.len()).rev() {
@@ -63,12 +64,12 @@ impl Search<'_> {
         if !self.is_long(form, ticks.as_slice(), stretches) {
             return Ok(None);
         }
-        Ok(Some(reverse_list(self.alloc, legs)?))
+        Ok(Some(reverse_list(self.chains.alloc, legs)?))
     }
 
     /// The train of some commands in a row.
     fn train(&self, span: Span) -> TrainNo {
-        match self.paths.given.get(span.first) {
+        match self.chains.paths.given.get(span.first) {
             Some(given) => given.command.train,
             None => TrainNo(0),
         }
@@ -76,8 +77,8 @@ impl Search<'_> {
 
     /// The routes that start where one ends.
     fn after(&self, number: RouteNo) -> &[RouteNo] {
-        match route(self.interlocking, number) {
-            Some(route) => self.tables.after(route.finish),
+        match route(self.chains.interlocking, number) {
+            Some(route) => self.chains.tables.after(route.finish),
             None => &[],
         }
     }
@@ -86,12 +87,12 @@ impl Search<'_> {
     fn stretches_of_walk(&self, walk: &[RouteNo]) -> u64 {
         let mut own = 0u64;
         for number in walk {
-            own = own.saturating_add(stretches_of_route(self.interlocking, *number));
+            own = own.saturating_add(stretches_of_route(self.chains.interlocking, *number));
         }
         let mut count = own;
         if let Some(last) = walk.last() {
             for next in self.after(*last) {
-                let more = stretches_of_route(self.interlocking, *next);
+                let more = stretches_of_route(self.chains.interlocking, *next);
                 count = count.saturating_add(own).saturating_add(more);
             }
         }
@@ -109,10 +110,10 @@ impl Search<'_> {
 
     /// Adds the routes that end where one starts, unless they are there.
     fn add_before(&self, list: &mut Vec<RouteNo>, number: RouteNo) -> Result<(), AllocError> {
-        let Some(route) = route(self.interlocking, number) else {
+        let Some(route) = route(self.chains.interlocking, number) else {
             return Ok(());
         };
-        for before in self.tables.before(route.start) {
+        for before in self.chains.tables.before(route.start) {
             if !has_route(list.as_slice(), *before) {
                 list.push(*before)?;
             }
@@ -122,7 +123,7 @@ impl Search<'_> {
 
     /// The routes of which a train uses one just before one of these.
     fn list_before(&self, next: &[RouteNo]) -> Result<Vec<RouteNo>, AllocError> {
-        let mut list = Vec::new(self.alloc);
+        let mut list = Vec::new(self.chains.alloc);
         for route in next {
             self.add_before(&mut list, *route)?;
         }
@@ -140,7 +141,7 @@ impl Search<'_> {
         own: RouteNo,
         most: usize,
     ) -> Result<Option<Choice>, AllocError> {
-        let tables = self.tables;
+        let tables = self.chains.tables;
         let mut best = None;
         for list in tables.visits(wide.train) {
             if has_route(list.as_slice(), own) {
@@ -170,7 +171,7 @@ impl Search<'_> {
         if wide.next.is_some() {
             return self.choice_of_visits(wide, place, later, *own, most);
         }
-        let tables = self.tables;
+        let tables = self.chains.tables;
         match wide.form.goal.to {
             Some(to) => {
                 let list = tables.visit(to.train, to.number);
@@ -185,11 +186,11 @@ impl Search<'_> {
         let Some(to) = wide.form.goal.to else {
             return true;
         };
-        if starts_at_boundary(self.interlocking, own) {
+        if starts_at_boundary(self.chains.interlocking, own) {
             return true;
         }
-        self.tables.visit(to.train, to.number).iter().all(|other| *other == own
-            || !goes_on(self.interlocking, *other))
+        self.chains.tables.visit(to.train, to.number).iter().all(|other| *other == own
+            || !goes_on(self.chains.interlocking, *other))
     }
 
     /// Whether the place may just name the leg's own route.
@@ -203,7 +204,7 @@ impl Search<'_> {
         if !wide.is_last(place) {
             return next
                 .iter()
-                .all(|route| leads_to(self.interlocking, own, &[*route]));
+                .all(|route| leads_to(self.chains.interlocking, own, &[*route]));
         }
         wide.next.is_some() || self.is_visited(wide, own)
     }
@@ -220,8 +221,8 @@ impl Search<'_> {
             return Ok(None);
         };
         Ok(Some(Choice {
-            routes: vec![in self.alloc; own]?,
-            without: Vec::new(self.alloc),
+            routes: vec![in self.chains.alloc; own]?,
+            without: Vec::new(self.chains.alloc),
             ticks,
             before: wide.ticks_before,
         }))
@@ -246,9 +247,12 @@ impl Search<'_> {
                 let has_own = has_route(choice.routes.as_slice(), *own);
                 if has_own && (!named || choice.routes.len() > 1) {
                     let place = Place::Among {
-                        routes: List::from_vec(copy_routes(self.alloc, choice.routes.as_slice())?),
+                        routes: List::from_vec(copy_routes(
+                            self.chains.alloc,
+                            choice.routes.as_slice(),
+                        )?),
                         without: List::from_vec(copy_routes(
-                            self.alloc,
+                            self.chains.alloc,
                             choice.without.as_slice(),
                         )?),
                     };
@@ -265,7 +269,7 @@ impl Search<'_> {
 
     /// A leg with its places, none where one of them can't be had.
     fn widen(&mut self, wide: &Wide<'_, '_>) -> Result<Option<Widened>, AllocError> {
-        let alloc = self.alloc;
+        let alloc = self.chains.alloc;
         let targets = match wide.next {
             Some(next) => next.routes.len(),
             None => 1,
@@ -297,7 +301,7 @@ impl Search<'_> {
             most = most.checked_div(routes.len()).unwrap_or(0).max(1);
             walks = longer(
                 alloc,
-                self.interlocking,
+                self.chains.interlocking,
                 routes.as_slice(),
                 walks.as_slice(),
             )?;
@@ -322,8 +326,8 @@ impl Search<'_> {
 
     /// The least ticks of each leg while nothing is widened, none where of one nothing is known.
     fn own_ticks(&mut self, form: &Form<'_>) -> Result<Option<Vec<u64>>, AllocError> {
-        let mut all = Vec::new(self.alloc);
-        let paths = self.paths;
+        let mut all = Vec::new(self.chains.alloc);
+        let paths = self.chains.paths;
         for (index, span) in form.legs.iter().enumerate() {
             let walk = paths.walk(*span);
             let train = self.train(*span);
@@ -334,10 +338,10 @@ impl Search<'_> {
             };
             let ticks = match (form.legs.get(index.saturating_add(1)), form.goal.to) {
                 (Some(next), _) => match paths.routes.get(next.first) {
-                    Some(route) => self.ticks_to_release(train, walk, from, *route)?,
+                    Some(route) => self.chains.ticks_to_release(train, walk, from, *route)?,
                     None => None,
                 },
-                (None, Some(to)) => self.ticks_to_visit(train, walk, from, to)?,
+                (None, Some(to)) => self.chains.ticks_to_visit(train, walk, from, to)?,
                 (None, None) => Some(0),
             };
             match ticks {
@@ -439,7 +443,7 @@ fn set_ticks(ticks: &mut [u64], index: usize, value: u64) {
     }
 }
 
-impl<'a> Search<'a> {
+impl<'a> BoundSearch<'a> {
     /// A leg before it is widened.
     fn wide<'b>(
         &self,
@@ -451,7 +455,7 @@ impl<'a> Search<'a> {
     ) -> Wide<'b, 'a>
         requires { index < length form.now.legs.now }
     {
-        let paths: &'a Paths = self.paths;
+        let paths: &'a Paths = self.chains.paths;
         let span = form.legs[index];
         let mut wide = Wide {
             form: *form,

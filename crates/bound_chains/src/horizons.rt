@@ -1,7 +1,7 @@
 //! How far each train has to be followed to know when one makes a visit.
 
 use crate::known::count_trains;
-use crate::links::Search;
+use crate::search::ChainSearch;
 use crate::waits::Wait;
 use rail_base::station::TrainNo;
 use std::alloc::AllocError;
@@ -17,7 +17,7 @@ pub(crate) fn horizon_at(horizons: &[u64], train: TrainNo) -> u64 {
     horizons.get(train.0 as usize - 1).copied().unwrap_or(0)
 }
 
-impl Search<'_> {
+impl ChainSearch<'_> {
     /// What holds up a train's first command that is not granted by a tick, where none of them is granted at that tick.
     pub(crate) fn held_by(&self, train: TrainNo, tick: u64) -> Option<Wait> {
         if tick == 0 {

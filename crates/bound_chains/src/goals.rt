@@ -1,5 +1,8 @@
 //! Which requirements a plan may be shown to fail, and from where ticks are counted.
 
+ghost use Rattle.std.specs.Prelude.{◌≡◌, ◌<◌, IfSome, Some};
+ghost use Rattle.bound_chains.specs.declared.goals.Beginning.TheVariants as beginning;
+
 use crate::known::is_train;
 use crate::paths::Paths;
 use bound_spec::Requirement;
@@ -11,7 +14,7 @@ use std::alloc::{AllocError, Global};
 
 /// From where ticks are counted.
 #[derive(Clone, Copy, PartialEq, Eq)]
-pub(crate) enum Beginning {
+pub enum Beginning {
     Visit,
     FirstTick,
     Start,
@@ -21,7 +24,7 @@ pub(crate) enum Beginning {
 
 /// A requirement that is to be shown to fail.
 #[derive(Clone, Copy)]
-pub(crate) struct Goal {
+pub struct Goal {
     pub requirement: Requirement,
     pub from: Option<Visit>,
     pub to: Option<Visit>,
@@ -33,8 +36,13 @@ pub(crate) struct Goal {
 }
 
 impl Goal {
+    ghost use Rattle.bound_chains.specs.Goals.{is_order, takes_any};
+
     /// The visit from whose place the ticks of the first leg are counted; none where they are from a grant.
-    pub(crate) fn from_place(&self) -> Option<Visit> {
+    pub fn from_place(&self) -> Option<Visit>
+        ensures own { IfSome result (λ visit. self.now.from ≡ Some visit) }
+        ensures later { IfSome result (λ visit. 1 < visit.number) }
+    {
         match self.beginning {
             Beginning::Visit => self.from.filter(|visit| visit.number > 1),
             Beginning::FirstTick | Beginning::Start | Beginning::Cone { .. } => None,
@@ -42,7 +50,10 @@ impl Goal {
     }
 
     /// The visit with which the first leg begins, if it begins with one.
-    pub(crate) fn begins_with(&self) -> Option<Visit> {
+    pub fn begins_with(&self) -> Option<Visit>
+        ensures own { IfSome result (λ visit. self.now.from ≡ Some visit) }
+        ensures visit { self.now.beginning ≡ beginning.Visit → result ≡ self.now.from }
+    {
         match self.beginning {
             Beginning::Visit => self.from,
             Beginning::FirstTick | Beginning::Start | Beginning::Cone { .. } => None,
@@ -50,12 +61,16 @@ impl Goal {
     }
 
     /// Whether any chain shows it, however few ticks it takes.
-    pub(crate) fn takes_any(&self) -> bool {
+    pub fn takes_any(&self) -> bool
+        ensures { result ≡ takes_any self.now }
+    {
         self.is_order() && !matches!(self.beginning, Beginning::Cone { .. })
     }
 
     /// The goal with ticks counted from the start of the run, where the first visit is made in the first tick.
-    pub(crate) fn from_first_tick(&self) -> Goal {
+    pub fn from_first_tick(&self) -> Goal
+        ensures { result ≡ record self.now { beginning = beginning.FirstTick } }
+    {
         Goal {
             beginning: Beginning::FirstTick,
             ..*self
@@ -64,7 +79,9 @@ impl Goal {
 
     /// The goal with ticks counted from the start of the run, where a cone shows that the first visit is made at a
     /// tick.
-    pub(crate) fn from_cone(&self, tick: u64) -> Goal {
+    pub fn from_cone(&self, tick: u64) -> Goal
+        ensures { record result { least = 0 } ≡ record self.now { beginning = beginning.Cone tick; least = 0 } }
+    {
         let least = if self.is_order() { 0 } else { self.least };
         Goal {
             beginning: Beginning::Cone { tick },
@@ -74,13 +91,19 @@ impl Goal {
     }
 
     /// Whether its requirement is an order.
-    fn is_order(&self) -> bool {
+    fn is_order(&self) -> bool
+        ensures { result ≡ is_order self.now.requirement }
+    {
         matches!(self.requirement, Requirement::Order { .. })
     }
 }
 
 /// The requirements of two visits each, and what a plan's violation says, each from where ticks are counted first.
-pub(crate) fn goals(
+///
+/// # Errors
+///
+/// Want of memory alone.
+pub fn goals(
     alloc: Global,
     interlocking: &Interlocking,
     paths: &Paths,

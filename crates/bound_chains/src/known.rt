@@ -1,20 +1,21 @@
 //! What is asked of a design by numbers that it may not have.
 
-ghost use Rattle.std.specs.Prelude.{◌≡◌, ◌≤◌, IsTrue, All, length};
-ghost use Rattle.rail_base.specs.Routes.{IsRoute};
+ghost use Rattle.std.specs.Prelude.{◌≡◌, ◌≤◌, IsTrue, IsSome, IfSome, All, length};
+ghost use Rattle.rail_base.specs.Routes.{IsRoute, route_at, share};
 ghost use Rattle.rail_base.specs.Stations.{IsTrain};
+ghost use Rattle.rail_spec.specs.Plans.{contend};
 
-use interlocking::{Interlocking, goes_on};
+use interlocking::Interlocking;
 use leg_targets::Visit;
 use rail_base::plan::Command;
-use rail_base::route::{Route, RouteNo, Start};
+use rail_base::route::{Route, RouteNo};
 use rail_base::station::TrainNo;
 
 /// A leg has no more places, so no walk that may be a leg has more routes. Of a longer one no ticks are counted.
 const MOST_ROUTES: usize = 64;
 
 /// How many trains a design has.
-pub(crate) fn count_trains(interlocking: &Interlocking) -> u32
+pub fn count_trains(interlocking: &Interlocking) -> u32
     ensures value { result ≡ length interlocking.now.design.station.trains }
     ensures at_most_128 { result ≤ 128 }
 {
@@ -22,7 +23,7 @@ pub(crate) fn count_trains(interlocking: &Interlocking) -> u32
 }
 
 /// How many routes it has.
-pub(crate) fn count_routes(interlocking: &Interlocking) -> u32
+pub fn count_routes(interlocking: &Interlocking) -> u32
     ensures value { result ≡ length interlocking.now.routes }
     ensures at_most_2000 { result ≤ 2000 }
 {
@@ -38,7 +39,8 @@ pub(crate) fn is_train(interlocking: &Interlocking, train: TrainNo) -> bool
 
 /// Whether a route is one of a design.
 pub(crate) fn is_route(interlocking: &Interlocking, route: RouteNo) -> bool
-    ensures { IsTrue result → IsRoute interlocking.now.routes route }
+    ensures found { IsTrue result → IsRoute interlocking.now.routes route }
+    ensures all { IsRoute interlocking.now.routes route → IsTrue result }
 {
     1 <= route.0 && route.0 <= count_routes(interlocking)
 }
@@ -52,7 +54,10 @@ pub(crate) fn is_walk(interlocking: &Interlocking, walk: &[RouteNo]) -> bool
 }
 
 /// The route of a number, if there is one.
-pub(crate) fn route(interlocking: &Interlocking, number: RouteNo) -> Option<&Route> {
+pub fn route(interlocking: &Interlocking, number: RouteNo) -> Option<&Route>
+    ensures found { IfSome result (λ route. route.now ≡ route_at interlocking.now.routes number) }
+    ensures all { IsRoute interlocking.now.routes number → IsSome result }
+{
     if is_route(interlocking, number) {
         Some(interlocking.route(number))
     } else {
@@ -60,41 +65,18 @@ pub(crate) fn route(interlocking: &Interlocking, number: RouteNo) -> Option<&Rou
     }
 }
 
-/// Whether two routes have a section in common.
-pub(crate) fn share(interlocking: &Interlocking, one: RouteNo, other: RouteNo) -> bool {
+/// Whether two routes are of a design and have a section in common.
+pub fn share(interlocking: &Interlocking, one: RouteNo, other: RouteNo) -> bool
+    ensures { result ≡ share (route_at interlocking.now.routes one) (route_at interlocking.now.routes other) }
+{
     is_route(interlocking, one) && is_route(interlocking, other) && interlocking.share(one, other)
 }
 
-/// Whether two commands contend.
-pub(crate) fn contend(interlocking: &Interlocking, one: Command, other: Command) -> bool {
+/// Whether two commands contend: they are of different trains, by routes that share a section.
+pub fn contend(interlocking: &Interlocking, one: Command, other: Command) -> bool
+    ensures { result ≡ contend interlocking.now.routes one other }
+{
     one.train != other.train && share(interlocking, one.route, other.route)
-}
-
-/// Whether a route starts at a boundary.
-pub(crate) fn starts_at_boundary(interlocking: &Interlocking, number: RouteNo) -> bool {
-    match route(interlocking, number) {
-        Some(route) => matches!(route.start, Start::Boundary(_)),
-        None => false,
-    }
-}
-
-/// Whether two routes start at one place.
-pub(crate) fn starts_like(interlocking: &Interlocking, one: RouteNo, other: RouteNo) -> bool {
-    match (route(interlocking, one), route(interlocking, other)) {
-        (Some(one), Some(other)) => one.start == other.start,
-        _ => false,
-    }
-}
-
-/// Whether a route goes on to a walk, if that has routes.
-pub(crate) fn leads_to(interlocking: &Interlocking, number: RouteNo, walk: &[RouteNo]) -> bool {
-    let Some(next) = walk.first() else {
-        return true;
-    };
-    match (route(interlocking, number), route(interlocking, *next)) {
-        (Some(one), Some(other)) => goes_on(one.finish, other.start),
-        _ => false,
-    }
 }
 
 /// Where on a walk a train has released what a route waits for, in mm from the walk's start.

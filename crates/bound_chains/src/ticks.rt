@@ -27,13 +27,14 @@ struct Trip {
 
 /// The least ticks of trips.
 #[derive(Drop)]
-pub(crate) struct Ticks {
+pub struct Ticks {
     walks: BTreeMap<Vec<RouteNo>, usize>,
     known: BTreeMap<Trip, u64>,
 }
 
 impl Ticks {
-    pub(crate) fn new(alloc: Global) -> Ticks {
+    /// Those of no trip.
+    pub fn new(alloc: Global) -> Ticks {
         Ticks {
             walks: BTreeMap::new(alloc),
             known: BTreeMap::new(alloc),

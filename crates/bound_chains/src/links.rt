@@ -1,71 +1,30 @@
 //! Which commands of a plan wait for which, and how long that takes.
 
 use crate::goals::Goal;
-use crate::known::{contend, count_trains, release_place, target, visit_place};
-use crate::paths::{Given, Paths, Span};
-use crate::tables::Tables;
-use crate::ticks::Ticks;
-use crate::waits::Wait;
-use interlocking::Interlocking;
+use crate::known::{contend, count_trains};
+use crate::paths::{Given, Span};
+use crate::search::ChainSearch;
 use leg_targets::Visit;
-use rail_base::history::History;
 use rail_base::route::RouteNo;
 use rail_base::station::TrainNo;
-use std::alloc::{AllocError, Global};
-
-/// What a chain of commands of a plan is sought with.
-#[derive(Drop)]
-pub(crate) struct Search<'a> {
-    pub alloc: Global,
-    pub interlocking: &'a Interlocking,
-    pub tables: &'a Tables,
-    pub paths: &'a Paths,
-    pub history: &'a History,
-    pub ticks: &'a mut Ticks,
-    pub waits: Vec<Wait>,
-}
+use std::alloc::AllocError;
 
 /// A command that waits for the last of some commands of another train, and the least ticks from the grant of their
 /// first to where the last has released what the command waits for.
 #[derive(Clone, Copy)]
-pub(crate) struct Link {
-    pub span: Span,
-    pub next: usize,
-    pub ticks: u64,
+pub struct Link {
+    pub(crate) span: Span,
+    pub(crate) next: usize,
+    pub(crate) ticks: u64,
 }
 
-impl Search<'_> {
-    /// The least ticks of a train on a walk to where it has released what a route waits for, from a visit's place on it
-    /// or from the grant of its first route; none where the visit is past that.
-    pub(crate) fn ticks_to_release(
-        &mut self,
-        train: TrainNo,
-        walk: &[RouteNo],
-        from: Option<Visit>,
-        next: RouteNo,
-    ) -> Result<Option<u64>, AllocError> {
-        match release_place(self.interlocking, train, walk, next) {
-            Some(place) => self.ticks_from(train, walk, from, place),
-            None => Ok(None),
-        }
-    }
-
-    /// The same to where a visit can be made on the walk's last route.
-    pub(crate) fn ticks_to_visit(
-        &mut self,
-        train: TrainNo,
-        walk: &[RouteNo],
-        from: Option<Visit>,
-        to: Visit,
-    ) -> Result<Option<u64>, AllocError> {
-        match target(self.interlocking, to, walk) {
-            Some(place) => self.ticks_from(train, walk, from, place),
-            None => Ok(None),
-        }
-    }
-
-    /// All links of a plan.
-    pub(crate) fn links(&mut self) -> Result<Vec<Link>, AllocError> {
+impl ChainSearch<'_> {
+    /// All links of a plan, by the command that waits.
+    ///
+    /// # Errors
+    ///
+    /// Want of memory alone.
+    pub fn links(&mut self) -> Result<Vec<Link>, AllocError> {
         let mut links = Vec::new(self.alloc);
         let paths = self.paths;
         for (next, given) in paths.given.iter().enumerate() {
@@ -127,29 +86,6 @@ impl Search<'_> {
             }
         }
         None
-    }
-
-    /// The least ticks of a train on a walk to a place, from a visit's place on it or from the grant of its first
-    /// route; none where the visit is past that.
-    fn ticks_from(
-        &mut self,
-        train: TrainNo,
-        walk: &[RouteNo],
-        from: Option<Visit>,
-        place: u64,
-    ) -> Result<Option<u64>, AllocError> {
-        let start = match from {
-            None => None,
-            Some(visit) => {
-                let start = visit_place(self.interlocking, visit, walk);
-                if start.is_none_or(|start| place < start) {
-                    return Ok(None);
-                }
-                start
-            }
-        };
-        self.ticks
-            .hop(self.alloc, self.interlocking, train, walk, start, place)
     }
 
     /// Adds the links from each command of a train up to the last one for which another waits.

@@ -1,6 +1,8 @@
 //! What is looked up of a design: on which routes visits can be made, and which routes lead to which.
 
+ghost use Rattle.std.specs.Prelude.{◌≡◌};
 ghost use Rattle.rail_base.specs.Stations.{IsTrain};
+ghost use Rattle.bound_chains.specs.Tables.{list_of};
 
 use crate::known::{count_routes, count_trains};
 use bound_design::visit_of;
@@ -11,7 +13,7 @@ use std::alloc::{AllocError, Global};
 
 /// The lists of a design, each of routes in increasing order.
 #[derive(Drop)]
-pub(crate) struct Tables {
+pub struct Tables {
     /// For each train and each visit of it the routes on which it can be made.
     visits: Vec<Vec<Vec<RouteNo>>>,
     /// For each signal the routes that end there, and those that start there.
@@ -20,8 +22,14 @@ pub(crate) struct Tables {
 }
 
 impl Tables {
+    ghost use Rattle.bound_chains.specs.Tables.{lists_of_visits, routes_after, routes_before, routes_of_visit};
+
     /// The lists of a design.
-    pub(crate) fn of(alloc: Global, interlocking: &Interlocking) -> Result<Tables, AllocError> {
+    ///
+    /// # Errors
+    ///
+    /// Want of memory alone.
+    pub fn of(alloc: Global, interlocking: &Interlocking) -> Result<Tables, AllocError> {
         let mut tables = Tables {
             visits: visits_of_trains(alloc, interlocking)?,
             ending: signal_lists(alloc, interlocking)?,
@@ -34,8 +42,10 @@ impl Tables {
         Ok(tables)
     }
 
-    /// The routes on which each visit of a train can be made.
-    pub(crate) fn visits(&self, train: TrainNo) -> &[Vec<RouteNo>] {
+    /// For each visit of a train the routes on which it can be made; nothing for a train that the design does not have.
+    pub fn visits(&self, train: TrainNo) -> &[Vec<RouteNo>]
+        ensures { result.now ≡ lists_of_visits self.now train }
+    {
         if train.0 == 0 {
             return &[];
         }
@@ -46,7 +56,9 @@ impl Tables {
     }
 
     /// The routes on which a visit can be made, counted from 1.
-    pub(crate) fn visit(&self, train: TrainNo, number: u32) -> &[RouteNo] {
+    pub fn visit(&self, train: TrainNo, number: u32) -> &[RouteNo]
+        ensures { result.now ≡ routes_of_visit self.now train number }
+    {
         if number == 0 {
             return &[];
         }
@@ -57,7 +69,9 @@ impl Tables {
     }
 
     /// The routes that end where one starts.
-    pub(crate) fn before(&self, start: Start) -> &[RouteNo] {
+    pub fn before(&self, start: Start) -> &[RouteNo]
+        ensures { result.now ≡ routes_before self.now start }
+    {
         match start {
             Start::Signal(signal) => list_at(&self.ending, signal.0),
             Start::Boundary(_) => &[],
@@ -65,7 +79,9 @@ impl Tables {
     }
 
     /// The routes that start where one ends.
-    pub(crate) fn after(&self, finish: Finish) -> &[RouteNo] {
+    pub fn after(&self, finish: Finish) -> &[RouteNo]
+        ensures { result.now ≡ routes_after self.now finish }
+    {
         match finish {
             Finish::Signal(signal) => list_at(&self.starting, signal.0),
             Finish::Exit(_) | Finish::DeadEnd(_) => &[],
@@ -156,7 +172,9 @@ fn add_at(lists: &mut Vec<Vec<RouteNo>>, signal: u32, route: RouteNo) -> Result<
 }
 
 /// The list of a signal.
-fn list_at(lists: &[Vec<RouteNo>], signal: u32) -> &[RouteNo] {
+fn list_at(lists: &[Vec<RouteNo>], signal: u32) -> &[RouteNo]
+    ensures { result.now ≡ list_of lists.now signal }
+{
     if signal == 0 {
         return &[];
     }

@@ -1,9 +1,12 @@
 //! The longest chains of commands that wait for each other, layer by layer.
 
+ghost use Rattle.std.specs.Prelude.{◌<◌, IfOk, IfSome, length};
+
 use crate::goals::Goal;
 use crate::known::{route, visit_place};
-use crate::links::{Link, Search};
+use crate::links::Link;
 use crate::paths::Span;
+use crate::search::ChainSearch;
 use interlocking::Interlocking;
 use leg_targets::Visit;
 use rail_base::route::RouteNo;
@@ -26,13 +29,16 @@ struct End {
     worth: u64,
 }
 
-impl Search<'_> {
-    /// The legs of the chain of fewest links that is long enough for a goal to fail, and of these the longest.
-    pub(crate) fn chain(
-        &mut self,
-        goal: &Goal,
-        links: &[Link],
-    ) -> Result<Option<Vec<Span>>, AllocError> {
+impl ChainSearch<'_> {
+    /// The legs, one at the least, of the chain of fewest links that is long enough for a goal to fail, and of these
+    /// the longest; none where there is none, or it has more than 64 places.
+    ///
+    /// # Errors
+    ///
+    /// Want of memory alone.
+    pub fn chain(&mut self, goal: &Goal, links: &[Link]) -> Result<Option<Vec<Span>>, AllocError>
+        ensures { IfOk result (λ found. IfSome found (λ legs. 0 < length legs.items)) }
+    {
         let Some(mut layer) = self.first_layer(goal)? else {
             return Ok(None);
         };
@@ -151,7 +157,9 @@ impl Search<'_> {
         layers: Vec<Vec<Option<Arrival>>>,
         layer: Vec<Option<Arrival>>,
         last: Span,
-    ) -> Result<Option<Vec<Span>>, AllocError> {
+    ) -> Result<Option<Vec<Span>>, AllocError>
+        ensures { IfOk result (λ found. IfSome found (λ legs. 0 < length legs.items)) }
+    {
         let mut layers = layers;
         layers.push(layer)?;
         let legs = legs(self.alloc, layers.as_slice(), last)?;
@@ -233,11 +241,9 @@ fn best_end(goal: &Goal, layer: &[Option<Arrival>], ends: &[End]) -> Option<Span
 }
 
 /// The legs of the chain that ends with one.
-fn legs(
-    alloc: Global,
-    layers: &[Vec<Option<Arrival>>],
-    last: Span,
-) -> Result<Vec<Span>, AllocError> {
+fn legs(alloc: Global, layers: &[Vec<Option<Arrival>>], last: Span) -> Result<Vec<Span>, AllocError>
+    ensures { IfOk result (λ legs. 0 < length legs.items) }
+{
     let mut legs = vec![in alloc; last]?;
     let mut first = last.first;
     for layer in layers.iter().rev() {

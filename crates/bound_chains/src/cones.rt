@@ -1,10 +1,14 @@
 //! Cones by whose runs a visit is made at a tick.
 
+ghost use Rattle.std.specs.Prelude.{◌≡◌, IfOk, IfSome};
+ghost use Rattle.bound_spec.specs.Certificates.{violation_of};
+ghost use Rattle.bound_chains.specs.Goals.{IsOriginOf};
+
 use crate::goals::{Beginning, Goal};
 use crate::horizons::horizon_at;
 use crate::known::count_trains;
-use crate::links::Search;
 use crate::paths::Span;
+use crate::search::ChainSearch;
 use crate::waits::Wait;
 use bound_spec::{Origin, Requirement};
 use cone_spec::{Cone, ConeTrain};
@@ -30,27 +34,15 @@ struct Seen {
     holder: Option<Wait>,
 }
 
-impl Search<'_> {
-    /// The cone of a requirement by which a visit is made at a tick; none where too many trains wait for each other.
-    pub(crate) fn cone(
-        &self,
-        requirement: Requirement,
-        visit: Visit,
-        tick: u64,
-    ) -> Result<Option<Cone>, AllocError> {
-        let Some(horizons) = self.horizons(visit.train, tick)? else {
-            return Ok(None);
-        };
-        let all = self.all_seen(horizons.as_slice())?;
-        Ok(Some(Cone {
-            trains: self.cone_trains(all.as_slice())?,
-            pairs: self.cone_pairs(all.as_slice())?,
-            violation: violation_of(requirement),
-        }))
-    }
-
+impl ChainSearch<'_> {
     /// From where a bound of a goal counts its ticks; none where no cone can be had.
-    pub(crate) fn origin(&self, goal: &Goal) -> Result<Option<Origin>, AllocError> {
+    ///
+    /// # Errors
+    ///
+    /// Want of memory alone.
+    pub fn origin(&self, goal: &Goal) -> Result<Option<Origin>, AllocError>
+        ensures { IfOk result (λ found. IfSome found (IsOriginOf goal.now)) }
+    {
         match (goal.beginning, goal.from) {
             (Beginning::Visit, _) => Ok(Some(Origin::Visit)),
             (Beginning::FirstTick, _) => Ok(Some(Origin::FirstTick)),
@@ -61,6 +53,26 @@ impl Search<'_> {
             }
             (Beginning::Cone { .. }, None) => Ok(None),
         }
+    }
+
+    /// The cone of a requirement by which a visit is made at a tick; none where too many trains wait for each other.
+    fn cone(
+        &self,
+        requirement: Requirement,
+        visit: Visit,
+        tick: u64,
+    ) -> Result<Option<Cone>, AllocError>
+        ensures { IfOk result (λ found. IfSome found (λ cone. cone.violation ≡ violation_of requirement)) }
+    {
+        let Some(horizons) = self.horizons(visit.train, tick)? else {
+            return Ok(None);
+        };
+        let all = self.all_seen(horizons.as_slice())?;
+        Ok(Some(Cone {
+            trains: self.cone_trains(all.as_slice())?,
+            pairs: self.cone_pairs(all.as_slice())?,
+            violation: violation_of(requirement),
+        }))
     }
 
     /// What a cone says of a train that is followed up to a tick, if it names no command of it.
@@ -164,7 +176,9 @@ impl Search<'_> {
 }
 
 /// The violation of a requirement.
-fn violation_of(requirement: Requirement) -> Violation {
+fn violation_of(requirement: Requirement) -> Violation
+    ensures { result ≡ violation_of requirement }
+{
     match requirement {
         Requirement::Within { within } => Violation::Within { within },
         Requirement::Order { order } => Violation::Order { order },

@@ -1,5 +1,7 @@
 //! The commands of a plan by trains.
 
+ghost use Rattle.std.specs.Prelude.{◌≡◌, ◌+◌};
+
 use crate::known::count_trains;
 use interlocking::Interlocking;
 use rail_base::plan::{Command, Plan};
@@ -9,34 +11,41 @@ use std::alloc::{AllocError, Global};
 
 /// A command of a plan, and where it stands.
 #[derive(Clone, Copy)]
-pub(crate) struct Given {
+pub struct Given {
     pub command: Command,
+    /// Its step, counted from 0.
     pub step: usize,
     /// The place of its train's first command among all, and of what follows the last.
-    pub first: usize,
-    pub end: usize,
+    pub(crate) first: usize,
+    pub(crate) end: usize,
 }
 
 /// Some commands in a row of one train, from the first to the last, by their places among all.
 #[derive(Clone, Copy)]
-pub(crate) struct Span {
+pub struct Span {
     pub first: usize,
     pub last: usize,
 }
 
 /// The commands of a plan, train by train, those of a train in the order of its path.
 #[derive(Drop)]
-pub(crate) struct Paths {
+pub struct Paths {
     pub given: Vec<Given>,
     /// Their routes.
     pub routes: Vec<RouteNo>,
     /// Where the commands of each train begin and end.
-    pub spans: Vec<(usize, usize)>,
+    pub(crate) spans: Vec<(usize, usize)>,
 }
 
 impl Paths {
+    ghost use Rattle.bound_chains.specs.Paths.{commands_of, part_of, span_of, step_of};
+
     /// The commands of a plan for the trains of a design.
-    pub(crate) fn of(
+    ///
+    /// # Errors
+    ///
+    /// Want of memory alone.
+    pub fn of(
         alloc: Global,
         interlocking: &Interlocking,
         plan: &Plan,
@@ -52,8 +61,10 @@ impl Paths {
         Ok(paths)
     }
 
-    /// Where the commands of a train begin and end.
-    pub(crate) fn span(&self, train: TrainNo) -> (usize, usize) {
+    /// Where the commands of a train begin and end, by their places among all.
+    pub fn span(&self, train: TrainNo) -> (usize, usize)
+        ensures { result ≡ span_of self.now train }
+    {
         if train.0 == 0 {
             return (0, 0);
         }
@@ -63,8 +74,10 @@ impl Paths {
         }
     }
 
-    /// The routes of some commands in a row.
-    pub(crate) fn walk(&self, span: Span) -> &[RouteNo] {
+    /// The routes of some commands in a row; none where the plan has not so many commands.
+    pub fn walk(&self, span: Span) -> &[RouteNo]
+        ensures { result.now ≡ part_of self.now.routes.items span.first (span.last + 1) }
+    {
         if span.last < span.first || self.routes.len() <= span.last {
             return &[];
         }
@@ -72,7 +85,9 @@ impl Paths {
     }
 
     /// The commands of a train.
-    pub(crate) fn commands(&self, train: TrainNo) -> &[Given] {
+    pub fn commands(&self, train: TrainNo) -> &[Given]
+        ensures { result.now ≡ commands_of self.now train }
+    {
         let (first, end) = self.span(train);
         if end < first || self.given.len() < end {
             return &[];
@@ -80,8 +95,10 @@ impl Paths {
         &self.given.as_slice()[first..end]
     }
 
-    /// The step in which a command stands, if it stands in one.
-    pub(crate) fn step(&self, command: Command) -> Option<usize> {
+    /// The step in which a command stands, counted from 0, if it stands in one.
+    pub fn step(&self, command: Command) -> Option<usize>
+        ensures { result ≡ step_of self.now command }
+    {
         for given in self.commands(command.train) {
             if given.command.route == command.route {
                 return Some(given.step);

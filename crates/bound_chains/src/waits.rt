@@ -1,8 +1,12 @@
 //! Which commands of a plan wait for which others, and what its run says of them.
 
+ghost use Rattle.std.specs.Prelude.{◌≡◌};
+ghost use Rattle.std.specs.Option.{option_copied};
+ghost use Rattle.bound_chains.specs.Runs.{history_of, visit_tick};
+
 use crate::known::{contend, route};
-use crate::links::Search;
 use crate::paths::Given;
+use crate::search::ChainSearch;
 use leg_targets::Visit;
 use rail_base::history::TrainHistory;
 use rail_base::plan::Command;
@@ -18,9 +22,11 @@ pub(crate) struct Wait {
     pub tick: Option<u64>,
 }
 
-impl Search<'_> {
+impl ChainSearch<'_> {
     /// The tick at which a visit is made, where that has come.
-    pub(crate) fn visit_tick(&self, visit: Visit) -> Option<u64> {
+    pub fn visit_tick(&self, visit: Visit) -> Option<u64>
+        ensures { result ≡ visit_tick self.now.history.now visit }
+    {
         if visit.number == 0 {
             return None;
         }
@@ -59,7 +65,9 @@ impl Search<'_> {
     }
 
     /// What has happened to a train.
-    fn history_of(&self, train: TrainNo) -> Option<&TrainHistory> {
+    fn history_of(&self, train: TrainNo) -> Option<&TrainHistory>
+        ensures { option_copied result ≡ history_of self.now.history.now train }
+    {
         if train.0 == 0 {
             return None;
         }
