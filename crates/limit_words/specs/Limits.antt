@@ -1,33 +1,28 @@
 -- How many steps can be asked for: those whose clauses are few.
-use Rattle.std.specs.Prelude.{◌≡◌, ℕ, ◌+◌, ◌≤◌, List, Option, None, Some}
-use Rattle.alike_clause_spec.specs.Sorted.{sorted_base}
-use Rattle.clause_spec.specs.Clauses.{base_clauses, past_limit}
-use Rattle.limit_words.specs.declared.greatest.SearchKind.{SearchKind}
-use Rattle.limit_words.specs.declared.greatest.SearchKind.TheVariants.{Plain, Bounds}
+use Rattle.std.specs.Prelude.{◌≡◌, ℕ, ◌≤◌, ◌<◌, nat_le, if◌then◌else◌, List, Option, None, Some}
+use Rattle.limit_words.specs.Counts.{Exceeds, Fits, literal_count}
+use Rattle.limit_words.specs.declared.greatest.Limit.{Limit}
+use Rattle.limit_words.specs.declared.kind.SearchKind.{SearchKind}
 use Rattle.rail_base.specs.declared.route.Route.{Route}
 use Rattle.rail_base.specs.declared.station.Station.{Station}
-use Rattle.sat_clause.specs.declared.lit.Lit.{Lit}
-
--- the clauses with which a search begins
-abbrev pub first_clauses : SearchKind → Station → List Route → ℕ → List (List Lit)
-first_clauses Plain d routes n = base_clauses d routes n
-first_clauses Bounds d routes n = sorted_base d routes n
 
 module _ (kind : SearchKind) (d : Station) (routes : List Route) where
-  -- those for n steps have at most 16,000,000 literals
-  abbrev pub Fits : ℕ → Type 0
-  Fits n = past_limit 16000000 0 (first_clauses kind d routes n) ≡ None
+  -- how many literals the clauses for n steps have, which is known where those for 2 steps are few
+  abbrev pub known_count : ℕ → Option ℕ
+  known_count n = if nat_le (literal_count kind d routes 2) 16000000 then Some (literal_count kind d routes n) else None
 
-  -- they have more
-  abbrev pub Exceeds : ℕ → Type 0
-  Exceeds n = (literals : ℕ) × (past_limit 16000000 0 (first_clauses kind d routes n) ≡ Some literals)
-
-  -- those for k steps are few, where k is not 0, and those for one step more are not
+  -- the clauses for each number of steps from 1 to k are few, and those for more steps are not
   pub record IsGreatest (k : ℕ) : Type 0 where
-    pub few : 1 ≤ k → Fits k
-    pub one_more : Exceeds (k + 1)
+    pub few : (n : ℕ) → 1 ≤ n → n ≤ k → Fits kind d routes n
+    pub no_more : (n : ℕ) → k < n → Exceeds kind d routes n
 
-  -- there is such a number where those for n steps are too many
-  abbrev pub IsGreatestBelow : ℕ → Option ℕ → Type 0
-  IsGreatestBelow n None = Fits n
-  IsGreatestBelow n (Some k) = IsGreatest k
+  -- where n steps are asked for, at most so many can be, which are fewer
+  pub record IsLimit (n : ℕ) (l : Limit) : Type 0 where
+    pub fewer : l.steps < n
+    pub greatest : IsGreatest l.steps
+    pub literals : l.literals ≡ known_count n
+
+  -- n steps can be asked for, or there is such a limit
+  abbrev pub IsLimitFor : ℕ → Option Limit → Type 0
+  IsLimitFor n None = Fits kind d routes n
+  IsLimitFor n (Some l) = IsLimit n l

@@ -1,91 +1,69 @@
 //! The greatest number of steps whose clauses are few.
 
-ghost use Rattle.std.specs.Prelude.{◌≡◌, ◌≤◌, IfOk, IfSome, true, false};
+ghost use Rattle.std.specs.Prelude.{◌+◌, ◌≤◌, IfOk};
 ghost use Rattle.interlocking.specs.Plans.{on};
-ghost use Rattle.limit_words.specs.Limits.{Exceeds, Fits, IsGreatest, IsGreatestBelow};
+ghost use Rattle.limit_words.specs.EvenLimits.{IsEvenLimitFor};
+ghost use Rattle.limit_words.specs.Limits.{IsLimitFor};
 
-use interlocking::{Interlocking, Steps};
-use plan_encoding::{BaseFault, base, sorted_base};
+use crate::counting::count_if_few;
+use crate::kind::SearchKind;
+use interlocking::Interlocking;
 use std::alloc::{AllocError, Global};
 
-/// How a search excludes plans, which says with which clauses it begins.
+/// The most literals that the clauses of a search may have.
+const MOST: u64 = 16_000_000;
+
+/// How many steps can be asked for at the most where more were, and how many literals the clauses for those have, where
+/// that is known.
 #[derive(Clone, Copy, Debug, PartialEq, Eq)]
-pub enum SearchKind {
-    /// By cones alone.
-    Plain,
-    /// By bounds where it finds some.
-    Bounds,
+pub(crate) struct Limit {
+    pub(crate) steps: u32,
+    pub(crate) literals: Option<u64>,
 }
 
-/// Whether the clauses for so many steps are few.
-fn fits(
-    alloc: Global,
-    interlocking: &Interlocking,
-    kind: SearchKind,
-    steps: u32,
-) -> Result<bool, AllocError>
+/// The limit for so many steps where the clauses for one have so many literals, and with each step more so many more.
+fn even_limit(first: u64, each: u64, steps: u32) -> Option<Limit>
+    requires few { first + each ≤ 16000000 }
     requires at_least_one { 1 ≤ steps }
     requires at_most_256 { steps ≤ 256 }
-    ensures yes { IfOk result (λ fits. fits ≡ true → on interlocking.now (Fits kind) steps) }
-    ensures no { IfOk result (λ fits. fits ≡ false → on interlocking.now (Exceeds kind) steps) }
+    ensures { IsEvenLimitFor first each steps result }
 {
-    let steps = Steps { count: steps };
-    match kind {
-        SearchKind::Plain => match base(alloc, interlocking, steps) {
-            Ok(_) => Ok(true),
-            Err(BaseFault::TooLarge { .. }) => Ok(false),
-            Err(BaseFault::Memory) => Err(AllocError),
-        },
-        SearchKind::Bounds => match sorted_base(alloc, interlocking, steps) {
-            Ok(_) => Ok(true),
-            Err(BaseFault::TooLarge { .. }) => Ok(false),
-            Err(BaseFault::Memory) => Err(AllocError),
-        },
+    let literals = first + u64::from(steps - 1) * each;
+    if literals <= MOST {
+        return None;
     }
+    let more = (MOST - first) / each;
+    Some(Limit {
+        steps: more as u32 + 1,
+        literals: Some(literals),
+    })
 }
 
-/// A number of steps below one whose clauses are too many: the clauses for it are few, and those for one more are not;
-/// 0 where those for 1 are not.
-fn greatest_below(
+/// The limit for so many steps, unless they can be asked for.
+pub(crate) fn limit_for(
     alloc: Global,
     interlocking: &Interlocking,
     kind: SearchKind,
     steps: u32,
-) -> Result<u32, AllocError>
+) -> Result<Option<Limit>, AllocError>
     requires at_least_one { 1 ≤ steps }
     requires at_most_256 { steps ≤ 256 }
-    requires too_many { on interlocking.now (Exceeds kind) steps }
-    ensures greatest { IfOk result (λ few. on interlocking.now (IsGreatest kind) few) }
-    ensures few { IfOk result (λ few. few ≤ 255) }
+    ensures { IfOk result (λ limit. on interlocking.now (IsLimitFor kind) steps limit) }
 {
-    let mut few = 0;
-    let mut many = steps;
-    'half: while many - few > 1 {
-        let middle = few + (many - few) / 2;
-        if fits(alloc, interlocking, kind, middle)? {
-            few = middle;
-        } else {
-            many = middle;
-        }
-    }
-    Ok(few)
-}
-
-/// The same, where the clauses for these steps are too many.
-pub(crate) fn greatest(
-    alloc: Global,
-    interlocking: &Interlocking,
-    kind: SearchKind,
-    steps: u32,
-) -> Result<Option<u32>, AllocError>
-    requires at_least_one { 1 ≤ steps }
-    requires at_most_256 { steps ≤ 256 }
-    ensures greatest { IfOk result (λ few. on interlocking.now (IsGreatestBelow kind) steps few) }
-    ensures few { IfOk result (λ few. IfSome few (λ n. n ≤ 255)) }
-{
-    if fits(alloc, interlocking, kind, steps)? {
+    let Some(first) = count_if_few(alloc, interlocking, kind, 1)? else {
+        return Ok(Some(Limit {
+            steps: 0,
+            literals: None,
+        }));
+    };
+    if steps == 1 {
         return Ok(None);
     }
-    let few = greatest_below(alloc, interlocking, kind, steps)?;
-    Ok(Some(few))
+    let Some(second) = count_if_few(alloc, interlocking, kind, 2)? else {
+        return Ok(Some(Limit {
+            steps: 1,
+            literals: None,
+        }));
+    };
+    Ok(even_limit(first, second - first, steps))
 }

@@ -1,12 +1,13 @@
 //! The lines on how many steps can be asked for.
 
-ghost use Rattle.std.specs.Prelude.{◌≡◌, ◌≤◌, IfOk, IfSome, OnOk};
+ghost use Rattle.std.specs.Prelude.{◌≡◌, ◌≤◌, IfOk, OnOk};
 ghost use Rattle.interlocking.specs.Plans.{on};
 ghost use Rattle.rail_text.specs.Added.{AddsLines, AddsText};
 ghost use Rattle.rail_outside.specs.Lines.{lines_of};
-ghost use Rattle.limit_words.specs.Lines.{AreLimitLines, few_lines, kind_text, limit_line};
+ghost use Rattle.limit_words.specs.Lines.{AreLimitLines, excess_text, kind_text, limit_line, limits_said};
 
-use crate::greatest::{SearchKind, greatest};
+use crate::greatest::{Limit, limit_for};
+use crate::kind::SearchKind;
 use interlocking::Interlocking;
 use rail_text::put_number;
 use std::alloc::{AllocError, Global};
@@ -21,33 +22,57 @@ fn put_kind(text: &mut Vec<u8>, kind: SearchKind) -> Result<(), AllocError>
     }
 }
 
-/// How many steps can be asked for.
-fn limit_line(alloc: Global, kind: SearchKind, few: u32) -> Result<Vec<u8>, AllocError>
-    requires { few ≤ 255 }
-    ensures { IfOk result (λ line. line.items ≡ limit_line kind few) }
+/// Appends which clauses have too many literals.
+fn put_excess(text: &mut Vec<u8>, steps: u32, limit: Limit) -> Result<(), AllocError>
+    ensures { OnOk result (AddsText text.old text.new (excess_text steps limit)) }
+{
+    let more = u64::from(limit.steps) + 1;
+    match limit.literals {
+        Some(literals) => {
+            put_number(text, u64::from(steps))?;
+            text.extend_from_slice(b" have ")?;
+            put_number(text, literals)?;
+            text.extend_from_slice(b" literals, and for ")?;
+            put_number(text, more)?;
+            text.extend_from_slice(b" more than 16000000\n")
+        }
+        None => {
+            put_number(text, more)?;
+            text.extend_from_slice(b" have more than 16000000 literals\n")
+        }
+    }
+}
+
+/// How many steps can be asked for, where so many were.
+fn limit_line(
+    alloc: Global,
+    kind: SearchKind,
+    steps: u32,
+    limit: Limit,
+) -> Result<Vec<u8>, AllocError>
+    ensures { IfOk result (λ line. line.items ≡ limit_line kind steps limit) }
 {
     let mut line = Vec::new(alloc);
     put_kind(&mut line, kind)?;
     line.extend_from_slice(b" at most ")?;
-    put_number(&mut line, u64::from(few))?;
+    put_number(&mut line, u64::from(limit.steps))?;
     line.extend_from_slice(b" steps can be asked for: the clauses for ")?;
-    put_number(&mut line, u64::from(few) + 1)?;
-    line.extend_from_slice(b" have more than 16000000 literals\n")?;
+    put_excess(&mut line, steps, limit)?;
     Ok(line)
 }
 
 /// Appends that line, where fewer can.
-fn push_few(
+fn push_limit(
     alloc: Global,
     kind: SearchKind,
-    few: Option<u32>,
+    steps: u32,
+    limit: Option<Limit>,
     lines: &mut Vec<Vec<u8>>,
 ) -> Result<(), AllocError>
-    requires { IfSome few (λ n. n ≤ 255) }
-    ensures { OnOk result (AddsLines lines.old lines.new (few_lines kind few)) }
+    ensures { OnOk result (AddsLines lines.old lines.new (limits_said kind steps limit)) }
 {
-    if let Some(few) = few {
-        let line = limit_line(alloc, kind, few)?;
+    if let Some(limit) = limit {
+        let line = limit_line(alloc, kind, steps, limit)?;
         lines.push(line)?;
     }
     Ok(())
@@ -63,10 +88,10 @@ pub fn limit_lines(
     requires at_most_256 { steps ≤ 256 }
     ensures { IfOk result (λ lines. on interlocking.now AreLimitLines steps (lines_of lines.items)) }
 {
-    let plain = greatest(alloc, interlocking, SearchKind::Plain, steps)?;
-    let bounds = greatest(alloc, interlocking, SearchKind::Bounds, steps)?;
+    let plain = limit_for(alloc, interlocking, SearchKind::Plain, steps)?;
+    let bounds = limit_for(alloc, interlocking, SearchKind::Bounds, steps)?;
     let mut lines = Vec::new(alloc);
-    push_few(alloc, SearchKind::Plain, plain, &mut lines)?;
-    push_few(alloc, SearchKind::Bounds, bounds, &mut lines)?;
+    push_limit(alloc, SearchKind::Plain, steps, plain, &mut lines)?;
+    push_limit(alloc, SearchKind::Bounds, steps, bounds, &mut lines)?;
     Ok(lines)
 }

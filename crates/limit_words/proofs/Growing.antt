@@ -1,0 +1,215 @@
+-- The clauses grow evenly: family by family.
+use Rattle.std.proofs.Common.{◌≡◌, ℕ, suc, ◌+◌, ◌-◌, Bool, true, false, if◌then◌else◌, List, [], ◌∷◌, ◌++◌, map, filter, flat_map, length, sum_by, refl, ap, ◌∙◌, arith, length-append}
+use Rattle.rail_base.specs.declared.station.Station.{Station}
+use Rattle.rail_base.specs.declared.station.TrainNo.{TrainNo}
+use Rattle.rail_base.specs.declared.route.Route.{Route}
+use Rattle.rail_base.specs.declared.route.RouteNo.{RouteNo}
+use Rattle.rail_base.specs.declared.route.Start.{Start}
+use Rattle.rail_base.specs.declared.route.Start.TheVariants as start
+use Rattle.rail_base.specs.declared.plan.Command.{Command}
+use Rattle.rail_base.specs.Numbering.{one_to, entry}
+use Rattle.rail_base.specs.Stations.{trains, train_of, first_visit}
+use Rattle.rail_base.proofs.Lists.{length-map}
+use Rattle.rail_spec.specs.Plans.{route_at, has_node, route_numbers, all_commands}
+use Rattle.clause_spec.specs.Variables.{Given, Before, By, Literal, yes, no, if_given, pairs, numbered}
+use Rattle.clause_spec.specs.Clauses.{Clause, all_given, base_clauses, chains, clauses, clearing, exclude, excluded, first_pairs, in_order, later_pairs, leading_to, literals, makes_visits, may_visit, not_at_once, not_both, onward, start_clause, starts_rightly, stays_given, visited, wait_clause, waits}
+use Rattle.clause_spec.proofs.Few.{literals_told}
+use Rattle.alike_clause_spec.specs.Turns.{begun_always, beginnings, has_begun, in_turn, turn_clauses}
+use Rattle.rail_alike.specs.Tests.{neighbors}
+use Rattle.limit_words.specs.Counts.{literal_count, GrowEvenly}
+use Rattle.limit_words.specs.declared.kind.SearchKind.{SearchKind}
+use Rattle.limit_words.specs.declared.kind.SearchKind.TheVariants.{Plain, Bounds}
+use Rattle.limit_words.proofs.Even.{Even, even_like, even_still, even_both, even_steps, even_fewer, even_append, even_each, evenly, same_sums, literals-map, literals-append, literals-cons, literals-flat_map}
+
+-- for each step from the second on one literal says that a command is given by the step before
+given_before : (c : Command) (i : ℕ) → length (if_given c (suc (suc i) - 1)) ≡ 1
+given_before c i = let e : suc (suc i) - 1 ≡ suc i = omega arith in ap (λ k. length (if_given c k)) e
+
+-- so of each of these routes
+each_given : (t : TrainNo) (qs : List RouteNo) (i : ℕ) → length (flat_map (λ q. if_given (record { train = t; route = q }) (suc i)) qs) ≡ length qs
+each_given t [] i = refl
+each_given t (q ∷ qs) i = ap suc (each_given t qs i)
+
+-- a clause that there is or is not
+never : (c : Command) (i : ℕ) (b : Bool) → literals (if b then [] else (no (Given c i) ∷ []) ∷ []) ≡ (if b then 0 else 1)
+never c i true = refl
+never c i false = refl
+
+module _ (d : Station) (routes : List Route) where
+  stays : (c : Command) → Even (λ n. literals (stays_given d routes n c))
+  stays c =
+      even_like (λ n. sum_by (λ i. 2) (one_to (n - 1))) (λ n. literals (stays_given d routes n c))
+      (λ n. literals-map (λ i. no (Given c i) ∷ yes (Given c (i + 1)) ∷ []) (one_to (n - 1)))
+      (even_fewer (λ i. 2) 2 (λ i. refl))
+
+  -- the routes that lead to a start
+  abbrev led_by : Command → Start → ℕ → Clause
+  led_by c s i = no (Given c i) ∷ flat_map (λ q. if_given (record { train = c.train; route = q }) (i - 1)) (leading_to routes s)
+
+  led_is : (c : Command) (s : Start) (i : ℕ) → literals (led_by c s (suc (suc i)) ∷ []) ≡ suc (length (leading_to routes s))
+  led_is c s i =
+      let all = literals-cons (led_by c s (suc (suc i))) [] in
+      let before : suc (suc i) - 1 ≡ suc i = omega arith in
+      let one : length (led_by c s (suc (suc i))) ≡ suc (length (leading_to routes s)) =
+      ap (λ k. suc (length (flat_map (λ q. if_given (record { train = c.train; route = q }) k) (leading_to routes s)))) before
+      ∙ ap suc (each_given c.train (leading_to routes s) i) in
+      omega arith
+
+  starts_even : (c : Command) (s : Start) → Even (λ n. literals (flat_map (start_clause d routes n c s) (one_to n)))
+  starts_even c (start.Boundary m) =
+      let there = has_node (first_visit (train_of d c.train)) m in
+      even_like (λ n. sum_by (λ i. if there then 0 else 1) (one_to n)) (λ n. literals (flat_map (start_clause d routes n c (start.Boundary m)) (one_to n)))
+      (λ n. literals-flat_map (start_clause d routes n c (start.Boundary m)) (one_to n) ∙ same_sums (λ i. literals (start_clause d routes n c (start.Boundary m) i)) (λ i. if there then 0 else 1) (one_to n) (λ i. never c i there))
+      (even_steps (λ i. if there then 0 else 1) (if there then 0 else 1) (λ i. refl))
+  starts_even c (start.Signal s) =
+      even_like (λ n. sum_by (λ i. literals (led_by c (start.Signal s) i ∷ [])) (one_to n)) (λ n. literals (flat_map (start_clause d routes n c (start.Signal s)) (one_to n)))
+      (λ n. literals-flat_map (start_clause d routes n c (start.Signal s)) (one_to n))
+      (even_steps (λ i. literals (led_by c (start.Signal s) i ∷ [])) (suc (length (leading_to routes (start.Signal s)))) (led_is c (start.Signal s)))
+
+  starts : (c : Command) → Even (λ n. literals (starts_rightly d routes n c))
+  starts c = starts_even c (route_at routes c.route).start
+
+  apart : (t : TrainNo) → Even (λ n. literals (excluded d routes n t))
+  apart t =
+      let excluding : List (RouteNo × RouteNo) = filter (λ p. exclude (route_at routes p.0) (route_at routes p.1)) (later_pairs (route_numbers routes)) in
+      even_still (λ n. literals (excluded d routes n t)) (sum_by (λ p. 2) excluding) (λ n. literals-map (not_both d routes n t) excluding)
+
+  -- not both are new in one step
+  abbrev once : Command × Command → ℕ → Clause
+  once p i = no (Given p.0 i) ∷ if_given p.0 (i - 1) ++ no (Given p.1 i) ∷ if_given p.1 (i - 1)
+
+  once_is : (p : Command × Command) (i : ℕ) → length (once p (suc (suc i))) ≡ 4
+  once_is p i =
+      let before : suc (suc i) - 1 ≡ suc i = omega arith in
+      ap (λ k. length (no (Given p.0 (suc (suc i))) ∷ if_given p.0 k ++ no (Given p.1 (suc (suc i))) ∷ if_given p.1 k)) before
+
+  at_once : (p : Command × Command) → Even (λ n. literals (not_at_once d routes n p))
+  at_once p =
+      even_like (λ n. sum_by (λ i. length (once p i)) (one_to n)) (λ n. literals (not_at_once d routes n p)) (λ n. literals-map (once p) (one_to n))
+      (even_steps (λ i. length (once p i)) 4 (once_is p))
+
+  -- how many literals a command has that waits at a chain
+  abbrev waiting : List RouteNo × RouteNo → ℕ
+  waiting chain = length chain.0 + (2 + length (onward routes chain.0 chain.1))
+
+  wait_is : (e c : Command) (chain : List RouteNo × RouteNo) (n i : ℕ) → length (wait_clause d routes n e c chain i) ≡ waiting chain
+  wait_is e c chain n i =
+      let given : RouteNo → Literal = λ w. yes (Given (record { train = e.train; route = w }) i) in
+      let not_given : RouteNo → Literal = λ w. no (Given (record { train = e.train; route = w }) i) in
+      let more : List Literal = no (Given c (i + 1)) ∷ yes (Given c i) ∷ map given (onward routes chain.0 chain.1) in
+      let all = length-append (map not_given chain.0) more in
+      let one = length-map not_given chain.0 in
+      let further = length-map given (onward routes chain.0 chain.1) in
+      omega arith
+
+  waits_once : (e c : Command) (chain : List RouteNo × RouteNo) → Even (λ n. literals (map (wait_clause d routes n e c chain) (one_to (n - 1))))
+  waits_once e c chain =
+      even_like (λ n. sum_by (λ i. waiting chain) (one_to (n - 1))) (λ n. literals (map (wait_clause d routes n e c chain) (one_to (n - 1))))
+      (λ n. literals-map (wait_clause d routes n e c chain) (one_to (n - 1)) ∙ same_sums (λ i. length (wait_clause d routes n e c chain i)) (λ i. waiting chain) (one_to (n - 1)) (wait_is e c chain n))
+      (even_fewer (λ i. waiting chain) (waiting chain) (λ i. refl))
+
+  waits_even : (p : Command × Command) → Even (λ n. literals (waits d routes n p))
+  waits_even p =
+      even_each (λ n chain. map (wait_clause d routes n p.0 p.1 chain) (one_to (n - 1))) (chains routes (length routes) (clearing d routes 1 p.0 p.1) [] p.0.route) (waits_once p.0 p.1)
+
+  visits_even : (t : TrainNo) → Even (λ n. literals (makes_visits d routes n t))
+  visits_even t =
+      let visits : List ℕ = one_to (length (train_of d t).visits) in
+      let rs : ℕ → List RouteNo = λ k. filter (may_visit d routes 1 k (entry [] (train_of d t).visits k)) (route_numbers routes) in
+      even_still (λ n. literals (makes_visits d routes n t)) (sum_by (λ k. length (rs k)) visits)
+      (λ n. literals-map (visited d routes n t) visits ∙ same_sums (λ k. length (visited d routes n t k)) (λ k. length (rs k)) visits (λ k. length-map (λ r. yes (Given (record { train = t; route = r }) n)) (rs k)))
+
+  -- where the first is before the second, it is given by the step before
+  abbrev earlier : Command × Command → ℕ → Clause
+  earlier p i = no (Before p.0 p.1) ∷ no (Given p.1 i) ∷ if_given p.0 (i - 1)
+
+  earlier_is : (p : Command × Command) (i : ℕ) → length (earlier p (suc (suc i))) ≡ 3
+  earlier_is p i = ap (λ k. suc (suc k)) (given_before p.0 i)
+
+  orders_even : (p : Command × Command) → Even (λ n. literals (in_order d routes n p))
+  orders_even p =
+      even_like (λ n. 2 + sum_by (λ i. length (earlier p i)) (one_to n) + sum_by (λ i. 4) (one_to (n - 1))) (λ n. literals (in_order d routes n p)) is
+      (even_both (λ n. 2 + sum_by (λ i. length (earlier p i)) (one_to n)) (λ n. sum_by (λ i. 4) (one_to (n - 1)))
+      (even_both (λ n. 2) (λ n. sum_by (λ i. length (earlier p i)) (one_to n)) (even_still (λ n. 2) 2 (λ n. refl)) (even_steps (λ i. length (earlier p i)) 3 (earlier_is p)))
+      (even_fewer (λ i. 4) 4 (λ i. refl)))
+    where
+      is : (n : ℕ) → literals (in_order d routes n p) ≡ 2 + sum_by (λ i. length (earlier p i)) (one_to n) + sum_by (λ i. 4) (one_to (n - 1))
+      is n =
+          let one : Clause = no (Before p.0 p.1) ∷ yes (Given p.1 n) ∷ [] in
+          let later : ℕ → Clause = λ i. yes (Before p.0 p.1) ∷ no (Given p.0 i) ∷ yes (Given p.1 i) ∷ no (Given p.1 n) ∷ [] in
+          let all = literals-append (one ∷ map (earlier p) (one_to n)) (map later (one_to (n - 1))) in
+          let first = literals-cons one (map (earlier p) (one_to n)) in
+          let second = literals-map (earlier p) (one_to n) in
+          let third = literals-map later (one_to (n - 1)) in
+          omega arith
+
+  all_by_steps : Even (λ n. literals (flat_map (all_given d routes n) (one_to (n - 1))))
+  all_by_steps =
+      let all : ℕ = sum_by (λ c. 3) (all_commands d routes) in
+      even_like (λ n. sum_by (λ k. all) (one_to (n - 1))) (λ n. literals (flat_map (all_given d routes n) (one_to (n - 1))))
+      (λ n. literals-flat_map (all_given d routes n) (one_to (n - 1))
+      ∙ same_sums (λ k. literals (all_given d routes n k)) (λ k. all) (one_to (n - 1)) (λ k. literals-map (λ c. no (By k) ∷ no (Given c n) ∷ yes (Given c k) ∷ []) (all_commands d routes)))
+      (even_fewer (λ k. all) all (λ k. refl))
+
+  -- ---- all of them
+
+  abbrev alone : ℕ → List Clause
+  alone n = flat_map (stays_given d routes n) (all_commands d routes) ++ flat_map (starts_rightly d routes n) (all_commands d routes) ++ flat_map (excluded d routes n) (trains d)
+
+  abbrev together : ℕ → List Clause
+  together n = alone n ++ flat_map (not_at_once d routes n) (first_pairs d routes n) ++ flat_map (waits d routes n) (pairs d routes)
+
+  alone_even : Even (λ n. literals (alone n))
+  alone_even =
+      even_append (λ n. flat_map (stays_given d routes n) (all_commands d routes) ++ flat_map (starts_rightly d routes n) (all_commands d routes)) (λ n. flat_map (excluded d routes n) (trains d))
+      (even_append (λ n. flat_map (stays_given d routes n) (all_commands d routes)) (λ n. flat_map (starts_rightly d routes n) (all_commands d routes))
+      (even_each (stays_given d routes) (all_commands d routes) stays)
+      (even_each (starts_rightly d routes) (all_commands d routes) starts))
+      (even_each (excluded d routes) (trains d) apart)
+
+  together_even : Even (λ n. literals (together n))
+  together_even =
+      even_append (λ n. alone n ++ flat_map (not_at_once d routes n) (first_pairs d routes n)) (λ n. flat_map (waits d routes n) (pairs d routes))
+      (even_append alone (λ n. flat_map (not_at_once d routes n) (first_pairs d routes n)) alone_even
+      (even_each (not_at_once d routes) (first_pairs d routes 1) at_once))
+      (even_each (waits d routes) (pairs d routes) waits_even)
+
+  clauses_even : Even (λ n. literals (clauses d routes n))
+  clauses_even =
+      even_append (λ n. together n ++ flat_map (makes_visits d routes n) (trains d) ++ flat_map (in_order d routes n) (pairs d routes)) (λ n. flat_map (all_given d routes n) (one_to (n - 1)))
+      (even_append (λ n. together n ++ flat_map (makes_visits d routes n) (trains d)) (λ n. flat_map (in_order d routes n) (pairs d routes))
+      (even_append together (λ n. flat_map (makes_visits d routes n) (trains d)) together_even
+      (even_each (makes_visits d routes) (trains d) visits_even))
+      (even_each (in_order d routes) (pairs d routes) orders_even))
+      all_by_steps
+
+  base_even : Even (λ n. literals (base_clauses d routes n))
+  base_even =
+      even_like (λ n. literals (clauses d routes n)) (λ n. literals (base_clauses d routes n)) (λ n. literals_told (numbered d routes n) (clauses d routes n)) clauses_even
+
+  -- ---- and those of trains that come in turn
+
+  begun_is : (p : TrainNo × TrainNo) (q : RouteNo) (n i : ℕ) → length (has_begun d routes n p q i) ≡ suc (length (beginnings d routes 1 p.0))
+  begun_is p q n i = ap suc (length-map (λ r. yes (Given (record { train = p.0; route = r }) i)) (beginnings d routes n p.0))
+
+  begun_even : (p : TrainNo × TrainNo) (q : RouteNo) → Even (λ n. literals (begun_always d routes n p q))
+  begun_even p q =
+      let each : ℕ = suc (length (beginnings d routes 1 p.0)) in
+      even_like (λ n. sum_by (λ i. each) (one_to n)) (λ n. literals (begun_always d routes n p q))
+      (λ n. literals-map (has_begun d routes n p q) (one_to n) ∙ same_sums (λ i. length (has_begun d routes n p q i)) (λ i. each) (one_to n) (begun_is p q n))
+      (even_steps (λ i. each) each (λ i. refl))
+
+  turn_even : (p : TrainNo × TrainNo) → Even (λ n. literals (in_turn d routes n p))
+  turn_even p = even_each (λ n q. begun_always d routes n p q) (beginnings d routes 1 p.1) (begun_even p)
+
+  turns_even : (pairs : List (TrainNo × TrainNo)) → Even (λ n. literals (turn_clauses d routes n pairs))
+  turns_even pairs =
+      even_like (λ n. literals (flat_map (in_turn d routes n) pairs)) (λ n. literals (turn_clauses d routes n pairs)) (λ n. literals_told (numbered d routes n) (flat_map (in_turn d routes n) pairs))
+      (even_each (in_turn d routes) pairs turn_even)
+
+  count_even : (kind : SearchKind) → Even (literal_count kind d routes)
+  count_even Plain = base_even
+  count_even Bounds = even_append (base_clauses d routes) (λ n. turn_clauses d routes n (neighbors d)) base_even (turns_even (neighbors d))
+
+pub grow_evenly : (kind : SearchKind) (d : Station) (routes : List Route) → GrowEvenly kind d routes
+grow_evenly kind d routes = evenly (literal_count kind d routes) (count_even d routes kind)
