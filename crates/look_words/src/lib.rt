@@ -3,9 +3,11 @@
 #![tactic(auto)]
 
 mod ends;
+mod entries;
 mod looks;
 mod sections;
 
 pub use ends::push_dead_ends;
+pub use entries::push_open_entries;
 pub use looks::push_looks;
 pub use sections::push_slipped_sections;

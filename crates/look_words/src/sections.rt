@@ -4,7 +4,7 @@ ghost use Rattle.std.specs.Prelude.{◌≡◌, filter, length, option_map, IfOk,
 ghost use Rattle.std.specs.List.{find, flat_map};
 ghost use Rattle.rail_base.specs.Numbering.{one_to};
 ghost use Rattle.rail_text.specs.Added.{AddsLines};
-ghost use Rattle.look_words.specs.Sections.{differ_in_one, is_lone, name_of, near, section_looks, slip_line};
+ghost use Rattle.look_words.specs.Sections.{differ_in_one, is_letter, is_lone, name_of, near, section_looks, slip_line};
 ghost use Rattle.look_words.specs.Sections.{slipped_sections, slips};
 
 use rail_base::design::Design;
@@ -13,19 +13,28 @@ use rail_base::names::entry;
 use rail_base::station::Edge;
 use std::alloc::{AllocError, Global};
 
+/// Whether a byte is no digit.
+fn is_letter(byte: u8) -> bool
+    ensures { result ≡ is_letter byte }
+{
+    byte < b'0' || byte > b'9'
+}
+
 /// Whether two names differ in one letter.
 fn differ_in_one(one: &[u8], other: &[u8]) -> bool
     ensures { result ≡ differ_in_one one.now other.now }
 {
     match (one, other) {
         ([], []) => false,
-        ([], [_, rest @ ..]) => rest.is_empty(),
-        ([_, rest @ ..], []) => rest.is_empty(),
+        ([], [y, rest @ ..]) => is_letter(*y) && rest.is_empty(),
+        ([x, rest @ ..], []) => is_letter(*x) && rest.is_empty(),
         ([x, xs @ ..], [y, ys @ ..]) => {
             if x == y {
                 differ_in_one(xs, ys)
             } else {
-                xs == ys || one == ys || xs == other
+                is_letter(*x) && is_letter(*y) && xs == ys
+                    || is_letter(*y) && one == ys
+                    || is_letter(*x) && xs == other
             }
         }
     }
