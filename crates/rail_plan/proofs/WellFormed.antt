@@ -64,7 +64,7 @@ all_both p q (x ∷ xs) = ap (λ b. (p x && q x) && b) (all_both p q xs) ∙ swa
     swap a b c e = grind arith
 
 -- the path with one more route is a path where it was one and the route may follow
-path_more : (t : Train) (rs : List Route) (r : Route) → is_path t (rs ++ r ∷ []) ≡ (is_path t rs && may_follow t rs r)
+pub path_more : (t : Train) (rs : List Route) (r : Route) → is_path t (rs ++ r ∷ []) ≡ (is_path t rs && may_follow t rs r)
 path_more t [] r = one (begins_in (first_visit t) (r ∷ []))
   where
     one : (b : Bool) → (((b && true) && true) && true) ≡ (b && true)

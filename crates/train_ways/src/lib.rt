@@ -9,3 +9,4 @@ mod visits;
 mod ways;
 
 pub use onward::OnwardRoutes;
+pub use visits::made_behind;

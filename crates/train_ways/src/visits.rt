@@ -10,7 +10,7 @@ use rail_base::route::Route;
 use rail_base::station::NodeNo;
 
 /// How many visits are made after a route, where so many are made at its start or before.
-pub(crate) fn made_behind(visits: &[List<NodeNo>], route: &Route, before: usize) -> usize
+pub fn made_behind(visits: &[List<NodeNo>], route: &Route, before: usize) -> usize
     requires { before ≤ length visits.now }
     ensures made { result ≡ made_behind visits.now route.now before }
     ensures within { result ≤ length visits.now }

@@ -7,6 +7,7 @@ use Rattle.design_table.specs.Toml.{toml_of}
 use Rattle.infra_reader.specs.Design.{design_of}
 use Rattle.limit_words.specs.Lines.{AreLimitLines}
 use Rattle.look_words.specs.Ends.{dead_ends}
+use Rattle.look_words.specs.Entries.{open_entries}
 use Rattle.look_words.specs.Looks.{looks}
 use Rattle.look_words.specs.Sections.{slipped_sections}
 use Rattle.named_files.specs.Replies.{Answers}
@@ -18,6 +19,7 @@ use Rattle.rail_cli.specs.Answers.{ReplySeen, and_then, with_clauses, with_route
 use Rattle.rail_cli.specs.Texts.{design_refused_line}
 use Rattle.rail_spec.specs.Track.{routes_of}
 use Rattle.refused_words.specs.Faults.{IsFaultSaid}
+use Rattle.time_words.specs.Times.{AreLeastLines}
 use Rattle.way_words.specs.Ways.{AreWayLines}
 
 -- a design that is refused: that line, where its fault stands, and what is wrong there
@@ -27,12 +29,19 @@ pub record IsRefusalSaid (text : List ℕ) (code : Code) (place : Place) (a : Re
   pub is_said : IsFaultSaid text (toml_of text) code place more
   pub lines : a.lines ≡ design_refused_line code place ∷ more
 
--- a design that is not: what it asks for, what the ways of its trains say, and what to look at
+-- what a designer should look at
+abbrev pub looks_at : Station → List (List ℕ)
+looks_at d =
+    looks d ++ (dead_ends d (routes_of d) ++ (open_entries d (routes_of d) ++ slipped_sections d))
+
+-- a design that is not: what it asks for, what the ways of its trains say, how quick they are alone, and what to look at
 pub record IsDesignSaid (d : Station) (a : ReplySeen) : Type 0 where
   pub status : a.status ≡ Done
   pub ways : List (List ℕ)
   pub are_ways : AreWayLines d (routes_of d) ways
-  pub lines : a.lines ≡ asked_lines d (length (routes_of d)) ++ (ways ++ (looks d ++ (dead_ends d (routes_of d) ++ slipped_sections d)))
+  pub times : List (List ℕ)
+  pub are_times : AreLeastLines d (routes_of d) times
+  pub lines : a.lines ≡ asked_lines d (length (routes_of d)) ++ (ways ++ (times ++ looks_at d))
 
 -- a design whose clauses are too many for n steps: that line, and how many steps can be asked for
 pub record IsTooLargeSaid (n : ℕ) (d : Station) (refusal a : ReplySeen) : Type 0 where

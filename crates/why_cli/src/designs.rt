@@ -9,10 +9,11 @@ use asked_words::push_asked;
 use design_table::{Code, DesignFault, Place};
 use interlocking::{Interlocking, Steps};
 use limit_words::limit_lines;
-use look_words::{push_dead_ends, push_looks, push_slipped_sections};
+use look_words::{push_dead_ends, push_looks, push_open_entries, push_slipped_sections};
 use rail_cli::{Ending, Reply, Status, admit_design, design_refused, encode};
 use refused_words::fault_lines;
 use std::alloc::{AllocError, Global};
+use time_words::push_least_times;
 use way_words::push_ways;
 
 /// What is said of a design that is refused with this code at this place.
@@ -33,8 +34,10 @@ fn design_said(alloc: Global, interlocking: &Interlocking) -> Result<Reply, Allo
     let routes = interlocking.routes.len() as u64;
     push_asked(alloc, &interlocking.design, routes, &mut lines)?;
     push_ways(alloc, interlocking, &mut lines)?;
+    push_least_times(alloc, interlocking, &mut lines)?;
     push_looks(alloc, &interlocking.design, &mut lines)?;
     push_dead_ends(alloc, interlocking, &mut lines)?;
+    push_open_entries(alloc, interlocking, &mut lines)?;
     push_slipped_sections(alloc, &interlocking.design, &mut lines)?;
     Ok(Reply {
         status: Status::Done,

@@ -1,0 +1,3 @@
+-- The ways that a plan can give a train.
+pub mod Paths
+pub mod Visits

@@ -1,0 +1,3 @@
+-- Lines on greatest times, one after another.
+pub mod Lining
+pub mod Numbering

@@ -1,0 +1,3 @@
+-- How quick trains can be, in words.
+pub mod Numbers
+pub mod Times

@@ -1,0 +1,2 @@
+-- How long a train takes with nothing in its way.
+pub mod Times
