@@ -1,17 +1,22 @@
--- Replies, one reading after the other.
-use Rattle.std.proofs.Common.{◌≡◌, ℕ, List, [], Option, Some, None, Result, Ok, Err, refl, sym, ap, ap₂, ◌∙◌, subst}
-use Rattle.std.specs.Prelude.{codes}
-use Rattle.clap.specs.Words.{Text}
-use Rattle.rail_words.specs.Requests.{request_of}
+-- Replies, one reading after the other, and what is printed of them.
+use Rattle.std.proofs.Common.{◌≡◌, ℕ, List, [], Option, Some, None, Result, Ok, Err, refl, sym, subst}
+use Rattle.named_files.specs.declared.unmade.Unmade.{Unmade}
+use Rattle.named_files.specs.Replies.{Answers, Makes, RepliesFor, RepliesOf, unmade_of}
+use Rattle.named_files.proofs.Printing.{alone}
 use Rattle.rail_cli.specs.declared.reply.Reply.{Reply}
 use Rattle.rail_cli.specs.declared.ending.Ending.{Ending}
 use Rattle.rail_cli.specs.declared.ending.Ending.TheVariants as ending
+use Rattle.rail_cli.specs.declared.status.Status.{Status}
 use Rattle.rail_cli.specs.Answers.{ReplySeen}
 use Rattle.rail_cli.specs.Replies.{OnReply, ReadsOrEnds, reply_seen}
+use Rattle.rail_outside.specs.Asks.{Ask}
 use Rattle.rail_outside.specs.Files.{Files}
-use Rattle.draw_cli.specs.Wanted.{Wanted, track, run, by_routes, by_simulate, words_with_command, or_else, wanted_of}
-use Rattle.draw_cli.specs.Answers.{Answers, IsAnswerGiven, IsAnswerTo, IsRunAnswer, IsTrackAnswer, usage}
-use Rattle.draw_cli.specs.Replies.{RepliesSome}
+use Rattle.rail_outside.specs.Growth.{GrowsByPrefix}
+use Rattle.draw_cli.specs.Wanted.{Wanted, track, run}
+use Rattle.draw_cli.specs.Answers.{IsAnswerTo, IsRunAnswer, IsTrackAnswer, asks_to, design_name, plan_name}
+use Rattle.draw_cli.specs.Replies.{PrintsAnswer, PrintsUsage}
+
+-- ---- the text of a file
 
 -- a reading that ends the work
 refused_here : {X Y : Type 0} (view : X → Y) (e : Ending) (reading : Result Y ReplySeen) (right : Y → ReplySeen → Type 0) → ReadsOrEnds view (Err e) reading → OnReply (Err e) (λ reply. Answers reading right (reply_seen reply))
@@ -31,34 +36,32 @@ module _ (r : Result Reply Ending) where
   pub read_so : {Y : Type 0} (reading : Result Y ReplySeen) (y : Y) (right : Y → ReplySeen → Type 0) → reading ≡ Ok y → OnReply r (λ reply. right y (reply_seen reply)) → OnReply r (λ reply. Answers reading right (reply_seen reply))
   read_so {Y = Y} reading y right is h = subst (λ (q : Result Y ReplySeen). OnReply r (λ reply. Answers q right (reply_seen reply))) (sym is) h
 
-  pub wanting_some : (wanted : Option Wanted) → r ≡ Err ending.Memory → RepliesSome r wanted
-  wanting_some wanted is = record { design_bytes = []; plan_bytes = []; replies = wanting (λ reply. IsAnswerGiven [] [] wanted (reply_seen reply)) is }
+-- what an ending gives
+pub ending_makes : (right : ReplySeen → Type 0) (names : List (List ℕ)) (e : Ending) (r : Result Reply Unmade) → r ≡ Err (unmade_of e) → OnReply (Err e) (λ reply. right (reply_seen reply)) → Makes right names r
+ending_makes right names (ending.RefusedWith reply) r is h = subst (Makes right names) (sym is) h
+ending_makes right names ending.Memory r is h = subst (Makes right names) (sym is) tt
+ending_makes right names ending.ShelfFault r is h = subst (Makes right names) (sym is) tt
 
+-- ---- what is wanted
+
+module _ (known : Option Files) (w : Wanted) (r : Result Reply Unmade) where
+  pub track_replies : (design : List ℕ) → w ≡ track design → RepliesOf known design IsTrackAnswer r → RepliesFor known (design_name (Some w)) (plan_name (Some w)) (IsAnswerTo (Some w)) r
+  track_replies design is of = subst (λ (v : Wanted). RepliesFor known (design_name (Some v)) (plan_name (Some v)) (IsAnswerTo (Some v)) r) (sym is) (alone known design r IsTrackAnswer of)
+
+  pub run_replies : (design plan : List ℕ) → w ≡ run design plan → RepliesFor known (Some design) (Some plan) IsRunAnswer r → RepliesFor known (design_name (Some w)) (plan_name (Some w)) (IsAnswerTo (Some w)) r
+  run_replies design plan is h = subst (λ (v : Wanted). RepliesFor known (design_name (Some v)) (plan_name (Some v)) (IsAnswerTo (Some v)) r) (sym is) h
+
+-- ---- what is printed
+
+module _ (s : Status) (text new_text : Option (List ℕ)) (pieces new_pieces : Option (List (List ℕ))) where
   -- the words ask for this
-  pub asked : (files : Files) (wanted : Option Wanted) (w : Wanted) → wanted ≡ Some w → OnReply r (λ reply. IsAnswerTo files (Some w) (reply_seen reply)) → OnReply r (λ reply. IsAnswerTo files wanted (reply_seen reply))
-  asked files wanted w is h = subst (λ (a : Option Wanted). OnReply r (λ reply. IsAnswerTo files a (reply_seen reply))) (sym is) h
+  pub asked_for : (known : Option Files) (wanted asked : Option Wanted) → wanted ≡ asked → PrintsAnswer known asked s text new_text pieces new_pieces → PrintsAnswer known wanted s text new_text pieces new_pieces
+  asked_for known wanted asked is h = subst (λ (x : Option Wanted). PrintsAnswer known x s text new_text pieces new_pieces) (sym is) h
 
-  pub asked_some : (wanted : Option Wanted) (w : Wanted) → wanted ≡ Some w → RepliesSome r (Some w) → RepliesSome r wanted
-  asked_some wanted w is h = subst (RepliesSome r) (sym is) h
+  -- they ask for nothing
+  pub usage_for_none : (known : Option Files) (wanted : Option Wanted) → wanted ≡ None → PrintsUsage s text new_text pieces new_pieces → PrintsAnswer known wanted s text new_text pieces new_pieces
+  usage_for_none known wanted is h = asked_for known wanted None is (record { first_bytes = []; second_bytes = []; held = λ files told. (tt, tt); reports = h })
 
-  -- this is what is named
-  pub named_so : (files : Files) (w named : Wanted) → w ≡ named → OnReply r (λ reply. IsAnswerTo files (Some named) (reply_seen reply)) → OnReply r (λ reply. IsAnswerTo files (Some w) (reply_seen reply))
-  named_so files w named is h = asked files (Some w) named (ap Some is) h
-
-  pub track_some : (w : Wanted) (design : Text) → w ≡ track design → ((bytes : List ℕ) × OnReply r (λ reply. IsTrackAnswer bytes (reply_seen reply))) → RepliesSome r (Some w)
-  track_some w design is h = asked_some (Some w) (track design) (ap Some is) (record { design_bytes = h.0; plan_bytes = []; replies = h.1 })
-
-  pub run_some : (w : Wanted) (design plan : Text) → w ≡ run design plan → ((design_bytes : List ℕ) × (plan_bytes : List ℕ) × OnReply r (λ reply. IsRunAnswer design_bytes plan_bytes (reply_seen reply))) → RepliesSome r (Some w)
-  run_some w design plan is h = asked_some (Some w) (run design plan) (ap Some is) (record { design_bytes = h.0; plan_bytes = h.1; replies = h.2 })
-
--- what the words ask for, by those with a command
-pub asks_for : (words routes simulate : List (List ℕ)) (w : Option Wanted) → routes ≡ words_with_command (codes "routes") words → simulate ≡ words_with_command (codes "simulate") words
-    → or_else (by_routes (request_of routes)) (by_simulate (request_of simulate)) ≡ w → wanted_of words ≡ w
-asks_for words routes simulate w one other h = ap₂ (λ (a b : List (List ℕ)). or_else (by_routes (request_of a)) (by_simulate (request_of b))) (sym one) (sym other) ∙ h
-
--- they ask for nothing
-pub nothing : (reply : Reply) (files : Files) (wanted : Option Wanted) → wanted ≡ None → reply_seen reply ≡ usage → OnReply (Ok reply) (λ reply. IsAnswerTo files wanted (reply_seen reply))
-nothing reply files wanted is seen = subst (λ (w : Option Wanted). IsAnswerTo files w (reply_seen reply)) (sym is) seen
-
-pub nothing_some : (reply : Reply) (wanted : Option Wanted) → wanted ≡ None → reply_seen reply ≡ usage → RepliesSome (Ok reply) wanted
-nothing_some reply wanted is seen = record { design_bytes = []; plan_bytes = []; replies = subst (λ (w : Option Wanted). IsAnswerGiven [] [] w (reply_seen reply)) (sym is) seen }
+-- the calls of the shelf
+pub asked_grows : (wanted asked : Option Wanted) (old new : Option (List Ask)) → wanted ≡ asked → GrowsByPrefix old new (asks_to asked) → GrowsByPrefix old new (asks_to wanted)
+asked_grows wanted asked old new is h = subst (λ (x : Option Wanted). GrowsByPrefix old new (asks_to x)) (sym is) h

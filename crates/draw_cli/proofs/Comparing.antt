@@ -2,6 +2,7 @@
 use Rattle.std.proofs.Common.{◌≡◌, ◌≢◌, ℕ, true, false, List, Result, Ok, Err, refl, ap, sym, ◌∙◌, subst}
 use Rattle.drawing.proofs.Showing.{words_are_in_lines}
 use Rattle.infra_reader.specs.Design.{design_of}
+use Rattle.named_files.specs.Replies.{Answers}
 use Rattle.rail_base.specs.declared.station.Station.{Station}
 use Rattle.rail_base.specs.declared.plan.Command.{Command}
 use Rattle.rail_base.specs.declared.history.Verdict.{Verdict}
@@ -17,7 +18,7 @@ use Rattle.rail_cli.specs.Texts.{plan_refused_line}
 use Rattle.rail_cli.specs.Answers.{ReplySeen, one_line, within_limit, with_routes, and_then, design_in, plan_or_answer, plan_in, unless_refused, verdict_status, verdict_reply, planned, routes_answer}
 use Rattle.rail_cli.proofs.Passing.{passed, long_refuses, design_refuses}
 use Rattle.rail_cli.proofs.Refusing.{file_is}
-use Rattle.draw_cli.specs.Answers.{Answers, IsTrackDrawing, IsRunDrawing, TrackAnswers, PlanAnswers, RunAnswers}
+use Rattle.draw_cli.specs.Answers.{IsTrackDrawing, IsRunDrawing, TrackAnswers, PlanAnswers, RunAnswers, RunTextAnswers}
 use Rattle.draw_cli.specs.Laws.{RefusesAsRoutes, DrawsWhereRoutesAreListed, RefusesAsSimulate, DrawsWhereThereIsAVerdict, NamesAreDrawn}
 
 -- what is right for what is read
@@ -71,7 +72,7 @@ design_or : (plan_bytes : List ℕ) (q : Result Station ReplySeen) (a : ReplySee
 design_or plan_bytes (Ok d) a h none = plan_text_or d (within_limit file.Plan plan_bytes) a h none
 design_or plan_bytes (Err x) a h none = h
 
-design_text_or : (plan_bytes : List ℕ) (r : Result (List ℕ) ReplySeen) (a : ReplySeen) → Answers r (λ text b. Answers (design_in text) (RunAnswers plan_bytes) b) a
+design_text_or : (plan_bytes : List ℕ) (r : Result (List ℕ) ReplySeen) (a : ReplySeen) → Answers r (λ text. RunTextAnswers text plan_bytes) a
     → is_verdict (unless_refused r (λ text. unless_refused (design_in text) (simulated_over plan_bytes))).status ≡ false → a ≡ unless_refused r (λ text. unless_refused (design_in text) (simulated_over plan_bytes))
 design_text_or plan_bytes (Ok text) a h none = design_or plan_bytes (design_in text) a h none
 design_text_or plan_bytes (Err x) a h none = h
@@ -95,7 +96,7 @@ draws_where_there_is_a_verdict design_bytes plan_bytes a h verdict =
     let four = passed (plan_in d three.read) (λ plan. verdict_reply d (verdict_at_horizon d plan)) (plan_refuses d (plan_of d (routes_of d) three.read)) three.verdict in
     let text : design_bytes ≡ one.read = file_is file.Design design_bytes one.read one.is in
     let plan_text : plan_bytes ≡ three.read = file_is file.Plan plan_bytes three.read three.is in
-    let at_text = answers_at (within_limit file.Design design_bytes) one.read (λ t b. Answers (design_in t) (RunAnswers plan_bytes) b) a one.is h in
+    let at_text = answers_at (within_limit file.Design design_bytes) one.read (λ t. RunTextAnswers t plan_bytes) a one.is h in
     let at_design = answers_at (design_in one.read) d (RunAnswers plan_bytes) a two.is at_text in
     let at_plan = answers_at (within_limit file.Plan plan_bytes) three.read (PlanAnswers d) a three.is at_design in
     record {

@@ -1,4 +1,4 @@
 pub mod Answering
-pub mod Printing
+pub mod Stopping
 pub mod Comparing
 pub mod Using

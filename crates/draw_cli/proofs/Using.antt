@@ -1,6 +1,8 @@
 -- Which runs say how the program is used.
-use Rattle.std.proofs.Common.{◌≡◌, ℕ, true, false, List, ◌⊎◌, inl, inr, Option, Some, None, Result, Ok, Err, refl, ap, sym, ◌∙◌}
+use Rattle.std.proofs.Common.{◌≡◌, ℕ, true, List, Option, Some, None, Result, Ok, Err, refl, ap, sym, ◌∙◌}
 use Rattle.std.specs.Prelude.{◌↔◌}
+use Rattle.named_files.specs.Replies.{Answers, names_of}
+use Rattle.named_files.proofs.Printing.{answered}
 use Rattle.rail_base.specs.declared.station.Station.{Station}
 use Rattle.rail_cli.specs.declared.status.Status.{Status}
 use Rattle.rail_cli.specs.declared.status.Status.TheVariants.{Done, Usage}
@@ -8,9 +10,10 @@ use Rattle.rail_cli.specs.declared.input.InputFile.TheVariants as file
 use Rattle.rail_cli.specs.Statuses.{is_answered}
 use Rattle.rail_cli.specs.Answers.{ReplySeen, within_limit, design_in, plan_in}
 use Rattle.rail_cli.proofs.Using.{IsNoUsage, long_is_no_usage, design_is_no_usage, plan_is_no_usage}
+use Rattle.rail_outside.specs.Files.{Files}
 use Rattle.draw_cli.specs.Wanted.{Wanted, track, run}
-use Rattle.draw_cli.specs.Answers.{Answers, IsDrawing, IsTrackDrawing, IsRunDrawing, TrackAnswers, PlanAnswers, RunAnswers, IsAnswerGiven}
-use Rattle.draw_cli.specs.Replies.{PrintsSome, PrintsRight, PrintsNothing}
+use Rattle.draw_cli.specs.Answers.{IsDrawing, IsTrackDrawing, IsRunDrawing, TrackAnswers, PlanAnswers, RunAnswers, RunTextAnswers, IsAnswerTo, design_name, plan_name}
+use Rattle.draw_cli.specs.Replies.{PrintsAnswer}
 
 -- ---- answers of another status
 
@@ -31,31 +34,28 @@ plan_other d text a = right_other (plan_in d text) (IsRunDrawing d) a (plan_is_n
 run_other : (plan_bytes : List ℕ) (d : Station) (a : ReplySeen) → RunAnswers plan_bytes d a → a.status ≡ Usage → ⊥
 run_other plan_bytes d a = right_other (within_limit file.Plan plan_bytes) (PlanAnswers d) a (long_is_no_usage file.Plan plan_bytes) (λ text. plan_other d text a)
 
-given_other : (w : Wanted) (design_bytes plan_bytes : List ℕ) (a : ReplySeen) → IsAnswerGiven design_bytes plan_bytes (Some w) a → a.status ≡ Usage → ⊥
+given_other : (w : Wanted) (design_bytes plan_bytes : List ℕ) (a : ReplySeen) → IsAnswerTo (Some w) design_bytes plan_bytes a → a.status ≡ Usage → ⊥
 given_other (track design) design_bytes plan_bytes a =
     right_other (within_limit file.Design design_bytes) TrackAnswers a (long_is_no_usage file.Design design_bytes) (λ text. track_other text a)
 given_other (run design plan) design_bytes plan_bytes a =
-    right_other (within_limit file.Design design_bytes) (λ text b. Answers (design_in text) (RunAnswers plan_bytes) b) a (long_is_no_usage file.Design design_bytes)
+    right_other (within_limit file.Design design_bytes) (λ text. RunTextAnswers text plan_bytes) a (long_is_no_usage file.Design design_bytes)
     (λ text. right_other (design_in text) (RunAnswers plan_bytes) a (design_is_no_usage text) (λ d. run_other plan_bytes d a))
 
 -- ---- what is printed
 
-silent : (wanted : Option Wanted) (design_bytes plan_bytes : List ℕ) (a : ReplySeen) → IsAnswerGiven design_bytes plan_bytes wanted a → a.status ≡ Usage → wanted ≡ None
+silent : (wanted : Option Wanted) (design_bytes plan_bytes : List ℕ) (a : ReplySeen) → IsAnswerTo wanted design_bytes plan_bytes a → a.status ≡ Usage → wanted ≡ None
 silent None design_bytes plan_bytes a answers is = refl
 silent (Some w) design_bytes plan_bytes a answers is = absurd (given_other w design_bytes plan_bytes a answers is)
 
-used : (wanted : Option Wanted) (design_bytes plan_bytes : List ℕ) (a : ReplySeen) → wanted ≡ None → IsAnswerGiven design_bytes plan_bytes wanted a → a.status ≡ Usage
+used : (wanted : Option Wanted) (design_bytes plan_bytes : List ℕ) (a : ReplySeen) → wanted ≡ None → IsAnswerTo wanted design_bytes plan_bytes a → a.status ≡ Usage
 used None design_bytes plan_bytes a none answers = ap (λ (b : ReplySeen). b.status) answers
 used (Some w) design_bytes plan_bytes a none answers = absurd (cc)
 
-module _ (wanted : Option Wanted) (s : Status) (text new_text : Option (List ℕ)) (pieces new_pieces : Option (List (List ℕ))) where
+module _ (known : Option Files) (wanted : Option Wanted) (s : Status) (text new_text : Option (List ℕ)) (pieces new_pieces : Option (List (List ℕ))) where
   -- an answer was printed
-  pub usage_for : PrintsSome wanted s text new_text pieces new_pieces → is_answered s ≡ true → (s ≡ Usage) ↔ (wanted ≡ None)
-  usage_for p answered = go p.prints
-    where
-      go : PrintsRight (IsAnswerGiven p.design_bytes p.plan_bytes wanted) s text new_text pieces new_pieces ⊎ PrintsNothing s text new_text pieces new_pieces → (s ≡ Usage) ↔ (wanted ≡ None)
-      go (inl h) = (
-        λ is. silent wanted p.design_bytes p.plan_bytes h.answer h.is_right (sym (h.prints.status answered) ∙ is),
-        λ none. h.prints.status answered ∙ used wanted p.design_bytes p.plan_bytes h.answer none h.is_right,
+  pub usage_for : PrintsAnswer known wanted s text new_text pieces new_pieces → is_answered s ≡ true → (s ≡ Usage) ↔ (wanted ≡ None)
+  usage_for h is =
+      let p = answered s text new_text pieces new_pieces (IsAnswerTo wanted h.first_bytes h.second_bytes) (names_of (design_name wanted) (plan_name wanted)) h.reports is in (
+        λ usage. silent wanted h.first_bytes h.second_bytes p.answer p.is_right (sym (p.prints.status is) ∙ usage),
+        λ none. p.prints.status is ∙ used wanted h.first_bytes h.second_bytes p.answer none p.is_right,
       )
-      go (inr h) = let e : false ≡ true = sym h.unanswered ∙ answered in absurd (cc)

@@ -1,16 +1,16 @@
 -- The answers to what is wanted, for the files that are held: what `rcv` answers where it refuses a file, and else the
 -- status 0 and the lines of a drawing that shows each name.
-use Rattle.std.specs.Prelude.{◌≡◌, ℕ, ◌≤◌, List, [], ◌∷◌, length, codes, Option, Some, None, Result, Ok, Err}
+use Rattle.std.specs.Prelude.{◌≡◌, ℕ, ◌≤◌, List, length, codes, Option, Some, None}
 use Rattle.drawing.specs.declared.shape.Shape.{Shape}
 use Rattle.drawing.specs.Drawing.{IsDrawingOf, words_in}
+use Rattle.named_files.specs.Replies.{Answers, asks_for}
 use Rattle.rail_base.specs.declared.station.Station.{Station}
 use Rattle.rail_base.specs.declared.plan.Command.{Command}
 use Rattle.rail_cli.specs.declared.status.Status.TheVariants.{Done, Usage}
 use Rattle.rail_cli.specs.declared.input.InputFile.TheVariants as file
 use Rattle.rail_cli.specs.Answers.{ReplySeen, one_line, within_limit, design_in, plan_in}
 use Rattle.rail_cli.specs.Shows.{verdict_at_horizon}
-use Rattle.rail_outside.specs.Asks.{Ask, fetched}
-use Rattle.rail_outside.specs.Files.{Files}
+use Rattle.rail_outside.specs.Asks.{Ask}
 use Rattle.run_drawing.specs.Words.{run_size, run_words}
 use Rattle.track_drawing.specs.Words.{track_size, track_words}
 use Rattle.draw_cli.specs.Wanted.{Wanted, track, run}
@@ -43,11 +43,6 @@ IsRunDrawing d plan a = IsDrawing (run_words d (verdict_at_horizon d plan)) (run
 
 -- ---- answers
 
--- the answer is one that is right for what is read, or else the one that refuses
-abbrev pub Answers : {X : Type 0} → Result X ReplySeen → (X → ReplySeen → Type 0) → ReplySeen → Type 0
-Answers (Ok x) right a = right x a
-Answers (Err refusal) right a = a ≡ refusal
-
 -- for the text of a design
 abbrev pub TrackAnswers : List ℕ → ReplySeen → Type 0
 TrackAnswers text a = Answers (design_in text) IsTrackDrawing a
@@ -64,27 +59,34 @@ RunAnswers plan_bytes d a = Answers (within_limit file.Plan plan_bytes) (PlanAns
 abbrev pub IsTrackAnswer : List ℕ → ReplySeen → Type 0
 IsTrackAnswer design_bytes a = Answers (within_limit file.Design design_bytes) TrackAnswers a
 
+-- for the text of a design and the bytes of a plan
+abbrev pub RunTextAnswers : List ℕ → List ℕ → ReplySeen → Type 0
+RunTextAnswers text plan_bytes a = Answers (design_in text) (RunAnswers plan_bytes) a
+
 -- for the bytes of a design and a plan
 abbrev pub IsRunAnswer : List ℕ → List ℕ → ReplySeen → Type 0
 IsRunAnswer design_bytes plan_bytes a =
-    Answers (within_limit file.Design design_bytes) (λ text b. Answers (design_in text) (RunAnswers plan_bytes) b) a
+    Answers (within_limit file.Design design_bytes) (λ text. RunTextAnswers text plan_bytes) a
 
 -- to what is wanted, which may be nothing, for the bytes of the design and of the plan
-abbrev pub IsAnswerGiven : List ℕ → List ℕ → Option Wanted → ReplySeen → Type 0
-IsAnswerGiven design_bytes plan_bytes None a = a ≡ usage
-IsAnswerGiven design_bytes plan_bytes (Some (track design)) a = IsTrackAnswer design_bytes a
-IsAnswerGiven design_bytes plan_bytes (Some (run design plan)) a = IsRunAnswer design_bytes plan_bytes a
+abbrev pub IsAnswerTo : Option Wanted → List ℕ → List ℕ → ReplySeen → Type 0
+IsAnswerTo None design_bytes plan_bytes a = a ≡ usage
+IsAnswerTo (Some (track design)) design_bytes plan_bytes a = IsTrackAnswer design_bytes a
+IsAnswerTo (Some (run design plan)) design_bytes plan_bytes a = IsRunAnswer design_bytes plan_bytes a
 
--- the same, for the files that are held
-abbrev pub IsAnswerTo : Files → Option Wanted → ReplySeen → Type 0
-IsAnswerTo files None a = a ≡ usage
-IsAnswerTo files (Some (track design)) a = IsTrackAnswer (files design) a
-IsAnswerTo files (Some (run design plan)) a = IsRunAnswer (files design) (files plan) a
+-- ---- files
 
--- ---- what is asked of the shelf
+-- the name of the design, and of the plan, where there is one
+abbrev pub design_name : Option Wanted → Option (List ℕ)
+design_name None = None
+design_name (Some (track design)) = Some design
+design_name (Some (run design plan)) = Some design
 
--- the calls for what is wanted, in order
+abbrev pub plan_name : Option Wanted → Option (List ℕ)
+plan_name None = None
+plan_name (Some (track design)) = None
+plan_name (Some (run design plan)) = Some plan
+
+-- the calls of the shelf, in order
 abbrev pub asks_to : Option Wanted → List Ask
-asks_to None = []
-asks_to (Some (track design)) = fetched design ∷ []
-asks_to (Some (run design plan)) = fetched design ∷ fetched plan ∷ []
+asks_to wanted = asks_for (design_name wanted) (plan_name wanted)

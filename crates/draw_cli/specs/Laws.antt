@@ -7,7 +7,6 @@ use Rattle.rail_base.specs.Members.{In}
 use Rattle.rail_cli.specs.declared.status.Status.TheVariants.{Done}
 use Rattle.rail_cli.specs.Answers.{ReplySeen, design_in, plan_in, routes_reply, simulation_reply}
 use Rattle.rail_cli.specs.Statuses.{is_verdict}
-use Rattle.rail_outside.specs.Files.{Files}
 use Rattle.draw_cli.specs.Wanted.{wanted_of}
 use Rattle.draw_cli.specs.Answers.{IsAnswerTo, IsDrawing, IsRunAnswer, IsRunDrawing, IsTrackAnswer, IsTrackDrawing, usage}
 
@@ -52,5 +51,5 @@ NamesAreDrawn = (words : List (List ℕ)) (most : ℕ) (a : ReplySeen) (name : L
 
 -- words that ask for nothing are answered by how the program is used, whatever the files are
 abbrev pub SilenceIsUsage : Type 0
-SilenceIsUsage = (files : Files) (words : List (List ℕ)) (a : ReplySeen) → wanted_of words ≡ None
-    → IsAnswerTo files (wanted_of words) a → a ≡ usage
+SilenceIsUsage = (design_bytes plan_bytes : List ℕ) (words : List (List ℕ)) (a : ReplySeen) → wanted_of words ≡ None
+    → IsAnswerTo (wanted_of words) design_bytes plan_bytes a → a ≡ usage

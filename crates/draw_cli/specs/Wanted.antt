@@ -36,8 +36,12 @@ abbrev pub or_else : Option Wanted → Option Wanted → Option Wanted
 or_else (Some w) other = Some w
 or_else None other = other
 
+-- what words with `routes` among them ask for, or else words with `simulate`
+abbrev pub routes_or_simulate : List Text → List Text → Option Wanted
+routes_or_simulate with_routes with_simulate =
+    or_else (by_routes (request_of with_routes)) (by_simulate (request_of with_simulate))
+
 -- what the words ask for: what `rcv routes` is asked for by the same words, or else `rcv simulate`
 abbrev pub wanted_of : List Text → Option Wanted
 wanted_of words =
-    or_else (by_routes (request_of (words_with_command (codes "routes") words)))
-    (by_simulate (request_of (words_with_command (codes "simulate") words)))
+    routes_or_simulate (words_with_command (codes "routes") words) (words_with_command (codes "simulate") words)

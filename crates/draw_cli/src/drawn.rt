@@ -1,47 +1,57 @@
 //! The reply to what is wanted.
 
-ghost use Rattle.std.specs.Prelude.{◌≡◌, ◌≢◌, ◌≤◌, [], ◌∷◌, Some, Err, IfOk, ℕ, List};
+ghost use Rattle.std.specs.Prelude.{◌≡◌, ◌≢◌, ◌≤◌, [], ◌∷◌, Some, Err, IfOk, true, false};
+ghost use Rattle.named_files.specs.Replies.{Makes, RepliesFor, RepliesOf, is_unread};
 ghost use Rattle.rail_outside.specs.Asks.{fetched};
-ghost use Rattle.rail_outside.specs.Files.{Files};
 ghost use Rattle.rail_outside.specs.Growth.{Rose, GrowsByPrefix};
 ghost use Rattle.rail_spec.specs.Feasible.{IsRunnable};
 ghost use Rattle.rail_spec.specs.Track.{routes_of};
 ghost use Rattle.rail_cli.specs.Replies.{OnReply, RepliesWith, reply_seen};
 ghost use Rattle.draw_cli.specs.Answers.{IsAnswerTo, IsRunAnswer, IsRunDrawing, IsTrackAnswer, IsTrackDrawing};
-ghost use Rattle.draw_cli.specs.Answers.{PlanAnswers};
-ghost use Rattle.draw_cli.specs.Answers.{RunAnswers, TrackAnswers, asks_to, usage, usage_line};
-ghost use Rattle.draw_cli.specs.Replies.{RepliesSome};
+ghost use Rattle.draw_cli.specs.Answers.{PlanAnswers, RunAnswers, TrackAnswers, asks_to, design_name, plan_name, usage};
+ghost use Rattle.draw_cli.specs.Replies.{StopsUnread};
+ghost use Rattle.draw_cli.specs.Wanted.{run};
 ghost use Rattle.draw_cli.specs.Words.{wanted_by};
 
 use crate::wanted::Wanted;
 use drawing::drawing_lines;
 use interlocking::Interlocking;
+use named_files::{Unmade, fetch_named, unmade_by};
 use plan_run::simulate;
 use rail_base::plan::Plan;
-use rail_cli::{Ending, InputFile, Reply, Status, admit, fetch, one_line, read_steps};
+use rail_cli::{Ending, InputFile, Reply, Status, admit, one_line, read_steps};
 use rail_outside::Shelf;
 use run_drawing::run_picture;
 use std::alloc::{AllocError, Global};
 use track_drawing::track_picture;
 
 /// The words ask for nothing.
-pub(crate) fn usage(alloc: Global) -> Result<Reply, AllocError>
+fn usage(alloc: Global) -> Result<Reply, AllocError>
     ensures { RepliesWith result usage }
 {
     let line = Vec::from_slice(alloc, b"usage: rcv_draw DESIGN [PLAN]\n")?;
     one_line(alloc, Status::Usage, line)
 }
 
+/// The reply to words that ask for nothing.
+pub(crate) fn usage_made<'a>(alloc: Global) -> Result<Reply, Unmade<'a>>
+    ensures makes { Makes (λ a. a ≡ usage) [] result }
+    ensures read { is_unread result ≡ false }
+{
+    let reply = usage(alloc)?;
+    Ok(reply)
+}
+
 /// The reply to what is wanted.
-pub(crate) fn reply_to<S: Shelf>(
+pub(crate) fn reply_to<'a, S: Shelf>(
     alloc: Global,
     shelf: &mut S,
-    wanted: Wanted<'_>,
-) -> Result<Reply, Ending>
-    ensures replies { (files : Files) → S.known_files shelf.old ≡ Some files
-        → OnReply result (λ reply. IsAnswerTo files (Some (wanted_by wanted.entry)) (reply_seen reply)) }
-    ensures for_some_files { RepliesSome result (Some (wanted_by wanted.entry)) }
-    ensures cause { result ≡ Err Ending.ShelfFault → Rose (S.fault_count shelf.old) (S.fault_count shelf.new) }
+    wanted: Wanted<'a>,
+) -> Result<Reply, Unmade<'a>>
+    ensures replies { let w = Some (wanted_by wanted.entry) in
+        RepliesFor (S.known_files shelf.old) (design_name w) (plan_name w) (IsAnswerTo w) result }
+    ensures stops { StopsUnread (Some (wanted_by wanted.entry)) result (S.asked shelf.old) (S.asked shelf.new) }
+    ensures cause { is_unread result ≡ true → Rose (S.fault_count shelf.old) (S.fault_count shelf.new) }
     ensures never_falls { S.fault_count shelf.old ≤ S.fault_count shelf.new }
     ensures files_stay { S.known_files shelf.new ≡ S.known_files shelf.old }
     ensures asks { GrowsByPrefix (S.asked shelf.old) (S.asked shelf.new) (asks_to (Some (wanted_by wanted.entry))) }
@@ -100,51 +110,61 @@ fn run_in(alloc: Global, interlocking: &Interlocking, text: &[u8]) -> Result<Rep
 }
 
 /// The reply for a design, by the name of its file.
-fn track<S: Shelf>(alloc: Global, shelf: &mut S, design: &str) -> Result<Reply, Ending>
-    ensures replies { (files : Files) → S.known_files shelf.old ≡ Some files
-        → OnReply result (λ reply. IsTrackAnswer (files design.now) (reply_seen reply)) }
-    ensures for_some_bytes { (bytes : List ℕ) × OnReply result (λ reply. IsTrackAnswer bytes (reply_seen reply)) }
-    ensures cause { result ≡ Err Ending.ShelfFault → Rose (S.fault_count shelf.old) (S.fault_count shelf.new) }
+fn track<'a, S: Shelf>(alloc: Global, shelf: &mut S, design: &'a str) -> Result<Reply, Unmade<'a>>
+    ensures replies { RepliesOf (S.known_files shelf.old) design.entry.now IsTrackAnswer result }
+    ensures cause { is_unread result ≡ true → Rose (S.fault_count shelf.old) (S.fault_count shelf.new) }
     ensures never_falls { S.fault_count shelf.old ≤ S.fault_count shelf.new }
     ensures files_stay { S.known_files shelf.new ≡ S.known_files shelf.old }
-    ensures asks { GrowsByPrefix (S.asked shelf.old) (S.asked shelf.new) (fetched design.now ∷ []) }
+    ensures asks { GrowsByPrefix (S.asked shelf.old) (S.asked shelf.new) (fetched design.entry.now ∷ []) }
 {
-    let bytes = fetch(alloc, shelf, InputFile::Design, design)?;
-    track_in(alloc, bytes.as_slice())
+    let bytes = fetch_named(alloc, shelf, InputFile::Design, design)?;
+    match track_in(alloc, bytes.as_slice()) {
+        Ok(reply) => Ok(reply),
+        Err(ending) => Err(unmade_by(ending)),
+    }
 }
 
 /// The reply for a design and a plan, by the name of the plan's file.
-fn run_over<S: Shelf>(
+fn run_over<'a, S: Shelf>(
     alloc: Global,
     shelf: &mut S,
     interlocking: &Interlocking,
-    plan: &str,
-) -> Result<Reply, Ending>
-    ensures replies { (files : Files) → S.known_files shelf.old ≡ Some files
-        → OnReply result (λ reply. RunAnswers (files plan.now) interlocking.now.design.station (reply_seen reply)) }
-    ensures for_some_bytes { (bytes : List ℕ) × OnReply result (λ reply.
-        RunAnswers bytes interlocking.now.design.station (reply_seen reply)) }
-    ensures cause { result ≡ Err Ending.ShelfFault → Rose (S.fault_count shelf.old) (S.fault_count shelf.new) }
+    plan: &'a str,
+) -> Result<Reply, Unmade<'a>>
+    ensures replies { RepliesOf (S.known_files shelf.old) plan.entry.now
+        (λ bytes. RunAnswers bytes interlocking.now.design.station) result }
+    ensures cause { is_unread result ≡ true → Rose (S.fault_count shelf.old) (S.fault_count shelf.new) }
     ensures never_falls { S.fault_count shelf.old ≤ S.fault_count shelf.new }
     ensures files_stay { S.known_files shelf.new ≡ S.known_files shelf.old }
-    ensures asks { GrowsByPrefix (S.asked shelf.old) (S.asked shelf.new) (fetched plan.now ∷ []) }
+    ensures asks { GrowsByPrefix (S.asked shelf.old) (S.asked shelf.new) (fetched plan.entry.now ∷ []) }
 {
-    let bytes = fetch(alloc, shelf, InputFile::Plan, plan)?;
-    run_in(alloc, interlocking, bytes.as_slice())
+    let bytes = fetch_named(alloc, shelf, InputFile::Plan, plan)?;
+    match run_in(alloc, interlocking, bytes.as_slice()) {
+        Ok(reply) => Ok(reply),
+        Err(ending) => Err(unmade_by(ending)),
+    }
 }
 
 /// The reply for a design and a plan, by the names of their files.
-fn run<S: Shelf>(alloc: Global, shelf: &mut S, design: &str, plan: &str) -> Result<Reply, Ending>
-    ensures replies { (files : Files) → S.known_files shelf.old ≡ Some files
-        → OnReply result (λ reply. IsRunAnswer (files design.now) (files plan.now) (reply_seen reply)) }
-    ensures for_some_bytes { (design_bytes : List ℕ) × (plan_bytes : List ℕ)
-        × OnReply result (λ reply. IsRunAnswer design_bytes plan_bytes (reply_seen reply)) }
-    ensures cause { result ≡ Err Ending.ShelfFault → Rose (S.fault_count shelf.old) (S.fault_count shelf.new) }
+fn run<'a, S: Shelf>(
+    alloc: Global,
+    shelf: &mut S,
+    design: &'a str,
+    plan: &'a str,
+) -> Result<Reply, Unmade<'a>>
+    ensures replies { RepliesFor (S.known_files shelf.old) (Some design.entry.now) (Some plan.entry.now)
+        IsRunAnswer result }
+    ensures stops { StopsUnread (Some (run design.entry.now plan.entry.now)) result
+        (S.asked shelf.old) (S.asked shelf.new) }
+    ensures cause { is_unread result ≡ true → Rose (S.fault_count shelf.old) (S.fault_count shelf.new) }
     ensures never_falls { S.fault_count shelf.old ≤ S.fault_count shelf.new }
     ensures files_stay { S.known_files shelf.new ≡ S.known_files shelf.old }
-    ensures asks { GrowsByPrefix (S.asked shelf.old) (S.asked shelf.new) (fetched design.now ∷ fetched plan.now ∷ []) }
+    ensures asks { GrowsByPrefix (S.asked shelf.old) (S.asked shelf.new)
+        (fetched design.entry.now ∷ fetched plan.entry.now ∷ []) }
 {
-    let bytes = fetch(alloc, shelf, InputFile::Design, design)?;
-    let interlocking = admit(alloc, bytes.as_slice())?;
-    run_over(alloc, shelf, &interlocking, plan)
+    let bytes = fetch_named(alloc, shelf, InputFile::Design, design)?;
+    match admit(alloc, bytes.as_slice()) {
+        Ok(interlocking) => run_over(alloc, shelf, &interlocking, plan),
+        Err(ending) => Err(unmade_by(ending)),
+    }
 }

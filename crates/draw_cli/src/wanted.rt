@@ -3,8 +3,8 @@
 ghost use Rattle.std.specs.Prelude.{◌≡◌, ◌++◌, IfOk, OnOk, Some, None, Err, option_map};
 ghost use Rattle.rail_words.specs.Requests.{request_of};
 ghost use Rattle.rail_words.specs.Words.{request_seen, texts_of};
-ghost use Rattle.draw_cli.specs.Wanted.{by_routes, by_simulate, words_with_command, or_else};
-ghost use Rattle.draw_cli.specs.Words.{wanted_by};
+ghost use Rattle.draw_cli.specs.Wanted.{by_routes, by_simulate, routes_or_simulate, wanted_of, words_with_command};
+ghost use Rattle.draw_cli.specs.Words.{asked_by, wanted_by};
 
 use rail_words::{Request, WordsFault, read_words};
 use std::alloc::{AllocError, Global};
@@ -18,8 +18,24 @@ pub(crate) enum Wanted<'a> {
     Run { design: &'a str, plan: &'a str },
 }
 
+/// The words of a command line, given with `routes` and with `simulate` after the program's name.
+#[derive(Drop)]
+pub(crate) struct CommandWords {
+    pub(crate) routes: Vec<String>,
+    pub(crate) simulate: Vec<String>,
+}
+
+/// Those for the words of a command line. The error is want of memory.
+pub(crate) fn both_words(alloc: Global, words: &[String]) -> Result<CommandWords, AllocError>
+    ensures { IfOk result (λ both. asked_by both ≡ wanted_of (texts_of words.now)) }
+{
+    let routes = words_with_command(alloc, "routes", words)?;
+    let simulate = words_with_command(alloc, "simulate", words)?;
+    Ok(CommandWords { routes, simulate })
+}
+
 /// The words with a command after the program's name. The error is want of memory.
-pub(crate) fn words_with_command(
+fn words_with_command(
     alloc: Global,
     command: &str,
     words: &[String],
@@ -44,12 +60,10 @@ pub(crate) fn read_wanted<'a>(
     routes: &'a [String],
     simulate: &'a [String],
 ) -> Result<Wanted<'a>, WordsFault>
-    ensures ok { IfOk result (λ wanted. or_else
-        (by_routes (request_of (texts_of routes.entry.now)))
-        (by_simulate (request_of (texts_of simulate.entry.now))) ≡ Some (wanted_by wanted)) }
-    ensures usage { result ≡ Err WordsFault.Usage → or_else
-        (by_routes (request_of (texts_of routes.entry.now)))
-        (by_simulate (request_of (texts_of simulate.entry.now))) ≡ None }
+    ensures ok { IfOk result (λ wanted.
+        routes_or_simulate (texts_of routes.entry.now) (texts_of simulate.entry.now) ≡ Some (wanted_by wanted)) }
+    ensures usage { result ≡ Err WordsFault.Usage
+        → routes_or_simulate (texts_of routes.entry.now) (texts_of simulate.entry.now) ≡ None }
 {
     match track_wanted(alloc, routes) {
         Ok(wanted) => Ok(wanted),

@@ -3,11 +3,11 @@ use Rattle.std.specs.Prelude.{◌≡◌, ℕ, List, None}
 use Rattle.rail_cli.specs.declared.status.Status.{Status}
 use Rattle.rail_cli.specs.Statuses.{code_of}
 use Rattle.draw_cli.specs.Wanted.{wanted_of}
-use Rattle.draw_cli.specs.Replies.{PrintsSome}
+use Rattle.draw_cli.specs.Replies.{PrintsAnswer}
 
 -- the number is that of a status which is that of an answer for some bytes of the files, or of none, over files and an
--- output that says nothing
+-- output that say nothing
 pub record EndsWith (words : List (List ℕ)) (number : ℕ) : Type 0 where
   pub status : Status
   pub number_of : number ≡ code_of status
-  pub prints : PrintsSome (wanted_of words) status None None None None
+  pub prints : PrintsAnswer None (wanted_of words) status None None None None

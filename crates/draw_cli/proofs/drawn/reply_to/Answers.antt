@@ -1,17 +1,17 @@
 use Rattle.std.proofs.Common.{rules}
-use Rattle.draw_cli.specs.Wanted.{track, run}
 use Rattle.draw_cli.specs.Words.{wanted_by}
-use Rattle.draw_cli.proofs.Answering.{named_so, track_some, run_some}
+use Rattle.draw_cli.proofs.Answering.{run_replies, track_replies}
+use Rattle.draw_cli.proofs.Stopping.{run_stops, track_stops}
 use Rattle.draw_cli.proofs.drawn.reply_to.Goals as goal
 
 pub returns-in-Track-clause-replies : goal.returns-in-Track-clause-replies
-returns-in-Track-clause-replies g c = λ files reply_for. named_so c.track.result files (wanted_by c.args.wanted) (track c.in-Track.design.now) (search rules) (c.track.ensures.replies files reply_for)
+returns-in-Track-clause-replies g c = track_replies _ (wanted_by c.args.wanted) c.track.result c.in-Track.design.now (search rules) c.track.ensures.replies
 
-pub returns-in-Track-clause-for_some_files : goal.returns-in-Track-clause-for_some_files
-returns-in-Track-clause-for_some_files g c = track_some c.track.result (wanted_by c.args.wanted) c.in-Track.design.now (search rules) c.track.ensures.for_some_bytes
+pub returns-in-Track-clause-stops : goal.returns-in-Track-clause-stops
+returns-in-Track-clause-stops g c = track_stops c.track.result _ _ _ (wanted_by c.args.wanted) c.in-Track.design.now (search rules) c.track.ensures.replies c.track.ensures.asks
 
 pub returns-in-Run-clause-replies : goal.returns-in-Run-clause-replies
-returns-in-Run-clause-replies g c = λ files reply_for. named_so c.run.result files (wanted_by c.args.wanted) (run c.in-Run.design.now c.in-Run.plan.now) (search rules) (c.run.ensures.replies files reply_for)
+returns-in-Run-clause-replies g c = run_replies _ (wanted_by c.args.wanted) c.run.result c.in-Run.design.now c.in-Run.plan.now (search rules) c.run.ensures.replies
 
-pub returns-in-Run-clause-for_some_files : goal.returns-in-Run-clause-for_some_files
-returns-in-Run-clause-for_some_files g c = run_some c.run.result (wanted_by c.args.wanted) c.in-Run.design.now c.in-Run.plan.now (search rules) c.run.ensures.for_some_bytes
+pub returns-in-Run-clause-stops : goal.returns-in-Run-clause-stops
+returns-in-Run-clause-stops g c = run_stops c.run.result _ _ (wanted_by c.args.wanted) c.in-Run.design.now c.in-Run.plan.now (search rules) c.run.ensures.stops
