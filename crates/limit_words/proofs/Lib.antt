@@ -4,3 +4,4 @@ pub mod Few
 pub mod Stored
 pub mod Making
 pub mod Limiting
+pub mod Adding

@@ -12,18 +12,23 @@ abbrev pub kind_text : SearchKind → List ℕ
 kind_text Plain = codes "without --bounds"
 kind_text Bounds = codes "with --bounds"
 
--- the clauses for n steps, where it is known how many literals they have, and those for so many steps as are too many
-abbrev pub too_many_text : ℕ → Option ℕ → ℕ → List ℕ
-too_many_text n (Some literals) many =
-    decimal n ++ codes " have " ++ decimal literals ++ codes " literals, and for " ++ decimal many
-    ++ codes " more than 16000000\n"
-too_many_text n None many = decimal many ++ codes " have more than 16000000 literals\n"
+-- how many literals the clauses for n steps have
+abbrev pub known_text : ℕ → ℕ → List ℕ
+known_text n literals = decimal n ++ codes " have " ++ decimal literals ++ codes " literals of at most 16000000\n"
 
--- those for one step more than can be asked for
+-- where it is not known, for which steps they are too many
+abbrev pub unknown_text : ℕ → List ℕ
+unknown_text n = decimal n ++ codes " have more than 16000000 literals\n"
+
+-- of the clauses for n steps, or else for one step more than can be asked for
+abbrev pub excess_said : ℕ → Option ℕ → ℕ → List ℕ
+excess_said n (Some literals) more = known_text n literals
+excess_said n None more = unknown_text more
+
 abbrev pub excess_text : ℕ → Limit → List ℕ
-excess_text n l = too_many_text n l.literals (l.steps + 1)
+excess_text n l = excess_said n l.literals (l.steps + 1)
 
--- `with --bounds at most 8 steps can be asked for: the clauses for 20 have 41234567 literals, and for 9 more than 16000000`
+-- `with --bounds at most 8 steps can be asked for: the clauses for 20 have 41234567 literals of at most 16000000`
 -- or `with --bounds at most 1 steps can be asked for: the clauses for 2 have more than 16000000 literals`
 abbrev pub limit_line : SearchKind → ℕ → Limit → List ℕ
 limit_line kind n l =

@@ -4,7 +4,7 @@ ghost use Rattle.std.specs.Prelude.{◌≡◌, ◌≤◌, IfOk, OnOk};
 ghost use Rattle.interlocking.specs.Plans.{on};
 ghost use Rattle.rail_text.specs.Added.{AddsLines, AddsText};
 ghost use Rattle.rail_outside.specs.Lines.{lines_of};
-ghost use Rattle.limit_words.specs.Lines.{AreLimitLines, excess_text, kind_text, limit_line, limits_said};
+ghost use Rattle.limit_words.specs.Lines.{AreLimitLines, excess_text, kind_text, known_text, limit_line, limits_said, unknown_text};
 
 use crate::greatest::{Limit, limit_for};
 use crate::kind::SearchKind;
@@ -22,24 +22,33 @@ fn put_kind(text: &mut Vec<u8>, kind: SearchKind) -> Result<(), AllocError>
     }
 }
 
+/// Appends how many literals the clauses for so many steps have.
+fn put_known(text: &mut Vec<u8>, steps: u32, literals: u64) -> Result<(), AllocError>
+    ensures { OnOk result (AddsText text.old text.new (known_text steps literals)) }
+{
+    put_number(text, u64::from(steps))?;
+    text.extend_from_slice(b" have ")?;
+    put_number(text, literals)?;
+    text.extend_from_slice(b" literals of at most 16000000\n")?;
+    Ok(())
+}
+
+/// Appends for which steps the clauses have too many.
+fn put_unknown(text: &mut Vec<u8>, steps: u64) -> Result<(), AllocError>
+    ensures { OnOk result (AddsText text.old text.new (unknown_text steps)) }
+{
+    put_number(text, steps)?;
+    text.extend_from_slice(b" have more than 16000000 literals\n")?;
+    Ok(())
+}
+
 /// Appends which clauses have too many literals.
 fn put_excess(text: &mut Vec<u8>, steps: u32, limit: Limit) -> Result<(), AllocError>
     ensures { OnOk result (AddsText text.old text.new (excess_text steps limit)) }
 {
-    let more = u64::from(limit.steps) + 1;
     match limit.literals {
-        Some(literals) => {
-            put_number(text, u64::from(steps))?;
-            text.extend_from_slice(b" have ")?;
-            put_number(text, literals)?;
-            text.extend_from_slice(b" literals, and for ")?;
-            put_number(text, more)?;
-            text.extend_from_slice(b" more than 16000000\n")
-        }
-        None => {
-            put_number(text, more)?;
-            text.extend_from_slice(b" have more than 16000000 literals\n")
-        }
+        Some(literals) => put_known(text, steps, literals),
+        None => put_unknown(text, u64::from(limit.steps) + 1),
     }
 }
 
