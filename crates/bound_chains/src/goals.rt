@@ -1,6 +1,6 @@
 //! Which requirements a plan may be shown to fail, and from where ticks are counted.
 
-ghost use Rattle.std.specs.Prelude.{◌≡◌, ◌<◌, IfSome, Some};
+ghost use Rattle.std.specs.Prelude.{◌≡◌, ◌<◌, ◌+◌, ◌-◌, ◌^◌};
 ghost use Rattle.bound_chains.specs.declared.goals.Beginning.TheVariants as beginning;
 
 use crate::known::is_train;
@@ -36,12 +36,11 @@ pub struct Goal {
 }
 
 impl Goal {
-    ghost use Rattle.bound_chains.specs.Goals.{is_order, takes_any};
+    ghost use Rattle.bound_chains.specs.Goals.{begins_with, from_place, is_order, least_ticks, takes_any};
 
     /// The visit from whose place the ticks of the first leg are counted; none where they are from a grant.
     pub fn from_place(&self) -> Option<Visit>
-        ensures own { IfSome result (λ visit. self.now.from ≡ Some visit) }
-        ensures later { IfSome result (λ visit. 1 < visit.number) }
+        ensures { result ≡ from_place self.now }
     {
         match self.beginning {
             Beginning::Visit => self.from.filter(|visit| visit.number > 1),
@@ -51,8 +50,7 @@ impl Goal {
 
     /// The visit with which the first leg begins, if it begins with one.
     pub fn begins_with(&self) -> Option<Visit>
-        ensures own { IfSome result (λ visit. self.now.from ≡ Some visit) }
-        ensures visit { self.now.beginning ≡ beginning.Visit → result ≡ self.now.from }
+        ensures { result ≡ begins_with self.now }
     {
         match self.beginning {
             Beginning::Visit => self.from,
@@ -80,7 +78,8 @@ impl Goal {
     /// The goal with ticks counted from the start of the run, where a cone shows that the first visit is made at a
     /// tick.
     pub fn from_cone(&self, tick: u64) -> Goal
-        ensures { record result { least = 0 } ≡ record self.now { beginning = beginning.Cone tick; least = 0 } }
+        ensures same { record result { least = 0 } ≡ record self.now { beginning = beginning.Cone tick; least = 0 } }
+        ensures least { tick + least_ticks self.now < 2 ^ 64 → result.least ≡ tick + least_ticks self.now - 1 }
     {
         let least = if self.is_order() { 0 } else { self.least };
         Goal {

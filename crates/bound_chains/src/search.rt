@@ -44,6 +44,7 @@ impl<'a> ChainSearch<'a> {
         ensures interlocking { IfOk result (λ search. search.interlocking.now ≡ interlocking.now) }
         ensures tables { IfOk result (λ search. search.tables.now ≡ tables.now) }
         ensures paths { IfOk result (λ search. search.paths.now ≡ paths.now) }
+        ensures history { IfOk result (λ search. search.history.now ≡ history.now) }
     {
         let mut search = ChainSearch {
             alloc,
