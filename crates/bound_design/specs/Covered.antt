@@ -7,7 +7,7 @@ use Rattle.rail_base.specs.declared.station.TrainNo.{TrainNo}
 use Rattle.rail_base.specs.Numbering.{after_first}
 use Rattle.rail_base.specs.Members.{all_neighbors}
 use Rattle.rail_spec.specs.Plans.{exits, is_route, length_mm, route_at, route_numbers}
-use Rattle.rail_spec.specs.Visits.{may_visit}
+use Rattle.rail_spec.specs.Places.{may_visit}
 use Rattle.interlocking.specs.declared.railway.Interlocking.{Interlocking}
 use Rattle.bound_spec.specs.declared.Place.{Place}
 use Rattle.bound_spec.specs.declared.Place.TheVariants as place

@@ -4,7 +4,7 @@ ghost use Rattle.std.specs.Prelude.{◌≡◌, ◌∷◌, [], ◌&&◌, ◌==◌
 ghost use Rattle.std.specs.List.{list_all};
 ghost use Rattle.rail_base.specs.Numbering.{after_first};
 ghost use Rattle.rail_spec.specs.Plans.{exits, length_mm};
-ghost use Rattle.rail_spec.specs.Visits.{may_visit};
+ghost use Rattle.rail_spec.specs.Places.{may_visit};
 ghost use Rattle.cone_spec.specs.Validity.{from_boundary};
 ghost use Rattle.bound_spec.specs.Certificates.{first_in};
 ghost use Rattle.bound_spec.specs.Validity.{first_leg};

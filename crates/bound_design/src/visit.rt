@@ -6,7 +6,7 @@ ghost use Rattle.number_sets.specs.Sets.{contains};
 ghost use Rattle.rail_base.specs.Numbering.{after_first};
 ghost use Rattle.rail_base.specs.Stations.{train_of};
 ghost use Rattle.rail_spec.specs.Plans.{starts_in};
-ghost use Rattle.rail_spec.specs.Visits.{leads_to, may_visit};
+ghost use Rattle.rail_spec.specs.Places.{leads_to, may_visit};
 ghost use Rattle.bound_spec.specs.Certificates.{first_in, nodes_of_visit};
 ghost use Rattle.bound_design.specs.Covering.{IsNodeSet};
 

@@ -4,7 +4,7 @@ ghost use Rattle.std.specs.Prelude.{◌≡◌, ◌&&◌, ◌==◌, All, IfOk, no
 ghost use Rattle.std.specs.List.{list_all, list_any};
 ghost use Rattle.rail_base.specs.Routes.{IsRoute};
 ghost use Rattle.rail_spec.specs.Requirements.{visit_numbers};
-ghost use Rattle.rail_spec.specs.Visits.{may_visit};
+ghost use Rattle.rail_spec.specs.Places.{may_visit};
 ghost use Rattle.bound_spec.specs.Certificates.{nodes_of_visit};
 ghost use Rattle.bound_spec.specs.Validity.{ends_at_signal};
 ghost use Rattle.bound_design.specs.Covered.{is_used_among, is_used_in, is_visited_among, is_visited_named};

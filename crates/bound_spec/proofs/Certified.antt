@@ -24,6 +24,7 @@ use Rattle.rail_spec.specs.Dispatches.{state_at}
 use Rattle.rail_spec.specs.Visits.{visits_of_train, visit_tick}
 use Rattle.rail_base.proofs.Members.{and_left, and_right, and_both, or_left, or_right, list_all_at, is_false, false_unless}
 use Rattle.rail_base.proofs.Lists.{in_filter_back, list_all_from, length-map}
+use Rattle.rail_base.specs.declared.state.TrainEvent.{TrainEvent}
 use Rattle.rail_laws.proofs.Admits.{sound}
 use Rattle.rail_laws.proofs.Given.{same_train}
 use Rattle.rail_laws.proofs.Standing.{in_path}
@@ -46,7 +47,7 @@ use Rattle.bound_spec.specs.declared.Place.{Place}
 use Rattle.bound_spec.specs.declared.Place.TheVariants as place
 use Rattle.bound_spec.specs.declared.Leg.{Leg}
 use Rattle.bound_spec.specs.declared.Bound.{Bound}
-use Rattle.bound_spec.specs.Events.{Event, has_happened, Takes}
+use Rattle.bound_spec.specs.Events.{Takes, has_come_by}
 use Rattle.bound_spec.specs.Walks.{walks}
 use Rattle.bound_spec.specs.Rides.{Ride, Rides, walk_of, first_of, reaches, granted_first, passes, first_target, Chained, arrives, waits_out, first_place, release_place}
 use Rattle.bound_spec.specs.Certificates.{VisitOf, routes_of_place, first_of_leg, last_of_leg, ride_of, visit_offset, visit_place, visit_from, visit_to, train_to, target, cone_of}
@@ -119,11 +120,11 @@ module _ (d : Station) (adm : IsAdmitted d) (n : ℕ) (b : Bound) (plan : List (
 
   -- by tick k the ride has come to its visit
   abbrev Comes : VisitOf → ℕ → (m : Leg) → Ridden_on m → Type 0
-  Comes v k m i = has_happened d (routes_of d) plan (reaches d (routes_of d) plan (ride_of (routes_of d) m) i (target d v (walk_of d (routes_of d) plan (ride_of (routes_of d) m) i))) k ≡ true
+  Comes v k m i = has_come_by d (routes_of d) plan (reaches d (routes_of d) plan (ride_of (routes_of d) m) i (target d v (walk_of d (routes_of d) plan (ride_of (routes_of d) m) i))) k ≡ true
 
   -- by tick k its first command is granted
   abbrev Goes : ℕ → (m : Leg) → Ridden_on m → Type 0
-  Goes k m i = has_happened d (routes_of d) plan (granted_first d (routes_of d) plan (ride_of (routes_of d) m) i) k ≡ true
+  Goes k m i = has_come_by d (routes_of d) plan (granted_first d (routes_of d) plan (ride_of (routes_of d) m) i) k ≡ true
 
   target_is : (v : VisitOf) (prefix : List RouteNo) (r : RouteNo) → target d v (map f (prefix ++ r ∷ [])) ≡ path_length d adm prefix + visit_offset d v.train v.number (f r)
   target_is v [] r = omega arith
@@ -176,12 +177,12 @@ module _ (d : Station) (adm : IsAdmitted d) (n : ℕ) (b : Bound) (plan : List (
   -- ---- how long it takes
 
   arrives_so : (v : VisitOf) (k : ℕ) (l : Leg) (ls : List Leg) (i : Ridden_on l) (c : Chained d (routes_of d) plan (ride_of (routes_of d) l) i (map (ride_of (routes_of d)) ls)) → EndsSo (Comes v k) l ls i c
-      → has_happened d (routes_of d) plan (arrives d (routes_of d) plan (ride_of (routes_of d) l) i (map (ride_of (routes_of d)) ls) c (target d v)) k ≡ true
+      → has_come_by d (routes_of d) plan (arrives d (routes_of d) plan (ride_of (routes_of d) l) i (map (ride_of (routes_of d)) ls) c (target d v)) k ≡ true
   arrives_so v k l [] i c so = so
   arrives_so v k l (m ∷ ls) i c so = arrives_so v k m ls c.0 c.3 so
 
   waits_so : (k : ℕ) (l : Leg) (ls : List Leg) (i : Ridden_on l) (c : Chained d (routes_of d) plan (ride_of (routes_of d) l) i (map (ride_of (routes_of d)) ls)) → EndsSo (Goes k) l ls i c
-      → has_happened d (routes_of d) plan (waits_out d (routes_of d) plan (ride_of (routes_of d) l) i (map (ride_of (routes_of d)) ls) c) k ≡ true
+      → has_come_by d (routes_of d) plan (waits_out d (routes_of d) plan (ride_of (routes_of d) l) i (map (ride_of (routes_of d)) ls) c) k ≡ true
   waits_so k l [] i c so = so
   waits_so k l (m ∷ ls) i c so = waits_so k m ls c.0 c.3 so
 
@@ -194,7 +195,7 @@ module _ (d : Station) (adm : IsAdmitted d) (n : ℕ) (b : Bound) (plan : List (
   granted_later m i (suc k) so = omega arith
 
   -- from the start of the run
-  from_start : (m : Leg) (i : Ridden_on m) (e : Event) (c k : ℕ) → Takes d (routes_of d) plan (granted_first d (routes_of d) plan (ride_of (routes_of d) m) i) e c k → 1 + c ≤ k
+  from_start : (m : Leg) (i : Ridden_on m) (e : TrainEvent) (c k : ℕ) → Takes d (routes_of d) plan (granted_first d (routes_of d) plan (ride_of (routes_of d) m) i) e c k → 1 + c ≤ k
   from_start m i e c k h = let some = granted_later m i (k - c) h.happened in let l = h.not_before in omega arith
 
   visit_after : (most : ℕ) (v : VisitOf) (k : ℕ) (l : Leg) (ls : List Leg) → Chain (Comes v k) l ls → 1 + ticks_to d (routes_of d) most (Some v) (l ∷ ls) ≤ k
@@ -239,7 +240,7 @@ module _ (d : Station) (adm : IsAdmitted d) (n : ℕ) (b : Bound) (plan : List (
 
   -- a visit is made no later than on the first route of a ride that begins with a route of it
   visited_by_then : (v : VisitOf) (x k : ℕ) (l : Leg) (i : Ridden_on l) → v.train ≡ l.train → In (first_of d (routes_of d) plan i.prefix i.last) (routes_of_place (first_of_leg l)) → begins_with d (routes_of d) v (first_of_leg l) ≡ true → nat_le v.number 1 ≡ false
-      → Makes d adm n plan feasible v x → has_happened d (routes_of d) plan (passes d (routes_of d) plan (ride_of (routes_of d) l) i (visit_place d v (walk_of d (routes_of d) plan (ride_of (routes_of d) l) i))) k ≡ true → x ≤ k
+      → Makes d adm n plan feasible v x → has_come_by d (routes_of d) plan (passes d (routes_of d) plan (ride_of (routes_of d) l) i (visit_place d v (walk_of d (routes_of d) plan (ride_of (routes_of d) l) i))) k ≡ true → x ≤ k
   visited_by_then v x k l i same first begins later makes so = go (v.number == 2) refl (and_right (list_all (can_visit d (routes_of d) v.train v.number) (routes_of_place (first_of_leg l))) _ both)
     where
       r : RouteNo
@@ -273,12 +274,12 @@ module _ (d : Station) (adm : IsAdmitted d) (n : ℕ) (b : Bound) (plan : List (
           go zero g = let none = ap (λ (s : TrainState). s.granted) (idle_at_first d (routes_of d) (of_plan (routes_of d) plan) l.train) in absurd (omega arith)
           go (suc k) g = omega arith
 
-      passed : w.path_node.command ≤ length i.before + 1 → w.path_node.offset ≤ path_length d adm i.before + visit_offset d v.train v.number (f r) → x ≤ k
+      passed : w.path_node.event.granted ≤ length i.before + 1 → w.path_node.event.place ≤ path_length d adm i.before + visit_offset d v.train v.number (f r) → x ≤ k
       passed number near =
           let g = granted in let h = head in
           let eg = ap (λ t. (at k t).granted) same in
           let ex = ap (λ t. (at k t).x) same in
-          w.first k some (and_both _ _ (le-leb w.path_node.command (at k v.train).granted (omega arith)) (le-leb w.path_node.offset (at k v.train).x (omega arith)))
+          w.first k some (and_both _ _ (le-leb w.path_node.event.granted (at k v.train).granted (omega arith)) (le-leb w.path_node.event.place (at k v.train).x (omega arith)))
 
       go : (y : Bool) → (v.number == 2) ≡ y → (y || is_made_at_end d (routes_of d) v) ≡ true → x ≤ k
       go true second h = two v.number (eqb-true v.number 2 second) refl
@@ -345,7 +346,7 @@ module _ (d : Station) (adm : IsAdmitted d) (n : ℕ) (b : Bound) (plan : List (
           let number = s.1 in
           let g = granted in
           let eg = ap (λ t. (at k t).granted) same in
-          w.first k (granted_later l i k so) (and_both _ _ (le-leb w.path_node.command (at k v.train).granted (omega arith)) (le-leb w.path_node.offset (at k v.train).x (omega arith)))
+          w.first k (granted_later l i k so) (and_both _ _ (le-leb w.path_node.event.granted (at k v.train).granted (omega arith)) (le-leb w.path_node.event.place (at k v.train).x (omega arith)))
 
   -- the ticks from the one visit to the other
   between : (most : ℕ) (from to : VisitOf) (x y : ℕ) (l : Leg) (ls : List Leg) → from.train ≡ l.train → begins_with d (routes_of d) from (first_of_leg l) ≡ true → Makes d adm n plan feasible from x → Chain (Comes to y) l ls
@@ -355,7 +356,7 @@ module _ (d : Station) (adm : IsAdmitted d) (n : ℕ) (b : Bound) (plan : List (
       ride : Ride
       ride = ride_of (routes_of d) l
 
-      so : has_happened d (routes_of d) plan (arrives d (routes_of d) plan (ride_of (routes_of d) l) c.ride (map (ride_of (routes_of d)) ls) c.chained (target d to)) y ≡ true
+      so : has_come_by d (routes_of d) plan (arrives d (routes_of d) plan (ride_of (routes_of d) l) c.ride (map (ride_of (routes_of d)) ls) c.chained (target d to)) y ≡ true
       so = arrives_so to y l ls c.ride c.chained c.ends
 
       -- the walk of the ride is one of those of the leg
@@ -404,7 +405,7 @@ module _ (d : Station) (adm : IsAdmitted d) (n : ℕ) (b : Bound) (plan : List (
       m : MadeOn d adm n plan well v.train 1 w.path_node
       m = made_on d adm n plan well v.train 1 w.path_node (sym (ap entry_of one) ∙ w.there)
 
-      start : (w.path_node.offset ≡ 0) × (w.path_node.command ≡ 1)
+      start : (w.path_node.event.place ≡ 0) × (w.path_node.event.granted ≡ 1)
       start = first_made d adm n plan well v.train w.path_node (sym (ap entry_of one) ∙ w.there)
 
       none_before : m.before ≡ []
@@ -455,7 +456,7 @@ module _ (d : Station) (adm : IsAdmitted d) (n : ℕ) (b : Bound) (plan : List (
           let off = start.0 in
           let number = start.1 in
           let g = granted in
-          w.first 1 (omega arith) (and_both _ _ (le-leb w.path_node.command (at 1 v.train).granted (omega arith)) (le-leb w.path_node.offset (at 1 v.train).x (omega arith)))
+          w.first 1 (omega arith) (and_both _ _ (le-leb w.path_node.event.granted (at 1 v.train).granted (omega arith)) (le-leb w.path_node.event.place (at 1 v.train).x (omega arith)))
 
 -- ---- what it is that no reason holds against a certificate
 

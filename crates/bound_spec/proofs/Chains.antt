@@ -187,11 +187,11 @@ module _ (d : Station) (adm : IsAdmitted d) (n : ℕ) (b : Bound) (plan : List (
       w : MadeOn d adm n plan well l.train number at.path_node
       w = made_on d adm n plan well l.train number at.path_node at.there
 
-      granted : at.path_node.command ≤ (state_of (state_at d (routes_of d) (of_plan (routes_of d) plan) k) l.train).granted
-      granted = leb-true _ _ (and_left (nat_le at.path_node.command (state_of (state_at d (routes_of d) (of_plan (routes_of d) plan) k) l.train).granted) _ at.passed)
+      granted : at.path_node.event.granted ≤ (state_of (state_at d (routes_of d) (of_plan (routes_of d) plan) k) l.train).granted
+      granted = leb-true _ _ (and_left (nat_le at.path_node.event.granted (state_of (state_at d (routes_of d) (of_plan (routes_of d) plan) k) l.train).granted) _ at.passed)
 
-      head : at.path_node.offset ≤ (state_of (state_at d (routes_of d) (of_plan (routes_of d) plan) k) l.train).x
-      head = leb-true _ _ (and_right (nat_le at.path_node.command (state_of (state_at d (routes_of d) (of_plan (routes_of d) plan) k) l.train).granted) (nat_le at.path_node.offset (state_of (state_at d (routes_of d) (of_plan (routes_of d) plan) k) l.train).x) at.passed)
+      head : at.path_node.event.place ≤ (state_of (state_at d (routes_of d) (of_plan (routes_of d) plan) k) l.train).x
+      head = leb-true _ _ (and_right (nat_le at.path_node.event.granted (state_of (state_at d (routes_of d) (of_plan (routes_of d) plan) k) l.train).granted) (nat_le at.path_node.event.place (state_of (state_at d (routes_of d) (of_plan (routes_of d) plan) k) l.train).x) at.passed)
 
       on_it : In w.route (routes_of_place (last_of_leg l)) → Arrived l number k
       on_it m =

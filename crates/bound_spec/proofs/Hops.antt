@@ -12,9 +12,9 @@ use Rattle.rail_spec.specs.Plans.{route_at, length_mm, path, path_routes, is_wel
 use Rattle.rail_spec.specs.Dispatches.{state_of, of_plan, state_at}
 use Rattle.rail_base.proofs.Members.{and_left, and_right, and_both}
 use Rattle.rail_base.proofs.Lists.{length-map}
+use Rattle.rail_base.specs.declared.state.TrainEvent.{TrainEvent}
 use Rattle.rail_laws.proofs.Running.{idle_at_first}
-use Rattle.bound_spec.specs.Events.{Event}
-use Rattle.bound_spec.specs.Events.{has_happened, Takes}
+use Rattle.bound_spec.specs.Events.{Takes, has_come_by}
 use Rattle.free_spec.proofs.Heads.{not_past}
 use Rattle.free_spec.specs.Legs.{Leg, HasLeg, least_ticks, least_ticks_waited}
 use Rattle.free_spec.proofs.Moves.{takes}
@@ -32,37 +32,37 @@ module _ (d : Station) (adm : IsAdmitted d) (n : ℕ) (plan : List (List Command
   at_start t = let i = idle_at_first d (routes_of d) (of_plan (routes_of d) plan) t in (ap (λ (s : TrainState). s.granted) i, ap (λ (s : TrainState). s.x) i)
 
   -- a grant that has not happened
-  pub not_granted : (e : Event) (k : ℕ) → e.place ≡ 0 → has_happened d (routes_of d) plan e k ≡ false → (at k e.train).granted < e.command
-  not_granted e k none h = go (nat_le e.command (at k e.train).granted) refl (nat_le e.place (at k e.train).x) refl h
+  pub not_granted : (e : TrainEvent) (k : ℕ) → e.event.place ≡ 0 → has_come_by d (routes_of d) plan e k ≡ false → (at k e.train).granted < e.event.granted
+  not_granted e k none h = go (nat_le e.event.granted (at k e.train).granted) refl (nat_le e.event.place (at k e.train).x) refl h
     where
-      go : (x : Bool) → nat_le e.command (at k e.train).granted ≡ x → (y : Bool) → nat_le e.place (at k e.train).x ≡ y → (x && y) ≡ false → (at k e.train).granted < e.command
+      go : (x : Bool) → nat_le e.event.granted (at k e.train).granted ≡ x → (y : Bool) → nat_le e.event.place (at k e.train).x ≡ y → (x && y) ≡ false → (at k e.train).granted < e.event.granted
       go true ex true ey h = absurd (true≢false h)
       go true ex false ey h = let l = leb-false _ _ ey in absurd (omega arith)
       go false ex y ey h = leb-false _ _ ex
 
   -- an event that has not happened has the head no farther than before it
-  pub not_yet : (e : Event) (k : ℕ) → (1 ≤ e.command → IsTrain d e.train) → e.command ≤ length (path plan e.train) → has_happened d (routes_of d) plan e k ≡ false → (at k e.train).x ≤ max (end_of e.train e.command) (e.place - 1)
-  not_yet e k named high h = go (nat_le e.command (at k e.train).granted) refl (nat_le e.place (at k e.train).x) refl h
+  pub not_yet : (e : TrainEvent) (k : ℕ) → (1 ≤ e.event.granted → IsTrain d e.train) → e.event.granted ≤ length (path plan e.train) → has_come_by d (routes_of d) plan e k ≡ false → (at k e.train).x ≤ max (end_of e.train e.event.granted) (e.event.place - 1)
+  not_yet e k named high h = go (nat_le e.event.granted (at k e.train).granted) refl (nat_le e.event.place (at k e.train).x) refl h
     where
-      go : (x : Bool) → nat_le e.command (at k e.train).granted ≡ x → (y : Bool) → nat_le e.place (at k e.train).x ≡ y → (x && y) ≡ false → (at k e.train).x ≤ max (end_of e.train e.command) (e.place - 1)
+      go : (x : Bool) → nat_le e.event.granted (at k e.train).granted ≡ x → (y : Bool) → nat_le e.event.place (at k e.train).x ≡ y → (x && y) ≡ false → (at k e.train).x ≤ max (end_of e.train e.event.granted) (e.event.place - 1)
       go true ex true ey h = absurd (true≢false h)
       go true ex false ey h = let l = leb-false _ _ ey in omega arith
       go false ex y ey h =
           let short = leb-false _ _ ex in
           let long : length (path_routes (routes_of d) plan e.train) ≡ length (path plan e.train) = length-map (route_at (routes_of d)) (path plan e.train) in
-          let far = not_past d adm n plan formed e.train e.command k (named (omega arith)) (omega arith) short in
+          let far = not_past d adm n plan formed e.train e.event.granted k (named (omega arith)) (omega arith) short in
           omega arith
 
   -- from an event to a later one of the same train, where the walk to there takes so many ticks from any tick at which the first has not happened
-  pub hop_by : (e f : Event) → e.train ≡ f.train → e.command ≤ f.command → e.place ≤ f.place → (P : ℕ → Type 0) → P 0 → ((i : ℕ) → has_happened d (routes_of d) plan e i ≡ false → P i) → (m : ℕ) → ((i j : ℕ) → P i → f.place ≤ (at (i + j) e.train).x → m ≤ j)
-      → (k : ℕ) → has_happened d (routes_of d) plan f k ≡ true → Takes d (routes_of d) plan e f (m - 1) k
+  pub hop_by : (e f : TrainEvent) → e.train ≡ f.train → e.event.granted ≤ f.event.granted → e.event.place ≤ f.event.place → (P : ℕ → Type 0) → P 0 → ((i : ℕ) → has_come_by d (routes_of d) plan e i ≡ false → P i) → (m : ℕ) → ((i j : ℕ) → P i → f.event.place ≤ (at (i + j) e.train).x → m ≤ j)
+      → (k : ℕ) → has_come_by d (routes_of d) plan f k ≡ true → Takes d (routes_of d) plan e f (m - 1) k
   hop_by e f one number walk P start waits m law k so = go (nat_le c k) refl
     where
       c : ℕ
       c = m - 1
 
-      by_then : (f.command ≤ (at k e.train).granted) × (f.place ≤ (at k e.train).x)
-      by_then = subst (λ t. (f.command ≤ (at k t).granted) × (f.place ≤ (at k t).x)) (sym one) (leb-true _ _ (and_left (nat_le f.command (at k f.train).granted) (nat_le f.place (at k f.train).x) so), leb-true _ _ (and_right (nat_le f.command (at k f.train).granted) (nat_le f.place (at k f.train).x) so))
+      by_then : (f.event.granted ≤ (at k e.train).granted) × (f.event.place ≤ (at k e.train).x)
+      by_then = subst (λ t. (f.event.granted ≤ (at k t).granted) × (f.event.place ≤ (at k t).x)) (sym one) (leb-true _ _ (and_left (nat_le f.event.granted (at k f.train).granted) (nat_le f.event.place (at k f.train).x) so), leb-true _ _ (and_right (nat_le f.event.granted (at k f.train).granted) (nat_le f.event.place (at k f.train).x) so))
 
       from_tick : (i j : ℕ) → i + j ≡ k → P i → m ≤ j
       from_tick i j sum hx = let s = ap (λ m. (at m e.train).x) sum in let b = by_then.1 in law i j hx (omega arith)
@@ -76,31 +76,31 @@ module _ (d : Station) (adm : IsAdmitted d) (n : ℕ) (plan : List (List Command
           let i = leb-false c k ez in
           let q = from_tick 0 k (omega arith) start in
           absurd (omega (arith, i, q))
-      go true ez = record { not_before = leb-true c k ez; happened = yes (has_happened d (routes_of d) plan e (k - c)) refl (zero_or c) }
+      go true ez = record { not_before = leb-true c k ez; happened = yes (has_come_by d (routes_of d) plan e (k - c)) refl (zero_or c) }
         where
-          yes : (z : Bool) → has_happened d (routes_of d) plan e (k - c) ≡ z → (c ≡ 0) ⊎ (1 ≤ c) → has_happened d (routes_of d) plan e (k - c) ≡ true
+          yes : (z : Bool) → has_come_by d (routes_of d) plan e (k - c) ≡ z → (c ≡ 0) ⊎ (1 ≤ c) → has_come_by d (routes_of d) plan e (k - c) ≡ true
           yes true h z = h
           yes false h (inl none) =
               let same : k ≡ k - c = omega arith in
               let b = by_then.0 in
               let w = by_then.1 in
-              let now : has_happened d (routes_of d) plan e k ≡ true = and_both _ _ (le-leb e.command (at k e.train).granted (omega arith)) (le-leb e.place (at k e.train).x (omega arith)) in
-              subst (λ i. has_happened d (routes_of d) plan e i ≡ true) same now
+              let now : has_come_by d (routes_of d) plan e k ≡ true = and_both _ _ (le-leb e.event.granted (at k e.train).granted (omega arith)) (le-leb e.event.place (at k e.train).x (omega arith)) in
+              subst (λ i. has_come_by d (routes_of d) plan e i ≡ true) same now
           yes false h (inr some) =
               let i = leb-true c k ez in
               let q = from_tick (k - c) c (omega arith) (waits (k - c) h) in
               absurd (omega (arith, some, q))
 
   -- along a leg
-  pub leg_hop : (e f : Event) → e.train ≡ f.train → (1 ≤ e.command → IsTrain d e.train) → e.command ≤ length (path plan e.train) → e.command ≤ f.command → e.place ≤ f.place → (before : List Route) (l : Leg) → HasLeg (routes_of d) plan e.train before l
-      → (h x y k : ℕ) → max (end_of e.train e.command) (e.place - 1) ≤ sum_by length_mm before + x → sum_by length_mm before + y ≤ f.place → has_happened d (routes_of d) plan f k ≡ true → Takes d (routes_of d) plan e f (least_ticks d e.train l h x y - 1) k
+  pub leg_hop : (e f : TrainEvent) → e.train ≡ f.train → (1 ≤ e.event.granted → IsTrain d e.train) → e.event.granted ≤ length (path plan e.train) → e.event.granted ≤ f.event.granted → e.event.place ≤ f.event.place → (before : List Route) (l : Leg) → HasLeg (routes_of d) plan e.train before l
+      → (h x y k : ℕ) → max (end_of e.train e.event.granted) (e.event.place - 1) ≤ sum_by length_mm before + x → sum_by length_mm before + y ≤ f.event.place → has_come_by d (routes_of d) plan f k ≡ true → Takes d (routes_of d) plan e f (least_ticks d e.train l h x y - 1) k
   leg_hop e f one named high number walk before l has h x y k near far =
       hop_by e f one number walk (λ i. (at i e.train).x ≤ sum_by length_mm before + x) (let s = at_start e.train in let s0 = s.1 in omega arith) (λ i no. let w = not_yet e i named high no in omega arith) (least_ticks d e.train l h x y)
       (λ i j at_i there. takes d adm n plan formed e.train before l has h i j x y at_i (omega arith)) k
 
   -- from a grant, for which the train has waited
-  pub wait_hop : (e f : Event) → e.train ≡ f.train → IsTrain d e.train → 1 ≤ e.command → e.command ≤ length (path plan e.train) → e.place ≡ 0 → e.command ≤ f.command → e.place ≤ f.place → (before : List Route) (l : Leg) → HasLeg (routes_of d) plan e.train before l
-      → (h x y k : ℕ) → end_of e.train e.command ≤ sum_by length_mm before + x → sum_by length_mm before + y ≤ f.place → has_happened d (routes_of d) plan f k ≡ true → Takes d (routes_of d) plan e f (least_ticks_waited d e.train l h x y - 1) k
+  pub wait_hop : (e f : TrainEvent) → e.train ≡ f.train → IsTrain d e.train → 1 ≤ e.event.granted → e.event.granted ≤ length (path plan e.train) → e.event.place ≡ 0 → e.event.granted ≤ f.event.granted → e.event.place ≤ f.event.place → (before : List Route) (l : Leg) → HasLeg (routes_of d) plan e.train before l
+      → (h x y k : ℕ) → end_of e.train e.event.granted ≤ sum_by length_mm before + x → sum_by length_mm before + y ≤ f.event.place → has_come_by d (routes_of d) plan f k ≡ true → Takes d (routes_of d) plan e f (least_ticks_waited d e.train l h x y - 1) k
   wait_hop e f one named some high none number walk before l has h x y k near far =
-      hop_by e f one number walk (λ i. (at i e.train).granted < e.command) (let s = at_start e.train in let s0 = s.0 in omega arith) (λ i no. not_granted e i none no) (least_ticks_waited d e.train l h x y)
-      (λ i j short there. waited d adm n plan formed e.train before l has e.command i x y named high short near h j (omega arith)) k
+      hop_by e f one number walk (λ i. (at i e.train).granted < e.event.granted) (let s = at_start e.train in let s0 = s.0 in omega arith) (λ i no. not_granted e i none no) (least_ticks_waited d e.train l h x y)
+      (λ i j short there. waited d adm n plan formed e.train before l has e.event.granted i x y named high short near h j (omega arith)) k

@@ -14,9 +14,9 @@ use Rattle.rail_spec.specs.Plans.{route_at, length_mm, shared, release_offset, p
 use Rattle.rail_spec.specs.Feasible.{IsWellFormed}
 use Rattle.rail_spec.specs.Dispatches.{state_of, of_plan, routes_before, is_granted, state_at}
 use Rattle.rail_base.proofs.Members.{and_left, and_right, and_both}
+use Rattle.rail_base.specs.declared.state.TrainEvent.{TrainEvent}
 use Rattle.rail_laws.proofs.Running.{idle_at_first}
-use Rattle.bound_spec.specs.Events.{Event}
-use Rattle.bound_spec.specs.Events.{has_happened, Takes}
+use Rattle.bound_spec.specs.Events.{Takes, has_come_by}
 use Rattle.free_spec.proofs.Heads.{grants_in, no_way_back}
 use Rattle.bound_spec.proofs.Clearing.{cleared_before}
 
@@ -26,8 +26,8 @@ module _ (d : Station) (routes : List Route) (plan : List (List Command)) where
 
   pub clear : (e c : Command) (z : SectionNo) → In e (preceding routes plan c) → In z (shared (route_at routes e.route) (route_at routes c.route)) → (x k : ℕ)
       → x ≤ sum_by length_mm (routes_before d routes (of_plan routes plan) e) + release_offset (route_at routes e.route) z + train_length d e.train
-      → let release : Event = record { train = e.train; command = length (routes_before d routes (of_plan routes plan) e) + 1; place = x } in let grant : Event = record { train = c.train; command = length (routes_before d routes (of_plan routes plan) c) + 1; place = 0 } in
-      has_happened d routes plan grant k ≡ true → Takes d routes plan release grant 1 k
+      → let release : TrainEvent = record { train = e.train; event = record { granted = length (routes_before d routes (of_plan routes plan) e) + 1; place = x } } in let grant : TrainEvent = record { train = c.train; event = record { granted = length (routes_before d routes (of_plan routes plan) c) + 1; place = 0 } } in
+      has_come_by d routes plan grant k ≡ true → Takes d routes plan release grant 1 k
   clear e c z pre there x zero near so =
       let l = leb-true _ _ (and_left (nat_le (length (routes_before d routes (of_plan routes plan) c) + 1) (state 0 c.train).granted) (nat_le 0 (state 0 c.train).x) so) in
       let s = ap (λ (s : TrainState). s.granted) (idle_at_first d routes (of_plan routes plan) c.train) in
@@ -39,24 +39,24 @@ module _ (d : Station) (routes : List Route) (plan : List (List Command)) where
       let g = leb-true _ _ (and_left (is_granted d routes (of_plan routes plan) (state_at d routes (of_plan routes plan) k) e) _ all) in
       let y = leb-true _ _ (and_right (is_granted d routes (of_plan routes plan) (state_at d routes (of_plan routes plan) k) e) _ all) in
       let back : k ≡ suc k - 1 = omega arith in
-      let release : Event = record { train = e.train; command = length (routes_before d routes (of_plan routes plan) e) + 1; place = x } in
-      let now : has_happened d routes plan release k ≡ true = and_both _ _ (le-leb (length (routes_before d routes (of_plan routes plan) e) + 1) (state k e.train).granted (omega arith)) (le-leb x (state k e.train).x (omega arith)) in
-      record { not_before = omega arith; happened = subst (λ i. has_happened d routes plan release i ≡ true) back now }
+      let release : TrainEvent = record { train = e.train; event = record { granted = length (routes_before d routes (of_plan routes plan) e) + 1; place = x } } in
+      let now : has_come_by d routes plan release k ≡ true = and_both _ _ (le-leb (length (routes_before d routes (of_plan routes plan) e) + 1) (state k e.train).granted (omega arith)) (le-leb x (state k e.train).x (omega arith)) in
+      record { not_before = omega arith; happened = subst (λ i. has_come_by d routes plan release i ≡ true) back now }
 
-  pub add : (e f g : Event) (a b k : ℕ) → ((i : ℕ) → has_happened d routes plan f i ≡ true → Takes d routes plan e f a i) → Takes d routes plan f g b k → Takes d routes plan e g (a + b) k
+  pub add : (e f g : TrainEvent) (a b k : ℕ) → ((i : ℕ) → has_come_by d routes plan f i ≡ true → Takes d routes plan e f a i) → Takes d routes plan f g b k → Takes d routes plan e g (a + b) k
   add e f g a b k hop later =
       let first = hop (k - b) later.happened in
       let p = later.not_before in
       let q = first.not_before in
       let same : k - b - a ≡ k - (a + b) = omega arith in
-      record { not_before = omega arith; happened = subst (λ i. has_happened d routes plan e i ≡ true) same first.happened }
+      record { not_before = omega arith; happened = subst (λ i. has_come_by d routes plan e i ≡ true) same first.happened }
 
 module _ (d : Station) (adm : IsAdmitted d) (n : ℕ) (plan : List (List Command)) (well : IsWellFormed d (routes_of d) n plan) where
   abbrev at : ℕ → TrainNo → TrainState
   at k t = state_of (state_at d (routes_of d) (of_plan (routes_of d) plan) k) t
 
-  pub next : (t : TrainNo) (i j k : ℕ) → i ≤ j → let first : Event = record { train = t; command = i; place = 0 } in let second : Event = record { train = t; command = j; place = 0 } in
-      has_happened d (routes_of d) plan second k ≡ true → Takes d (routes_of d) plan first second (j - i) k
+  pub next : (t : TrainNo) (i j k : ℕ) → i ≤ j → let first : TrainEvent = record { train = t; event = record { granted = i; place = 0 } } in let second : TrainEvent = record { train = t; event = record { granted = j; place = 0 } } in
+      has_come_by d (routes_of d) plan second k ≡ true → Takes d (routes_of d) plan first second (j - i) k
   next t i j k order so =
       let start = ap (λ (s : TrainState). s.granted) (idle_at_first d (routes_of d) (of_plan (routes_of d) plan) t) in
       let by = leb-true j (at k t).granted (and_left (nat_le j (at k t).granted) (nat_le 0 (at k t).x) so) in
@@ -69,12 +69,12 @@ module _ (d : Station) (adm : IsAdmitted d) (n : ℕ) (plan : List (List Command
       let hz = ap (λ i. (at i t).granted) w in
       record { not_before = low; happened = and_both _ _ (le-leb i (at (k - (j - i)) t).granted (omega arith)) (le-leb 0 (at (k - (j - i)) t).x (omega arith)) }
 
-  pub fewer : (e f : Event) (a b k : ℕ) → a ≤ b → Takes d (routes_of d) plan e f b k → Takes d (routes_of d) plan e f a k
+  pub fewer : (e f : TrainEvent) (a b k : ℕ) → a ≤ b → Takes d (routes_of d) plan e f b k → Takes d (routes_of d) plan e f a k
   fewer e f a b k less h =
       let p = h.not_before in
       let w = no_way_back d adm n plan well.formed (k - b) (k - a) e.train (omega arith) in
       let wg = w.0 in
       let wx = w.1 in
-      let g = leb-true _ _ (and_left (nat_le e.command (at (k - b) e.train).granted) (nat_le e.place (at (k - b) e.train).x) h.happened) in
-      let x = leb-true _ _ (and_right (nat_le e.command (at (k - b) e.train).granted) (nat_le e.place (at (k - b) e.train).x) h.happened) in
-      record { not_before = omega arith; happened = and_both _ _ (le-leb e.command (at (k - a) e.train).granted (omega arith)) (le-leb e.place (at (k - a) e.train).x (omega arith)) }
+      let g = leb-true _ _ (and_left (nat_le e.event.granted (at (k - b) e.train).granted) (nat_le e.event.place (at (k - b) e.train).x) h.happened) in
+      let x = leb-true _ _ (and_right (nat_le e.event.granted (at (k - b) e.train).granted) (nat_le e.event.place (at (k - b) e.train).x) h.happened) in
+      record { not_before = omega arith; happened = and_both _ _ (le-leb e.event.granted (at (k - a) e.train).granted (omega arith)) (le-leb e.event.place (at (k - a) e.train).x (omega arith)) }

@@ -14,7 +14,7 @@ use Rattle.rail_spec.specs.Track.{routes_of}
 use Rattle.rail_spec.specs.Plans.{path}
 use Rattle.rail_spec.specs.Feasible.{IsFeasible}
 use Rattle.rail_spec.specs.Dispatches.{of_plan}
-use Rattle.rail_spec.specs.Visits.{has_passed, pass_tick, visits_of_train, visit_tick}
+use Rattle.rail_spec.specs.Visits.{pass_tick, visits_of_train, visit_tick, happened_by}
 use Rattle.rail_spec.specs.Requirements.{both, command_numbers, visit_numbers, granted_by, visited_by, is_done, keeps_order, keeps_within, most_ticks}
 use Rattle.rail_base.proofs.Members.{and_left, and_right, list_all_at, below_or_not}
 use Rattle.rail_base.proofs.Lists.{in_count, in_entry}
@@ -96,10 +96,10 @@ module _ (d : Station) (adm : IsAdmitted d) (n : ℕ) (plan : List (List Command
   pub record PassedAt (v : VisitOf) (k : ℕ) : Type 0 where
     pub path_node : PathNode
     pub there : entry None (visits_of_train d (routes_of d) (of_plan (routes_of d) plan) v.train) v.number ≡ Some path_node
-    pub passed : has_passed d (routes_of d) (of_plan (routes_of d) plan) v.train path_node k ≡ true
+    pub passed : happened_by d (routes_of d) (of_plan (routes_of d) plan) v.train path_node.event k ≡ true
     pub some : 1 ≤ k
     pub soon : k ≤ horizon d
-    pub first : (i : ℕ) → 1 ≤ i → has_passed d (routes_of d) (of_plan (routes_of d) plan) v.train path_node i ≡ true → k ≤ i
+    pub first : (i : ℕ) → 1 ≤ i → happened_by d (routes_of d) (of_plan (routes_of d) plan) v.train path_node.event i ≡ true → k ≤ i
 
   pub passed_at : (v : VisitOf) (k : ℕ) → Makes v k → PassedAt v k
   passed_at v k h = go (entry None (visits_of_train d (routes_of d) (of_plan (routes_of d) plan) v.train) v.number) refl
@@ -107,9 +107,9 @@ module _ (d : Station) (adm : IsAdmitted d) (n : ℕ) (plan : List (List Command
       go : (o : Option PathNode) → entry None (visits_of_train d (routes_of d) (of_plan (routes_of d) plan) v.train) v.number ≡ o → PassedAt v k
       go None e = let none : None ≡ Some k = sym (ap (λ o. option_and_then (pass_tick d (routes_of d) (of_plan (routes_of d) plan) (horizon d) v.train) o) e) ∙ h in cc
       go (Some s) e =
-          let at : least (has_passed d (routes_of d) (of_plan (routes_of d) plan) v.train s) (horizon d) ≡ Some k = sym (ap (λ o. option_and_then (pass_tick d (routes_of d) (of_plan (routes_of d) plan) (horizon d) v.train) o) e) ∙ h in
-          let l = least_gives (has_passed d (routes_of d) (of_plan (routes_of d) plan) v.train s) (horizon d) k at in
-          record { path_node = s; there = e; passed = l.passes; some = l.first; soon = l.last; first = λ i some so. least_low (has_passed d (routes_of d) (of_plan (routes_of d) plan) v.train s) (horizon d) k i at some so }
+          let at : least (happened_by d (routes_of d) (of_plan (routes_of d) plan) v.train s.event) (horizon d) ≡ Some k = sym (ap (λ o. option_and_then (pass_tick d (routes_of d) (of_plan (routes_of d) plan) (horizon d) v.train) o) e) ∙ h in
+          let l = least_gives (happened_by d (routes_of d) (of_plan (routes_of d) plan) v.train s.event) (horizon d) k at in
+          record { path_node = s; there = e; passed = l.passes; some = l.first; soon = l.last; first = λ i some so. least_low (happened_by d (routes_of d) (of_plan (routes_of d) plan) v.train s.event) (horizon d) k i at some so }
 
   -- a within or an order has two visits, each made, and not too far apart
   pub record TwoVisits (q : Requirement) (from to : VisitOf) : Type 0 where

@@ -23,7 +23,7 @@ use Rattle.rail_base.proofs.Lists.{length-map}
 use Rattle.rail_laws.proofs.Admits.{sections_there}
 use Rattle.cone_spec.specs.Validity.{from_boundary}
 use Rattle.cone_spec.proofs.Prefixes.{not_to_boundary}
-use Rattle.bound_spec.specs.Events.{has_happened, Takes}
+use Rattle.bound_spec.specs.Events.{Takes, has_come_by}
 use Rattle.free_spec.specs.Legs.{HasLeg, least_ticks_waited}
 use Rattle.bound_spec.specs.Walks.{LieIn}
 use Rattle.bound_spec.specs.Rides.{Ride, first_place, greatest_of, release_place, least_route, run_ticks, ride_ticks, release_ticks, chain_ticks, Rides, walk_of, first_of, first_command, last_command, granted_first, reaches, Chained, arrives, on_ticks, chain_ticks_from, passes, first_target, wait_ticks, waits_out}
@@ -119,7 +119,7 @@ module _ (d : Station) (adm : IsAdmitted d) (n : ℕ) (plan : List (List Command
         ap (λ m. sum_by length_mm (take m (path_routes (routes_of d) plan r.train))) e ∙ ap (λ zs. sum_by length_mm (take (length before_routes) zs)) split ∙ ap (sum_by length_mm) (take_prefix before_routes (walk ++ map f i.more))
 
     -- from the grant of its first route to a place
-    run_takes : (y k : ℕ) → has_happened d (routes_of d) plan (reaches d (routes_of d) plan r i y) k ≡ true → Takes d (routes_of d) plan (granted_first d (routes_of d) plan r i) (reaches d (routes_of d) plan r i y) (run_ticks d (routes_of d) h r.train walk y) k
+    run_takes : (y k : ℕ) → has_come_by d (routes_of d) plan (reaches d (routes_of d) plan r i y) k ≡ true → Takes d (routes_of d) plan (granted_first d (routes_of d) plan r i) (reaches d (routes_of d) plan r i y) (run_ticks d (routes_of d) h r.train walk y) k
     run_takes y k so =
         let c = count in
         let e = end_is in
@@ -129,7 +129,7 @@ module _ (d : Station) (adm : IsAdmitted d) (n : ℕ) (plan : List (List Command
         (λ l own. waited d adm n plan well.formed r.train before_routes l own (length i.before + 1) a 0 y named (omega arith) short (omega arith) h b there)) k so
 
     -- from one place to another
-    on_takes : (x y k : ℕ) → x ≤ y → has_happened d (routes_of d) plan (reaches d (routes_of d) plan r i y) k ≡ true → Takes d (routes_of d) plan (passes d (routes_of d) plan r i x) (reaches d (routes_of d) plan r i y) (on_ticks d (routes_of d) h r.train walk x y) k
+    on_takes : (x y k : ℕ) → x ≤ y → has_come_by d (routes_of d) plan (reaches d (routes_of d) plan r i y) k ≡ true → Takes d (routes_of d) plan (passes d (routes_of d) plan r i x) (reaches d (routes_of d) plan r i y) (on_ticks d (routes_of d) h r.train walk x y) k
     on_takes x y k order so =
         let c = count in
         let e = end_is in
@@ -138,7 +138,7 @@ module _ (d : Station) (adm : IsAdmitted d) (n : ℕ) (plan : List (List Command
         (λ a b near there. whatever_follows d adm n plan well r.train before_routes walk (from_boundary walk) has_walk (λ l. least_ticks d r.train l h (x - 1) y) b
         (λ l own. takes d adm n plan well.formed r.train before_routes l own h a b (x - 1) y near there)) k so
 
-    pub ride_takes : (target : List Route → ℕ) (k : ℕ) → has_happened d (routes_of d) plan (reaches d (routes_of d) plan r i (target walk)) k ≡ true
+    pub ride_takes : (target : List Route → ℕ) (k : ℕ) → has_come_by d (routes_of d) plan (reaches d (routes_of d) plan r i (target walk)) k ≡ true
         → Takes d (routes_of d) plan (granted_first d (routes_of d) plan r i) (reaches d (routes_of d) plan r i (target walk)) (ride_ticks d (routes_of d) h r target) k
     ride_takes target k so =
         fewer d adm n plan well (granted_first d (routes_of d) plan r i) (reaches d (routes_of d) plan r i (target walk)) (ride_ticks d (routes_of d) h r target) (run_ticks d (routes_of d) h r.train walk (target walk)) k
@@ -161,7 +161,7 @@ module _ (d : Station) (adm : IsAdmitted d) (n : ℕ) (plan : List (List Command
           go (q ∷ prefix) (p ∷ ps) lie = lie.0
           go (q ∷ prefix) [] lie = absurd lie
 
-      release_takes : (k : ℕ) → has_happened d (routes_of d) plan (reaches d (routes_of d) plan r i place) k ≡ true → Takes d (routes_of d) plan (granted_first d (routes_of d) plan r i) (reaches d (routes_of d) plan r i place) (release_ticks d (routes_of d) h r s) k
+      release_takes : (k : ℕ) → has_come_by d (routes_of d) plan (reaches d (routes_of d) plan r i place) k ≡ true → Takes d (routes_of d) plan (granted_first d (routes_of d) plan r i) (reaches d (routes_of d) plan r i place) (release_ticks d (routes_of d) h r s) k
       release_takes k so =
           fewer d adm n plan well (granted_first d (routes_of d) plan r i) (reaches d (routes_of d) plan r i place) (release_ticks d (routes_of d) h r s) (run_ticks d (routes_of d) h r.train walk place) k
           (through_places d adm n plan well r.train before_routes walk (map f i.more) split r.places i.lies (λ rs. least_route (λ q. run_ticks d (routes_of d) h r.train rs (release_place d r.train rs q)) h (first_place s)) h _
@@ -177,7 +177,7 @@ module _ (d : Station) (adm : IsAdmitted d) (n : ℕ) (plan : List (List Command
       first_is [] last more = (more, refl)
       first_is (p ∷ prefix) last more = (prefix ++ last ∷ more, refl)
 
-      link : In (last_command d (routes_of d) plan r i) (preceding (routes_of d) plan (first_command d (routes_of d) plan s j)) → (z : SectionNo) → In z (shared (f i.last) next) → (k : ℕ) → has_happened d (routes_of d) plan (granted_first d (routes_of d) plan s j) k ≡ true
+      link : In (last_command d (routes_of d) plan r i) (preceding (routes_of d) plan (first_command d (routes_of d) plan s j)) → (z : SectionNo) → In z (shared (f i.last) next) → (k : ℕ) → has_come_by d (routes_of d) plan (granted_first d (routes_of d) plan s j) k ≡ true
           → Takes d (routes_of d) plan (reaches d (routes_of d) plan r i place) (granted_first d (routes_of d) plan s j) 1 k
       link pre z m k so = go (greatest_is (release_offset (f i.last)) (shared (f i.last) next) z m)
         where
@@ -200,12 +200,12 @@ module _ (d : Station) (adm : IsAdmitted d) (n : ℕ) (plan : List (List Command
           go (y, my, most) =
               let e1 = e_sum in
               let e2 = place_is i.prefix in
-              let so' = subst (λ (m : ℕ). has_happened d (routes_of d) plan (record { train = s.train; command = m; place = 0 }) k ≡ true) (sym c_number) so in
+              let so' = subst (λ (m : ℕ). has_come_by d (routes_of d) plan (record { train = s.train; event = record { granted = m; place = 0 } }) k ≡ true) (sym c_number) so in
               let h = clear d (routes_of d) plan (last_command d (routes_of d) plan r i) (first_command d (routes_of d) plan s j) y pre my (sum_by length_mm before_routes + place) k (omega arith) so' in
-              subst (λ (m : ℕ). Takes d (routes_of d) plan (record { train = r.train; command = m; place = sum_by length_mm before_routes + place }) (granted_first d (routes_of d) plan s j) 1 k) e_number
-              (subst (λ (m : ℕ). Takes d (routes_of d) plan (record { train = r.train; command = length (routes_before d (routes_of d) (of_plan (routes_of d) plan) (last_command d (routes_of d) plan r i)) + 1; place = sum_by length_mm before_routes + place }) (record { train = s.train; command = m; place = 0 }) 1 k) c_number h)
+              subst (λ (m : ℕ). Takes d (routes_of d) plan (record { train = r.train; event = record { granted = m; place = sum_by length_mm before_routes + place } }) (granted_first d (routes_of d) plan s j) 1 k) e_number
+              (subst (λ (m : ℕ). Takes d (routes_of d) plan (record { train = r.train; event = record { granted = length (routes_before d (routes_of d) (of_plan (routes_of d) plan) (last_command d (routes_of d) plan r i)) + 1; place = sum_by length_mm before_routes + place } }) (record { train = s.train; event = record { granted = m; place = 0 } }) 1 k) c_number h)
 
-  pub chain_takes : (r : Ride) (i : Rides d (routes_of d) plan r) (ss : List Ride) (c : Chained d (routes_of d) plan r i ss) (target : List Route → ℕ) (k : ℕ) → has_happened d (routes_of d) plan (arrives d (routes_of d) plan r i ss c target) k ≡ true
+  pub chain_takes : (r : Ride) (i : Rides d (routes_of d) plan r) (ss : List Ride) (c : Chained d (routes_of d) plan r i ss) (target : List Route → ℕ) (k : ℕ) → has_come_by d (routes_of d) plan (arrives d (routes_of d) plan r i ss c target) k ≡ true
       → Takes d (routes_of d) plan (granted_first d (routes_of d) plan r i) (arrives d (routes_of d) plan r i ss c target) (chain_ticks d (routes_of d) h r ss target) k
   chain_takes r i [] c target k so = ride_takes r i target k so
   chain_takes r i (s ∷ ss) c target k so =
@@ -216,9 +216,9 @@ module _ (d : Station) (adm : IsAdmitted d) (n : ℕ) (plan : List (List Command
       (add d (routes_of d) plan released (granted_first d (routes_of d) plan s j) last 1 (chain_ticks d (routes_of d) h s ss target) k (link r i s j c.1 c.2.0 c.2.1) (chain_takes s j ss c.3 target k so))
 
   -- the same to the grant for which the last ride waits
-  pub waits_take : (r : Ride) (i : Rides d (routes_of d) plan r) (ss : List Ride) (c : Chained d (routes_of d) plan r i ss) (k : ℕ) → has_happened d (routes_of d) plan (waits_out d (routes_of d) plan r i ss c) k ≡ true
+  pub waits_take : (r : Ride) (i : Rides d (routes_of d) plan r) (ss : List Ride) (c : Chained d (routes_of d) plan r i ss) (k : ℕ) → has_come_by d (routes_of d) plan (waits_out d (routes_of d) plan r i ss c) k ≡ true
       → Takes d (routes_of d) plan (granted_first d (routes_of d) plan r i) (waits_out d (routes_of d) plan r i ss c) (wait_ticks d (routes_of d) h r ss) k
-  waits_take r i [] c k so = let same : k ≡ k - 0 = omega arith in record { not_before = omega arith; happened = subst (λ i'. has_happened d (routes_of d) plan (granted_first d (routes_of d) plan r i) i' ≡ true) same so }
+  waits_take r i [] c k so = let same : k ≡ k - 0 = omega arith in record { not_before = omega arith; happened = subst (λ i'. has_come_by d (routes_of d) plan (granted_first d (routes_of d) plan r i) i' ≡ true) same so }
   waits_take r i (s ∷ ss) c k so =
       let j = c.0 in
       let released = reaches d (routes_of d) plan r i (place r i s j) in
@@ -227,7 +227,7 @@ module _ (d : Station) (adm : IsAdmitted d) (n : ℕ) (plan : List (List Command
       (add d (routes_of d) plan released (granted_first d (routes_of d) plan s j) last 1 (wait_ticks d (routes_of d) h s ss) k (link r i s j c.1 c.2.0 c.2.1) (waits_take s j ss c.3 k so))
 
   pub chain_takes_from : (origin : List Route → ℕ) (r : Ride) (i : Rides d (routes_of d) plan r) (ss : List Ride) (c : Chained d (routes_of d) plan r i ss) (target : List Route → ℕ) (k : ℕ) → origin (walk_of d (routes_of d) plan r i) ≤ first_target d (routes_of d) plan r i ss c target
-      → has_happened d (routes_of d) plan (arrives d (routes_of d) plan r i ss c target) k ≡ true
+      → has_come_by d (routes_of d) plan (arrives d (routes_of d) plan r i ss c target) k ≡ true
       → Takes d (routes_of d) plan (passes d (routes_of d) plan r i (origin (walk_of d (routes_of d) plan r i))) (arrives d (routes_of d) plan r i ss c target) (chain_ticks_from d (routes_of d) h origin r ss target) k
   chain_takes_from origin r i [] c target k order so =
       fewer d adm n plan well (passes d (routes_of d) plan r i (origin (walk r i))) (reaches d (routes_of d) plan r i (target (walk r i))) _ (on_ticks d (routes_of d) h r.train (walk r i) (origin (walk r i)) (target (walk r i))) k

@@ -18,8 +18,9 @@ use Rattle.rail_base.specs.Stations.{train_of, length_of, first_visit}
 use Rattle.rail_spec.specs.Track.{routes_of, edge_ends}
 use Rattle.rail_spec.specs.Plans.{route_at, path, path_routes, has_node, length_mm, starts_in, begins_in, is_start, end_at_one_signal}
 use Rattle.rail_spec.specs.Feasible.{IsWellFormed}
-use Rattle.rail_spec.specs.Visits.{path_nodes, path_nodes_of, path_nodes_after, visits_at, visits_on, visits_of_train}
+use Rattle.rail_spec.specs.Visits.{visits_of_train}
 use Rattle.rail_spec.specs.Dispatches.{of_plan}
+use Rattle.rail_spec.specs.Places.{path_nodes_of, path_nodes_after, path_nodes, visits_at, visits_on}
 use Rattle.rail_base.proofs.Members.{and_left, list_any_from}
 use Rattle.rail_base.proofs.Lists.{in_map, in_map_back, in_append}
 use Rattle.rail_laws.proofs.AsEdges.{told}
@@ -99,15 +100,15 @@ first_is_low d set o (e ∷ es) (q ∷ ps) h p m has = go (has_node set q.0) ref
 
 -- the first of some nodes in the set is the first stop at one
 first_path_node_of : (set : List NodeNo) (o j : ℕ) (ps : List (NodeNo × ℤ)) (more : List PathNode) → list_any (λ p. has_node set p.0) ps ≡ true
-    → (s : PathNode) × (first_of_list (from_first (λ (q : PathNode). has_node set q.node) (map (λ p. record { node = p.0; offset = o + nat_abs p.1; command = j }) ps ++ more)) ≡ Some s) × (s.offset ≡ o + first_in set ps) × (s.command ≡ j)
+    → (s : PathNode) × (first_of_list (from_first (λ (q : PathNode). has_node set q.node) (map (λ p. record { node = p.0; event = record { granted = j; place = o + nat_abs p.1 } }) ps ++ more)) ≡ Some s) × (s.event.place ≡ o + first_in set ps) × (s.event.granted ≡ j)
 first_path_node_of set o j [] more h = absurd (true≢false (sym h))
 first_path_node_of set o j (p ∷ ps) more h = go (has_node set p.0) h (first_path_node_of set o j ps more)
   where
     path_node : NodeNo × ℤ → PathNode
-    path_node q = record { node = q.0; offset = o + nat_abs q.1; command = j }
+    path_node q = record { node = q.0; event = record { granted = j; place = o + nat_abs q.1 } }
 
     Found : List PathNode → ℕ → Type 0
-    Found xs x = (s : PathNode) × (first_of_list xs ≡ Some s) × (s.offset ≡ o + x) × (s.command ≡ j)
+    Found xs x = (s : PathNode) × (first_of_list xs ≡ Some s) × (s.event.place ≡ o + x) × (s.event.granted ≡ j)
 
     go : (b : Bool) → (b || list_any (λ p. has_node set p.0) ps) ≡ true → (list_any (λ p. has_node set p.0) ps ≡ true → Found (from_first (λ (q : PathNode). has_node set q.node) (map path_node ps ++ more)) (first_in set ps))
         → Found (if b then path_node p ∷ (map path_node ps ++ more) else from_first (λ (q : PathNode). has_node set q.node) (map path_node ps ++ more)) (if b then nat_abs p.1 else first_in set ps)
@@ -117,18 +118,18 @@ first_path_node_of set o j (p ∷ ps) more h = go (has_node set p.0) h (first_pa
 -- or the first stop is at one of them, or none is
 found_or_none : (set : List NodeNo) (o j : ℕ) (ps : List (NodeNo × ℤ)) (more : List PathNode) (s : PathNode)
     → first_of_list (from_first (λ (q : PathNode). has_node set q.node) more) ≡ Some s
-    → (q : PathNode) × (first_of_list (from_first (λ (q : PathNode). has_node set q.node) (map (λ p. record { node = p.0; offset = o + nat_abs p.1; command = j }) ps ++ more)) ≡ Some q)
-    × ((q ≡ s) ⊎ ((p : NodeNo × ℤ) × In p ps × (q.offset ≡ o + nat_abs p.1) × (q.command ≡ j)))
+    → (q : PathNode) × (first_of_list (from_first (λ (q : PathNode). has_node set q.node) (map (λ p. record { node = p.0; event = record { granted = j; place = o + nat_abs p.1 } }) ps ++ more)) ≡ Some q)
+    × ((q ≡ s) ⊎ ((p : NodeNo × ℤ) × In p ps × (q.event.place ≡ o + nat_abs p.1) × (q.event.granted ≡ j)))
 found_or_none set o j [] more s h = (s, h, inl refl)
 found_or_none set o j (p ∷ ps) more s h = go (has_node set p.0) (found_or_none set o j ps more s h)
   where
     path_node : NodeNo × ℤ → PathNode
-    path_node q = record { node = q.0; offset = o + nat_abs q.1; command = j }
+    path_node q = record { node = q.0; event = record { granted = j; place = o + nat_abs q.1 } }
 
     Found : List PathNode → List (NodeNo × ℤ) → Type 0
-    Found xs ps = (q : PathNode) × (first_of_list xs ≡ Some q) × ((q ≡ s) ⊎ ((p : NodeNo × ℤ) × In p ps × (q.offset ≡ o + nat_abs p.1) × (q.command ≡ j)))
+    Found xs ps = (q : PathNode) × (first_of_list xs ≡ Some q) × ((q ≡ s) ⊎ ((p : NodeNo × ℤ) × In p ps × (q.event.place ≡ o + nat_abs p.1) × (q.event.granted ≡ j)))
 
-    further : (q : PathNode) → ((q ≡ s) ⊎ ((r : NodeNo × ℤ) × In r ps × (q.offset ≡ o + nat_abs r.1) × (q.command ≡ j))) → (q ≡ s) ⊎ ((r : NodeNo × ℤ) × In r (p ∷ ps) × (q.offset ≡ o + nat_abs r.1) × (q.command ≡ j))
+    further : (q : PathNode) → ((q ≡ s) ⊎ ((r : NodeNo × ℤ) × In r ps × (q.event.place ≡ o + nat_abs r.1) × (q.event.granted ≡ j))) → (q ≡ s) ⊎ ((r : NodeNo × ℤ) × In r (p ∷ ps) × (q.event.place ≡ o + nat_abs r.1) × (q.event.granted ≡ j))
     further q (inl e) = inl e
     further q (inr (r, m, x, y)) = inr (r, inr m, x, y)
 
@@ -155,14 +156,14 @@ module _ (d : Station) (adm : IsAdmitted d) where
     node : NodeNo × ℤ
     member : In node (after_first (f route).nodes)
     here : node.0 ≡ s.node
-    offset : s.offset ≡ o + path_length before + nat_abs node.1
-    command : s.command ≡ j + length before
+    offset : s.event.place ≡ o + path_length before + nat_abs node.1
+    command : s.event.granted ≡ j + length before
 
   on_one : (o j : ℕ) (r : RouteNo) (ps : List RouteNo) (s : PathNode) → In s (after_first (path_nodes_of o j (f r))) → Stands o j (r ∷ ps) s
   on_one o j r ps s m =
-      let path_node : NodeNo × ℤ → PathNode = λ q. record { node = q.0; offset = o + nat_abs q.1; command = j } in
+      let path_node : NodeNo × ℤ → PathNode = λ q. record { node = q.0; event = record { granted = j; place = o + nat_abs q.1 } } in
       let g = in_map_back path_node (after_first (f r).nodes) s (subst (λ xs. In s xs) (after-map path_node (f r).nodes) m) in
-      record { before = []; route = r; more = ps; whole = refl; node = g.0; member = g.1; here = ap (λ (q : PathNode). q.node) g.2; offset = let e = ap (λ (q : PathNode). q.offset) g.2 in omega arith; command = let e = ap (λ (q : PathNode). q.command) g.2 in omega arith }
+      record { before = []; route = r; more = ps; whole = refl; node = g.0; member = g.1; here = ap (λ (q : PathNode). q.node) g.2; offset = let e = ap (λ (q : PathNode). q.event.place) g.2 in omega arith; command = let e = ap (λ (q : PathNode). q.event.granted) g.2 in omega arith }
 
   stands : (ps : List RouteNo) (o j : ℕ) (s : PathNode) → In s (path_nodes_after o j (map f ps)) → Stands o j ps s
   stands [] o j s m = absurd m
@@ -196,7 +197,7 @@ module _ (d : Station) (adm : IsAdmitted d) where
   after_start : (r : RouteNo) (ps : List RouteNo) → In (f r) (routes_of d) → after_first (path_nodes (map f (r ∷ ps))) ≡ path_nodes_after 0 1 (map f (r ∷ ps))
   after_start r ps m =
       let n = nodes_of (f r) m in
-      let path_node : NodeNo × ℤ → PathNode = λ q. record { node = q.0; offset = 0 + nat_abs q.1; command = 1 } in
+      let path_node : NodeNo × ℤ → PathNode = λ q. record { node = q.0; event = record { granted = 1; place = 0 + nat_abs q.1 } } in
       let zero_more : length_mm (f r) ≡ 0 + length_mm (f r) = omega arith in
       ap (λ ns. after_first (map path_node ns ++ path_nodes_after (length_mm (f r)) 2 (map f ps))) n.whole ∙ sym (ap (λ ns. after_first (map path_node ns) ++ path_nodes_after (length_mm (f r)) 2 (map f ps)) n.whole)
       ∙ ap (λ o. after_first (path_nodes_of 0 1 (f r)) ++ path_nodes_after o 2 (map f ps)) zero_more
@@ -217,9 +218,9 @@ module _ (d : Station) (adm : IsAdmitted d) where
 
   -- a set that a route of the path leads to is met no later than on it
   met_by : (set : List NodeNo) (before : List RouteNo) (r : RouteNo) (more : List RouteNo) (o j : ℕ) → list_any (λ p. has_node set p.0) (after_first (f r).nodes) ≡ true
-      → (s : PathNode) × (first_of_list (from_first (λ (q : PathNode). has_node set q.node) (path_nodes_after o j (map f (before ++ r ∷ more)))) ≡ Some s) × (s.offset ≤ o + path_length before + first_in set (after_first (f r).nodes)) × (s.command ≤ j + length before)
+      → (s : PathNode) × (first_of_list (from_first (λ (q : PathNode). has_node set q.node) (path_nodes_after o j (map f (before ++ r ∷ more)))) ≡ Some s) × (s.event.place ≤ o + path_length before + first_in set (after_first (f r).nodes)) × (s.event.granted ≤ j + length before)
   met_by set [] r more o j leads =
-      let path_node : NodeNo × ℤ → PathNode = λ q. record { node = q.0; offset = o + nat_abs q.1; command = j } in
+      let path_node : NodeNo × ℤ → PathNode = λ q. record { node = q.0; event = record { granted = j; place = o + nat_abs q.1 } } in
       let g = first_path_node_of set o j (after_first (f r).nodes) (path_nodes_after (o + length_mm (f r)) (j + 1) (map f more)) leads in
       let e = ap (λ xs. first_of_list (from_first (λ (q : PathNode). has_node set q.node) (xs ++ path_nodes_after (o + length_mm (f r)) (j + 1) (map f more)))) (after-map path_node (f r).nodes) in
       let x = g.2 in
@@ -227,20 +228,20 @@ module _ (d : Station) (adm : IsAdmitted d) where
       (g.0, e ∙ g.1, omega arith, omega arith)
   met_by set (a ∷ before) r more o j leads = go (met_by set before r more (o + length_mm (f a)) (j + 1) leads)
     where
-      go : ((s : PathNode) × (first_of_list (from_first (λ (q : PathNode). has_node set q.node) (path_nodes_after (o + length_mm (f a)) (j + 1) (map f (before ++ r ∷ more)))) ≡ Some s) × (s.offset ≤ o + length_mm (f a) + path_length before + first_in set (after_first (f r).nodes)) × (s.command ≤ j + 1 + length before))
-          → (s : PathNode) × (first_of_list (from_first (λ (q : PathNode). has_node set q.node) (path_nodes_after o j (map f (a ∷ before ++ r ∷ more)))) ≡ Some s) × (s.offset ≤ o + path_length (a ∷ before) + first_in set (after_first (f r).nodes)) × (s.command ≤ j + length (a ∷ before))
+      go : ((s : PathNode) × (first_of_list (from_first (λ (q : PathNode). has_node set q.node) (path_nodes_after (o + length_mm (f a)) (j + 1) (map f (before ++ r ∷ more)))) ≡ Some s) × (s.event.place ≤ o + length_mm (f a) + path_length before + first_in set (after_first (f r).nodes)) × (s.event.granted ≤ j + 1 + length before))
+          → (s : PathNode) × (first_of_list (from_first (λ (q : PathNode). has_node set q.node) (path_nodes_after o j (map f (a ∷ before ++ r ∷ more)))) ≡ Some s) × (s.event.place ≤ o + path_length (a ∷ before) + first_in set (after_first (f r).nodes)) × (s.event.granted ≤ j + length (a ∷ before))
       go (s, at, x, y) =
-          let path_node : NodeNo × ℤ → PathNode = λ q. record { node = q.0; offset = o + nat_abs q.1; command = j } in
+          let path_node : NodeNo × ℤ → PathNode = λ q. record { node = q.0; event = record { granted = j; place = o + nat_abs q.1 } } in
           let e = ap (λ xs. first_of_list (from_first (λ (q : PathNode). has_node set q.node) (xs ++ path_nodes_after (o + length_mm (f a)) (j + 1) (map f (before ++ r ∷ more))))) (after-map path_node (f a).nodes) in
           let g = found_or_none set o j (after_first (f a).nodes) (path_nodes_after (o + length_mm (f a)) (j + 1) (map f (before ++ r ∷ more))) s at in
           let low = within g.0 g.2 in
           (g.0, e ∙ g.1, low.0, low.1)
         where
-          within : (q : PathNode) → ((q ≡ s) ⊎ ((p : NodeNo × ℤ) × In p (after_first (f a).nodes) × (q.offset ≡ o + nat_abs p.1) × (q.command ≡ j))) → (q.offset ≤ o + path_length (a ∷ before) + first_in set (after_first (f r).nodes)) × (q.command ≤ j + length (a ∷ before))
+          within : (q : PathNode) → ((q ≡ s) ⊎ ((p : NodeNo × ℤ) × In p (after_first (f a).nodes) × (q.event.place ≡ o + nat_abs p.1) × (q.event.granted ≡ j))) → (q.event.place ≤ o + path_length (a ∷ before) + first_in set (after_first (f r).nodes)) × (q.event.granted ≤ j + length (a ∷ before))
           within q (inl same) =
               let sum = sum_by-cons length_mm (f a) (map f before) in
-              let k = ap (λ (q : PathNode). q.offset) same in
-              let l = ap (λ (q : PathNode). q.command) same in
+              let k = ap (λ (q : PathNode). q.event.place) same in
+              let l = ap (λ (q : PathNode). q.event.granted) same in
               (omega arith, omega arith)
           within q (inr (p, m, k, l)) =
               let sum = sum_by-cons length_mm (f a) (map f before) in
@@ -255,9 +256,9 @@ module _ (d : Station) (adm : IsAdmitted d) where
       pub more : List RouteNo
       pub whole : path plan t ≡ before ++ route ∷ more
       pub may : can_visit d (routes_of d) t k route ≡ true
-      pub command : s.command ≡ length before + 1
-      pub low : path_length before + visit_offset d t k (f route) ≤ s.offset
-      pub high : s.offset ≤ path_length before + length_mm (f route)
+      pub command : s.event.granted ≡ length before + 1
+      pub low : path_length before + visit_offset d t k (f route) ≤ s.event.place
+      pub high : s.event.place ≤ path_length before + length_mm (f route)
 
     routes_in : (t : TrainNo) (p : RouteNo) → In p (path plan t) → In (f p) (routes_of d)
     routes_in t p m = (of_design d adm n plan well t (f p) (in_map f (path plan t) p m)).1
@@ -277,29 +278,29 @@ module _ (d : Station) (adm : IsAdmitted d) where
     made_first t (first ∷ later) s [] e h = cc
     made_first t (first ∷ later) s (r ∷ ps) e h =
         let m = nodes_of (f r) (routes_in t r (subst (λ xs. In r xs) (sym e) (inl refl))) in
-        let path_node : NodeNo × ℤ → PathNode = λ q. record { node = q.0; offset = 0 + nat_abs q.1; command = 1 } in
+        let path_node : NodeNo × ℤ → PathNode = λ q. record { node = q.0; event = record { granted = 1; place = 0 + nat_abs q.1 } } in
         let at : Some (path_node m.first) ≡ Some s = sym (ap (λ ns. first_of_list (map path_node ns ++ path_nodes_after (length_mm (f r)) 2 (map f ps))) m.whole) ∙ h in
         let same : path_node m.first ≡ s = cc in
-        let x = ap (λ (q : PathNode). q.offset) same in
-        let y = ap (λ (q : PathNode). q.command) same in
+        let x = ap (λ (q : PathNode). q.event.place) same in
+        let y = ap (λ (q : PathNode). q.event.granted) same in
         let z = m.start in
         record { before = []; route = r; more = ps; whole = e; may = begins t r ps e; command = omega arith; low = omega arith; high = omega arith }
 
-    first_path_node_at : (t : TrainNo) (sets : List (List NodeNo)) (s : PathNode) (ps : List RouteNo) → path plan t ≡ ps → entry None (visits_on sets (path_nodes (map f ps))) 1 ≡ Some s → (s.offset ≡ 0) × (s.command ≡ 1)
+    first_path_node_at : (t : TrainNo) (sets : List (List NodeNo)) (s : PathNode) (ps : List RouteNo) → path plan t ≡ ps → entry None (visits_on sets (path_nodes (map f ps))) 1 ≡ Some s → (s.event.place ≡ 0) × (s.event.granted ≡ 1)
     first_path_node_at t [] s ps e h = cc
     first_path_node_at t (first ∷ later) s [] e h = cc
     first_path_node_at t (first ∷ later) s (r ∷ ps) e h =
         let m = nodes_of (f r) (routes_in t r (subst (λ xs. In r xs) (sym e) (inl refl))) in
-        let path_node : NodeNo × ℤ → PathNode = λ q. record { node = q.0; offset = 0 + nat_abs q.1; command = 1 } in
+        let path_node : NodeNo × ℤ → PathNode = λ q. record { node = q.0; event = record { granted = 1; place = 0 + nat_abs q.1 } } in
         let at : Some (path_node m.first) ≡ Some s = sym (ap (λ ns. first_of_list (map path_node ns ++ path_nodes_after (length_mm (f r)) 2 (map f ps))) m.whole) ∙ h in
         let same : path_node m.first ≡ s = cc in
-        let x = ap (λ (q : PathNode). q.offset) same in
-        let y = ap (λ (q : PathNode). q.command) same in
+        let x = ap (λ (q : PathNode). q.event.place) same in
+        let y = ap (λ (q : PathNode). q.event.granted) same in
         let z = m.start in
         (omega arith, omega arith)
 
     -- the first visit is made at the start of the path
-    pub first_made : (t : TrainNo) (s : PathNode) → entry None (visits_of_train d (routes_of d) (of_plan (routes_of d) plan) t) 1 ≡ Some s → (s.offset ≡ 0) × (s.command ≡ 1)
+    pub first_made : (t : TrainNo) (s : PathNode) → entry None (visits_of_train d (routes_of d) (of_plan (routes_of d) plan) t) 1 ≡ Some s → (s.event.place ≡ 0) × (s.event.granted ≡ 1)
     first_made t s h = first_path_node_at t (train_of d t).visits s (path plan t) refl h
 
     made_later : (t : TrainNo) (k : ℕ) (sets : List (List NodeNo)) (s : PathNode) (ps : List RouteNo) → (train_of d t).visits ≡ sets → path plan t ≡ ps → entry None (visits_on sets (path_nodes (map f ps))) (suc (suc k)) ≡ Some s → MadeOn t (suc (suc k)) s
@@ -331,10 +332,10 @@ module _ (d : Station) (adm : IsAdmitted d) where
 
     -- the second visit is made no later than on a route that leads to it
     pub second_by : (t : TrainNo) (s : PathNode) (before : List RouteNo) (r : RouteNo) (more : List RouteNo) → path plan t ≡ before ++ r ∷ more → can_visit d (routes_of d) t 2 r ≡ true
-        → entry None (visits_of_train d (routes_of d) (of_plan (routes_of d) plan) t) 2 ≡ Some s → (s.offset ≤ path_length before + visit_offset d t 2 (f r)) × (s.command ≤ length before + 1)
+        → entry None (visits_of_train d (routes_of d) (of_plan (routes_of d) plan) t) 2 ≡ Some s → (s.event.place ≤ path_length before + visit_offset d t 2 (f r)) × (s.event.granted ≤ length before + 1)
     second_by t s before r more e may h = go (train_of d t).visits refl (before ++ r ∷ more) refl
       where
-        go : (sets : List (List NodeNo)) → (train_of d t).visits ≡ sets → (ps : List RouteNo) → before ++ r ∷ more ≡ ps → (s.offset ≤ path_length before + visit_offset d t 2 (f r)) × (s.command ≤ length before + 1)
+        go : (sets : List (List NodeNo)) → (train_of d t).visits ≡ sets → (ps : List RouteNo) → before ++ r ∷ more ≡ ps → (s.event.place ≤ path_length before + visit_offset d t 2 (f r)) × (s.event.granted ≤ length before + 1)
         go [] v ps w = let none : None ≡ Some s = sym (ap (λ sets. entry None (visits_on sets (path_nodes (path_routes (routes_of d) plan t))) 2) v) ∙ h in cc
         go (first ∷ []) v ps w = let none : None ≡ Some s = sym (ap (λ sets. entry None (visits_on sets (path_nodes (path_routes (routes_of d) plan t))) 2) v) ∙ h in cc
         go (first ∷ set ∷ sets) v [] w = cc
@@ -346,8 +347,8 @@ module _ (d : Station) (adm : IsAdmitted d) where
             ap (λ xs. first_of_list (from_first (λ (p : PathNode). has_node xs p.node) (after_first (path_nodes (path_routes (routes_of d) plan t))))) (sym same) ∙ sym (ap (λ sets. entry None (visits_on sets (path_nodes (path_routes (routes_of d) plan t))) 2) v) ∙ h in
             let at2 : Some g.0 ≡ Some s = sym g.1 ∙ ap (λ ps. first_of_list (from_first (λ (p : PathNode). has_node (nodes_of_visit d t 2) p.node) (path_nodes_after 0 1 (map f ps)))) w ∙ sym (ap (λ xs. first_of_list (from_first (λ (p : PathNode). has_node (nodes_of_visit d t 2) p.node) xs)) (ap (λ ps. after_first (path_nodes (map f ps))) (e ∙ w) ∙ after_start q qs m)) ∙ at in
             let is : g.0 ≡ s = cc in
-            let x = ap (λ (p : PathNode). p.offset) is in
-            let y = ap (λ (p : PathNode). p.command) is in
+            let x = ap (λ (p : PathNode). p.event.place) is in
+            let y = ap (λ (p : PathNode). p.event.granted) is in
             let xl = g.2 in
             let yl = g.3 in
             (omega arith, omega arith)

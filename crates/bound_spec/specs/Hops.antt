@@ -7,12 +7,13 @@ use Rattle.rail_base.specs.declared.route.Route.{Route}
 use Rattle.rail_base.specs.declared.plan.Command.{Command}
 use Rattle.rail_base.specs.Members.{In}
 use Rattle.rail_base.specs.Stations.{train_length}
+use Rattle.rail_base.specs.declared.state.TrainEvent.{TrainEvent}
 use Rattle.rail_spec.specs.Track.{routes_of}
 use Rattle.rail_spec.specs.Plans.{route_at, shared, release_offset, preceding, length_mm, path, path_routes}
 use Rattle.rail_spec.specs.Dispatches.{of_plan, routes_before}
 use Rattle.rail_laws.specs.Plans.{InEveryRun}
 use Rattle.free_spec.specs.Legs.{Leg, least_ticks, least_ticks_waited}
-use Rattle.bound_spec.specs.Events.{Event, Takes, granting, heading, reaching, HopTakes}
+use Rattle.bound_spec.specs.Events.{Takes, granting, heading, reaching, HopTakes}
 use Rattle.bound_spec.specs.Walks.{walks, least_walk, LieIn}
 use Rattle.bound_spec.specs.Rides.{Ride, chain_ticks, chain_ticks_from, wait_ticks, Rides, granted_first, walk_of, passes}
 use Rattle.bound_spec.specs.Rides.{first_target, Chained, arrives, waits_out}
@@ -26,7 +27,7 @@ module _ (d : Station) (plan : List (List Command)) (t : TrainNo) (before : List
 
   -- from one place of the leg to another
   abbrev pub WalkTakesLeast : Type 0
-  WalkTakesLeast = (h x y : ℕ) → x ≤ y → let at : ℕ → Event = λ x. heading t (sum_by length_mm before + x) in
+  WalkTakesLeast = (h x y : ℕ) → x ≤ y → let at : ℕ → TrainEvent = λ x. heading t (sum_by length_mm before + x) in
       HopTakes d (routes_of d) plan (at x) (at y) (least_ticks d t l h (x - 1) y - 1)
 
 -- a command comes at least a tick after the one before it has released what the two share
@@ -40,7 +41,7 @@ WaitTakesTick d routes plan = (e c : Command) (z : SectionNo) → In e (precedin
 
 -- what two hops in a row take adds up
 abbrev pub HopsAddUp : Station → List Route → List (List Command) → Type 0
-HopsAddUp d routes plan = (e f g : Event) (a b k : ℕ) → HopTakes d routes plan e f a → Takes d routes plan f g b k
+HopsAddUp d routes plan = (e f g : TrainEvent) (a b k : ℕ) → HopTakes d routes plan e f a → Takes d routes plan f g b k
     → Takes d routes plan e g (a + b) k
 
 -- from one grant of a train to a later one it takes a tick each
@@ -50,7 +51,7 @@ GrantTakesTick d plan = (t : TrainNo) (i j : ℕ) → i ≤ j
 
 -- what takes so many ticks takes fewer
 abbrev pub TakesFewer : Station → List (List Command) → Type 0
-TakesFewer d plan = (e f : Event) (a b k : ℕ) → a ≤ b
+TakesFewer d plan = (e f : TrainEvent) (a b k : ℕ) → a ≤ b
     → Takes d (routes_of d) plan e f b k → Takes d (routes_of d) plan e f a k
 
 -- the least over all walks by these places is at most what the walk in the path takes

@@ -8,9 +8,9 @@ use Rattle.rail_base.specs.declared.route.RouteNo.{RouteNo}
 use Rattle.rail_base.specs.declared.plan.Command.{Command}
 use Rattle.rail_base.specs.Members.{In}
 use Rattle.rail_base.specs.Stations.{train_length}
+use Rattle.rail_base.specs.declared.state.TrainEvent.{TrainEvent}
 use Rattle.rail_spec.specs.Plans.{route_at, length_mm, shared, release_offset, path, preceding}
 use Rattle.cone_spec.specs.Validity.{from_boundary}
-use Rattle.bound_spec.specs.Events.{Event}
 use Rattle.free_spec.specs.Legs.{least_ticks, least_ticks_waited, least_whatever_follows}
 use Rattle.bound_spec.specs.Walks.{walks, least_walk, LieIn}
 
@@ -109,15 +109,14 @@ module _ (d : Station) (routes : List Route) (plan : List (List Command)) where
   last_command r i = record { train = r.train; route = i.last }
 
   -- that the first command is granted
-  abbrev pub granted_first : (r : Ride) → Rides r → Event
-  granted_first r i = record { train = r.train; command = length i.before + 1; place = 0 }
+  abbrev pub granted_first : (r : Ride) → Rides r → TrainEvent
+  granted_first r i = record { train = r.train; event = record { granted = length i.before + 1; place = 0 } }
 
   -- that the head is so far on the walk, with all its commands granted
-  abbrev pub reaches : (r : Ride) → Rides r → ℕ → Event
+  abbrev pub reaches : (r : Ride) → Rides r → ℕ → TrainEvent
   reaches r i y = record {
     train = r.train;
-    command = length i.before + length i.prefix + 1;
-    place = sum_by length_mm (map (route_at routes) i.before) + y;
+    event = record { granted = length i.before + length i.prefix + 1; place = sum_by length_mm (map (route_at routes) i.before) + y };
   }
 
   -- rides of which each one's first command waits for the last of the one before
@@ -128,21 +127,20 @@ module _ (d : Station) (routes : List Route) (plan : List (List Command)) where
       × Chained s j ss
 
   -- that the head of the last is at the place
-  abbrev pub arrives : (r : Ride) (i : Rides r) (ss : List Ride) → Chained r i ss → (List Route → ℕ) → Event
+  abbrev pub arrives : (r : Ride) (i : Rides r) (ss : List Ride) → Chained r i ss → (List Route → ℕ) → TrainEvent
   arrives r i [] c target = reaches r i (target (walk_of r i))
   arrives r i (s ∷ ss) c target = arrives s c.0 ss c.3 target
 
   -- that the last ride's first command is granted
-  abbrev pub waits_out : (r : Ride) (i : Rides r) (ss : List Ride) → Chained r i ss → Event
+  abbrev pub waits_out : (r : Ride) (i : Rides r) (ss : List Ride) → Chained r i ss → TrainEvent
   waits_out r i [] c = granted_first r i
   waits_out r i (s ∷ ss) c = waits_out s c.0 ss c.3
 
   -- that the first command is granted and the head so far on the walk
-  abbrev pub passes : (r : Ride) → Rides r → ℕ → Event
+  abbrev pub passes : (r : Ride) → Rides r → ℕ → TrainEvent
   passes r i x = record {
     train = r.train;
-    command = length i.before + 1;
-    place = sum_by length_mm (map (route_at routes) i.before) + x;
+    event = record { granted = length i.before + 1; place = sum_by length_mm (map (route_at routes) i.before) + x };
   }
 
   -- the place to which the first ride goes: where it has released what the next waits for, or the last place

@@ -13,7 +13,6 @@ use Rattle.rail_base.specs.Admission.{is_from, is_visit}
 use Rattle.rail_base.specs.Stations.{horizon, within_of}
 use Rattle.rail_spec.specs.Plans.{route_at, length_mm, is_train, is_route, goes_on, contend, exits, route_numbers, all_commands}
 use Rattle.rail_spec.specs.Feasible.{is_of}
-use Rattle.rail_spec.specs.Visits.{may_visit}
 use Rattle.rail_spec.specs.Requirements.{most_ticks, visit_numbers}
 use Rattle.cone_spec.specs.Cones.{has_route, named}
 use Rattle.cone_spec.specs.Validity as cone
@@ -35,6 +34,7 @@ use Rattle.bound_spec.specs.Rides.{release_place, chain_ticks, chain_ticks_from,
 use Rattle.bound_spec.specs.Certificates.{VisitOf, routes_of_place, kept_out, first_of_leg, last_of_leg, ride_of, nodes_of_visit, visit_offset, visit_from, visit_to, train_to, target, visit_place, cone_of}
 use Rattle.bound_spec.specs.Clauses.{is_named, is_kept_out, is_before, is_kept_behind, clause_of_bound}
 use Rattle.rail_spec.specs.Track.{routes_of}
+use Rattle.rail_spec.specs.Places.{may_visit}
 use Rattle.cone_spec.specs.Clauses.{is_false_of}
 pub use Rattle.rail_spec.specs.Track.{is_empty}
 

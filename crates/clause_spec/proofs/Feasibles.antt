@@ -11,9 +11,10 @@ use Rattle.rail_base.specs.Numbering.{from_first, after_first}
 use Rattle.rail_base.specs.Stations.{trains, train_of, horizon}
 use Rattle.rail_spec.specs.Plans.{has_node, path_routes}
 use Rattle.rail_base.specs.declared.state.PathNode.{PathNode}
-use Rattle.rail_spec.specs.Visits.{path_nodes, visits_at, visits_on, pass_tick, visits_of_train, makes_visits}
+use Rattle.rail_spec.specs.Visits.{pass_tick, visits_of_train, makes_visits}
 use Rattle.rail_spec.specs.Dispatches.{of_plan}
 use Rattle.rail_spec.specs.Requirements.{is_done, command_numbers, granted_by, visit_numbers, visited_by, keeps_order, meets}
+use Rattle.rail_spec.specs.Places.{path_nodes, visits_at, visits_on}
 use Rattle.rail_base.proofs.Members.{In, and_left, and_right, and_both, list_all_at}
 use Rattle.rail_base.proofs.Lists.{in_count}
 

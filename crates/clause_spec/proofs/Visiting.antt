@@ -13,8 +13,8 @@ use Rattle.rail_base.specs.Stations.{train_of, trains}
 use Rattle.rail_spec.specs.Plans.{route_at, path, path_routes, has_node, length_mm, route_numbers}
 use Rattle.rail_spec.specs.Dispatches.{of_plan}
 use Rattle.rail_base.specs.declared.state.PathNode.{PathNode}
-use Rattle.rail_spec.specs.Visits.{path_nodes, path_nodes_of, path_nodes_after, visits_at, visits_on}
 use Rattle.rail_spec.specs.Visits as visits
+use Rattle.rail_spec.specs.Places.{path_nodes_of, path_nodes_after, path_nodes, visits_at, visits_on}
 use Rattle.rail_base.proofs.Members.{In, and_left, and_right, list_any_from, in_filter}
 use Rattle.clause_spec.specs.Variables.{Given, yes}
 use Rattle.clause_spec.specs.Clauses.{Clause, may_visit, visited, makes_visits}
@@ -79,7 +79,7 @@ after-map f (x ∷ xs) = refl
 
 on_one : (offset j : ℕ) (r : Route) (rs : List Route) (p : PathNode) → In r rs → In p (after_first (path_nodes_of offset j r)) → On p rs
 on_one offset j r rs p m k =
-    let path_node : NodeNo × ℤ → PathNode = λ q. record { node = q.0; offset = offset + nat_abs q.1; command = j } in
+    let path_node : NodeNo × ℤ → PathNode = λ q. record { node = q.0; event = record { granted = j; place = offset + nat_abs q.1 } } in
     let f = in_map_back path_node (after_first r.nodes) p (subst (λ xs. In p xs) (after-map path_node r.nodes) k) in
     record { route = r; member = m; entry = f.0; at = f.1; node = ap (λ (q : PathNode). q.node) f.2 }
 

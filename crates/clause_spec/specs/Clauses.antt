@@ -14,7 +14,7 @@ use Rattle.rail_base.specs.Numbering.{one_to, entry}
 use Rattle.rail_base.specs.Stations.{trains, train_of, train_length, first_visit}
 use Rattle.rail_spec.specs.Plans.{route_at, goes_on, is_start, end_at_one_signal, exits, length_mm, shared}
 use Rattle.rail_spec.specs.Plans.{release_offset, has_node, route_numbers, all_commands}
-use Rattle.rail_spec.specs.Visits as visits
+use Rattle.rail_spec.specs.Places as places
 use Rattle.clause_spec.specs.Variables.{Given, Before, By, Literal, yes, no, if_given, pairs, numbered}
 use Rattle.sat_clause.specs.declared.lit.Lit.{Lit}
 
@@ -135,7 +135,7 @@ module _ (d : Station) (routes : List Route) (n : ℕ) where
 
   -- the visit may be made on the route
   abbrev pub may_visit : ℕ → List NodeNo → RouteNo → Bool
-  may_visit k set r = visits.may_visit k set (route_at routes r)
+  may_visit k set r = places.may_visit k set (route_at routes r)
 
   -- one of these routes is given
   abbrev pub visited : TrainNo → ℕ → Clause

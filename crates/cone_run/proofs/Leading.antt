@@ -15,7 +15,7 @@ use Rattle.dispatch_run.specs.FollowedTrains.{IsFollowedTrain, MayGo, follows}
 use Rattle.cone_run.proofs.Ranging.{cone_sound}
 use Rattle.cone_run.proofs.Riding.{can_move_at, can_go_at}
 
-pub followed_train_is : (d : Station) (routes : List Route) (k : Cone) (f : FollowedTrain) → IsJourney d routes (of_cone k) f.journey.now → f.until ≡ Some (named k f.journey.now.train_path.now.train).horizon → IsFollowedTrain d routes (of_cone k) f
+pub followed_train_is : (d : Station) (routes : List Route) (k : Cone) (f : FollowedTrain) → IsJourney d routes (of_cone k) f.journey → f.until ≡ Some (named k f.journey.train_path.train).horizon → IsFollowedTrain d routes (of_cone k) f
 followed_train_is d routes k f is ends = record { journey = is; following = λ i. ap (λ u. follows u i) (sym ends) }
 
 module _ (d : Station) (routes : List Route) (k : Cone) (known : in_design d routes k ≡ true) where

@@ -12,8 +12,8 @@ use Rattle.rail_base.specs.Routes.{route_at}
 use Rattle.rail_base.specs.Stations.{IsTrain, horizon, vehicle_of}
 use Rattle.rail_spec.specs.Motion.{permitted, next_speed, reach}
 use Rattle.rail_spec.specs.Plans.{path, path_routes}
-use Rattle.rail_spec.specs.Dispatches.{state_of, state_at, rates, stretches, authority, is_ready, granted_with}
-use Rattle.rail_spec.specs.Dispatches.{granted_after, speed_with, moved, of_plan}
+use Rattle.rail_spec.specs.Dispatches.{state_of, state_at, rates, stretches, is_ready, granted_with, speed_in, with_granted, track_end}
+use Rattle.rail_spec.specs.Dispatches.{granted_after, moved, of_plan}
 use Rattle.rail_laws.proofs.MotionLaws.{permitted_after, next_speed_permitted}
 use Rattle.rail_laws.proofs.UnderWay.{IsSound, Travels, still}
 use Rattle.rail_course.specs.Tracks.{routes_at}
@@ -53,7 +53,7 @@ module _ (d : Station) (routes : List Route) (k : Cone) where
       with : List RouteNo → TrainState
       with ps =
           let given = take (suc n) (map (route_at routes) ps) in
-          let u = next_speed (rates d t) (stretches d given) (authority given) old.x old.v in
+          let u = next_speed (rates d t) (stretches d given) (track_end given) old.x old.v in
           record { granted = suc n; x = old.x + u; v = u }
 
   next_grants : (s : List TrainState) (t : TrainNo) → (granted_after d routes (of_cone k) s t ≡ (state_of s t).granted) ⊎ (granted_after d routes (of_cone k) s t ≡ (state_of s t).granted + 1)
@@ -78,10 +78,10 @@ module _ (d : Station) (routes : List Route) (k : Cone) where
     travels_on t named old zero slows h (inr e) = absurd (omega arith)
     travels_on t named old (suc n) slows h e =
         let now = still d routes (plan t) (sound t) t named old n h e in
-        let u = next_speed (rates d t) (stretches d (given t (suc n))) (authority (given t (suc n))) old.x old.v in
+        let u = next_speed (rates d t) (stretches d (given t (suc n))) (track_end (given t (suc n))) old.x old.v in
         record {
           waits = λ z. absurd (omega arith);
-          braking = λ l. permitted_after (rates d t) (stretches d (given t (suc n))) (authority (given t (suc n))) old.x old.v u slows (next_speed_permitted (rates d t) (stretches d (given t (suc n))) (authority (given t (suc n))) old.x old.v _ now);
+          braking = λ l. permitted_after (rates d t) (stretches d (given t (suc n))) (track_end (given t (suc n))) old.x old.v u slows (next_speed_permitted (rates d t) (stretches d (given t (suc n))) (track_end (given t (suc n))) old.x old.v _ now);
         }
 
     travels : (n : ℕ) (t : TrainNo) → Travels d routes (plan t) t (state_of (state_at d routes (of_cone k) n) t)
@@ -113,7 +113,7 @@ module _ (d : Station) (routes : List Route) (k : Cone) where
   moved_small t n old zero top h = let a = h.x in let s = suc-mul n 100000 in record { x = omega arith; v = h.v }
   moved_small t n old (suc g) top h =
       let given = take (suc g) (map (route_at routes) (free_path k t)) in
-      let u : speed_with d routes (of_cone k) (suc g) t old ≤ reach (rates d t) old.v = greatest_within (permitted (rates d t) (stretches d given) (authority given) old.x old.v) (reach (rates d t) old.v) in
+      let u : speed_in d routes (of_cone k) t (with_granted (suc g) old) ≤ reach (rates d t) old.v = greatest_within (permitted (rates d t) (stretches d given) (track_end given) old.x old.v) (reach (rates d t) old.v) in
       let a = h.x in
       let s = suc-mul n 100000 in
       record { x = omega arith; v = omega arith }
@@ -137,7 +137,7 @@ module _ (d : Station) (routes : List Route) (k : Cone) where
       → (g ≡ (state_of (state_at d routes (of_cone k) n) t).granted) ⊎ (g ≡ (state_of (state_at d routes (of_cone k) n) t).granted + 1) → CanMove d routes (of_cone k) t g (state_of (state_at d routes (of_cone k) n) t)
   may_move adm sound n early t there g within next = record {
     within = within;
-    braking = subst (λ ps. 1 ≤ g → permitted (rates d t) (stretches d (take g (routes_at routes ps))) (authority (take g (routes_at routes ps))) old.x old.v (old.v - (rates d t).brake) ≡ true) (same t) (go g next);
+    braking = subst (λ ps. 1 ≤ g → permitted (rates d t) (stretches d (take g (routes_at routes ps))) (track_end (take g (routes_at routes ps))) old.x old.v (old.v - (rates d t).brake) ≡ true) (same t) (go g next);
     below_2_46 = let x = small.x in let m : n * 100000 ≤ 86400 * 100000 = mul-le-mul early (le_refl 100000) in omega arith;
     slow = small.v;
   }
@@ -148,7 +148,7 @@ module _ (d : Station) (routes : List Route) (k : Cone) where
       small : IsSmall n old
       small = stays_small adm n t
 
-      go : (g : ℕ) → (g ≡ old.granted) ⊎ (g ≡ old.granted + 1) → 1 ≤ g → permitted (rates d t) (stretches d (given t g)) (authority (given t g)) old.x old.v (old.v - (rates d t).brake) ≡ true
+      go : (g : ℕ) → (g ≡ old.granted) ⊎ (g ≡ old.granted + 1) → 1 ≤ g → permitted (rates d t) (stretches d (given t g)) (track_end (given t g)) old.x old.v (old.v - (rates d t).brake) ≡ true
       go zero e l = absurd (omega arith)
       go (suc g) e l = still d routes (plan t) (sound t) t there old g (travels sound n t) e
 

@@ -1,5 +1,5 @@
--- A cone with its train paths: what its run is, and what is asked of it.
-use Rattle.std.specs.Prelude.{ℕ, ◌+◌, ◌-◌, Bool, ◌&&◌, List, map, nat_le, Option, is_none, ◌≡◌}
+-- A cone that speaks of the design: what its run is, and what is asked of it.
+use Rattle.std.specs.Prelude.{ℕ, ◌+◌, ◌-◌, Bool, ◌&&◌, List, nat_le, Option, is_none, ◌≡◌}
 use Rattle.std.specs.List.{list_all}
 use Rattle.rail_base.specs.declared.station.Station.{Station}
 use Rattle.rail_base.specs.declared.station.Order.{Order}
@@ -13,11 +13,6 @@ use Rattle.rail_base.specs.declared.history.TrainHistory.{TrainHistory}
 use Rattle.rail_spec.specs.Dispatches.{state_at}
 use Rattle.rail_spec.specs.Dispatches as dispatches
 use Rattle.rail_spec.specs.Requirements.{most_ticks}
-use Rattle.rail_course.specs.declared.journey.Journey.{Journey}
-use Rattle.rail_course.specs.declared.waits.Wait.{Wait}
-use Rattle.rail_course.specs.Itineraries.{wait_in}
-use Rattle.rail_course.specs.Itineraries as itineraries
-use Rattle.rail_course.specs.Journeys.{AreJourneys}
 use Rattle.cone_spec.specs.declared.ConeFault.{ConeFault}
 use Rattle.cone_spec.specs.declared.ConeTrain.{ConeTrain}
 use Rattle.cone_spec.specs.Cones.{named, of_cone}
@@ -29,6 +24,8 @@ use Rattle.cone_run.specs.Checks.{IsEntry}
 use Rattle.cone_run.specs.Runs.{run_of, visit_in_run}
 use Rattle.rail_base.specs.Stations.{within_of, order_of}
 use Rattle.rail_base.specs.declared.plan.Violation.TheVariants as violation
+use Rattle.rail_course.specs.declared.journey.Journey.{Journey}
+use Rattle.rail_course.specs.Journeys.{AreJourneys}
 
 module _ (l : ConeLayout) where
   -- the station
@@ -45,23 +42,13 @@ module _ (l : ConeLayout) where
   abbrev pub history_in : List TrainHistory
   history_in = run_of l.contention.interlocking.now l.cone.now
 
-  -- what a command waits for: those that are listed before it
-  abbrev pub waits_in : Command → List Wait
-  waits_in c = map (wait_in l.train_paths.given c) ((of_cone l.cone.now).before c)
-
-  -- the waits of each free command of a train
-  abbrev pub train_waits_in : TrainNo → List (List Wait)
-  train_waits_in = itineraries.train_waits_in l.train_paths.given (of_cone l.cone.now).before
-
   -- these are the journeys of all trains in the run, in file order
   abbrev pub AreJourneysOf : List Journey → Type 0
-  AreJourneysOf = let i = l.train_paths.given.interlocking.now in
-      AreJourneys i.design.station i.routes (of_cone l.cone.now)
+  AreJourneysOf = AreJourneys station_of routes_in (of_cone l.cone.now)
 
   -- these are the followed trains of all trains in the run, in file order
   abbrev pub AreFollowedTrainsOf : List FollowedTrain → Type 0
-  AreFollowedTrainsOf = let i = l.train_paths.given.interlocking.now in
-      AreFollowedTrains i.design.station i.routes (of_cone l.cone.now)
+  AreFollowedTrainsOf = AreFollowedTrains station_of routes_in (of_cone l.cone.now)
 
   -- ---- what is asked of it
 

@@ -6,10 +6,8 @@ ghost use Rattle.cone_run.specs.Runs.{first_reason};
 
 use crate::checked::ConeRun;
 use crate::layout::ConeLayout;
-use crate::paths::free_paths;
 use cone_form::{Contention, is_in_design};
 use cone_spec::{Cone, ConeFault};
-use rail_course::{Itineraries, TrainPaths};
 use std::alloc::{AllocError, Global};
 
 /// The first of the reasons for which a cone shows nothing, or None where it is valid.
@@ -24,21 +22,9 @@ pub fn fault_of<'a>(
     if !fits {
         return Ok(Some(ConeFault::PathNotInDesign));
     }
-    let interlocking = contention.interlocking;
-    let paths = free_paths(alloc, interlocking, cone)?;
-    let given = Itineraries {
-        interlocking,
-        paths: paths.as_slice(),
-    };
-    let train_paths = given.train_paths(alloc)?;
-    let train_paths = TrainPaths {
-        given,
-        train_paths: train_paths.as_slice(),
-    };
     let layout = ConeLayout {
         contention: *contention,
         cone,
-        train_paths,
     };
     layout.fault(alloc)
 }

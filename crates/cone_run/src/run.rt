@@ -11,13 +11,12 @@ ghost use Rattle.cone_run.specs.Runs.{last_tick, run_of};
 ghost use Rattle.interlocking.specs.Plans.{on};
 
 use crate::layout::ConeLayout;
-use crate::paths::free_paths;
+use crate::paths::ConePaths;
 use cone_form::Contention;
 use cone_spec::Cone;
 use dispatch_run::Traffic;
 use rail_base::history::{History, TrainHistory};
 use rail_base::list::List;
-use rail_course::{Itineraries, TrainPaths};
 use std::alloc::{AllocError, Global};
 
 /// What happens to each train in the run of a cone, up to the greatest horizon.
@@ -29,21 +28,9 @@ pub fn cone_history<'a>(
     requires known { fits contention.now.interlocking.now cone.now ≡ true }
     ensures { IfOk result (λ h. h ≡ run_of contention.now.interlocking.now cone.now) }
 {
-    let interlocking = contention.interlocking;
-    let paths = free_paths(alloc, interlocking, cone)?;
-    let given = Itineraries {
-        interlocking,
-        paths: paths.as_slice(),
-    };
-    let train_paths = given.train_paths(alloc)?;
-    let train_paths = TrainPaths {
-        given,
-        train_paths: train_paths.as_slice(),
-    };
     let layout = ConeLayout {
         contention: *contention,
         cone,
-        train_paths,
     };
     Ok(List::from_vec(layout.history(alloc)?))
 }
@@ -53,11 +40,11 @@ impl ConeLayout<'_> {
     pub(crate) fn history(&self, alloc: Global) -> Result<Vec<TrainHistory>, AllocError>
         ensures { IfOk result (λ h. h.items ≡ history_in self.now) }
     {
-        let interlocking = self.contention.interlocking;
-        let journeys = self.journeys(alloc)?;
-        let followed_trains = self.followed_trains(alloc, journeys.as_slice())?;
+        let paths = ConePaths::of(alloc, *self)?;
+        let journeys = paths.into_journeys(alloc)?;
+        let followed_trains = self.followed_trains(alloc, journeys)?;
         let traffic = Traffic {
-            interlocking,
+            interlocking: self.contention.interlocking,
             followed_trains: followed_trains.as_slice(),
         };
         history_of(&traffic, self.cone, alloc, last_tick(self.cone))

@@ -8,12 +8,10 @@ ghost use Rattle.cone_run.specs.Runs.{visit_in_run};
 
 use crate::checked::ConeRun;
 use crate::layout::ConeLayout;
-use crate::paths::free_paths;
 use crate::waits::horizon_of;
 use cone_form::Contention;
 use cone_spec::Cone;
 use rail_base::station::TrainNo;
-use rail_course::{Itineraries, TrainPaths};
 use std::alloc::{AllocError, Global};
 
 /// The tick at which a train makes a visit in the run of a cone, up to the train's horizon. None where it is not made,
@@ -33,21 +31,9 @@ pub fn visit_in_run<'a>(
     requires train { IsTrain contention.now.interlocking.now.design.station train }
     ensures { IfOk result (λ tick. tick ≡ visit_in_run contention.now.interlocking.now cone.now train visit) }
 {
-    let interlocking = contention.interlocking;
-    let paths = free_paths(alloc, interlocking, cone)?;
-    let given = Itineraries {
-        interlocking,
-        paths: paths.as_slice(),
-    };
-    let train_paths = given.train_paths(alloc)?;
-    let train_paths = TrainPaths {
-        given,
-        train_paths: train_paths.as_slice(),
-    };
     let layout = ConeLayout {
         contention: *contention,
         cone,
-        train_paths,
     };
     layout.visit_made(alloc, train, visit)
 }

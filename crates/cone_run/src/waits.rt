@@ -4,14 +4,18 @@ ghost use Rattle.std.specs.Prelude.{◌≡◌, IfOk, map};
 ghost use Rattle.rail_base.specs.Routes.{IsRoute};
 ghost use Rattle.rail_base.specs.Stations.{IsTrain};
 ghost use Rattle.cone_spec.specs.Cones.{named};
-ghost use Rattle.cone_run.specs.Layouts.{AreFollowedTrainsOf, AreJourneysOf, train_waits_in, waits_in};
+ghost use Rattle.cone_run.specs.Layouts.{AreFollowedTrainsOf, AreJourneysOf};
+ghost use Rattle.cone_run.specs.Paths.{AllGiveInCone, train_waits_in, waits_in};
 
 use crate::layout::ConeLayout;
+use crate::paths::ConePaths;
 use cone_spec::Cone;
 use dispatch_run::FollowedTrain;
+use rail_base::list::List;
 use rail_base::plan::Command;
+use rail_base::state::TrainEvent;
 use rail_base::station::TrainNo;
-use rail_course::{Journey, Wait};
+use rail_course::Journey;
 use std::alloc::{AllocError, Global};
 
 /// The horizon of a train; of one that is not named it is 0.
@@ -38,45 +42,46 @@ pub(crate) fn free_of(cone: &Cone, train: TrainNo) -> u32
     0
 }
 
-impl<'a> ConeLayout<'a> {
-    /// The journeys of all trains, in file order.
-    pub(crate) fn journeys(&self, alloc: Global) -> Result<Vec<Journey<'a>>, AllocError>
-        ensures { IfOk result (λ journeys. AreJourneysOf self.now journeys.items) }
-    {
-        let mut journeys = Vec::new(alloc);
-        for train_path in self.train_paths.train_paths {
-            let waits = self.waits_of_train(alloc, train_path.train)?;
-            journeys.push(self.train_paths.journey(alloc, train_path, waits)?)?;
-        }
-        Ok(journeys)
-    }
-
+impl ConeLayout<'_> {
     /// The followed trains of all trains, in file order, each up to the horizon of its train.
-    pub(crate) fn followed_trains<'b>(
+    pub(crate) fn followed_trains(
         &self,
         alloc: Global,
-        journeys: &'b [Journey<'a>],
-    ) -> Result<Vec<FollowedTrain<'b>>, AllocError>
-        requires { AreJourneysOf self.now journeys.now }
+        journeys: Vec<Journey>,
+    ) -> Result<Vec<FollowedTrain>, AllocError>
+        requires { AreJourneysOf self.now journeys.items }
         ensures { IfOk result (λ f. AreFollowedTrainsOf self.now f.items) }
     {
+        let mut left = journeys;
         let mut followed_trains = Vec::new(alloc);
-        for journey in journeys {
-            followed_trains.push(FollowedTrain {
-                journey,
-                until: Some(horizon_of(self.cone, journey.train_path.train)),
-            })?;
+        for _number in 0..left.len() {
+            let journey = left.remove(0);
+            let until = Some(horizon_of(self.cone, journey.train_path.train));
+            followed_trains.push(FollowedTrain { journey, until })?;
         }
         Ok(followed_trains)
     }
+}
+
+impl ConePaths<'_> {
+    /// The journeys of all trains, in file order.
+    pub(crate) fn into_journeys(self, alloc: Global) -> Result<Vec<Journey>, AllocError>
+        ensures { IfOk result (λ journeys. AreJourneysOf self.entry.layout journeys.items) }
+    {
+        let waits = self.waits_of_all(alloc)?;
+        let ConePaths { train_paths, .. } = self;
+        let journeys = train_paths.into_journeys(alloc, waits)?;
+        Ok(journeys)
+    }
 
     /// The waits of a command for those that are listed before it. They are among those that contend with it.
-    fn waits_of(&self, alloc: Global, command: Command) -> Result<Vec<Wait>, AllocError>
+    fn waits_of(&self, alloc: Global, command: Command) -> Result<Vec<TrainEvent>, AllocError>
         requires { IsRoute self.now.train_paths.given.interlocking.now.routes command.route }
         ensures { IfOk result (λ w. w.items ≡ waits_in self.now command) }
     {
-        let listed = self.contention.sorted_pairs(self.cone);
-        let others = self.contention.pairs.rivals(alloc, command)?;
+        let contention = self.layout.contention;
+        let listed = contention.sorted_pairs(self.layout.cone);
+        let others = contention.pairs.rivals(alloc, command)?;
         let mut waits = Vec::new(alloc);
         for other in &others {
             if listed.is_among(*other, command) {
@@ -87,7 +92,11 @@ impl<'a> ConeLayout<'a> {
     }
 
     /// The waits of each free command of a train.
-    fn waits_of_train(&self, alloc: Global, train: TrainNo) -> Result<Vec<Vec<Wait>>, AllocError>
+    fn waits_of_train(
+        &self,
+        alloc: Global,
+        train: TrainNo,
+    ) -> Result<Vec<Vec<TrainEvent>>, AllocError>
         requires { IsTrain self.now.train_paths.given.interlocking.now.design.station train }
         ensures { IfOk result (λ w. map (λ v. v.items) w.items ≡ train_waits_in self.now train) }
     {
@@ -101,5 +110,18 @@ impl<'a> ConeLayout<'a> {
             waits.push(self.waits_of(alloc, command)?)?;
         }
         Ok(waits)
+    }
+
+    /// For each train, in file order, the waits of each of its free commands.
+    fn waits_of_all(&self, alloc: Global) -> Result<Vec<List<Vec<TrainEvent>>>, AllocError>
+        ensures { IfOk result (λ waits. AllGiveInCone self.now waits.items) }
+    {
+        let mut all = Vec::new(alloc);
+        let station = &self.train_paths.given.interlocking.design.station;
+        for number in 1..station.trains.len() as u32 + 1 {
+            let waits = self.waits_of_train(alloc, TrainNo(number))?;
+            all.push(List::from_vec(waits))?;
+        }
+        Ok(all)
     }
 }

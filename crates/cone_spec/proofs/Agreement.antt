@@ -11,7 +11,7 @@ use Rattle.rail_base.specs.declared.state.TrainState.{TrainState}
 use Rattle.rail_base.specs.Numbering.{before_first}
 use Rattle.rail_spec.specs.Plans.{route_at, shared, release_offset, length_mm, is_route}
 use Rattle.rail_base.specs.Stations.{train_length}
-use Rattle.rail_spec.specs.Dispatches.{state_of, stretches, authority, rates, Dispatch, routes_before, is_granted, has_released, has_cleared, is_ready, granted_with, granted_after, moved, state_at}
+use Rattle.rail_spec.specs.Dispatches.{state_of, stretches, rates, Dispatch, routes_before, is_granted, has_released, has_cleared, is_ready, granted_with, granted_after, moved, state_at, track_end}
 use Rattle.rail_spec.specs.Motion.{next_speed}
 use Rattle.rail_base.proofs.Members.{In, and_left, and_right, and_both, list_all_at, below_or_not, same_bool, not_less}
 use Rattle.rail_laws.proofs.Running.{Later, Moves, Idles, after_tick, run_later, granted_after_more, granted_cleared, stays, idle_at_first}
@@ -168,7 +168,7 @@ module _ (d : Station) (routes : List Route) (p q : Dispatch) (h : TrainNo → �
 
     pub moved_same : (t : TrainNo) (s : TrainState) (n : ℕ) → n ≤ length (p.path t) → moved d routes q t s n ≡ moved d routes p t s n
     moved_same t s zero l = refl
-    moved_same t s (suc n) l = ap (λ given. let u = next_speed (rates d t) (stretches d given) (authority given) s.x s.v in record { granted = suc n; x = s.x + u; v = u }) (given_same t (suc n) l)
+    moved_same t s (suc n) l = ap (λ given. let u = next_speed (rates d t) (stretches d given) (track_end given) s.x s.v in record { granted = suc n; x = s.x + u; v = u }) (given_same t (suc n) l)
 
     pub moved_granted : (t : TrainNo) (s : TrainState) (n : ℕ) → s.granted ≤ n → (moved d routes p t s n).granted ≤ n
     moved_granted t s zero l = l

@@ -13,8 +13,9 @@ use Rattle.rail_base.specs.Numbering.{entry}
 use Rattle.rail_spec.specs.Plans.{route_at, is_train, path}
 use Rattle.rail_base.specs.Stations.{train_of, horizon, within_of, order_of}
 use Rattle.rail_spec.specs.Dispatches.{state_of, state_at, of_plan}
-use Rattle.rail_spec.specs.Visits.{path_nodes, visits_on, visit_tick}
+use Rattle.rail_spec.specs.Visits.{visit_tick}
 use Rattle.rail_spec.specs.Requirements.{most_ticks, visited_by, is_certain, is_after}
+use Rattle.rail_spec.specs.Places.{path_nodes, visits_on}
 use Rattle.rail_base.proofs.Members.{and_left, and_right, and_both}
 use Rattle.rail_laws.proofs.Deciding.{visit_stays, visit_within, visit_at}
 use Rattle.rail_base.specs.Admission.{is_visit}

@@ -12,11 +12,13 @@ use Rattle.rail_spec.specs.Plans.{route_at, path, path_routes}
 use Rattle.rail_base.specs.Stations.{train_of}
 use Rattle.rail_spec.specs.Dispatches.{state_of, state_at, of_plan}
 use Rattle.rail_base.specs.declared.state.PathNode.{PathNode}
-use Rattle.rail_spec.specs.Visits.{path_nodes, visits_on, is_passed, has_passed, pass_tick, visits_of_train, visit_tick}
+use Rattle.rail_spec.specs.Visits.{pass_tick, visits_of_train, visit_tick, happened_by}
+use Rattle.rail_spec.specs.Places.{path_nodes, visits_on}
 use Rattle.cone_spec.specs.Cones.{free_path, of_cone}
 use Rattle.cone_spec.specs.Validity.{cone_visit}
 use Rattle.cone_spec.proofs.Visiting.{Alike, visits_alike, least_same, least_none}
 use Rattle.rail_base.proofs.Lists.{length-map}
+use Rattle.rail_base.specs.Events.{has_happened}
 
 module _ (d : Station) (routes : List Route) (k : Cone) (plan : List (List Command)) (tick : ℕ) (t : TrainNo) (rest : List RouteNo) (prefix : path plan t ≡ free_path k t ++ rest)
     (same : (i : ℕ) → i ≤ tick → state_of (state_at d routes (of_plan routes plan) i) t ≡ state_of (state_at d routes (of_cone k) i) t)
@@ -25,14 +27,14 @@ module _ (d : Station) (routes : List Route) (k : Cone) (plan : List (List Comma
   whole = ap (map (route_at routes)) prefix ∙ map-append (route_at routes) (free_path k t) rest
 
   passed_same : (s : PathNode) → pass_tick d routes (of_plan routes plan) tick t s ≡ pass_tick d routes (of_cone k) tick t s
-  passed_same s = least_same (has_passed d routes (of_plan routes plan) t s) (has_passed d routes (of_cone k) t s) tick (λ i m. ap (λ st. is_passed st s) (same i m))
+  passed_same s = least_same (happened_by d routes (of_plan routes plan) t s.event) (happened_by d routes (of_cone k) t s.event) tick (λ i m. ap (λ st. has_happened st s.event) (same i m))
 
   -- a stop of a command past the prefix is not passed
-  far_not_passed : (s : PathNode) → length (map (route_at routes) (free_path k t)) < s.command → pass_tick d routes (of_plan routes plan) tick t s ≡ None
-  far_not_passed s far = least_none (has_passed d routes (of_plan routes plan) t s) tick (λ i m.
+  far_not_passed : (s : PathNode) → length (map (route_at routes) (free_path k t)) < s.event.granted → pass_tick d routes (of_plan routes plan) tick t s ≡ None
+  far_not_passed s far = least_none (happened_by d routes (of_plan routes plan) t s.event) tick (λ i m.
       let f = few i m in
       let b = length-map (route_at routes) (free_path k t) in
-      and_false (nat_le s.command (state_of (state_at d routes (of_plan routes plan) i) t).granted) (nat_le s.offset (state_of (state_at d routes (of_plan routes plan) i) t).x) (not_up_to s.command (state_of (state_at d routes (of_plan routes plan) i) t).granted (omega arith)))
+      and_false (nat_le s.event.granted (state_of (state_at d routes (of_plan routes plan) i) t).granted) (nat_le s.event.place (state_of (state_at d routes (of_plan routes plan) i) t).x) (not_up_to s.event.granted (state_of (state_at d routes (of_plan routes plan) i) t).granted (omega arith)))
     where
       and_false : (a b : Bool) → a ≡ false → (a && b) ≡ false
       and_false true b e = absurd (true≢false e)

@@ -5,29 +5,29 @@ use Rattle.rail_base.specs.declared.route.Route.{Route}
 use Rattle.rail_base.specs.Numbering.{entry, least, or_this, from_first, first_of_list, after_first}
 use Rattle.rail_spec.specs.Plans.{length_mm, has_node}
 use Rattle.rail_base.specs.declared.state.PathNode.{PathNode}
-use Rattle.rail_spec.specs.Visits.{path_nodes_of, path_nodes_after, path_nodes, visits_at, visits_on}
+use Rattle.rail_spec.specs.Places.{path_nodes_of, path_nodes_after, path_nodes, visits_at, visits_on}
 use Rattle.rail_base.proofs.Members.{In}
 use Rattle.rail_base.proofs.Lists.{in_append}
 
 -- ---- the stops of a longer path
 
-path_node_of : (o j : ℕ) (r : Route) (s : PathNode) → In s (path_nodes_of o j r) → s.command ≡ j
+path_node_of : (o j : ℕ) (r : Route) (s : PathNode) → In s (path_nodes_of o j r) → s.event.granted ≡ j
 path_node_of o j r s m = go r.nodes m
   where
-    go : (ps : List (NodeNo × ℤ)) → In s (map (λ p. record { node = p.0; offset = o + nat_abs p.1; command = j }) ps) → s.command ≡ j
+    go : (ps : List (NodeNo × ℤ)) → In s (map (λ p. record { node = p.0; event = record { granted = j; place = o + nat_abs p.1 } }) ps) → s.event.granted ≡ j
     go [] m = absurd m
-    go (p ∷ ps) (inl e) = sym (ap (λ (x : PathNode). x.command) e)
+    go (p ∷ ps) (inl e) = sym (ap (λ (x : PathNode). x.event.granted) e)
     go (p ∷ ps) (inr m) = go ps m
 
 pub in_after_first : {X : Type 0} (xs : List X) (x : X) → In x (after_first xs) → In x xs
 in_after_first [] x m = absurd m
 in_after_first (y ∷ ys) x m = inr m
 
-path_nodes_after_far : (o j : ℕ) (rs : List Route) (s : PathNode) → In s (path_nodes_after o j rs) → j ≤ s.command
+path_nodes_after_far : (o j : ℕ) (rs : List Route) (s : PathNode) → In s (path_nodes_after o j rs) → j ≤ s.event.granted
 path_nodes_after_far o j [] s m = absurd m
 path_nodes_after_far o j (r ∷ rs) s m = go (in_append s (after_first (path_nodes_of o j r)) (path_nodes_after (o + length_mm r) (j + 1) rs) m) (path_nodes_after_far (o + length_mm r) (j + 1) rs s)
   where
-    go : In s (after_first (path_nodes_of o j r)) ⊎ In s (path_nodes_after (o + length_mm r) (j + 1) rs) → (In s (path_nodes_after (o + length_mm r) (j + 1) rs) → j + 1 ≤ s.command) → j ≤ s.command
+    go : In s (after_first (path_nodes_of o j r)) ⊎ In s (path_nodes_after (o + length_mm r) (j + 1) rs) → (In s (path_nodes_after (o + length_mm r) (j + 1) rs) → j + 1 ≤ s.event.granted) → j ≤ s.event.granted
     go (inl n) later = let e = path_node_of o j r s (in_after_first (path_nodes_of o j r) s n) in omega arith
     go (inr n) later = let e = later n in omega arith
 
@@ -35,9 +35,9 @@ path_nodes_after_far o j (r ∷ rs) s m = go (in_append s (after_first (path_nod
 pub record Longer (n : ℕ) (xs ys : List PathNode) : Type 0 where
   pub more : List PathNode
   pub all : ys ≡ xs ++ more
-  pub far : (s : PathNode) → In s more → n < s.command
+  pub far : (s : PathNode) → In s more → n < s.event.granted
 
-longer_after : (o j : ℕ) (rs more : List Route) → (far : List PathNode) × (path_nodes_after o j (rs ++ more) ≡ path_nodes_after o j rs ++ far) × ((s : PathNode) → In s far → j + length rs ≤ s.command)
+longer_after : (o j : ℕ) (rs more : List Route) → (far : List PathNode) × (path_nodes_after o j (rs ++ more) ≡ path_nodes_after o j rs ++ far) × ((s : PathNode) → In s far → j + length rs ≤ s.event.granted)
 longer_after o j [] more = (path_nodes_after o j more, refl, λ s m. let l = path_nodes_after_far o j more s m in omega arith)
 longer_after o j (r ∷ rs) more =
     let k = longer_after (o + length_mm r) (j + 1) rs more in
@@ -47,7 +47,7 @@ pub longer : (rs more : List Route) → Longer (length rs) (path_nodes rs) (path
 longer [] [] = record { more = []; all = refl; far = λ s m. absurd m }
 longer [] (q ∷ qs) = record { more = path_nodes (q ∷ qs); all = refl; far = λ s m. far s (in_append s (path_nodes_of 0 1 q) (path_nodes_after (length_mm q) 2 qs) m) }
   where
-    far : (s : PathNode) → In s (path_nodes_of 0 1 q) ⊎ In s (path_nodes_after (length_mm q) 2 qs) → 0 < s.command
+    far : (s : PathNode) → In s (path_nodes_of 0 1 q) ⊎ In s (path_nodes_after (length_mm q) 2 qs) → 0 < s.event.granted
     far s (inl n) = let e = path_node_of 0 1 q s n in omega arith
     far s (inr n) = let e = path_nodes_after_far (length_mm q) 2 qs s n in omega arith
 longer (r ∷ rs) more =
@@ -62,7 +62,7 @@ longer (r ∷ rs) more =
 
 -- a visit is made at the same stop, or on the longer path alone at a stop of a later command
 abbrev pub Alike : ℕ → Option PathNode → Option PathNode → Type 0
-Alike n a b = (b ≡ a) ⊎ ((a ≡ None) × (s : PathNode) × (b ≡ Some s) × (n < s.command))
+Alike n a b = (b ≡ a) ⊎ ((a ≡ None) × (s : PathNode) × (b ≡ Some s) × (n < s.event.granted))
 
 in_from_first : {X : Type 0} (test : X → Bool) (xs : List X) (x : X) → In x (from_first test xs) → In x xs
 in_from_first test [] x m = absurd m
@@ -82,11 +82,11 @@ from_first-append {X} test (x ∷ xs) ys = go (test x) refl (from_first-append t
     go true e k = inl (x, xs, refl, refl)
     go false e k = k
 
-first_alike : (n : ℕ) (ys : List PathNode) → ((s : PathNode) → In s ys → n < s.command) → Alike n None (first_of_list ys)
+first_alike : (n : ℕ) (ys : List PathNode) → ((s : PathNode) → In s ys → n < s.event.granted) → Alike n None (first_of_list ys)
 first_alike n [] far = inl refl
 first_alike n (y ∷ ys) far = inr (refl, y, refl, far y (inl refl))
 
-visits_at_alike : (n : ℕ) (sets : List (List NodeNo)) (i : ℕ) (xs ys : List PathNode) → ((s : PathNode) → In s ys → n < s.command) → Alike n (get_or (visits_at sets xs) i None) (get_or (visits_at sets (xs ++ ys)) i None)
+visits_at_alike : (n : ℕ) (sets : List (List NodeNo)) (i : ℕ) (xs ys : List PathNode) → ((s : PathNode) → In s ys → n < s.event.granted) → Alike n (get_or (visits_at sets xs) i None) (get_or (visits_at sets (xs ++ ys)) i None)
 visits_at_alike n [] i xs ys far = inl refl
 visits_at_alike n (set ∷ sets) zero xs ys far = go (from_first-append (λ (p : PathNode). has_node set p.node) xs ys)
   where
@@ -101,7 +101,7 @@ visits_at_alike n (set ∷ sets) zero xs ys far = go (from_first-append (λ (p :
 visits_at_alike n (set ∷ sets) (suc i) xs ys far = go (from_first-append (λ (p : PathNode). has_node set p.node) xs ys) (λ us vs. visits_at_alike n sets i us vs)
   where
     go : ((z : PathNode) × (zs : List PathNode) × (from_first (λ (p : PathNode). has_node set p.node) xs ≡ z ∷ zs) × (from_first (λ (p : PathNode). has_node set p.node) (xs ++ ys) ≡ z ∷ zs ++ ys)) ⊎ ((from_first (λ (p : PathNode). has_node set p.node) xs ≡ []) × (from_first (λ (p : PathNode). has_node set p.node) (xs ++ ys) ≡ from_first (λ (p : PathNode). has_node set p.node) ys))
-        → ((us vs : List PathNode) → ((s : PathNode) → In s vs → n < s.command) → Alike n (get_or (visits_at sets us) i None) (get_or (visits_at sets (us ++ vs)) i None))
+        → ((us vs : List PathNode) → ((s : PathNode) → In s vs → n < s.event.granted) → Alike n (get_or (visits_at sets us) i None) (get_or (visits_at sets (us ++ vs)) i None))
         → Alike n (get_or (visits_at sets (after_first (from_first (λ (p : PathNode). has_node set p.node) xs))) i None) (get_or (visits_at sets (after_first (from_first (λ (p : PathNode). has_node set p.node) (xs ++ ys)))) i None)
     go (inl (z, zs, e, f)) again =
         subst (λ a. Alike n (get_or (visits_at sets (after_first a)) i None) (get_or (visits_at sets (after_first (from_first (λ (p : PathNode). has_node set p.node) (xs ++ ys)))) i None)) (sym e)
@@ -111,7 +111,7 @@ visits_at_alike n (set ∷ sets) (suc i) xs ys far = go (from_first-append (λ (
         (subst (λ a. Alike n (get_or (visits_at sets []) i None) (get_or (visits_at sets (after_first a)) i None)) (sym f)
         (again [] (after_first (from_first (λ (p : PathNode). has_node set p.node) ys)) (λ s m. far s (in_from_first (λ (p : PathNode). has_node set p.node) ys s (in_after_first (from_first (λ (p : PathNode). has_node set p.node) ys) s m)))))
 
-visits_on_alike : (n : ℕ) (sets : List (List NodeNo)) (i : ℕ) (xs ys : List PathNode) → ((s : PathNode) → In s ys → n < s.command) → Alike n (get_or (visits_on sets xs) i None) (get_or (visits_on sets (xs ++ ys)) i None)
+visits_on_alike : (n : ℕ) (sets : List (List NodeNo)) (i : ℕ) (xs ys : List PathNode) → ((s : PathNode) → In s ys → n < s.event.granted) → Alike n (get_or (visits_on sets xs) i None) (get_or (visits_on sets (xs ++ ys)) i None)
 visits_on_alike n [] i xs ys far = inl refl
 visits_on_alike n (set ∷ sets) zero [] ys far = first_alike n ys far
 visits_on_alike n (set ∷ sets) zero (x ∷ xs) ys far = inl refl

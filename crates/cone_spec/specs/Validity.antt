@@ -20,9 +20,10 @@ use Rattle.rail_spec.specs.Plans.{route_at, is_train, is_command, is_start, goes
 use Rattle.rail_base.specs.Members.{all_pairs, all_neighbors}
 use Rattle.rail_base.specs.Admission.{is_from, is_visit}
 use Rattle.rail_base.specs.Stations.{train_of, horizon, within_of, order_of}
-use Rattle.rail_spec.specs.Visits.{path_nodes, visits_on, visit_tick}
+use Rattle.rail_spec.specs.Visits.{visit_tick}
 use Rattle.rail_spec.specs.Dispatches.{state_of, state_at, has_released}
 use Rattle.rail_spec.specs.Requirements.{most_ticks}
+use Rattle.rail_spec.specs.Places.{path_nodes, visits_on}
 use Rattle.cone_spec.specs.Cones.{named, all_free, is_named, has_pair, of_cone}
 
 -- the first is less than the second by train, and by route where the trains are the same

@@ -17,13 +17,15 @@ use Rattle.rail_base.specs.Members.{In}
 use Rattle.rail_base.proofs.Contained.{in_at}
 use Rattle.rail_base.proofs.Lists.{length-map}
 use Rattle.rail_base.proofs.Members.{and_left, and_right, and_both, below_or_not, false_unless, map-map}
-use Rattle.rail_spec.specs.Visits.{is_passed, has_passed, pass_tick, path_nodes_of_train}
+use Rattle.rail_base.specs.Events.{has_happened}
+use Rattle.rail_base.specs.declared.state.Event.{Event}
+use Rattle.rail_spec.specs.Visits.{pass_tick, path_nodes_of_train, happened_by}
 use Rattle.rail_spec.specs.Dispatches.{Dispatch, state_of, state_at}
 use Rattle.quiet_spec.specs.Histories.{grant_tick, granted, train_history}
 use Rattle.rail_course.specs.declared.journey.Release.{Release}
 use Rattle.rail_course.specs.declared.milestones.Milestone.{Milestone}
 use Rattle.rail_course.specs.Milestones.{AreMilestones, ComeInTurn}
-use Rattle.rail_course.specs.Releases.{is_released, releases_of_train}
+use Rattle.rail_course.specs.Releases.{releases_of_train}
 use Rattle.rail_course.specs.Marks.{mark_grants}
 use Rattle.dispatch_run.specs.Settled.{AreGrantedInTurn, ArePassedInTurn, AreReleasedInTurn}
 use Rattle.dispatch_run.proofs.Marking.{release, released_is}
@@ -60,10 +62,10 @@ behind_is_false a place x less = false_unless (a && nat_le place x) (λ h. let l
 -- ---- nodes
 
 abbrev pub pass_made : TrainState → ℕ → PathNode → NodeNo × Option ℕ → NodeNo × Option ℕ
-pass_made s tick n p = (n.node, or_this p.1 (is_passed s n) tick)
+pass_made s tick n p = (n.node, or_this p.1 (has_happened s n.event) tick)
 
 abbrev pub no_node : PathNode
-no_node = record { node = record { 0 = 0 }; offset = 0; command = 0 }
+no_node = record { node = record { 0 = 0 }; event = record { granted = 0; place = 0 } }
 
 abbrev pub no_pass : NodeNo × Option ℕ
 no_pass = (record { 0 = 0 }, None)
@@ -72,16 +74,16 @@ same_pass : (n : NodeNo) (o : Option ℕ) (p : NodeNo × Option ℕ) → p.0 ≡
 same_pass n o (m, q) a b = cc
 
 pub passes_may_be_marked : (s : TrainState) (tick : ℕ) (path_nodes : List PathNode) (passes : List (NodeNo × Option ℕ)) (ms : List Milestone)
-    → AreMilestones (map (λ (n : PathNode). n.offset) path_nodes) ms → ArePassedInTurn path_nodes passes
-    → MayBeMarked (pass_made s tick) (λ (n : PathNode). n.offset) (λ (p : NodeNo × Option ℕ). p.1) path_nodes passes no_node no_pass ms tick s.x
+    → AreMilestones (map (λ (n : PathNode). n.event.place) path_nodes) ms → ArePassedInTurn path_nodes passes
+    → MayBeMarked (pass_made s tick) (λ (n : PathNode). n.event.place) (λ (p : NodeNo × Option ℕ). p.1) path_nodes passes no_node no_pass ms tick s.x
 passes_may_be_marked s tick path_nodes passes ms are turn = record {
   as_many = as_many;
   are = are;
-  twice = λ i l. ap (λ o. ((get_or path_nodes i no_node).node, o)) (again (get_or passes i no_pass).1 (is_passed s (get_or path_nodes i no_node)) tick);
-  kept = λ i l h. same_pass _ _ (get_or passes i no_pass) (name i l) (keeps (get_or passes i no_pass).1 (is_passed s (get_or path_nodes i no_node)) tick h);
+  twice = λ i l. ap (λ o. ((get_or path_nodes i no_node).node, o)) (again (get_or passes i no_pass).1 (has_happened s (get_or path_nodes i no_node).event) tick);
+  kept = λ i l h. same_pass _ _ (get_or passes i no_pass) (name i l) (keeps (get_or passes i no_pass).1 (has_happened s (get_or path_nodes i no_node).event) tick h);
   ahead = λ i l h. same_pass _ _ (get_or passes i no_pass) (name i l)
-      (comes_not (get_or passes i no_pass).1 (is_passed s (get_or path_nodes i no_node)) tick (behind_is_false (nat_le (get_or path_nodes i no_node).command s.granted) (get_or path_nodes i no_node).offset s.x h));
-  earlier = λ i k l e less. came_earlier (get_or passes i no_pass).1 (is_passed s (get_or path_nodes i no_node)) tick k e less;
+      (comes_not (get_or passes i no_pass).1 (has_happened s (get_or path_nodes i no_node).event) tick (behind_is_false (nat_le (get_or path_nodes i no_node).event.granted s.granted) (get_or path_nodes i no_node).event.place s.x h));
+  earlier = λ i k l e less. came_earlier (get_or passes i no_pass).1 (has_happened s (get_or path_nodes i no_node).event) tick k e less;
   in_turn = λ i j l m less h. turn.in_turn i j no_node no_pass l m less h;
 }
   where
@@ -96,10 +98,10 @@ passes_may_be_marked s tick path_nodes passes ms are turn = record {
 -- ---- releases
 
 abbrev pub release_made : TrainState → ℕ → Release → RouteNo × SectionNo × Option ℕ → RouteNo × SectionNo × Option ℕ
-release_made s tick r e = (r.route, r.section, or_this e.2 (is_released s r) tick)
+release_made s tick r e = (r.route, r.section, or_this e.2 (has_happened s r.event) tick)
 
 abbrev pub no_release : Release
-no_release = record { route = record { 0 = 0 }; section = record { 0 = 0 }; number = 0; place = 0 }
+no_release = record { route = record { 0 = 0 }; section = record { 0 = 0 }; event = record { granted = 0; place = 0 } }
 
 abbrev pub no_entry : RouteNo × SectionNo × Option ℕ
 no_entry = (record { 0 = 0 }, record { 0 = 0 }, None)
@@ -108,16 +110,16 @@ same_entry : (r : RouteNo) (z : SectionNo) (o : Option ℕ) (e : RouteNo × Sect
 same_entry r z o (a, b, p) c d is = cc
 
 pub releases_may_be_marked : (s : TrainState) (tick : ℕ) (releases : List Release) (entries : List (RouteNo × SectionNo × Option ℕ)) (ms : List Milestone)
-    → AreMilestones (map (λ (r : Release). r.place) releases) ms → AreReleasedInTurn releases entries
-    → MayBeMarked (release_made s tick) (λ (r : Release). r.place) (λ (e : RouteNo × SectionNo × Option ℕ). e.2) releases entries no_release no_entry ms tick s.x
+    → AreMilestones (map (λ (r : Release). r.event.place) releases) ms → AreReleasedInTurn releases entries
+    → MayBeMarked (release_made s tick) (λ (r : Release). r.event.place) (λ (e : RouteNo × SectionNo × Option ℕ). e.2) releases entries no_release no_entry ms tick s.x
 releases_may_be_marked s tick releases entries ms are turn = record {
   as_many = as_many;
   are = are;
-  twice = λ i l. ap (λ o. ((get_or releases i no_release).route, (get_or releases i no_release).section, o)) (again (get_or entries i no_entry).2 (is_released s (get_or releases i no_release)) tick);
-  kept = λ i l h. same_entry _ _ _ (get_or entries i no_entry) (ap (λ (p : RouteNo × SectionNo). p.0) (name i l)) (ap (λ (p : RouteNo × SectionNo). p.1) (name i l)) (keeps (get_or entries i no_entry).2 (is_released s (get_or releases i no_release)) tick h);
+  twice = λ i l. ap (λ o. ((get_or releases i no_release).route, (get_or releases i no_release).section, o)) (again (get_or entries i no_entry).2 (has_happened s (get_or releases i no_release).event) tick);
+  kept = λ i l h. same_entry _ _ _ (get_or entries i no_entry) (ap (λ (p : RouteNo × SectionNo). p.0) (name i l)) (ap (λ (p : RouteNo × SectionNo). p.1) (name i l)) (keeps (get_or entries i no_entry).2 (has_happened s (get_or releases i no_release).event) tick h);
   ahead = λ i l h. same_entry _ _ _ (get_or entries i no_entry) (ap (λ (p : RouteNo × SectionNo). p.0) (name i l)) (ap (λ (p : RouteNo × SectionNo). p.1) (name i l))
-      (comes_not (get_or entries i no_entry).2 (is_released s (get_or releases i no_release)) tick (behind_is_false (nat_lt (get_or releases i no_release).number s.granted) (get_or releases i no_release).place s.x h));
-  earlier = λ i k l e less. came_earlier (get_or entries i no_entry).2 (is_released s (get_or releases i no_release)) tick k e less;
+      (comes_not (get_or entries i no_entry).2 (has_happened s (get_or releases i no_release).event) tick (behind_is_false (nat_le (get_or releases i no_release).event.granted s.granted) (get_or releases i no_release).event.place s.x h));
+  earlier = λ i k l e less. came_earlier (get_or entries i no_entry).2 (has_happened s (get_or releases i no_release).event) tick k e less;
   in_turn = λ i j l m less h. turn.in_turn i j no_release no_entry l m less h;
 }
   where
@@ -174,13 +176,22 @@ module _ (d : Station) (routes : List Route) (dispatch : Dispatch) (t : TrainNo)
   abbrev at : ℕ → TrainState
   at m = state_of (state_at d routes dispatch m) t
 
-  pub passed_in_turn : (path_nodes : List PathNode) → path_nodes ≡ path_nodes_of_train d routes dispatch t → ComeInTurn (λ (n : PathNode). n.offset) (λ (n : PathNode). n.command) path_nodes
+  -- what is nearer has come where something behind it has
+  sooner : (x y : Event) → x.place < y.place → x.granted ≤ y.granted → is_some (least (happened_by d routes dispatch t y) k) ≡ true → is_some (least (happened_by d routes dispatch t x) k) ≡ true
+  sooner x y less in_turn h = comes_too (happened_by d routes dispatch t y) (happened_by d routes dispatch t x) k
+      (λ n e.
+      let c = leb-true y.granted (at n).granted (and_left (nat_le y.granted (at n).granted) (nat_le y.place (at n).x) e) in
+      let o = leb-true y.place (at n).x (and_right (nat_le y.granted (at n).granted) (nat_le y.place (at n).x) e) in
+      and_both _ _ (le-leb x.granted (at n).granted (omega arith)) (le-leb x.place (at n).x (omega arith)))
+      h
+
+  pub passed_in_turn : (path_nodes : List PathNode) → path_nodes ≡ path_nodes_of_train d routes dispatch t → ComeInTurn (λ (n : PathNode). n.event.place) (λ (n : PathNode). n.event.granted) path_nodes
       → (passes : List (NodeNo × Option ℕ)) → passes ≡ old.passes → ArePassedInTurn path_nodes passes
   passed_in_turn path_nodes here come passes are = record {
     named = ap (map (λ (p : NodeNo × Option ℕ). p.0)) all ∙ map-map (λ (p : NodeNo × Option ℕ). p.0) pass path_nodes;
     in_turn = λ i j dx dy l m less h.
         subst (λ ps. is_some (get_or ps i dy).1 ≡ true) (sym all) (subst (λ (p : NodeNo × Option ℕ). is_some p.1 ≡ true) (sym (get_or-map pass path_nodes i dx dy l))
-        (sooner (get_or path_nodes i dx) (get_or path_nodes j dx) (in_at path_nodes i dx l) (in_at path_nodes j dx m) less
+        (sooner (get_or path_nodes i dx).event (get_or path_nodes j dx).event less (come (get_or path_nodes i dx) (get_or path_nodes j dx) (in_at path_nodes i dx l) (in_at path_nodes j dx m) less)
         (subst (λ (p : NodeNo × Option ℕ). is_some p.1 ≡ true) (get_or-map pass path_nodes j dx dy m) (subst (λ ps. is_some (get_or ps j dy).1 ≡ true) all h))));
   }
     where
@@ -190,22 +201,13 @@ module _ (d : Station) (routes : List Route) (dispatch : Dispatch) (t : TrainNo)
       all : passes ≡ map pass path_nodes
       all = are ∙ ap (λ (h : TrainHistory). h.passes) was ∙ ap (map pass) (sym here)
 
-      sooner : (x y : PathNode) → In x path_nodes → In y path_nodes → x.offset < y.offset → is_some (pass_tick d routes dispatch k t y) ≡ true → is_some (pass_tick d routes dispatch k t x) ≡ true
-      sooner x y l m less h = comes_too (has_passed d routes dispatch t y) (has_passed d routes dispatch t x) k
-          (λ n e.
-          let c = leb-true y.command (at n).granted (and_left (nat_le y.command (at n).granted) (nat_le y.offset (at n).x) e) in
-          let o = leb-true y.offset (at n).x (and_right (nat_le y.command (at n).granted) (nat_le y.offset (at n).x) e) in
-          let s = come x y l m less in
-          and_both _ _ (le-leb x.command (at n).granted (omega arith)) (le-leb x.offset (at n).x (omega arith)))
-          h
-
-  pub released_in_turn : (releases : List Release) → releases ≡ releases_of_train d routes dispatch t → ComeInTurn (λ (r : Release). r.place) (λ (r : Release). r.number) releases
+  pub released_in_turn : (releases : List Release) → releases ≡ releases_of_train d routes dispatch t → ComeInTurn (λ (r : Release). r.event.place) (λ (r : Release). r.event.granted) releases
       → (entries : List (RouteNo × SectionNo × Option ℕ)) → entries ≡ old.releases → AreReleasedInTurn releases entries
   released_in_turn releases here come entries are = record {
     named = ap (map of_entry) all ∙ map-map of_entry (release d routes dispatch t k) releases;
     in_turn = λ i j dx dy l m less h.
         subst (λ es. is_some (get_or es i dy).2 ≡ true) (sym all) (subst (λ (e : RouteNo × SectionNo × Option ℕ). is_some e.2 ≡ true) (sym (get_or-map (release d routes dispatch t k) releases i dx dy l))
-        (sooner (get_or releases i dx) (get_or releases j dx) (in_at releases i dx l) (in_at releases j dx m) less
+        (sooner (get_or releases i dx).event (get_or releases j dx).event less (come (get_or releases i dx) (get_or releases j dx) (in_at releases i dx l) (in_at releases j dx m) less)
         (subst (λ (e : RouteNo × SectionNo × Option ℕ). is_some e.2 ≡ true) (get_or-map (release d routes dispatch t k) releases j dx dy m) (subst (λ es. is_some (get_or es j dy).2 ≡ true) all h))));
   }
     where
@@ -214,15 +216,6 @@ module _ (d : Station) (routes : List Route) (dispatch : Dispatch) (t : TrainNo)
 
       all : entries ≡ map (release d routes dispatch t k) releases
       all = are ∙ ap (λ (h : TrainHistory). h.releases) was ∙ sym (released_is d routes dispatch t k) ∙ ap (map (release d routes dispatch t k)) (sym here)
-
-      sooner : (x y : Release) → In x releases → In y releases → x.place < y.place → is_some (least (λ n. is_released (at n) y) k) ≡ true → is_some (least (λ n. is_released (at n) x) k) ≡ true
-      sooner x y l m less h = comes_too (λ n. is_released (at n) y) (λ n. is_released (at n) x) k
-          (λ n e.
-          let c = ltb-true y.number (at n).granted (and_left (nat_lt y.number (at n).granted) (nat_le y.place (at n).x) e) in
-          let o = leb-true y.place (at n).x (and_right (nat_lt y.number (at n).granted) (nat_le y.place (at n).x) e) in
-          let s = come x y l m less in
-          and_both _ _ (lt-ltb x.number (at n).granted (omega arith)) (le-leb x.place (at n).x (omega arith)))
-          h
 
   pub granted_in_turn : (grants : List (RouteNo × Option ℕ)) → grants ≡ old.grants → AreGrantedInTurn grants
   granted_in_turn grants are i j other low less h =

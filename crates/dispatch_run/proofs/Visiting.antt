@@ -11,7 +11,7 @@ use Rattle.rail_base.specs.declared.history.TrainHistory.{TrainHistory}
 use Rattle.rail_base.specs.Stations.{trains}
 use Rattle.rail_base.proofs.Members.{false_unless}
 use Rattle.rail_spec.specs.Dispatches.{Dispatch}
-use Rattle.rail_spec.specs.Visits.{has_passed, pass_tick, visits_of_train}
+use Rattle.rail_spec.specs.Visits.{pass_tick, visits_of_train, happened_by}
 use Rattle.rail_laws.proofs.Deciding.{least_gives}
 use Rattle.rail_require.specs.Ticks.{is_at, makes_visit_at, has_visit_at}
 use Rattle.quiet_spec.specs.Histories.{history_at, train_history, visit_made}
@@ -49,7 +49,7 @@ module _ (d : Station) (routes : List Route) (dispatch : Dispatch) where
     where
       go : (o : Option ℕ) → pass_tick d routes dispatch k t path_node ≡ o → is_at m (option_map (λ (v : NodeNo × ℕ). v.1) (option_map (λ i. (path_node.node, i)) o)) ≡ false
       go None e = refl
-      go (Some a) e = let l = least_gives (has_passed d routes dispatch t path_node) k a e in false_unless (a == m) (λ same. other a l.first l.last (eqb-true a m same))
+      go (Some a) e = let l = least_gives (happened_by d routes dispatch t path_node.event) k a e in false_unless (a == m) (λ same. other a l.first l.last (eqb-true a m same))
 
   -- by tick k no visit is made at a tick that is not one of the ticks from 1 to k
   made_at_other : (k m : ℕ) (t : TrainNo) → ((a : ℕ) → 1 ≤ a → a ≤ k → a ≡ m → ⊥) → makes_visit_at m (train_history d routes dispatch k t) ≡ false

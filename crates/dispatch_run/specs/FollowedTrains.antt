@@ -7,7 +7,7 @@ use Rattle.rail_base.specs.declared.route.Route.{Route}
 use Rattle.rail_base.specs.declared.state.TrainState.{TrainState}
 use Rattle.rail_base.specs.Stations.{IsTrain, trains}
 use Rattle.rail_spec.specs.Motion.{permitted}
-use Rattle.rail_spec.specs.Dispatches.{Dispatch, state_of, state_at, granted_after, rates, stretches, authority}
+use Rattle.rail_spec.specs.Dispatches.{Dispatch, state_of, state_at, granted_after, rates, stretches, track_end}
 use Rattle.rail_course.specs.Journeys.{IsJourney}
 use Rattle.rail_course.specs.Tracks.{routes_at}
 use Rattle.dispatch_run.specs.declared.traffic.FollowedTrain.{FollowedTrain}
@@ -21,19 +21,19 @@ follows (Some last) k = nat_le k last
 module _ (d : Station) (routes : List Route) (dispatch : Dispatch) where
   -- the followed train is that of its train
   pub record IsFollowedTrain (f : FollowedTrain) : Type 0 where
-    pub journey : IsJourney d routes dispatch f.journey.now
-    pub following : (k : ℕ) → dispatch.concerns k f.journey.now.train_path.now.train ≡ follows f.until k
+    pub journey : IsJourney d routes dispatch f.journey
+    pub following : (k : ℕ) → dispatch.concerns k f.journey.train_path.train ≡ follows f.until k
 
   -- these are the followed trains of all trains, in file order
   pub record AreFollowedTrains (fs : List FollowedTrain) : Type 0 where
-    pub all : map (λ (f : FollowedTrain). f.journey.now.train_path.now.train) fs ≡ trains d
+    pub all : map (λ (f : FollowedTrain). f.journey.train_path.train) fs ≡ trains d
     pub each : All IsFollowedTrain fs
 
   -- full braking is permitted to a train by so many grants
   abbrev pub MayBrake : TrainNo → ℕ → TrainState → Type 0
   MayBrake t granted s =
       let given = take granted (routes_at routes (dispatch.path t)) in
-      permitted (rates d t) (stretches d given) (authority given) s.x s.v (s.v - (rates d t).brake) ≡ true
+      permitted (rates d t) (stretches d given) (track_end given) s.x s.v (s.v - (rates d t).brake) ≡ true
 
   -- full braking is permitted by what is granted then, and the numbers are in range
   pub record CanMove (t : TrainNo) (granted : ℕ) (s : TrainState) : Type 0 where

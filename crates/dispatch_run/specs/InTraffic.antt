@@ -5,7 +5,7 @@ use Rattle.rail_base.specs.declared.route.Route.{Route}
 use Rattle.rail_base.specs.declared.state.TrainState.{TrainState}
 use Rattle.rail_base.specs.declared.station.TrainNo.{TrainNo}
 use Rattle.rail_base.specs.Stations.{trains}
-use Rattle.rail_spec.specs.Dispatches.{Dispatch, authority, moved, state_at, state_of, stretches}
+use Rattle.rail_spec.specs.Dispatches.{Dispatch, moved, state_at, state_of, stretches, track_end}
 use Rattle.rail_spec.specs.Motion.{SpanSeen}
 use Rattle.rail_course.specs.declared.train_path.TrainPath.{TrainPath}
 use Rattle.rail_course.specs.TrainPaths.{IsTrainPath}
@@ -25,7 +25,7 @@ use Rattle.dispatch_run.specs.Turns.{AreLookedAt, AreToBeMarked, IsLook, IsLooke
 
 -- the train that a followed train is of
 abbrev pub followed_train_no : FollowedTrain → TrainNo
-followed_train_no f = f.journey.now.train_path.now.train
+followed_train_no f = f.journey.train_path.train
 
 module _ (r : Traffic) where
   -- the train path is that of its train
@@ -42,7 +42,7 @@ module _ (r : Traffic) where
 
   -- how far they let a train go
   abbrev pub authority_given : TrainPath → ℕ → Option ℕ
-  authority_given c granted = authority (first_routes c granted)
+  authority_given c granted = track_end (first_routes c granted)
 
 module _ (r : Traffic) (dispatch : Dispatch) where
   -- the followed train is that of its train

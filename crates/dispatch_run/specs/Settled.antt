@@ -20,12 +20,12 @@ AreInTurn {X} {Y} place mark xs ys = (i j : ℕ) (dx : X) (dy : Y) → i < lengt
 -- these are marks of the nodes of a path
 pub record ArePassedInTurn (path_nodes : List PathNode) (passes : List (NodeNo × Option ℕ)) : Type 0 where
   pub named : map (λ p. p.0) passes ≡ map (λ n. n.node) path_nodes
-  pub in_turn : AreInTurn (λ n. n.offset) (λ p. p.1) path_nodes passes
+  pub in_turn : AreInTurn (λ n. n.event.place) (λ p. p.1) path_nodes passes
 
 -- these are marks of releases
 pub record AreReleasedInTurn (releases : List Release) (entries : List (RouteNo × SectionNo × Option ℕ)) : Type 0 where
   pub named : map {B = RouteNo × SectionNo} (λ e. (e.0, e.1)) entries ≡ map {B = RouteNo × SectionNo} (λ r. (r.route, r.section)) releases
-  pub in_turn : AreInTurn (λ r. r.place) (λ e. e.2) releases entries
+  pub in_turn : AreInTurn (λ r. r.event.place) (λ e. e.2) releases entries
 
 -- up to where all has its tick, where what is at a place has this one
 abbrev pub settled_by : Option ℕ → ℕ → ℕ → ℕ → ℕ

@@ -59,8 +59,8 @@ impl Traffic<'_> {
         requires before { old ≡ train_history_in self.now dispatch (tick - 1) followed_train.now }
         ensures { IfOk result (λ h. h ≡ train_history_in self.now dispatch tick followed_train.now) }
     {
-        let journey = followed_train.journey;
-        let train_path = journey.train_path;
+        let journey = &followed_train.journey;
+        let train_path = &journey.train_path;
         let TrainHistory {
             grants,
             passes,
@@ -109,8 +109,8 @@ impl Traffic<'_> {
         requires { IsFollowedTrainIn self.now dispatch followed_train.now }
         ensures { IfOk result (λ h. h ≡ train_history_in self.now dispatch 0 followed_train.now) }
     {
-        let journey = followed_train.journey;
-        let train_path = journey.train_path;
+        let journey = &followed_train.journey;
+        let train_path = &journey.train_path;
         let grants = none_granted(alloc, train_path.path.as_slice())?;
         let passes = none_passed(alloc, train_path.path_nodes.as_slice())?;
         let releases = none_released(alloc, journey.releases.as_slice())?;

@@ -10,10 +10,10 @@ use Rattle.rail_base.specs.Members.{In}
 use Rattle.rail_base.specs.Routes.{route_at, has_section, sections}
 use Rattle.rail_base.proofs.Lists.{in_map_back}
 use Rattle.rail_base.proofs.Members.{list_any_gives, map-map}
+use Rattle.rail_base.specs.declared.state.TrainEvent.{TrainEvent}
 use Rattle.interlocking.specs.declared.railway.Interlocking.{Interlocking}
 use Rattle.rail_course.specs.declared.itineraries.Itineraries.{Itineraries}
 use Rattle.rail_course.specs.declared.journey.Release.{Release}
-use Rattle.rail_course.specs.declared.waits.Wait.{Wait}
 use Rattle.rail_course.specs.Itineraries.{release_in, route_releases_in}
 use Rattle.rail_course.proofs.Granting.{all_from_in}
 use Rattle.rail_course.proofs.Parting.{Once, alone, is_of, parts_once, sections_within}
@@ -53,7 +53,7 @@ module _ (i : Itineraries) (z : SectionNo) (c : Command) where
       ∙ ap (map (λ y. wait_in i y c)) (filter-map (λ (p : SectionNo × ℤ). p.0) (λ y. y.0 == z.0) route.sections ∙ one_kept z route.sections (parts_once i.interlocking.now c.route))
 
   -- its wait stands at the end of the queue, where it goes over the section
-  pub entered : (old new : List Wait) → new ≡ old ++ map (wait_until c.train) (filter (λ (r : Release). r.section.0 == z.0) (route_releases_in i c.train c.route)) → new ≡ (if has_section route z then old ++ wait_in i z c ∷ [] else old)
+  pub entered : (old new : List TrainEvent) → new ≡ old ++ map (wait_until c.train) (filter (λ (r : Release). r.section.0 == z.0) (route_releases_in i c.train c.route)) → new ≡ (if has_section route z then old ++ wait_in i z c ∷ [] else old)
   entered old new e = e ∙ ap (λ ws. old ++ ws) kept_releases ∙ go (has_section route z)
     where
       go : (b : Bool) → old ++ map (λ y. wait_in i y c) (if b then z ∷ [] else []) ≡ (if b then old ++ wait_in i z c ∷ [] else old)
@@ -61,7 +61,7 @@ module _ (i : Itineraries) (z : SectionNo) (c : Command) where
       go false = append-nil old
 
 -- the same of its releases as they are given
-pub entered_by : (i : Itineraries) (z : SectionNo) (c : Command) (rs : List Release) (old new : List Wait) → rs ≡ route_releases_in i c.train c.route → new ≡ old ++ map (wait_until c.train) (filter (λ (r : Release). r.section.0 == z.0) rs)
+pub entered_by : (i : Itineraries) (z : SectionNo) (c : Command) (rs : List Release) (old new : List TrainEvent) → rs ≡ route_releases_in i c.train c.route → new ≡ old ++ map (wait_until c.train) (filter (λ (r : Release). r.section.0 == z.0) rs)
     → new ≡ (if has_section (route_at i.interlocking.now.routes c.route) z then old ++ wait_in i z c ∷ [] else old)
 entered_by i z c rs old new is e = entered i z c old new (e ∙ ap (λ xs. old ++ map (wait_until c.train) (filter (λ (r : Release). r.section.0 == z.0) xs)) is)
 

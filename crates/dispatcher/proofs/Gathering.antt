@@ -103,28 +103,6 @@ filter-map {X} {Y} g test (x ∷ xs) = go (test (g x)) (filter-map g test xs)
     go true e = ap (λ ys. g x ∷ ys) e
     go false e = e
 
--- ---- what comes off the front
-
-pub some_left : {X : Type 0} (xs : List X) (i : ℕ) → i < length xs → 0 < length (drop i xs)
-some_left [] i h = absurd (omega arith)
-some_left (x ∷ xs) zero h = omega arith
-some_left (x ∷ xs) (suc i) h = some_left xs i (omega arith)
-
-pub first_left : {X : Type 0} (xs : List X) (i : ℕ) (other : X) → get_or (drop i xs) 0 other ≡ get_or xs i other
-first_left [] zero other = refl
-first_left [] (suc i) other = refl
-first_left (x ∷ xs) zero other = refl
-first_left (x ∷ xs) (suc i) other = first_left xs i other
-
-pub rest_left : {X : Type 0} (xs : List X) (i n : ℕ) → n ≡ i + 1 → drop 1 (drop i xs) ≡ drop n xs
-rest_left xs i n e = go xs i ∙ ap (λ k. drop k xs) (let f : suc i ≡ n = omega arith in f)
-  where
-    go : {X : Type 0} (xs : List X) (i : ℕ) → drop 1 (drop i xs) ≡ drop (suc i) xs
-    go [] zero = refl
-    go [] (suc i) = refl
-    go (x ∷ xs) zero = refl
-    go (x ∷ xs) (suc i) = go xs i
-
 -- a list by its number
 pub entry_at : {X : Type 0} (lists : List (List X)) (n place : ℕ) (x : List X) → 1 ≤ n → n ≤ length lists → place ≡ n - 1 → x ≡ get_or lists place x → entry [] lists n ≡ x
 entry_at lists zero place x low high at is = absurd (omega arith)

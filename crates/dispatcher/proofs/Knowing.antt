@@ -16,22 +16,21 @@ use Rattle.rail_base.specs.Numbering.{entry}
 use Rattle.rail_base.specs.Routes.{route_at, sections}
 use Rattle.rail_base.specs.Stations.{IsTrain}
 use Rattle.rail_base.proofs.Members.{filter-append}
+use Rattle.rail_base.specs.declared.state.TrainEvent.{TrainEvent}
 use Rattle.rail_spec.specs.Plans.{is_train, path, routes_given}
-use Rattle.rail_spec.specs.Dispatches.{Dispatch, of_plan, has_released}
+use Rattle.rail_spec.specs.Dispatches.{Dispatch, of_plan, has_released, has_come}
 use Rattle.rail_laws.proofs.Given.{same_train}
 use Rattle.rail_course.specs.declared.train_path.TrainPath.{TrainPath}
 use Rattle.rail_course.specs.declared.itineraries.Itineraries.{Itineraries}
 use Rattle.rail_course.specs.declared.planned.PlannedTrainPaths.{PlannedTrainPaths}
-use Rattle.rail_course.specs.declared.waits.Wait.{Wait}
 use Rattle.rail_course.specs.Itineraries.{path_in}
 use Rattle.rail_course.specs.Releases.{release_for}
-use Rattle.rail_course.specs.Ready.{GiveWhatIsReady}
-use Rattle.rail_course.specs.Waits.{is_over}
+use Rattle.rail_course.specs.Ready.{GiveWhatIsReady, own_waits, AllGiveWhatIsReady}
 use Rattle.rail_course.proofs.Numbered.{many_train_paths, path_of_number, train_at}
 use Rattle.rail_course.proofs.Granting.{no_path, plan_named}
 use Rattle.rail_course.proofs.Waiting.{list_all-same}
 use Rattle.dispatcher.specs.Queues.{last_on, on_section, queue_at, these_or}
-use Rattle.dispatcher.specs.Planned.{AreKnown, AreQueues, AreWaitsIn, own_waits}
+use Rattle.dispatcher.specs.Planned.{AreKnown, AreQueues, AreWaitsIn}
 use Rattle.dispatcher.specs.Waits.{AreWaits, lets_pass, wait_in, wait_until}
 use Rattle.dispatcher.proofs.Last.{last_more, these_or-map}
 use Rattle.dispatcher.proofs.Ready.{orderly, waits_more, waits_tell}
@@ -85,21 +84,21 @@ module _ (p : PlannedTrainPaths) where
 
   -- the paths are those of the plan
   pub same_paths : path_in given ≡ path plan
-  same_paths = path_of_number station (path plan) given.paths.now p.paths (no_path station routes plan (plan_named given.interlocking.now plan p.formed))
+  same_paths = path_of_number station (path plan) given.paths.items p.paths (no_path station routes plan (plan_named given.interlocking.now plan p.formed))
 
   -- ---- the waits of one command
 
-  over_is : (s : List TrainState) (z : SectionNo) (e : Command) → is_over s (wait_in given z e) ≡ has_released station routes dispatch s e z
-  over_is s z e = ap (λ (path : TrainNo → List RouteNo). is_over s (wait_until e.train (release_for station routes (record { path = path; before = dispatch.before; concerns = dispatch.concerns }) e z))) same_paths
+  over_is : (s : List TrainState) (z : SectionNo) (e : Command) → has_come s (wait_in given z e) ≡ has_released station routes dispatch s e z
+  over_is s z e = ap (λ (path : TrainNo → List RouteNo). has_come s (wait_until e.train (release_for station routes (record { path = path; before = dispatch.before; concerns = dispatch.concerns }) e z))) same_paths
 
-  passes_is : (s : List TrainState) (t : TrainNo) (z : SectionNo) (queue : List Wait) (last : List Command) → queue ≡ map (wait_in given z) last → list_all (lets_pass s t) queue ≡ list_all (λ e. is_train e.train t || has_released station routes dispatch s e z) last
+  passes_is : (s : List TrainState) (t : TrainNo) (z : SectionNo) (queue : List TrainEvent) (last : List Command) → queue ≡ map (wait_in given z) last → list_all (lets_pass s t) queue ≡ list_all (λ e. is_train e.train t || has_released station routes dispatch s e z) last
   passes_is s t z queue last is =
       ap (list_all (lets_pass s t)) is
       ∙ list_all-map (lets_pass s t) (wait_in given z) last
       ∙ list_all-same (λ e. lets_pass s t (wait_in given z e)) (λ e. is_train e.train t || has_released station routes dispatch s e z) last (λ e m. ap (λ b. is_train e.train t || b) (over_is s z e))
 
-  pub own_waits_are : (n : ℕ) (queues : List (List Wait)) → AreQueues p n queues → n < length plan → (step : List Command) → step ≡ get_or plan n step → (c : Command) → In c step → (own : List Wait)
-      → ((s : List TrainState) → list_all (is_over s) own ≡ list_all (λ z. list_all (lets_pass s c.train) (queue_at queues z)) (sections (route_at routes c.route)))
+  pub own_waits_are : (n : ℕ) (queues : List (List TrainEvent)) → AreQueues p n queues → n < length plan → (step : List Command) → step ≡ get_or plan n step → (c : Command) → In c step → (own : List TrainEvent)
+      → ((s : List TrainState) → list_all (has_come s) own ≡ list_all (λ z. list_all (lets_pass s c.train) (queue_at queues z)) (sections (route_at routes c.route)))
       → AreWaits station routes dispatch plan c own
   own_waits_are n queues are less step is c m own over = record {
     before = take n plan;
@@ -114,8 +113,8 @@ module _ (p : PlannedTrainPaths) where
 
   -- ---- one command more
 
-  pub known_more : (t : TrainNo) (before : List RouteNo) (step : List Command) (j : ℕ) (c : Command) → j < length step → c ≡ get_or step j c → (own : Vec Wait) → AreWaits station routes dispatch plan c own.items
-      → (old new : List (Vec Wait)) → new ≡ (if c.train.0 == t.0 then old ++ own ∷ [] else old)
+  pub known_more : (t : TrainNo) (before : List RouteNo) (step : List Command) (j : ℕ) (c : Command) → j < length step → c ≡ get_or step j c → (own : Vec TrainEvent) → AreWaits station routes dispatch plan c own.items
+      → (old new : List (Vec TrainEvent)) → new ≡ (if c.train.0 == t.0 then old ++ own ∷ [] else old)
       → AreWaitsIn p t (before ++ routes_given t (take j step)) (map (λ v. v.items) old) → AreWaitsIn p t (before ++ routes_given t (take (j + 1) step)) (map (λ v. v.items) new)
   known_more t before step j c h is own waits old new put known =
       subst (λ rs. AreWaitsIn p t (before ++ rs) (map (λ v. v.items) new)) (sym (given_more step j c t h is))
@@ -125,18 +124,18 @@ module _ (p : PlannedTrainPaths) where
       rs : List RouteNo
       rs = routes_given t (take j step)
 
-      go : (b : Bool) → is_train c.train t ≡ b → AreWaitsIn p t (before ++ (rs ++ (if b then c.route ∷ [] else []))) (map (λ (v : Vec Wait). v.items) (if b then old ++ own ∷ [] else old))
-      go false e = subst (λ qs. AreWaitsIn p t (before ++ qs) (map (λ (v : Vec Wait). v.items) old)) (sym (append-nil rs)) known
+      go : (b : Bool) → is_train c.train t ≡ b → AreWaitsIn p t (before ++ (rs ++ (if b then c.route ∷ [] else []))) (map (λ (v : Vec TrainEvent). v.items) (if b then old ++ own ∷ [] else old))
+      go false e = subst (λ qs. AreWaitsIn p t (before ++ qs) (map (λ (v : Vec TrainEvent). v.items) old)) (sym (append-nil rs)) known
       go true e =
           let same : c.train ≡ t = same_train c.train t e in
           let here : AreWaits station routes dispatch plan (record { train = t; route = c.route }) own.items = subst (λ u. AreWaits station routes dispatch plan (record { train = u; route = c.route }) own.items) same waits in
-          subst (AreWaitsIn p t (before ++ (rs ++ c.route ∷ []))) (sym (map-append (λ (v : Vec Wait). v.items) old (own ∷ [])))
-          (subst (λ qs. AreWaitsIn p t qs (map (λ (v : Vec Wait). v.items) old ++ own.items ∷ [])) (append_assoc before rs (c.route ∷ []))
-          (waits_more station routes plan t (before ++ rs) (map (λ (v : Vec Wait). v.items) old) c.route own.items known here))
+          subst (AreWaitsIn p t (before ++ (rs ++ c.route ∷ []))) (sym (map-append (λ (v : Vec TrainEvent). v.items) old (own ∷ [])))
+          (subst (λ qs. AreWaitsIn p t qs (map (λ (v : Vec TrainEvent). v.items) old ++ own.items ∷ [])) (append_assoc before rs (c.route ∷ []))
+          (waits_more station routes plan t (before ++ rs) (map (λ (v : Vec TrainEvent). v.items) old) c.route own.items known here))
 
   -- ---- one step more
 
-  pub queue_more : (n : ℕ) → n < length plan → (step : List Command) → step ≡ get_or plan n step → (z : SectionNo) (old new : List Wait) → old ≡ map (wait_in given z) (last_on routes z [] (take n plan)) → new ≡ these_or (map (wait_in given z) (on_section routes z step)) old
+  pub queue_more : (n : ℕ) → n < length plan → (step : List Command) → step ≡ get_or plan n step → (z : SectionNo) (old new : List TrainEvent) → old ≡ map (wait_in given z) (last_on routes z [] (take n plan)) → new ≡ these_or (map (wait_in given z) (on_section routes z step)) old
       → new ≡ map (wait_in given z) (last_on routes z [] (take (n + 1) plan))
   queue_more n less step is z old new before turn =
       turn ∙ ap (these_or (map (wait_in given z) (on_section routes z step))) before
@@ -145,49 +144,31 @@ module _ (p : PlannedTrainPaths) where
 
   -- ---- what is known after some steps
 
-  pub nothing_queued : (queues : List (List Wait)) → length queues ≡ length station.sections → ((n : ℕ) → entry [] queues n ≡ []) → AreQueues p 0 queues
+  pub nothing_queued : (queues : List (List TrainEvent)) → length queues ≡ length station.sections → ((n : ℕ) → entry [] queues n ≡ []) → AreQueues p 0 queues
   nothing_queued queues many none = record { queue_a_section = many; each = λ z. none z.0 }
 
-  pub nothing_known : (waits : List (List (Vec Wait))) → length waits ≡ length station.trains → ((n : ℕ) → entry [] waits n ≡ []) → AreKnown p 0 waits
-  nothing_known waits many none = record { waits_a_train = many; each = λ t is. subst (λ vs. AreWaitsIn p t [] (map (λ (v : Vec Wait). v.items) vs)) (sym (none t.0)) tt }
+  pub nothing_known : (waits : List (List (Vec TrainEvent))) → length waits ≡ length station.trains → ((n : ℕ) → entry [] waits n ≡ []) → AreKnown p 0 waits
+  nothing_known waits many none = record { waits_a_train = many; each = λ t is. subst (λ vs. AreWaitsIn p t [] (map (λ (v : Vec TrainEvent). v.items) vs)) (sym (none t.0)) tt }
 
-  pub queues_turned : (n : ℕ) → n < length plan → (step : List Command) → step ≡ get_or plan n step → (old new : List (List Wait)) → AreQueues p n old → length new ≡ length old
+  pub queues_turned : (n : ℕ) → n < length plan → (step : List Command) → step ≡ get_or plan n step → (old new : List (List TrainEvent)) → AreQueues p n old → length new ≡ length old
       → ((z : SectionNo) → queue_at new z ≡ these_or (map (wait_in given z) (on_section routes z step)) (queue_at old z)) → AreQueues p (n + 1) new
   queues_turned n less step is old new are many turn = record {
     queue_a_section = many ∙ are.queue_a_section;
     each = λ z. queue_more n less step is z (queue_at old z) (queue_at new z) (are.each z) (turn z);
   }
 
-  pub step_known : (n : ℕ) → n < length plan → (step : List Command) → step ≡ get_or plan n step → (waits : List (List (Vec Wait))) → length waits ≡ length station.trains
+  pub step_known : (n : ℕ) → n < length plan → (step : List Command) → step ≡ get_or plan n step → (waits : List (List (Vec TrainEvent))) → length waits ≡ length station.trains
       → ((t : TrainNo) → IsTrain station t → AreWaitsIn p t (path (take n plan) t ++ routes_given t step) (own_waits waits t)) → AreKnown p (n + 1) waits
   step_known n less step is waits many each = record {
     waits_a_train = many;
     each = λ t train. subst (λ rs. AreWaitsIn p t rs (own_waits waits t)) (sym (path_more plan n step t less is)) (each t train);
   }
 
-  pub all_told : (waits : List (List (Vec Wait))) → AreKnown p (length plan) waits → (t : TrainNo) → IsTrain station t → GiveWhatIsReady station routes dispatch t (own_waits waits t)
+  all_told : (waits : List (List (Vec TrainEvent))) → AreKnown p (length plan) waits → (t : TrainNo) → IsTrain station t → GiveWhatIsReady station routes dispatch t (own_waits waits t)
   all_told waits known t is =
       waits_tell station routes plan t (orderly given.interlocking.now plan p.formed) (own_waits waits t)
       (subst (λ steps. AreWaitsIn p t (path steps t) (own_waits waits t)) (take_all (length plan) plan (le_refl (length plan))) (known.each t is))
 
-  -- the waits at a train path's place are those of its train
-  pub told_at : (waits : List (List (Vec Wait))) → AreKnown p (length plan) waits → (i : ℕ) → i < length p.train_paths.train_paths.now → (train_path : TrainPath) → train_path ≡ get_or p.train_paths.train_paths.now i train_path → (own : List (Vec Wait)) → own ≡ get_or waits i own
-      → GiveWhatIsReady station routes dispatch train_path.train (map (λ (v : Vec Wait). v.items) own)
-  told_at waits known i less train_path here own is =
-      subst (λ u. GiveWhatIsReady station routes dispatch u (map (λ (v : Vec Wait). v.items) own)) (sym number)
-      (subst (λ vs. GiveWhatIsReady station routes dispatch t (map (λ (v : Vec Wait). v.items) vs)) waits_are (all_told waits known t train))
-    where
-      t : TrainNo
-      t = record { 0 = suc i }
-
-      many : length p.train_paths.train_paths.now ≡ length station.trains
-      many = many_train_paths station routes (path_in given) p.train_paths.train_paths.now p.train_paths.are_train_paths
-
-      train : IsTrain station t
-      train = let m = many in (omega arith, omega arith)
-
-      number : train_path.train ≡ t
-      number = ap (λ (c : TrainPath). c.train) here ∙ ap (λ k. (get_or p.train_paths.train_paths.now k train_path).train) (let e : i ≡ suc i - 1 = omega arith in e) ∙ train_at station routes (path_in given) p.train_paths.train_paths.now p.train_paths.are_train_paths t train_path train
-
-      waits_are : entry [] waits (suc i) ≡ own
-      waits_are = let m = many in let w = known.waits_a_train in get_or_default waits i [] own (omega arith) ∙ sym is
+  -- so all waits give what is ready
+  pub all_give : (waits : List (List (Vec TrainEvent))) → AreKnown p (length plan) waits → AllGiveWhatIsReady station routes dispatch waits
+  all_give waits known = record { waits_a_train = known.waits_a_train; each = all_told waits known }

@@ -5,8 +5,7 @@ use Rattle.std.proofs.lemmas.List.Folds.{list_all-append, list_all_more}
 use Rattle.rail_base.specs.declared.state.TrainState.{TrainState}
 use Rattle.rail_base.specs.declared.station.TrainNo.{TrainNo}
 use Rattle.rail_base.proofs.Members.{and_both, and_left, and_right, same_bool}
-use Rattle.rail_spec.specs.Dispatches.{state_of}
-use Rattle.rail_course.specs.Waits.{is_over}
+use Rattle.rail_spec.specs.Dispatches.{state_of, has_come}
 
 -- ---- of two waits for one command
 
@@ -19,9 +18,9 @@ and_twice : (g a b : Bool) → (g && (a && b)) ≡ ((g && a) && (g && b))
 and_twice true a b = refl
 and_twice false a b = refl
 
-pub merged_over : (s : List TrainState) (t : TrainNo) (n a b : ℕ) → is_over s (record { train = t; number = n; place = max a b }) ≡ (is_over s (record { train = t; number = n; place = a }) && is_over s (record { train = t; number = n; place = b }))
+pub merged_over : (s : List TrainState) (t : TrainNo) (n a b : ℕ) → has_come s (record { train = t; event = record { granted = n; place = max a b } }) ≡ (has_come s (record { train = t; event = record { granted = n; place = a } }) && has_come s (record { train = t; event = record { granted = n; place = b } }))
 merged_over s t n a b =
-    ap (λ x. nat_lt n (state_of s t).granted && x) (both_places (state_of s t).x a b) ∙ and_twice (nat_lt n (state_of s t).granted) (nat_le a (state_of s t).x) (nat_le b (state_of s t).x)
+    ap (λ x. nat_le n (state_of s t).granted && x) (both_places (state_of s t).x a b) ∙ and_twice (nat_le n (state_of s t).granted) (nat_le a (state_of s t).x) (nat_le b (state_of s t).x)
 
 -- ---- one wait more
 

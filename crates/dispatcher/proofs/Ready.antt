@@ -11,12 +11,12 @@ use Rattle.rail_base.specs.Stations.{IsTrain, trains, train_of}
 use Rattle.rail_base.proofs.Admitting.{admitted}
 use Rattle.rail_base.proofs.Members.{and_left, and_right}
 use Rattle.rail_base.proofs.Lists.{in_flat_map_back}
+use Rattle.rail_base.specs.declared.state.TrainEvent.{TrainEvent}
 use Rattle.rail_spec.specs.Plans.{path, path_routes, is_path, one_each}
 use Rattle.rail_spec.specs.Dispatches.{of_plan}
 use Rattle.rail_spec.specs.Feasible.{IsWellFormed}
 use Rattle.rail_laws.proofs.Admits.{path_differs}
 use Rattle.interlocking.specs.declared.railway.Interlocking.{Interlocking}
-use Rattle.rail_course.specs.declared.waits.Wait.{Wait}
 use Rattle.rail_course.specs.Ready.{GiveWhatIsReady}
 use Rattle.rail_course.specs.Tracks.{IsCommand}
 use Rattle.rail_course.proofs.Granting.{in_from_all, laid_out, plan_named}
@@ -24,13 +24,13 @@ use Rattle.dispatcher.specs.Waits.{AreWaits, AreWaitsOf}
 use Rattle.dispatcher.proofs.Enough.{IsOrderly, ready_when_free}
 
 module _ (d : Station) (routes : List Route) (plan : List (List Command)) (t : TrainNo) where
-  waits_many : (rs : List RouteNo) (waits : List (List Wait)) → AreWaitsOf d routes (of_plan routes plan) plan t rs waits → length waits ≡ length rs
+  waits_many : (rs : List RouteNo) (waits : List (List TrainEvent)) → AreWaitsOf d routes (of_plan routes plan) plan t rs waits → length waits ≡ length rs
   waits_many [] [] a = refl
   waits_many [] (own ∷ waits) a = absurd a
   waits_many (r ∷ rs) [] a = absurd a
   waits_many (r ∷ rs) (own ∷ waits) a = ap suc (waits_many rs waits a.1)
 
-  waits_at : (rs : List RouteNo) (waits : List (List Wait)) → AreWaitsOf d routes (of_plan routes plan) plan t rs waits → (g : ℕ) (r : RouteNo) (own : List Wait) → slice_get rs g ≡ Some r → slice_get waits g ≡ Some own
+  waits_at : (rs : List RouteNo) (waits : List (List TrainEvent)) → AreWaitsOf d routes (of_plan routes plan) plan t rs waits → (g : ℕ) (r : RouteNo) (own : List TrainEvent) → slice_get rs g ≡ Some r → slice_get waits g ≡ Some own
       → AreWaits d routes (of_plan routes plan) plan (record { train = t; route = r }) own
   waits_at [] [] a g r own e f = cc
   waits_at [] (v ∷ vs) a g r own e f = absurd a
@@ -42,7 +42,7 @@ module _ (d : Station) (routes : List Route) (plan : List (List Command)) (t : T
   waits_at (q ∷ qs) (v ∷ vs) a (suc g) r own e f = waits_at qs vs a.1 g r own e f
 
   -- the waits of one command more
-  pub waits_more : (rs : List RouteNo) (waits : List (List Wait)) (r : RouteNo) (own : List Wait) → AreWaitsOf d routes (of_plan routes plan) plan t rs waits → AreWaits d routes (of_plan routes plan) plan (record { train = t; route = r }) own
+  pub waits_more : (rs : List RouteNo) (waits : List (List TrainEvent)) (r : RouteNo) (own : List TrainEvent) → AreWaitsOf d routes (of_plan routes plan) plan t rs waits → AreWaits d routes (of_plan routes plan) plan (record { train = t; route = r }) own
       → AreWaitsOf d routes (of_plan routes plan) plan t (rs ++ r ∷ []) (waits ++ own ∷ [])
   waits_more [] [] r own a w = (w, tt)
   waits_more [] (v ∷ vs) r own a w = absurd a
@@ -50,7 +50,7 @@ module _ (d : Station) (routes : List Route) (plan : List (List Command)) (t : T
   waits_more (q ∷ qs) (v ∷ vs) r own a w = (a.0, waits_more qs vs r own a.1 w)
 
   -- those of the whole path
-  pub waits_tell : IsOrderly d routes plan → (waits : List (List Wait)) → AreWaitsOf d routes (of_plan routes plan) plan t (path plan t) waits → GiveWhatIsReady d routes (of_plan routes plan) t waits
+  pub waits_tell : IsOrderly d routes plan → (waits : List (List TrainEvent)) → AreWaitsOf d routes (of_plan routes plan) plan t (path plan t) waits → GiveWhatIsReady d routes (of_plan routes plan) t waits
   waits_tell orderly waits are = record {
     waits_a_route = waits_many (path plan t) waits are;
     next = λ k s shows r own here there.

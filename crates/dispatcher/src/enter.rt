@@ -8,12 +8,13 @@ ghost use Rattle.dispatcher.specs.Turned.{left_by, AddsReleases};
 use crate::lists::{empty, put};
 use rail_base::list::List;
 use rail_base::route::Route;
+use rail_base::state::TrainEvent;
 use rail_base::station::TrainNo;
-use rail_course::{Release, Wait};
+use rail_course::Release;
 use std::alloc::{AllocError, Global};
 
 /// Empties the queues of a route's sections.
-pub(crate) fn leave(queues: &mut Vec<List<Wait>>, alloc: Global, route: &Route)
+pub(crate) fn leave(queues: &mut Vec<List<TrainEvent>>, alloc: Global, route: &Route)
     requires { All (λ p. IsWithin (length queues.old.items) p.0) route.now.sections }
     ensures same_length { length queues.new.items ≡ length queues.old.items }
     ensures left { (z : SectionNo) → queue_at queues.new.items z ≡ left_by queues.old.items z route.now }
@@ -25,7 +26,7 @@ pub(crate) fn leave(queues: &mut Vec<List<Wait>>, alloc: Global, route: &Route)
 
 /// Puts the releases of a train's command into the queues of their sections.
 pub(crate) fn enter(
-    queues: &mut Vec<List<Wait>>,
+    queues: &mut Vec<List<TrainEvent>>,
     train: TrainNo,
     releases: &[Release],
 ) -> Result<(), AllocError>
@@ -34,10 +35,9 @@ pub(crate) fn enter(
     ensures entered { OnOk result (AddsReleases queues.old.items queues.new.items train releases.now) }
 {
     for release in releases {
-        let wait = Wait {
+        let wait = TrainEvent {
             train,
-            number: release.number,
-            place: release.place,
+            event: release.event,
         };
         put(queues, release.section.0, wait)?;
     }

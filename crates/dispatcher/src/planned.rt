@@ -1,30 +1,40 @@
 //! The journeys that a plan gives the trains.
 
 ghost use Rattle.std.specs.Prelude.{◌≡◌, ◌+◌, ◌<◌, [], All, IfOk, OnOk, length, slice_index_or};
+ghost use Rattle.rail_spec.specs.Feasible.{IsWellFormed};
 ghost use Rattle.rail_course.specs.Itineraries.{IsCommandIn};
-ghost use Rattle.rail_course.specs.Planned.{ArePlannedJourneys};
 ghost use Rattle.dispatcher.specs.Planned.{AreKnown, AreQueues};
 
 use crate::lists::{empty_lists, put};
 use crate::turns::turn;
 use crate::waits::waits_of;
+use interlocking::Interlocking;
 use rail_base::list::List;
-use rail_base::plan::Command;
-use rail_course::{Journey, PlannedTrainPaths, Wait};
+use rail_base::plan::{Command, Plan};
+use rail_base::state::TrainEvent;
+use rail_course::{PlannedJourneys, PlannedTrainPaths};
 use std::alloc::{AllocError, Global};
 
 /// The waits of each command of a train's path.
-type Waits = List<Vec<Wait>>;
+type Waits = List<Vec<TrainEvent>>;
 
-/// The journeys of all trains, in file order.
+/// The journeys that a plan gives the trains.
+///
+/// # Errors
+///
+/// Want of memory alone.
 pub fn journeys<'a>(
     alloc: Global,
-    planned: &PlannedTrainPaths<'a>,
-) -> Result<Vec<Journey<'a>>, AllocError>
-    ensures { IfOk result (λ js. ArePlannedJourneys planned.now js.items) }
+    interlocking: &'a Interlocking,
+    plan: &'a Plan,
+) -> Result<PlannedJourneys<'a>, AllocError>
+    requires { IsWellFormed interlocking.now.design.station interlocking.now.routes 256 plan.now.steps }
+    ensures interlocking { IfOk result (λ j. j.interlocking.now ≡ interlocking.now) }
+    ensures plan { IfOk result (λ j. j.plan.now ≡ plan.now) }
 {
-    let waits = waits_of_all(planned, alloc)?;
-    journeys_with(planned, alloc, waits)
+    let planned = PlannedTrainPaths::of(alloc, interlocking, plan)?;
+    let waits = waits_of_all(&planned, alloc)?;
+    planned.into_journeys(alloc, waits)
 }
 
 /// The commands of a step, counted from 0.
@@ -41,7 +51,7 @@ fn push_step(
     planned: &PlannedTrainPaths,
     alloc: Global,
     waits: &mut Vec<Waits>,
-    queues: &[List<Wait>],
+    queues: &[List<TrainEvent>],
     number: usize,
 ) -> Result<(), AllocError>
     requires number { number < length planned.now.plan.now.steps }
@@ -76,22 +86,4 @@ fn waits_of_all(planned: &PlannedTrainPaths, alloc: Global) -> Result<Vec<Waits>
         )?;
     }
     Ok(waits)
-}
-
-/// The journeys of all trains, in file order, with these waits.
-fn journeys_with<'a>(
-    planned: &PlannedTrainPaths<'a>,
-    alloc: Global,
-    waits: Vec<Waits>,
-) -> Result<Vec<Journey<'a>>, AllocError>
-    requires { AreKnown planned.now (length planned.now.plan.now.steps) waits.items }
-    ensures { IfOk result (λ js. ArePlannedJourneys planned.now js.items) }
-{
-    let mut left = waits;
-    let mut journeys = Vec::new(alloc);
-    for train_path in planned.train_paths.train_paths {
-        let own = left.remove(0).into_vec();
-        journeys.push(planned.train_paths.journey(alloc, train_path, own)?)?;
-    }
-    Ok(journeys)
 }

@@ -7,13 +7,14 @@ ghost use Rattle.dispatcher.specs.Turned.{HasQueues, AreTurned, AreLeft, AreEnte
 use crate::enter::{enter, leave};
 use rail_base::list::List;
 use rail_base::plan::Command;
-use rail_course::{TrainPaths, Wait};
+use rail_base::state::TrainEvent;
+use rail_course::TrainPaths;
 use std::alloc::{AllocError, Global};
 
 /// After a step its commands stand last on their sections.
 pub(crate) fn turn(
     train_paths: &TrainPaths,
-    queues: &mut Vec<List<Wait>>,
+    queues: &mut Vec<List<TrainEvent>>,
     alloc: Global,
     step: &[Command],
 ) -> Result<(), AllocError>
@@ -30,7 +31,7 @@ pub(crate) fn turn(
 /// Empties the queues of all sections that the commands of a step go over.
 fn leave_all(
     train_paths: &TrainPaths,
-    queues: &mut Vec<List<Wait>>,
+    queues: &mut Vec<List<TrainEvent>>,
     alloc: Global,
     step: &[Command],
 )
@@ -51,7 +52,7 @@ fn leave_all(
 /// Puts the commands of a step into the queues of their sections.
 fn enter_all(
     train_paths: &TrainPaths,
-    queues: &mut Vec<List<Wait>>,
+    queues: &mut Vec<List<TrainEvent>>,
     alloc: Global,
     step: &[Command],
 ) -> Result<(), AllocError>

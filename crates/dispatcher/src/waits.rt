@@ -4,24 +4,24 @@ ghost use Rattle.std.specs.Prelude.{◌≡◌, ◌&&◌, List, IfOk, IfSome, OnO
 ghost use Rattle.std.specs.List.{list_all};
 ghost use Rattle.rail_base.specs.declared.state.TrainState.{TrainState};
 ghost use Rattle.rail_base.specs.Routes.{IsRoute};
-ghost use Rattle.rail_course.specs.Waits.{is_over};
 ghost use Rattle.dispatcher.specs.Waits.{lets_pass};
 ghost use Rattle.dispatcher.specs.Turned.{AsksQueues, AsksMore};
+ghost use Rattle.rail_spec.specs.Dispatches.{has_come};
 
 use interlocking::Interlocking;
 use rail_base::list::List;
 use rail_base::plan::Command;
+use rail_base::state::{Event, TrainEvent};
 use rail_base::station::TrainNo;
-use rail_course::Wait;
 use std::alloc::{AllocError, Global};
 
 /// The waits of a command for the other trains in the queues of its sections.
 pub(crate) fn waits_of(
     interlocking: &Interlocking,
     alloc: Global,
-    queues: &[List<Wait>],
+    queues: &[List<TrainEvent>],
     command: Command,
-) -> Result<Vec<Wait>, AllocError>
+) -> Result<Vec<TrainEvent>, AllocError>
     requires route { IsRoute interlocking.now.routes command.route }
     requires every_section { length queues.now ≡ length interlocking.now.design.station.sections }
     ensures { IfOk result (λ own. AsksQueues interlocking.now.routes queues.now command own.items) }
@@ -35,22 +35,29 @@ pub(crate) fn waits_of(
 }
 
 /// One wait in place of two for the same command.
-fn merge(first: Wait, second: Wait) -> Option<Wait>
-    ensures { IfSome result (λ w. (s : List TrainState) → is_over s w ≡ (is_over s first && is_over s second)) }
+fn merge(first: TrainEvent, second: TrainEvent) -> Option<TrainEvent>
+    ensures { IfSome result (λ w. (s : List TrainState) → has_come s w ≡ (has_come s first && has_come s second)) }
 {
-    if first.train != second.train || first.number != second.number {
+    if first.train != second.train || first.event.granted != second.event.granted {
         return None;
     }
-    Some(Wait {
+    let event = Event {
+        granted: first.event.granted,
+        place: first.event.place.max(second.event.place),
+    };
+    Some(TrainEvent {
         train: first.train,
-        number: first.number,
-        place: first.place.max(second.place),
+        event,
     })
 }
 
 /// Adds two waits, or one in place of them where they are for the same command.
-fn push_two(waits: &mut Vec<Wait>, first: Wait, second: Wait) -> Result<(), AllocError>
-    ensures { OnOk result (AsksMore waits.old.items waits.new.items (λ s. is_over s first && is_over s second)) }
+fn push_two(
+    waits: &mut Vec<TrainEvent>,
+    first: TrainEvent,
+    second: TrainEvent,
+) -> Result<(), AllocError>
+    ensures { OnOk result (AsksMore waits.old.items waits.new.items (λ s. has_come s first && has_come s second)) }
 {
     let Some(both) = merge(first, second) else {
         waits.push(first)?;
@@ -62,8 +69,8 @@ fn push_two(waits: &mut Vec<Wait>, first: Wait, second: Wait) -> Result<(), Allo
 }
 
 /// Adds a wait; one for the same command as the last one is merged with it.
-fn push_wait(waits: &mut Vec<Wait>, wait: Wait) -> Result<(), AllocError>
-    ensures { OnOk result (AsksMore waits.old.items waits.new.items (λ s. is_over s wait)) }
+fn push_wait(waits: &mut Vec<TrainEvent>, wait: TrainEvent) -> Result<(), AllocError>
+    ensures { OnOk result (AsksMore waits.old.items waits.new.items (λ s. has_come s wait)) }
 {
     let Some(last) = waits.pop() else {
         waits.push(wait)?;
@@ -74,7 +81,11 @@ fn push_wait(waits: &mut Vec<Wait>, wait: Wait) -> Result<(), AllocError>
 }
 
 /// Adds a wait of a train, if it is for another one.
-fn push_other(waits: &mut Vec<Wait>, wait: Wait, train: TrainNo) -> Result<(), AllocError>
+fn push_other(
+    waits: &mut Vec<TrainEvent>,
+    wait: TrainEvent,
+    train: TrainNo,
+) -> Result<(), AllocError>
     ensures { OnOk result (AsksMore waits.old.items waits.new.items (λ s. lets_pass s train wait)) }
 {
     if wait.train == train {
@@ -85,7 +96,11 @@ fn push_other(waits: &mut Vec<Wait>, wait: Wait, train: TrainNo) -> Result<(), A
 }
 
 /// Adds the waits of a queue that are for other trains.
-fn push_queue(waits: &mut Vec<Wait>, queue: &[Wait], train: TrainNo) -> Result<(), AllocError>
+fn push_queue(
+    waits: &mut Vec<TrainEvent>,
+    queue: &[TrainEvent],
+    train: TrainNo,
+) -> Result<(), AllocError>
     ensures { OnOk result (AsksMore waits.old.items waits.new.items (λ s. list_all (lets_pass s train) queue.now)) }
 {
     for wait in queue {

@@ -14,7 +14,7 @@ use Rattle.rail_base.specs.Stations.{length_of, IsTrain}
 use Rattle.rail_spec.specs.Track.{edge_ends, routes_of}
 use Rattle.rail_spec.specs.Plans.{path_routes, length_mm, exits, is_well_formed}
 use Rattle.rail_spec.specs.Motion.{MotorSeen, SpanSeen, limit_at, KeepsLimits, keeps_limits, may_stop, can_brake, permitted, next_speed}
-use Rattle.rail_spec.specs.Dispatches.{state_of, rates, stretch, stretches, authority, of_plan, granted_after, moved}
+use Rattle.rail_spec.specs.Dispatches.{state_of, rates, stretch, stretches, of_plan, granted_after, moved, track_end}
 use Rattle.rail_spec.specs.Dispatches.{state_at}
 use Rattle.rail_base.proofs.Members.{and_right, and_both}
 use Rattle.rail_laws.proofs.MotionLaws.{farthest, keeps_limits_from, can_brake-stop, can_brake_keeps, can_brake_slower, permitted_reach, permitted_brakes, permitted_further, next_speed_permitted}
@@ -159,24 +159,24 @@ module _ (d : Station) (adm : IsAdmitted d) (n : ℕ) (plan : List (List Command
   is_sound = sound d adm n plan formed
 
   -- what the granted routes permit the whole path permits
-  on_path : (t : TrainNo) → IsTrain d t → (g x v u : ℕ) → permitted (rates d t) (stretches d (given t g)) (authority (given t g)) x v u ≡ true → permitted (rates d t) (stretches d (routes_of_train t)) (authority (routes_of_train t)) x v u ≡ true
+  on_path : (t : TrainNo) → IsTrain d t → (g x v u : ℕ) → permitted (rates d t) (stretches d (given t g)) (track_end (given t g)) x v u ≡ true → permitted (rates d t) (stretches d (routes_of_train t)) (track_end (routes_of_train t)) x v u ≡ true
   on_path t named g x v u h = go (list_any exits (given t g)) refl
     where
-      go : (b : Bool) → list_any exits (given t g) ≡ b → permitted (rates d t) (stretches d (routes_of_train t)) (authority (routes_of_train t)) x v u ≡ true
-      go true e = subst (λ zs. permitted (rates d t) (stretches d zs) (authority zs) x v u ≡ true) (take_all g (routes_of_train t) (is_sound.exit_last t g named e)) h
+      go : (b : Bool) → list_any exits (given t g) ≡ b → permitted (rates d t) (stretches d (routes_of_train t)) (track_end (routes_of_train t)) x v u ≡ true
+      go true e = subst (λ zs. permitted (rates d t) (stretches d zs) (track_end zs) x v u ≡ true) (take_all g (routes_of_train t) (is_sound.exit_last t g named e)) h
       go false e =
           let more : List Route = drop g (routes_of_train t) in
           let split : given t g ++ more ≡ routes_of_train t = take-append-drop g (routes_of_train t) in
           let covers : sum_by length_mm (given t g) ≤ farthest 0 (stretches d (given t g)) = let r = reaches d 0 0 (flat_map (λ r. r.edges) (given t g)) (omega arith) in let w = is_sound.whole t g in omega arith in
           let at_end = subst (λ end. permitted (rates d t) (stretches d (given t g)) end x v u ≡ true) (authority_some (given t g) e) h in
-          let grown = permitted_further (rates d t) (sum_by length_mm (given t g)) (stretches d (given t g)) (from d (0 + sum_by (length_of d) (flat_map (λ r. r.edges) (given t g))) (flat_map (λ r. r.edges) more)) (authority (given t g ++ more)) x v u covers (authority_farther (given t g) more) at_end in
-          let joined = subst (λ ss. permitted (rates d t) ss (authority (given t g ++ more)) x v u ≡ true) (sym (stretches_append d (given t g) more)) grown in
-          subst (λ zs. permitted (rates d t) (stretches d zs) (authority zs) x v u ≡ true) split joined
+          let grown = permitted_further (rates d t) (sum_by length_mm (given t g)) (stretches d (given t g)) (from d (0 + sum_by (length_of d) (flat_map (λ r. r.edges) (given t g))) (flat_map (λ r. r.edges) more)) (track_end (given t g ++ more)) x v u covers (authority_farther (given t g) more) at_end in
+          let joined = subst (λ ss. permitted (rates d t) ss (track_end (given t g ++ more)) x v u ≡ true) (sym (stretches_append d (given t g) more)) grown in
+          subst (λ zs. permitted (rates d t) (stretches d zs) (track_end zs) x v u ≡ true) split joined
 
   -- a tick moves a head by a speed that the whole path permits, or leaves it as it is
   pub record Moves (t : TrainNo) (old new : TrainState) : Type 0 where
     pub move : new.x ≡ old.x + new.v
-    pub may : permitted (rates d t) (stretches d (routes_of_train t)) (authority (routes_of_train t)) old.x old.v new.v ≡ true
+    pub may : permitted (rates d t) (stretches d (routes_of_train t)) (track_end (routes_of_train t)) old.x old.v new.v ≡ true
     pub slows : 1 ≤ (rates d t).brake
     pub gains : 1 ≤ (rates d t).accel
 
@@ -190,8 +190,8 @@ module _ (d : Station) (adm : IsAdmitted d) (n : ℕ) (plan : List (List Command
       one named old zero h e = inl (refl, refl)
       one named old (suc g) h e =
           let now = still d (routes_of d) plan is_sound t named old g h e in
-          let u = next_speed (rates d t) (stretches d (given t (suc g))) (authority (given t (suc g))) old.x old.v in
-          let may = next_speed_permitted (rates d t) (stretches d (given t (suc g))) (authority (given t (suc g))) old.x old.v _ now in
+          let u = next_speed (rates d t) (stretches d (given t (suc g))) (track_end (given t (suc g))) old.x old.v in
+          let may = next_speed_permitted (rates d t) (stretches d (given t (suc g))) (track_end (given t (suc g))) old.x old.v _ now in
           inr (record { move = refl; may = on_path t named (suc g) old.x old.v u may; slows = (adm.vehicle _ (adm.train t named).vehicle).slows; gains = (adm.vehicle _ (adm.train t named).vehicle).gains })
 
   -- ---- the distance since a place
@@ -201,7 +201,7 @@ module _ (d : Station) (adm : IsAdmitted d) (n : ℕ) (plan : List (List Command
   Since p l t s = p ≤ s.x → (s.v ≤ l) ⊎ ((n : ℕ) → s.v + climb n (rates d t).accel s.v l ≤ s.x - p)
 
   gain : (t : TrainNo) (old new : TrainState) → Moves t old new → (new.v ≤ old.v + (rates d t).accel) × (new.v ≤ (rates d t).top)
-  gain t old new m = let r = permitted_reach (rates d t) (stretches d (routes_of_train t)) (authority (routes_of_train t)) old.x old.v new.v m.may in (omega arith, omega arith)
+  gain t old new m = let r = permitted_reach (rates d t) (stretches d (routes_of_train t)) (track_end (routes_of_train t)) old.x old.v new.v m.may in (omega arith, omega arith)
 
   gap_held : (p l : ℕ) (t : TrainNo) (old new : TrainState) → Moves t old new → Since p l t old → p ≤ old.x → (n : ℕ) → climb n (rates d t).accel new.v l ≤ old.x - p
   gap_held p l t old new m h past = held (rates d t).accel l old.v new.v (old.x - p) (gain t old new m).0 (h past)
@@ -235,7 +235,7 @@ module _ (d : Station) (adm : IsAdmitted d) (n : ℕ) (plan : List (List Command
     leg = stretches d l.routes
 
     abbrev path_end : Option ℕ
-    path_end = authority (routes_of_train t)
+    path_end = track_end (routes_of_train t)
 
     abbrev leg_end : Option ℕ
     leg_end = if l.closed then Some (sum_by length_mm l.routes) else None

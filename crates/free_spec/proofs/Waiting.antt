@@ -1,4 +1,4 @@
--- A train that waits for a grant gets no further than if it stood at the end of its authority and gained its acceleration and its braking in each tick.
+-- A train that waits for a grant gets no further than if it stood at the end of its track_end and gained its acceleration and its braking in each tick.
 use Rattle.std.proofs.Common.{◌≡◌, ℕ, zero, suc, ◌+◌, ◌-◌, ◌*◌, ◌/◌, ◌≤◌, ◌<◌, ◌⊎◌, inl, inr, min, Bool, true, false, if◌then◌else◌, nat_le, List, take, length, sum_by, Option, refl, ap, subst, arith, leb-true, leb-false, le_refl, mul-le-mul}
 use Rattle.std.proofs.lemmas.Nat.{le-div}
 use Rattle.std.specs.List.{list_any}
@@ -12,7 +12,7 @@ use Rattle.rail_base.specs.Stations.{IsTrain}
 use Rattle.rail_spec.specs.Track.{routes_of}
 use Rattle.rail_spec.specs.Plans.{path, path_routes, length_mm, exits, is_well_formed}
 use Rattle.rail_spec.specs.Motion.{SpanSeen, keeps_limits, may_stop, can_brake, braking_distance}
-use Rattle.rail_spec.specs.Dispatches.{state_of, rates, stretches, authority, of_plan, state_at}
+use Rattle.rail_spec.specs.Dispatches.{state_of, rates, stretches, of_plan, state_at, track_end}
 use Rattle.rail_base.proofs.Members.{and_right}
 use Rattle.rail_base.proofs.Lists.{length-map}
 use Rattle.rail_spec.specs.Plans.{route_at}
@@ -98,8 +98,8 @@ module _ (d : Station) (adm : IsAdmitted d) (n : ℕ) (plan : List (List Command
           let x = (at k t).x in
           let w = v - b in
           let distance = braking_distance w b w in
-          let brakes = permitted_brakes (rates d t) (stretches d (given t (at k t).granted)) (authority (given t (at k t).granted)) x v w ((travels d (routes_of d) plan is_sound k t).braking some) in
-          let stop = stops_there w b (rates d t).tail (stretches d (given t (at k t).granted)) (authority (given t (at k t).granted)) x w brakes in
+          let brakes = permitted_brakes (rates d t) (stretches d (given t (at k t).granted)) (track_end (given t (at k t).granted)) x v w ((travels d (routes_of d) plan is_sound k t).braking some) in
+          let stop = stops_there w b (rates d t).tail (stretches d (given t (at k t).granted)) (track_end (given t (at k t).granted)) x w brakes in
           let near : x + w + distance ≤ sum_by length_mm (given t (at k t).granted) = leb-true _ _ (subst (λ end. may_stop end (x + w + distance) ≡ true) (authority_some (given t (at k t).granted) e) stop) in
           let more = sum_prefix length_mm (at k t).granted (j - 1) (path_routes (routes_of d) plan t) (omega arith) in
           omega arith

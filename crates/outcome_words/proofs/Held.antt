@@ -19,7 +19,7 @@ use Rattle.rail_spec.specs.Histories.{grant_tick}
 use Rattle.rail_spec.specs.Histories as histories
 use Rattle.rail_spec.specs.Plans.{preceding}
 use Rattle.rail_spec.specs.Requirements.{granted_by}
-use Rattle.rail_spec.specs.Visits.{has_passed, pass_tick}
+use Rattle.rail_spec.specs.Visits.{pass_tick, happened_by}
 use Rattle.rail_laws.proofs.Deciding.{least_gives, least_stays}
 use Rattle.rail_laws.proofs.Running.{granted_at_least, released_up_to, run_up_to}
 use Rattle.rail_laws.proofs.Sums.{list_all_fails}
@@ -38,10 +38,10 @@ module _ (d : Station) (routes : List Route) (plan : List (List Command)) (last 
   many k = (state_of (run_at k) t).granted
 
   -- so many commands are granted once a node of the command is passed
-  pub reached : (node : PathNode) (a k : ℕ) → pass_tick d routes (of_plan routes plan) last t node ≡ Some a → a ≤ k → node.command ≤ many k
+  pub reached : (node : PathNode) (a k : ℕ) → pass_tick d routes (of_plan routes plan) last t node ≡ Some a → a ≤ k → node.event.granted ≤ many k
   reached node a k e h =
-      let l = least_gives (has_passed d routes (of_plan routes plan) t node) last a e in
-      let at = leb-true node.command (many a) (and_left (nat_le node.command (many a)) _ l.passes) in
+      let l = least_gives (happened_by d routes (of_plan routes plan) t node.event) last a e in
+      let at = leb-true node.event.granted (many a) (and_left (nat_le node.event.granted (many a)) _ l.passes) in
       let later = (run_up_to d routes (of_plan routes plan) a k t h).granted in
       omega arith
 

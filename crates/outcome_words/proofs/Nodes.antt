@@ -15,7 +15,7 @@ use Rattle.rail_base.specs.Routes.{length_mm, route_at}
 use Rattle.rail_base.specs.Stations.{length_of}
 use Rattle.rail_base.proofs.Lists.{length-map}
 use Rattle.rail_spec.specs.Track.{edge_ends, routes_of}
-use Rattle.rail_spec.specs.Visits.{path_nodes, path_nodes_after, path_nodes_of}
+use Rattle.rail_spec.specs.Places.{path_nodes_of, path_nodes_after, path_nodes}
 use Rattle.rail_laws.proofs.AsEdges.{told}
 
 -- how many edges
@@ -41,14 +41,14 @@ right_at xs ys n i d e = ap (λ m. get_or (xs ++ ys) (m + i) d) (sym e) ∙ get_
 
 module _ (o j : ℕ) where
   abbrev node_at : NodeNo × ℤ → PathNode
-  node_at p = record { node = p.0; offset = o + nat_abs p.1; command = j }
+  node_at p = record { node = p.0; event = record { granted = j; place = o + nat_abs p.1 } }
 
-  command_of : (ps : List (NodeNo × ℤ)) (i : ℕ) (none : PathNode) → i < length ps → (get_or (map node_at ps) i none).command ≡ j
+  command_of : (ps : List (NodeNo × ℤ)) (i : ℕ) (none : PathNode) → i < length ps → (get_or (map node_at ps) i none).event.granted ≡ j
   command_of [] i none h = absurd (omega arith)
   command_of (p ∷ ps) zero none h = refl
   command_of (p ∷ ps) (suc i) none h = command_of ps i none (omega arith)
 
-  command_after : (ps : List (NodeNo × ℤ)) (i : ℕ) (none : PathNode) → suc i < length ps → (get_or (after_first (map node_at ps)) i none).command ≡ j
+  command_after : (ps : List (NodeNo × ℤ)) (i : ℕ) (none : PathNode) → suc i < length ps → (get_or (after_first (map node_at ps)) i none).event.granted ≡ j
   command_after [] i none h = absurd (omega arith)
   command_after (p ∷ ps) i none h = command_of ps i none (omega arith)
 
@@ -63,7 +63,7 @@ some_edges (r ∷ rs) n sized h = let s = (sized r (inl refl)).some in let c = s
 
 -- the last node of the route of this place is reached by its command
 after_at : (rs : List Route) (o j n : ℕ) (none : PathNode) → ((r : Route) → In r rs → Sized r) → n < length rs
-    → (get_or (path_nodes_after o j rs) (sum_by edges (take (suc n) rs) - 1) none).command ≡ j + n
+    → (get_or (path_nodes_after o j rs) (sum_by edges (take (suc n) rs) - 1) none).event.granted ≡ j + n
 after_at [] o j n none sized h = absurd (omega arith)
 after_at (r ∷ rs) o j zero none sized h =
     let s = sized r (inl refl) in
@@ -75,8 +75,8 @@ after_at (r ∷ rs) o j zero none sized h =
     let many : length here ≡ edges r = length-after o j r.nodes (edges r) long in
     let more = path_nodes_after (o + length_mm r) (j + 1) rs in
     let same : j + 0 ≡ j = omega arith in
-    ap (λ i. (get_or (here ++ more) i none).command) place
-    ∙ ap (λ (p : PathNode). p.command) (left_at here more (edges r - 1) none (omega arith))
+    ap (λ i. (get_or (here ++ more) i none).event.granted) place
+    ∙ ap (λ (p : PathNode). p.event.granted) (left_at here more (edges r - 1) none (omega arith))
     ∙ command_after o j r.nodes (edges r - 1) none (omega arith) ∙ sym same
 after_at (r ∷ rs) o j (suc n) none sized h =
     let s = sized r (inl refl) in
@@ -87,11 +87,11 @@ after_at (r ∷ rs) o j (suc n) none sized h =
     let here = after_first (path_nodes_of o j r) in
     let more = path_nodes_after (o + length_mm r) (j + 1) rs in
     let same : j + 1 + n ≡ j + suc n = omega arith in
-    ap (λ i. (get_or (here ++ more) i none).command) place
-    ∙ ap (λ (p : PathNode). p.command) (right_at here more (edges r) (rest - 1) none (length-after o j r.nodes (edges r) s.nodes))
+    ap (λ i. (get_or (here ++ more) i none).event.granted) place
+    ∙ ap (λ (p : PathNode). p.event.granted) (right_at here more (edges r) (rest - 1) none (length-after o j r.nodes (edges r) s.nodes))
     ∙ after_at rs (o + length_mm r) (j + 1) n none (λ q m. sized q (inr m)) (omega arith) ∙ same
 
-pub path_at : (rs : List Route) (n : ℕ) (none : PathNode) → ((r : Route) → In r rs → Sized r) → n < length rs → (get_or (path_nodes rs) (sum_by edges (take (suc n) rs)) none).command ≡ n + 1
+pub path_at : (rs : List Route) (n : ℕ) (none : PathNode) → ((r : Route) → In r rs → Sized r) → n < length rs → (get_or (path_nodes rs) (sum_by edges (take (suc n) rs)) none).event.granted ≡ n + 1
 path_at [] n none sized h = absurd (omega arith)
 path_at (r ∷ rs) zero none sized h =
     let s = sized r (inl refl) in
@@ -100,8 +100,8 @@ path_at (r ∷ rs) zero none sized h =
     let here = path_nodes_of 0 1 r in
     let many : length here ≡ suc (edges r) = length-map (node_at 0 1) r.nodes ∙ long in
     let more = path_nodes_after (length_mm r) 2 rs in
-    ap (λ i. (get_or (here ++ more) i none).command) place
-    ∙ ap (λ (p : PathNode). p.command) (left_at here more (edges r) none (omega arith))
+    ap (λ i. (get_or (here ++ more) i none).event.granted) place
+    ∙ ap (λ (p : PathNode). p.event.granted) (left_at here more (edges r) none (omega arith))
     ∙ command_of 0 1 r.nodes (edges r) none (omega arith)
 path_at (r ∷ rs) (suc n) none sized h =
     let s = sized r (inl refl) in
@@ -112,8 +112,8 @@ path_at (r ∷ rs) (suc n) none sized h =
     let here = path_nodes_of 0 1 r in
     let more = path_nodes_after (length_mm r) 2 rs in
     let same : 2 + n ≡ suc n + 1 = omega arith in
-    ap (λ i. (get_or (here ++ more) i none).command) place
-    ∙ ap (λ (p : PathNode). p.command) (right_at here more (suc (edges r)) (rest - 1) none (length-map (node_at 0 1) r.nodes ∙ s.nodes))
+    ap (λ i. (get_or (here ++ more) i none).event.granted) place
+    ∙ ap (λ (p : PathNode). p.event.granted) (right_at here more (suc (edges r)) (rest - 1) none (length-map (node_at 0 1) r.nodes ∙ s.nodes))
     ∙ after_at rs (length_mm r) 2 n none (λ q m. sized q (inr m)) (omega arith) ∙ same
 
 -- ---- routes of a design

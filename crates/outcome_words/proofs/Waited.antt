@@ -241,7 +241,7 @@ module _ (d : Station) (routes : List Route) (plan : List (List Command)) (last 
 
   -- the last node before the route of a place of the path is reached by the command before
   node_before : IsAdmitted d → names_only d routes plan ≡ true → routes ≡ routes_of d → (n : ℕ) → n < length (path plan t)
-      → (entry no_path_node (nodes_of d routes plan t) (edges_before d routes plan t (suc (suc n)) + 1)).command ≡ n + 1
+      → (entry no_path_node (nodes_of d routes plan t) (edges_before d routes plan t (suc (suc n)) + 1)).event.granted ≡ n + 1
   node_before good named own n h =
       let rs = map (route_at routes) (path plan t) in
       let many : length rs ≡ length (path plan t) = length-map (route_at routes) (path plan t) in
@@ -249,8 +249,8 @@ module _ (d : Station) (routes : List Route) (plan : List (List Command)) (last 
       let less : suc (suc n) - 1 ≡ suc n = omega arith in
       let same : edges_before d routes plan t (suc (suc n)) ≡ sum_by edges (take (suc n) rs) =
       ap (λ k. sum_by (λ r. edges (route_at routes r)) (take k (path plan t))) less ∙ edges_named routes (path plan t) (suc n) in
-      ap (λ k. (entry no_path_node (nodes_of d routes plan t) k).command) one
-      ∙ ap (λ k. (get_or (nodes_of d routes plan t) k no_path_node).command) same
+      ap (λ k. (entry no_path_node (nodes_of d routes plan t) k).event.granted) one
+      ∙ ap (λ k. (get_or (nodes_of d routes plan t) k no_path_node).event.granted) same
       ∙ path_at rs n no_path_node sized (omega arith)
     where
       sized : (q : Route) → In q (map (route_at routes) (path plan t)) → Sized q
@@ -338,7 +338,7 @@ waits_so d routes plan good named n history last s t is c m w waits =
         let place : i < length (path plan t) = let l = got_within (path plan t) (c.0 - 1) c.1.0 number.here in omega arith in
         let pass = passed_told d routes plan last t c.0 w.from (λ one. let no : suc (suc i) ≡ 1 = sym e ∙ one in absurd (omega arith)) (ap (λ h. arrival routes h c.0) (sym told) ∙ a.at ∙ ap (λ n. Some n) (sym from)) in
         let there = reached d routes plan last t (entry no_path_node (nodes_of d routes plan t) (edges_before d routes plan t c.0 + 1)) w.from n pass h in
-        let command = ap (λ j. (entry no_path_node (nodes_of d routes plan t) (edges_before d routes plan t j + 1)).command) e ∙ node_before d routes plan last t good named own i place in
+        let command = ap (λ j. (entry no_path_node (nodes_of d routes plan t) (edges_before d routes plan t j + 1)).event.granted) e ∙ node_before d routes plan last t good named own i place in
         omega arith
 
     some_release : routes ≡ routes_of d → is_some w.release ≡ true

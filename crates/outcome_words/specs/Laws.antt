@@ -36,7 +36,7 @@ use Rattle.outcome_words.specs.Waits.{last_waiting, wait_of}
 
 -- the node of a path that none is
 abbrev pub no_path_node : PathNode
-no_path_node = record { node = record { 0 = 0 }; offset = 0; command = 0 }
+no_path_node = record { node = record { 0 = 0 }; event = record { granted = 0; place = 0 } }
 
 -- what a verdict shows to have happened in a run, and up to which tick
 abbrev pub shown_by : Verdict → Option (List TrainHistory × ℕ)

@@ -13,8 +13,9 @@ use Rattle.rail_base.proofs.Members.{and_left}
 use Rattle.rail_spec.specs.Track.{routes_of}
 use Rattle.rail_spec.specs.Plans.{one_each}
 use Rattle.rail_spec.specs.Dispatches.{of_plan}
-use Rattle.rail_spec.specs.Visits.{visits_on, makes_visits}
+use Rattle.rail_spec.specs.Visits.{makes_visits}
 use Rattle.rail_spec.specs.Feasible.{IsInfeasible}
+use Rattle.rail_spec.specs.Places.{visits_on}
 use Rattle.clause_spec.proofs.Feasibles.{meets_visits}
 use Rattle.clause_spec.proofs.Places.{train_in}
 

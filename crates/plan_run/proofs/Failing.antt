@@ -19,7 +19,7 @@ use Rattle.rail_base.proofs.Members.{below_or_not, get_or-counted_past, map-map}
 use Rattle.rail_base.proofs.Lists.{in_map_back, in_count_back}
 use Rattle.rail_spec.specs.Dispatches.{of_plan}
 use Rattle.rail_spec.specs.Requirements.{is_after, most_ticks}
-use Rattle.rail_spec.specs.Visits.{has_passed, pass_tick, visits_of_train}
+use Rattle.rail_spec.specs.Visits.{pass_tick, visits_of_train, happened_by}
 use Rattle.rail_spec.specs.Visits as visits
 use Rattle.rail_spec.specs.Histories.{history_at, train_history}
 use Rattle.rail_require.specs.Ticks.{visit_tick, history_of, is_at, is_before, makes_visit_at, has_visit_at}
@@ -137,7 +137,7 @@ module _ (d : Station) (routes : List Route) (plan : List (List Command)) where
     where
       go : (p : Option PathNode) → is_at (suc k) (option_and_then (pass_tick d routes (of_plan routes plan) (suc k) t) p) ≡ false → option_and_then (pass_tick d routes (of_plan routes plan) (suc k) t) p ≡ option_and_then (pass_tick d routes (of_plan routes plan) k t) p
       go None h = refl
-      go (Some p) h = earlier (least (has_passed d routes (of_plan routes plan) t p) k) (has_passed d routes (of_plan routes plan) t p (suc k)) (suc k) h
+      go (Some p) h = earlier (least (happened_by d routes (of_plan routes plan) t p.event) k) (happened_by d routes (of_plan routes plan) t p.event (suc k)) (suc k) h
 
   -- where none is made at a tick they are those of the tick before
   visit_stays : (k : ℕ) → HasNoVisitAt (suc k) (history_at d routes plan (suc k)) → (t : TrainNo) (j : ℕ) → visit_tick (history_at d routes plan (suc k)) t j ≡ visit_tick (history_at d routes plan k) t j

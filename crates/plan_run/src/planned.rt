@@ -1,4 +1,4 @@
-//! The traffic of a plan.
+//! The trains of a plan.
 
 ghost use Rattle.std.specs.Prelude.{IfOk};
 ghost use Rattle.dispatch_run.specs.FollowedTrains.{AreFollowedTrains};
@@ -9,15 +9,18 @@ use dispatch_run::FollowedTrain;
 use rail_course::PlannedJourneys;
 use std::alloc::{AllocError, Global};
 
-/// The trains of a plan, each of which is followed for ever.
-pub(crate) fn followed_trains<'a>(
-    run: &PlannedJourneys<'a>,
+/// The trains of a plan, in file order, each of which is followed for ever.
+pub(crate) fn followed_trains(
+    planned: PlannedJourneys<'_>,
     alloc: Global,
-) -> Result<Vec<FollowedTrain<'a>>, AllocError>
-    ensures { IfOk result (λ f. on run.now.interlocking.now AreFollowedTrains (dispatch_of run.now) f.items) }
+) -> Result<Vec<FollowedTrain>, AllocError>
+    ensures { IfOk result (λ f. on planned.entry.interlocking.now AreFollowedTrains (dispatch_of planned.entry) f.items) }
 {
+    let PlannedJourneys { journeys, .. } = planned;
+    let mut left = journeys;
     let mut followed_trains = Vec::new(alloc);
-    for journey in run.journeys {
+    for _number in 0..left.len() {
+        let journey = left.remove(0);
         followed_trains.push(FollowedTrain {
             journey,
             until: None,

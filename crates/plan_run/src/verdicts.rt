@@ -11,14 +11,12 @@ ghost use Rattle.interlocking.specs.Plans.{on};
 ghost use Rattle.rail_laws.specs.Plans.{StaysApart, GrantsInTime};
 
 use crate::asked::{due_after, violation_now};
-use crate::planned::followed_trains;
+use crate::run::PlanRun;
 use dispatch_run::Traffic;
-use dispatcher::journeys;
 use interlocking::Interlocking;
 use rail_base::history::Verdict;
 use rail_base::list::List;
 use rail_base::plan::Plan;
-use rail_course::{Itineraries, PlannedJourneys, PlannedTrainPaths, TrainPaths, paths_of};
 use rail_require::are_done;
 use std::alloc::{AllocError, Global};
 
@@ -44,7 +42,7 @@ pub fn simulate(
 
 /// The verdict of a plan whose paths make all visits. Whether all is done is asked at each tick at which something
 /// happens to a train, and what fails only where a visit is made or a greatest time may end.
-fn verdict_by_events(
+pub(crate) fn verdict_by_events(
     traffic: &Traffic,
     plan: &Plan,
     alloc: Global,
@@ -80,28 +78,6 @@ fn verdict_by_events(
     Ok(Verdict::Undecided)
 }
 
-/// The verdict of the plan that is run.
-fn verdict(run: &PlannedJourneys, alloc: Global, ticks: u64) -> Result<Verdict, AllocError>
-    ensures { IfOk result (λ v. v ≡ on run.now.interlocking.now verdict_of run.now.plan.now.steps ticks) }
-{
-    let Some(violation) = run.path_violation() else {
-        let followed_trains = followed_trains(run, alloc)?;
-        let traffic = Traffic {
-            interlocking: run.interlocking,
-            followed_trains: followed_trains.as_slice(),
-        };
-        return verdict_by_events(&traffic, run.plan, alloc, ticks);
-    };
-    if ticks == 0 {
-        return Ok(Verdict::Undecided);
-    }
-    Ok(Verdict::Failed {
-        history: List::new(alloc),
-        tick: 1,
-        violation,
-    })
-}
-
 /// Runs a plan for so many ticks: what they show of it.
 fn run_plan<'a>(
     alloc: Global,
@@ -112,22 +88,6 @@ fn run_plan<'a>(
     requires { IsWellFormed interlocking.now.design.station interlocking.now.routes 256 plan.now.steps }
     ensures { IfOk result (λ v. v ≡ on interlocking.now verdict_of plan.now.steps ticks) }
 {
-    let paths = paths_of(alloc, interlocking, plan)?;
-    let given = Itineraries {
-        interlocking,
-        paths: paths.as_slice(),
-    };
-    let train_paths = given.train_paths(alloc)?;
-    let train_paths = TrainPaths {
-        given,
-        train_paths: train_paths.as_slice(),
-    };
-    let planned = PlannedTrainPaths { train_paths, plan };
-    let journeys = journeys(alloc, &planned)?;
-    let run = PlannedJourneys {
-        interlocking,
-        plan,
-        journeys: journeys.as_slice(),
-    };
-    verdict(&run, alloc, ticks)
+    let run = PlanRun::of(alloc, interlocking, plan)?;
+    run.verdict(alloc, ticks)
 }

@@ -10,7 +10,7 @@ use Rattle.rail_base.specs.declared.station.Station.{Station}
 use Rattle.rail_base.specs.declared.station.TrainNo.{TrainNo}
 use Rattle.rail_base.specs.Routes.{IsRoute, route_at}
 use Rattle.rail_base.specs.Stations.{train_of}
-use Rattle.rail_spec.specs.Visits.{path_nodes, visits_on}
+use Rattle.rail_spec.specs.Places.{path_nodes, visits_on}
 use Rattle.way_spec.proofs.Paths.{length-on}
 use Rattle.train_ways.specs.Pairs.{made_behind}
 use Rattle.train_ways.proofs.Visiting.{first_made, made_after}

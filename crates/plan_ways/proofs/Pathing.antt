@@ -11,7 +11,7 @@ use Rattle.rail_base.specs.Members.{In, all_neighbors, all_pairs}
 use Rattle.rail_base.specs.Routes.{IsRoute}
 use Rattle.rail_base.specs.Stations.{first_visit, train_of}
 use Rattle.rail_spec.specs.Plans.{begins_in, end_at_one_signal, goes_on, is_path, is_start, route_at}
-use Rattle.rail_spec.specs.Visits.{visits_on}
+use Rattle.rail_spec.specs.Places.{visits_on}
 use Rattle.rail_base.proofs.Members.{and_both, and_left, and_right, below_or_not, in_filter}
 use Rattle.rail_base.proofs.Contained.{in_at}
 use Rattle.rail_base.proofs.Lists.{in_append, in_append_left, in_append_right, in_filter_back, in_flat_map, in_flat_map_back, in_map, in_map_back}

@@ -13,15 +13,16 @@ use Rattle.rail_base.specs.Numbering.{before_first}
 use Rattle.rail_base.specs.Stations.{IsTrain, trains}
 use Rattle.rail_base.specs.Routes.{sections, shared, has_section}
 use Rattle.rail_base.proofs.Lists.{in_map, in_filter_back, in_flat_map, length-map}
+use Rattle.rail_base.specs.Events.{has_happened}
+use Rattle.rail_base.specs.declared.state.Event.{Event}
 use Rattle.rail_spec.specs.Plans.{route_at, is_route}
-use Rattle.rail_spec.specs.Visits.{is_passed}
 use Rattle.rail_spec.specs.Dispatches.{Dispatch, idle, state_of, has_released, has_cleared, is_ready, granted_with, granted_after, moved, state_at}
 use Rattle.rail_laws.proofs.Given.{same_route}
 use Rattle.rail_laws.proofs.Standing.{not_le}
 use Rattle.rail_require.proofs.Agreeing.{is_a_train}
 use Rattle.rail_course.specs.declared.journey.Release.{Release}
 use Rattle.rail_course.proofs.Waiting.{list_all-same}
-use Rattle.rail_course.specs.Releases.{is_released, release_for, releases_of_route, releases_of_train}
+use Rattle.rail_course.specs.Releases.{release_for, releases_of_route, releases_of_train}
 use Rattle.quiet_spec.specs.Quiet.{IsNotReached, IsQuiet, followed, drift_with, drift}
 use Rattle.rail_laws.proofs.Running.{Moves, Idles, after_tick, idle_at_first, granted_on_path}
 
@@ -34,12 +35,9 @@ apart_same : (x y z place : ℕ) → x ≤ y → y ≤ z → IsNotReached x z pl
 apart_same x y z place forward short (inl behind) = le-leb place y (omega arith) ∙ sym (le-leb place x behind)
 apart_same x y z place forward short (inr ahead) = not_le place y (omega arith) ∙ sym (not_le place x (omega arith))
 
--- what a state says of a release and of a node
-pub released_same : (s u : TrainState) (z : ℕ) (r : Release) → u.granted ≡ s.granted → s.x ≤ u.x → u.x ≤ z → IsNotReached s.x z r.place → is_released u r ≡ is_released s r
-released_same s u z r same forward short apart = ap₂ (λ g b. nat_lt r.number g && b) same (apart_same s.x u.x z r.place forward short apart)
-
-pub passed_same : (s u : TrainState) (z : ℕ) (p : PathNode) → u.granted ≡ s.granted → s.x ≤ u.x → u.x ≤ z → IsNotReached s.x z p.offset → is_passed u p ≡ is_passed s p
-passed_same s u z p same forward short apart = ap₂ (λ g b. nat_le p.command g && b) same (apart_same s.x u.x z p.offset forward short apart)
+-- what a state says of an event
+pub event_same : (s u : TrainState) (z : ℕ) (e : Event) → u.granted ≡ s.granted → s.x ≤ u.x → u.x ≤ z → IsNotReached s.x z e.place → has_happened u e ≡ has_happened s e
+event_same s u z e same forward short apart = ap₂ (λ g b. nat_le e.granted g && b) same (apart_same s.x u.x z e.place forward short apart)
 
 -- a route is on a path, or all routes of the path are before it
 on_path_or_not : (routes : List RouteNo) (r : RouteNo) → In r routes ⊎ (before_first (λ q. is_route q r) routes ≡ routes)
@@ -117,15 +115,15 @@ module _ (d : Station) (routes : List Route) (dispatch : Dispatch) where
 
   -- it is enough to know it of the releases on paths, where no more is granted than there is
   pub released_by_path : (s u : List TrainState) (c : Command) (z : SectionNo) → In z (sections (route_at routes c.route)) → (state_of u c.train).granted ≡ (state_of s c.train).granted → (state_of s c.train).granted ≤ length (dispatch.path c.train)
-      → ((r : Release) → In r (releases_of_train d routes dispatch c.train) → is_released (state_of u c.train) r ≡ is_released (state_of s c.train) r)
+      → ((r : Release) → In r (releases_of_train d routes dispatch c.train) → has_happened (state_of u c.train) r.event ≡ has_happened (state_of s c.train) r.event)
       → has_released d routes dispatch u c z ≡ has_released d routes dispatch s c z
   released_by_path s u c z own same within each = go (on_path_or_not (dispatch.path c.train) c.route)
     where
       number : ℕ
       number = length (map (route_at routes) (before_first (λ q. is_route q c.route) (dispatch.path c.train)))
 
-      none : (v : TrainState) → number ≡ length (dispatch.path c.train) → v.granted ≤ length (dispatch.path c.train) → is_released v (release_for d routes dispatch c z) ≡ false
-      none v all l = ap (λ b. b && nat_le (release_for d routes dispatch c z).place v.x) (not_le (suc number) v.granted (omega arith))
+      none : (v : TrainState) → number ≡ length (dispatch.path c.train) → v.granted ≤ length (dispatch.path c.train) → has_happened v (release_for d routes dispatch c z).event ≡ false
+      none v all l = ap (λ b. b && nat_le (release_for d routes dispatch c z).event.place v.x) (not_le (suc number) v.granted (omega arith))
 
       go : In c.route (dispatch.path c.train) ⊎ (before_first (λ q. is_route q c.route) (dispatch.path c.train) ≡ dispatch.path c.train) → has_released d routes dispatch u c z ≡ has_released d routes dispatch s c z
       go (inl m) =
@@ -187,15 +185,15 @@ module _ (d : Station) (routes : List Route) (dispatch : Dispatch) where
 
         nobody : idle ≡ first c.train → has_released d routes dispatch (state_at d routes dispatch (k + j)) c z ≡ has_released d routes dispatch (state_at d routes dispatch k) c z
         nobody e =
-            ap (λ s. is_released s (release_for d routes dispatch c z)) (later_idle e (λ is. so c.train is ∙ ap (drift d routes dispatch c.train k j) (sym e) ∙ drift_idle c.train k j) ∙ e)
+            ap (λ s. has_happened s (release_for d routes dispatch c z).event) (later_idle e (λ is. so c.train is ∙ ap (drift d routes dispatch c.train k j) (sym e) ∙ drift_idle c.train k j) ∙ e)
 
         somebody : IsTrain d c.train → first c.train ≡ first c.train → has_released d routes dispatch (state_at d routes dispatch (k + j)) c z ≡ has_released d routes dispatch (state_at d routes dispatch k) c z
         somebody is e =
             released_by_path (state_at d routes dispatch k) (state_at d routes dispatch (k + j)) c z own
             (ap (λ s. s.granted) (so c.train is) ∙ drift_granted c.train (first c.train).granted k j (first c.train) refl) (granted_on_path d routes dispatch k c.train)
             (λ r m.
-            ap (λ u. is_released u r) (so c.train is)
-            ∙ released_same (first c.train) (drift d routes dispatch c.train k j (first c.train)) (drift d routes dispatch c.train k n (first c.train)).x r (drift_granted c.train (first c.train).granted k j (first c.train) refl)
+            ap (λ u. has_happened u r.event) (so c.train is)
+            ∙ event_same (first c.train) (drift d routes dispatch c.train k j (first c.train)) (drift d routes dispatch c.train k n (first c.train)).x r.event (drift_granted c.train (first c.train).granted k j (first c.train) refl)
             (drift_within c.train (first c.train).granted k 0 j (first c.train) (omega arith)) (drift_within c.train (first c.train).granted k j n (first c.train) within) ((quiet.each c.train is).places.releases r m))
 
     pub go_on : (j : ℕ) → j ≤ n → Drifted j

@@ -11,18 +11,18 @@ use Rattle.rail_base.specs.Numbering.{entry}
 use Rattle.rail_base.specs.Stations.{IsTrain}
 use Rattle.rail_base.proofs.Members.{below_or_not}
 use Rattle.rail_spec.specs.Dispatches.{Dispatch, idle, state_of, granted_after, has_released, state_at}
-use Rattle.rail_spec.specs.Visits.{is_passed}
 use Rattle.rail_spec.specs.Visits.{path_nodes_of_train}
 use Rattle.rail_base.specs.declared.station.SectionNo.{SectionNo}
 use Rattle.rail_base.specs.Routes.{route_at, sections}
+use Rattle.rail_base.specs.Events.{has_happened}
 use Rattle.quiet_spec.specs.Histories.{train_history}
 use Rattle.rail_course.specs.declared.journey.Release.{Release}
 use Rattle.rail_course.specs.Releases.{releases_of_train}
-use Rattle.rail_course.specs.Releases.{is_released, release_for}
+use Rattle.rail_course.specs.Releases.{release_for}
 use Rattle.rail_course.specs.Ready.{ShowTick}
 use Rattle.quiet_spec.specs.Quiet.{IsNotReached, ComesNowhere, IsGrantedNothing, IsQuietFor, IsQuiet, followed, drift_with, drift}
 use Rattle.quiet_spec.specs.Forecasts.{IsSeen, AreSeen}
-use Rattle.quiet_spec.proofs.Drifting.{released_same, passed_same, released_by_path, drift_granted, drift_within, go_on, granted_after_same, by_train, by_rule, without}
+use Rattle.quiet_spec.proofs.Drifting.{event_same, released_by_path, drift_granted, drift_within, go_on, granted_after_same, by_train, by_rule, without}
 use Rattle.rail_laws.proofs.Running.{granted_on_path}
 use Rattle.quiet_spec.proofs.Staying.{train_same, train_as_tested}
 
@@ -41,8 +41,8 @@ no_look (s ∷ states) (suc (suc i)) (inr l) = no_look states (suc i) (inr (omeg
 module _ (d : Station) (routes : List Route) (dispatch : Dispatch) where
   nowhere_within : (t : TrainNo) (x a y z : ℕ) → x ≤ a → y ≤ z → ComesNowhere d routes dispatch t x z → ComesNowhere d routes dispatch t a y
   nowhere_within t x a y z later less h = record {
-    nodes = λ p m. apart_less x a y z p.offset later less (h.nodes p m);
-    releases = λ r m. apart_less x a y z r.place later less (h.releases r m);
+    nodes = λ p m. apart_less x a y z p.event.place later less (h.nodes p m);
+    releases = λ r m. apart_less x a y z r.event.place later less (h.releases r m);
   }
 
   -- ---- drifting in two parts
@@ -64,7 +64,7 @@ module _ (d : Station) (routes : List Route) (dispatch : Dispatch) where
   -- so a train's state does
   pub record ShowsTrain (k : ℕ) (t : TrainNo) (s : TrainState) : Type 0 where
     pub granted : s.granted ≡ (state_of (state_at d routes dispatch k) t).granted
-    pub released : (r : Release) → In r (releases_of_train d routes dispatch t) → is_released s r ≡ is_released (state_of (state_at d routes dispatch k) t) r
+    pub released : (r : Release) → In r (releases_of_train d routes dispatch t) → has_happened s r.event ≡ has_happened (state_of (state_at d routes dispatch k) t) r.event
 
   -- where the state of each train does, all do
   pub shows_tick : (k : ℕ) (states : List TrainState) → length states ≡ length d.trains → ((t : TrainNo) → IsTrain d t → ShowsTrain k t (state_of states t)) → ShowTick d routes dispatch k states
@@ -75,7 +75,7 @@ module _ (d : Station) (routes : List Route) (dispatch : Dispatch) where
     where
       nobody : (c : Command) (z : SectionNo) → ((c.train.0 ≡ 0) ⊎ (length d.trains < c.train.0)) → has_released d routes dispatch states c z ≡ has_released d routes dispatch (state_at d routes dispatch k) c z
       nobody c z none =
-          by_train d routes dispatch (λ s. is_released (state_of states c.train) (release_for d routes dispatch c z) ≡ is_released s (release_for d routes dispatch c z)) k c.train (ap (λ s. is_released s (release_for d routes dispatch c z)) (no_look states c.train.0 (go none)))
+          by_train d routes dispatch (λ s. has_happened (state_of states c.train) (release_for d routes dispatch c z).event ≡ has_happened s (release_for d routes dispatch c z).event) k c.train (ap (λ s. has_happened s (release_for d routes dispatch c z).event) (no_look states c.train.0 (go none)))
           (λ is. absurd (no_train none is))
         where
           go : ((c.train.0 ≡ 0) ⊎ (length d.trains < c.train.0)) → ((c.train.0 ≡ 0) ⊎ (length states < c.train.0))
@@ -104,8 +104,8 @@ module _ (d : Station) (routes : List Route) (dispatch : Dispatch) where
       record {
         granted = sym (ap (λ u. u.granted) e.now ∙ drift_granted d routes dispatch t s.granted since (k - since) s refl);
         released = λ r i. sym
-            (ap (λ u. is_released u r) e.now
-            ∙ released_same s (drift d routes dispatch t since (k - since) s) (drift d routes dispatch t since (until - 1 - since) s).x r (drift_granted d routes dispatch t s.granted since (k - since) s refl)
+            (ap (λ u. has_happened u r.event) e.now
+            ∙ event_same s (drift d routes dispatch t since (k - since) s) (drift d routes dispatch t since (until - 1 - since) s).x r.event (drift_granted d routes dispatch t s.granted since (k - since) s refl)
             (drift_within d routes dispatch t s.granted since 0 (k - since) s (omega arith)) (drift_within d routes dispatch t s.granted since (k - since) (until - 1 - since) s (omega arith)) (e.places.releases r i));
       }
 
@@ -121,13 +121,13 @@ module _ (d : Station) (routes : List Route) (dispatch : Dispatch) where
 
     -- no release has come since, up to tick m before the next look
     same_since : (m : ℕ) (u : List TrainState) → m < n → k ≤ m → ((t : TrainNo) → IsTrain d t → state_of u t ≡ drift d routes dispatch t (since t) (m - since t) (look t)) → (t : TrainNo) → IsTrain d t → (r : Release) → In r (releases_of_train d routes dispatch t)
-        → is_released (state_of u t) r ≡ is_released (look t) r
+        → has_happened (state_of u t) r.event ≡ has_happened (look t) r.event
     same_since m u less more so t is r i =
         let e = seen.each t is in
         let p = e.past in
         let f = first t is in
-        ap (λ s. is_released s r) (so t is)
-        ∙ released_same (look t) (drift d routes dispatch t (since t) (m - since t) (look t)) (drift d routes dispatch t (since t) (until t - 1 - since t) (look t)).x r (drift_granted d routes dispatch t (look t).granted (since t) (m - since t) (look t) refl)
+        ap (λ s. has_happened s r.event) (so t is)
+        ∙ event_same (look t) (drift d routes dispatch t (since t) (m - since t) (look t)) (drift d routes dispatch t (since t) (until t - 1 - since t) (look t)).x r.event (drift_granted d routes dispatch t (look t).granted (since t) (m - since t) (look t) refl)
         (drift_within d routes dispatch t (look t).granted (since t) 0 (m - since t) (look t) (omega arith)) (drift_within d routes dispatch t (look t).granted (since t) (m - since t) (until t - 1 - since t) (look t) (omega arith)) (e.places.releases r i)
 
     -- so the looks show what is granted and released
@@ -252,26 +252,26 @@ module _ (d : Station) (routes : List Route) (dispatch : Dispatch) where
         short : (i : ℕ) → i ≤ n - k → k + i - since t ≤ until t - 1 - since t
         short i l = omega arith
 
-        passed : (i : ℕ) → i ≤ n - k → (p : PathNode) → In p (path_nodes_of_train d routes dispatch t) → is_passed (state_of (state_at d routes dispatch (k + i)) t) p ≡ is_passed s p
+        passed : (i : ℕ) → i ≤ n - k → (p : PathNode) → In p (path_nodes_of_train d routes dispatch t) → has_happened (state_of (state_at d routes dispatch (k + i)) t) p.event ≡ has_happened s p.event
         passed i l p m =
-            ap (λ u. is_passed u p) (at i l)
-            ∙ passed_same s (drift d routes dispatch t (since t) (k + i - since t) s) z p (drift_granted d routes dispatch t s.granted (since t) (k + i - since t) s refl)
+            ap (λ u. has_happened u p.event) (at i l)
+            ∙ event_same s (drift d routes dispatch t (since t) (k + i - since t) s) z p.event (drift_granted d routes dispatch t s.granted (since t) (k + i - since t) s refl)
             (drift_within d routes dispatch t s.granted (since t) 0 (k + i - since t) s (omega arith)) (drift_within d routes dispatch t s.granted (since t) (k + i - since t) (until t - 1 - since t) s (short i l)) (seen_at.places.nodes p m)
 
-        outs : (i : ℕ) → i ≤ n - k → (r : Release) → In r (releases_of_train d routes dispatch t) → is_released (state_of (state_at d routes dispatch (k + i)) t) r ≡ is_released s r
+        outs : (i : ℕ) → i ≤ n - k → (r : Release) → In r (releases_of_train d routes dispatch t) → has_happened (state_of (state_at d routes dispatch (k + i)) t) r.event ≡ has_happened s r.event
         outs i l r m =
-            ap (λ u. is_released u r) (at i l)
-            ∙ released_same s (drift d routes dispatch t (since t) (k + i - since t) s) z r (drift_granted d routes dispatch t s.granted (since t) (k + i - since t) s refl)
+            ap (λ u. has_happened u r.event) (at i l)
+            ∙ event_same s (drift d routes dispatch t (since t) (k + i - since t) s) z r.event (drift_granted d routes dispatch t s.granted (since t) (k + i - since t) s refl)
             (drift_within d routes dispatch t s.granted (since t) 0 (k + i - since t) s (omega arith)) (drift_within d routes dispatch t s.granted (since t) (k + i - since t) (until t - 1 - since t) s (short i l)) (seen_at.places.releases r m)
 
         zero_more : k + 0 ≡ k
         zero_more = omega arith
 
-        passed_now : (p : PathNode) → In p (path_nodes_of_train d routes dispatch t) → is_passed (state_of (state_at d routes dispatch k) t) p ≡ is_passed s p
-        passed_now p m = ap (λ i. is_passed (state_of (state_at d routes dispatch i) t) p) (sym zero_more) ∙ passed 0 (omega arith) p m
+        passed_now : (p : PathNode) → In p (path_nodes_of_train d routes dispatch t) → has_happened (state_of (state_at d routes dispatch k) t) p.event ≡ has_happened s p.event
+        passed_now p m = ap (λ i. has_happened (state_of (state_at d routes dispatch i) t) p.event) (sym zero_more) ∙ passed 0 (omega arith) p m
 
-        outs_now : (r : Release) → In r (releases_of_train d routes dispatch t) → is_released (state_of (state_at d routes dispatch k) t) r ≡ is_released s r
-        outs_now r m = ap (λ i. is_released (state_of (state_at d routes dispatch i) t) r) (sym zero_more) ∙ outs 0 (omega arith) r m
+        outs_now : (r : Release) → In r (releases_of_train d routes dispatch t) → has_happened (state_of (state_at d routes dispatch k) t) r.event ≡ has_happened s r.event
+        outs_now r m = ap (λ i. has_happened (state_of (state_at d routes dispatch i) t) r.event) (sym zero_more) ∙ outs 0 (omega arith) r m
 
     -- the history before the look
     pub history_before : (t : TrainNo) → IsTrain d t → train_history d routes dispatch (n - 1) t ≡ train_history d routes dispatch k t

@@ -16,17 +16,17 @@ use Rattle.rail_base.specs.Stations.{IsTrain, trains, train_of}
 use Rattle.rail_spec.specs.Plans.{has_node}
 use Rattle.rail_base.specs.Routes.{route_at, sections}
 use Rattle.rail_base.proofs.Members.{map-map}
-use Rattle.rail_spec.specs.Visits.{is_passed, visits_at, visits_on}
 use Rattle.rail_spec.specs.Dispatches.{Dispatch, state_of, state_at}
 use Rattle.rail_spec.specs.Visits.{pass_tick, passed, path_nodes_of_train, visits_of_train}
+use Rattle.rail_spec.specs.Places.{visits_at, visits_on}
 use Rattle.quiet_spec.specs.Histories.{grant_tick, granted, released, visit_made, train_history, history_at}
 use Rattle.rail_require.proofs.Agreeing.{is_a_train}
 use Rattle.rail_course.specs.declared.journey.Release.{Release}
 use Rattle.rail_course.specs.Releases.{release_for, releases_of_route, releases_of_train}
-use Rattle.rail_course.specs.Releases.{is_released}
 use Rattle.quiet_spec.specs.Quiet.{IsQuiet, drift}
-use Rattle.quiet_spec.proofs.Drifting.{map-same, released_same, passed_same, drift_granted, drift_within, go_on}
+use Rattle.quiet_spec.proofs.Drifting.{map-same, event_same, drift_granted, drift_within, go_on}
 use Rattle.rail_base.proofs.Lists.{map-flat_map, flat_map-each}
+use Rattle.rail_base.specs.Events.{has_happened}
 
 -- ---- the least number that passes
 
@@ -81,7 +81,7 @@ in_visits_on (set ∷ sets) ps p (inr m) = in_after ps p (in_visits_at sets (aft
 
 module _ (d : Station) (routes : List Route) (dispatch : Dispatch) (t : TrainNo) where
   abbrev pub release : ℕ → Release → RouteNo × SectionNo × Option ℕ
-  release k r = (r.route, r.section, least (λ i. is_released (state_of (state_at d routes dispatch i) t) r) k)
+  release k r = (r.route, r.section, least (λ i. has_happened (state_of (state_at d routes dispatch i) t) r.event) k)
 
   pub released_is : (k : ℕ) → map (release k) (releases_of_train d routes dispatch t) ≡ released d routes dispatch k t
   released_is k =
@@ -100,14 +100,14 @@ module _ (d : Station) (routes : List Route) (dispatch : Dispatch) (t : TrainNo)
   at i = state_of (state_at d routes dispatch i) t
 
   module _ (same : (i : ℕ) → i ≤ j → (at (k + i)).granted ≡ (at k).granted)
-      (passes : (p : PathNode) → In p (path_nodes_of_train d routes dispatch t) → (i : ℕ) → i ≤ j → is_passed (at (k + i)) p ≡ is_passed (at k) p)
-      (outs : (r : Release) → In r (releases_of_train d routes dispatch t) → (i : ℕ) → i ≤ j → is_released (at (k + i)) r ≡ is_released (at k) r) where
+      (passes : (p : PathNode) → In p (path_nodes_of_train d routes dispatch t) → (i : ℕ) → i ≤ j → has_happened (at (k + i)) p.event ≡ has_happened (at k) p.event)
+      (outs : (r : Release) → In r (releases_of_train d routes dispatch t) → (i : ℕ) → i ≤ j → has_happened (at (k + i)) r.event ≡ has_happened (at k) r.event) where
     grants_stay : granted d routes dispatch (k + j) t ≡ granted d routes dispatch k t
     grants_stay = map-same (λ p. (p.1, grant_tick d routes dispatch (k + j) t p.0)) (λ p. (p.1, grant_tick d routes dispatch k t p.0)) (enumerate_from 1 (dispatch.path t))
         (λ p m. ap (λ o. (p.1, o)) (least_same (λ i. nat_le p.0 (at i).granted) k j low (λ i l. ap (nat_le p.0) (same i l))))
 
     pass_stays : (p : PathNode) → In p (path_nodes_of_train d routes dispatch t) → pass_tick d routes dispatch (k + j) t p ≡ pass_tick d routes dispatch k t p
-    pass_stays p m = least_same (λ i. is_passed (at i) p) k j low (λ i l. passes p m i l)
+    pass_stays p m = least_same (λ i. has_happened (at i) p.event) k j low (λ i l. passes p m i l)
 
     passes_stay : passed d routes dispatch (k + j) t ≡ passed d routes dispatch k t
     passes_stay = map-same (λ p. (p.node, pass_tick d routes dispatch (k + j) t p)) (λ p. (p.node, pass_tick d routes dispatch k t p)) (path_nodes_of_train d routes dispatch t) (λ p m. ap (λ o. (p.node, o)) (pass_stays p m))
@@ -115,8 +115,8 @@ module _ (d : Station) (routes : List Route) (dispatch : Dispatch) (t : TrainNo)
     releases_stay : released d routes dispatch (k + j) t ≡ released d routes dispatch k t
     releases_stay =
         sym (released_is d routes dispatch t (k + j))
-        ∙ map-same (λ r. (r.route, r.section, least (λ i. is_released (at i) r) (k + j))) (λ r. (r.route, r.section, least (λ i. is_released (at i) r) k)) (releases_of_train d routes dispatch t)
-        (λ r m. ap (λ o. (r.route, r.section, o)) (least_same (λ i. is_released (at i) r) k j low (λ i l. outs r m i l)))
+        ∙ map-same (λ r. (r.route, r.section, least (λ i. has_happened (at i) r.event) (k + j))) (λ r. (r.route, r.section, least (λ i. has_happened (at i) r.event) k)) (releases_of_train d routes dispatch t)
+        (λ r m. ap (λ o. (r.route, r.section, o)) (least_same (λ i. has_happened (at i) r.event) k j low (λ i l. outs r m i l)))
         ∙ released_is d routes dispatch t k
 
     visits_stay : map (visit_made d routes dispatch (k + j) t) (visits_of_train d routes dispatch t) ≡ map (visit_made d routes dispatch k t) (visits_of_train d routes dispatch t)
@@ -139,16 +139,16 @@ module _ (d : Station) (routes : List Route) (dispatch : Dispatch) (k n : ℕ) (
   granted_same : (i : ℕ) → i ≤ n → (now (k + i)).granted ≡ (now k).granted
   granted_same i within = ap (λ s. s.granted) (go_on d routes dispatch k n quiet i within t train) ∙ drift_granted d routes dispatch t (now k).granted k i (now k) refl
 
-  pass_same : (p : PathNode) → In p (path_nodes_of_train d routes dispatch t) → (i : ℕ) → i ≤ n → is_passed (now (k + i)) p ≡ is_passed (now k) p
+  pass_same : (p : PathNode) → In p (path_nodes_of_train d routes dispatch t) → (i : ℕ) → i ≤ n → has_happened (now (k + i)) p.event ≡ has_happened (now k) p.event
   pass_same p m i within =
-      ap (λ s. is_passed s p) (go_on d routes dispatch k n quiet i within t train)
-      ∙ passed_same (now k) (drift d routes dispatch t k i (now k)) end p (drift_granted d routes dispatch t (now k).granted k i (now k) refl)
+      ap (λ s. has_happened s p.event) (go_on d routes dispatch k n quiet i within t train)
+      ∙ event_same (now k) (drift d routes dispatch t k i (now k)) end p.event (drift_granted d routes dispatch t (now k).granted k i (now k) refl)
       (drift_within d routes dispatch t (now k).granted k 0 i (now k) (omega arith)) (drift_within d routes dispatch t (now k).granted k i n (now k) within) ((quiet.each t train).places.nodes p m)
 
-  release_same : (r : Release) → In r (releases_of_train d routes dispatch t) → (i : ℕ) → i ≤ n → is_released (now (k + i)) r ≡ is_released (now k) r
+  release_same : (r : Release) → In r (releases_of_train d routes dispatch t) → (i : ℕ) → i ≤ n → has_happened (now (k + i)) r.event ≡ has_happened (now k) r.event
   release_same r m i within =
-      ap (λ s. is_released s r) (go_on d routes dispatch k n quiet i within t train)
-      ∙ released_same (now k) (drift d routes dispatch t k i (now k)) end r (drift_granted d routes dispatch t (now k).granted k i (now k) refl)
+      ap (λ s. has_happened s r.event) (go_on d routes dispatch k n quiet i within t train)
+      ∙ event_same (now k) (drift d routes dispatch t k i (now k)) end r.event (drift_granted d routes dispatch t (now k).granted k i (now k) refl)
       (drift_within d routes dispatch t (now k).granted k 0 i (now k) (omega arith)) (drift_within d routes dispatch t (now k).granted k i n (now k) within) ((quiet.each t train).places.releases r m)
 
   pub train_same : (j : ℕ) → j ≤ n → train_history d routes dispatch (k + j) t ≡ train_history d routes dispatch k t

@@ -6,3 +6,4 @@ pub mod Names
 pub mod Routes
 pub mod Admitted
 pub mod Admission
+pub mod Events

@@ -1,5 +1,5 @@
 -- What stands on a later route of a path is no nearer.
-use Rattle.std.proofs.Common.{◌≡◌, ℕ, zero, suc, ◌+◌, ◌≤◌, ◌<◌, ◌⊎◌, inl, inr, Bool, true, false, if◌then◌else◌, List, [], ◌∷◌, ◌++◌, map, length, take, nat_abs, ℤ, sum_by, refl, sym, ap, ap₂, ◌∙◌, subst, arith, eq-eqb, eqb-true}
+use Rattle.std.proofs.Common.{◌≡◌, ℕ, zero, suc, ◌+◌, ◌≤◌, ◌<◌, ◌⊎◌, inl, inr, Bool, true, false, if◌then◌else◌, List, [], ◌∷◌, ◌++◌, map, length, take, nat_abs, ℤ, sum_by, refl, ap, ap₂, ◌∙◌, subst, arith, eq-eqb, eqb-true}
 use Rattle.std.proofs.lemmas.List.Sums.{sum_by-cons}
 use Rattle.rail_base.specs.declared.station.Station.{Station}
 use Rattle.rail_base.specs.declared.station.NodeNo.{NodeNo}
@@ -11,12 +11,12 @@ use Rattle.rail_base.specs.declared.state.PathNode.{PathNode}
 use Rattle.rail_base.specs.Members.{In}
 use Rattle.rail_base.specs.Numbering.{after_first, before_first}
 use Rattle.rail_base.specs.Stations.{train_length}
-use Rattle.rail_base.specs.Routes.{route_at, sections, release_offset, length_mm}
+use Rattle.rail_base.specs.Routes.{route_at, sections, length_mm}
 use Rattle.rail_base.proofs.Lists.{in_append, in_flat_map_back, in_map_back, length-map}
 use Rattle.rail_base.proofs.Members.{below_or_not}
 use Rattle.rail_spec.specs.Plans.{is_route}
 use Rattle.rail_spec.specs.Dispatches.{Dispatch}
-use Rattle.rail_spec.specs.Visits.{path_nodes, path_nodes_of, path_nodes_after}
+use Rattle.rail_spec.specs.Places.{path_nodes_of, path_nodes_after, path_nodes}
 use Rattle.rail_course.specs.declared.journey.Release.{Release}
 use Rattle.rail_course.specs.Milestones.{ComeInTurn}
 use Rattle.rail_course.specs.PathNodes.{path_node_at}
@@ -38,23 +38,23 @@ first_and_later routes first later none one all nodes o empty of long made more 
 
 module _ (d : Station) (routes : List Route) (laid : AreLaid d routes) where
   abbrev NodesInTurn : List PathNode → Type 0
-  NodesInTurn = ComeInTurn (λ (n : PathNode). n.offset) (λ (n : PathNode). n.command)
+  NodesInTurn = ComeInTurn (λ (n : PathNode). n.event.place) (λ (n : PathNode). n.event.granted)
 
-  of_route : (o j : ℕ) (r : RouteNo) (x : PathNode) → In x (path_nodes_of o j (route_at routes r)) → (x.command ≡ j) × (o ≤ x.offset) × (x.offset ≤ o + length_mm (route_at routes r))
+  of_route : (o j : ℕ) (r : RouteNo) (x : PathNode) → In x (path_nodes_of o j (route_at routes r)) → (x.event.granted ≡ j) × (o ≤ x.event.place) × (x.event.place ≤ o + length_mm (route_at routes r))
   of_route o j r x m = go (in_map_back (path_node_at o j) (route_at routes r).nodes x m)
     where
-      go : ((p : NodeNo × ℤ) × In p (route_at routes r).nodes × (path_node_at o j p ≡ x)) → (x.command ≡ j) × (o ≤ x.offset) × (x.offset ≤ o + length_mm (route_at routes r))
+      go : ((p : NodeNo × ℤ) × In p (route_at routes r).nodes × (path_node_at o j p ≡ x)) → (x.event.granted ≡ j) × (o ≤ x.event.place) × (x.event.place ≤ o + length_mm (route_at routes r))
       go (p, k, same) =
           let here = in_from_all (λ (p : NodeNo × ℤ). nat_abs p.1 ≤ length_mm (route_at routes r)) (route_at routes r).nodes (laid.each r).nodes p k in
-          subst (λ (y : PathNode). (y.command ≡ j) × (o ≤ y.offset) × (y.offset ≤ o + length_mm (route_at routes r))) same (refl, omega arith, omega arith)
+          subst (λ (y : PathNode). (y.event.granted ≡ j) × (o ≤ y.event.place) × (y.event.place ≤ o + length_mm (route_at routes r))) same (refl, omega arith, omega arith)
 
-  behind : (o j : ℕ) (path : List RouteNo) (x : PathNode) → In x (path_nodes_after o j (routes_at routes path)) → (j ≤ x.command) × (o ≤ x.offset)
+  behind : (o j : ℕ) (path : List RouteNo) (x : PathNode) → In x (path_nodes_after o j (routes_at routes path)) → (j ≤ x.event.granted) × (o ≤ x.event.place)
   behind o j [] x m = absurd m
   behind o j (r ∷ rs) x m = go (in_append x (after_first (path_nodes_of o j (route_at routes r))) (path_nodes_after (o + length_mm (route_at routes r)) (j + 1) (routes_at routes rs)) m) (behind (o + length_mm (route_at routes r)) (j + 1) rs x)
     where
       go : In x (after_first (path_nodes_of o j (route_at routes r))) ⊎ In x (path_nodes_after (o + length_mm (route_at routes r)) (j + 1) (routes_at routes rs))
-          → (In x (path_nodes_after (o + length_mm (route_at routes r)) (j + 1) (routes_at routes rs)) → (j + 1 ≤ x.command) × (o + length_mm (route_at routes r) ≤ x.offset))
-          → (j ≤ x.command) × (o ≤ x.offset)
+          → (In x (path_nodes_after (o + length_mm (route_at routes r)) (j + 1) (routes_at routes rs)) → (j + 1 ≤ x.event.granted) × (o + length_mm (route_at routes r) ≤ x.event.place))
+          → (j ≤ x.event.granted) × (o ≤ x.event.place)
       go (inl k) later = let h = of_route o j r x (in_after_first (path_nodes_of o j (route_at routes r)) x k) in let a = h.0 in let b = h.1 in (omega arith, omega arith)
       go (inr k) later = let h = later k in let a = h.0 in let b = h.1 in (omega arith, omega arith)
 
@@ -65,7 +65,7 @@ module _ (d : Station) (routes : List Route) (laid : AreLaid d routes) where
       rest : List PathNode
       rest = path_nodes_after (o + length_mm (route_at routes r)) (j + 1) (routes_at routes rs)
 
-      go : In x first ⊎ In x rest → In y first ⊎ In y rest → x.command ≤ y.command
+      go : In x first ⊎ In x rest → In y first ⊎ In y rest → x.event.granted ≤ y.event.granted
       go (inl a) (inl b) = let h = (of_route o j r x (of x a)).0 in let k = (of_route o j r y (of y b)).0 in omega arith
       go (inl a) (inr b) = let h = (of_route o j r x (of x a)).0 in let k = (behind (o + length_mm (route_at routes r)) (j + 1) rs y b).0 in omega arith
       go (inr a) (inl b) = let h = (behind (o + length_mm (route_at routes r)) (j + 1) rs x a).1 in let k = (of_route o j r y (of y b)).2 in absurd (omega arith)
@@ -129,7 +129,8 @@ module _ (d : Station) (routes : List Route) (laid : AreLaid d routes) where
   module _ (p : Dispatch) (t : TrainNo) where
     -- a release is no nearer than where its route begins, and no farther than where it ends, and the train's length behind
     abbrev IsBetween : Release → Type 0
-    IsBetween x = (length_to (p.path t) x.number + train_length d t ≤ x.place) × (x.place ≤ length_to (p.path t) (suc x.number) + train_length d t)
+    IsBetween x = (n : ℕ) × (x.event.granted ≡ suc n) × (length_to (p.path t) n + train_length d t ≤ x.event.place)
+        × (x.event.place ≤ length_to (p.path t) (suc n) + train_length d t)
 
     on_route : (r : RouteNo) (z : SectionNo) → In r (p.path t) → IsBetween (release_for d routes p (record { train = t; route = r }) z)
     on_route r z m =
@@ -137,9 +138,7 @@ module _ (d : Station) (routes : List Route) (laid : AreLaid d routes) where
         let first = ap (sum_by length_mm) (before_are_first (p.path t) r) in
         let up = up_to_it (p.path t) r m in
         let within = (laid.each r).releases z in
-        subst (λ n. (length_to (p.path t) n + train_length d t ≤ sum_by length_mm (map (route_at routes) (before (p.path t) r)) + release_offset (route_at routes r) z + train_length d t)
-        × (sum_by length_mm (map (route_at routes) (before (p.path t) r)) + release_offset (route_at routes r) z + train_length d t ≤ length_to (p.path t) (suc n) + train_length d t))
-        (sym number) (omega arith, omega arith)
+        (length (before (p.path t) r), ap suc number, omega arith, omega arith)
 
     between : (x : Release) → In x (releases_of_train d routes p t) → IsBetween x
     between x m = go (in_flat_map_back (releases_of_route d routes p t) (p.path t) x m)
@@ -150,13 +149,17 @@ module _ (d : Station) (routes : List Route) (laid : AreLaid d routes) where
         go : ((r : RouteNo) × In r (p.path t) × In x (releases_of_route d routes p t r)) → IsBetween x
         go (r, k, i) = here r k (in_map_back (release_for d routes p (record { train = t; route = r })) (sections (route_at routes r)) x i)
 
-    pub releases_in_turn : ComeInTurn (λ (r : Release). r.place) (λ (r : Release). r.number) (releases_of_train d routes p t)
-    releases_in_turn x y m n less = go (below_or_not y.number x.number)
+    pub releases_in_turn : ComeInTurn (λ (r : Release). r.event.place) (λ (r : Release). r.event.granted) (releases_of_train d routes p t)
+    releases_in_turn x y m n less = go (below_or_not y.event.granted x.event.granted)
       where
-        go : (y.number < x.number) ⊎ (x.number ≤ y.number) → x.number ≤ y.number
+        go : (y.event.granted < x.event.granted) ⊎ (x.event.granted ≤ y.event.granted) → x.event.granted ≤ y.event.granted
         go (inl later) =
-            let a = (between x m).0 in
-            let b = (between y n).1 in
-            let c = length_rises (p.path t) (suc y.number) x.number (omega arith) in
+            let a = between x m in
+            let b = between y n in
+            let of_a = a.1 in
+            let of_b = b.1 in
+            let low = a.2 in
+            let high = b.3 in
+            let c = length_rises (p.path t) (suc b.0) a.0 (omega arith) in
             absurd (omega arith)
         go (inr within) = within

@@ -11,3 +11,4 @@ pub mod InTurn
 pub mod Sorting
 pub mod Reaching
 pub mod Lawful
+pub mod Told

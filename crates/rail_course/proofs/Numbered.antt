@@ -16,9 +16,9 @@ use Rattle.rail_spec.specs.Dispatches.{Dispatch, routes_before}
 use Rattle.rail_base.specs.Routes.{route_at, length_mm, exits}
 use Rattle.rail_base.proofs.Members.{below_or_not, get_or-counted, get_or-counted_past, map-map}
 use Rattle.rail_base.proofs.Lists.{length-map, length-count, count_step}
+use Rattle.rail_base.specs.declared.state.TrainEvent.{TrainEvent}
 use Rattle.rail_course.specs.declared.train_path.TrainPath.{TrainPath}
 use Rattle.rail_course.specs.declared.prefixes.PathPrefix.{PathPrefix}
-use Rattle.rail_course.specs.declared.waits.Wait.{Wait}
 use Rattle.rail_course.specs.Prefixes.{prefix_of, longer, prefixes_from, no_prefix}
 use Rattle.rail_course.specs.Tracks.{routes_at, path_length}
 use Rattle.rail_course.specs.TrainPaths.{IsTrainPath, AreTrainPaths}
@@ -154,8 +154,8 @@ take-map f (suc g) (x ∷ xs) = ap (λ ys. f x ∷ ys) (take-map f g xs)
 
 -- ---- release offsets and waits
 
-abbrev wait : TrainNo → ℕ → ℕ → Wait
-wait t n p = record { train = t; number = n; place = p }
+abbrev wait : TrainNo → ℕ → ℕ → TrainEvent
+wait t n p = record { train = t; event = record { granted = n; place = p } }
 
 pub fold_within : {X : Type 0} (off : X → ℕ) (m a : ℕ) (zs : List X) → a ≤ m → ((z : X) → off z ≤ m) → fold max a (map off zs) ≤ m
 fold_within off m a [] low h = low

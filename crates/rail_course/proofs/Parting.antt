@@ -93,7 +93,7 @@ module _ (i : Interlocking) where
 
 -- ---- releases that are gathered
 
-pub same_release : (r : RouteNo) (z : SectionNo) (m n a b : ℕ) → m ≡ n → a ≡ b → ◌≡◌ {A = Release} (record { route = r; section = z; number = m; place = a }) (record { route = r; section = z; number = n; place = b })
+pub same_release : (r : RouteNo) (z : SectionNo) (m n a b : ℕ) → m ≡ n → a ≡ b → ◌≡◌ {A = Release} (record { route = r; section = z; event = record { granted = m; place = a } }) (record { route = r; section = z; event = record { granted = n; place = b } })
 same_release r z m n a b e f = cc
 
 -- one more of what is made of each

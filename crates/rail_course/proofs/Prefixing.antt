@@ -14,7 +14,7 @@ use Rattle.rail_base.proofs.Lists.{length-map}
 use Rattle.rail_motion.specs.declared.Span.{Span}
 use Rattle.rail_motion.specs.Track.{stretch_of, stretches_of, IsRising, LeastAhead, NoneSlower}
 use Rattle.rail_spec.specs.Track.{edge_ends}
-use Rattle.rail_spec.specs.Dispatches.{Dispatch, stretch, stretches, authority, rates, moved}
+use Rattle.rail_spec.specs.Dispatches.{Dispatch, stretch, stretches, rates, moved, track_end}
 use Rattle.rail_course.specs.declared.train_path.TrainPath.{TrainPath}
 use Rattle.rail_course.specs.declared.prefixes.PathPrefix.{PathPrefix}
 use Rattle.rail_course.specs.Prefixes.{prefix_of}
@@ -111,7 +111,7 @@ state_same : (g x y v w : ℕ) → x ≡ y → v ≡ w → state g x v ≡ state
 state_same g x y v w p q = cc
 
 pub moved_is : (d : Station) (routes : List Route) (dispatch : Dispatch) (t : TrainNo) (old : TrainState) (g x v : ℕ) → 1 ≤ g
-    → v ≡ next_speed (rates d t) (stretches d (take g (routes_at routes (dispatch.path t)))) (authority (take g (routes_at routes (dispatch.path t)))) old.x old.v → x ≡ old.x + v
+    → v ≡ next_speed (rates d t) (stretches d (take g (routes_at routes (dispatch.path t)))) (track_end (take g (routes_at routes (dispatch.path t)))) old.x old.v → x ≡ old.x + v
     → state g x v ≡ moved d routes dispatch t old g
 moved_is d routes dispatch t old zero x v l s p = absurd (omega arith)
 moved_is d routes dispatch t old (suc g) x v l s p = state_same (suc g) x _ v _ (p ∙ ap (λ u. old.x + u) s) s

@@ -8,18 +8,18 @@ use Rattle.rail_base.specs.declared.plan.Command.{Command}
 use Rattle.rail_base.specs.declared.state.TrainState.{TrainState}
 use Rattle.rail_base.specs.Admitted.{IsAdmitted}
 use Rattle.rail_base.specs.Stations.{IsTrain}
+use Rattle.rail_base.specs.declared.state.TrainEvent.{TrainEvent}
 use Rattle.rail_spec.specs.Track.{routes_of}
 use Rattle.rail_spec.specs.Motion.{permitted}
 use Rattle.rail_spec.specs.Plans.{path, path_routes}
 use Rattle.rail_spec.specs.Feasible.{IsWellFormed}
-use Rattle.rail_spec.specs.Dispatches.{state_of, rates, stretches, authority, of_plan, has_released, is_ready, granted_with}
+use Rattle.rail_spec.specs.Dispatches.{state_of, rates, stretches, of_plan, has_released, is_ready, granted_with, track_end}
 use Rattle.rail_spec.specs.Dispatches.{granted_after, moved, state_at}
 use Rattle.rail_laws.proofs.Exclusion.{by_tick, idle_at_first}
 use Rattle.rail_laws.proofs.UnderWay.{still, next_grants, travels}
 use Rattle.rail_laws.proofs.Admits.{sound}
 use Rattle.rail_laws.proofs.Small.{stays_small, IsSmall}
 use Rattle.rail_laws.proofs.Standing.{at_in}
-use Rattle.rail_course.specs.declared.waits.Wait.{Wait}
 use Rattle.rail_course.specs.Ready.{GiveWhatIsReady}
 use Rattle.rail_course.proofs.Waiting.{next_told}
 use Rattle.rail_course.specs.Granting.{granted_on}
@@ -27,7 +27,7 @@ use Rattle.rail_course.specs.Runs.{CanMove, IsReached}
 
 module _ (d : Station) (routes : List Route) (plan : List (List Command)) where
   -- what the waits say is granted
-  pub granted_is : (s : List TrainState) → IsReached d routes plan s → (t : TrainNo) (ws : List (List Wait)) → GiveWhatIsReady d routes (of_plan routes plan) t ws → granted_on s (state_of s t).granted (slice_get ws (state_of s t).granted) ≡ granted_after d routes (of_plan routes plan) s t
+  pub granted_is : (s : List TrainState) → IsReached d routes plan s → (t : TrainNo) (ws : List (List TrainEvent)) → GiveWhatIsReady d routes (of_plan routes plan) t ws → granted_on s (state_of s t).granted (slice_get ws (state_of s t).granted) ≡ granted_after d routes (of_plan routes plan) s t
   granted_is s reached t ws tell =
       next_told d routes (of_plan routes plan) t ws tell reached.tick s
       (record { granted = λ u there. ap (λ v. (state_of v u).granted) reached.is; released = λ c z own. ap (λ v. has_released d routes (of_plan routes plan) v c z) reached.is })
@@ -71,7 +71,7 @@ module _ (d : Station) (adm : IsAdmitted d) (plan : List (List Command)) (formed
       small : IsSmall d adm (routes_of d) plan k old
       small = stays_small d adm (routes_of d) plan k t
 
-      go : (g : ℕ) → (g ≡ old.granted) ⊎ (g ≡ old.granted + 1) → 1 ≤ g → permitted (rates d t) (stretches d (take g (path_routes (routes_of d) plan t))) (authority (take g (path_routes (routes_of d) plan t))) old.x old.v (old.v - (rates d t).brake) ≡ true
+      go : (g : ℕ) → (g ≡ old.granted) ⊎ (g ≡ old.granted + 1) → 1 ≤ g → permitted (rates d t) (stretches d (take g (path_routes (routes_of d) plan t))) (track_end (take g (path_routes (routes_of d) plan t))) old.x old.v (old.v - (rates d t).brake) ≡ true
       go zero e l = absurd (omega arith)
       go (suc g) e l = still d (routes_of d) plan (sound d adm 256 plan formed.formed) t named old g (travels d (routes_of d) plan (sound d adm 256 plan formed.formed) k t) e
 

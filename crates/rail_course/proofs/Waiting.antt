@@ -15,14 +15,14 @@ use Rattle.rail_base.specs.Stations.{train_length}
 use Rattle.rail_base.specs.Routes.{route_at, shared, share, has_section, sections, release_offset, length_mm}
 use Rattle.rail_base.proofs.Members.{and_left, and_right, and_both, list_any_gives, same_bool, in_filter}
 use Rattle.rail_base.proofs.Lists.{in_map, in_filter_back, length-map}
+use Rattle.rail_base.specs.declared.state.TrainEvent.{TrainEvent}
 use Rattle.rail_spec.specs.Plans.{contend, step_of, precedes, commands}
-use Rattle.rail_spec.specs.Dispatches.{Dispatch, state_of, routes_before, is_granted, has_released, has_cleared, is_ready}
+use Rattle.rail_spec.specs.Dispatches.{Dispatch, state_of, routes_before, is_granted, has_released, has_cleared, is_ready, has_come}
 use Rattle.rail_spec.specs.Dispatches.{of_plan}
 use Rattle.rail_course.specs.declared.itineraries.Itineraries.{Itineraries}
-use Rattle.rail_course.specs.declared.waits.Wait.{Wait}
 use Rattle.rail_course.specs.Itineraries.{path_in, train_waits_in}
 use Rattle.rail_course.specs.Ready.{ShowTick, GiveWhatIsReady}
-use Rattle.rail_course.specs.Waits.{IsContending, is_over, wait_for, waits_of, waits_of_train}
+use Rattle.rail_course.specs.Waits.{IsContending, wait_for, waits_of, waits_of_train}
 
 pub list_all-same : {X : Type 0} (p q : X → Bool) (xs : List X) → ((x : X) → In x xs → p x ≡ q x) → list_all p xs ≡ list_all q xs
 list_all-same p q [] h = refl
@@ -60,7 +60,7 @@ module _ (d : Station) (routes : List Route) (p : Dispatch) (s : List TrainState
   some_shared : (r q : Route) → share r q ≡ true → (z : SectionNo) × In z (shared r q)
   some_shared r q h = let f = list_any_gives (λ p. has_section q p.0) r.sections h in (f.0.0, in_filter (has_section q) (sections r) f.0.0 (in_map (λ p. p.0) r.sections f.0 f.1) f.2)
 
-  pub over_when_cleared : (c e : Command) → share (route_at routes e.route) (route_at routes c.route) ≡ true → has_cleared d routes p s c e ≡ is_over s (wait_for d routes p c e)
+  pub over_when_cleared : (c e : Command) → share (route_at routes e.route) (route_at routes c.route) ≡ true → has_cleared d routes p s c e ≡ has_come s (wait_for d routes p c e)
   over_when_cleared c e h = go (shared (route_at routes e.route) (route_at routes c.route)) (some_shared (route_at routes e.route) (route_at routes c.route) h).1
     where
       go : (zs : List SectionNo) → In (some_shared (route_at routes e.route) (route_at routes c.route) h).0 zs
@@ -70,10 +70,10 @@ module _ (d : Station) (routes : List Route) (p : Dispatch) (s : List TrainState
           all_and (is_granted d routes p s e) (λ y. nat_le (sum_by length_mm (routes_before d routes p e) + release_offset (route_at routes e.route) y + train_length d e.train) (state_of s e.train).x) z zs
           ∙ ap (λ b. is_granted d routes p s e && b) (past_greatest (release_offset (route_at routes e.route)) (sum_by length_mm (routes_before d routes p e)) (train_length d e.train) (state_of s e.train).x z zs)
 
-  pub ready_when_over : IsContending d routes p → (c : Command) → is_ready d routes p s c ≡ list_all (is_over s) (waits_of d routes p c)
+  pub ready_when_over : IsContending d routes p → (c : Command) → is_ready d routes p s c ≡ list_all (has_come s) (waits_of d routes p c)
   ready_when_over contending c =
-      list_all-same (has_cleared d routes p s c) (λ e. is_over s (wait_for d routes p c e)) (p.before c) (λ e m. over_when_cleared c e (contending c e m))
-      ∙ sym (list_all-map (is_over s) (wait_for d routes p c) (p.before c))
+      list_all-same (has_cleared d routes p s c) (λ e. has_come s (wait_for d routes p c e)) (p.before c) (λ e m. over_when_cleared c e (contending c e m))
+      ∙ sym (list_all-map (has_come s) (wait_for d routes p c) (p.before c))
 
 -- in a plan each command shares a section with those that it waits for
 pub plan_contending : (d : Station) (routes : List Route) (plan : List (List Command)) → IsContending d routes (of_plan routes plan)
@@ -85,7 +85,7 @@ plan_contending d routes plan c e m =
 -- ---- all waits of a command say whether it is ready
 
 module _ (d : Station) (routes : List Route) (p : Dispatch) where
-  pub all_waits_tell : IsContending d routes p → (t : TrainNo) (waits : List (List Wait)) → waits ≡ waits_of_train d routes p t → GiveWhatIsReady d routes p t waits
+  pub all_waits_tell : IsContending d routes p → (t : TrainNo) (waits : List (List TrainEvent)) → waits ≡ waits_of_train d routes p t → GiveWhatIsReady d routes p t waits
   all_waits_tell contending t waits same = record {
     waits_a_route = ap length same ∙ length-map (λ r. waits_of d routes p (record { train = t; route = r })) (p.path t);
     next = λ k s shows r own here there.
@@ -95,11 +95,11 @@ module _ (d : Station) (routes : List Route) (p : Dispatch) where
         ∙ sym (slice_get-map (λ r. waits_of d routes p (record { train = t; route = r })) (p.path t) g)
         ∙ sym (ap (λ ws. slice_get ws g) same) ∙ there in
         let is : waits_of d routes p (record { train = t; route = r }) ≡ own = cc in
-        ap (list_all (is_over s)) (sym is) ∙ sym (ready_when_over d routes p s contending (record { train = t; route = r })));
+        ap (list_all (has_come s)) (sym is) ∙ sym (ready_when_over d routes p s contending (record { train = t; route = r })));
   }
 
 -- so do those that are worked out over its paths
-pub all_waits_in : (i : Itineraries) (p : Dispatch) → IsContending i.interlocking.now.design.station i.interlocking.now.routes p → path_in i ≡ p.path → (t : TrainNo) (waits : List (List Wait)) → waits ≡ train_waits_in i p.before t
+pub all_waits_in : (i : Itineraries) (p : Dispatch) → IsContending i.interlocking.now.design.station i.interlocking.now.routes p → path_in i ≡ p.path → (t : TrainNo) (waits : List (List TrainEvent)) → waits ≡ train_waits_in i p.before t
     → GiveWhatIsReady i.interlocking.now.design.station i.interlocking.now.routes p t waits
 all_waits_in i p contending same t waits are =
     let d = i.interlocking.now.design.station in
@@ -118,8 +118,8 @@ both_there (x ∷ xs) (y ∷ ys) zero e P none some = some x y refl refl
 both_there (x ∷ xs) (y ∷ ys) (suc g) e P none some = both_there xs ys g (omega arith) P none some
 
 -- there is no next command, or its waits say whether it is ready
-pub next_told : (d : Station) (routes : List Route) (p : Dispatch) (t : TrainNo) (waits : List (List Wait)) → GiveWhatIsReady d routes p t waits → (k : ℕ) (s : List TrainState) → ShowTick d routes p k s → (P : Option RouteNo → Option (List Wait) → Type 0) → P None None
-    → ((r : RouteNo) (own : List Wait) → list_all (is_over s) own ≡ is_ready d routes p s (record { train = t; route = r }) → P (Some r) (Some own))
+pub next_told : (d : Station) (routes : List Route) (p : Dispatch) (t : TrainNo) (waits : List (List TrainEvent)) → GiveWhatIsReady d routes p t waits → (k : ℕ) (s : List TrainState) → ShowTick d routes p k s → (P : Option RouteNo → Option (List TrainEvent) → Type 0) → P None None
+    → ((r : RouteNo) (own : List TrainEvent) → list_all (has_come s) own ≡ is_ready d routes p s (record { train = t; route = r }) → P (Some r) (Some own))
     → P (slice_get (p.path t) (state_of s t).granted) (slice_get waits (state_of s t).granted)
 next_told d routes p t waits tell k s shows P none some =
     both_there (p.path t) waits (state_of s t).granted tell.waits_a_route P none (λ r own here there. some r own (tell.next k s shows r own here there))

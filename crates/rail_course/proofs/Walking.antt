@@ -6,8 +6,8 @@ use Rattle.rail_base.specs.declared.route.RouteNo.{RouteNo}
 use Rattle.rail_base.specs.declared.state.PathNode.{PathNode}
 use Rattle.rail_base.specs.Numbering.{after_first, first_of_list, from_first}
 use Rattle.rail_base.specs.Routes.{route_at, length_mm}
-use Rattle.rail_spec.specs.Visits.{path_nodes_after, visits_at}
 use Rattle.rail_spec.specs.Plans.{has_node}
+use Rattle.rail_spec.specs.Places.{path_nodes_after, visits_at}
 use Rattle.rail_course.specs.Tracks.{routes_at}
 use Rattle.rail_course.specs.PathNodes.{path_node_at}
 

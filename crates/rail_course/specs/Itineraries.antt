@@ -1,28 +1,33 @@
 -- What itineraries give the trains.
 use Rattle.std.specs.Prelude.{◌≡◌, true, List, [], map}
+use Rattle.std.specs.Global.{Vec}
 use Rattle.rail_base.specs.declared.station.SectionNo.{SectionNo}
 use Rattle.rail_base.specs.declared.station.TrainNo.{TrainNo}
 use Rattle.rail_base.specs.declared.route.Route.{Route}
 use Rattle.rail_base.specs.declared.route.RouteNo.{RouteNo}
 use Rattle.rail_base.specs.declared.plan.Command.{Command}
 use Rattle.rail_base.specs.Numbering.{entry}
+use Rattle.rail_base.specs.declared.state.TrainEvent.{TrainEvent}
 use Rattle.rail_spec.specs.Dispatches.{Dispatch, routes_before}
 use Rattle.rail_course.specs.declared.train_path.TrainPath.{TrainPath}
 use Rattle.rail_course.specs.declared.itineraries.Itineraries.{Itineraries}
 use Rattle.rail_course.specs.declared.journey.Journey.{Journey}
 use Rattle.rail_course.specs.declared.journey.Release.{Release}
-use Rattle.rail_course.specs.declared.waits.Wait.{Wait}
 use Rattle.rail_course.specs.TrainPaths.{AreTrainPaths, IsTrainPath}
-use Rattle.rail_course.specs.Journeys.{IsJourney}
+use Rattle.rail_course.specs.Journeys.{IsJourney, AreJourneys}
 use Rattle.rail_course.specs.Releases.{release_for, releases_of_route, releases_of_train}
-use Rattle.rail_course.specs.Ready.{GiveWhatIsReady}
+use Rattle.rail_course.specs.Ready.{GiveWhatIsReady, AllGiveWhatIsReady}
 use Rattle.rail_course.specs.Tracks.{IsCommand}
 use Rattle.rail_course.specs.Waits.{wait_for}
+
+-- the command that gives a train this route
+abbrev pub command_of : TrainNo → RouteNo → Command
+command_of t r = record { train = t; route = r }
 
 module _ (i : Itineraries) where
   -- the path of a train
   abbrev pub path_in : TrainNo → List RouteNo
-  path_in t = entry [] i.paths.now t.0
+  path_in t = entry [] i.paths.items t.0
 
   -- the trains go their paths, and no command waits
   abbrev pub going_in : Dispatch
@@ -40,16 +45,24 @@ module _ (i : Itineraries) where
   abbrev pub AreTrainPathsIn : List TrainPath → Type 0
   AreTrainPathsIn = AreTrainPaths i.interlocking.now.design.station i.interlocking.now.routes path_in
 
+  -- the waits of each train, in file order, give what is ready
+  abbrev pub AllGiveIn : Dispatch → List (List (Vec TrainEvent)) → Type 0
+  AllGiveIn = AllGiveWhatIsReady i.interlocking.now.design.station i.interlocking.now.routes
+
+  -- these are the journeys of all trains in a dispatch, in file order
+  abbrev pub AreJourneysIn : Dispatch → List Journey → Type 0
+  AreJourneysIn = AreJourneys i.interlocking.now.design.station i.interlocking.now.routes
+
   -- the routes before a command on its train's path
   abbrev pub before_in : Command → List Route
   before_in = routes_before i.interlocking.now.design.station i.interlocking.now.routes going_in
 
   -- the wait of a command for another
-  abbrev pub wait_in : Command → Command → Wait
+  abbrev pub wait_in : Command → Command → TrainEvent
   wait_in = wait_for i.interlocking.now.design.station i.interlocking.now.routes going_in
 
   -- the waits of each command of a train's path, where these are to come before a command
-  abbrev pub train_waits_in : (Command → List Command) → TrainNo → List (List Wait)
+  abbrev pub train_waits_in : (Command → List Command) → TrainNo → List (List TrainEvent)
   train_waits_in before t =
       map (λ r. let c : Command = record { train = t; route = r } in map (wait_in c) (before c)) (path_in t)
 
@@ -66,7 +79,7 @@ module _ (i : Itineraries) where
   releases_in = releases_of_train i.interlocking.now.design.station i.interlocking.now.routes going_in
 
   -- the journey is that of its train in each dispatch with these paths in which these waits say what is ready
-  abbrev pub IsJourneyIn : TrainPath → List (List Wait) → Journey → Type 0
+  abbrev pub IsJourneyIn : TrainPath → List (List TrainEvent) → Journey → Type 0
   IsJourneyIn c waits j = (p : Dispatch) → path_in ≡ p.path
       → GiveWhatIsReady i.interlocking.now.design.station i.interlocking.now.routes p c.train waits
       → IsJourney i.interlocking.now.design.station i.interlocking.now.routes p j

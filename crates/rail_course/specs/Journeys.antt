@@ -13,15 +13,15 @@ use Rattle.rail_base.specs.declared.plan.Command.{Command}
 
 -- the journey is that of its train
 pub record IsJourney (d : Station) (routes : List Route) (p : Dispatch) (j : Journey) : Type 0 where
-  pub train_path : IsTrainPath d routes (p.path j.train_path.now.train) j.train_path.now
-  pub telling : GiveWhatIsReady d routes p j.train_path.now.train (map (λ v. v.items) j.waits.items)
-  pub releasing : j.releases.items ≡ releases_of_train d routes p j.train_path.now.train
-  pub milestones : AreMilestones (map (λ r. r.place) j.releases.items) j.release_milestones.items
-  pub in_turn : ComeInTurn (λ r. r.place) (λ r. r.number) j.releases.items
+  pub train_path : IsTrainPath d routes (p.path j.train_path.train) j.train_path
+  pub telling : GiveWhatIsReady d routes p j.train_path.train (map (λ v. v.items) j.waits.items)
+  pub releasing : j.releases.items ≡ releases_of_train d routes p j.train_path.train
+  pub milestones : AreMilestones (map (λ r. r.event.place) j.releases.items) j.release_milestones.items
+  pub in_turn : ComeInTurn (λ r. r.event.place) (λ r. r.event.granted) j.releases.items
 
 -- these are the journeys of all trains, in file order
 pub record AreJourneys (d : Station) (routes : List Route) (p : Dispatch) (js : List Journey) : Type 0 where
-  pub all : map (λ (j : Journey). j.train_path.now.train) js ≡ trains d
+  pub all : map (λ (j : Journey). j.train_path.train) js ≡ trains d
   pub each : All (IsJourney d routes p) js
 
 -- these are the journeys of all trains in a plan, in file order

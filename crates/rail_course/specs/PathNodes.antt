@@ -4,11 +4,11 @@ use Rattle.rail_base.specs.declared.station.NodeNo.{NodeNo}
 use Rattle.rail_base.specs.declared.state.PathNode.{PathNode}
 use Rattle.std.specs.declared.alloc.Global.{Global}
 use Rattle.rail_base.specs.declared.route.Route.{Route}
-use Rattle.rail_spec.specs.Visits.{path_nodes_after}
+use Rattle.rail_spec.specs.Places.{path_nodes_after}
 
 -- a node of a route that begins there and has that number in the path
 abbrev pub path_node_at : ℕ → ℕ → NodeNo × ℤ → PathNode
-path_node_at offset j p = record { node = p.0; offset = offset + nat_abs p.1; command = j }
+path_node_at offset j p = record { node = p.0; event = record { granted = j; place = offset + nat_abs p.1 } }
 
 -- the nodes of these routes, as those after the first of a path, are added from where they begin
 abbrev pub AddsNodes : Vec PathNode Global → Vec PathNode Global → ℕ → List Route → Type 0

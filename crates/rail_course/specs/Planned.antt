@@ -1,12 +1,13 @@
--- The journeys that a plan gives the trains.
+-- What the commands of a plan wait for.
 use Rattle.std.specs.Prelude.{List}
+use Rattle.std.specs.Global.{Vec}
+use Rattle.rail_base.specs.declared.state.TrainEvent.{TrainEvent}
 use Rattle.rail_spec.specs.Dispatches.{of_plan}
-use Rattle.rail_course.specs.declared.journey.Journey.{Journey}
 use Rattle.rail_course.specs.declared.planned.PlannedTrainPaths.{PlannedTrainPaths}
-use Rattle.rail_course.specs.Journeys.{AreJourneys}
+use Rattle.rail_course.specs.Itineraries.{AllGiveIn}
 
 module _ (p : PlannedTrainPaths) where
-  -- these are the journeys of all trains in the plan, in file order
-  abbrev pub ArePlannedJourneys : List Journey → Type 0
-  ArePlannedJourneys = let i = p.train_paths.given.interlocking.now in
-      AreJourneys i.design.station i.routes (of_plan i.routes p.plan.now.steps)
+  -- the waits of each train, in file order, give what is ready in the plan
+  abbrev pub AllGiveInPlan : List (List (Vec TrainEvent)) → Type 0
+  AllGiveInPlan = let given = p.train_paths.given in
+      AllGiveIn given (of_plan given.interlocking.now.routes p.plan.now.steps)

@@ -7,7 +7,7 @@ use Rattle.rail_base.specs.declared.plan.Command.{Command}
 use Rattle.rail_base.specs.declared.state.TrainState.{TrainState}
 use Rattle.rail_spec.specs.Motion.{permitted}
 use Rattle.rail_spec.specs.Plans.{path, path_routes}
-use Rattle.rail_spec.specs.Dispatches.{rates, stretches, authority, of_plan, state_at}
+use Rattle.rail_spec.specs.Dispatches.{rates, stretches, of_plan, state_at, track_end}
 
 -- these are the states at a tick up to 86,400
 pub record IsReached (d : Station) (routes : List Route) (plan : List (List Command))
@@ -21,7 +21,7 @@ pub record CanMove (d : Station) (routes : List Route) (plan : List (List Comman
     (granted : ℕ) (s : TrainState) : Type 0 where
   pub within : granted ≤ length (path plan t)
   pub braking : 1 ≤ granted → let given = take granted (path_routes routes plan t) in
-      permitted (rates d t) (stretches d given) (authority given) s.x s.v (s.v - (rates d t).brake) ≡ true
+      permitted (rates d t) (stretches d given) (track_end given) s.x s.v (s.v - (rates d t).brake) ≡ true
   pub below_2_46 : s.x < 2 ^ 46
   pub slow : s.v ≤ 100000
 

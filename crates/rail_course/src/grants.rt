@@ -2,12 +2,10 @@
 
 ghost use Rattle.std.specs.Prelude.{◌≡◌, ◌<◌, ◌^◌, List, map, slice_get, option_map};
 ghost use Rattle.std.specs.List.{list_all};
-ghost use Rattle.rail_spec.specs.Dispatches.{state_of};
-ghost use Rattle.rail_course.specs.Waits.{is_over};
+ghost use Rattle.rail_spec.specs.Dispatches.{state_of, has_come};
 ghost use Rattle.rail_course.specs.Granting.{granted_on};
 
-use crate::waits::Wait;
-use rail_base::state::TrainState;
+use rail_base::state::{TrainEvent, TrainState};
 use rail_base::station::TrainNo;
 
 /// How a train begins: nothing is granted, and it stands at the start of its path.
@@ -28,30 +26,29 @@ pub fn state_of(states: &[TrainState], train: TrainNo) -> TrainState
 }
 
 /// How many commands are granted after the tick, where so many are before it and these are the waits of each.
-pub fn granted_on(states: &[TrainState], granted: usize, waits: &[Vec<Wait>]) -> usize
+pub fn granted_on(states: &[TrainState], granted: usize, waits: &[Vec<TrainEvent>]) -> usize
     ensures { result ≡ granted_on states.now granted (slice_get (map (λ v. v.items) waits.now) granted) }
 {
     if waits.len() <= granted {
         return granted;
     }
-    if are_over(states, waits[granted].as_slice()) {
+    if have_come(states, waits[granted].as_slice()) {
         granted + 1
     } else {
         granted
     }
 }
 
-/// Whether a wait is over.
-fn is_over(states: &[TrainState], wait: &Wait) -> bool
-    ensures { result ≡ is_over states.now wait.now }
+/// Whether an event has come to its train.
+fn has_come(states: &[TrainState], wait: &TrainEvent) -> bool
+    ensures { result ≡ has_come states.now wait.now }
 {
-    let state = state_of(states, wait.train);
-    wait.number < state.granted && wait.place <= state.x
+    wait.event.has_happened(state_of(states, wait.train))
 }
 
-/// Whether all of these waits are over.
-fn are_over(states: &[TrainState], waits: &[Wait]) -> bool
-    ensures { result ≡ list_all (is_over states.now) waits.now }
+/// Whether all of these events have come.
+fn have_come(states: &[TrainState], waits: &[TrainEvent]) -> bool
+    ensures { result ≡ list_all (has_come states.now) waits.now }
 {
-    waits.iter().all(|wait| is_over(states, wait))
+    waits.iter().all(|wait| has_come(states, wait))
 }

@@ -8,10 +8,10 @@ use rail_base::list::List;
 use rail_base::route::RouteNo;
 
 /// The paths of all trains over an interlocking, in file order. Their routes are there, and they are short enough.
-#[derive(Clone, Copy)]
+#[derive(Drop)]
 pub struct Itineraries<'a> {
     pub interlocking: &'a Interlocking,
-    pub paths: &'a [List<RouteNo>],
-    pub ghost path_a_train: { length paths.now ≡ length interlocking.now.design.station.trains },
-    pub ghost range: { All (IsPathInRange interlocking.now.routes) paths.now },
+    pub paths: Vec<List<RouteNo>>,
+    pub ghost path_a_train: { length paths.items ≡ length interlocking.now.design.station.trains },
+    pub ghost range: { All (IsPathInRange interlocking.now.routes) paths.items },
 }

@@ -9,11 +9,11 @@ use interlocking::Interlocking;
 use rail_base::plan::Plan;
 
 /// A well-formed plan that is run over an interlocking, and the journeys that it gives the trains.
-#[derive(Clone, Copy)]
+#[derive(Drop)]
 pub struct PlannedJourneys<'a> {
     pub interlocking: &'a Interlocking,
     pub plan: &'a Plan,
-    pub journeys: &'a [Journey<'a>],
+    pub journeys: Vec<Journey>,
     pub ghost formed: { IsWellFormed interlocking.now.design.station interlocking.now.routes 256 plan.now.steps },
-    pub ghost led: { on interlocking.now ArePlanJourneys plan.now.steps journeys.now },
+    pub ghost led: { on interlocking.now ArePlanJourneys plan.now.steps journeys.items },
 }

@@ -20,9 +20,12 @@ pub(crate) fn node_milestones(
     alloc: Global,
     path_nodes: &[PathNode],
 ) -> Result<Vec<Milestone>, AllocError>
-    ensures { IfOk result (λ ms. AreMilestones (map (λ n. n.offset) path_nodes.now) ms.items) }
+    ensures { IfOk result (λ ms. AreMilestones (map (λ n. n.event.place) path_nodes.now) ms.items) }
 {
-    let places: Vec<u64> = path_nodes.iter().map(|node| node.offset).collect(alloc)?;
+    let places: Vec<u64> = path_nodes
+        .iter()
+        .map(|node| node.event.place)
+        .collect(alloc)?;
     milestones_of(alloc, places.as_slice())
 }
 
@@ -31,9 +34,12 @@ pub(crate) fn release_milestones(
     alloc: Global,
     releases: &[Release],
 ) -> Result<Vec<Milestone>, AllocError>
-    ensures { IfOk result (λ ms. AreMilestones (map (λ r. r.place) releases.now) ms.items) }
+    ensures { IfOk result (λ ms. AreMilestones (map (λ r. r.event.place) releases.now) ms.items) }
 {
-    let places: Vec<u64> = releases.iter().map(|release| release.place).collect(alloc)?;
+    let places: Vec<u64> = releases
+        .iter()
+        .map(|release| release.event.place)
+        .collect(alloc)?;
     milestones_of(alloc, places.as_slice())
 }
 

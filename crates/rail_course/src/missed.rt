@@ -14,7 +14,7 @@ impl PlannedJourneys<'_> {
     pub fn path_violation(&self) -> Option<Violation>
         ensures { result ≡ on self.now.interlocking.now path_violation self.now.plan.now.steps }
     {
-        for journey in self.journeys {
+        for journey in self.journeys.as_slice() {
             if let Some(visit) = first_missed(journey.train_path.visits.as_slice()) {
                 return Some(Violation::Path {
                     train: journey.train_path.train,

@@ -4,7 +4,7 @@ ghost use Rattle.std.specs.Prelude.{◌≡◌, ◌<◌, ◌+◌, ◌^◌, ◌++�
 ghost use Rattle.rail_base.specs.Numbering.{after_first, first_of_list, from_first};
 ghost use Rattle.rail_base.specs.Routes.{IsRoute, route_at};
 ghost use Rattle.rail_spec.specs.Plans.{has_node};
-ghost use Rattle.rail_spec.specs.Visits.{path_nodes, visits_on};
+ghost use Rattle.rail_spec.specs.Places.{path_nodes, visits_on};
 ghost use Rattle.rail_course.specs.Tracks.{routes_at, path_length};
 ghost use Rattle.rail_course.specs.PathNodes.{path_node_at, AddsNodes};
 ghost use Rattle.rail_course.specs.Milestones.{ComeInTurn};
@@ -12,7 +12,7 @@ ghost use Rattle.rail_course.specs.Milestones.{ComeInTurn};
 use interlocking::{Interlocking, has_node};
 use rail_base::list::List;
 use rail_base::route::{RouteNo, route_at};
-use rail_base::state::PathNode;
+use rail_base::state::{Event, PathNode};
 use rail_base::station::NodeNo;
 use std::alloc::{AllocError, Global};
 
@@ -25,7 +25,7 @@ pub fn path_nodes_of(
     requires named { All (IsRoute interlocking.now.routes) path.now }
     requires below_2_47 { path_length interlocking.now.routes path.now < 2 ^ 47 }
     ensures nodes { IfOk result (λ s. s.items ≡ path_nodes (routes_at interlocking.now.routes path.now)) }
-    ensures in_turn { IfOk result (λ s. ComeInTurn (λ n. n.offset) (λ n. n.command) s.items) }
+    ensures in_turn { IfOk result (λ s. ComeInTurn (λ n. n.event.place) (λ n. n.event.granted) s.items) }
 {
     let [first, later @ ..] = path else {
         return Ok(Vec::new(alloc));
@@ -77,11 +77,11 @@ fn push_path_nodes(
     ensures { OnOk result (path_nodes.new.items ≡ path_nodes.old.items ++ map (path_node_at begin command) nodes.now) }
 {
     for (node, offset) in nodes {
-        path_nodes.push(PathNode {
-            node: *node,
-            offset: begin + offset.unsigned_abs(),
-            command,
-        })?;
+        let event = Event {
+            granted: command,
+            place: begin + offset.unsigned_abs(),
+        };
+        path_nodes.push(PathNode { node: *node, event })?;
     }
     Ok(())
 }
@@ -124,7 +124,7 @@ fn path_nodes_from(
     requires later { All (IsRoute interlocking.now.routes) later.now }
     requires below_2_47 { path_length interlocking.now.routes (first ∷ later.now) < 2 ^ 47 }
     ensures nodes { IfOk result (λ s. s.items ≡ path_nodes (routes_at interlocking.now.routes (first ∷ later.now))) }
-    ensures in_turn { IfOk result (λ s. ComeInTurn (λ n. n.offset) (λ n. n.command) s.items) }
+    ensures in_turn { IfOk result (λ s. ComeInTurn (λ n. n.event.place) (λ n. n.event.granted) s.items) }
 {
     let mut path_nodes = Vec::new(alloc);
     let route = route_at(&interlocking.routes, first);

@@ -38,9 +38,9 @@ pub struct TrainPath {
     pub visits: Vec<Option<PathNode>>,
 }
 
-impl<'a> Itineraries<'a> {
+impl Itineraries<'_> {
     /// The train paths of all trains, in file order.
-    pub fn train_paths(&self, alloc: Global) -> Result<Vec<TrainPath>, AllocError>
+    pub(crate) fn train_paths(&self, alloc: Global) -> Result<Vec<TrainPath>, AllocError>
         ensures { IfOk result (λ cs. AreTrainPathsIn self.now cs.items) }
     {
         let mut train_paths = Vec::new(alloc);
@@ -51,12 +51,12 @@ impl<'a> Itineraries<'a> {
     }
 
     /// The path of a train.
-    fn path(&self, train: TrainNo) -> &'a [RouteNo]
+    fn path(&self, train: TrainNo) -> &[RouteNo]
         requires { IsTrain self.now.interlocking.now.design.station train }
         ensures path { result.now ≡ path_in self.now train }
         ensures range { IsPathInRange self.now.interlocking.now.routes result.now }
     {
-        self.paths[train.0 as usize - 1].as_slice()
+        self.paths.as_slice()[train.0 as usize - 1].as_slice()
     }
 
     /// The train path of a train.

@@ -1,71 +1,65 @@
 //! What commands wait for.
 
-ghost use Rattle.std.specs.Prelude.{◌≡◌, ◌<◌, ◌≤◌, ◌^◌, length, sum_by};
+ghost use Rattle.std.specs.Prelude.{◌≡◌, ◌<◌, ◌≤◌, ◌^◌, suc, length, sum_by};
 ghost use Rattle.rail_base.specs.Routes.{IsRoute, length_mm};
-ghost use Rattle.rail_base.specs.Stations.{IsTrain};
 ghost use Rattle.rail_base.specs.Numbering.{before_first};
 ghost use Rattle.rail_spec.specs.Plans.{is_route};
-ghost use Rattle.rail_course.specs.Itineraries.{IsCommandIn, before_in, wait_in};
+ghost use Rattle.rail_course.specs.Itineraries.{IsCommandIn, IsTrainPathIn, before_in, command_of, wait_in};
 
+use crate::itineraries::Itineraries;
+use crate::train_path::TrainPath;
 use crate::train_paths::TrainPaths;
 use rail_base::plan::Command;
 use rail_base::route::RouteNo;
-use rail_base::station::TrainNo;
-
-/// A wait for another train.
-#[derive(Clone, Copy, Debug)]
-pub struct Wait {
-    /// The train that is waited for.
-    pub train: TrainNo,
-    /// Its command that is to be granted, counted from 0.
-    pub number: usize,
-    /// Where its head is to be, in mm along its path.
-    pub place: u64,
-}
+use rail_base::state::{Event, TrainEvent};
 
 impl TrainPaths<'_> {
-    /// The wait of a command with a route for another command.
-    pub fn wait_for(&self, command: Command, other: Command) -> Wait
+    /// What a command waits for of another: that it has released all that the two share.
+    pub fn wait_for(&self, command: Command, other: Command) -> TrainEvent
         requires command { IsRoute self.now.given.interlocking.now.routes command.route }
         requires other { IsCommandIn self.now.given other }
         ensures { result ≡ wait_in self.now.given command other }
     {
         let train_path = self.train_path(other.train);
-        let before = self.place_of(other);
+        let before = self.given.place_of(train_path, other.route);
         let release = self
             .given
             .interlocking
             .last_release(other.route, command.route);
-        Wait {
-            train: other.train,
-            number: before.number,
+        let event = Event {
+            granted: before.granted,
             place: before.length + release + train_path.length,
+        };
+        TrainEvent {
+            train: other.train,
+            event,
         }
     }
+}
 
-    /// The routes before a command on its train's path.
-    pub(crate) fn place_of(&self, command: Command) -> Before
-        requires { IsTrain self.now.given.interlocking.now.design.station command.train }
-        ensures number { result.number ≡ length (before_in self.now.given command) }
-        ensures length { result.length ≡ sum_by length_mm (before_in self.now.given command) }
+impl Itineraries<'_> {
+    /// Where the command of a route stands in a train's path.
+    pub(crate) fn place_of(&self, train_path: &TrainPath, route: RouteNo) -> Before
+        requires { IsTrainPathIn self.now train_path.now }
+        ensures granted { result.granted ≡ suc (length (before_in self.now (command_of train_path.now.train route))) }
+        ensures length { result.length ≡ sum_by length_mm (before_in self.now (command_of train_path.now.train route)) }
         ensures below_2_47 { result.length < 2 ^ 47 }
     {
-        let train_path = self.train_path(command.train);
-        let number = number_of(train_path.path.as_slice(), command.route);
+        let number = number_of(train_path.path.as_slice(), route);
         let prefixes = train_path.prefixes.as_slice();
         Before {
-            number,
+            granted: number + 1,
             length: prefixes[number].length,
         }
     }
 }
 
-/// The routes of a path before one of its commands.
+/// Where a command stands in its train's path.
 #[derive(Clone, Copy, Debug)]
 pub(crate) struct Before {
-    /// How many they are.
-    pub number: usize,
-    /// Their length, in mm.
+    /// How many commands there are up to it.
+    pub granted: usize,
+    /// The length of the routes before it, in mm.
     pub length: u64,
 }
 
@@ -73,6 +67,7 @@ pub(crate) struct Before {
 fn number_of(path: &[RouteNo], route: RouteNo) -> usize
     ensures value { result ≡ length (before_first (λ r. is_route r route) path.now) }
     ensures bound { result ≤ length path.now }
+    ensures fits { result < 2 ^ 63 }
 {
     let mut number = 0;
     for other in path {

@@ -17,13 +17,14 @@ use Rattle.rail_spec.specs.Plans.{route_at, length_mm, exits, path, path_routes,
 use Rattle.rail_base.specs.Stations.{trains, train_of, train_length, horizon, IsTrain}
 use Rattle.rail_spec.specs.Dispatches.{state_of, of_plan, state_at}
 use Rattle.rail_base.specs.declared.state.PathNode.{PathNode}
-use Rattle.rail_spec.specs.Visits.{path_nodes_of, path_nodes_after, path_nodes, visits_at, visits_on, has_passed, pass_tick}
+use Rattle.rail_spec.specs.Visits.{pass_tick, happened_by}
 use Rattle.rail_spec.specs.Visits.{path_nodes_of_train, visits_of_train}
 use Rattle.rail_spec.specs.Requirements.{visit_numbers, command_numbers, granted_by, visited_by, is_done, is_certain, path_failures, path_violation, violation_at, possible_violations, cost}
 use Rattle.rail_base.specs.Admitted.{IsAdmitted}
 use Rattle.rail_spec.specs.Feasible.{IsRunnable}
 use Rattle.rail_laws.specs.Progress.{last_grant}
 use Rattle.rail_spec.specs.Verdict.{or_else, failure, IsForTime}
+use Rattle.rail_spec.specs.Places.{path_nodes_of, path_nodes_after, path_nodes, visits_at, visits_on}
 use Rattle.rail_base.proofs.Members.{and_left, and_right, and_both}
 use Rattle.rail_base.proofs.Lists.{in_append, in_map, in_map_back, in_flat_map, in_flat_map_back, length-map}
 use Rattle.rail_laws.proofs.Admits.{entry_is, good_route}
@@ -48,25 +49,25 @@ in_from {X} test (y ∷ ys) x m = go (test y) m (in_from test ys x)
     go true k later = k
     go false k later = inr (later k)
 
-in_path_nodes_of : (o j : ℕ) (r : Route) → ((p : NodeNo × ℤ) → In p r.nodes → nat_abs p.1 ≤ length_mm r) → (s : PathNode) → In s (path_nodes_of o j r) → (s.offset ≤ o + length_mm r) × (s.command ≡ j)
-in_path_nodes_of o j r good s m = go (in_map_back (λ (p : NodeNo × ℤ). let t : PathNode = record { node = p.0; offset = o + nat_abs p.1; command = j } in t) r.nodes s m)
+in_path_nodes_of : (o j : ℕ) (r : Route) → ((p : NodeNo × ℤ) → In p r.nodes → nat_abs p.1 ≤ length_mm r) → (s : PathNode) → In s (path_nodes_of o j r) → (s.event.place ≤ o + length_mm r) × (s.event.granted ≡ j)
+in_path_nodes_of o j r good s m = go (in_map_back (λ (p : NodeNo × ℤ). let t : PathNode = record { node = p.0; event = record { granted = j; place = o + nat_abs p.1 } } in t) r.nodes s m)
   where
-    go : ((p : NodeNo × ℤ) × In p r.nodes × (record { node = p.0; offset = o + nat_abs p.1; command = j } ≡ s)) → (s.offset ≤ o + length_mm r) × (s.command ≡ j)
-    go (p, k, e) = let l = good p k in let n : o + nat_abs p.1 ≡ s.offset = ap (λ (t : PathNode). t.offset) e in (omega arith, sym (ap (λ (t : PathNode). t.command) e))
+    go : ((p : NodeNo × ℤ) × In p r.nodes × (record { node = p.0; event = record { granted = j; place = o + nat_abs p.1 } } ≡ s)) → (s.event.place ≤ o + length_mm r) × (s.event.granted ≡ j)
+    go (p, k, e) = let l = good p k in let n : o + nat_abs p.1 ≡ s.event.place = ap (λ (t : PathNode). t.event.place) e in (omega arith, sym (ap (λ (t : PathNode). t.event.granted) e))
 
-in_path_nodes_after : (rs : List Route) (o j : ℕ) → NodesIn rs → (s : PathNode) → In s (path_nodes_after o j rs) → (s.offset ≤ o + sum_by length_mm rs) × (s.command < j + length rs)
+in_path_nodes_after : (rs : List Route) (o j : ℕ) → NodesIn rs → (s : PathNode) → In s (path_nodes_after o j rs) → (s.event.place ≤ o + sum_by length_mm rs) × (s.event.granted < j + length rs)
 in_path_nodes_after [] o j good s m = absurd m
 in_path_nodes_after (r ∷ rs) o j good s m = go (in_append s (after_first (path_nodes_of o j r)) (path_nodes_after (o + length_mm r) (j + 1) rs) m) (in_path_nodes_after rs (o + length_mm r) (j + 1) (λ q k. good q (inr k)) s)
   where
-    go : In s (after_first (path_nodes_of o j r)) ⊎ In s (path_nodes_after (o + length_mm r) (j + 1) rs) → (In s (path_nodes_after (o + length_mm r) (j + 1) rs) → (s.offset ≤ o + length_mm r + sum_by length_mm rs) × (s.command < j + 1 + length rs)) → (s.offset ≤ o + sum_by length_mm (r ∷ rs)) × (s.command < j + length (r ∷ rs))
+    go : In s (after_first (path_nodes_of o j r)) ⊎ In s (path_nodes_after (o + length_mm r) (j + 1) rs) → (In s (path_nodes_after (o + length_mm r) (j + 1) rs) → (s.event.place ≤ o + length_mm r + sum_by length_mm rs) × (s.event.granted < j + 1 + length rs)) → (s.event.place ≤ o + sum_by length_mm (r ∷ rs)) × (s.event.granted < j + length (r ∷ rs))
     go (inl k) later = let l = in_path_nodes_of o j r (good r (inl refl)) s (in_after _ s k) in let a = l.0 in let b = l.1 in let w = sum_by-cons length_mm r rs in (omega arith, omega arith)
     go (inr k) later = let l = later k in let a = l.0 in let b = l.1 in let w = sum_by-cons length_mm r rs in (omega arith, omega arith)
 
-in_path_nodes : (rs : List Route) → NodesIn rs → (s : PathNode) → In s (path_nodes rs) → (s.offset ≤ sum_by length_mm rs) × (s.command ≤ length rs)
+in_path_nodes : (rs : List Route) → NodesIn rs → (s : PathNode) → In s (path_nodes rs) → (s.event.place ≤ sum_by length_mm rs) × (s.event.granted ≤ length rs)
 in_path_nodes [] good s m = absurd m
 in_path_nodes (r ∷ rs) good s m = go (in_append s (path_nodes_of 0 1 r) (path_nodes_after (length_mm r) 2 rs) m)
   where
-    go : In s (path_nodes_of 0 1 r) ⊎ In s (path_nodes_after (length_mm r) 2 rs) → (s.offset ≤ sum_by length_mm (r ∷ rs)) × (s.command ≤ length (r ∷ rs))
+    go : In s (path_nodes_of 0 1 r) ⊎ In s (path_nodes_after (length_mm r) 2 rs) → (s.event.place ≤ sum_by length_mm (r ∷ rs)) × (s.event.granted ≤ length (r ∷ rs))
     go (inl k) = let l = in_path_nodes_of 0 1 r (good r (inl refl)) s k in let a = l.0 in let b = l.1 in let w = sum_by-cons length_mm r rs in (omega arith, omega arith)
     go (inr k) = let l = in_path_nodes_after rs (length_mm r) 2 (λ q i. good q (inr i)) s k in let a = l.0 in let b = l.1 in let w = sum_by-cons length_mm r rs in (omega arith, omega arith)
 
@@ -114,7 +115,7 @@ module _ (d : Station) (adm : IsAdmitted d) (n : ℕ) (plan : List (List Command
       at : ((q : RouteNo) × In q (path plan t) × (route_at (routes_of d) q ≡ r)) → nat_abs p.1 ≤ length_mm r
       at (q, i, e) = subst (λ (w : Route). nat_abs p.1 ≤ length_mm w) e ((good_route d adm q).nodes_in p (subst (λ (w : Route). In p w.nodes) (sym e) k))
 
-  path_node_passed : (t : TrainNo) (k : ℕ) (s : PathNode) → IsTrain d t → last_grant d (routes_of d) plan ≤ k → In s (path_nodes_of_train d (routes_of d) (of_plan (routes_of d) plan) t) → has_passed d (routes_of d) (of_plan (routes_of d) plan) t s k ≡ true
+  path_node_passed : (t : TrainNo) (k : ℕ) (s : PathNode) → IsTrain d t → last_grant d (routes_of d) plan ≤ k → In s (path_nodes_of_train d (routes_of d) (of_plan (routes_of d) plan) t) → happened_by d (routes_of d) (of_plan (routes_of d) plan) t s.event k ≡ true
   path_node_passed t k s h late m =
       let on = in_path_nodes (path_routes (routes_of d) plan t) (nodes_in_path t) s m in
       let far = (come_through t k h late).0 in
@@ -122,7 +123,7 @@ module _ (d : Station) (adm : IsAdmitted d) (n : ℕ) (plan : List (List Command
       let number = on.1 in
       let long = length-map (route_at (routes_of d)) (path plan t) in
       let grants = all_of_path d (routes_of d) plan (lively d adm n plan able) k t (λ c i. no_deadlock d adm n plan able c i k late) in
-      and_both (nat_le s.command (state_of (state_at d (routes_of d) (of_plan (routes_of d) plan) k) t).granted) (nat_le s.offset (state_of (state_at d (routes_of d) (of_plan (routes_of d) plan) k) t).x) (le-leb s.command (state_of (state_at d (routes_of d) (of_plan (routes_of d) plan) k) t).granted (omega arith)) (le-leb s.offset (state_of (state_at d (routes_of d) (of_plan (routes_of d) plan) k) t).x (omega arith))
+      and_both (nat_le s.event.granted (state_of (state_at d (routes_of d) (of_plan (routes_of d) plan) k) t).granted) (nat_le s.event.place (state_of (state_at d (routes_of d) (of_plan (routes_of d) plan) k) t).x) (le-leb s.event.granted (state_of (state_at d (routes_of d) (of_plan (routes_of d) plan) k) t).granted (omega arith)) (le-leb s.event.place (state_of (state_at d (routes_of d) (of_plan (routes_of d) plan) k) t).x (omega arith))
 
   -- a visit that the path makes is made by then
   pub visit_made : (t : TrainNo) (j k : ℕ) → IsTrain d t → 1 ≤ k → last_grant d (routes_of d) plan ≤ k → is_none (entry None (visits_of_train d (routes_of d) (of_plan (routes_of d) plan) t) j) ≡ false → visited_by d (routes_of d) plan k t j ≡ true
@@ -133,7 +134,7 @@ module _ (d : Station) (adm : IsAdmitted d) (n : ℕ) (plan : List (List Command
 
       go : (o : Option PathNode) → is_none o ≡ false → ((s : PathNode) → o ≡ Some s → In s (path_nodes_of_train d (routes_of d) (of_plan (routes_of d) plan) t)) → is_some (option_and_then (pass_tick d (routes_of d) (of_plan (routes_of d) plan) k t) o) ≡ true
       go None e on = absurd (true≢false e)
-      go (Some s) e on = least_some (has_passed d (routes_of d) (of_plan (routes_of d) plan) t s) k low (path_node_passed t k s h late (on s refl))
+      go (Some s) e on = least_some (happened_by d (routes_of d) (of_plan (routes_of d) plan) t s.event) k low (path_node_passed t k s h late (on s refl))
 
   train_in : (t : TrainNo) → In t (trains d) → IsTrain d t
   train_in t m = go (in_map_back (λ (i : ℕ). let u : TrainNo = record { 0 = i } in u) (one_to (length d.trains)) t m)

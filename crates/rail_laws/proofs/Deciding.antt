@@ -7,7 +7,7 @@ use Rattle.rail_base.specs.declared.plan.Command.{Command}
 use Rattle.rail_base.specs.Numbering.{entry, least, or_this}
 use Rattle.rail_base.specs.declared.state.PathNode.{PathNode}
 use Rattle.rail_spec.specs.Dispatches.{of_plan}
-use Rattle.rail_spec.specs.Visits.{has_passed, pass_tick, visits_of_train, visit_tick}
+use Rattle.rail_spec.specs.Visits.{pass_tick, visits_of_train, visit_tick, happened_by}
 use Rattle.rail_base.specs.declared.plan.Violation.TheVariants as violation
 use Rattle.rail_spec.specs.Requirements.{both, most_ticks, visited_by, keeps_order, keeps_within, is_certain, is_after}
 use Rattle.rail_base.specs.Stations.{horizon, within_of, order_of}
@@ -63,21 +63,21 @@ module _ (d : Station) (routes : List Route) (plan : List (List Command)) where
     where
       go : (p : Option PathNode) → option_and_then (pass_tick d routes (of_plan routes plan) k t) p ≡ Some a → option_and_then (pass_tick d routes (of_plan routes plan) (k + m) t) p ≡ Some a
       go None h = cc
-      go (Some p) h = least_stays (has_passed d routes (of_plan routes plan) t p) k m a h
+      go (Some p) h = least_stays (happened_by d routes (of_plan routes plan) t p.event) k m a h
 
   pub visit_within : (k : ℕ) (t : TrainNo) (j a : ℕ) → visit_tick d routes (of_plan routes plan) k t j ≡ Some a → (1 ≤ a) × (a ≤ k)
   visit_within k t j a e = go (entry None (visits_of_train d routes (of_plan routes plan) t) j) e
     where
       go : (p : Option PathNode) → option_and_then (pass_tick d routes (of_plan routes plan) k t) p ≡ Some a → (1 ≤ a) × (a ≤ k)
       go None h = cc
-      go (Some p) h = let l = least_gives (has_passed d routes (of_plan routes plan) t p) k a h in (l.first, l.last)
+      go (Some p) h = let l = least_gives (happened_by d routes (of_plan routes plan) t p.event) k a h in (l.first, l.last)
 
   pub visit_at : (k : ℕ) (t : TrainNo) (j a : ℕ) → visit_tick d routes (of_plan routes plan) k t j ≡ Some a → visit_tick d routes (of_plan routes plan) a t j ≡ Some a
   visit_at k t j a e = go (entry None (visits_of_train d routes (of_plan routes plan) t) j) e
     where
       go : (p : Option PathNode) → option_and_then (pass_tick d routes (of_plan routes plan) k t) p ≡ Some a → option_and_then (pass_tick d routes (of_plan routes plan) a t) p ≡ Some a
       go None h = cc
-      go (Some p) h = least_at (has_passed d routes (of_plan routes plan) t p) k a h
+      go (Some p) h = least_at (happened_by d routes (of_plan routes plan) t p.event) k a h
 
   -- a visit that is made by k is made at one tick, whenever one looks
   pub visit_once : (k l : ℕ) (t : TrainNo) (j a b : ℕ) → visit_tick d routes (of_plan routes plan) k t j ≡ Some a → visit_tick d routes (of_plan routes plan) l t j ≡ Some b → a ≡ b

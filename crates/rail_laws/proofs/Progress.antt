@@ -17,9 +17,9 @@ use Rattle.rail_base.specs.Stations.{edge_of, trains, train_length, per_tick_spe
 use Rattle.rail_spec.specs.Track.{edge_ends}
 use Rattle.rail_spec.specs.Plans.{route_at, length_mm, share, shared, release_offset, exits, is_train, is_route, commands, routes_given, path, path_routes, step_of, precedes, preceding, one_each, given_between, can_clear, may_stand, is_executable}
 use Rattle.rail_spec.specs.Motion.{SpanSeen}
-use Rattle.rail_spec.specs.Dispatches.{state_of, rates, stretch, stretches, authority, of_plan, routes_before}
+use Rattle.rail_spec.specs.Dispatches.{state_of, rates, stretch, stretches, of_plan, routes_before, speed_in, with_granted, track_end}
 use Rattle.rail_spec.specs.Dispatches.{is_granted, has_released, has_cleared, is_ready, granted_with, granted_after}
-use Rattle.rail_spec.specs.Dispatches.{speed_with, moved, state_at}
+use Rattle.rail_spec.specs.Dispatches.{moved, state_at}
 use Rattle.rail_laws.specs.Progress.{MayMove, last_grant}
 use Rattle.rail_base.proofs.Members.{and_left, and_right, list_all_at, list_any_gives, list_any_from, below_or_not, is_false, not_less}
 use Rattle.rail_base.proofs.Lists.{in_map, in_map_back, in_filter_back, in_count, in_flat_map_back, length-map}
@@ -80,7 +80,7 @@ own_within (q ∷ rs) (suc i) r h =
     let b = sum_by-cons length_mm q rs in
     let c = own_within rs i r h in omega arith
 
-may_move : (rs : List Route) (x : ℕ) → (list_any exits rs ≡ true) ⊎ (x < sum_by length_mm rs) → MayMove (authority rs) x
+may_move : (rs : List Route) (x : ℕ) → (list_any exits rs ≡ true) ⊎ (x < sum_by length_mm rs) → MayMove (track_end rs) x
 may_move rs x h = go (list_any exits rs) refl h
   where
     go : (b : Bool) → list_any exits rs ≡ b → (list_any exits rs ≡ true) ⊎ (x < sum_by length_mm rs) → MayMove (if b then None else Some (sum_by length_mm rs)) x
@@ -178,7 +178,7 @@ module _ (d : Station) (routes : List Route) (plan : List (List Command)) where
   moved_granted t old zero h = absurd (omega arith)
   moved_granted t old (suc n) h = refl
 
-  moved_on : (t : TrainNo) (old : TrainState) (n : ℕ) → 1 ≤ n → (moved d routes (of_plan routes plan) t old n).x ≡ old.x + speed_with d routes (of_plan routes plan) n t old
+  moved_on : (t : TrainNo) (old : TrainState) (n : ℕ) → 1 ≤ n → (moved d routes (of_plan routes plan) t old n).x ≡ old.x + speed_in d routes (of_plan routes plan) t (with_granted n old)
   moved_on t old zero h = absurd (omega arith)
   moved_on t old (suc n) h = refl
 
@@ -475,8 +475,8 @@ module _ (d : Station) (routes : List Route) (plan : List (List Command)) where
         let g = granted_after d routes (of_plan routes plan) (state_at d routes (of_plan routes plan) k) t in
         let grows = granted_after_more d routes plan (state_at d routes (of_plan routes plan) k) t in
         let rates_of = lively.moves t h in
-        let speed : 1 ≤ speed_with d routes (of_plan routes plan) g t (now k t) = moves_on (rates d t) (stretches d (take g (rs_of t))) (authority (take g (rs_of t))) (now k t).x (now k t).v rates_of.0 rates_of.1 rates_of.2 (stretch_limit t g) (may_move (take g (rs_of t)) (now k t).x (still g grows track)) in
-        let after : (now (suc k) t).x ≡ (now k t).x + speed_with d routes (of_plan routes plan) g t (now k t) = ap (λ (s : TrainState). s.x) (state_after k t h) ∙ moved_on t (now k t) g (omega arith) in
+        let speed : 1 ≤ speed_in d routes (of_plan routes plan) t (with_granted g (now k t)) = moves_on (rates d t) (stretches d (take g (rs_of t))) (track_end (take g (rs_of t))) (now k t).x (now k t).v rates_of.0 rates_of.1 rates_of.2 (stretch_limit t g) (may_move (take g (rs_of t)) (now k t).x (still g grows track)) in
+        let after : (now (suc k) t).x ≡ (now k t).x + speed_in d routes (of_plan routes plan) t (with_granted g (now k t)) = ap (λ (s : TrainState). s.x) (state_after k t h) ∙ moved_on t (now k t) g (omega arith) in
         omega arith
       where
         still : (g : ℕ) → (now k t).granted ≤ g → (list_any exits (take (now k t).granted (rs_of t)) ≡ true) ⊎ ((now k t).x < sum_by length_mm (take (now k t).granted (rs_of t))) → (list_any exits (take g (rs_of t)) ≡ true) ⊎ ((now k t).x < sum_by length_mm (take g (rs_of t)))

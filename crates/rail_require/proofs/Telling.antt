@@ -15,12 +15,13 @@ use Rattle.rail_base.proofs.Members.{get_or-counted, map-map, false_unless}
 use Rattle.rail_base.proofs.Lists.{length-map}
 use Rattle.rail_spec.specs.Plans.{path, has_node}
 use Rattle.rail_spec.specs.Dispatches.{state_of, of_plan, state_at}
-use Rattle.rail_spec.specs.Visits.{visits_at, visits_on, pass_tick, path_nodes_of_train, visits_of_train}
+use Rattle.rail_spec.specs.Visits.{pass_tick, path_nodes_of_train, visits_of_train}
 use Rattle.rail_spec.specs.Visits as visits
 use Rattle.rail_spec.specs.Requirements.{granted_by, visited_by}
 use Rattle.rail_spec.specs.Requirements as requirements
 use Rattle.rail_spec.specs.Histories.{history_at, train_history, visit_made, granted}
 use Rattle.rail_spec.specs.Histories as histories
+use Rattle.rail_spec.specs.Places.{visits_at, visits_on}
 use Rattle.rail_laws.proofs.Exclusion.{run_later}
 use Rattle.rail_laws.proofs.Deciding.{least_gives, visit_stays, visit_within, visit_at, visit_once}
 use Rattle.rail_require.specs.Ticks.{history_of, trains, command_numbers, visit_numbers, grant_tick, visit_tick, is_by, is_before}

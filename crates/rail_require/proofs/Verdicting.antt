@@ -14,11 +14,12 @@ use Rattle.rail_base.specs.Admitted.{IsAdmitted}
 use Rattle.rail_base.specs.Numbering.{least, one_to, after_first, from_first}
 use Rattle.rail_base.specs.Stations.{train_of, horizon}
 use Rattle.rail_base.proofs.Members.{below_or_not, not_less}
-use Rattle.rail_spec.specs.Visits.{visits_at, visits_on, path_nodes_of_train, visits_of_train}
+use Rattle.rail_spec.specs.Visits.{path_nodes_of_train, visits_of_train}
 use Rattle.rail_spec.specs.Plans.{has_node}
 use Rattle.rail_spec.specs.Dispatches.{of_plan, tick, state_at}
 use Rattle.rail_spec.specs.Requirements.{is_certain, is_decided, violation_at, path_violation, visit_numbers, cost}
 use Rattle.rail_spec.specs.Histories.{history_at, decided, verdict_of}
+use Rattle.rail_spec.specs.Places.{visits_at, visits_on}
 use Rattle.rail_laws.proofs.Deciding.{least_gives}
 use Rattle.rail_laws.proofs.Verdicts as verdicts
 use Rattle.rail_require.proofs.Finding.{find-numbered, entry-get, find-append_none, find-append_some}

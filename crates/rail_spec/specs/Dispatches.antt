@@ -10,6 +10,9 @@ use Rattle.rail_base.specs.declared.route.Route.{Route}
 use Rattle.rail_base.specs.declared.route.RouteNo.{RouteNo}
 use Rattle.rail_base.specs.declared.plan.Command.{Command}
 use Rattle.rail_base.specs.declared.state.TrainState.{TrainState}
+use Rattle.rail_base.specs.declared.state.Event.{Event}
+use Rattle.rail_base.specs.declared.state.TrainEvent.{TrainEvent}
+use Rattle.rail_base.specs.Events.{has_happened}
 use Rattle.rail_base.specs.Numbering.{entry, before_first}
 use Rattle.rail_base.specs.Stations.{edge_of, train_length, vehicle_of, trains, per_tick_speed, per_tick_accel}
 use Rattle.rail_spec.specs.Track.{edge_ends}
@@ -20,9 +23,21 @@ use Rattle.rail_spec.specs.Motion.{MotorSeen, SpanSeen, next_speed}
 abbrev pub idle : TrainState
 idle = record { granted = 0; x = 0; v = 0 }
 
+-- the state of a train that has been granted so many commands
+abbrev pub with_granted : ℕ → TrainState → TrainState
+with_granted n s = record { granted = n; x = s.x; v = s.v }
+
+-- its state after a move by u
+abbrev pub moved_by : ℕ → TrainState → TrainState
+moved_by u s = record { granted = s.granted; x = s.x + u; v = u }
+
 -- the state of a train, in the list of all trains' states
 abbrev pub state_of : List TrainState → TrainNo → TrainState
 state_of s t = entry idle s t.0
+
+-- the event has come to its train
+abbrev pub has_come : List TrainState → TrainEvent → Bool
+has_come s e = has_happened (state_of s e.train) e.event
 
 -- how far behind its head limits bind a train: in designs of version 1 they bind the head alone, from version 2 on until the
 -- tail has left
@@ -47,8 +62,8 @@ abbrev pub stretches : Station → List Route → List SpanSeen
 stretches d rs = map (stretch d) (edge_ends d 0 (flat_map (λ r. r.edges) rs))
 
 -- how far routes in a row let a train go: their length, or no end where one exits
-abbrev pub authority : List Route → Option ℕ
-authority rs = if list_any exits rs then None else Some (sum_by length_mm rs)
+abbrev pub track_end : List Route → Option ℕ
+track_end rs = if list_any exits rs then None else Some (sum_by length_mm rs)
 
 -- the routes that each train may be granted, in order; the commands that each command waits for; and which trains a tick concerns
 pub record Dispatch : Type 0 where
@@ -71,11 +86,16 @@ module _ (d : Station) (routes : List Route) (p : Dispatch) where
   abbrev pub is_granted : List TrainState → Command → Bool
   is_granted s c = nat_lt (length (routes_before c)) (state_of s c.train).granted
 
-  -- the command is granted, and the train's tail has reached the section's release offset
-  abbrev pub has_released : List TrainState → Command → SectionNo → Bool
-  has_released s c z =
+  -- how a command releases a section: it is granted, and its train's tail reaches the section's release offset
+  abbrev pub release : Command → SectionNo → TrainEvent
+  release c z =
       let offset = sum_by length_mm (routes_before c) + release_offset (route_at routes c.route) z in
-      is_granted s c && nat_le (offset + train_length d c.train) (state_of s c.train).x
+      let event : Event = record { granted = suc (length (routes_before c)); place = offset + train_length d c.train } in
+      record { train = c.train; event = event }
+
+  -- it has released the section
+  abbrev pub has_released : List TrainState → Command → SectionNo → Bool
+  has_released s c z = has_come s (release c z)
 
   -- the second command has released every section that the two share
   abbrev pub has_cleared : List TrainState → Command → Command → Bool
@@ -96,16 +116,22 @@ module _ (d : Station) (routes : List Route) (p : Dispatch) where
   abbrev pub granted_after : List TrainState → TrainNo → ℕ
   granted_after s t = granted_with s t (slice_get (p.path t) (state_of s t).granted)
 
-  -- the speed of a train whose first commands are granted
-  abbrev pub speed_with : ℕ → TrainNo → TrainState → ℕ
-  speed_with granted t old =
-      let given = take granted (map (route_at routes) (p.path t)) in
-      next_speed (rates d t) (stretches d given) (authority given) old.x old.v
+  -- the routes that a train is granted in a state
+  abbrev pub granted_routes : TrainNo → TrainState → List Route
+  granted_routes t s = take s.granted (map (route_at routes) (p.path t))
+
+  -- how far it may go
+  abbrev pub authority : TrainNo → TrainState → Option ℕ
+  authority t s = track_end (granted_routes t s)
+
+  -- how fast it goes on from there
+  abbrev pub speed_in : TrainNo → TrainState → ℕ
+  speed_in t s = next_speed (rates d t) (stretches d (granted_routes t s)) (authority t s) s.x s.v
 
   -- a train with a granted command moves, and another stays
   abbrev pub moved : TrainNo → TrainState → ℕ → TrainState
   moved t old zero = old
-  moved t old (suc n) = let u = speed_with (suc n) t old in record { granted = suc n; x = old.x + u; v = u }
+  moved t old (suc n) = let s = with_granted (suc n) old in moved_by (speed_in t s) s
 
   -- a tick: all grants are seen against the old state, and then all trains that it concerns move
   abbrev pub tick : ℕ → List TrainState → List TrainState

@@ -18,8 +18,8 @@ use Rattle.rail_base.specs.Stations.{trains}
 use Rattle.rail_base.specs.Routes.{route_at, sections}
 use Rattle.rail_spec.specs.Plans.{path}
 use Rattle.rail_base.specs.declared.state.PathNode.{PathNode}
-use Rattle.rail_spec.specs.Dispatches.{of_plan, has_released, state_at}
-use Rattle.rail_spec.specs.Visits.{pass_tick, visits_of_train, passed}
+use Rattle.rail_spec.specs.Dispatches.{of_plan, release}
+use Rattle.rail_spec.specs.Visits.{happened_by, pass_tick, visits_of_train, passed}
 use Rattle.rail_spec.specs.Requirements.{granted_by, violation_at, path_violation, cost}
 
 module _ (d : Station) (routes : List Route) (plan : List (List Command)) where
@@ -30,8 +30,7 @@ module _ (d : Station) (routes : List Route) (plan : List (List Command)) where
   -- the tick, up to k, at which a command has released a section
   abbrev pub release_tick : ℕ → Command → SectionNo → Option ℕ
   release_tick k c z =
-      let run = of_plan routes plan in
-      least (λ i. has_released d routes run (state_at d routes run i) c z) k
+      let run = of_plan routes plan in least (happened_by d routes run c.train (release d routes run c z).event) k
 
   -- the commands of the train's path with the ticks, up to k, at which they are granted
   abbrev pub granted : ℕ → TrainNo → List (RouteNo × Option ℕ)

@@ -2,6 +2,7 @@
 pub mod Track
 pub mod Plans
 pub mod Motion
+pub mod Places
 pub mod Dispatches
 pub mod Visits
 pub mod Requirements

@@ -1,5 +1,5 @@
 -- No two trains in one section, and each within its authority and its limits.
-use Rattle.std.specs.Prelude.{◌≡◌, ℕ, suc, ◌+◌, ◌-◌, ◌≤◌, Bool, true, not, ◌&&◌, ◌||◌, ◌==◌, List, flat_map, take, nat_lt}
+use Rattle.std.specs.Prelude.{◌≡◌, ℕ, suc, ◌+◌, ◌-◌, ◌≤◌, Bool, true, not, ◌&&◌, ◌||◌, ◌==◌, List, flat_map, nat_lt}
 use Rattle.std.specs.Prelude.{IsTrue}
 use Rattle.std.specs.List.{list_any}
 use Rattle.rail_base.specs.declared.station.Station.{Station}
@@ -12,8 +12,8 @@ use Rattle.rail_spec.specs.Track.{edge_ends}
 use Rattle.rail_base.specs.Stations.{section_of, length_of, train_length}
 use Rattle.rail_spec.specs.Plans.{route_at, has_section, commands, is_train, path_routes}
 use Rattle.rail_base.specs.declared.state.TrainState.{TrainState}
-use Rattle.rail_spec.specs.Dispatches.{state_of, rates, binding_length, stretches, authority, of_plan, is_granted, has_released}
-use Rattle.rail_spec.specs.Dispatches.{state_at}
+use Rattle.rail_spec.specs.Dispatches.{state_of, rates, binding_length, stretches, granted_routes, authority, of_plan, is_granted}
+use Rattle.rail_spec.specs.Dispatches.{has_released, state_at}
 use Rattle.rail_spec.specs.Motion.{KeepsLimits, may_stop}
 
 module _ (d : Station) (routes : List Route) (plan : List (List Command)) where
@@ -46,18 +46,15 @@ module _ (d : Station) (routes : List Route) (plan : List (List Command)) where
     pub at_once :
         IsTrue (holds k one section && holds k other section || stands_on k one section && stands_on k other section)
 
-  -- the routes of the first so many commands of a train
-  abbrev pub given : TrainNo → ℕ → List Route
-  given t granted = take granted (path_routes routes plan t)
-
   -- at each tick each train with a granted command has its head where it may stop, by the end of authority of what it is
   -- granted; and from each tick to the next each point that the head covers, and each under a tail that limits bind, has a
   -- limit of at least the new speed
   pub record KeepsToTrack : Type 0 where
     pub in_authority : (k : ℕ) (t : TrainNo) → let s = state_of (state_at d routes (of_plan routes plan) k) t in
-        1 ≤ s.granted → may_stop (authority (given t s.granted)) s.x ≡ true
+        1 ≤ s.granted → may_stop (authority d routes (of_plan routes plan) t s) s.x ≡ true
     pub in_limits : (k : ℕ) (t : TrainNo) →
         let old = state_of (state_at d routes (of_plan routes plan) k) t in
         let new = state_of (state_at d routes (of_plan routes plan) (suc k)) t in
         let from = old.x - binding_length d t in
-        1 ≤ new.granted → KeepsLimits (rates d t).top (stretches d (given t new.granted)) from new.x new.v
+        let given = granted_routes d routes (of_plan routes plan) t new in
+        1 ≤ new.granted → KeepsLimits (rates d t).top (stretches d given) from new.x new.v

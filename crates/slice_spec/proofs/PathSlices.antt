@@ -17,8 +17,9 @@ use Rattle.rail_spec.specs.Plans.{route_at, is_train, is_start, goes_on, starts_
 use Rattle.rail_base.specs.Members.{all_pairs, all_neighbors}
 use Rattle.rail_base.specs.Stations.{first_visit, trains, train_of, horizon}
 use Rattle.rail_spec.specs.Feasible.{is_of, names_only, IsWellFormed}
-use Rattle.rail_spec.specs.Visits.{path_nodes, visits_on, visits_of_train}
+use Rattle.rail_spec.specs.Visits.{visits_of_train}
 use Rattle.rail_spec.specs.Dispatches.{of_plan}
+use Rattle.rail_spec.specs.Places.{path_nodes, visits_on}
 use Rattle.rail_base.proofs.Members.{In, and_left, and_right, and_both, list_all_at}
 use Rattle.rail_base.specs.Admission.{is_visit}
 use Rattle.cone_spec.specs.Cones.{unnamed, named, has_route, is_named, is_free, all_free}

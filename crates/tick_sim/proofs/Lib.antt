@@ -1,2 +1,3 @@
 pub mod Marking
 mod Gathering
+pub mod Gathered

@@ -13,15 +13,16 @@ use Rattle.rail_base.specs.declared.state.TrainState.{TrainState}
 use Rattle.rail_base.specs.Numbering.{or_this, least}
 use Rattle.rail_base.specs.Routes.{route_at, sections}
 use Rattle.rail_base.proofs.Members.{map-map}
-use Rattle.rail_spec.specs.Visits.{is_passed, pass_tick, path_nodes_of_train, visits_of_train, passed}
+use Rattle.rail_spec.specs.Visits.{pass_tick, path_nodes_of_train, visits_of_train, passed}
 use Rattle.rail_spec.specs.Plans.{path}
 use Rattle.rail_spec.specs.Dispatches.{state_of, of_plan, state_at}
 use Rattle.rail_base.specs.declared.history.TrainHistory.{TrainHistory}
 use Rattle.rail_spec.specs.Histories.{grant_tick, granted, released, visit_made, train_history}
 use Rattle.rail_course.specs.declared.journey.Release.{Release}
-use Rattle.rail_course.specs.Releases.{is_released, release_for, releases_of_route, releases_of_train}
+use Rattle.rail_course.specs.Releases.{release_for, releases_of_route, releases_of_train}
 use Rattle.rail_course.specs.Marks.{mark_grants, mark_passes, mark_releases, mark_visits, made_now, made_or}
 use Rattle.rail_base.proofs.Lists.{map-flat_map, flat_map-each}
+use Rattle.rail_base.specs.Events.{has_happened}
 
 module _ (d : Station) (routes : List Route) (plan : List (List Command)) (t : TrainNo) where
   abbrev now : ℕ → TrainState
@@ -60,7 +61,7 @@ module _ (d : Station) (routes : List Route) (plan : List (List Command)) (t : T
   -- ---- releases
 
   abbrev release : ℕ → Release → RouteNo × SectionNo × Option ℕ
-  release k r = (r.route, r.section, least (λ i. is_released (now i) r) k)
+  release k r = (r.route, r.section, least (λ i. has_happened (now i) r.event) k)
 
   pub released_is : (k : ℕ) → map (release k) (releases_of_train d routes (of_plan routes plan) t) ≡ released d routes plan k t
   released_is k =
@@ -82,9 +83,9 @@ module _ (d : Station) (routes : List Route) (plan : List (List Command)) (t : T
 
   visit_marked : (k : ℕ) (place : Option PathNode) → made_or (visit_made d routes plan k t place) place (now (suc k)) (suc k) ≡ visit_made d routes plan (suc k) t place
   visit_marked k None = refl
-  visit_marked k (Some path_node) = start (pass_tick d routes (of_plan routes plan) k t path_node) ∙ go (pass_tick d routes (of_plan routes plan) k t path_node) (is_passed (now (suc k)) path_node)
+  visit_marked k (Some path_node) = start (pass_tick d routes (of_plan routes plan) k t path_node) ∙ go (pass_tick d routes (of_plan routes plan) k t path_node) (has_happened (now (suc k)) path_node.event)
     where
-      start : (o : Option ℕ) → made_or (option_map (λ i. (path_node.node, i)) o) (Some path_node) (now (suc k)) (suc k) ≡ made_with path_node (suc k) o (is_passed (now (suc k)) path_node)
+      start : (o : Option ℕ) → made_or (option_map (λ i. (path_node.node, i)) o) (Some path_node) (now (suc k)) (suc k) ≡ made_with path_node (suc k) o (has_happened (now (suc k)) path_node.event)
       start None = refl
       start (Some i) = refl
 

@@ -10,16 +10,16 @@ use Rattle.tick_sim.specs.Running as running
 module _ (r : Ride) where
   -- its train
   abbrev pub train_of_ride : TrainNo
-  train_of_ride = r.journey.now.train_path.now.train
+  train_of_ride = r.journey.now.train_path.train
 
   -- the first routes of its path, so many of them
   abbrev pub routes_granted : ℕ → List Route
-  routes_granted granted = running.first_routes r.run train_of_ride granted
+  routes_granted granted = running.first_routes r.run.now train_of_ride granted
 
   -- their track
   abbrev pub track_granted : ℕ → List SpanSeen
-  track_granted granted = running.stretches_granted r.run train_of_ride granted
+  track_granted granted = running.stretches_granted r.run.now train_of_ride granted
 
   -- the train after the tick after these states
   abbrev pub state_after : List TrainState → TrainState
-  state_after states = running.moved_next r.run train_of_ride states
+  state_after states = running.moved_next r.run.now train_of_ride states

@@ -15,20 +15,23 @@ use rail_course::{PlannedJourneys, state_of};
 use std::alloc::{AllocError, Global};
 
 /// What has happened to each train before the first tick.
-pub(crate) fn first_histories(run: &PlannedJourneys, alloc: Global) -> Result<History, AllocError>
+pub(crate) fn first_histories<'a>(
+    run: &'a PlannedJourneys<'a>,
+    alloc: Global,
+) -> Result<History, AllocError>
     ensures { IfOk result (λ h. h ≡ history_in run.now 0) }
 {
     let mut histories = Vec::new(alloc);
-    for journey in run.journeys {
-        let ride = Ride { run: *run, journey };
+    for journey in run.journeys.as_slice() {
+        let ride = Ride { run, journey };
         histories.push(ride.first_history(alloc)?)?;
     }
     Ok(List::from_vec(histories))
 }
 
 /// What has happened to each train by a tick, at which all trains are in these states.
-pub(crate) fn next_histories(
-    run: &PlannedJourneys,
+pub(crate) fn next_histories<'a>(
+    run: &'a PlannedJourneys<'a>,
     alloc: Global,
     old: &History,
     states: &[TrainState],
@@ -40,9 +43,10 @@ pub(crate) fn next_histories(
 {
     let mut histories = Vec::new(alloc);
     let olds = old.as_slice();
-    for i in 0..run.journeys.len() {
-        let journey = &run.journeys[i];
-        let ride = Ride { run: *run, journey };
+    let journeys = run.journeys.as_slice();
+    for i in 0..journeys.len() {
+        let journey = &journeys[i];
+        let ride = Ride { run, journey };
         histories.push(ride.next_history(alloc, &olds[i], states, tick)?)?;
     }
     Ok(List::from_vec(histories))
@@ -51,9 +55,9 @@ pub(crate) fn next_histories(
 impl Ride<'_> {
     /// What has happened to the train before the first tick: nothing.
     fn first_history(&self, alloc: Global) -> Result<TrainHistory, AllocError>
-        ensures { IfOk result (λ h. h ≡ train_history_in self.now.run 0 self.now.journey.now.train_path.now.train) }
+        ensures { IfOk result (λ h. h ≡ train_history_in self.now.run.now 0 self.now.journey.now.train_path.train) }
     {
-        let train_path = self.journey.train_path;
+        let train_path = &self.journey.train_path;
         let grants = none_granted(alloc, train_path.path.as_slice())?;
         let passes = none_passed(alloc, train_path.path_nodes.as_slice())?;
         let releases = none_released(alloc, self.journey.releases.as_slice())?;
@@ -74,11 +78,11 @@ impl Ride<'_> {
         states: &[TrainState],
         tick: u64,
     ) -> Result<TrainHistory, AllocError>
-        requires now { IsNowIn self.now.run tick states.now }
-        requires before { old.now ≡ train_history_in self.now.run (tick - 1) self.now.journey.now.train_path.now.train }
-        ensures { IfOk result (λ h. h ≡ train_history_in self.now.run tick self.now.journey.now.train_path.now.train) }
+        requires now { IsNowIn self.now.run.now tick states.now }
+        requires before { old.now ≡ train_history_in self.now.run.now (tick - 1) self.now.journey.now.train_path.train }
+        ensures { IfOk result (λ h. h ≡ train_history_in self.now.run.now tick self.now.journey.now.train_path.train) }
     {
-        let train_path = self.journey.train_path;
+        let train_path = &self.journey.train_path;
         let state = state_of(states, train_path.train);
         let grants = mark_grants(alloc, state.granted, tick, old.grants.as_slice())?;
         let passes = mark_passes(

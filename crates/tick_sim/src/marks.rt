@@ -2,8 +2,6 @@
 
 ghost use Rattle.std.specs.Prelude.{◌≡◌, IfOk, None, map};
 ghost use Rattle.rail_base.specs.Numbering.{or_this};
-ghost use Rattle.rail_spec.specs.Visits.{is_passed};
-ghost use Rattle.rail_course.specs.Releases.{is_released};
 ghost use Rattle.rail_course.specs.Marks.{made_or, mark_grants, mark_passes, mark_releases, mark_visits};
 
 use rail_base::route::RouteNo;
@@ -42,7 +40,7 @@ pub(crate) fn mark_passes(
         .zip(old.iter())
         .map(|(path_node, pass)| (
             path_node.node,
-            first_tick(pass.1, is_passed(state, path_node), tick),
+            first_tick(pass.1, path_node.event.has_happened(state), tick),
         ))
         .collect(alloc)
 }
@@ -64,7 +62,7 @@ pub(crate) fn mark_releases(
             (
                 release.route,
                 release.section,
-                first_tick(entry.2, is_released(state, release), tick),
+                first_tick(entry.2, release.event.has_happened(state), tick),
             )
         })
         .collect(alloc)
@@ -144,20 +142,6 @@ fn first_tick(old: Option<u64>, comes: bool, tick: u64) -> Option<u64>
     }
 }
 
-/// Whether a node has been passed.
-fn is_passed(state: TrainState, path_node: &PathNode) -> bool
-    ensures { result ≡ is_passed state path_node.now }
-{
-    path_node.command <= state.granted && path_node.offset <= state.x
-}
-
-/// Whether a section has been released.
-fn is_released(state: TrainState, release: &Release) -> bool
-    ensures { result ≡ is_released state release.now }
-{
-    release.number < state.granted && release.place <= state.x
-}
-
 /// A visit that is made already, or else made now at its place.
 fn made_or(
     old: Option<(NodeNo, u64)>,
@@ -170,7 +154,7 @@ fn made_or(
     match (old, place) {
         (Some(made), _) => Some(made),
         (None, Some(path_node)) => {
-            if is_passed(state, &path_node) {
+            if path_node.event.has_happened(state) {
                 Some((path_node.node, tick))
             } else {
                 None

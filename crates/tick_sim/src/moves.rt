@@ -5,7 +5,7 @@ ghost use Rattle.std.specs.Option.{ForSome};
 ghost use Rattle.rail_motion.specs.Ranges.{IsPlace};
 ghost use Rattle.rail_motion.specs.Track.{end_of, stretches_of};
 ghost use Rattle.rail_spec.specs.Plans.{path};
-ghost use Rattle.rail_spec.specs.Dispatches.{authority, state_of};
+ghost use Rattle.rail_spec.specs.Dispatches.{state_of, track_end};
 ghost use Rattle.tick_sim.specs.Running.{CanMoveIn, IsReachedIn, moved_in, tick_in};
 ghost use Rattle.tick_sim.specs.Rides.{track_granted, routes_granted, state_after};
 
@@ -16,8 +16,8 @@ use rail_motion::{Ahead, advance};
 use std::alloc::{AllocError, Global};
 
 /// All trains after the tick: all grants are seen against the states before it.
-pub(crate) fn next_states(
-    run: &PlannedJourneys,
+pub(crate) fn next_states<'a>(
+    run: &'a PlannedJourneys<'a>,
     alloc: Global,
     states: &[TrainState],
 ) -> Result<Vec<TrainState>, AllocError>
@@ -25,14 +25,14 @@ pub(crate) fn next_states(
     ensures { IfOk result (λ s. s.items ≡ tick_in run.now states.now) }
 {
     let mut next = Vec::new(alloc);
-    for journey in run.journeys {
-        let ride = Ride { run: *run, journey };
+    for journey in run.journeys.as_slice() {
+        let ride = Ride { run, journey };
         next.push(ride.next_state(states))?;
     }
     Ok(next)
 }
 
-/// Where the authority of a train ends that is granted the routes of a prefix, in mm along its path.
+/// Where the track_end of a train ends that is granted the routes of a prefix, in mm along its path.
 fn authority_end(prefix: PathPrefix) -> Option<i64>
     requires { prefix.length < 2 ^ 47 }
     ensures value { end_of result ≡ (if prefix.exits then None else Some prefix.length) }
@@ -48,11 +48,11 @@ fn authority_end(prefix: PathPrefix) -> Option<i64>
 impl<'a> Ride<'a> {
     /// The track ahead of the train where it is granted so many commands.
     fn ahead(&self, granted: usize) -> Ahead<'a>
-        requires { granted ≤ length (path self.now.run.plan.now.steps self.now.journey.now.train_path.now.train) }
+        requires { granted ≤ length (path self.now.run.now.plan.now.steps self.now.journey.now.train_path.train) }
         ensures spans { stretches_of result.spans.now ≡ track_granted self.now granted }
-        ensures end { end_of result.end ≡ authority (routes_granted self.now granted) }
+        ensures end { end_of result.end ≡ track_end (routes_granted self.now granted) }
     {
-        let train_path = self.journey.train_path;
+        let train_path = &self.journey.train_path;
         let prefixes = train_path.prefixes.as_slice();
         let prefix = prefixes[granted];
         let spans = train_path.spans.as_slice();
@@ -64,8 +64,8 @@ impl<'a> Ride<'a> {
 
     /// The train after the tick, of which so many commands are granted then.
     fn move_train(&self, state: TrainState, granted: usize) -> TrainState
-        requires { CanMoveIn self.now.run self.now.journey.now.train_path.now.train granted state }
-        ensures { result ≡ moved_in self.now.run self.now.journey.now.train_path.now.train state granted }
+        requires { CanMoveIn self.now.run.now self.now.journey.now.train_path.train granted state }
+        ensures { result ≡ moved_in self.now.run.now self.now.journey.now.train_path.train state granted }
     {
         if granted == 0 {
             return state;
@@ -77,7 +77,7 @@ impl<'a> Ride<'a> {
 
     /// The train after the tick before which all trains are in these states.
     fn next_state(&self, states: &[TrainState]) -> TrainState
-        requires { IsReachedIn self.now.run states.now }
+        requires { IsReachedIn self.now.run.now states.now }
         ensures { result ≡ state_after self.now states.now }
     {
         let journey = self.journey;

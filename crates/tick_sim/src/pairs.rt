@@ -3,36 +3,55 @@
 ghost use Rattle.std.specs.Prelude.{◌≡◌, ◌++◌, All, IfOk, OnOk, map};
 ghost use Rattle.rail_base.specs.Routes.{IsRoute};
 ghost use Rattle.rail_base.specs.Stations.{IsTrain};
+ghost use Rattle.rail_spec.specs.Feasible.{IsWellFormed};
 ghost use Rattle.rail_course.specs.Itineraries.{IsCommandIn};
-ghost use Rattle.rail_course.specs.Planned.{ArePlannedJourneys};
+ghost use Rattle.rail_course.specs.Planned.{AllGiveInPlan};
 ghost use Rattle.tick_sim.specs.Pairs.{planned_train_waits, planned_waits, waits_among};
 
+use interlocking::Interlocking;
 use rail_base::list::List;
-use rail_base::plan::Command;
+use rail_base::plan::{Command, Plan};
+use rail_base::state::TrainEvent;
 use rail_base::station::TrainNo;
-use rail_course::{Journey, PlannedTrainPaths, Wait};
+use rail_course::{PlannedJourneys, PlannedTrainPaths};
 use rail_plan::paths::precedes;
 use std::alloc::{AllocError, Global};
 
-/// The journeys of all trains, in file order.
+/// The journeys that a plan gives the trains.
 pub(crate) fn journeys<'a>(
-    planned: &PlannedTrainPaths<'a>,
     alloc: Global,
-) -> Result<Vec<Journey<'a>>, AllocError>
-    ensures { IfOk result (λ js. ArePlannedJourneys planned.now js.items) }
+    interlocking: &'a Interlocking,
+    plan: &'a Plan,
+) -> Result<PlannedJourneys<'a>, AllocError>
+    requires { IsWellFormed interlocking.now.design.station interlocking.now.routes 256 plan.now.steps }
+    ensures interlocking { IfOk result (λ j. j.interlocking.now ≡ interlocking.now) }
+    ensures plan { IfOk result (λ j. j.plan.now ≡ plan.now) }
 {
-    let mut journeys = Vec::new(alloc);
-    for train_path in planned.train_paths.train_paths {
-        let waits = waits_of_train(planned, alloc, train_path.train)?;
-        journeys.push(planned.train_paths.journey(alloc, train_path, waits)?)?;
+    let planned = PlannedTrainPaths::of(alloc, interlocking, plan)?;
+    let waits = waits_of_all(&planned, alloc)?;
+    planned.into_journeys(alloc, waits)
+}
+
+/// For each train, in file order, the waits of each command of its path.
+fn waits_of_all(
+    planned: &PlannedTrainPaths,
+    alloc: Global,
+) -> Result<Vec<List<Vec<TrainEvent>>>, AllocError>
+    ensures { IfOk result (λ waits. AllGiveInPlan planned.now waits.items) }
+{
+    let mut all = Vec::new(alloc);
+    let station = &planned.train_paths.given.interlocking.design.station;
+    for number in 1..station.trains.len() as u32 + 1 {
+        let waits = waits_of_train(planned, alloc, TrainNo(number))?;
+        all.push(List::from_vec(waits))?;
     }
-    Ok(journeys)
+    Ok(all)
 }
 
 /// Adds the waits of a command for those of a step that precede it.
 fn push_waits(
     planned: &PlannedTrainPaths,
-    waits: &mut Vec<Wait>,
+    waits: &mut Vec<TrainEvent>,
     command: Command,
     step: &List<Command>,
 ) -> Result<(), AllocError>
@@ -54,7 +73,7 @@ fn waits_of(
     planned: &PlannedTrainPaths,
     alloc: Global,
     command: Command,
-) -> Result<Vec<Wait>, AllocError>
+) -> Result<Vec<TrainEvent>, AllocError>
     requires { IsRoute planned.now.train_paths.given.interlocking.now.routes command.route }
     ensures { IfOk result (λ w. w.items ≡ planned_waits planned.now command) }
 {
@@ -70,7 +89,7 @@ fn waits_of_train(
     planned: &PlannedTrainPaths,
     alloc: Global,
     train: TrainNo,
-) -> Result<Vec<Vec<Wait>>, AllocError>
+) -> Result<Vec<Vec<TrainEvent>>, AllocError>
     requires { IsTrain planned.now.train_paths.given.interlocking.now.design.station train }
     ensures { IfOk result (λ w. map (λ v. v.items) w.items ≡ planned_train_waits planned.now train) }
 {

@@ -7,7 +7,7 @@ use rail_course::{Journey, PlannedJourneys};
 /// A run, and the journey that it gives one of the trains.
 #[derive(Clone, Copy)]
 pub(crate) struct Ride<'a> {
-    pub run: PlannedJourneys<'a>,
-    pub journey: &'a Journey<'a>,
-    pub ghost led: { IsJourneyIn run journey.now },
+    pub run: &'a PlannedJourneys<'a>,
+    pub journey: &'a Journey,
+    pub ghost led: { IsJourneyIn run.now journey.now },
 }

@@ -16,7 +16,7 @@ use rail_base::history::Verdict;
 use rail_base::list::List;
 use rail_base::plan::Plan;
 use rail_base::state::TrainState;
-use rail_course::{IDLE, Itineraries, PlannedJourneys, PlannedTrainPaths, TrainPaths, paths_of};
+use rail_course::{IDLE, PlannedJourneys};
 use rail_require::{first_violation, is_done};
 use std::alloc::{AllocError, Global};
 
@@ -45,7 +45,7 @@ fn first_states(run: &PlannedJourneys, alloc: Global) -> Result<Vec<TrainState>,
     ensures { IfOk result (λ s. s.items ≡ states_in run.now 0) }
 {
     let mut states = Vec::new(alloc);
-    for _journey in run.journeys {
+    for _journey in run.journeys.as_slice() {
         states.push(IDLE)?;
     }
     Ok(states)
@@ -103,22 +103,6 @@ fn run_plan<'a>(
     requires { IsWellFormed interlocking.now.design.station interlocking.now.routes 256 plan.now.steps }
     ensures { IfOk result (λ v. v ≡ on interlocking.now verdict_of plan.now.steps ticks) }
 {
-    let paths = paths_of(alloc, interlocking, plan)?;
-    let given = Itineraries {
-        interlocking,
-        paths: paths.as_slice(),
-    };
-    let train_paths = given.train_paths(alloc)?;
-    let train_paths = TrainPaths {
-        given,
-        train_paths: train_paths.as_slice(),
-    };
-    let planned = PlannedTrainPaths { train_paths, plan };
-    let journeys = journeys(&planned, alloc)?;
-    let run = PlannedJourneys {
-        interlocking,
-        plan,
-        journeys: journeys.as_slice(),
-    };
+    let run = journeys(alloc, interlocking, plan)?;
     verdict(&run, alloc, ticks)
 }

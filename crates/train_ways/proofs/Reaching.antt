@@ -12,7 +12,7 @@ use Rattle.rail_base.specs.Members.{In, all_neighbors}
 use Rattle.rail_base.specs.Routes.{IsRoute}
 use Rattle.rail_base.specs.Stations.{train_of}
 use Rattle.rail_spec.specs.Plans.{goes_on, route_at}
-use Rattle.rail_spec.specs.Visits.{path_nodes, visits_on}
+use Rattle.rail_spec.specs.Places.{path_nodes, visits_on}
 use Rattle.rail_base.proofs.Members.{and_both, and_left, and_right}
 use Rattle.rail_base.proofs.Lists.{in_append_left}
 use Rattle.graph_steps.specs.Graphs.{Comes, Leads}

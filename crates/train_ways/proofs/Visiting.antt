@@ -8,7 +8,7 @@ use Rattle.rail_base.specs.declared.state.PathNode.{PathNode}
 use Rattle.rail_base.specs.declared.route.Route.{Route}
 use Rattle.rail_base.specs.Numbering.{after_first, first_of_list, from_first}
 use Rattle.rail_spec.specs.Plans.{has_node, length_mm}
-use Rattle.rail_spec.specs.Visits.{path_nodes, path_nodes_after, path_nodes_of, visits_at, visits_on}
+use Rattle.rail_spec.specs.Places.{path_nodes_of, path_nodes_after, path_nodes, visits_at, visits_on}
 use Rattle.rail_base.proofs.Members.{below_or_not, map-map}
 use Rattle.rail_laws.proofs.Standing.{not_le}
 use Rattle.train_ways.specs.Pairs.{made_at, made_behind, made_on}
@@ -90,7 +90,7 @@ node_of p = p.node
 further : (sets : List (List NodeNo)) (rs : List Route) (offset c j : ℕ) → made_on sets (map node_of (path_nodes_after offset c rs)) j ≡ made_after sets rs j
 further sets [] offset c j = refl
 further sets (r ∷ rs) offset c j =
-    let one : map node_of (after_first (path_nodes_of offset c r)) ≡ map (λ n. n.0) (after_first r.nodes) = ap (map node_of) (map-behind (λ n. let p : PathNode = record { node = n.0; offset = offset + nat_abs n.1; command = c } in p) r.nodes) ∙ map-map node_of (λ n. let p : PathNode = record { node = n.0; offset = offset + nat_abs n.1; command = c } in p) (after_first r.nodes) in
+    let one : map node_of (after_first (path_nodes_of offset c r)) ≡ map (λ n. n.0) (after_first r.nodes) = ap (map node_of) (map-behind (λ n. let p : PathNode = record { node = n.0; event = record { granted = c; place = offset + nat_abs n.1 } } in p) r.nodes) ∙ map-map node_of (λ n. let p : PathNode = record { node = n.0; event = record { granted = c; place = offset + nat_abs n.1 } } in p) (after_first r.nodes) in
     ap (λ ns. made_on sets ns j) (map-append node_of (after_first (path_nodes_of offset c r)) (path_nodes_after (offset + length_mm r) (c + 1) rs))
     ∙ on_append sets (map node_of (after_first (path_nodes_of offset c r))) (map node_of (path_nodes_after (offset + length_mm r) (c + 1) rs)) j
     ∙ ap (λ ns. made_on sets (map node_of (path_nodes_after (offset + length_mm r) (c + 1) rs)) (made_on sets ns j)) one
@@ -106,7 +106,7 @@ first_made (set ∷ later) r rs (suc m) some low high = go r.nodes refl some
     go : (ns : List (NodeNo × ℤ)) → r.nodes ≡ ns → 1 ≤ length ns → list_all is_some (take (suc m) (visits_on (set ∷ later) (path_nodes (r ∷ rs)))) ≡ nat_le (suc m) (made_after (set ∷ later) (r ∷ rs) 1)
     go [] e h = absurd (omega arith)
     go (n ∷ ns) e h =
-        let place : NodeNo × ℤ → PathNode = λ n. record { node = n.0; offset = 0 + nat_abs n.1; command = 1 } in
+        let place : NodeNo × ℤ → PathNode = λ n. record { node = n.0; event = record { granted = 1; place = 0 + nat_abs n.1 } } in
         let after = path_nodes_after (length_mm r) 2 rs in
         let sets = set ∷ later in
         let whole : path_nodes (r ∷ rs) ≡ place n ∷ (map place ns ++ after) = ap (λ ns. map place ns ++ after) e in

@@ -13,11 +13,12 @@ use Rattle.rail_base.specs.Members.{all_pairs, all_neighbors}
 use Rattle.rail_base.specs.Stations.{IsTrain, first_visit, trains, train_of, horizon}
 use Rattle.rail_base.specs.Routes.{IsRoute}
 use Rattle.rail_spec.specs.Plans.{begins_in, commands, end_at_one_signal, goes_on, has_node, is_path, is_start, one_each, path, path_routes}
-use Rattle.rail_spec.specs.Visits.{path_nodes, visits_at, visits_on, pass_tick}
+use Rattle.rail_spec.specs.Visits.{pass_tick}
 use Rattle.rail_spec.specs.Track.{routes_of}
 use Rattle.rail_spec.specs.Dispatches.{of_plan}
 use Rattle.rail_spec.specs.Requirements.{is_done, command_numbers, granted_by, visit_numbers, visited_by, keeps_order, meets}
 use Rattle.rail_spec.specs.Feasible.{is_of, IsWellFormed, IsFeasible}
+use Rattle.rail_spec.specs.Places.{path_nodes, visits_at, visits_on}
 use Rattle.rail_base.proofs.Members.{In, and_left, and_right, and_both, list_all_at}
 use Rattle.rail_base.proofs.Lists.{in_map, in_map_back, in_count, in_count_back}
 use Rattle.rail_laws.proofs.Standing.{in_path}

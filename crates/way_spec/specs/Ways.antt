@@ -12,7 +12,7 @@ use Rattle.rail_base.specs.Members.{In, Pairs, Differ, all_neighbors}
 use Rattle.rail_base.specs.Stations.{IsTrain, first_visit, train_of, trains}
 use Rattle.rail_base.specs.Routes.{IsRoute}
 use Rattle.rail_spec.specs.Plans.{begins_in, goes_on, route_at}
-use Rattle.rail_spec.specs.Visits.{path_nodes, visits_on}
+use Rattle.rail_spec.specs.Places.{path_nodes, visits_on}
 
 module _ (d : Station) (routes : List Route) (t : TrainNo) where
   -- routes of the design: the first begins at a boundary of the train's first visit, and each next one goes on where the

@@ -6,7 +6,7 @@ use Rattle.rail_base.specs.declared.route.Route.{Route}
 use Rattle.rail_base.specs.declared.route.RouteNo.{RouteNo}
 use Rattle.rail_base.proofs.Members.{false_unless}
 use Rattle.rail_spec.specs.Plans.{route_at}
-use Rattle.rail_spec.specs.Visits.{may_visit}
+use Rattle.rail_spec.specs.Places.{may_visit}
 use Rattle.cone_spec.specs.Validity.{from_boundary}
 use Rattle.bound_spec.specs.Certificates.{VisitOf, routes_of_place}
 use Rattle.bound_spec.specs.Validity.{can_visit, is_first_route, is_made_at_end}

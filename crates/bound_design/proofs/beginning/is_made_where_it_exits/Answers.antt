@@ -3,7 +3,7 @@ use Rattle.std.specs.List.{list_all}
 use Rattle.rail_base.specs.declared.route.Route.{Route}
 use Rattle.rail_base.specs.Numbering.{after_first}
 use Rattle.rail_spec.specs.Plans.{exits, length_mm, route_at, route_numbers}
-use Rattle.rail_spec.specs.Visits.{may_visit}
+use Rattle.rail_spec.specs.Places.{may_visit}
 use Rattle.bound_spec.specs.Certificates.{first_in}
 use Rattle.bound_design.proofs.Paired.{all_same}
 use Rattle.bound_design.proofs.Earlier.{at_end}

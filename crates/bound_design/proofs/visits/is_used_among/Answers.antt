@@ -2,7 +2,7 @@ use Rattle.std.proofs.Common.{List, Bor, not, ap, ◌∙◌}
 use Rattle.std.specs.List.{list_all, list_any}
 use Rattle.rail_base.specs.declared.route.Route.{Route}
 use Rattle.rail_spec.specs.Requirements.{visit_numbers}
-use Rattle.rail_spec.specs.Visits.{may_visit}
+use Rattle.rail_spec.specs.Places.{may_visit}
 use Rattle.bound_spec.specs.Certificates.{nodes_of_visit}
 use Rattle.bound_design.proofs.Openings.{any_same}
 use Rattle.bound_design.proofs.visits.is_used_among.Goals as goal

@@ -1,8 +1,8 @@
 use Rattle.std.proofs.Common.{List, Bor, not, ap, ◌∙◌}
 use Rattle.std.specs.List.{list_all}
 use Rattle.rail_base.specs.declared.route.Route.{Route}
-use Rattle.rail_spec.specs.Visits.{may_visit}
 use Rattle.bound_design.proofs.visits.is_visited_among.Goals as goal
+use Rattle.rail_spec.specs.Places.{may_visit}
 
 pub returns : goal.returns
 returns c =

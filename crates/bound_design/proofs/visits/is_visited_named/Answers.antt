@@ -2,7 +2,7 @@ use Rattle.std.proofs.Common.{List, [], ◌∷◌, Bor, false, ◌||◌, ◌&&�
 use Rattle.std.specs.List.{list_all}
 use Rattle.rail_base.specs.declared.route.Route.{Route}
 use Rattle.rail_spec.specs.Plans.{is_route, route_at, route_numbers}
-use Rattle.rail_spec.specs.Visits.{may_visit}
+use Rattle.rail_spec.specs.Places.{may_visit}
 use Rattle.cone_spec.specs.Validity.{from_boundary}
 use Rattle.bound_spec.specs.Validity.{ends_at_signal}
 use Rattle.bound_design.proofs.Paired.{all_same}

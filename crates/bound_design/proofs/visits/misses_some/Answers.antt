@@ -2,10 +2,10 @@ use Rattle.std.proofs.Common.{List, ℕ, not, length, sym, ap, ap₂, ◌∙◌,
 use Rattle.std.specs.List.{list_all}
 use Rattle.rail_base.specs.declared.station.NodeNo.{NodeNo}
 use Rattle.rail_base.specs.Stations.{train_of}
-use Rattle.rail_spec.specs.Visits.{may_visit}
 use Rattle.bound_spec.specs.Certificates.{nodes_of_visit}
 use Rattle.bound_design.proofs.Openings.{any_stop, any_next}
 use Rattle.bound_design.proofs.visits.misses_some.Goals as goal
+use Rattle.rail_spec.specs.Places.{may_visit}
 
 pub returns-then-is_missed : goal.returns-then-is_missed
 returns-then-is_missed c =

@@ -1,15 +1,5 @@
-use Rattle.std.proofs.Common.{length, All, refl, ap, sym, subst, ◌∙◌}
-use Rattle.rail_course.specs.Tracks.{IsPathInRange}
+use Rattle.std.proofs.Common.{sym, ◌∙◌}
 use Rattle.cone_run.proofs.fault.fault_of.Goals as goal
 
-pub free_paths-requires : goal.free_paths-requires
-free_paths-requires c = sym c.in_ok-fits.ensures ∙ c.if-not-fits.false
-
-pub invariant_of-given : goal.invariant_of-given
-invariant_of-given c = record {
-  path_a_train = ap length c.as_slice.ensures.value ∙ c.in_ok-paths.ensures.path_a_train;
-  range = subst (All (IsPathInRange c.args.contention.now.interlocking.now.routes)) (sym c.as_slice.ensures.value) c.in_ok-paths.ensures.range;
-}
-
 pub invariant_of-layout : goal.invariant_of-layout
-invariant_of-layout c = record { known = sym c.in_ok-fits.ensures ∙ c.if-not-fits.false; over = refl; given = c.as_slice.ensures.value ∙ c.in_ok-paths.ensures.all }
+invariant_of-layout c = record { known = sym c.in_ok-fits.ensures ∙ c.if-not-fits.false }

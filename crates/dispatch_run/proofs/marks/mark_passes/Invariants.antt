@@ -9,7 +9,7 @@ use Rattle.dispatch_run.proofs.marks.mark_passes.Given as goal
 abbrev pub invariant-loop-left : goal.invariant-loop-left
 invariant-loop-left l = record {
   within : l.left ≤ length l.milestones;
-  marked : IsMarkedFrom (pass_made l.state l.tick) (λ (n : PathNode). n.offset) (λ (p : NodeNo × Option ℕ). p.1) l.path_nodes l.fn.passes no_node no_pass l.milestones l.left l.settled l.passes;
+  marked : IsMarkedFrom (pass_made l.state l.tick) (λ (n : PathNode). n.event.place) (λ (p : NodeNo × Option ℕ). p.1) l.path_nodes l.fn.passes no_node no_pass l.milestones l.left l.settled l.passes;
 }
 
 abbrev pub decreases-loop-left : goal.decreases-loop-left

@@ -10,7 +10,7 @@ use Rattle.dispatch_run.proofs.marks.mark_releases.Given as goal
 abbrev pub invariant-loop-left : goal.invariant-loop-left
 invariant-loop-left l = record {
   within : l.left ≤ length l.milestones;
-  marked : IsMarkedFrom (release_made l.state l.tick) (λ (r : Release). r.place) (λ (e : RouteNo × SectionNo × Option ℕ). e.2) l.releases l.fn.entries no_release no_entry l.milestones l.left l.settled l.entries;
+  marked : IsMarkedFrom (release_made l.state l.tick) (λ (r : Release). r.event.place) (λ (e : RouteNo × SectionNo × Option ℕ). e.2) l.releases l.fn.entries no_release no_entry l.milestones l.left l.settled l.entries;
 }
 
 abbrev pub decreases-loop-left : goal.decreases-loop-left

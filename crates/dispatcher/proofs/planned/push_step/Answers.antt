@@ -2,10 +2,11 @@ use Rattle.std.proofs.Common.{◌++◌, [], take, get_or, sym, subst, ◌∙◌,
 use Rattle.std.proofs.lemmas.List.{append-nil, get_or_default, take_all}
 use Rattle.rail_base.proofs.Contained.{in_at}
 use Rattle.rail_spec.specs.Plans.{path, routes_given}
-use Rattle.dispatcher.specs.Planned.{AreWaitsIn, own_waits}
+use Rattle.dispatcher.specs.Planned.{AreWaitsIn}
 use Rattle.dispatcher.proofs.Gathering.{at_most}
 use Rattle.dispatcher.proofs.Knowing.{known_more, own_waits_are, step_known}
 use Rattle.dispatcher.proofs.planned.push_step.Goals as goal
+use Rattle.rail_course.specs.Ready.{own_waits}
 
 pub loop-command-init : goal.loop-command-init
 loop-command-init c =

@@ -2,8 +2,9 @@ use Rattle.std.proofs.Common.{◌≡◌, ◌++◌, take, length}
 use Rattle.rail_base.specs.declared.station.TrainNo.{TrainNo}
 use Rattle.rail_base.specs.Stations.{IsTrain}
 use Rattle.rail_spec.specs.Plans.{path, routes_given}
-use Rattle.dispatcher.specs.Planned.{AreWaitsIn, own_waits}
+use Rattle.dispatcher.specs.Planned.{AreWaitsIn}
 use Rattle.dispatcher.proofs.planned.push_step.Given as goal
+use Rattle.rail_course.specs.Ready.{own_waits}
 
 abbrev pub invariant-loop-command : goal.invariant-loop-command
 invariant-loop-command l = record {

@@ -5,12 +5,12 @@ use Rattle.std.proofs.lemmas.List.Folds.{list_all-map, list_all_more}
 use Rattle.rail_base.specs.declared.route.Route.{Route}
 use Rattle.rail_base.specs.declared.station.SectionNo.{SectionNo}
 use Rattle.rail_base.specs.Routes.{route_at}
-use Rattle.rail_course.specs.Waits.{is_over}
 use Rattle.dispatcher.specs.Queues.{IsWithin, queue_at}
 use Rattle.dispatcher.specs.Waits.{lets_pass}
 use Rattle.dispatcher.proofs.Entering.{all_within}
 use Rattle.dispatcher.proofs.Gathering.{entry_at}
 use Rattle.dispatcher.proofs.waits.waits_of.Goals as goal
+use Rattle.rail_spec.specs.Dispatches.{has_come}
 
 pub overflow_sub-part : goal.overflow_sub-part
 overflow_sub-part c =
@@ -30,7 +30,7 @@ loop-part-preserved c = λ s.
     let queue = entry_at c.args.queues.now (get_or parts k (record { 0 = 0 }, pos 0)).0.0 _ _ within.0 within.1 refl c.index-queues-part.is in
     let test = λ (p : SectionNo × ℤ). list_all (lets_pass s c.args.command.train) (queue_at c.args.queues.now p.0) in
     c.in_ok-push_queue.ensures s
-    ∙ ap (λ q. list_all (is_over s) c.loop-part.waits.items && list_all (lets_pass s c.args.command.train) q) (c.as_slice-queue.ensures ∙ sym queue)
+    ∙ ap (λ q. list_all (has_come s) c.loop-part.waits.items && list_all (lets_pass s c.args.command.train) q) (c.as_slice-queue.ensures ∙ sym queue)
     ∙ ap (λ b. b && test (get_or parts k (record { 0 = 0 }, pos 0))) (c.loop-part.invariant s)
     ∙ sym (list_all_more test parts k (record { 0 = 0 }, pos 0) less)
 

@@ -1,12 +1,13 @@
-use Rattle.std.proofs.Common.{length, All, ap, sym, subst, ◌∙◌}
-use Rattle.rail_course.specs.Tracks.{IsPathInRange}
+use Rattle.std.proofs.Common.{◌≡◌, IfOk, Vec, subst}
+use Rattle.rail_base.specs.declared.plan.Plan.{Plan}
+use Rattle.rail_base.specs.declared.history.TrainHistory.{TrainHistory}
+use Rattle.interlocking.specs.declared.railway.Interlocking.{Interlocking}
+use Rattle.rail_spec.specs.Histories.{history_at}
 use Rattle.plan_run.proofs.histories.history.Goals as goal
 
-pub invariant_of-given : goal.invariant_of-given
-invariant_of-given c = record {
-  path_a_train = ap length c.as_slice.ensures.value ∙ c.in_ok-paths.ensures.path_a_train;
-  range = subst (All (IsPathInRange c.args.interlocking.now.routes)) (sym c.as_slice.ensures.value) c.in_ok-paths.ensures.range;
-}
-
-pub invariant_of-planned : goal.invariant_of-planned
-invariant_of-planned c = record { formed = c.requires.formed; paths = c.as_slice.ensures.value ∙ c.in_ok-paths.ensures.all }
+pub returns : goal.returns
+returns c =
+    let run = c.in_ok-run.run' in
+    let told = c.in_ok-run.ensures in
+    subst (λ (i : Interlocking). IfOk c.history.result (λ h. h.items ≡ history_at i.design.station i.routes c.args.plan.now.steps c.args.tick)) told.interlocking
+    (subst (λ (p : Plan). IfOk c.history.result (λ h. h.items ≡ history_at run.interlocking.now.design.station run.interlocking.now.routes p.steps c.args.tick)) told.plan c.history.ensures)

@@ -1,22 +1,56 @@
-use Rattle.std.proofs.Common.{All, refl, sym, subst}
+use Rattle.std.proofs.Common.{◌≡◌, ◌<◌, ◌+◌, ◌++◌, [], All, drop, get_or, length, map, refl, sym, ap, subst, ◌∙◌, arith}
+use Rattle.std.proofs.lemmas.List.{append-nil, drop_all}
 use Rattle.std.proofs.lemmas.List.Elements.{All-push}
 use Rattle.rail_spec.specs.Dispatches.{of_plan}
 use Rattle.rail_course.specs.declared.journey.Journey.{Journey}
 use Rattle.rail_course.specs.Journeys.{IsJourney}
 use Rattle.rail_course.proofs.Numbered.{map_step}
+use Rattle.rail_course.proofs.Told.{first_left, rest_left, some_left}
 use Rattle.dispatch_run.specs.declared.traffic.FollowedTrain.{FollowedTrain}
 use Rattle.dispatch_run.specs.FollowedTrains.{IsFollowedTrain}
 use Rattle.plan_run.proofs.Planning.{followed_train_is}
 use Rattle.plan_run.proofs.planned.followed_trains.Goals as goal
 
-pub loop-journey-preserved : goal.loop-journey-preserved
-loop-journey-preserved c =
-    let d = c.args.run.now.interlocking.now.design.station in
-    let routes = c.args.run.now.interlocking.now.routes in
-    let plan = c.args.run.now.plan.now.steps in
+pub remove-journey-requires : goal.remove-journey-requires
+remove-journey-requires c =
+    let js = c.args.planned.journeys.items in
+    let n = c.loop-number._number in
+    let count = c.len-number-end.ensures in
+    let less = c.loop-number-test.true in
+    let some = some_left js n (omega (arith, count, less)) in
+    let left = ap length c.loop-number.invariant.left in
+    let len = c.loop-number.left.ok.0 in
+    omega (arith, left, some, len)
+
+pub loop-number-preserved : goal.loop-number-preserved
+loop-number-preserved c =
+    let p = c.args.planned in
+    let d = p.interlocking.now.design.station in
+    let routes = p.interlocking.now.routes in
+    let plan = p.plan.now.steps in
+    let js = p.journeys.items in
+    let n = c.loop-number._number in
+    let here = c.remove-journey.result in
+    let count = c.len-number-end.ensures in
+    let test = c.loop-number-test.true in
+    let less : n < length js = omega (arith, count, test) in
+    let is = c.remove-journey.ensures.value ∙ ap (λ ts. get_or ts 0 here) c.loop-number.invariant.left ∙ first_left js n here in
+    let led : IsJourney d routes (of_plan routes plan) here = subst (IsJourney d routes (of_plan routes plan)) (sym is) (p.led.each n here less) in
     let items = c.in_ok-push.ensures.items in
-    let is : IsJourney d routes (of_plan routes plan) c.journey-item.result = subst (IsJourney d routes (of_plan routes plan)) (sym c.journey-item.is) (c.args.run.now.led.each c.loop-journey.journey-index c.journey-item.result c.loop-journey-test.true) in
     record {
-      each = subst (All (IsFollowedTrain d routes (of_plan routes plan))) (sym items) (All-push (IsFollowedTrain d routes (of_plan routes plan)) c.loop-journey.followed_trains.items _ c.loop-journey.invariant.each (followed_train_is d routes plan _ is refl));
-      left = map_step (λ (f : FollowedTrain). f.journey.now.train_path.now.train) (λ (j : Journey). j.train_path.now.train) c.loop-journey.followed_trains.items c.push.new.self.items _ c.args.run.now.journeys.now c.loop-journey.journey-index c.journey-item.result _ c.loop-journey-test.true c.journey-item.is items refl c.loop-journey.invariant.left;
+      left = c.remove-journey.ensures.items ∙ ap (drop 1) c.loop-number.invariant.left ∙ rest_left js n (n + 1) refl;
+      each = subst (All (IsFollowedTrain d routes (of_plan routes plan))) (sym items) (All-push (IsFollowedTrain d routes (of_plan routes plan)) c.loop-number.followed_trains.items _ c.loop-number.invariant.each (followed_train_is d routes plan _ led refl));
+      all = map_step (λ (f : FollowedTrain). f.journey.train_path.train) (λ (j : Journey). j.train_path.train) c.loop-number.followed_trains.items c.push.new.self.items _ js n here _ less is items refl c.loop-number.invariant.all;
+    }
+
+pub returns : goal.returns
+returns c =
+    let js = c.args.planned.journeys.items in
+    let trains = map (λ (f : FollowedTrain). f.journey.train_path.train) c.loop-number.followed_trains.items in
+    let count = c.len-number-end.ensures in
+    let test = c.loop-number-test.false in
+    let none : drop c.loop-number._number js ≡ [] = drop_all c.loop-number._number js (omega (arith, count, test)) in
+    record {
+      all = sym (append-nil trains) ∙ ap (λ ts. trains ++ map (λ (j : Journey). j.train_path.train) ts) (sym none) ∙ c.loop-number.invariant.all;
+      each = c.loop-number.invariant.each;
     }

@@ -6,8 +6,9 @@ use Rattle.dispatch_run.specs.declared.traffic.FollowedTrain.{FollowedTrain}
 use Rattle.dispatch_run.specs.FollowedTrains.{IsFollowedTrain}
 use Rattle.plan_run.proofs.planned.followed_trains.Given as goal
 
-abbrev pub invariant-loop-journey : goal.invariant-loop-journey
-invariant-loop-journey l = record {
-  each : All (IsFollowedTrain l.run.interlocking.now.design.station l.run.interlocking.now.routes (of_plan l.run.interlocking.now.routes l.run.plan.now.steps)) l.followed_trains.items;
-  left : map (λ (f : FollowedTrain). f.journey.now.train_path.now.train) l.followed_trains.items ++ map (λ (j : Journey). j.train_path.now.train) (drop l.journey-index l.run.journeys.now) ≡ trains l.run.interlocking.now.design.station;
+abbrev pub invariant-loop-number : goal.invariant-loop-number
+invariant-loop-number l = record {
+  left : l.left.items ≡ drop l._number l.fn.planned.journeys.items;
+  each : All (IsFollowedTrain l.fn.planned.interlocking.now.design.station l.fn.planned.interlocking.now.routes (of_plan l.fn.planned.interlocking.now.routes l.fn.planned.plan.now.steps)) l.followed_trains.items;
+  all : map (λ (f : FollowedTrain). f.journey.train_path.train) l.followed_trains.items ++ map (λ (j : Journey). j.train_path.train) (drop l._number l.fn.planned.journeys.items) ≡ trains l.fn.planned.interlocking.now.design.station;
 }

@@ -5,11 +5,11 @@ use Rattle.std.proofs.lemmas.List.Sums.{sum_by-cons}
 use Rattle.rail_base.specs.declared.route.Route.{Route}
 use Rattle.rail_base.specs.Numbering.{after_first}
 use Rattle.rail_base.specs.Routes.{route_at, length_mm}
-use Rattle.rail_spec.specs.Visits.{path_nodes_after}
 use Rattle.rail_course.specs.Tracks.{routes_at, path_length}
 use Rattle.rail_course.specs.PathNodes.{path_node_at}
 use Rattle.rail_course.proofs.Walking.{fit_after, path_nodes_step}
 use Rattle.rail_course.proofs.path_nodes.push_path_nodes_after.Goals as goal
+use Rattle.rail_spec.specs.Places.{path_nodes_after}
 
 pub push_path_nodes-requires : goal.push_path_nodes-requires
 push_path_nodes-requires c =

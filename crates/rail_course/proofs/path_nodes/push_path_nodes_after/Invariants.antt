@@ -1,7 +1,7 @@
 use Rattle.std.proofs.Common.{◌≡◌, ◌+◌, ◌<◌, ◌^◌, ◌++◌, drop}
-use Rattle.rail_spec.specs.Visits.{path_nodes_after}
 use Rattle.rail_course.specs.Tracks.{routes_at, path_length}
 use Rattle.rail_course.proofs.path_nodes.push_path_nodes_after.Given as goal
+use Rattle.rail_spec.specs.Places.{path_nodes_after}
 
 abbrev pub invariant-loop-number : goal.invariant-loop-number
 invariant-loop-number l = record {

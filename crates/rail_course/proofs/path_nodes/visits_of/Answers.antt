@@ -1,8 +1,8 @@
 use Rattle.std.proofs.Common.{◌≡◌, ◌+◌, ◌-◌, ◌∷◌, ◌++◌, drop, take, length, ap, sym, ◌∙◌}
 use Rattle.std.proofs.lemmas.List.{drop_more}
-use Rattle.rail_spec.specs.Visits.{visits_at}
 use Rattle.rail_course.proofs.Walking.{visits_step}
 use Rattle.rail_course.proofs.path_nodes.visits_of.Goals as goal
+use Rattle.rail_spec.specs.Places.{visits_at}
 
 pub loop-nodes-preserved : goal.loop-nodes-preserved
 loop-nodes-preserved c =

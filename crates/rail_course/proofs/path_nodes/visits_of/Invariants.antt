@@ -1,5 +1,5 @@
 use Rattle.std.proofs.Common.{◌≡◌, ◌++◌, drop}
-use Rattle.rail_spec.specs.Visits.{visits_at, visits_on}
+use Rattle.rail_spec.specs.Places.{visits_at, visits_on}
 use Rattle.rail_course.proofs.path_nodes.visits_of.Given as goal
 
 abbrev pub invariant-loop-nodes : goal.invariant-loop-nodes

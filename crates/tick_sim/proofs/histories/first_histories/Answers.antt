@@ -8,4 +8,4 @@ pub loop-journey-init : goal.loop-journey-init
 loop-journey-init c =
     let history = train_history c.args.run.now.interlocking.now.design.station c.args.run.now.interlocking.now.routes c.args.run.now.plan.now.steps 0 in
     let items = c.new-histories.ensures.items in
-    rw items (sym (map-map history (λ (j : Journey). j.train_path.now.train) c.args.run.now.journeys.now) ∙ ap (map history) c.args.run.now.led.all)
+    rw items (ap (map (λ (j : Journey). history j.train_path.train)) c.as_slice-journey-items.ensures.value ∙ sym (map-map history (λ (j : Journey). j.train_path.train) c.args.run.now.journeys.items) ∙ ap (map history) c.args.run.now.led.all)

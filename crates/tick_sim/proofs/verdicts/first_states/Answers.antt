@@ -10,4 +10,4 @@ pub loop-journey-init : goal.loop-journey-init
 loop-journey-init c =
     let begin : TrainNo → TrainState = λ t. idle in
     let items = c.new-states.ensures.items in
-    rw items (sym (map-map begin (λ (j : Journey). j.train_path.now.train) c.args.run.now.journeys.now) ∙ ap (map begin) c.args.run.now.led.all)
+    rw items (ap (map (λ (j : Journey). begin j.train_path.train)) c.as_slice-journey-items.ensures.value ∙ sym (map-map begin (λ (j : Journey). j.train_path.train) c.args.run.now.journeys.items) ∙ ap (map begin) c.args.run.now.led.all)

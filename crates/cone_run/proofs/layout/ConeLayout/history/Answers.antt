@@ -1,8 +1,9 @@
 use Rattle.std.proofs.Common.{refl, sym, subst, arith}
 use Rattle.rail_base.proofs.Admitting.{admitted}
-use Rattle.interlocking.specs.declared.railway.Interlocking.{Interlocking}
 use Rattle.cone_spec.specs.Cones.{of_cone}
 use Rattle.dispatch_run.specs.FollowedTrains.{AreFollowedTrains}
+use Rattle.cone_run.specs.declared.layout.ConeLayout.{ConeLayout}
+use Rattle.cone_run.specs.Layouts.{AreJourneysOf}
 use Rattle.cone_run.proofs.Riding.{last_within}
 use Rattle.cone_run.proofs.Leading.{may_go}
 use Rattle.cone_run.proofs.layout.ConeLayout.history.Goals as goal
@@ -19,7 +20,10 @@ history_of-requires c =
     let last = c.last_tick.ensures in (
       record {
         goes = may_go d i.routes cone known adm i.table i.at_most_2000;
-        followed_trains = subst (AreFollowedTrains d i.routes (of_cone cone)) (sym c.as_slice-2.ensures.value) (subst (λ (i : Interlocking). AreFollowedTrains i.design.station i.routes (of_cone cone) c.in_ok-followed_trains.followed_trains.items) c.args.self.now.over c.in_ok-followed_trains.ensures);
+        followed_trains = subst (AreFollowedTrains d i.routes (of_cone cone)) (sym c.as_slice.ensures.value) c.in_ok-followed_trains.ensures;
       },
       (refl, omega arith),
     )
+
+pub followed_trains-requires : goal.followed_trains-requires
+followed_trains-requires c = subst (λ (l : ConeLayout). AreJourneysOf l c.in_ok-journeys.journeys.items) c.in_ok-paths.ensures c.in_ok-journeys.ensures

@@ -7,7 +7,7 @@ pub returns : goal.returns
 returns g c =
     let d = c.args.self.now.interlocking.now.design.station in
     let routes = c.args.self.now.interlocking.now.routes in
-    let train_path = c.args.followed_train.now.journey.now.train_path.now in
+    let train_path = c.args.followed_train.now.journey.train_path in
     let t = train_path.train in
     let s = c.args.state in
     c.go_ticks.ensures ∙ ap (λ n. going_with d routes g.dispatch t s.granted n s) c.followed_ticks.ensures.value

@@ -2,7 +2,7 @@ use Rattle.std.proofs.Common.{◌≡◌, ◌≤◌, nat_abs, take, refl, ap, sym
 use Rattle.std.proofs.lemmas.Int.{ints}
 use Rattle.rail_motion.specs.Motor.{rates_of}
 use Rattle.rail_motion.specs.Track.{stretches_of, end_of}
-use Rattle.rail_spec.specs.Dispatches.{authority, stretches}
+use Rattle.rail_spec.specs.Dispatches.{stretches, track_end}
 use Rattle.rail_course.specs.TrainPaths.{IsTrainPath}
 use Rattle.rail_course.specs.Tracks.{routes_at}
 use Rattle.motion_leap.specs.Steps.{Going, going, after}
@@ -12,7 +12,7 @@ use Rattle.dispatch_run.proofs.traffic.Traffic.go_ticks.Goals as goal
 pub ahead-ahead-requires-clause-train_path : goal.ahead-ahead-requires-clause-train_path
 ahead-ahead-requires-clause-train_path g c =
     let train_path = c.requires.0.journey.train_path in
-    subst (λ path. IsTrainPath c.args.self.now.interlocking.now.design.station c.args.self.now.interlocking.now.routes path c.args.followed_train.now.journey.now.train_path.now) (sym train_path.given) train_path
+    subst (λ path. IsTrainPath c.args.self.now.interlocking.now.design.station c.args.self.now.interlocking.now.routes path c.args.followed_train.now.journey.train_path) (sym train_path.given) train_path
 
 pub ahead-ahead-requires-clause-granted : goal.ahead-ahead-requires-clause-granted
 ahead-ahead-requires-clause-granted g c =
@@ -22,13 +22,13 @@ ahead-ahead-requires-clause-granted g c =
 
 pub returns-then-state-eq0 : goal.returns-then-state-eq0
 returns-then-state-eq0 g c =
-    sym (drift_none c.args.self.now.interlocking.now.design.station c.args.self.now.interlocking.now.routes g.dispatch c.args.followed_train.now.journey.now.train_path.now.train c.args.ticks c.args.state c.if-state-eq0.true)
+    sym (drift_none c.args.self.now.interlocking.now.design.station c.args.self.now.interlocking.now.routes g.dispatch c.args.followed_train.now.journey.train_path.train c.args.ticks c.args.state c.if-state-eq0.true)
 
 pub returns : goal.returns
 returns g c =
     let d = c.args.self.now.interlocking.now.design.station in
     let routes = c.args.self.now.interlocking.now.routes in
-    let train_path = c.args.followed_train.now.journey.now.train_path.now in
+    let train_path = c.args.followed_train.now.journey.train_path in
     let t = train_path.train in
     let s = c.args.state in
     let moved = c.advance_until-moved.ensures in
@@ -45,4 +45,4 @@ returns g c =
     drift_is d routes g.dispatch t s.granted c.args.ticks s c.advance_until-moved.result.x c.advance_until-moved.result.v refl some
     (moved.state ∙ ap (λ n. after m ss end n (going s.x s.v)) all
     ∙ under_way_is d routes g.dispatch t s.granted c.args.ticks (going s.x s.v) m ss end c.requires.0.journey.train_path.motor
-    (c.ahead-ahead.ensures.spans ∙ ap (λ ps. stretches d (take s.granted (routes_at routes ps))) given) (c.ahead-ahead.ensures.end ∙ ap (λ ps. authority (take s.granted (routes_at routes ps))) given))
+    (c.ahead-ahead.ensures.spans ∙ ap (λ ps. stretches d (take s.granted (routes_at routes ps))) given) (c.ahead-ahead.ensures.end ∙ ap (λ ps. track_end (take s.granted (routes_at routes ps))) given))

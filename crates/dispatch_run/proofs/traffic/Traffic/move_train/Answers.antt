@@ -1,7 +1,7 @@
 use Rattle.std.proofs.Common.{◌≤◌, take, ap, sym, ◌∙◌, subst, arith, length}
 use Rattle.rail_motion.specs.Motor.{rates_of}
 use Rattle.rail_motion.specs.Track.{stretches_of, end_of}
-use Rattle.rail_spec.specs.Dispatches.{authority, stretches}
+use Rattle.rail_spec.specs.Dispatches.{stretches, track_end}
 use Rattle.rail_course.specs.TrainPaths.{IsTrainPath}
 use Rattle.rail_course.specs.Tracks.{routes_at}
 use Rattle.rail_course.proofs.Prefixing.{moved_is}
@@ -11,7 +11,7 @@ use Rattle.dispatch_run.proofs.traffic.Traffic.move_train.Goals as goal
 pub ahead-ahead-requires-clause-train_path : goal.ahead-ahead-requires-clause-train_path
 ahead-ahead-requires-clause-train_path g c =
     let train_path = c.requires.0.journey.train_path in
-    subst (λ path. IsTrainPath c.args.self.now.interlocking.now.design.station c.args.self.now.interlocking.now.routes path c.args.followed_train.now.journey.now.train_path.now) (sym train_path.given) train_path
+    subst (λ path. IsTrainPath c.args.self.now.interlocking.now.design.station c.args.self.now.interlocking.now.routes path c.args.followed_train.now.journey.train_path) (sym train_path.given) train_path
 
 pub ahead-ahead-requires-clause-granted : goal.ahead-ahead-requires-clause-granted
 ahead-ahead-requires-clause-granted g c =
@@ -23,7 +23,7 @@ pub returns : goal.returns
 returns g c =
     let d = c.args.self.now.interlocking.now.design.station in
     let routes = c.args.self.now.interlocking.now.routes in
-    let train_path = c.args.followed_train.now.journey.now.train_path.now in
+    let train_path = c.args.followed_train.now.journey.train_path in
     let t = train_path.train in
     let s = c.args.state in
     let n = c.args.granted in
@@ -32,5 +32,5 @@ returns g c =
     moved_is d routes g.dispatch t s n c.advance-x.result.0 c.advance-x.result.1 some
     (c.advance-x.ensures.speed
     ∙ speed_is d routes g.dispatch t n s.x s.v (rates_of train_path.motor) (stretches_of c.ahead-ahead.result.spans.now) (end_of c.ahead-ahead.result.end) c.requires.0.journey.train_path.motor
-    (c.ahead-ahead.ensures.spans ∙ ap (λ ps. stretches d (take n (routes_at routes ps))) given) (c.ahead-ahead.ensures.end ∙ ap (λ ps. authority (take n (routes_at routes ps))) given))
+    (c.ahead-ahead.ensures.spans ∙ ap (λ ps. stretches d (take n (routes_at routes ps))) given) (c.ahead-ahead.ensures.end ∙ ap (λ ps. track_end (take n (routes_at routes ps))) given))
     c.advance-x.ensures.place

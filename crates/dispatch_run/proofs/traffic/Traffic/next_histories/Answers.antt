@@ -9,11 +9,11 @@ use Rattle.dispatch_run.proofs.traffic.Traffic.next_histories.Goals as goal
 
 pub loop-i-init : goal.loop-i-init
 loop-i-init g c =
-    none_filled (λ (f : FollowedTrain) (h : TrainHistory). train_history c.args.self.now.interlocking.now.design.station c.args.self.now.interlocking.now.routes g.dispatch c.args.tick f.journey.now.train_path.now.train) c.args.self.now.followed_trains.now c.args.histories.items
+    none_filled (λ (f : FollowedTrain) (h : TrainHistory). train_history c.args.self.now.interlocking.now.design.station c.args.self.now.interlocking.now.routes g.dispatch c.args.tick f.journey.train_path.train) c.args.self.now.followed_trains.now c.args.histories.items
 
 pub index_mut-requires : goal.index_mut-requires
 index_mut-requires g c =
-    let make : FollowedTrain → TrainHistory → TrainHistory = λ f h. train_history c.args.self.now.interlocking.now.design.station c.args.self.now.interlocking.now.routes g.dispatch c.args.tick f.journey.now.train_path.now.train in
+    let make : FollowedTrain → TrainHistory → TrainHistory = λ f h. train_history c.args.self.now.interlocking.now.design.station c.args.self.now.interlocking.now.routes g.dispatch c.args.tick f.journey.train_path.train in
     let long = length-filled make c.loop-i.i c.args.self.now.followed_trains.now c.args.histories.items in
     let now = ap length c.loop-i.invariant in
     let len = c.loop-i.next.ok.0 in
@@ -25,7 +25,7 @@ index_mut-requires g c =
 pub mark_history-requires : goal.mark_history-requires
 mark_history-requires g c =
     let d = c.args.self.now.interlocking.now.design.station in
-    let make : FollowedTrain → TrainHistory → TrainHistory = λ f h. train_history d c.args.self.now.interlocking.now.routes g.dispatch c.args.tick f.journey.now.train_path.now.train in
+    let make : FollowedTrain → TrainHistory → TrainHistory = λ f h. train_history d c.args.self.now.interlocking.now.routes g.dispatch c.args.tick f.journey.train_path.train in
     let js = c.args.self.now.followed_trains.now in
     let i = c.loop-i.i in
     let many = many_journeys d js c.requires.0.followed_trains.all in
@@ -35,7 +35,7 @@ mark_history-requires g c =
       c.requires.0.followed_trains.each i c.index-self-i.result less,
       (
         c.requires.1.at_least_one,
-        comes_off d c.args.self.now.interlocking.now.routes g.dispatch c.args.tick c.args.states.now c.args.looks.now c.args.histories.items i (get_or js i c.index-self-i.result).journey.now.train_path.now.train c.state_of.result c.look_of.result c.index_mut.result.now
+        comes_off d c.args.self.now.interlocking.now.routes g.dispatch c.args.tick c.args.states.now c.args.looks.now c.args.histories.items i (get_or js i c.index-self-i.result).journey.train_path.train c.state_of.result c.look_of.result c.index_mut.result.now
             c.requires.1 number (omega arith) c.state_of.ensures c.look_of.ensures off,
       ),
     )
@@ -43,7 +43,7 @@ mark_history-requires g c =
 pub loop-i-preserved : goal.loop-i-preserved
 loop-i-preserved g c =
     let d = c.args.self.now.interlocking.now.design.station in
-    let make : FollowedTrain → TrainHistory → TrainHistory = λ f h. train_history d c.args.self.now.interlocking.now.routes g.dispatch c.args.tick f.journey.now.train_path.now.train in
+    let make : FollowedTrain → TrainHistory → TrainHistory = λ f h. train_history d c.args.self.now.interlocking.now.routes g.dispatch c.args.tick f.journey.train_path.train in
     let js = c.args.self.now.followed_trains.now in
     let i = c.loop-i.i in
     let many = many_journeys d js c.requires.0.followed_trains.all in
@@ -60,5 +60,5 @@ returns g c =
     let js = c.args.self.now.followed_trains.now in
     let many = many_journeys d js c.requires.0.followed_trains.all in
     let count = c.requires.1.count in
-    c.loop-i.invariant ∙ all_made (λ (f : FollowedTrain). history f.journey.now.train_path.now.train) c.loop-i.i js c.args.histories.items c.loop-i-test.false (omega arith)
-    ∙ sym (map-map history (λ (f : FollowedTrain). f.journey.now.train_path.now.train) js) ∙ ap (map history) c.requires.0.followed_trains.all
+    c.loop-i.invariant ∙ all_made (λ (f : FollowedTrain). history f.journey.train_path.train) c.loop-i.i js c.args.histories.items c.loop-i-test.false (omega arith)
+    ∙ sym (map-map history (λ (f : FollowedTrain). f.journey.train_path.train) js) ∙ ap (map history) c.requires.0.followed_trains.all

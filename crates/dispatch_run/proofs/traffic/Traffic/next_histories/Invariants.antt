@@ -9,7 +9,7 @@ use Rattle.dispatch_run.proofs.traffic.Traffic.next_histories.Given as goal
 abbrev pub invariant-loop-i : goal.invariant-loop-i
 invariant-loop-i g l =
     l.next.items
-    ≡ filled (λ (f : FollowedTrain) (h : TrainHistory). train_history l.self.interlocking.now.design.station l.self.interlocking.now.routes g.dispatch l.tick f.journey.now.train_path.now.train) l.i l.self.followed_trains.now l.fn.histories.items
+    ≡ filled (λ (f : FollowedTrain) (h : TrainHistory). train_history l.self.interlocking.now.design.station l.self.interlocking.now.routes g.dispatch l.tick f.journey.train_path.train) l.i l.self.followed_trains.now l.fn.histories.items
 
 abbrev pub ghost-mark_history : goal.ghost-mark_history
 ghost-mark_history g a = g.dispatch

@@ -1,4 +1,4 @@
-use Rattle.std.proofs.Common.{◌≡◌, ◌+◌, ◌∷◌, drop, map, flat_map, find, is_none, length, ap, sym, subst, ◌∙◌, arith}
+use Rattle.std.proofs.Common.{◌≡◌, List, All, ◌+◌, ◌∷◌, drop, map, flat_map, find, is_none, length, ap, sym, subst, ◌∙◌, arith}
 use Rattle.std.specs.List.{position_from}
 use Rattle.std.proofs.lemmas.List.{drop_more}
 use Rattle.rail_base.proofs.Admitting.{admitted}
@@ -13,7 +13,8 @@ use Rattle.rail_require.proofs.Verdicting.{length-visits_on, path_here, path_lat
 use Rattle.rail_course.proofs.journeys.PlannedJourneys.path_violation.Goals as goal
 
 pub loop-journey-init : goal.loop-journey-init
-loop-journey-init c = ap (λ ts. find (is_certain c.args.self.now.interlocking.now.design.station c.args.self.now.interlocking.now.routes c.args.self.now.plan.now.steps 1) (flat_map (λ t. map (violation.Path t) (visit_numbers c.args.self.now.interlocking.now.design.station t)) ts)) c.args.self.now.led.all
+loop-journey-init c = ap (λ (js : List Journey). find (is_certain c.args.self.now.interlocking.now.design.station c.args.self.now.interlocking.now.routes c.args.self.now.plan.now.steps 1) (flat_map (λ t. map (violation.Path t) (visit_numbers c.args.self.now.interlocking.now.design.station t)) (map (λ (j : Journey). j.train_path.train) js))) c.as_slice-journey-items.ensures.value
+    ∙ ap (λ ts. find (is_certain c.args.self.now.interlocking.now.design.station c.args.self.now.interlocking.now.routes c.args.self.now.plan.now.steps 1) (flat_map (λ t. map (violation.Path t) (visit_numbers c.args.self.now.interlocking.now.design.station t)) ts)) c.args.self.now.led.all
 
 pub first_missed-requires : goal.first_missed-requires
 first_missed-requires c =
@@ -21,9 +22,9 @@ first_missed-requires c =
     let routes = c.args.self.now.interlocking.now.routes in
     let plan = c.args.self.now.plan.now.steps in
     let j = c.journey-item.result in
-    let is : IsJourney d routes (of_plan routes plan) j = subst (IsJourney d routes (of_plan routes plan)) (sym c.journey-item.is) (c.args.self.now.led.each c.loop-journey.journey-index j c.loop-journey-test.true) in
-    let many = ap length (c.as_slice.ensures.value ∙ is.train_path.visits) ∙ length-visits_on d routes plan (train_of d j.train_path.now.train).visits (path_nodes_of_train d routes (of_plan routes plan) j.train_path.now.train) in
-    let few = ((admitted d c.args.self.now.interlocking.now.design.admitted).train j.train_path.now.train is.train_path.train).visits.1 in
+    let is : IsJourney d routes (of_plan routes plan) j = subst (IsJourney d routes (of_plan routes plan)) (sym c.journey-item.is) (subst (All (IsJourney d routes (of_plan routes plan))) (sym c.as_slice-journey-items.ensures.value) c.args.self.now.led.each c.loop-journey.journey-index j c.loop-journey-test.true) in
+    let many = ap length (c.as_slice.ensures.value ∙ is.train_path.visits) ∙ length-visits_on d routes plan (train_of d j.train_path.train).visits (path_nodes_of_train d routes (of_plan routes plan) j.train_path.train) in
+    let few = ((admitted d c.args.self.now.interlocking.now.design.admitted).train j.train_path.train is.train_path.train).visits.1 in
     omega arith
 
 pub returns-in-Some : goal.returns-in-Some
@@ -31,11 +32,11 @@ returns-in-Some c =
     let d = c.args.self.now.interlocking.now.design.station in
     let routes = c.args.self.now.interlocking.now.routes in
     let plan = c.args.self.now.plan.now.steps in
-    let js = c.args.self.now.journeys.now in
+    let js = c.as_slice-journey-items.result.now in
     let j = c.journey-item.result in
-    let t = j.train_path.now.train in
-    let train = λ (x : Journey). x.train_path.now.train in
-    let is : IsJourney d routes (of_plan routes plan) j = subst (IsJourney d routes (of_plan routes plan)) (sym c.journey-item.is) (c.args.self.now.led.each c.loop-journey.journey-index j c.loop-journey-test.true) in
+    let t = j.train_path.train in
+    let train = λ (x : Journey). x.train_path.train in
+    let is : IsJourney d routes (of_plan routes plan) j = subst (IsJourney d routes (of_plan routes plan)) (sym c.journey-item.is) (subst (All (IsJourney d routes (of_plan routes plan))) (sym c.as_slice-journey-items.ensures.value) c.args.self.now.led.each c.loop-journey.journey-index j c.loop-journey-test.true) in
     let rest = drop (c.loop-journey.journey-index + 1) js in
     let cut : drop c.loop-journey.journey-index js ≡ j ∷ rest = drop_more js c.loop-journey.journey-index j c.loop-journey-test.true ∙ ap (λ x. x ∷ rest) (sym c.journey-item.is) in
     let found : c.first_missed.result ≡ position_from is_none 1 (visits_of_train d routes (of_plan routes plan) t) = c.first_missed.ensures ∙ ap (position_from is_none 1) (c.as_slice.ensures.value ∙ is.train_path.visits) in
@@ -47,11 +48,11 @@ loop-journey-preserved c =
     let d = c.args.self.now.interlocking.now.design.station in
     let routes = c.args.self.now.interlocking.now.routes in
     let plan = c.args.self.now.plan.now.steps in
-    let js = c.args.self.now.journeys.now in
+    let js = c.as_slice-journey-items.result.now in
     let j = c.journey-item.result in
-    let t = j.train_path.now.train in
-    let train = λ (x : Journey). x.train_path.now.train in
-    let is : IsJourney d routes (of_plan routes plan) j = subst (IsJourney d routes (of_plan routes plan)) (sym c.journey-item.is) (c.args.self.now.led.each c.loop-journey.journey-index j c.loop-journey-test.true) in
+    let t = j.train_path.train in
+    let train = λ (x : Journey). x.train_path.train in
+    let is : IsJourney d routes (of_plan routes plan) j = subst (IsJourney d routes (of_plan routes plan)) (sym c.journey-item.is) (subst (All (IsJourney d routes (of_plan routes plan))) (sym c.as_slice-journey-items.ensures.value) c.args.self.now.led.each c.loop-journey.journey-index j c.loop-journey-test.true) in
     let rest = drop (c.loop-journey.journey-index + 1) js in
     let cut : drop c.loop-journey.journey-index js ≡ j ∷ rest = drop_more js c.loop-journey.journey-index j c.loop-journey-test.true ∙ ap (λ x. x ∷ rest) (sym c.journey-item.is) in
     let found : c.first_missed.result ≡ position_from is_none 1 (visits_of_train d routes (of_plan routes plan) t) = c.first_missed.ensures ∙ ap (position_from is_none 1) (c.as_slice.ensures.value ∙ is.train_path.visits) in

@@ -8,30 +8,30 @@ use Rattle.tick_sim.proofs.ride.Ride.ahead.Goals as goal
 
 pub bounds-prefixes-granted : goal.bounds-prefixes-granted
 bounds-prefixes-granted c =
-    let d = c.args.self.now.run.interlocking.now.design.station in
-    let routes = c.args.self.now.run.interlocking.now.routes in
-    let plan = c.args.self.now.run.plan.now.steps in
-    let train_path = c.args.self.now.journey.now.train_path.now in
+    let d = c.args.self.now.run.now.interlocking.now.design.station in
+    let routes = c.args.self.now.run.now.interlocking.now.routes in
+    let plan = c.args.self.now.run.now.plan.now.steps in
+    let train_path = c.args.self.now.journey.now.train_path in
     let fits = prefix_fits d routes (path plan train_path.train) train_path c.args.self.now.led.train_path c.args.granted c.requires in
     let items = ap length c.as_slice-prefixes.ensures.value in
     omega arith
 
 pub offset_bounds-prefixes-granted : goal.offset_bounds-prefixes-granted
 offset_bounds-prefixes-granted c =
-    let d = c.args.self.now.run.interlocking.now.design.station in
-    let routes = c.args.self.now.run.interlocking.now.routes in
-    let plan = c.args.self.now.run.plan.now.steps in
-    let train_path = c.args.self.now.journey.now.train_path.now in
+    let d = c.args.self.now.run.now.interlocking.now.design.station in
+    let routes = c.args.self.now.run.now.interlocking.now.routes in
+    let plan = c.args.self.now.run.now.plan.now.steps in
+    let train_path = c.args.self.now.journey.now.train_path in
     let fits = prefix_fits d routes (path plan train_path.train) train_path c.args.self.now.led.train_path c.args.granted c.requires in
     let items = ap length c.as_slice-prefixes.ensures.value in
     omega arith
 
 pub slice_bounds-result-end : goal.slice_bounds-result-end
 slice_bounds-result-end c =
-    let d = c.args.self.now.run.interlocking.now.design.station in
-    let routes = c.args.self.now.run.interlocking.now.routes in
-    let plan = c.args.self.now.run.plan.now.steps in
-    let train_path = c.args.self.now.journey.now.train_path.now in
+    let d = c.args.self.now.run.now.interlocking.now.design.station in
+    let routes = c.args.self.now.run.now.interlocking.now.routes in
+    let plan = c.args.self.now.run.now.plan.now.steps in
+    let train_path = c.args.self.now.journey.now.train_path in
     let prefix : get_or c.as_slice-prefixes.result.now c.args.granted no_prefix ≡ prefix_of (take c.args.granted (path_routes routes plan train_path.train)) = ap (λ fs. get_or fs c.args.granted no_prefix) c.as_slice-prefixes.ensures.value ∙ prefix_is d routes (path plan train_path.train) train_path c.args.self.now.led.train_path c.args.granted c.requires no_prefix in
     let many = ap (λ (f : PathPrefix). f.spans) prefix in
     let fits = spans_fit d routes (path plan train_path.train) train_path c.args.self.now.led.train_path c.args.granted c.requires in
@@ -40,10 +40,10 @@ slice_bounds-result-end c =
 
 pub authority_end-requires : goal.authority_end-requires
 authority_end-requires c =
-    let d = c.args.self.now.run.interlocking.now.design.station in
-    let routes = c.args.self.now.run.interlocking.now.routes in
-    let plan = c.args.self.now.run.plan.now.steps in
-    let train_path = c.args.self.now.journey.now.train_path.now in
+    let d = c.args.self.now.run.now.interlocking.now.design.station in
+    let routes = c.args.self.now.run.now.interlocking.now.routes in
+    let plan = c.args.self.now.run.now.plan.now.steps in
+    let train_path = c.args.self.now.journey.now.train_path in
     let prefix : get_or c.as_slice-prefixes.result.now c.args.granted no_prefix ≡ prefix_of (take c.args.granted (path_routes routes plan train_path.train)) = ap (λ fs. get_or fs c.args.granted no_prefix) c.as_slice-prefixes.ensures.value ∙ prefix_is d routes (path plan train_path.train) train_path c.args.self.now.led.train_path c.args.granted c.requires no_prefix in
     let long = ap (λ (f : PathPrefix). f.length) prefix in
     let short = prefix_short d routes (path plan train_path.train) train_path c.args.self.now.led.train_path c.args.granted c.requires in
@@ -51,10 +51,10 @@ authority_end-requires c =
 
 pub returns : goal.returns
 returns c =
-    let d = c.args.self.now.run.interlocking.now.design.station in
-    let routes = c.args.self.now.run.interlocking.now.routes in
-    let plan = c.args.self.now.run.plan.now.steps in
-    let train_path = c.args.self.now.journey.now.train_path.now in
+    let d = c.args.self.now.run.now.interlocking.now.design.station in
+    let routes = c.args.self.now.run.now.interlocking.now.routes in
+    let plan = c.args.self.now.run.now.plan.now.steps in
+    let train_path = c.args.self.now.journey.now.train_path in
     let prefix : get_or c.as_slice-prefixes.result.now c.args.granted no_prefix ≡ prefix_of (take c.args.granted (path_routes routes plan train_path.train)) =
     ap (λ fs. get_or fs c.args.granted no_prefix) c.as_slice-prefixes.ensures.value ∙ prefix_is d routes (path plan train_path.train) train_path c.args.self.now.led.train_path c.args.granted c.requires no_prefix in
     record {

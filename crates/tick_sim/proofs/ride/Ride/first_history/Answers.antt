@@ -7,7 +7,7 @@ use Rattle.tick_sim.proofs.ride.Ride.first_history.Goals as goal
 pub returns : goal.returns
 returns c =
     let train_path = c.args.self.now.led.train_path in
-    history_begins c.args.self.now.run.interlocking.now.design.station c.args.self.now.run.interlocking.now.routes c.args.self.now.run.plan.now.steps c.args.self.now.journey.now.train_path.now.train c.from_vec.result c.from_vec-2.result c.from_vec-3.result c.from_vec-4.result
+    history_begins c.args.self.now.run.now.interlocking.now.design.station c.args.self.now.run.now.interlocking.now.routes c.args.self.now.run.now.plan.now.steps c.args.self.now.journey.now.train_path.train c.from_vec.result c.from_vec-2.result c.from_vec-3.result c.from_vec-4.result
     (c.from_vec.ensures ∙ c.in_ok-grants.ensures ∙ ap (map (λ r. (r, None))) (c.as_slice.ensures.value ∙ train_path.given))
     (c.from_vec-2.ensures ∙ c.in_ok-passes.ensures ∙ ap (map (λ (path_node : PathNode). (path_node.node, None))) (c.as_slice-2.ensures.value ∙ train_path.nodes))
     (c.from_vec-3.ensures ∙ c.in_ok-releases.ensures ∙ ap (map (λ (r : Release). (r.route, r.section, None))) (c.as_slice-3.ensures.value ∙ c.args.self.now.led.releasing))

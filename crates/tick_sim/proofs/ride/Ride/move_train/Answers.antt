@@ -8,9 +8,9 @@ use Rattle.tick_sim.proofs.ride.Ride.move_train.Goals as goal
 
 pub returns : goal.returns
 returns c =
-    let run = c.args.self.now.run in
+    let run = c.args.self.now.run.now in
     let d = run.interlocking.now.design.station in
-    let train_path = c.args.self.now.journey.now.train_path.now in
+    let train_path = c.args.self.now.journey.now.train_path in
     let s = c.args.state in
     let some : 1 ≤ c.args.granted = (let h = c.if-granted-eq0.false in omega arith) in
     moved_is d run.interlocking.now.routes (of_plan run.interlocking.now.routes run.plan.now.steps) train_path.train s c.args.granted c.advance-x.result.0 c.advance-x.result.1 some

@@ -7,9 +7,9 @@ use Rattle.tick_sim.proofs.ride.Ride.next_history.Goals as goal
 pub returns : goal.returns
 returns c =
     let train_path = c.args.self.now.led.train_path in
-    let t = c.args.self.now.journey.now.train_path.now.train in
+    let t = c.args.self.now.journey.now.train_path.train in
     let s = c.state_of-state.result in
-    history_goes_on c.args.self.now.run.interlocking.now.design.station c.args.self.now.run.interlocking.now.routes c.args.self.now.run.plan.now.steps t c.args.tick c.requires.now.at_least_one s (c.state_of-state.ensures ∙ ap (λ x. state_of x t) c.requires.now.is) c.args.old.now c.requires.before
+    history_goes_on c.args.self.now.run.now.interlocking.now.design.station c.args.self.now.run.now.interlocking.now.routes c.args.self.now.run.now.plan.now.steps t c.args.tick c.requires.now.at_least_one s (c.state_of-state.ensures ∙ ap (λ x. state_of x t) c.requires.now.is) c.args.old.now c.requires.before
     c.from_vec.result c.from_vec-2.result c.from_vec-3.result c.from_vec-4.result
     (c.from_vec.ensures ∙ c.in_ok-grants.ensures ∙ ap (mark_grants s.granted c.args.tick) c.as_slice.ensures)
     (c.from_vec-2.ensures ∙ c.in_ok-passes.ensures ∙ ap₂ (mark_passes s c.args.tick) (c.as_slice-2.ensures.value ∙ train_path.nodes) c.as_slice-3.ensures)

@@ -1,5 +1,0 @@
-use Rattle.rail_spec.specs.Dispatches.{of_plan}
-use Rattle.plan_run.proofs.histories.history_of_plan.Given as goal
-
-abbrev pub ghost-history_of_traffic : goal.ghost-history_of_traffic
-ghost-history_of_traffic a = of_plan a.traffic.now.interlocking.now.routes a.plan.now.steps
