@@ -1,5 +1,5 @@
 -- What is come to in turn is marked in turn, and marks are as the definitions have them.
-use Rattle.std.proofs.Common.{◌≡◌, ℕ, zero, suc, ◌+◌, ◌-◌, ◌≤◌, ◌<◌, ◌⊎◌, inl, inr, Bool, true, false, ◌&&◌, List, map, length, get_or, Option, None, Some, refl, sym, ap, ◌∙◌, subst, arith, is_some, nat_le, nat_lt, leb-true, le-leb, ltb-true, lt-ltb}
+use Rattle.std.proofs.Common.{◌≡◌, ℕ, zero, suc, ◌+◌, ◌-◌, ◌≤◌, ◌<◌, ◌⊎◌, inl, inr, Bool, true, false, ◌&&◌, List, map, length, get_or, Option, None, Some, refl, sym, ap, ◌∙◌, subst, arith, is_some, nat_le, nat_lt, leb-true, le-leb, ltb-true}
 use Rattle.std.specs.List.{enumerate_from}
 use Rattle.std.proofs.lemmas.List.{ext_get_or, get_or-map}
 use Rattle.std.proofs.lemmas.List.FromFn.{get_or-enumerate_from, length-enumerate_from}
@@ -13,7 +13,6 @@ use Rattle.rail_base.specs.declared.state.PathNode.{PathNode}
 use Rattle.rail_base.specs.declared.state.TrainState.{TrainState}
 use Rattle.rail_base.specs.declared.history.TrainHistory.{TrainHistory}
 use Rattle.rail_base.specs.Numbering.{or_this, least}
-use Rattle.rail_base.specs.Members.{In}
 use Rattle.rail_base.proofs.Contained.{in_at}
 use Rattle.rail_base.proofs.Lists.{length-map}
 use Rattle.rail_base.proofs.Members.{and_left, and_right, and_both, below_or_not, false_unless, map-map}

@@ -2,7 +2,7 @@
 use Rattle.std.proofs.Common.{◌≡◌, ℕ, zero, suc, ◌+◌, ◌-◌, ◌<◌, inl, inr, Bool, true, false, cond, ◌||◌, ◌==◌, if◌then◌else◌, List, [], ◌∷◌, ◌++◌, map, filter, flat_map, take, drop, length, get_or, refl, sym, ap, subst, ◌∙◌, arith, le_refl, append_assoc}
 use Rattle.std.specs.List.{list_all}
 use Rattle.std.specs.Global.{Vec}
-use Rattle.std.proofs.lemmas.List.{append-nil, map-append, take_more, drop_more, take-append-drop, take_all, get_or_default}
+use Rattle.std.proofs.lemmas.List.{append-nil, map-append, take_more, drop_more, take-append-drop, take_all}
 use Rattle.std.proofs.lemmas.List.Folds.{list_all-map}
 use Rattle.rail_base.specs.declared.station.Station.{Station}
 use Rattle.rail_base.specs.declared.station.SectionNo.{SectionNo}
@@ -20,13 +20,12 @@ use Rattle.rail_base.specs.declared.state.TrainEvent.{TrainEvent}
 use Rattle.rail_spec.specs.Plans.{is_train, path, routes_given}
 use Rattle.rail_spec.specs.Dispatches.{Dispatch, of_plan, has_released, has_come}
 use Rattle.rail_laws.proofs.Given.{same_train}
-use Rattle.rail_course.specs.declared.train_path.TrainPath.{TrainPath}
 use Rattle.rail_course.specs.declared.itineraries.Itineraries.{Itineraries}
 use Rattle.rail_course.specs.declared.planned.PlannedTrainPaths.{PlannedTrainPaths}
 use Rattle.rail_course.specs.Itineraries.{path_in}
 use Rattle.rail_course.specs.Releases.{release_for}
 use Rattle.rail_course.specs.Ready.{GiveWhatIsReady, own_waits, AllGiveWhatIsReady}
-use Rattle.rail_course.proofs.Numbered.{many_train_paths, path_of_number, train_at}
+use Rattle.rail_course.proofs.Numbered.{path_of_number}
 use Rattle.rail_course.proofs.Granting.{no_path, plan_named}
 use Rattle.rail_course.proofs.Waiting.{list_all-same}
 use Rattle.dispatcher.specs.Queues.{last_on, on_section, queue_at, these_or}

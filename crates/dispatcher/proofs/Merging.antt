@@ -1,5 +1,5 @@
 -- Waits that are gathered: all are over exactly where each is.
-use Rattle.std.proofs.Common.{◌≡◌, ℕ, Bool, true, false, ◌&&◌, ◌||◌, List, [], ◌∷◌, ◌++◌, max, take, get_or, length, ◌+◌, ◌<◌, nat_le, nat_lt, refl, sym, ap, ◌∙◌, arith, leb-true, le-leb}
+use Rattle.std.proofs.Common.{◌≡◌, ℕ, Bool, true, false, ◌&&◌, ◌||◌, List, [], ◌∷◌, ◌++◌, max, take, get_or, length, ◌+◌, ◌<◌, nat_le, refl, sym, ap, ◌∙◌, arith, leb-true, le-leb}
 use Rattle.std.specs.List.{list_all}
 use Rattle.std.proofs.lemmas.List.Folds.{list_all-append, list_all_more}
 use Rattle.rail_base.specs.declared.state.TrainState.{TrainState}

@@ -14,7 +14,7 @@ use Rattle.std.specs.declared.alloc.Global.{Global}
 module _ (d : Station) (routes : List Route) (p : Dispatch) where
   -- how a command releases a section
   abbrev pub release_for : Command → SectionNo → Release
-  release_for c z = record { route = c.route; section = z; event = (release d routes p c z).event }
+  release_for c z = record { route = c.route; section = z; event = release d routes p c z }
 
   -- the releases of one route of a train's path
   abbrev pub releases_of_route : TrainNo → RouteNo → List Release

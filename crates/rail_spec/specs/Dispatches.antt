@@ -1,5 +1,5 @@
 -- Runs: the state after each tick, under whatever says which command waits for which.
-use Rattle.std.specs.Prelude.{ℕ, zero, suc, ◌+◌, Bool, true, ◌&&◌, if◌then◌else◌, List, map, flat_map, length, take}
+use Rattle.std.specs.Prelude.{ℕ, zero, suc, ◌+◌, Bool, true, if◌then◌else◌, List, map, flat_map, length, take}
 use Rattle.std.specs.Prelude.{slice_get, nat_le, nat_lt, Option, None, Some, sum_by}
 use Rattle.std.specs.List.{list_any, list_all}
 use Rattle.rail_base.specs.declared.station.Station.{Station}
@@ -26,10 +26,6 @@ idle = record { granted = 0; x = 0; v = 0 }
 -- the state of a train that has been granted so many commands
 abbrev pub with_granted : ℕ → TrainState → TrainState
 with_granted n s = record { granted = n; x = s.x; v = s.v }
-
--- its state after a move by u
-abbrev pub moved_by : ℕ → TrainState → TrainState
-moved_by u s = record { granted = s.granted; x = s.x + u; v = u }
 
 -- the state of a train, in the list of all trains' states
 abbrev pub state_of : List TrainState → TrainNo → TrainState
@@ -87,15 +83,15 @@ module _ (d : Station) (routes : List Route) (p : Dispatch) where
   is_granted s c = nat_lt (length (routes_before c)) (state_of s c.train).granted
 
   -- how a command releases a section: it is granted, and its train's tail reaches the section's release offset
-  abbrev pub release : Command → SectionNo → TrainEvent
-  release c z =
-      let offset = sum_by length_mm (routes_before c) + release_offset (route_at routes c.route) z in
-      let event : Event = record { granted = suc (length (routes_before c)); place = offset + train_length d c.train } in
-      record { train = c.train; event = event }
+  abbrev pub release : Command → SectionNo → Event
+  release c z = record {
+    granted = suc (length (routes_before c));
+    place = sum_by length_mm (routes_before c) + release_offset (route_at routes c.route) z + train_length d c.train;
+  }
 
   -- it has released the section
   abbrev pub has_released : List TrainState → Command → SectionNo → Bool
-  has_released s c z = has_come s (release c z)
+  has_released s c z = has_happened (state_of s c.train) (release c z)
 
   -- the second command has released every section that the two share
   abbrev pub has_cleared : List TrainState → Command → Command → Bool
@@ -131,7 +127,7 @@ module _ (d : Station) (routes : List Route) (p : Dispatch) where
   -- a train with a granted command moves, and another stays
   abbrev pub moved : TrainNo → TrainState → ℕ → TrainState
   moved t old zero = old
-  moved t old (suc n) = let s = with_granted (suc n) old in moved_by (speed_in t s) s
+  moved t old (suc n) = let u = speed_in t (with_granted (suc n) old) in record { granted = suc n; x = old.x + u; v = u }
 
   -- a tick: all grants are seen against the old state, and then all trains that it concerns move
   abbrev pub tick : ℕ → List TrainState → List TrainState

@@ -30,7 +30,7 @@ module _ (d : Station) (routes : List Route) (plan : List (List Command)) where
   -- the tick, up to k, at which a command has released a section
   abbrev pub release_tick : ℕ → Command → SectionNo → Option ℕ
   release_tick k c z =
-      let run = of_plan routes plan in least (happened_by d routes run c.train (release d routes run c z).event) k
+      let run = of_plan routes plan in least (happened_by d routes run c.train (release d routes run c z)) k
 
   -- the commands of the train's path with the ticks, up to k, at which they are granted
   abbrev pub granted : ℕ → TrainNo → List (RouteNo × Option ℕ)

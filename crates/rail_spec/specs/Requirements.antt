@@ -53,8 +53,8 @@ module _ (d : Station) (routes : List Route) (plan : List (List Command)) where
 
   -- by tick k all commands are granted and all visits are made
   abbrev pub is_done : ℕ → Bool
-  is_done k = list_all (λ t. list_all (granted_by k t) (command_numbers t)) (trains d)
-      && list_all (λ t. list_all (visited_by k t) (visit_numbers d t)) (trains d)
+  is_done k = list_all (λ t. list_all (granted_by k t) (one_to (length (path plan t)))) (trains d)
+      && list_all (λ t. list_all (visited_by k t) (one_to (length (train_of d t).visits))) (trains d)
 
   -- the first visit's tick is before the other's
   abbrev pub keeps_order : ℕ → Order → Bool

@@ -29,7 +29,7 @@ module _ (d : Station) (routes : List Route) (p : Dispatch) where
 
   -- where the train's visits are made, in order
   abbrev pub visits_of_train : TrainNo → List (Option PathNode)
-  visits_of_train t = visits_on (train_of d t).visits (path_nodes_of_train t)
+  visits_of_train t = visits_on (train_of d t).visits (path_nodes (map (route_at routes) (p.path t)))
 
   -- the nodes of the train's path with the ticks, up to k, at which they are passed
   abbrev pub passed : ℕ → TrainNo → List (NodeNo × Option ℕ)

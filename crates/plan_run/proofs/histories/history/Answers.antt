@@ -1,6 +1,5 @@
-use Rattle.std.proofs.Common.{◌≡◌, IfOk, Vec, subst}
+use Rattle.std.proofs.Common.{◌≡◌, IfOk, subst}
 use Rattle.rail_base.specs.declared.plan.Plan.{Plan}
-use Rattle.rail_base.specs.declared.history.TrainHistory.{TrainHistory}
 use Rattle.interlocking.specs.declared.railway.Interlocking.{Interlocking}
 use Rattle.rail_spec.specs.Histories.{history_at}
 use Rattle.plan_run.proofs.histories.history.Goals as goal
