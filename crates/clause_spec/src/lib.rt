@@ -2,3 +2,6 @@
 #![tactic(auto)]
 
 pub mod laws;
+mod question;
+
+pub use question::{BaseKind, Question, VariableCounts};

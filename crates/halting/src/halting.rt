@@ -1,10 +1,8 @@
 //! A recorder over another one, which stops at chosen calls.
 
-ghost use Rattle.std.specs.Prelude.{◌≡◌, ◌+◌, ◌++◌, ◌∷◌, [], true, false, IfOk, IfErr, OnOk, OnErr, IsSome, Err};
+ghost use Rattle.std.specs.Prelude.{◌≡◌, ◌+◌, ◌++◌, true, false, IfOk, IfErr, OnOk, OnErr, Err};
 ghost use Rattle.std.specs.Prelude.{length};
-ghost use Rattle.sat_clause.specs.declared.follow.Follow.TheVariants.{Yes};
-ghost use Rattle.sat_clause.specs.Clauses.{live_clause, without};
-ghost use Rattle.sat_clause.specs.Hints.{follow_of, is_assigned};
+ghost use Rattle.sat_clause.specs.Hints.{is_assigned};
 ghost use Rattle.sat_trail.specs.Attached.{is_among};
 ghost use Rattle.sat_trail.specs.Standing.{IsIncreasing};
 ghost use Rattle.sat_core.specs.Faults.{IsFaultAt};
@@ -20,7 +18,7 @@ use std::alloc::{AllocError, Global};
 /// `forgot`.
 ///
 /// These three are counted together, from 1 on, and a call at which it stops is counted too. At such a call the lines
-/// and the clauses stay as they are.
+/// and the count stay as they are.
 #[derive(Drop)]
 pub struct Halting<R: Recorder> {
     inner: R,
@@ -63,7 +61,7 @@ impl<R: Recorder> Halting<R> {
     }
 
     /// Counts a call, and gives whether it is one at which to stop.
-    fn count(&mut self) -> bool
+    fn stops_now(&mut self) -> bool
         ensures stops { result ≡ is_among self.old.stops.items (next_call self.old.calls) }
         ensures calls { self.new.calls ≡ next_call self.old.calls }
         ensures inner { self.new.inner ≡ self.old.inner }
@@ -79,28 +77,30 @@ impl<R: Recorder> Halting<R> {
 impl<R: Recorder> Recorder for Halting<R> {
     ghost limit = { λ h. R.limit h.inner };
 
-    ghost clauses = { λ h. R.clauses h.inner };
+    ghost count = { λ h. R.count h.inner };
 
     ghost text = { λ h. R.text h.inner };
 
-    ghost learnt = { λ h. R.learnt h.inner };
-
-    fn add(&mut self, line: &[u8], clause: &[Lit]) -> Result<(), RecordFault> {
-        if self.count() {
+    fn add(&mut self, line: &[u8]) -> Result<(), RecordFault> {
+        if self.stops_now() {
             return Err(RecordFault::Memory);
         }
-        self.inner.add(line, clause)
+        self.inner.add(line)
+    }
+
+    fn skip(&mut self, clauses: u64) -> Result<(), AllocError> {
+        self.inner.skip(clauses)
     }
 
     fn derive(&mut self, clause: &[Lit], hints: &[u64]) -> Result<(), RecordFault> {
-        if self.count() {
+        if self.stops_now() {
             return Err(RecordFault::Memory);
         }
         self.inner.derive(clause, hints)
     }
 
     fn forget(&mut self, id: u64) -> Result<(), RecordFault> {
-        if self.count() {
+        if self.stops_now() {
             return Err(RecordFault::Memory);
         }
         self.inner.forget(id)

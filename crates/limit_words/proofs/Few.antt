@@ -6,8 +6,9 @@ use Rattle.clause_spec.proofs.Few.{within_limit}
 use Rattle.rail_base.specs.declared.route.Route.{Route}
 use Rattle.rail_base.specs.declared.station.Station.{Station}
 use Rattle.sat_clause.specs.declared.lit.Lit.{Lit}
-use Rattle.limit_words.specs.Counts.{Fits, first_clauses}
-use Rattle.limit_words.specs.declared.kind.SearchKind.{SearchKind}
+use Rattle.alike_clause_spec.specs.Sorted.{clauses_of}
+use Rattle.limit_words.specs.Counts.{Fits}
+use Rattle.clause_spec.specs.declared.question.BaseKind.{BaseKind}
 use Rattle.limit_words.proofs.Even.{literals-cons}
 
 -- clauses that pass a limit have more literals than that
@@ -32,5 +33,5 @@ few cs h = go (past_limit 16000000 0 cs) refl
     go None e = refl
     go (Some k) e = absurd (let more = past 16000000 0 k cs e in omega arith)
 
-pub few_exactly : (kind : SearchKind) (d : Station) (routes : List Route) (n : ℕ) → HasFewLiterals (first_clauses kind d routes n) ↔ Fits kind d routes n
-few_exactly kind d routes n = (not_past 16000000 (first_clauses kind d routes n), few (first_clauses kind d routes n))
+pub few_exactly : (kind : BaseKind) (d : Station) (routes : List Route) (n : ℕ) → HasFewLiterals (clauses_of kind d routes n) ↔ Fits kind d routes n
+few_exactly kind d routes n = (not_past 16000000 (clauses_of kind d routes n), few (clauses_of kind d routes n))

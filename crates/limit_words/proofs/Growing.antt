@@ -17,8 +17,8 @@ use Rattle.clause_spec.proofs.Few.{literals_told}
 use Rattle.alike_clause_spec.specs.Turns.{begun_always, beginnings, has_begun, in_turn, turn_clauses}
 use Rattle.rail_alike.specs.Tests.{neighbors}
 use Rattle.limit_words.specs.Counts.{literal_count, GrowEvenly}
-use Rattle.limit_words.specs.declared.kind.SearchKind.{SearchKind}
-use Rattle.limit_words.specs.declared.kind.SearchKind.TheVariants.{Plain, Bounds}
+use Rattle.clause_spec.specs.declared.question.BaseKind.{BaseKind}
+use Rattle.clause_spec.specs.declared.question.BaseKind.TheVariants.{Plain, Sorted}
 use Rattle.limit_words.proofs.Even.{Even, even_like, even_still, even_both, even_steps, even_fewer, even_append, even_each, evenly, same_sums, literals-map, literals-append, literals-cons, literals-flat_map}
 
 -- for each step from the second on one literal says that a command is given by the step before
@@ -207,9 +207,9 @@ module _ (d : Station) (routes : List Route) where
       even_like (λ n. literals (flat_map (in_turn d routes n) pairs)) (λ n. literals (turn_clauses d routes n pairs)) (λ n. literals_told (numbered d routes n) (flat_map (in_turn d routes n) pairs))
       (even_each (in_turn d routes) pairs turn_even)
 
-  count_even : (kind : SearchKind) → Even (literal_count kind d routes)
+  count_even : (kind : BaseKind) → Even (literal_count kind d routes)
   count_even Plain = base_even
-  count_even Bounds = even_append (base_clauses d routes) (λ n. turn_clauses d routes n (neighbors d)) base_even (turns_even (neighbors d))
+  count_even Sorted = even_append (base_clauses d routes) (λ n. turn_clauses d routes n (neighbors d)) base_even (turns_even (neighbors d))
 
-pub grow_evenly : (kind : SearchKind) (d : Station) (routes : List Route) → GrowEvenly kind d routes
+pub grow_evenly : (kind : BaseKind) (d : Station) (routes : List Route) → GrowEvenly kind d routes
 grow_evenly kind d routes = evenly (literal_count kind d routes) (count_even d routes kind)

@@ -1,7 +1,6 @@
 pub mod Even
 pub mod Growing
 pub mod Few
-pub mod Stored
 pub mod Making
 pub mod Limiting
 pub mod Adding

@@ -8,7 +8,7 @@ use Rattle.limit_words.specs.Counted.{IsFewCount}
 use Rattle.limit_words.specs.EvenLimits.{IsEvenLimit, IsEvenLimitFor, even_count}
 use Rattle.limit_words.specs.Limits.{IsLimit, IsLimitFor, known_count}
 use Rattle.limit_words.specs.declared.greatest.Limit.{Limit}
-use Rattle.limit_words.specs.declared.kind.SearchKind.{SearchKind}
+use Rattle.clause_spec.specs.declared.question.BaseKind.{BaseKind}
 use Rattle.limit_words.proofs.Growing.{grow_evenly}
 
 -- ---- numbers that grow evenly
@@ -31,7 +31,7 @@ module _ (f : ℕ → ℕ) (even : (m : ℕ) → f (m + 1) ≡ f 1 + m * (f 2 - 
       let more = mul-le-mul_right (f 2 - f 1) fewer in
       omega arith
 
-module _ (kind : SearchKind) (d : Station) (routes : List Route) where
+module _ (kind : BaseKind) (d : Station) (routes : List Route) where
   pub first_is_less : literal_count kind d routes 1 ≤ literal_count kind d routes 2
   first_is_less = second_is_more (literal_count kind d routes) (grow_evenly kind d routes)
 

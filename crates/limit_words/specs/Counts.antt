@@ -1,22 +1,15 @@
 -- How many literals the clauses have with which a search begins.
 use Rattle.std.specs.Prelude.{◌≡◌, ℕ, ◌+◌, ◌-◌, ◌*◌, ◌≤◌, ◌<◌, List}
-use Rattle.alike_clause_spec.specs.Sorted.{sorted_base}
-use Rattle.clause_spec.specs.Clauses.{base_clauses, literals}
-use Rattle.limit_words.specs.declared.kind.SearchKind.{SearchKind}
-use Rattle.limit_words.specs.declared.kind.SearchKind.TheVariants.{Plain, Bounds}
+use Rattle.alike_clause_spec.specs.Sorted.{clauses_of}
+use Rattle.clause_spec.specs.Clauses.{literals}
+use Rattle.clause_spec.specs.declared.question.BaseKind.{BaseKind}
 use Rattle.rail_base.specs.declared.route.Route.{Route}
 use Rattle.rail_base.specs.declared.station.Station.{Station}
-use Rattle.sat_clause.specs.declared.lit.Lit.{Lit}
 
--- the clauses with which a search begins
-abbrev pub first_clauses : SearchKind → Station → List Route → ℕ → List (List Lit)
-first_clauses Plain d routes n = base_clauses d routes n
-first_clauses Bounds d routes n = sorted_base d routes n
-
-module _ (kind : SearchKind) (d : Station) (routes : List Route) where
+module _ (kind : BaseKind) (d : Station) (routes : List Route) where
   -- how many literals those for n steps have
   abbrev pub literal_count : ℕ → ℕ
-  literal_count n = literals (first_clauses kind d routes n)
+  literal_count n = literals (clauses_of kind d routes n)
 
   -- those for n steps have at most 16,000,000
   abbrev pub Fits : ℕ → Type 0

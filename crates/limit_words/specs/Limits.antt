@@ -2,11 +2,11 @@
 use Rattle.std.specs.Prelude.{◌≡◌, ℕ, ◌≤◌, ◌<◌, nat_le, if◌then◌else◌, List, Option, None, Some}
 use Rattle.limit_words.specs.Counts.{Exceeds, Fits, literal_count}
 use Rattle.limit_words.specs.declared.greatest.Limit.{Limit}
-use Rattle.limit_words.specs.declared.kind.SearchKind.{SearchKind}
+use Rattle.clause_spec.specs.declared.question.BaseKind.{BaseKind}
 use Rattle.rail_base.specs.declared.route.Route.{Route}
 use Rattle.rail_base.specs.declared.station.Station.{Station}
 
-module _ (kind : SearchKind) (d : Station) (routes : List Route) where
+module _ (kind : BaseKind) (d : Station) (routes : List Route) where
   -- how many literals the clauses for n steps have, which is known where those for 2 steps are few
   abbrev pub known_count : ℕ → Option ℕ
   known_count n = if nat_le (literal_count kind d routes 2) 16000000 then Some (literal_count kind d routes n) else None

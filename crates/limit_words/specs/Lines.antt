@@ -2,15 +2,15 @@
 use Rattle.std.specs.Prelude.{◌≡◌, ℕ, ◌+◌, List, [], ◌∷◌, ◌++◌, codes, decimal, Option, None, Some}
 use Rattle.limit_words.specs.Limits.{IsLimitFor}
 use Rattle.limit_words.specs.declared.greatest.Limit.{Limit}
-use Rattle.limit_words.specs.declared.kind.SearchKind.{SearchKind}
-use Rattle.limit_words.specs.declared.kind.SearchKind.TheVariants.{Plain, Bounds}
+use Rattle.clause_spec.specs.declared.question.BaseKind.{BaseKind}
+use Rattle.clause_spec.specs.declared.question.BaseKind.TheVariants.{Plain, Sorted}
 use Rattle.rail_base.specs.declared.route.Route.{Route}
 use Rattle.rail_base.specs.declared.station.Station.{Station}
 
 -- how a search is asked for
-abbrev pub kind_text : SearchKind → List ℕ
+abbrev pub kind_text : BaseKind → List ℕ
 kind_text Plain = codes "without --bounds"
-kind_text Bounds = codes "with --bounds"
+kind_text Sorted = codes "with --bounds"
 
 -- how many literals the clauses for n steps have
 abbrev pub known_text : ℕ → ℕ → List ℕ
@@ -30,13 +30,13 @@ excess_text n l = excess_said n l.literals (l.steps + 1)
 
 -- `with --bounds at most 8 steps can be asked for: the clauses for 20 have 41234567 literals of at most 16000000`
 -- or `with --bounds at most 1 steps can be asked for: the clauses for 2 have more than 16000000 literals`
-abbrev pub limit_line : SearchKind → ℕ → Limit → List ℕ
+abbrev pub limit_line : BaseKind → ℕ → Limit → List ℕ
 limit_line kind n l =
     kind_text kind ++ codes " at most " ++ decimal l.steps ++ codes " steps can be asked for: the clauses for "
     ++ excess_text n l
 
 -- that line, where there is a limit
-abbrev pub limits_said : SearchKind → ℕ → Option Limit → List (List ℕ)
+abbrev pub limits_said : BaseKind → ℕ → Option Limit → List (List ℕ)
 limits_said kind n None = []
 limits_said kind n (Some l) = limit_line kind n l ∷ []
 
@@ -46,5 +46,5 @@ module _ (d : Station) (routes : List Route) where
     pub plain : Option Limit
     pub is_plain : IsLimitFor Plain d routes n plain
     pub bounds : Option Limit
-    pub is_bounds : IsLimitFor Bounds d routes n bounds
-    pub are : lines ≡ limits_said Plain n plain ++ limits_said Bounds n bounds
+    pub is_bounds : IsLimitFor Sorted d routes n bounds
+    pub are : lines ≡ limits_said Plain n plain ++ limits_said Sorted n bounds

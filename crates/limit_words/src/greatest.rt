@@ -6,7 +6,7 @@ ghost use Rattle.limit_words.specs.EvenLimits.{IsEvenLimitFor};
 ghost use Rattle.limit_words.specs.Limits.{IsLimitFor};
 
 use crate::counting::count_if_few;
-use crate::kind::SearchKind;
+use clause_spec::BaseKind;
 use interlocking::Interlocking;
 use std::alloc::{AllocError, Global};
 
@@ -43,7 +43,7 @@ fn even_limit(first: u64, each: u64, steps: u32) -> Option<Limit>
 pub(crate) fn limit_for(
     alloc: Global,
     interlocking: &Interlocking,
-    kind: SearchKind,
+    kind: BaseKind,
     steps: u32,
 ) -> Result<Option<Limit>, AllocError>
     requires at_least_one { 1 ≤ steps }

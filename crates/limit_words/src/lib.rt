@@ -4,9 +4,7 @@
 
 mod counting;
 mod greatest;
-mod kind;
 pub mod laws;
 mod lines;
 
-pub use kind::SearchKind;
 pub use lines::limit_lines;

@@ -7,18 +7,18 @@ ghost use Rattle.rail_outside.specs.Lines.{lines_of};
 ghost use Rattle.limit_words.specs.Lines.{AreLimitLines, excess_text, kind_text, known_text, limit_line, limits_said, unknown_text};
 
 use crate::greatest::{Limit, limit_for};
-use crate::kind::SearchKind;
+use clause_spec::BaseKind;
 use interlocking::Interlocking;
 use rail_text::put_number;
 use std::alloc::{AllocError, Global};
 
 /// Appends how a search is asked for.
-fn put_kind(text: &mut Vec<u8>, kind: SearchKind) -> Result<(), AllocError>
+fn put_kind(text: &mut Vec<u8>, kind: BaseKind) -> Result<(), AllocError>
     ensures { OnOk result (AddsText text.old text.new (kind_text kind)) }
 {
     match kind {
-        SearchKind::Plain => text.extend_from_slice(b"without --bounds"),
-        SearchKind::Bounds => text.extend_from_slice(b"with --bounds"),
+        BaseKind::Plain => text.extend_from_slice(b"without --bounds"),
+        BaseKind::Sorted => text.extend_from_slice(b"with --bounds"),
     }
 }
 
@@ -55,7 +55,7 @@ fn put_excess(text: &mut Vec<u8>, steps: u32, limit: Limit) -> Result<(), AllocE
 /// How many steps can be asked for, where so many were.
 fn limit_line(
     alloc: Global,
-    kind: SearchKind,
+    kind: BaseKind,
     steps: u32,
     limit: Limit,
 ) -> Result<Vec<u8>, AllocError>
@@ -73,7 +73,7 @@ fn limit_line(
 /// Appends that line, where fewer can.
 fn push_limit(
     alloc: Global,
-    kind: SearchKind,
+    kind: BaseKind,
     steps: u32,
     limit: Option<Limit>,
     lines: &mut Vec<Vec<u8>>,
@@ -97,10 +97,10 @@ pub fn limit_lines(
     requires at_most_256 { steps ≤ 256 }
     ensures { IfOk result (λ lines. on interlocking.now AreLimitLines steps (lines_of lines.items)) }
 {
-    let plain = limit_for(alloc, interlocking, SearchKind::Plain, steps)?;
-    let bounds = limit_for(alloc, interlocking, SearchKind::Bounds, steps)?;
+    let plain = limit_for(alloc, interlocking, BaseKind::Plain, steps)?;
+    let bounds = limit_for(alloc, interlocking, BaseKind::Sorted, steps)?;
     let mut lines = Vec::new(alloc);
-    push_limit(alloc, SearchKind::Plain, steps, plain, &mut lines)?;
-    push_limit(alloc, SearchKind::Bounds, steps, bounds, &mut lines)?;
+    push_limit(alloc, BaseKind::Plain, steps, plain, &mut lines)?;
+    push_limit(alloc, BaseKind::Sorted, steps, bounds, &mut lines)?;
     Ok(lines)
 }

@@ -13,11 +13,13 @@ use Rattle.sat_clause.specs.declared.follow.Follow.{Follow}
 use Rattle.sat_clause.specs.declared.follow.Follow.TheVariants as follow
 use Rattle.sat_clause.specs.Clauses.{Store, live_clause, without}
 use Rattle.sat_clause.specs.Hints.{follow_of}
+use Rattle.clause_spec.specs.declared.question.BaseKind.{BaseKind}
+use Rattle.clause_spec.specs.declared.question.BaseKind.TheVariants.{Plain, Sorted}
+use Rattle.clause_spec.specs.declared.question.VariableCounts.{VariableCounts}
 use Rattle.proof_log.specs.declared.line.Line.{Line}
 use Rattle.proof_log.specs.declared.line.Line.TheVariants.{Derive, Refute, Forget}
 use Rattle.proof_log.specs.declared.head.Head.{Head}
-use Rattle.proof_log.specs.declared.head.Head.TheVariants.{Plain, Named, Sorted}
-use Rattle.proof_log.specs.Heads.{head_of, head_text}
+use Rattle.proof_log.specs.Heads.{base_of, head_of, head_text}
 use Rattle.proof_log.specs.Lines.{line_in_bytes}
 use Rattle.log_checker.specs.declared.check_result.CheckResult.{CheckResult}
 use Rattle.log_checker.specs.declared.check_result.CheckResult.TheVariants.{Yes, No}
@@ -28,35 +30,34 @@ use Rattle.log_checker.specs.declared.check_result.Reason.TheVariants.{DropRefus
 -- ---- lines
 
 -- bounds stand where trains are sorted alone
-abbrev pub may_stand : Head → Evidence → Bool
-may_stand head (evidence.Cone cone) = true
+abbrev pub may_stand : BaseKind → Evidence → Bool
+may_stand base (evidence.Cone cone) = true
 may_stand Plain (evidence.Bound bound) = false
-may_stand (Named version steps) (evidence.Bound bound) = false
-may_stand (Sorted version steps) (evidence.Bound bound) = true
+may_stand Sorted (evidence.Bound bound) = true
 
--- the line, where no variable of a clause that it derives is past the last one, and it may stand in a file with this head
-abbrev pub if_within : Head → ℕ → Option Line → Option Line
-if_within head vars None = None
-if_within head vars (Some (Derive clause hints)) =
+-- the line, where no variable of a clause that it derives is past the last one, and it may stand in a file on this base
+abbrev pub if_within : BaseKind → ℕ → Option Line → Option Line
+if_within base vars None = None
+if_within base vars (Some (Derive clause hints)) =
     if list_all (λ l. nat_le l.var vars) clause then Some (Derive clause hints) else None
-if_within head vars (Some (Refute e)) = if may_stand head e then Some (Refute e) else None
-if_within head vars (Some (Forget ids)) = Some (Forget ids)
+if_within base vars (Some (Refute e)) = if may_stand base e then Some (Refute e) else None
+if_within base vars (Some (Forget ids)) = Some (Forget ids)
 
 -- the line that a piece of a file spells: an LF ends it, no variable is past the last one, and it may stand there
-abbrev pub parsed : Head → ℕ → Piece → Option Line
-parsed head vars piece = if piece.ended then if_within head vars (line_in_bytes piece.bytes) else None
+abbrev pub parsed : BaseKind → ℕ → Piece → Option Line
+parsed base vars piece = if piece.ended then if_within base vars (line_in_bytes piece.bytes) else None
 
 -- ---- what the last line shows
 
--- the k for which a literal is not e(k): e(k) is the variable vars - steps + k, for k from 1 to steps
+-- the k for which a literal is not e(k): e(k) is the k-th variable after those before the selectors, for k from 1 to steps
 abbrev pub step_denied : ℕ → Lit → ℕ → Option ℕ
 step_denied steps l k = if l.negated && nat_le 1 k && nat_le k steps then Some k else None
 
 -- for how many steps a clause shows that there is no plan: for all of them where it is empty, for k where it is not e(k)
-abbrev pub steps_denied : ℕ → ℕ → List Lit → Option ℕ
-steps_denied vars steps [] = Some steps
-steps_denied vars steps (l ∷ []) = step_denied steps l (l.var - (vars - steps))
-steps_denied vars steps (l ∷ m ∷ more) = None
+abbrev pub steps_denied : VariableCounts → List Lit → Option ℕ
+steps_denied variables [] = Some variables.steps
+steps_denied variables (l ∷ []) = step_denied variables.steps l (l.var - variables.before_selectors)
+steps_denied variables (l ∷ m ∷ more) = None
 
 -- ---- the clauses so far
 
@@ -137,13 +138,13 @@ head_in (first ∷ more) = if first.ended then head_of first.bytes else None
 abbrev pub is_headed : Head → Piece → Bool
 is_headed head first = first.ended && bytes_eq first.bytes (head_text head)
 
--- ---- all lines after this head, where cones and bounds show such clauses, over so many variables and for plans of so many steps
+-- ---- all lines after this head, where cones and bounds show such clauses, over these variables
 
-module _ (head : Head) (refute : Evidence → Result (List Lit) EvidenceFault) (vars steps : ℕ) where
+module _ (head : Head) (refute : Evidence → Result (List Lit) EvidenceFault) (variables : VariableCounts) where
   -- with a line taken, or why it is bad
   abbrev pub taken : SoFar → Option Line → Result SoFar Reason
   taken s None = Err Text
-  taken s (Some (Derive clause hints)) = derived_by s clause hints (steps_denied vars steps clause)
+  taken s (Some (Derive clause hints)) = derived_by s clause hints (steps_denied variables clause)
   taken s (Some (Refute e)) = by_evidence s (refute e)
   taken s (Some (Forget ids)) = forgotten_by s ids
 
@@ -151,7 +152,7 @@ module _ (head : Head) (refute : Evidence → Result (List Lit) EvidenceFault) (
   abbrev pub result_from : ℕ → SoFar → List Piece → CheckResult
   result_from here s [] = result_at_end here s.shown
   result_from here s (piece ∷ more) =
-      after_line here (taken s (parsed head vars piece)) (λ t. result_from (here + 1) t more)
+      after_line here (taken s (parsed (base_of head) variables.count piece)) (λ t. result_from (here + 1) t more)
 
   -- what the lines of a file show, the head being the first of them
   abbrev pub result_of : Store → List Piece → CheckResult

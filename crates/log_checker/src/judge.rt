@@ -11,6 +11,7 @@ use crate::check_result::{CheckResult, Reason};
 use crate::database::{ClauseDatabase, Fault};
 use crate::line::Judge;
 use crate::refuter::Refuter;
+use clause_spec::VariableCounts;
 use proof_log::{Head, read_head, write_head};
 use rail_text::Cursor;
 use rup_check::Marks;
@@ -31,29 +32,25 @@ pub fn head_in(bytes: &[u8]) -> Option<Head>
 
 /// Judges a proof file that is to have this head, over the clauses of a base, and those that its cones and bounds show.
 ///
-/// The base has the variables 1 to `vars`; the last `steps` of them say that all is given by step 1, 2, and
-/// so on. The answer is the number of steps for which the file shows that there is no plan, or the first
-/// bad line. The time is linear in the file, in the literals of the clauses that its hints name, and in what
-/// its cones and bounds take.
+/// The answer is the number of steps for which the file shows that there is no plan, or the first bad line. The time is
+/// linear in the file, in the literals of the clauses that its hints name, and in what its cones and bounds take.
 pub fn judge_log<R: Refuter>(
     alloc: Global,
     refuter: &R,
     head: Head,
     base: Arena,
-    vars: u32,
-    steps: u32,
+    variables: VariableCounts,
     bytes: &[u8],
 ) -> Result<CheckResult, AllocError>
     ensures value { IfOk result (λ shown. shown
-        ≡ log_verdict head (R.refute refuter.now) vars steps base bytes.now) }
-    ensures sound { (k : ℕ) → result ≡ Ok (Yes k) → Denies (R.refute refuter.now) vars steps base k }
+        ≡ log_verdict head (R.refute refuter.now) variables base bytes.now) }
+    ensures sound { (k : ℕ) → result ≡ Ok (Yes k) → Denies (R.refute refuter.now) variables base k }
 {
     let judge = Judge {
         alloc,
         refuter,
         head,
-        vars,
-        steps,
+        variables,
     };
     result_of(&judge, base, bytes)
 }
@@ -63,7 +60,7 @@ impl<R: Refuter> Judge<'_, R> {
     fn judge_lines(&self, base: Arena, lines: Cursor<'_>) -> Result<CheckResult, AllocError>
         requires below_2_64 { length (lines_left lines) + 2 < 2 ^ 64 }
         ensures { IfOk result (λ shown. shown
-            ≡ result_from self.now.head (R.refute self.now.refuter.now) self.now.vars self.now.steps 2 (at_first base)
+            ≡ result_from self.now.head (R.refute self.now.refuter.now) self.now.variables 2 (at_first base)
             (lines_left lines.entry)) }
     {
         let mut marks = Marks::new(self.alloc);
@@ -94,7 +91,7 @@ fn result_of<R: Refuter>(
     bytes: &[u8],
 ) -> Result<CheckResult, AllocError>
     ensures { IfOk result (λ shown. shown
-        ≡ log_verdict judge.now.head (R.refute judge.now.refuter.now) judge.now.vars judge.now.steps base bytes.now) }
+        ≡ log_verdict judge.now.head (R.refute judge.now.refuter.now) judge.now.variables base bytes.now) }
 {
     let head = write_head(judge.alloc, judge.head)?;
     let mut lines = Cursor::new(bytes);

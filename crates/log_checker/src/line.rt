@@ -3,6 +3,7 @@
 ghost use Rattle.std.specs.Prelude.{◌≡◌, nat_le, IfOk, OnOk, Ok, Err, Some, None, if◌then◌else◌};
 ghost use Rattle.std.specs.List.{list_all};
 ghost use Rattle.rail_text.specs.Lines.{line_of_piece};
+ghost use Rattle.proof_log.specs.Heads.{base_of};
 ghost use Rattle.log_checker.specs.Verdict.{if_within, may_stand, parsed, steps_denied, taken};
 ghost use Rattle.log_checker.specs.declared.check_result.Reason.{Reason};
 ghost use Rattle.log_checker.specs.declared.check_result.Reason.TheVariants.{Text};
@@ -13,6 +14,7 @@ use crate::check_result::Reason;
 use crate::database::{ClauseDatabase, Fault};
 use crate::refuter::Refuter;
 use bound_spec::Evidence;
+use clause_spec::{BaseKind, VariableCounts};
 use proof_log::{Head, Line, LineFault, read_line};
 use rail_text::Piece;
 use rup_check::Marks;
@@ -28,17 +30,17 @@ impl<R: Refuter> Judge<'_, R> {
         line: &Line,
     ) -> Result<(), Fault>
         ensures ok { OnOk result
-            (taken self.now.head (R.refute self.now.refuter.now) self.now.vars self.now.steps database.old
+            (taken self.now.head (R.refute self.now.refuter.now) self.now.variables database.old
             (Some line.now)
             ≡ Ok database.new) }
         ensures bad { (reason : Reason) → result ≡ Err (Bad reason)
-            → taken self.now.head (R.refute self.now.refuter.now) self.now.vars self.now.steps database.old
+            → taken self.now.head (R.refute self.now.refuter.now) self.now.variables database.old
             (Some line.now)
             ≡ Err reason }
     {
         match line {
             Line::Derive { clause, hints } => {
-                let shown = deny_steps(self.vars, self.steps, clause.as_slice());
+                let shown = deny_steps(self.variables, clause.as_slice());
                 database.derive(marks, clause.as_slice(), hints.as_slice(), shown)
             }
             Line::Refute { evidence } => database.refute(self.alloc, self.refuter, evidence),
@@ -54,13 +56,13 @@ impl<R: Refuter> Judge<'_, R> {
         piece: &Piece<'_>,
     ) -> Result<(), Fault>
         ensures ok { OnOk result
-            (taken self.now.head (R.refute self.now.refuter.now) self.now.vars self.now.steps database.old
-            (parsed self.now.head self.now.vars (line_of_piece piece.now)) ≡ Ok database.new) }
+            (taken self.now.head (R.refute self.now.refuter.now) self.now.variables database.old
+            (parsed (base_of self.now.head) self.now.variables.count (line_of_piece piece.now)) ≡ Ok database.new) }
         ensures bad { (reason : Reason) → result ≡ Err (Bad reason)
-            → taken self.now.head (R.refute self.now.refuter.now) self.now.vars self.now.steps database.old
-            (parsed self.now.head self.now.vars (line_of_piece piece.now)) ≡ Err reason }
+            → taken self.now.head (R.refute self.now.refuter.now) self.now.variables database.old
+            (parsed (base_of self.now.head) self.now.variables.count (line_of_piece piece.now)) ≡ Err reason }
     {
-        match line_in(self.alloc, self.head, self.vars, piece) {
+        match line_in(self.alloc, self.head.base(), self.variables.count, piece) {
             Ok(line) => self.take(marks, database, &line),
             Err(fault) => Err(fault),
         }
@@ -74,34 +76,32 @@ fn are_within(clause: &[Lit], vars: u32) -> bool
     clause.iter().all(|lit| lit.var <= vars)
 }
 
-/// Whether a cone or a bound may stand in a file with this head.
-fn may_stand(head: Head, evidence: &Evidence) -> bool
-    ensures { result ≡ may_stand head evidence.now }
+/// Whether a cone or a bound may stand in a file on this base.
+fn may_stand(base: BaseKind, evidence: &Evidence) -> bool
+    ensures { result ≡ may_stand base evidence.now }
 {
-    match (head, evidence) {
+    match (base, evidence) {
         (_, Evidence::Cone(_)) => true,
-        (Head::Plain, Evidence::Bound(_)) => false,
-        (Head::Named { .. }, Evidence::Bound(_)) => false,
-        (Head::Sorted { .. }, Evidence::Bound(_)) => true,
+        (BaseKind::Plain, Evidence::Bound(_)) => false,
+        (BaseKind::Sorted, Evidence::Bound(_)) => true,
     }
 }
 
-/// Whether no variable of a clause that the line derives is past the last one, and it may stand in a file with this
-/// head.
-fn is_within(head: Head, line: &Line, vars: u32) -> bool
-    ensures { (if result then Some line.now else None) ≡ if_within head vars (Some line.now) }
+/// Whether no variable of a clause that the line derives is past the last one, and it may stand in a file on this base.
+fn is_within(base: BaseKind, line: &Line, vars: u32) -> bool
+    ensures { (if result then Some line.now else None) ≡ if_within base vars (Some line.now) }
 {
     match line {
         Line::Derive { clause, .. } => are_within(clause.as_slice(), vars),
-        Line::Refute { evidence } => may_stand(head, evidence),
+        Line::Refute { evidence } => may_stand(base, evidence),
         Line::Forget { .. } => true,
     }
 }
 
 /// The line that is parsed from a piece of a file.
-fn line_in(alloc: Global, head: Head, vars: u32, piece: &Piece<'_>) -> Result<Line, Fault>
-    ensures ok { IfOk result (λ line. parsed head vars (line_of_piece piece.now) ≡ Some line) }
-    ensures bad { IfBad result (λ reason. (reason ≡ Text) × (parsed head vars (line_of_piece piece.now) ≡ None)) }
+fn line_in(alloc: Global, base: BaseKind, vars: u32, piece: &Piece<'_>) -> Result<Line, Fault>
+    ensures ok { IfOk result (λ line. parsed base vars (line_of_piece piece.now) ≡ Some line) }
+    ensures bad { IfBad result (λ reason. (reason ≡ Text) × (parsed base vars (line_of_piece piece.now) ≡ None)) }
 {
     if !piece.ended {
         return Err(Fault::Bad(Reason::Text));
@@ -111,31 +111,30 @@ fn line_in(alloc: Global, head: Head, vars: u32, piece: &Piece<'_>) -> Result<Li
         Err(LineFault::Text) => return Err(Fault::Bad(Reason::Text)),
         Err(LineFault::Memory) => return Err(Fault::Memory),
     };
-    if !is_within(head, &line, vars) {
+    if !is_within(base, &line, vars) {
         return Err(Fault::Bad(Reason::Text));
     }
     Ok(line)
 }
 
-/// Lines after a head, judged over a base of so many variables, for plans of so many steps.
+/// Lines after a head, judged over a base of these variables.
 #[derive(Drop)]
 pub struct Judge<'a, R: Refuter> {
     pub alloc: Global,
     pub refuter: &'a R,
     pub head: Head,
-    pub vars: u32,
-    pub steps: u32,
+    pub variables: VariableCounts,
 }
 
 /// For how many steps a clause shows that there is no plan.
-fn deny_steps(vars: u32, steps: u32, clause: &[Lit]) -> Option<u32>
-    ensures { result ≡ steps_denied vars steps clause.now }
+fn deny_steps(variables: VariableCounts, clause: &[Lit]) -> Option<u32>
+    ensures { result ≡ steps_denied variables clause.now }
 {
     match clause {
-        [] => Some(steps),
+        [] => Some(variables.steps),
         [only] => {
-            let step = only.var.saturating_sub(vars.saturating_sub(steps));
-            if only.negated && 1 <= step && step <= steps {
+            let step = only.var.saturating_sub(variables.before_selectors);
+            if only.negated && 1 <= step && step <= variables.steps {
                 Some(step)
             } else {
                 None

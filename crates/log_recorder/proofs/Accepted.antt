@@ -7,6 +7,7 @@ use Rattle.sat_trail.proofs.Rows.{among-append}
 use Rattle.sat_core.proofs.Forgets.{without-length}
 use Rattle.rail_text.specs.Pieces.{pieces, pieces_from}
 use Rattle.rail_text.specs.Pieces.{Line as Piece}
+use Rattle.clause_spec.specs.declared.question.VariableCounts.{VariableCounts}
 use Rattle.sat_clause.specs.declared.lit.Lit.{Lit}
 use Rattle.bound_spec.specs.declared.Evidence.{Evidence}
 use Rattle.bound_spec.specs.declared.EvidenceFault.{EvidenceFault}
@@ -17,7 +18,7 @@ use Rattle.sat_core.specs.Lines.{Derived, derived_text}
 use Rattle.sat_core.specs.Texts.{ended}
 use Rattle.proof_log.specs.declared.line.Line.{Line}
 use Rattle.proof_log.specs.declared.line.Line.TheVariants.{Derive, Refute, Forget}
-use Rattle.proof_log.specs.Heads.{head_text, keeps_head}
+use Rattle.proof_log.specs.Heads.{base_of, head_text, keeps_head}
 use Rattle.proof_log.proofs.Heads.{read-back}
 use Rattle.rail_text.specs.Laws.{NumbersReadBack}
 use Rattle.proof_log.specs.Lines.{line_in_bytes}
@@ -114,42 +115,42 @@ flagged-first base = record { same_length = length-flags base; within = λ id h.
 forgets-one : (flags : List Bool) (store : Store) (id : ℕ) → is_some (live_clause store id) ≡ true → is_derived flags id ≡ true → forgotten flags store (id ∷ []) ≡ Ok (without store id)
 forgets-one flags store id a b = rw (a, b) refl
 
-module _ (head : Head) (refute : Evidence → Result (List Lit) EvidenceFault) (vars n : ℕ) (back : LinesReadBack) where
+module _ (head : Head) (refute : Evidence → Result (List Lit) EvidenceFault) (variables : VariableCounts) (back : LinesReadBack) where
   -- the clauses with that of a derived line
   abbrev after : SoFar → Derived → SoFar
-  after s d = with_clause s d.0 true (steps_denied vars n d.0)
+  after s d = with_clause s d.0 true (steps_denied variables d.0)
 
   -- the clauses with that of a cone
   abbrev after_cone : SoFar → List Lit → SoFar
   after_cone s clause = with_clause s clause false None
 
   -- a good line is taken
-  good-takes : (place : ℕ) (s : SoFar) (d : Derived) → IsGoodLine vars s.store d → taken head refute vars n s (parsed head vars (piece_of place (Derive d.0 d.1))) ≡ Ok (after s d)
+  good-takes : (place : ℕ) (s : SoFar) (d : Derived) → IsGoodLine variables.count s.store d → taken head refute variables s (parsed (base_of head) variables.count (piece_of place (Derive d.0 d.1))) ≡ Ok (after s d)
   good-takes place s d g =
       let read : line_in_bytes (text_of_line (Derive d.0 d.1)) ≡ Some (Derive d.0 d.1) = back (Derive d.0 d.1) g.written in
-      ap (λ o. taken head refute vars n s (if_within head vars o)) read ∙ rw (g.within, g.follows) refl
+      ap (λ o. taken head refute variables s (if_within (base_of head) variables.count o)) read ∙ rw (g.within, g.follows) refl
 
   -- a good cone is taken
-  cone-takes : (place : ℕ) (s : SoFar) (cone : Evidence) (clause : List Lit) → IsGoodEvidence head refute cone clause → taken head refute vars n s (parsed head vars (piece_of place (Refute cone))) ≡ Ok (after_cone s clause)
+  cone-takes : (place : ℕ) (s : SoFar) (cone : Evidence) (clause : List Lit) → IsGoodEvidence head refute cone clause → taken head refute variables s (parsed (base_of head) variables.count (piece_of place (Refute cone))) ≡ Ok (after_cone s clause)
   cone-takes place s cone clause g =
       let read : line_in_bytes (text_of_line (Refute cone)) ≡ Some (Refute cone) = back (Refute cone) g.written in
-      ap (λ o. taken head refute vars n s (if_within head vars o)) read ∙ ap (λ b. taken head refute vars n s (if b then Some (Refute cone) else None)) g.stands ∙ ap (by_evidence s) g.shows
+      ap (λ o. taken head refute variables s (if_within (base_of head) variables.count o)) read ∙ ap (λ b. taken head refute variables s (if b then Some (Refute cone) else None)) g.stands ∙ ap (by_evidence s) g.shows
 
   -- what is shown after a line that is taken is what the rest shows
-  taken-step : (here place : ℕ) (s t : SoFar) (line : Line) (rest : List ℕ) → is_one_line (text_of_line line) ≡ true → taken head refute vars n s (parsed head vars (piece_of place line)) ≡ Ok t
-      → result_from head refute vars n here s (pieces_from place (ended (text_of_line line) ++ rest)) ≡ result_from head refute vars n (here + 1) t (pieces_from (place + 1) rest)
+  taken-step : (here place : ℕ) (s t : SoFar) (line : Line) (rest : List ℕ) → is_one_line (text_of_line line) ≡ true → taken head refute variables s (parsed (base_of head) variables.count (piece_of place line)) ≡ Ok t
+      → result_from head refute variables here s (pieces_from place (ended (text_of_line line) ++ rest)) ≡ result_from head refute variables (here + 1) t (pieces_from (place + 1) rest)
   taken-step here place s t line rest h e =
-      ap (result_from head refute vars n here s) (first-piece place (text_of_line line) rest h)
-      ∙ ap (λ r. after_line here r (λ u. result_from head refute vars n (here + 1) u (pieces_from (place + 1) rest))) e
+      ap (result_from head refute variables here s) (first-piece place (text_of_line line) rest h)
+      ∙ ap (λ r. after_line here r (λ u. result_from head refute variables (here + 1) u (pieces_from (place + 1) rest))) e
 
   -- so it is with a good line
-  good-step : (here place : ℕ) (s : SoFar) (d : Derived) (rest : List ℕ) → IsGoodLine vars s.store d
-      → result_from head refute vars n here s (pieces_from place (derived_text d ++ rest)) ≡ result_from head refute vars n (here + 1) (after s d) (pieces_from (place + 1) rest)
+  good-step : (here place : ℕ) (s : SoFar) (d : Derived) (rest : List ℕ) → IsGoodLine variables.count s.store d
+      → result_from head refute variables here s (pieces_from place (derived_text d ++ rest)) ≡ result_from head refute variables (here + 1) (after s d) (pieces_from (place + 1) rest)
   good-step here place s d rest g = taken-step here place s (after s d) (Derive d.0 d.1) rest (line-apart d.0 d.1 g.written) (good-takes place s d g)
 
   -- and with a good cone
   cone-step : (here place : ℕ) (s : SoFar) (cone : Evidence) (clause : List Lit) (rest : List ℕ) → IsGoodEvidence head refute cone clause
-      → result_from head refute vars n here s (pieces_from place (line_text (Refuted cone clause) ++ rest)) ≡ result_from head refute vars n (here + 1) (after_cone s clause) (pieces_from (place + 1) rest)
+      → result_from head refute variables here s (pieces_from place (line_text (Refuted cone clause) ++ rest)) ≡ result_from head refute variables (here + 1) (after_cone s clause) (pieces_from (place + 1) rest)
   cone-step here place s cone clause rest g = taken-step here place s (after_cone s clause) (Refute cone) rest (evidence-apart cone g.written) (cone-takes place s cone clause g)
 
   -- the clauses without one
@@ -158,24 +159,24 @@ module _ (head : Head) (refute : Evidence → Result (List Lit) EvidenceFault) (
 
   -- a clause that may be forgotten is taken out
   forget-takes : (place : ℕ) (s : SoFar) (learnt : List ℕ) (id : ℕ) → AreFlagged s.derived learnt s.store → IsGoodForget s.store learnt id
-      → taken head refute vars n s (parsed head vars (piece_of place (Forget (id ∷ [])))) ≡ Ok (after_forget s id)
+      → taken head refute variables s (parsed (base_of head) variables.count (piece_of place (Forget (id ∷ [])))) ≡ Ok (after_forget s id)
   forget-takes place s learnt id f g =
       let read : line_in_bytes (text_of_line (Forget (id ∷ []))) ≡ Some (Forget (id ∷ [])) = back (Forget (id ∷ [])) g.written in
-      ap (λ o. taken head refute vars n s (if_within head vars o)) read
+      ap (λ o. taken head refute variables s (if_within (base_of head) variables.count o)) read
       ∙ ap (by_forget s) (forgets-one s.derived s.store id g.may.is_live (f.flagged id g.may.is_learnt))
 
   -- and what is shown after it
   forget-step : (here place : ℕ) (s : SoFar) (learnt : List ℕ) (id : ℕ) (rest : List ℕ) → AreFlagged s.derived learnt s.store → IsGoodForget s.store learnt id
-      → result_from head refute vars n here s (pieces_from place (line_text (Forgot id) ++ rest)) ≡ result_from head refute vars n (here + 1) (after_forget s id) (pieces_from (place + 1) rest)
+      → result_from head refute variables here s (pieces_from place (line_text (Forgot id) ++ rest)) ≡ result_from head refute variables (here + 1) (after_forget s id) (pieces_from (place + 1) rest)
   forget-step here place s learnt id rest f g = taken-step here place s (after_forget s id) (Forget (id ∷ [])) rest (forget-apart (id ∷ []) g.written) (forget-takes place s learnt id f g)
 
   -- the last line alone
-  last-shown : (here place : ℕ) (s : SoFar) (d : Derived) → IsLast vars n s.store d → result_from head refute vars n here s (pieces_from place (derived_text d ++ [])) ≡ Yes n
+  last-shown : (here place : ℕ) (s : SoFar) (d : Derived) → IsLast variables s.store d → result_from head refute variables here s (pieces_from place (derived_text d ++ [])) ≡ Yes variables.steps
   last-shown here place s d l = good-step here place s d [] l.good ∙ ap (result_at_end (here + 1)) l.last
 
   -- the lines, and then the last one
-  all-shown : (here place : ℕ) (s : SoFar) (learnt : List ℕ) (lines : List LogLine) (d : Derived) → AreFlagged s.derived learnt s.store → AllGoOn head refute vars n s.store learnt lines → IsLast vars n (with_log s.store lines) d
-      → result_from head refute vars n here s (pieces_from place (flat_map line_text (lines ++ Learnt d ∷ []))) ≡ Yes n
+  all-shown : (here place : ℕ) (s : SoFar) (learnt : List ℕ) (lines : List LogLine) (d : Derived) → AreFlagged s.derived learnt s.store → AllGoOn head refute variables s.store learnt lines → IsLast variables (with_log s.store lines) d
+      → result_from head refute variables here s (pieces_from place (flat_map line_text (lines ++ Learnt d ∷ []))) ≡ Yes variables.steps
   all-shown here place s learnt [] d f a l = last-shown here place s d l
   all-shown here place s learnt (Learnt m ∷ ms) d f a l =
       good-step here place s m (flat_map line_text (ms ++ Learnt d ∷ [])) a.0.good
@@ -188,10 +189,10 @@ module _ (head : Head) (refute : Evidence → Result (List Lit) EvidenceFault) (
       ∙ all-shown (here + 1) (place + 1) (after_cone s clause) learnt ms d (flagged-cone s.derived learnt s.store clause f) a.1 l
 
 pub accepted : LinesReadBack → EndedRunsAreAccepted
-accepted back head refute vars n base lines d keeps a l =
-    ap (result_of head refute vars n base) (first-piece 1 (head_text head) (flat_map line_text (lines ++ Learnt d ∷ [])) (head-apart head keeps))
-    ∙ ap (λ b. if b then result_from head refute vars n 2 (at_first base) (pieces_from 2 (flat_map line_text (lines ++ Learnt d ∷ []))) else No 1 Text) ((bytes_eq-Decides (head_text head) (head_text head)).1 refl)
-    ∙ all-shown head refute vars n back 2 2 (at_first base) [] lines d (flagged-first base) a l
+accepted back head refute variables base lines d keeps a l =
+    ap (result_of head refute variables base) (first-piece 1 (head_text head) (flat_map line_text (lines ++ Learnt d ∷ [])) (head-apart head keeps))
+    ∙ ap (λ b. if b then result_from head refute variables 2 (at_first base) (pieces_from 2 (flat_map line_text (lines ++ Learnt d ∷ []))) else No 1 Text) ((bytes_eq-Decides (head_text head) (head_text head)).1 refl)
+    ∙ all-shown head refute variables back 2 2 (at_first base) [] lines d (flagged-first base) a l
 
 -- a log is a file with its head
 pub headed : NumbersReadBack → (head : Head) → keeps_head head ≡ true → (lines : List LogLine) → head_in (pieces (log_text head lines)) ≡ Some head

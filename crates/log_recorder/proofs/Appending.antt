@@ -3,6 +3,7 @@ use Rattle.std.proofs.Common.{◌≡◌, ℕ, suc, ◌+◌, List, [], ◌∷◌,
 use Rattle.bound_spec.specs.declared.Evidence.{Evidence}
 use Rattle.bound_spec.specs.declared.EvidenceFault.{EvidenceFault}
 use Rattle.proof_log.specs.declared.head.Head.{Head}
+use Rattle.clause_spec.specs.declared.question.VariableCounts.{VariableCounts}
 use Rattle.sat_clause.specs.declared.lit.Lit.{Lit}
 use Rattle.sat_clause.specs.Clauses.{Store}
 use Rattle.sat_core.specs.Lines.{Entry, entry_text, with_lines, learnt_with, derive_count, after_entry, learnt_after}
@@ -34,9 +35,9 @@ learnt_in-lines store learnt (inr id ∷ es) = learnt_in-lines (after_entry stor
 
 -- ---- lines that go on
 
-pub go-on-append : (head : Head) (refute : Evidence → Result (List Lit) EvidenceFault) (vars n : ℕ) (store : Store) (learnt : List ℕ) (xs ys : List LogLine) → AllGoOn head refute vars n store learnt xs → AllGoOn head refute vars n (with_log store xs) (learnt_in store learnt xs) ys → AllGoOn head refute vars n store learnt (xs ++ ys)
-go-on-append head refute vars n store learnt [] ys a b = b
-go-on-append head refute vars n store learnt (x ∷ xs) ys a b = (a.0, go-on-append head refute vars n (with_line store x) (learnt_by store learnt x) xs ys a.1 b)
+pub go-on-append : (head : Head) (refute : Evidence → Result (List Lit) EvidenceFault) (variables : VariableCounts) (store : Store) (learnt : List ℕ) (xs ys : List LogLine) → AllGoOn head refute variables store learnt xs → AllGoOn head refute variables (with_log store xs) (learnt_in store learnt xs) ys → AllGoOn head refute variables store learnt (xs ++ ys)
+go-on-append head refute variables store learnt [] ys a b = b
+go-on-append head refute variables store learnt (x ∷ xs) ys a b = (a.0, go-on-append head refute variables (with_line store x) (learnt_by store learnt x) xs ys a.1 b)
 
 -- ---- the text
 

@@ -3,6 +3,7 @@ use Rattle.std.proofs.Common.{◌≡◌, ℕ, zero, suc, Bool, true, false, List
 use Rattle.bound_spec.specs.declared.Evidence.{Evidence}
 use Rattle.bound_spec.specs.declared.EvidenceFault.{EvidenceFault}
 use Rattle.proof_log.specs.declared.head.Head.{Head}
+use Rattle.clause_spec.specs.declared.question.VariableCounts.{VariableCounts}
 use Rattle.sat_clause.specs.declared.lit.Lit.{Lit}
 use Rattle.sat_clause.specs.Clauses.{Store, live_clause, if_live, clause_holds}
 use Rattle.log_checker.specs.Truth.{clauses_hold}
@@ -23,9 +24,9 @@ live-holds : (values : ℕ → Bool) (store : Store) (id : ℕ) (c : List Lit) �
 live-holds values store zero c h e = absurd (cc)
 live-holds values store (suc i) c h e = at-holds values store i c h e
 
-module _ (head : Head) (refute : Evidence → Result (List Lit) EvidenceFault) (vars n : ℕ) (values : ℕ → Bool) (shown : (cone : Evidence) (clause : List Lit) → refute cone ≡ Ok clause → clause_holds values clause ≡ true) where
+module _ (head : Head) (refute : Evidence → Result (List Lit) EvidenceFault) (variables : VariableCounts) (values : ℕ → Bool) (shown : (cone : Evidence) (clause : List Lit) → refute cone ≡ Ok clause → clause_holds values clause ≡ true) where
   -- the clauses of a log are true wherever those before it and those of cones are
-  log-holds : (store : Store) (learnt : List ℕ) (lines : List LogLine) → AllGoOn head refute vars n store learnt lines → clauses_hold values store ≡ true → clauses_hold values (with_log store lines) ≡ true
+  log-holds : (store : Store) (learnt : List ℕ) (lines : List LogLine) → AllGoOn head refute variables store learnt lines → clauses_hold values store ≡ true → clauses_hold values (with_log store lines) ≡ true
   log-holds store learnt [] a h = h
   log-holds store learnt (Learnt d ∷ ls) a h =
       log-holds (with_line store (Learnt d)) (learnt_by store learnt (Learnt d)) ls a.1 (push-holds values store d.0 h (follows-true values store d.0 d.1 a.0.good.follows h))
@@ -33,9 +34,9 @@ module _ (head : Head) (refute : Evidence → Result (List Lit) EvidenceFault) (
   log-holds store learnt (Refuted cone clause ∷ ls) a h = log-holds (with_line store (Refuted cone clause)) learnt ls a.1 (push-holds values store clause h (shown cone clause a.0.shows))
 
 pub denied : DenialsAreSo
-denied head refute vars n base lines id k clause a live denies =
-    let d = clause-denies vars n clause k denies in record {
+denied head refute variables base lines id k clause a live denies =
+    let d = clause-denies variables clause k denies in record {
       at_most_steps = d.at_most_steps;
       least = d.least;
-      never = λ values h by. d.never values (live-holds values (with_log base lines) id clause (log-holds head refute vars n values h.holds_of_evidence base [] lines a h.clauses) live) by;
+      never = λ values h by. d.never values (live-holds values (with_log base lines) id clause (log-holds head refute variables values h.holds_of_evidence base [] lines a h.clauses) live) by;
     }

@@ -6,6 +6,7 @@ use Rattle.std.proofs.lemmas.Bool.Decides.{nat_tests}
 use Rattle.bound_spec.specs.declared.Evidence.{Evidence}
 use Rattle.bound_spec.specs.declared.EvidenceFault.{EvidenceFault}
 use Rattle.proof_log.specs.declared.head.Head.{Head}
+use Rattle.clause_spec.specs.declared.question.VariableCounts.{VariableCounts}
 use Rattle.sat_clause.specs.declared.lit.Lit.{Lit}
 use Rattle.sat_clause.specs.declared.follow.Follow.{Follow}
 use Rattle.sat_clause.specs.declared.follow.Follow.TheVariants.{Yes}
@@ -23,7 +24,7 @@ use Rattle.proof_log.specs.Lines.{is_increasing}
 use Rattle.proof_log.specs.Text.{keeps_grammar}
 use Rattle.proof_log.specs.Words.{greatest_variable, greatest_clause_number, is_from_1_to}
 use Rattle.log_checker.specs.Verdict.{steps_denied, step_denied}
-use Rattle.log_recorder.specs.Logs.{LogLine, log_line_of, by_step, with_log, IsGoodLine, GoesOn, IsLast, IsGoodForget, AllGoOn, MayComeNext}
+use Rattle.log_recorder.specs.Logs.{IsInner, LogLine, log_line_of, by_step, with_log, IsGoodLine, GoesOn, IsLast, IsGoodForget, AllGoOn, MayComeNext}
 use Rattle.sat_core.proofs.Sound.{live-append}
 
 -- ---- the hints of a clause that follows are numbers of clauses
@@ -55,32 +56,32 @@ hints-numbered : (store : Store) (greatest : ℕ) (assigned : List Lit) (hints :
 hints-numbered store greatest assigned [] few y = refl
 hints-numbered store greatest assigned (h ∷ hs) few y = hint-numbered store greatest assigned h hs (live_clause store h) (λ c l. follow_from store (assigned ++ l ∷ []) hs) few refl y (λ c l z. hints-numbered store greatest (assigned ++ l ∷ []) hs few z)
 
--- ---- the literals of live clauses are below the last variable
+-- ---- the literals of live clauses are of variables up to the last one, and none says that all is given by the last step
 
-abbrev pub IsBelow : ℕ → List Lit → Type 0
-IsBelow vars clause = (l : Lit) → is_assigned clause l ≡ true → (1 ≤ l.var) × (l.var < vars)
+abbrev pub IsBelow : VariableCounts → List Lit → Type 0
+IsBelow vs clause = (l : Lit) → is_assigned clause l ≡ true → IsInner vs l
 
 -- so it is with each live clause
-abbrev pub AllBelow : ℕ → Store → Type 0
-AllBelow vars store = (id : ℕ) (c : List Lit) → live_clause store id ≡ Some c → IsBelow vars c
+abbrev pub AllBelow : VariableCounts → Store → Type 0
+AllBelow vs store = (id : ℕ) (c : List Lit) → live_clause store id ≡ Some c → IsBelow vs c
 
 -- and with one clause more
-pub below-more : (vars : ℕ) (store : Store) (c : List Lit) → AllBelow vars store → IsBelow vars c → AllBelow vars (store ++ (c, true) ∷ [])
-below-more vars store c a b id d live = elim (live-append store c id d live) [ inl p ↦ a id d p | inr q ↦ subst (IsBelow vars) (sym q) b ]
+pub below-more : (vs : VariableCounts) (store : Store) (c : List Lit) → AllBelow vs store → IsBelow vs c → AllBelow vs (store ++ (c, true) ∷ [])
+below-more vs store c a b id d live = elim (live-append store c id d live) [ inl p ↦ a id d p | inr q ↦ subst (IsBelow vs) (sym q) b ]
 
-standing-below : (vars : ℕ) (store : Store) (clause : List Lit) → AllBelow vars store → AllStand store clause → IsBelow vars clause
-standing-below vars store clause a s l h = let t = s l h in a t.id t.clause t.is_live l t.member
+standing-below : (vs : VariableCounts) (store : Store) (clause : List Lit) → AllBelow vs store → AllStand store clause → IsBelow vs clause
+standing-below vs store clause a s l h = let t = s l h in a t.id t.clause t.is_live l t.member
 
 -- and with one fewer
-pub below-less : (vars : ℕ) (store : Store) (id : ℕ) → AllBelow vars store → AllBelow vars (without store id)
-below-less vars store id a k c live = a k c (live-less store id k c live)
+pub below-less : (vs : VariableCounts) (store : Store) (id : ℕ) → AllBelow vs store → AllBelow vs (without store id)
+below-less vs store id a k c live = a k c (live-less store id k c live)
 
 -- learnt clauses are of literals of the clauses before them
-pub all-below : (vars : ℕ) (assumptions : List Lit) (store : Store) (learnt : List ℕ) (more : List Entry) → AllBelow vars store → AllNew assumptions store learnt more → AllBelow vars (with_lines store more)
-all-below vars assumptions store learnt [] a h = a
-all-below vars assumptions store learnt (inl d ∷ es) a h =
-    all-below vars assumptions (after_entry store (inl d)) (learnt_after store learnt (inl d)) es (below-more vars store d.0 a (standing-below vars store d.0 a h.0.0.stand)) h.1
-all-below vars assumptions store learnt (inr id ∷ es) a h = all-below vars assumptions (after_entry store (inr id)) learnt es (below-less vars store id a) h.1
+pub all-below : (vs : VariableCounts) (assumptions : List Lit) (store : Store) (learnt : List ℕ) (more : List Entry) → AllBelow vs store → AllNew assumptions store learnt more → AllBelow vs (with_lines store more)
+all-below vs assumptions store learnt [] a h = a
+all-below vs assumptions store learnt (inl d ∷ es) a h =
+    all-below vs assumptions (after_entry store (inl d)) (learnt_after store learnt (inl d)) es (below-more vs store d.0 a (standing-below vs store d.0 a h.0.0.stand)) h.1
+all-below vs assumptions store learnt (inr id ∷ es) a h = all-below vs assumptions (after_entry store (inr id)) learnt es (below-less vs store id a) h.1
 
 -- ---- a clause keeps the grammar
 
@@ -107,8 +108,8 @@ IsUpTo vars clause = (l : Lit) → is_assigned clause l ≡ true → (1 ≤ l.va
 up-to-tail : (vars : ℕ) (l : Lit) (ls : List Lit) → IsUpTo vars (l ∷ ls) → IsUpTo vars ls
 up-to-tail vars l ls b k h = b k (or-right (same_lit k l) (is_assigned ls k) h)
 
-below-up-to : (vars : ℕ) (clause : List Lit) → IsBelow vars clause → IsUpTo vars clause
-below-up-to vars clause b l h = let p = b l h in (p.0, omega (arith, p.1))
+below-up-to : (vs : VariableCounts) (clause : List Lit) → IsBelow vs clause → IsUpTo vs.count clause
+below-up-to vs clause b l h = let p = b l h in (p.low, p.high)
 
 variables-written : (vars : ℕ) (clause : List Lit) → vars ≤ greatest_variable → IsUpTo vars clause → list_all (λ l. is_from_1_to greatest_variable l.var) clause ≡ true
 variables-written vars [] most b = refl
@@ -131,20 +132,20 @@ good-line vars store clause hints most few b f i = record {
   within = variables-within vars clause b;
 }
 
--- ---- it says that there is no plan of n steps only where it is empty
+-- ---- it says that there is no plan of all steps only where it is empty
 
 denied-number : (steps k n : ℕ) (b : Bool) → (if b then Some k else None) ≡ Some n → k ≡ n
 denied-number steps k n true e = cc
 denied-number steps k n false e = absurd (cc)
 
-not-denied : (vars n : ℕ) (clause : List Lit) → 1 ≤ n → IsBelow vars clause → (clause ≡ [] → ⊥) → steps_denied vars n clause ≡ Some n → ⊥
-not-denied vars n [] some b ne e = ne refl
-not-denied vars n (l ∷ m ∷ more) some b ne e = cc
-not-denied vars n (l ∷ []) some b ne e =
+not-denied : (vs : VariableCounts) (clause : List Lit) → 1 ≤ vs.steps → IsBelow vs clause → (clause ≡ [] → ⊥) → steps_denied vs clause ≡ Some vs.steps → ⊥
+not-denied vs [] some b ne e = ne refl
+not-denied vs (l ∷ m ∷ more) some b ne e = cc
+not-denied vs (l ∷ []) some b ne e =
     let p = b l (assigned-first l []) in
-    let high = p.1 in
-    let at : l.var - (vars - n) ≡ n = denied-number n (l.var - (vars - n)) n (l.negated && nat_le 1 (l.var - (vars - n)) && nat_le (l.var - (vars - n)) n) e in
-    omega arith
+    let step : ℕ = l.var - vs.before_selectors in
+    let at : step ≡ vs.steps = denied-number vs.steps step vs.steps (l.negated && nat_le 1 step && nat_le step vs.steps) e in
+    p.not_last (omega (arith, at))
 
 new-some : (store : Store) (clause : List Lit) → IsNew store clause → clause ≡ [] → ⊥
 new-some store [] n e = let h = n.2.one in cc
@@ -174,12 +175,12 @@ negated-one e (l ∷ []) i only =
 negated-one e (l ∷ m ∷ ls) i only = absurd (one-negated e l m ls i only)
 
 -- the negation of e(k) says that there is no plan of k steps
-pub denies-step : (vars n k : ℕ) → 1 ≤ k → k ≤ n → steps_denied vars n (opposite (by_step vars n k) ∷ []) ≡ Some k
-denies-step vars n k low high =
-    let at : vars - n + k - (vars - n) ≡ k = omega arith in
+pub denies-step : (vs : VariableCounts) (k : ℕ) → 1 ≤ k → k ≤ vs.steps → steps_denied vs (opposite (by_step vs k) ∷ []) ≡ Some k
+denies-step vs k low high =
+    let at : vs.before_selectors + k - vs.before_selectors ≡ k = omega arith in
     let first : nat_le 1 k ≡ true = grind (arith, nat_tests) in
-    let last : nat_le k n ≡ true = grind (arith, nat_tests) in
-    ap (step_denied n (opposite (by_step vars n k))) at ∙ rw (first, last) refl
+    let last : nat_le k vs.steps ≡ true = grind (arith, nat_tests) in
+    ap (step_denied vs.steps (opposite (by_step vs k))) at ∙ rw (first, last) refl
 
 -- no line before the last is the negation of the assumption
 beyond-one : (e : Lit) (clause : List Lit) → (l : Lit) × (is_assigned clause l ≡ true) × (is_assigned (e ∷ []) (opposite l) ≡ false) → clause ≡ opposite e ∷ [] → ⊥
@@ -205,14 +206,14 @@ le-split (suc k) (suc n) h = elim (le-split k n (omega arith)) [ inl p ↦ inl (
 
 -- ---- one line
 
-module _ (vars n : ℕ) (most : vars ≤ greatest_variable) (some : 1 ≤ n) where
+module _ (vs : VariableCounts) (most : vs.count ≤ greatest_variable) (some : 1 ≤ vs.steps) where
   -- a learnt clause goes on
-  pub goes-on : (assumptions : List Lit) (store : Store) (d : Derived) → length store ≤ greatest_clause_number → AllBelow vars store → IsLearntBeyond store assumptions d.0 d.1 → GoesOn vars n store d
+  pub goes-on : (assumptions : List Lit) (store : Store) (d : Derived) → length store ≤ greatest_clause_number → AllBelow vs store → IsLearntBeyond store assumptions d.0 d.1 → GoesOn vs store d
   goes-on assumptions store d few a l =
-      let b = standing-below vars store d.0 a l.0.stand in record {
-        good = good-line vars store d.0 d.1 most few (below-up-to vars d.0 b) l.0.follows l.0.increasing;
+      let b = standing-below vs store d.0 a l.0.stand in record {
+        good = good-line vs.count store d.0 d.1 most few (below-up-to vs d.0 b) l.0.follows l.0.increasing;
         is_new = inl l.0.is_new;
-        not_last = not-denied vars n d.0 some b (new-some store d.0 l.0.is_new);
+        not_last = not-denied vs d.0 some b (new-some store d.0 l.0.is_new);
       }
 
   -- a derived clause that may be forgotten
@@ -225,59 +226,59 @@ module _ (vars n : ℕ) (most : vars ≤ greatest_variable) (some : 1 ≤ n) whe
 
   -- the last clause of a round is empty, or denies the steps that were assumed
   module _ (store : Store) (few : length store ≤ greatest_clause_number) where
-    empty-last : (hints : List ℕ) → follow_of store [] hints ≡ Yes → IsLast vars n store ([], hints)
-    empty-last hints f = record { good = good-line vars store [] hints most few (λ l h. absurd (cc)) f (λ i h. absurd (omega arith)); last = refl }
+    empty-last : (hints : List ℕ) → follow_of store [] hints ≡ Yes → IsLast vs store ([], hints)
+    empty-last hints f = record { good = good-line vs.count store [] hints most few (λ l h. absurd (cc)) f (λ i h. absurd (omega arith)); last = refl }
 
-    denial-good : (k : ℕ) (hints : List ℕ) → 1 ≤ k → k ≤ n → n ≤ vars → follow_of store (opposite (by_step vars n k) ∷ []) hints ≡ Yes → IsIncreasing (opposite (by_step vars n k) ∷ []) → IsGoodLine vars store (opposite (by_step vars n k) ∷ [], hints)
-    denial-good k hints low high wide f i = good-line vars store (opposite (by_step vars n k) ∷ []) hints most few up f i
+    denial-good : (k : ℕ) (hints : List ℕ) → 1 ≤ k → k ≤ vs.steps → vs.before_selectors + vs.steps ≤ vs.count → follow_of store (opposite (by_step vs k) ∷ []) hints ≡ Yes → IsIncreasing (opposite (by_step vs k) ∷ []) → IsGoodLine vs.count store (opposite (by_step vs k) ∷ [], hints)
+    denial-good k hints low high wide f i = good-line vs.count store (opposite (by_step vs k) ∷ []) hints most few up f i
       where
-        up : IsUpTo vars (opposite (by_step vars n k) ∷ [])
-        up l h = (let at : l.var ≡ vars - n + k = ap (λ (z : Lit). z.var) (assigned-one (opposite (by_step vars n k)) l h) in (omega arith, omega arith))
+        up : IsUpTo vs.count (opposite (by_step vs k) ∷ [])
+        up l h = (let at : l.var ≡ vs.before_selectors + k = ap (λ (z : Lit). z.var) (assigned-one (opposite (by_step vs k)) l h) in (omega arith, omega arith))
 
-    denial-goes-on : (k : ℕ) (hints : List ℕ) → 1 ≤ k → k < n → n ≤ vars → IsUnknown store (opposite (by_step vars n k) ∷ []) → IsGoodLine vars store (opposite (by_step vars n k) ∷ [], hints) → GoesOn vars n store (opposite (by_step vars n k) ∷ [], hints)
+    denial-goes-on : (k : ℕ) (hints : List ℕ) → 1 ≤ k → k < vs.steps → vs.before_selectors + vs.steps ≤ vs.count → IsUnknown store (opposite (by_step vs k) ∷ []) → IsGoodLine vs.count store (opposite (by_step vs k) ∷ [], hints) → GoesOn vs store (opposite (by_step vs k) ∷ [], hints)
     denial-goes-on k hints low high wide unknown good =
-        let denied = denies-step vars n k low (omega arith) in record {
+        let denied = denies-step vs k low (omega arith) in record {
           good = good;
           is_new = inr (record { steps = k; denied = denied; unknown = unknown });
-          not_last = λ e. (let same : Some k ≡ Some n = sym denied ∙ e in let at : k ≡ n = cc in omega arith);
+          not_last = λ e. (let same : Some k ≡ Some vs.steps = sym denied ∙ e in let at : k ≡ vs.steps = cc in omega arith);
         }
 
   -- a clause of negated assumptions goes on, or is the last
-  pub final-may-come : (store : Store) (k : ℕ) (d : Derived) → length store ≤ greatest_clause_number → 1 ≤ k → k ≤ n → n ≤ vars → (k < n → IsUnknown store (opposite (by_step vars n k) ∷ []))
-      → IsFinal store (by_step vars n k ∷ []) d.0 d.1 → GoesOn vars n store d ⊎ IsLast vars n store d
-  final-may-come store k (clause, hints) few low high wide unknown f = elim (negated-one (by_step vars n k) clause f.increasing f.only) [
-    | inl p ↦ inr (subst (λ (c : List Lit). IsLast vars n store (c, hints)) (sym p) (empty-last store few hints (subst (λ (c : List Lit). follow_of store c hints ≡ Yes) p f.follows)))
-    | inr q ↦ subst (λ (c : List Lit). GoesOn vars n store (c, hints) ⊎ IsLast vars n store (c, hints)) (sym q)
+  pub final-may-come : (store : Store) (k : ℕ) (d : Derived) → length store ≤ greatest_clause_number → 1 ≤ k → k ≤ vs.steps → vs.before_selectors + vs.steps ≤ vs.count → (k < vs.steps → IsUnknown store (opposite (by_step vs k) ∷ []))
+      → IsFinal store (by_step vs k ∷ []) d.0 d.1 → GoesOn vs store d ⊎ IsLast vs store d
+  final-may-come store k (clause, hints) few low high wide unknown f = elim (negated-one (by_step vs k) clause f.increasing f.only) [
+    | inl p ↦ inr (subst (λ (c : List Lit). IsLast vs store (c, hints)) (sym p) (empty-last store few hints (subst (λ (c : List Lit). follow_of store c hints ≡ Yes) p f.follows)))
+    | inr q ↦ subst (λ (c : List Lit). GoesOn vs store (c, hints) ⊎ IsLast vs store (c, hints)) (sym q)
         (denial (denial-good store few k hints low high wide (subst (λ (c : List Lit). follow_of store c hints ≡ Yes) q f.follows) (subst IsIncreasing q f.increasing)))
   ]
     where
-      denial : IsGoodLine vars store (opposite (by_step vars n k) ∷ [], hints) → GoesOn vars n store (opposite (by_step vars n k) ∷ [], hints) ⊎ IsLast vars n store (opposite (by_step vars n k) ∷ [], hints)
-      denial good = elim (le-split k n high) [
+      denial : IsGoodLine vs.count store (opposite (by_step vs k) ∷ [], hints) → GoesOn vs store (opposite (by_step vs k) ∷ [], hints) ⊎ IsLast vs store (opposite (by_step vs k) ∷ [], hints)
+      denial good = elim (le-split k vs.steps high) [
         | inl p ↦ inl (denial-goes-on store few k hints low p wide (unknown p) good)
-        | inr q ↦ inr (record { good = good; last = denies-step vars n k low high ∙ ap Some q })
+        | inr q ↦ inr (record { good = good; last = denies-step vs k low high ∙ ap Some q })
       ]
 
-  -- it is the last where it is empty, or denies all n steps
-  pub final-last : (store : Store) (k : ℕ) (d : Derived) → length store ≤ greatest_clause_number → 1 ≤ k → k ≤ n → n ≤ vars → (d.0 ≡ []) ⊎ (k ≡ n) → IsFinal store (by_step vars n k ∷ []) d.0 d.1 → IsLast vars n store d
-  final-last store k (clause, hints) few low high wide which f = elim (negated-one (by_step vars n k) clause f.increasing f.only) [
-    | inl p ↦ subst (λ (c : List Lit). IsLast vars n store (c, hints)) (sym p) (empty-last store few hints (subst (λ (c : List Lit). follow_of store c hints ≡ Yes) p f.follows))
-    | inr q ↦ subst (λ (c : List Lit). IsLast vars n store (c, hints)) (sym q)
+  -- it is the last where it is empty, or denies all steps
+  pub final-last : (store : Store) (k : ℕ) (d : Derived) → length store ≤ greatest_clause_number → 1 ≤ k → k ≤ vs.steps → vs.before_selectors + vs.steps ≤ vs.count → (d.0 ≡ []) ⊎ (k ≡ vs.steps) → IsFinal store (by_step vs k ∷ []) d.0 d.1 → IsLast vs store d
+  final-last store k (clause, hints) few low high wide which f = elim (negated-one (by_step vs k) clause f.increasing f.only) [
+    | inl p ↦ subst (λ (c : List Lit). IsLast vs store (c, hints)) (sym p) (empty-last store few hints (subst (λ (c : List Lit). follow_of store c hints ≡ Yes) p f.follows))
+    | inr q ↦ subst (λ (c : List Lit). IsLast vs store (c, hints)) (sym q)
         (denial (denial-good store few k hints low high wide (subst (λ (c : List Lit). follow_of store c hints ≡ Yes) q f.follows) (subst IsIncreasing q f.increasing)) (elim which [ inl e ↦ absurd (none q e) | inr e ↦ e ]))
   ]
     where
-      none : clause ≡ opposite (by_step vars n k) ∷ [] → clause ≡ [] → ⊥
-      none q e = (let z : opposite (by_step vars n k) ∷ [] ≡ [] = sym q ∙ e in cc)
+      none : clause ≡ opposite (by_step vs k) ∷ [] → clause ≡ [] → ⊥
+      none q e = (let z : opposite (by_step vs k) ∷ [] ≡ [] = sym q ∙ e in cc)
 
-      denial : IsGoodLine vars store (opposite (by_step vars n k) ∷ [], hints) → k ≡ n → IsLast vars n store (opposite (by_step vars n k) ∷ [], hints)
-      denial good all = record { good = good; last = denies-step vars n k low high ∙ ap Some all }
+      denial : IsGoodLine vs.count store (opposite (by_step vs k) ∷ [], hints) → k ≡ vs.steps → IsLast vs store (opposite (by_step vs k) ∷ [], hints)
+      denial good all = record { good = good; last = denies-step vs k low high ∙ ap Some all }
 
   -- and it goes on where it is not empty, and denies fewer steps
-  pub final-goes-on : (store : Store) (k : ℕ) (d : Derived) → length store ≤ greatest_clause_number → 1 ≤ k → k < n → n ≤ vars → (d.0 ≡ [] → ⊥) → IsUnknown store (opposite (by_step vars n k) ∷ []) → IsFinal store (by_step vars n k ∷ []) d.0 d.1
-      → GoesOn vars n store d × (d.0 ≡ opposite (by_step vars n k) ∷ [])
-  final-goes-on store k (clause, hints) few low less wide some unknown f = elim (negated-one (by_step vars n k) clause f.increasing f.only) [
+  pub final-goes-on : (store : Store) (k : ℕ) (d : Derived) → length store ≤ greatest_clause_number → 1 ≤ k → k < vs.steps → vs.before_selectors + vs.steps ≤ vs.count → (d.0 ≡ [] → ⊥) → IsUnknown store (opposite (by_step vs k) ∷ []) → IsFinal store (by_step vs k ∷ []) d.0 d.1
+      → GoesOn vs store d × (d.0 ≡ opposite (by_step vs k) ∷ [])
+  final-goes-on store k (clause, hints) few low less wide some unknown f = elim (negated-one (by_step vs k) clause f.increasing f.only) [
     | inl p ↦ absurd (some p)
     | inr q ↦ (
-      subst (λ (c : List Lit). GoesOn vars n store (c, hints)) (sym q)
+      subst (λ (c : List Lit). GoesOn vs store (c, hints)) (sym q)
           (denial-goes-on store few k hints low less wide unknown (denial-good store few k hints low (omega arith) wide (subst (λ (c : List Lit). follow_of store c hints ≡ Yes) q f.follows) (subst IsIncreasing q f.increasing))),
       q,
     )
@@ -291,21 +292,21 @@ module _ (vars n : ℕ) (most : vars ≤ greatest_variable) (some : 1 ≤ n) whe
   length-lines store (inr id ∷ es) = let r = length-lines (after_entry store (inr id)) es in let a = without-length store id in omega arith
 
   -- what a solver records goes on, whatever cones are refuted
-  pub all-go-on : (head : Head) (refute : Evidence → Result (List Lit) EvidenceFault) (assumptions : List Lit) (store : Store) (learnt : List ℕ) (more : List Entry) → length (with_lines store more) ≤ greatest_clause_number → AllBelow vars store → AllNew assumptions store learnt more → AllGoOn head refute vars n store learnt (map log_line_of more)
+  pub all-go-on : (head : Head) (refute : Evidence → Result (List Lit) EvidenceFault) (assumptions : List Lit) (store : Store) (learnt : List ℕ) (more : List Entry) → length (with_lines store more) ≤ greatest_clause_number → AllBelow vs store → AllNew assumptions store learnt more → AllGoOn head refute vs store learnt (map log_line_of more)
   all-go-on head refute assumptions store learnt [] few a h = tt
   all-go-on head refute assumptions store learnt (inl d ∷ es) few a h =
       let size = length-lines store (inl d ∷ es) in (
         goes-on assumptions store d (omega arith) a h.0,
-        all-go-on head refute assumptions (after_entry store (inl d)) (learnt_after store learnt (inl d)) es few (below-more vars store d.0 a (standing-below vars store d.0 a h.0.0.stand)) h.1,
+        all-go-on head refute assumptions (after_entry store (inl d)) (learnt_after store learnt (inl d)) es few (below-more vs store d.0 a (standing-below vs store d.0 a h.0.0.stand)) h.1,
       )
   all-go-on head refute assumptions store learnt (inr id ∷ es) few a h =
       let size = length-lines store (inr id ∷ es) in (
         good-forget store learnt id (omega arith) h.0,
-        all-go-on head refute assumptions (after_entry store (inr id)) learnt es few (below-less vars store id a) h.1,
+        all-go-on head refute assumptions (after_entry store (inr id)) learnt es few (below-less vs store id a) h.1,
       )
 
   -- a derived line that may follow the lines of a log, where e(k) is assumed, may come next
-  pub may-come : (base : Store) (lines : List LogLine) (k : ℕ) (clause : List Lit) (hints : List ℕ) → length (with_log base lines) ≤ greatest_clause_number → AllBelow vars (with_log base lines) → 1 ≤ k → k ≤ n → n ≤ vars
-      → (k < n → IsUnknown (with_log base lines) (opposite (by_step vars n k) ∷ [])) → MayFollow (with_log base lines) (by_step vars n k ∷ []) clause hints → MayComeNext base vars n lines (clause, hints)
-  may-come base lines k clause hints few a low high wide unknown (inl l) = inl (goes-on (by_step vars n k ∷ []) (with_log base lines) (clause, hints) few a l)
+  pub may-come : (base : Store) (lines : List LogLine) (k : ℕ) (clause : List Lit) (hints : List ℕ) → length (with_log base lines) ≤ greatest_clause_number → AllBelow vs (with_log base lines) → 1 ≤ k → k ≤ vs.steps → vs.before_selectors + vs.steps ≤ vs.count
+      → (k < vs.steps → IsUnknown (with_log base lines) (opposite (by_step vs k) ∷ [])) → MayFollow (with_log base lines) (by_step vs k ∷ []) clause hints → MayComeNext base vs lines (clause, hints)
+  may-come base lines k clause hints few a low high wide unknown (inl l) = inl (goes-on (by_step vs k ∷ []) (with_log base lines) (clause, hints) few a l)
   may-come base lines k clause hints few a low high wide unknown (inr f) = final-may-come (with_log base lines) k (clause, hints) few low high wide unknown f

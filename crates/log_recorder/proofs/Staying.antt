@@ -3,6 +3,7 @@ use Rattle.std.proofs.Common.{◌≡◌, ℕ, ◌+◌, ◌≤◌, true, List, []
 use Rattle.bound_spec.specs.declared.Evidence.{Evidence}
 use Rattle.bound_spec.specs.declared.EvidenceFault.{EvidenceFault}
 use Rattle.proof_log.specs.declared.head.Head.{Head}
+use Rattle.clause_spec.specs.declared.question.VariableCounts.{VariableCounts}
 use Rattle.sat_clause.specs.declared.lit.Lit.{Lit}
 use Rattle.sat_clause.specs.Clauses.{Store, live_clause, without}
 use Rattle.sat_trail.specs.Attached.{is_among}
@@ -30,9 +31,9 @@ numbers-more learnt store c a id h = let w = a id h in let m = longer store c in
 pub numbers-less : (learnt : List ℕ) (store : Store) (gone : ℕ) → AreNumbers learnt store → AreNumbers learnt (without store gone)
 numbers-less learnt store gone a id h = let w = a id h in let m = without-length store gone in omega arith
 
-module _ (head : Head) (refute : Evidence → Result (List Lit) EvidenceFault) (vars n : ℕ) (id : ℕ) (c : List Lit) where
+module _ (head : Head) (refute : Evidence → Result (List Lit) EvidenceFault) (variables : VariableCounts) (id : ℕ) (c : List Lit) where
   -- a live clause that no line derived is live after each line
-  pub stays : (store : Store) (learnt : List ℕ) (lines : List LogLine) → AllGoOn head refute vars n store learnt lines → id ≤ length store → (is_among learnt id ≡ true → ⊥) → live_clause store id ≡ Some c → live_clause (with_log store lines) id ≡ Some c
+  pub stays : (store : Store) (learnt : List ℕ) (lines : List LogLine) → AllGoOn head refute variables store learnt lines → id ≤ length store → (is_among learnt id ≡ true → ⊥) → live_clause store id ≡ Some c → live_clause (with_log store lines) id ≡ Some c
   stays store learnt [] a low apart live = live
   stays store learnt (Learnt d ∷ ls) a low apart live =
       let m = longer store d.0 in

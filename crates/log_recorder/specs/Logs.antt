@@ -1,10 +1,11 @@
 -- The text of a search for a plan of n steps: a head, and a line for each clause that is derived, forgotten, or shown by a cone or a bound.
-use Rattle.std.specs.Prelude.{ℕ, ◌≡◌, ◌+◌, ◌-◌, Bool, true, false, List, [], ◌∷◌, ◌++◌, filter, flat_map, length}
+use Rattle.std.specs.Prelude.{ℕ, ◌≡◌, ◌+◌, ◌≤◌, Bool, true, false, List, [], ◌∷◌, ◌++◌, filter, flat_map, length}
 use Rattle.std.specs.Prelude.{nat_le, Some, Result, Ok, ◌⊎◌}
 use Rattle.std.proofs.Common.{inl, inr}
 use Rattle.std.specs.List.{list_all}
 use Rattle.bound_spec.specs.declared.Evidence.{Evidence}
 use Rattle.bound_spec.specs.declared.EvidenceFault.{EvidenceFault}
+use Rattle.clause_spec.specs.declared.question.VariableCounts.{VariableCounts}
 use Rattle.sat_clause.specs.declared.lit.Lit.{Lit}
 use Rattle.sat_clause.specs.declared.follow.Follow.TheVariants.{Yes}
 use Rattle.sat_clause.specs.Clauses.{Store, live_clause, without}
@@ -14,7 +15,7 @@ use Rattle.sat_core.specs.Lines.{Derived, Entry, MayForget, derived_text}
 use Rattle.sat_core.specs.Texts.{ended, forget_line}
 use Rattle.proof_log.specs.declared.line.Line.TheVariants.{Derive, Refute, Forget}
 use Rattle.proof_log.specs.declared.head.Head.{Head}
-use Rattle.proof_log.specs.Heads.{head_text}
+use Rattle.proof_log.specs.Heads.{base_of, head_text}
 use Rattle.proof_log.specs.Text.{keeps_grammar, text_of_line}
 use Rattle.log_checker.specs.Verdict.{may_stand, steps_denied}
 
@@ -89,25 +90,31 @@ pub record IsGoodLine (vars : ℕ) (store : Store) (d : Derived) : Type 0 where
   pub within : list_all (λ l. nat_le l.var vars) d.0 ≡ true
 
 -- e(k), the literal that all is given by step k
-abbrev pub by_step : ℕ → ℕ → ℕ → Lit
-by_step vars n k = record { var = vars - n + k; negated = false }
+abbrev pub by_step : VariableCounts → ℕ → Lit
+by_step variables k = record { var = variables.before_selectors + k; negated = false }
+
+-- a literal of a variable of the base that does not say that all is given by the last step
+pub record IsInner (variables : VariableCounts) (l : Lit) : Type 0 where
+  pub low : 1 ≤ l.var
+  pub high : l.var ≤ variables.count
+  pub not_last : l.var ≡ variables.before_selectors + variables.steps → ⊥
 
 -- the clause says that there is no plan of some number of steps, and no live clause is the same
-pub record IsDenial (vars n : ℕ) (store : Store) (clause : List Lit) : Type 0 where
+pub record IsDenial (variables : VariableCounts) (store : Store) (clause : List Lit) : Type 0 where
   pub steps : ℕ
-  pub denied : steps_denied vars n clause ≡ Some steps
+  pub denied : steps_denied variables clause ≡ Some steps
   pub unknown : (id : ℕ) → live_clause store id ≡ Some clause → ⊥
 
--- a good line that goes on: its clause is new, or denies some number of steps for the first time, but not n steps
-pub record GoesOn (vars n : ℕ) (store : Store) (d : Derived) : Type 0 where
-  pub good : IsGoodLine vars store d
-  pub is_new : IsNew store d.0 ⊎ IsDenial vars n store d.0
-  pub not_last : steps_denied vars n d.0 ≡ Some n → ⊥
+-- a good line that goes on: its clause is new, or denies some number of steps for the first time, but not all of them
+pub record GoesOn (variables : VariableCounts) (store : Store) (d : Derived) : Type 0 where
+  pub good : IsGoodLine variables.count store d
+  pub is_new : IsNew store d.0 ⊎ IsDenial variables store d.0
+  pub not_last : steps_denied variables d.0 ≡ Some variables.steps → ⊥
 
--- a good line that says that there is no plan of n steps
-pub record IsLast (vars n : ℕ) (store : Store) (d : Derived) : Type 0 where
-  pub good : IsGoodLine vars store d
-  pub last : steps_denied vars n d.0 ≡ Some n
+-- a good line that says that there is no plan of all steps
+pub record IsLast (variables : VariableCounts) (store : Store) (d : Derived) : Type 0 where
+  pub good : IsGoodLine variables.count store d
+  pub last : steps_denied variables d.0 ≡ Some variables.steps
 
 -- a derived clause that may be forgotten, so that at least half of those derived so far stay live
 pub record IsGoodForget (store : Store) (learnt : List ℕ) (id : ℕ) : Type 0 where
@@ -119,14 +126,14 @@ pub record IsGoodEvidence (head : Head) (refute : Evidence → Result (List Lit)
     (e : Evidence) (clause : List Lit) : Type 0 where
   pub shows : refute e ≡ Ok clause
   pub written : keeps_grammar (Refute e) ≡ true
-  pub stands : may_stand head e ≡ true
+  pub stands : may_stand (base_of head) e ≡ true
 
--- ---- logs with this head, where cones and bounds show such clauses, over a base of clauses of so many variables
+-- ---- logs with this head, where cones and bounds show such clauses, over a base of clauses of these variables
 
-module _ (head : Head) (refute : Evidence → Result (List Lit) EvidenceFault) (vars n : ℕ) where
+module _ (head : Head) (refute : Evidence → Result (List Lit) EvidenceFault) (variables : VariableCounts) where
   -- the line may stand after these clauses, of which those of these numbers were derived
   abbrev pub MayStand : Store → List ℕ → LogLine → Type 0
-  MayStand store learnt (Learnt d) = GoesOn vars n store d
+  MayStand store learnt (Learnt d) = GoesOn variables store d
   MayStand store learnt (Forgot id) = IsGoodForget store learnt id
   MayStand store learnt (Refuted e clause) = IsGoodEvidence head refute e clause
 
@@ -145,8 +152,8 @@ module _ (head : Head) (refute : Evidence → Result (List Lit) EvidenceFault) (
     pub last : Derived
     pub text : log ≡ log_text head (lines ++ Learnt last ∷ [])
     pub go_on : AllGoOn base [] lines
-    pub is_last : IsLast vars n (with_log base lines) last
+    pub is_last : IsLast variables (with_log base lines) last
 
 -- a derived line that may come next: it goes on, or is the last
-abbrev pub MayComeNext : Store → ℕ → ℕ → List LogLine → Derived → Type 0
-MayComeNext base vars n lines d = GoesOn vars n (with_log base lines) d ⊎ IsLast vars n (with_log base lines) d
+abbrev pub MayComeNext : Store → VariableCounts → List LogLine → Derived → Type 0
+MayComeNext base variables lines d = GoesOn variables (with_log base lines) d ⊎ IsLast variables (with_log base lines) d

@@ -1,20 +1,20 @@
 //! A recorder that writes a proof file.
 
-ghost use Rattle.std.specs.Prelude.{◌≡◌, ◌+◌, ◌≤◌, ◌++◌, ◌∷◌, [], true, IfOk, IfErr, OnOk, OnErr, Some, length};
+ghost use Rattle.std.specs.Prelude.{◌≡◌, ◌+◌, ◌≤◌, ◌++◌, true, IfOk, IfErr, OnOk, OnErr, Some, length};
 ghost use Rattle.proof_log.specs.Words.{greatest_clause_number};
 ghost use Rattle.sat_core.specs.Faults.{IsFault, IsFaultAt};
 ghost use Rattle.sat_core.specs.Texts.{ended, derive_line, forget_line, added_line, has_room, has_room_for};
 
 use proof_log::write_derive;
 use rail_text::put_number;
-use sat_clause::{Arena, Lit};
+use sat_clause::Lit;
 use sat_core::{RecordFault, Recorder};
 use std::alloc::{AllocError, Global};
 
 /// The greatest number that a line can name.
 const GREATEST: u64 = 999_999_999_999_999_999;
 
-/// Keeps the clauses, and their lines as the bytes of a proof file, up to a limit.
+/// Counts the clauses, and keeps their lines as the bytes of a proof file, up to a limit.
 ///
 /// No clause has a number of more than 18 digits; there is no memory for more.
 #[derive(Drop)]
@@ -22,10 +22,9 @@ pub struct Text {
     alloc: Global,
     limit: u64,
     bytes: Vec<u8>,
-    arena: Arena,
-    learnt: Vec<u64>,
+    count: u64,
     ghost within: { length bytes.items ≤ limit },
-    ghost has_numbers: { length arena ≤ greatest_clause_number },
+    ghost has_numbers: { count ≤ greatest_clause_number },
 }
 
 impl Text {
@@ -33,9 +32,8 @@ impl Text {
     ///
     /// `Full`, with no bytes so far, exactly where the limit is less than that line with its end.
     pub fn new(alloc: Global, limit: u64, head: &[u8]) -> Result<Text, RecordFault>
-        ensures clauses { IfOk result (λ t. t.arena ≡ []) }
+        ensures count { IfOk result (λ t. t.count ≡ 0) }
         ensures text { IfOk result (λ t. t.bytes.items ≡ ended head.now) }
-        ensures learnt { IfOk result (λ t. t.learnt.items ≡ []) }
         ensures limit { IfOk result (λ t. t.limit ≡ limit) }
         ensures fault { IfErr result (IsFault (Some limit) 0 (length (ended head.now))) }
     {
@@ -53,8 +51,7 @@ impl Text {
             alloc,
             limit,
             bytes,
-            arena: Arena::new(alloc),
-            learnt: Vec::new(alloc),
+            count: 0,
         })
     }
 
@@ -72,8 +69,7 @@ impl Text {
         ensures unchanged { OnErr result (self.new.bytes.items ≡ self.old.bytes.items) }
         ensures room { OnOk result (has_room_for (Some self.old.limit) self.old.bytes.items line.now ≡ true) }
         ensures fault { IfErr result (IsFaultAt (Some self.old.limit) self.old.bytes.items line.now) }
-        ensures clauses { self.new.arena ≡ self.old.arena }
-        ensures learnt { self.new.learnt ≡ self.old.learnt }
+        ensures count { self.new.count ≡ self.old.count }
         ensures limit { self.new.limit ≡ self.old.limit }
     {
         let next = line.len() as u64;
@@ -87,23 +83,16 @@ impl Text {
         Ok(())
     }
 
-    /// Puts a clause at the end, where it can have a number of at most 18 digits.
-    fn keep(&mut self, clause: &[Lit]) -> Result<u64, RecordFault>
-        ensures clauses { OnOk result (self.new.arena ≡ self.old.arena ++ (clause.now, true) ∷ []) }
-        ensures id { IfOk result (λ id. id ≡ length self.new.arena) }
-        ensures unchanged { OnErr result (self.new.arena ≡ self.old.arena) }
+    /// The number of the next clause, where that has at most 18 digits.
+    fn next(&self) -> Result<u64, RecordFault>
+        ensures next { IfOk result (λ n. n ≡ self.now.count + 1) }
+        ensures within { IfOk result (λ n. n ≤ greatest_clause_number) }
         ensures memory { IfErr result (λ fault. fault ≡ RecordFault.Memory) }
-        ensures text { self.new.bytes ≡ self.old.bytes }
-        ensures learnt { self.new.learnt ≡ self.old.learnt }
-        ensures limit { self.new.limit ≡ self.old.limit }
     {
-        if GREATEST <= self.arena.count() {
+        if GREATEST <= self.count {
             return Err(RecordFault::Memory);
         }
-        match self.arena.push(clause) {
-            Ok(id) => Ok(id),
-            Err(_) => Err(RecordFault::Memory),
-        }
+        Ok(self.count + 1)
     }
 }
 
@@ -146,38 +135,35 @@ fn added_text(alloc: Global, line: &[u8]) -> Result<Vec<u8>, AllocError>
 impl Recorder for Text {
     ghost limit = { λ t. Some t.limit };
 
-    ghost clauses = { λ t. t.arena };
+    ghost count = { λ t. t.count };
 
     ghost text = { λ t. t.bytes.items };
 
-    ghost learnt = { λ t. t.learnt.items };
-
-    fn add(&mut self, line: &[u8], clause: &[Lit]) -> Result<(), RecordFault> {
+    fn add(&mut self, line: &[u8]) -> Result<(), RecordFault> {
+        let next = self.next()?;
         let Ok(text) = added_text(self.alloc, line) else {
             return Err(RecordFault::Memory);
         };
-        self.keep(clause)?;
-        if let Err(fault) = self.put(&text) {
-            self.arena.pop();
-            return Err(fault);
+        self.put(&text)?;
+        self.count = next;
+        Ok(())
+    }
+
+    fn skip(&mut self, clauses: u64) -> Result<(), AllocError> {
+        if GREATEST - self.count < clauses {
+            return Err(AllocError);
         }
+        self.count += clauses;
         Ok(())
     }
 
     fn derive(&mut self, clause: &[Lit], hints: &[u64]) -> Result<(), RecordFault> {
+        let next = self.next()?;
         let Ok(text) = derive_text(self.alloc, clause, hints) else {
             return Err(RecordFault::Memory);
         };
-        let id = self.keep(clause)?;
-        if self.learnt.push(id).is_err() {
-            self.arena.pop();
-            return Err(RecordFault::Memory);
-        }
-        if let Err(fault) = self.put(&text) {
-            let _ = self.learnt.pop();
-            self.arena.pop();
-            return Err(fault);
-        }
+        self.put(&text)?;
+        self.count = next;
         Ok(())
     }
 
@@ -185,9 +171,7 @@ impl Recorder for Text {
         let Ok(text) = forget_text(self.alloc, id) else {
             return Err(RecordFault::Memory);
         };
-        self.put(&text)?;
-        self.arena.forget(id);
-        Ok(())
+        self.put(&text)
     }
 
     fn room(&self, next: u64) -> bool {

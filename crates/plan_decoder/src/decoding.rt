@@ -6,11 +6,11 @@ ghost use Rattle.rail_base.specs.declared.station.Station.{Station};
 ghost use Rattle.rail_base.specs.declared.route.Route.{Route};
 ghost use Rattle.rail_spec.specs.Plans.{commands_of};
 ghost use Rattle.clause_spec.specs.Models.{cut_off, given_by, given_in};
-ghost use Rattle.plan_encoding.specs.Bases.{HasCommand, IsBaseOf, OfBase};
+ghost use Rattle.plan_encoding.specs.Numberings.{HasCommand, IsNumberingOf, OfNumbering};
 ghost use Rattle.plan_decoder.specs.Decoded.{is_new, says, new_in};
 ghost use Rattle.plan_decoder.specs.Plans.{IsDecoded, DecodesRunnable, DecodesInAgreement, DecodesAsSaid};
 
-use plan_encoding::Base;
+use plan_encoding::Numbering;
 use rail_base::list::List;
 use rail_base::plan::{Command, Plan};
 use rail_base::route::RouteNo;
@@ -25,15 +25,15 @@ use std::alloc::{AllocError, Global};
 /// # Errors
 ///
 /// Want of memory.
-pub fn decode(alloc: Global, base: &Base, values: &Assignment) -> Result<Plan, AllocError>
-    ensures value { IsDecoded base.now values.now result }
-    ensures runnable { DecodesRunnable base.now values.now result }
-    ensures agrees { DecodesInAgreement base.now values.now result }
-    ensures ends { DecodesAsSaid base.now values.now result }
+pub fn decode(alloc: Global, numbering: &Numbering, values: &Assignment) -> Result<Plan, AllocError>
+    ensures value { IsDecoded numbering.now values.now result }
+    ensures runnable { DecodesRunnable numbering.now values.now result }
+    ensures agrees { DecodesInAgreement numbering.now values.now result }
+    ensures ends { DecodesAsSaid numbering.now values.now result }
 {
     let mut steps = Vec::new(alloc);
-    for step in 1..=base.counts().steps {
-        steps.push(given_in(alloc, base, values, step)?)?;
+    for step in 1..=numbering.counts().steps {
+        steps.push(given_in(alloc, numbering, values, step)?)?;
     }
     cut_off(&mut steps);
     Ok(Plan {
@@ -42,43 +42,43 @@ pub fn decode(alloc: Global, base: &Base, values: &Assignment) -> Result<Plan, A
 }
 
 /// Whether a command is given by a step, which none is by step 0.
-fn is_given(base: &Base, values: &Assignment, command: Command, step: u32) -> bool
-    requires command { HasCommand base.now command }
-    requires step { step ≤ base.now.steps }
-    ensures { OfBase base.now (λ d routes n. result ≡ given_by (says d routes n values.now) command step) }
+fn is_given(numbering: &Numbering, values: &Assignment, command: Command, step: u32) -> bool
+    requires command { HasCommand numbering.now command }
+    requires step { step ≤ numbering.now.steps }
+    ensures { OfNumbering numbering.now (λ d routes n. result ≡ given_by (says d routes n values.now) command step) }
 {
     if step == 0 {
         return false;
     }
-    values.value(base.given_lit(command.train, command.route, step).var)
+    values.value(numbering.given_lit(command.train, command.route, step).var)
 }
 
 /// Whether a command is given by a step and not by the one before.
-fn is_new(base: &Base, values: &Assignment, command: Command, step: u32) -> bool
-    requires command { HasCommand base.now command }
+fn is_new(numbering: &Numbering, values: &Assignment, command: Command, step: u32) -> bool
+    requires command { HasCommand numbering.now command }
     requires at_least_one { 1 ≤ step }
-    requires within { step ≤ base.now.steps }
-    ensures { OfBase base.now (λ d routes n. result ≡ is_new d routes n values.now step command) }
+    requires within { step ≤ numbering.now.steps }
+    ensures { OfNumbering numbering.now (λ d routes n. result ≡ is_new d routes n values.now step command) }
 {
-    is_given(base, values, command, step) && !is_given(base, values, command, step - 1)
+    is_given(numbering, values, command, step) && !is_given(numbering, values, command, step - 1)
 }
 
 /// Adds a command, where it is new in a step.
 fn add_if_new(
-    base: &Base,
+    numbering: &Numbering,
     values: &Assignment,
     command: Command,
     step: u32,
     commands: &mut Vec<Command>,
 ) -> Result<(), AllocError>
-    requires command { HasCommand base.now command }
+    requires command { HasCommand numbering.now command }
     requires at_least_one { 1 ≤ step }
-    requires within { step ≤ base.now.steps }
-    ensures { (d : Station) (routes : List Route) (n : ℕ) → IsBaseOf d routes n base.now
+    requires within { step ≤ numbering.now.steps }
+    ensures { (d : Station) (routes : List Route) (n : ℕ) → IsNumberingOf d routes n numbering.now
         → OnOk result (commands.new.items ≡ commands.old.items
         ++ filter (is_new d routes n values.now step) (command ∷ [])) }
 {
-    if is_new(base, values, command, step) {
+    if is_new(numbering, values, command, step) {
         commands.push(command)?;
     }
     Ok(())
@@ -86,26 +86,26 @@ fn add_if_new(
 
 /// Adds the commands of a train that are new in a step.
 fn add_new(
-    base: &Base,
+    numbering: &Numbering,
     values: &Assignment,
     train: TrainNo,
     step: u32,
     commands: &mut Vec<Command>,
 ) -> Result<(), AllocError>
     requires first_train { 1 ≤ train.0 }
-    requires last_train { train.0 ≤ base.now.trains }
+    requires last_train { train.0 ≤ numbering.now.trains }
     requires at_least_one { 1 ≤ step }
-    requires within { step ≤ base.now.steps }
-    ensures { (d : Station) (routes : List Route) (n : ℕ) → IsBaseOf d routes n base.now
+    requires within { step ≤ numbering.now.steps }
+    ensures { (d : Station) (routes : List Route) (n : ℕ) → IsNumberingOf d routes n numbering.now
         → OnOk result (commands.new.items ≡ commands.old.items
         ++ filter (is_new d routes n values.now step) (commands_of routes train)) }
 {
-    for route in 1..=base.counts().routes {
+    for route in 1..=numbering.counts().routes {
         let command = Command {
             train,
             route: RouteNo(route),
         };
-        add_if_new(base, values, command, step, commands)?;
+        add_if_new(numbering, values, command, step, commands)?;
     }
     Ok(())
 }
@@ -113,17 +113,17 @@ fn add_new(
 /// The commands that are new in a step.
 fn given_in(
     alloc: Global,
-    base: &Base,
+    numbering: &Numbering,
     values: &Assignment,
     step: u32,
 ) -> Result<List<Command>, AllocError>
     requires at_least_one { 1 ≤ step }
-    requires within { step ≤ base.now.steps }
-    ensures { OfBase base.now (λ d routes n. IfOk result (λ cs. cs ≡ new_in d routes n values.now step)) }
+    requires within { step ≤ numbering.now.steps }
+    ensures { OfNumbering numbering.now (λ d routes n. IfOk result (λ cs. cs ≡ new_in d routes n values.now step)) }
 {
     let mut commands = Vec::new(alloc);
-    for train in 1..=base.counts().trains {
-        add_new(base, values, TrainNo(train), step, &mut commands)?;
+    for train in 1..=numbering.counts().trains {
+        add_new(numbering, values, TrainNo(train), step, &mut commands)?;
     }
     Ok(List::from_vec(commands))
 }

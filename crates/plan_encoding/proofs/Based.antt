@@ -9,17 +9,19 @@ use Rattle.rail_base.specs.Numbering.{before_first}
 use Rattle.rail_base.specs.Members.{In}
 use Rattle.rail_base.proofs.Members.{and_left, and_right, and_both, list_any_gives, list_any_from, same_bool}
 use Rattle.rail_spec.specs.Plans.{all_commands, contend, is_command}
+use Rattle.clause_spec.specs.declared.question.BaseKind.TheVariants.{Plain}
 use Rattle.clause_spec.specs.Variables.{Before, is_pair, numbered, pairs, yes}
 use Rattle.clause_spec.specs.Clauses.{base_clauses, past_limit}
 use Rattle.clause_spec.proofs.Places.{command_from, pair_from, pair_of, route_in, train_in}
 use Rattle.clause_spec.proofs.Steps.{is_command_same, is_command_self}
 use Rattle.plan_encoding.specs.declared.sink.BaseFault.{BaseFault}
 use Rattle.plan_encoding.specs.declared.sink.BaseFault.TheVariants.{TooLarge, Memory}
-use Rattle.plan_encoding.specs.Bases.{Numbered, HasCommand, IsBaseOf, IsRefused}
+use Rattle.plan_encoding.specs.Bases.{IsRefused}
+use Rattle.plan_encoding.specs.Numberings.{Numbered, HasCommand, IsNumberingOf}
 use Rattle.plan_encoding.specs.Sinks.{SinkView, Emitted, emitted, FaultSays}
 use Rattle.plan_encoding.proofs.Emission.{emitted_kept, emitted_none, emitted_past}
 
-module _ (d : Station) (routes : List Route) (n : ℕ) (b : Numbered) (is : IsBaseOf d routes n b) (e c : Command) (he : HasCommand b e) (hc : HasCommand b c) where
+module _ (d : Station) (routes : List Route) (n : ℕ) (b : Numbered) (is : IsNumberingOf d routes n b) (e c : Command) (he : HasCommand b e) (hc : HasCommand b c) where
   known : (x : Command) → HasCommand b x → In x (all_commands d routes)
   known x h = command_from d routes x.train x.route (train_in d x.train h.first_train (subst (λ m. x.train.0 ≤ m) is.trains h.last_train)) (route_in routes x.route h.first_route (subst (λ m. x.route.0 ≤ m) is.routes h.last_route))
 
@@ -69,7 +71,7 @@ module _ (d : Station) (routes : List Route) (n : ℕ) (b : Numbered) (is : IsBa
 
 module _ (d : Station) (routes : List Route) (n : ℕ) (old : SinkView) (empty : old.literals ≡ 0) where
   -- a fault of listing is one of the base
-  pub refused : (e : BaseFault) → FaultSays (emitted old (base_clauses d routes n)) e → IsRefused d routes n e
+  pub refused : (e : BaseFault) → FaultSays (emitted old (base_clauses d routes n)) e → IsRefused Plain d routes n e
   refused (TooLarge k) h = ap (λ m. past_limit 16000000 m (base_clauses d routes n)) (sym empty) ∙ emitted_past old (base_clauses d routes n) k h
   refused Memory h = tt
 

@@ -1,14 +1,15 @@
 -- Clauses that are listed part by part.
-use Rattle.std.proofs.Common.{◌≡◌, ℕ, ◌+◌, ◌-◌, ◌<◌, Bool, true, false, List, [], ◌∷◌, ◌++◌, if◌then◌else◌, length, drop, get_or, nat_lt, refl, sym, ap, subst, ◌∙◌, map, flat_map, Some, None, append-nil}
+use Rattle.std.proofs.Common.{◌≡◌, ℕ, ◌+◌, ◌-◌, ◌<◌, Bool, true, false, List, [], ◌∷◌, ◌++◌, if◌then◌else◌, length, drop, get_or, nat_lt, arith, refl, sym, ap, subst, ◌∙◌, map, flat_map, Some, None, append-nil}
 use Rattle.std.specs.Prelude.{Result, Ok, Err, IfErr}
 use Rattle.std.specs.Result.{IsErrAnd}
+use Rattle.std.proofs.lemmas.List.Sums.{sum_by-cons}
 use Rattle.std.proofs.lemmas.List.{append_assoc, map-append, drop_more}
 use Rattle.sat_clause.specs.declared.lit.Lit.{Lit}
 use Rattle.rail_base.specs.Numbering.{count_from}
 use Rattle.plan_encoding.specs.declared.sink.BaseFault.{BaseFault}
 use Rattle.plan_encoding.specs.declared.sink.BaseFault.TheVariants.{TooLarge, Memory}
 use Rattle.plan_encoding.specs.declared.encoder.Encoder.{Encoder}
-use Rattle.clause_spec.specs.Clauses.{Clause, past_limit}
+use Rattle.clause_spec.specs.Clauses.{Clause, literals, past_limit}
 use Rattle.plan_encoding.specs.Sinks.{SinkView, Emission, Emitted, TooMany, with_clause, emitted, FaultSays}
 use Rattle.clause_spec.specs.Variables.{numbered}
 use Rattle.plan_encoding.specs.Encoders.{numbered_clauses}
@@ -123,7 +124,20 @@ emitted_none d e (c ∷ cs) h = go (nat_lt 16000000 (d.literals + length c)) h (
     go true h rest = absurd (cc)
     go false h rest = rest h
 
--- and where there are none too many, all clauses are kept, live
+-- and where there are none too many, all literals are counted
+pub emitted_literals : (d e : SinkView) (cs : List (List Lit)) → emitted d cs ≡ Emitted e → e.literals ≡ d.literals + literals cs
+emitted_literals d e [] h = (let s = same h in omega arith)
+  where
+    same : Emitted d ≡ Emitted e → e.literals ≡ d.literals
+    same h = cc
+emitted_literals d e (c ∷ cs) h = go (nat_lt 16000000 (d.literals + length c)) h (emitted_literals (with_clause d c) e cs)
+  where
+    go : (b : Bool) → (if b then TooMany (d.literals + length c) else emitted (with_clause d c) cs) ≡ Emitted e → (emitted (with_clause d c) cs ≡ Emitted e → e.literals ≡ d.literals + length c + literals cs)
+        → e.literals ≡ d.literals + literals (c ∷ cs)
+    go true h rest = absurd (cc)
+    go false h rest = (let r = rest h in let all = sum_by-cons (λ (ls : List Lit). length ls) c cs in omega arith)
+
+-- all clauses are kept, live
 pub emitted_kept : (d e : SinkView) (cs : List (List Lit)) → emitted d cs ≡ Emitted e → d.keep ≡ true → e.clauses ≡ d.clauses ++ map (λ c. (c, true)) cs
 emitted_kept d e [] h k = sym (append-nil d.clauses ∙ same h)
   where

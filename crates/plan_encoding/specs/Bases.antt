@@ -1,54 +1,24 @@
 -- What a base is.
-use Rattle.std.specs.Prelude.{ℕ, ◌≡◌, ◌≤◌, true, List, length, map, Some, if◌then◌else◌, Option, None}
-use Rattle.sat_clause.specs.Clauses.{Store}
+use Rattle.std.specs.Prelude.{ℕ, ◌≡◌, true, List, map, Some}
 use Rattle.rail_base.specs.declared.station.Station.{Station}
 use Rattle.rail_base.specs.declared.route.Route.{Route}
-use Rattle.rail_base.specs.declared.plan.Command.{Command}
-use Rattle.clause_spec.specs.Variables.{pairs, Given, Before, numbered, yes}
-use Rattle.clause_spec.specs.Clauses.{base_clauses, past_limit}
+use Rattle.clause_spec.specs.declared.question.BaseKind.{BaseKind}
+use Rattle.clause_spec.specs.Clauses.{literals, past_limit}
+use Rattle.clause_spec.specs.Laws.{HasFewLiterals}
+use Rattle.alike_clause_spec.specs.Sorted.{clauses_of}
+use Rattle.plan_encoding.specs.declared.numbering.Base.{Base}
 use Rattle.plan_encoding.specs.declared.sink.BaseFault.{BaseFault}
 use Rattle.plan_encoding.specs.declared.sink.BaseFault.TheVariants.{TooLarge, Memory}
-use Rattle.rail_base.specs.declared.station.TrainNo.{TrainNo}
-use Rattle.rail_base.specs.declared.route.RouteNo.{RouteNo}
-use Rattle.rail_spec.specs.Plans.{contend}
-use Rattle.sat_clause.specs.declared.lit.Lit.{Lit}
+use Rattle.plan_encoding.specs.Numberings.{IsNumberingOf}
 
--- how many trains, routes and steps there are, the pairs that contend, and clauses
-pub record Numbered : Type 0 where
-  pub trains : ℕ
-  pub routes : ℕ
-  pub steps : ℕ
-  pub pairs : List (Command × Command)
-  pub clauses : Store
-
--- it has a train and a route of these numbers
-pub record HasCommand (b : Numbered) (c : Command) : Type 0 where
-  pub first_train : 1 ≤ c.train.0
-  pub last_train : c.train.0 ≤ b.trains
-  pub first_route : 1 ≤ c.route.0
-  pub last_route : c.route.0 ≤ b.routes
-
--- it is the base of a design with these routes, for n steps: its clauses are there in their order, all live
-pub record IsBaseOf (d : Station) (table : List Route) (n : ℕ) (b : Numbered) : Type 0 where
-  pub trains : b.trains ≡ length d.trains
-  pub routes : b.routes ≡ length table
-  pub steps : b.steps ≡ n
-  pub pairs : b.pairs ≡ pairs d table
-  pub clauses : b.clauses ≡ map (λ c. (c, true)) (base_clauses d table n)
+-- it is the base of this kind, of a design with these routes, for n steps: its clauses are there in their order, all live, and few
+pub record IsBaseOf (kind : BaseKind) (d : Station) (table : List Route) (n : ℕ) (b : Base) : Type 0 where
+  pub numbering : IsNumberingOf d table n b.numbering
+  pub clauses : b.clauses ≡ map (λ c. (c, true)) (clauses_of kind d table n)
+  pub literals : b.literals ≡ literals (clauses_of kind d table n)
+  pub few : HasFewLiterals (clauses_of kind d table n)
 
 -- there are more than 16,000,000 literals, so many up to the first clause that is too much
-abbrev pub IsRefused : Station → List Route → ℕ → BaseFault → Type 0
-IsRefused d routes n (TooLarge k) = past_limit 16000000 0 (base_clauses d routes n) ≡ Some k
-IsRefused d routes n Memory = Unit {0}
-
--- it is so of each design and number of steps of which this is the base
-abbrev pub OfBase : Numbered → (Station → List Route → ℕ → Type 0) → Type 0
-OfBase base Is = (d : Station) (routes : List Route) (n : ℕ) → IsBaseOf d routes n base → Is d routes n
-
--- the literal that a train is given a route by a step
-abbrev pub given_number : Station → List Route → ℕ → TrainNo → RouteNo → ℕ → Lit
-given_number d routes n t r i = numbered d routes n (yes (Given (record { train = t; route = r }) i))
-
--- the literal that one command is given before another, where they contend
-abbrev pub before_number : Station → List Route → ℕ → Command → Command → Option Lit
-before_number d routes n e c = if contend routes e c then Some (numbered d routes n (yes (Before e c))) else None
+abbrev pub IsRefused : BaseKind → Station → List Route → ℕ → BaseFault → Type 0
+IsRefused kind d routes n (TooLarge k) = past_limit 16000000 0 (clauses_of kind d routes n) ≡ Some k
+IsRefused kind d routes n Memory = Unit {0}

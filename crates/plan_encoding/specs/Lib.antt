@@ -6,7 +6,7 @@ pub mod Waiting
 pub mod Families
 pub mod Waits
 pub mod Orders
+pub mod Numberings
 pub mod Bases
-pub mod Sorted
 pub mod Nodes
 pub mod Releases

@@ -50,7 +50,7 @@ impl<'a> Encoder<'a> {
     }
 
     /// The encoder with the numbers of its routes.
-    fn network(self, alloc: Global) -> Result<Network<'a>, AllocError>
+    pub fn network(self, alloc: Global) -> Result<Network<'a>, AllocError>
         ensures { IfOk result (λ network. network.encoder ≡ self.entry) }
     {
         Ok(Network {

@@ -86,16 +86,24 @@ impl ClauseSink {
         })
     }
 
-    /// An empty sink that keeps clauses, and goes on counting their literals from this one.
-    pub fn after(&self, alloc: Global) -> ClauseSink
-        ensures { result ≡ record { keep = true; literals = self.now.literals; clauses = [] } }
+    /// A sink that keeps clauses behind these, which have so many literals.
+    pub fn behind(clauses: Arena, literals: u64) -> ClauseSink
+        requires { literals ≤ 16000000 }
+        ensures { result ≡ record { keep = true; literals = literals; clauses = clauses } }
     {
         ClauseSink {
             keep: true,
-            literals: self.literals,
+            literals,
             count: 0,
-            clauses: Arena::new(alloc),
+            clauses,
         }
+    }
+
+    /// How many literals they have.
+    pub fn literals(&self) -> u64
+        ensures { result ≡ self.now.literals }
+    {
+        self.literals
     }
 
     /// Emits one more clause, unless there are then too many literals.

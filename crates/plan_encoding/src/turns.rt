@@ -10,8 +10,8 @@ ghost use Rattle.plan_encoding.specs.Encoders.{IsCommand, Emits, Stops, over, st
 
 use crate::encoder::Encoder;
 use crate::links::push_if;
+use crate::network::Network;
 use crate::sink::{BaseFault, ClauseSink};
-use crate::tables::Tables;
 use interlocking::starts_in;
 use rail_base::plan::Command;
 use rail_base::route::{RouteNo, route_at};
@@ -19,7 +19,7 @@ use rail_base::station::TrainNo;
 use sat_clause::Lit;
 use std::alloc::{AllocError, Global};
 
-impl Tables<'_> {
+impl Network<'_> {
     /// Emits that the trains of each pair come in turn.
     pub fn emit_turns(
         &self,

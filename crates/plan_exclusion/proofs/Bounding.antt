@@ -25,7 +25,7 @@ use Rattle.sat_clause.specs.declared.lit.Lit.{Lit}
 use Rattle.sat_clause.specs.Clauses.{clause_holds}
 use Rattle.sat_clause.specs.Hints.{is_assigned}
 use Rattle.sat_core.specs.Models.{value_in}
-use Rattle.plan_exclusion.specs.declared.method.Method.TheVariants.{Bounds}
+use Rattle.clause_spec.specs.declared.question.BaseKind.TheVariants.{Sorted}
 use Rattle.plan_exclusion.specs.Exclusions.{IsExclusion}
 use Rattle.plan_exclusion.specs.Failures.{FailsSo, AreValuesOfPlan}
 use Rattle.plan_exclusion.proofs.Below.{bound-below}
@@ -53,7 +53,7 @@ module _ (d : Station) (n : ℕ) (some : 1 ≤ n) (plan : List (List Command)) (
         not_false (is_false_of plan (clause_of_bound d (routes_of d) b)) (sym (bound_says b valid) ∙ own)
 
     pub bounded_so : (history : List TrainHistory) (tick : ℕ) (violation : Violation) → FailsSo d plan history tick violation
-        → (b : Bound) (line : List ℕ) (clause : List Lit) → line_in_bytes line ≡ Some (Refute (evidence.Bound b)) → refuted d n (evidence.Bound b) ≡ Ok clause → clause_holds (value_in values) clause ≡ false → IsExclusion Bounds d n plan line clause
+        → (b : Bound) (line : List ℕ) (clause : List Lit) → line_in_bytes line ≡ Some (Refute (evidence.Bound b)) → refuted d n (evidence.Bound b) ≡ Ok clause → clause_holds (value_in values) clause ≡ false → IsExclusion Sorted d n plan line clause
     bounded_so history tick violation fails b line clause read shows denied =
         let s = shown_valid of.Bound (fault_of d (routes_of d) b) (numbered_bound d (routes_of d) n b) clause shows in
         let text = one-text line (Refute (evidence.Bound b)) read in

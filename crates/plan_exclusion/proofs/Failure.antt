@@ -25,7 +25,7 @@ use Rattle.rail_spec.specs.Track.{routes_of}
 use Rattle.sat_clause.specs.declared.lit.Lit.{Lit}
 use Rattle.sat_clause.specs.Hints.{is_assigned}
 use Rattle.timing_refuter.specs.Small.{IsSmall}
-use Rattle.plan_exclusion.specs.declared.method.Method.{Method}
+use Rattle.clause_spec.specs.declared.question.BaseKind.{BaseKind}
 use Rattle.plan_exclusion.specs.Exclusions.{IsExclusion}
 use Rattle.plan_exclusion.specs.Failures.{FailsSo}
 use Rattle.plan_exclusion.proofs.Below.{numbered-below}
@@ -55,7 +55,7 @@ module _ (d : Station) (n : ℕ) (routes : List Route) (table : routes ≡ route
         le-refl k = omega arith
 
     -- the line and the clause of the cone exclude it, whatever the method
-    pub excluded_so : (m : Method) (history : List TrainHistory) (tick : ℕ) (violation : Violation) → FailsSo d plan history tick violation → IsSliceOf d routes plan tick violation cone
+    pub excluded_so : (m : BaseKind) (history : List TrainHistory) (tick : ℕ) (violation : Violation) → FailsSo d plan history tick violation → IsSliceOf d routes plan tick violation cone
         → (line : List ℕ) (clause : List Lit) → line ≡ text_of_line (Refute (evidence.Cone cone)) → clause ≡ numbered_clause d routes n cone → IsExclusion m d n plan line clause
     excluded_so m history tick violation fails is line clause text same =
         let own : Refutes d (routes_of d) n cone plan = subst (λ (r : List Route). Refutes d r n cone plan) table refutes_so in

@@ -12,11 +12,11 @@ use Rattle.sat_clause.specs.Clauses.{clause_holds}
 use Rattle.sat_core.specs.Models.{value_in}
 use Rattle.plan_exclusion.specs.declared.exclusion.Exclusion.{Exclusion}
 use Rattle.plan_exclusion.specs.declared.exclusion.FailedPlan.{FailedPlan}
-use Rattle.plan_exclusion.specs.declared.method.Method.{Method}
+use Rattle.clause_spec.specs.declared.question.BaseKind.{BaseKind}
 use Rattle.plan_exclusion.specs.Exclusions.{IsExclusion}
 
 -- it excludes the plan that fails
-abbrev pub IsExclusionOf : FailedPlan → Method → Exclusion → Type 0
+abbrev pub IsExclusionOf : FailedPlan → BaseKind → Exclusion → Type 0
 IsExclusionOf f m e =
     IsExclusion m f.contention.interlocking.now.design.station f.steps.count f.plan.now.steps
     e.line.items e.clause.items

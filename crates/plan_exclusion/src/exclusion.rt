@@ -9,12 +9,12 @@ ghost use Rattle.slice_spec.specs.Holders.{GivesEach};
 ghost use Rattle.rail_spec.specs.Feasible.{IsRunnable};
 ghost use Rattle.rail_spec.specs.Track.{routes_of};
 ghost use Rattle.plan_exclusion.specs.Failures.{FailsSo, AreValuesOfPlan};
-ghost use Rattle.plan_exclusion.specs.declared.method.Method.TheVariants as by;
+ghost use Rattle.clause_spec.specs.declared.question.BaseKind.TheVariants as by;
 
 use crate::denied::is_denied;
-use crate::method::Method;
 use bound_finder::Finder;
 use bound_spec::{Bound, Evidence};
+use clause_spec::BaseKind;
 use cone_clause::clause_of;
 use cone_form::Contention;
 use interlocking::Steps;
@@ -60,8 +60,8 @@ impl FailedPlan<'_, '_> {
     ghost use Rattle.plan_exclusion.specs.Written.{DeniedBy, DeniesNothing, ExcludesNothing, IsExclusionOf};
     ghost use Rattle.plan_exclusion.specs.Written.{IsNoBoundLine};
 
-    /// What excludes the plan: by the method of cones the cone of its failure, and by that of bounds one of the bounds
-    /// that are found, or the cone where none of them excludes it.
+    /// What excludes the plan: the cone of its failure; but where trains are sorted one of the bounds that are found, or
+    /// the cone where none of them excludes it.
     ///
     /// # Errors
     ///
@@ -69,16 +69,16 @@ impl FailedPlan<'_, '_> {
     pub fn exclusion(
         &self,
         alloc: Global,
-        method: Method,
+        kind: BaseKind,
         finder: &mut Finder,
     ) -> Result<Exclusion, AllocError>
-        ensures { IfOk result (IsExclusionOf self.now method) }
+        ensures { IfOk result (IsExclusionOf self.now kind) }
     {
-        match method {
-            Method::Cones => self.by_cone(alloc, method),
-            Method::Bounds => match self.by_bounds(alloc, finder)? {
+        match kind {
+            BaseKind::Plain => self.by_cone(alloc, kind),
+            BaseKind::Sorted => match self.by_bounds(alloc, finder)? {
                 Some(exclusion) => Ok(exclusion),
-                None => self.by_cone(alloc, method),
+                None => self.by_cone(alloc, kind),
             },
         }
     }
@@ -95,8 +95,8 @@ impl FailedPlan<'_, '_> {
     }
 
     /// The exclusion by the cone of the failure.
-    fn by_cone(&self, alloc: Global, method: Method) -> Result<Exclusion, AllocError>
-        ensures { IfOk result (IsExclusionOf self.now method) }
+    fn by_cone(&self, alloc: Global, kind: BaseKind) -> Result<Exclusion, AllocError>
+        ensures { IfOk result (IsExclusionOf self.now kind) }
     {
         let cone = slice(
             alloc,
@@ -144,7 +144,7 @@ impl FailedPlan<'_, '_> {
     /// alone.
     fn by_bound(&self, alloc: Global, bound: Bound) -> Result<Option<Exclusion>, AllocError>
         ensures { IfOk result (λ e. MatchOption e (ExcludesNothing self.now bound)
-            (IsExclusionOf self.now by.Bounds)) }
+            (IsExclusionOf self.now by.Sorted)) }
     {
         let evidence = Evidence::Bound(bound);
         let line = write_line(alloc, &Line::Refute { evidence })?;
@@ -159,7 +159,7 @@ impl FailedPlan<'_, '_> {
 
     /// The exclusion by the first of the bounds that are found that is one, if any is.
     fn by_bounds(&self, alloc: Global, finder: &mut Finder) -> Result<Option<Exclusion>, AllocError>
-        ensures { IfOk result (λ e. ForSome e (IsExclusionOf self.now by.Bounds)) }
+        ensures { IfOk result (λ e. ForSome e (IsExclusionOf self.now by.Sorted)) }
     {
         let bounds = finder.bounds(&self.contention, self.plan, self.history, self.violation)?;
         for bound in bounds {

@@ -4,8 +4,6 @@
 mod denied;
 mod exclusion;
 mod laws;
-mod method;
 
 pub use exclusion::{Exclusion, FailedPlan};
 pub use laws::evidence_denies_its_plan;
-pub use method::Method;

@@ -1,8 +1,8 @@
 -- A file that shows k shows that no plan of k steps is feasible.
-use Rattle.std.proofs.Common.{◌≡◌, ◌≤◌, ◌<◌, ◌+◌, ◌-◌, ℕ, Bool, true, false, not, ◌&&◌, ◌==◌, if◌then◌else◌, List, [], ◌∷◌, ◌++◌, refl, ap, sym, ◌∙◌, arith, le_refl, is_none, is_some, Option, Some, None, Ok}
+use Rattle.std.proofs.Common.{◌≡◌, ◌≤◌, ◌<◌, ℕ, Bool, true, false, not, ◌&&◌, ◌==◌, if◌then◌else◌, List, [], ◌∷◌, ◌++◌, refl, ap, sym, ◌∙◌, arith, le_refl, is_none, is_some, Option, Some, None, Ok}
 use Rattle.std.specs.List.{list_all}
 use Rattle.rail_text.specs.Pieces.{pieces}
-use Rattle.alike_clause_spec.specs.Sorted.{sorted_base, HasSortedModel}
+use Rattle.alike_clause_spec.specs.Sorted.{clauses_of, sorted_base, HasSortedModel}
 use Rattle.alike_clause_spec.specs.Turns.{turn_clauses}
 use Rattle.alike_clause_spec.proofs.Holding.{has_model}
 use Rattle.bound_clause.proofs.Holding.{bound_holds}
@@ -17,9 +17,12 @@ use Rattle.log_checker.specs.Verdict.{head_in}
 use Rattle.log_checker.proofs.ShownSo.{shown-so}
 use Rattle.clause_spec.specs.Clauses.{base_clauses, past_limit}
 use Rattle.clause_spec.specs.Models.{model_of}
-use Rattle.clause_spec.specs.Variables.{By, number_of, variable_count}
+use Rattle.clause_spec.specs.Variables.{variables_of}
 use Rattle.proof_log.specs.declared.head.Head.{Head}
-use Rattle.proof_log.specs.declared.head.Head.TheVariants.{Plain, Named, Sorted}
+use Rattle.proof_log.specs.declared.head.Head.TheVariants.{Unnamed, Of}
+use Rattle.proof_log.specs.Heads.{base_of}
+use Rattle.clause_spec.specs.declared.question.BaseKind.{BaseKind}
+use Rattle.clause_spec.specs.declared.question.BaseKind.TheVariants.{Plain, Sorted}
 use Rattle.rail_alike.specs.Tests.{neighbors}
 use Rattle.rail_base.specs.declared.plan.Command.{Command}
 use Rattle.rail_base.specs.declared.route.Route.{Route}
@@ -45,10 +48,6 @@ live_hold : (values : ℕ → Bool) (cs : List (List Lit)) → list_all (clause_
 live_hold values [] = refl
 live_hold values (c ∷ cs) = ap (λ b. clause_holds values c && b) (live_hold values cs)
 
--- the last variables say that all is given by step 1, 2, and so on
-by_number : (d : Station) (n k : ℕ) → number_of d (routes_of d) n (By k) ≡ variable_count d (routes_of d) n - n + k
-by_number d n k = omega arith
-
 -- a cone with no fault speaks of the design
 pub names_design : (d : Station) (routes : List Route) (k : Cone) (found : Option ConeFault) → found ≡ cone.fault_of d routes k → found ≡ None → cone.in_design d routes k ≡ true
 names_design d routes k found is none = (holds_of_valid d routes k (ap is_none (sym is ∙ none))).in_design
@@ -73,41 +72,36 @@ prefix values (x ∷ xs) ys h =
     let p = both (clause_holds values x) (list_all (clause_holds values) (xs ++ ys)) h in
     rw (p.0, prefix values xs ys p.1) refl
 
-named_hold : (head : Head) (d : Station) (n : ℕ) (values : ℕ → Bool) → list_all (clause_holds values) (sorted_base d (routes_of d) n) ≡ true → list_all (clause_holds values) (clauses_under head d n) ≡ true
-named_hold Plain d n values h = prefix values (base_clauses d (routes_of d) n) (turn_clauses d (routes_of d) n (neighbors d)) h
-named_hold (Named version steps) d n values h = prefix values (base_clauses d (routes_of d) n) (turn_clauses d (routes_of d) n (neighbors d)) h
-named_hold (Sorted version steps) d n values h = h
+-- what makes the sorted base true makes each base true
+kind_holds : (kind : BaseKind) (d : Station) (n : ℕ) (values : ℕ → Bool) → list_all (clause_holds values) (sorted_base d (routes_of d) n) ≡ true → list_all (clause_holds values) (clauses_of kind d (routes_of d) n) ≡ true
+kind_holds Plain d n values h = prefix values (base_clauses d (routes_of d) n) (turn_clauses d (routes_of d) n (neighbors d)) h
+kind_holds Sorted d n values h = h
 
-pub denied_infeasible : (d : Station) → IsAdmitted d → (head : Head) (n k : ℕ) → 1 ≤ n → Denies (refuted d n) (variable_count d (routes_of d) n) n (all_live (clauses_under head d n)) k → IsInfeasible d k
+pub denied_infeasible : (d : Station) → IsAdmitted d → (head : Head) (n k : ℕ) → 1 ≤ n → Denies (refuted d n) (variables_of d (routes_of d) n) (all_live (clauses_under head d n)) k → IsInfeasible d k
 denied_infeasible d admitted head n k some denies plan feasible =
     let first : 0 < k = denies.least (omega arith) in
     let m : HasSortedModel d n k = has_model d n k (omega arith) denies.at_most_steps plan feasible in
     let values : ℕ → Bool = model_of d (routes_of d) n m.plan in
     denies.never values (record {
-      clauses = sym (live_hold values (clauses_under head d n)) ∙ named_hold head d n values m.holds;
+      clauses = sym (live_hold values (clauses_under head d n)) ∙ kind_holds (base_of head) d n values m.holds;
       holds_of_evidence = evidence_holds d admitted n some m.plan m.feasible;
-    }) (ap values (sym (by_number d n k)) ∙ m.by)
+    }) m.by
 
 under_so : (d : Station) → IsAdmitted d → (head : Head) (n k : ℕ) (bytes : List ℕ) → 1 ≤ n → judged_under head d n bytes ≡ Yes k → (1 ≤ k) × ((k ≤ n) × IsInfeasible d k)
 under_so d admitted head n k bytes some e =
-    let denies = shown-so head (refuted d n) (variable_count d (routes_of d) n) n (all_live (clauses_under head d n)) k bytes e in
+    let denies = shown-so head (refuted d n) (variables_of d (routes_of d) n) (all_live (clauses_under head d n)) k bytes e in
     let first : 0 < k = denies.least (omega arith) in
     (omega arith, (denies.at_most_steps, denied_infeasible d admitted head n k some denies))
 
 by_so : (d : Station) → IsAdmitted d → (n k : ℕ) (bytes : List ℕ) → 1 ≤ n → (head : Option Head) → judged_by d n bytes head ≡ Yes k → (1 ≤ k) × ((k ≤ n) × IsInfeasible d k)
-by_so d admitted n k bytes some None e = under_so d admitted Plain n k bytes some e
-by_so d admitted n k bytes some (Some Plain) e = under_so d admitted Plain n k bytes some e
-by_so d admitted n k bytes some (Some (Named version steps)) e = go (not (version == d.version && steps == n)) e
+by_so d admitted n k bytes some None e = under_so d admitted Unnamed n k bytes some e
+by_so d admitted n k bytes some (Some Unnamed) e = under_so d admitted Unnamed n k bytes some e
+by_so d admitted n k bytes some (Some (Of q)) e = go (not (q.version == d.version && q.steps == n)) (is_some (past_limit 16000000 0 (clauses_under (Of q) d n))) e
   where
-    go : (differs : Bool) → (if differs then No 1 HeadDiffers else judged_under (Named version steps) d n bytes) ≡ Yes k → (1 ≤ k) × ((k ≤ n) × IsInfeasible d k)
-    go true e = absurd (cc)
-    go false e = under_so d admitted (Named version steps) n k bytes some e
-by_so d admitted n k bytes some (Some (Sorted version steps)) e = go (not (version == d.version && steps == n)) (is_some (past_limit 16000000 0 (clauses_under (Sorted version steps) d n))) e
-  where
-    go : (differs large : Bool) → (if differs then No 1 HeadDiffers else if large then No 1 BaseTooLarge else judged_under (Sorted version steps) d n bytes) ≡ Yes k → (1 ≤ k) × ((k ≤ n) × IsInfeasible d k)
+    go : (differs large : Bool) → (if differs then No 1 HeadDiffers else if large then No 1 BaseTooLarge else judged_under (Of q) d n bytes) ≡ Yes k → (1 ≤ k) × ((k ≤ n) × IsInfeasible d k)
     go true large e = absurd (cc)
     go false true e = absurd (cc)
-    go false false e = under_so d admitted (Sorted version steps) n k bytes some e
+    go false false e = under_so d admitted (Of q) n k bytes some e
 
 pub yes_infeasible : YesIsInfeasible
 yes_infeasible d admitted n k bytes some e = by_so d admitted n k bytes some (head_in (pieces bytes)) e

@@ -2,17 +2,18 @@
 use Rattle.std.specs.Prelude.{◌≡◌, ℕ, ◌≤◌, ◌==◌, true, not, ◌&&◌, if◌then◌else◌, List, map, Option, Some, None}
 use Rattle.std.specs.Prelude.{is_some, Result, Ok, Err}
 use Rattle.rail_text.specs.Pieces.{pieces}
-use Rattle.alike_clause_spec.specs.Sorted.{sorted_base}
+use Rattle.alike_clause_spec.specs.Sorted.{clauses_of}
 use Rattle.bound_clause.specs.Numbered.{numbered_bound}
 use Rattle.cone_clause.specs.Numbered.{numbered_clause}
 use Rattle.log_checker.specs.declared.check_result.CheckResult.{CheckResult}
 use Rattle.log_checker.specs.declared.check_result.CheckResult.TheVariants.{Yes, No}
 use Rattle.log_checker.specs.declared.check_result.Reason.TheVariants.{HeadDiffers, BaseTooLarge}
 use Rattle.log_checker.specs.Verdict.{head_in, log_verdict}
-use Rattle.clause_spec.specs.Clauses.{base_clauses, past_limit}
-use Rattle.clause_spec.specs.Variables.{variable_count}
+use Rattle.clause_spec.specs.Clauses.{past_limit}
+use Rattle.clause_spec.specs.Variables.{variables_of}
 use Rattle.proof_log.specs.declared.head.Head.{Head}
-use Rattle.proof_log.specs.declared.head.Head.TheVariants.{Plain, Named, Sorted}
+use Rattle.proof_log.specs.declared.head.Head.TheVariants.{Unnamed, Of}
+use Rattle.proof_log.specs.Heads.{base_of}
 use Rattle.rail_base.specs.declared.station.Station.{Station}
 use Rattle.rail_base.specs.Admitted.{IsAdmitted}
 use Rattle.bound_spec.specs.declared.Evidence.{Evidence}
@@ -40,29 +41,23 @@ abbrev pub refuted : Station → ℕ → Evidence → Result (List Lit) Evidence
 refuted d n (evidence.Cone k) = unless of.Cone (cone.fault_of d (routes_of d) k) (numbered_clause d (routes_of d) n k)
 refuted d n (evidence.Bound b) = unless of.Bound (bound.fault_of d (routes_of d) b) (numbered_bound d (routes_of d) n b)
 
--- the clauses that a head names: those that each plan of at most n steps makes true, or each in which trains come in turn
+-- the clauses that a head names
 abbrev pub clauses_under : Head → Station → ℕ → List (List Lit)
-clauses_under Plain d n = base_clauses d (routes_of d) n
-clauses_under (Named version steps) d n = base_clauses d (routes_of d) n
-clauses_under (Sorted version steps) d n = sorted_base d (routes_of d) n
+clauses_under head d n = clauses_of (base_of head) d (routes_of d) n
 
 -- what the bytes show of the clauses that a head names, and of those of valid cones and bounds
 abbrev pub judged_under : Head → Station → ℕ → List ℕ → CheckResult
 judged_under head d n bytes =
-    let base = all_live (clauses_under head d n) in
-    log_verdict head (refuted d n) (variable_count d (routes_of d) n) n base bytes
+    log_verdict head (refuted d n) (variables_of d (routes_of d) n) (all_live (clauses_under head d n)) bytes
 
--- the same, where a head that names a version of designs and a number of steps names these, and where its clauses are more than
--- those of the base, they are not too many
+-- the same, where a head that names a question names this version of designs and so many steps, and its clauses are not too many
 abbrev pub judged_by : Station → ℕ → List ℕ → Option Head → CheckResult
-judged_by d n bytes (Some (Named version steps)) =
-    if not (version == d.version && steps == n) then No 1 HeadDiffers else judged_under (Named version steps) d n bytes
-judged_by d n bytes (Some (Sorted version steps)) =
-    if not (version == d.version && steps == n) then No 1 HeadDiffers
-    else if is_some (past_limit 16000000 0 (clauses_under (Sorted version steps) d n)) then No 1 BaseTooLarge
-    else judged_under (Sorted version steps) d n bytes
-judged_by d n bytes (Some Plain) = judged_under Plain d n bytes
-judged_by d n bytes None = judged_under Plain d n bytes
+judged_by d n bytes (Some (Of q)) =
+    if not (q.version == d.version && q.steps == n) then No 1 HeadDiffers
+    else if is_some (past_limit 16000000 0 (clauses_under (Of q) d n)) then No 1 BaseTooLarge
+    else judged_under (Of q) d n bytes
+judged_by d n bytes (Some Unnamed) = judged_under Unnamed d n bytes
+judged_by d n bytes None = judged_under Unnamed d n bytes
 
 -- what the bytes show
 abbrev pub judged : Station → ℕ → List ℕ → CheckResult

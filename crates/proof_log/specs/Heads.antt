@@ -2,17 +2,28 @@
 use Rattle.std.specs.Prelude.{ℕ, Bool, true, ◌&&◌, List, [], ◌∷◌, Option, Some, None, codes, decimal, if◌then◌else◌}
 use Rattle.std.specs.List.{join_with_byte}
 use Rattle.std.specs.Str.{bytes_eq}
+use Rattle.clause_spec.specs.declared.question.BaseKind.{BaseKind}
+use Rattle.clause_spec.specs.declared.question.BaseKind.TheVariants.{Plain, Sorted}
 use Rattle.proof_log.specs.declared.head.Head.{Head}
-use Rattle.proof_log.specs.declared.head.Head.TheVariants.{Plain, Named, Sorted}
+use Rattle.proof_log.specs.declared.head.Head.TheVariants.{Unnamed, Of}
 use Rattle.proof_log.specs.Words.{line_words, is_plain}
 use Rattle.proof_log.specs.Parts.{made, two_plain_numbers}
 use Rattle.proof_log.specs.Lines.{if_all}
 
--- `rcvlog` and the version of the file; but for the plain head also the version of the design, and the number of steps
+-- the version of a file that names a base
+abbrev pub base_word : BaseKind → List ℕ
+base_word Plain = codes "2"
+base_word Sorted = codes "4"
+
+-- `rcvlog` and the version of the file; for a question also the version of the design, and the number of steps
 abbrev pub head_words : Head → List (List ℕ)
-head_words Plain = codes "rcvlog" ∷ codes "1" ∷ []
-head_words (Named version steps) = codes "rcvlog" ∷ codes "2" ∷ decimal version ∷ decimal steps ∷ []
-head_words (Sorted version steps) = codes "rcvlog" ∷ codes "4" ∷ decimal version ∷ decimal steps ∷ []
+head_words Unnamed = codes "rcvlog" ∷ codes "1" ∷ []
+head_words (Of q) = codes "rcvlog" ∷ base_word q.base ∷ decimal q.version ∷ decimal q.steps ∷ []
+
+-- the base whose clauses a file with this head speaks of
+abbrev pub base_of : Head → BaseKind
+base_of Unnamed = Plain
+base_of (Of q) = q.base
 
 -- the words, with a space between each and the next
 abbrev pub head_text : Head → List ℕ
@@ -20,24 +31,27 @@ head_text h = join_with_byte 32 (head_words h)
 
 -- no number has more than 18 digits
 abbrev pub keeps_head : Head → Bool
-keeps_head Plain = true
-keeps_head (Named version steps) = is_plain version && is_plain steps
-keeps_head (Sorted version steps) = is_plain version && is_plain steps
+keeps_head Unnamed = true
+keeps_head (Of q) = is_plain q.version && is_plain q.steps
 
--- the heads by the two numbers
-abbrev pub named_by : ℕ × ℕ → Head
-named_by numbers = Named numbers.0 numbers.1
+-- the base that the version of a file names
+abbrev pub base_of_word : List ℕ → Option BaseKind
+base_of_word word =
+    if bytes_eq word (codes "2") then Some Plain else if bytes_eq word (codes "4") then Some Sorted else None
 
-abbrev pub sorted_by : ℕ × ℕ → Head
-sorted_by numbers = Sorted numbers.0 numbers.1
+-- the head of a question by a base, by the two numbers
+abbrev pub asked_by : BaseKind → ℕ × ℕ → Head
+asked_by base numbers = Of (record { version = numbers.0; steps = numbers.1; base = base })
+
+-- the head of a question by a base, by the words after it
+abbrev pub head_of_question : Option BaseKind → List (List ℕ) → Option Head
+head_of_question None words = None
+head_of_question (Some base) words = if_all (made (asked_by base) (two_plain_numbers words))
 
 -- the head of a version of the file, by the words after it
 abbrev pub head_of_version : List ℕ → List (List ℕ) → Option Head
 head_of_version version words =
-    if bytes_eq version (codes "1") then if_all (Some (Plain, words))
-    else if bytes_eq version (codes "2") then if_all (made named_by (two_plain_numbers words))
-    else if bytes_eq version (codes "4") then if_all (made sorted_by (two_plain_numbers words))
-    else None
+    if bytes_eq version (codes "1") then if_all (Some (Unnamed, words)) else head_of_question (base_of_word version) words
 
 -- the head by the words after the first
 abbrev pub head_after : List (List ℕ) → Option Head

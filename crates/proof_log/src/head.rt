@@ -1,27 +1,36 @@
 //! The first line of a proof file.
 
-ghost use Rattle.std.specs.Prelude.{◌≡◌, ◌++◌, ◌∷◌, [], IfOk, decimal};
-ghost use Rattle.proof_log.specs.Parts.{made, two_plain_numbers};
+ghost use Rattle.std.specs.Prelude.{◌≡◌, ◌++◌, ◌∷◌, [], IfOk, Some, decimal};
 ghost use Rattle.proof_log.specs.Lines.{if_all};
-ghost use Rattle.proof_log.specs.Heads.{head_of, head_after, head_of_version, named_by, sorted_by, head_text};
+ghost use Rattle.proof_log.specs.Heads.{base_of, base_of_word, head_of, head_after, head_of_question, head_of_version, head_text};
 ghost use Rattle.proof_log.specs.Reading.{words_left};
 ghost use Rattle.proof_log.specs.Writing.{spaced};
 
 use crate::cone_text::put_spaced;
 use crate::parts::two_plain_numbers;
 use crate::words::first_word;
+use clause_spec::{BaseKind, Question};
 use std::alloc::{AllocError, Global};
 
 /// What the first line of a proof file says of the clauses before the other lines.
 #[derive(Clone, Copy, PartialEq, Eq, Debug)]
 pub enum Head {
-    /// They are those of the base.
-    Plain,
-    /// They are those of the base, for designs of this version and plans of so many steps.
-    Named { version: u64, steps: u64 },
-    /// They are those of the base and of trains that come in turn, for designs of this version and plans of so many
-    /// steps. Bounds may stand in the file.
-    Sorted { version: u64, steps: u64 },
+    /// They are those that each plan makes true.
+    Unnamed,
+    /// They are those of this question. Bounds may stand in the file where it is asked by sorted trains.
+    Of(Question),
+}
+
+impl Head {
+    /// The base whose clauses a file with this head speaks of.
+    pub fn base(self) -> BaseKind
+        ensures { result ≡ base_of self }
+    {
+        match self {
+            Head::Unnamed => BaseKind::Plain,
+            Head::Of(question) => question.base,
+        }
+    }
 }
 
 /// The head that is parsed from the first line of a file, without the LF that ends it. None where it is none. Its numbers
@@ -42,9 +51,21 @@ pub fn write_head(alloc: Global, head: Head) -> Result<Vec<u8>, AllocError>
     ensures { IfOk result (λ text. text.items ≡ head_text head) }
 {
     match head {
-        Head::Plain => Vec::from_slice(alloc, b"rcvlog 1"),
-        Head::Named { version, steps } => write_named(alloc, b"rcvlog 2", version, steps),
-        Head::Sorted { version, steps } => write_named(alloc, b"rcvlog 4", version, steps),
+        Head::Unnamed => Vec::from_slice(alloc, b"rcvlog 1"),
+        Head::Of(
+            Question {
+                version,
+                steps,
+                base: BaseKind::Plain,
+            },
+        ) => write_named(alloc, b"rcvlog 2", version, steps),
+        Head::Of(
+            Question {
+                version,
+                steps,
+                base: BaseKind::Sorted,
+            },
+        ) => write_named(alloc, b"rcvlog 4", version, steps),
     }
 }
 
@@ -59,20 +80,30 @@ fn whole(head: Head, after: Option<&[u8]>) -> Option<Head>
     Some(head)
 }
 
-/// The head of a base, by the version of the design and the number of steps.
-fn named_head(text: Option<&[u8]>) -> Option<Head>
-    ensures { result ≡ if_all (made named_by (two_plain_numbers (words_left text.entry))) }
+/// The base that the version of a file names.
+fn base_of_word(word: &[u8]) -> Option<BaseKind>
+    ensures { result ≡ base_of_word word.now }
 {
-    let ((version, steps), after) = two_plain_numbers(text)?;
-    whole(Head::Named { version, steps }, after)
+    if word == b"2".as_slice() {
+        Some(BaseKind::Plain)
+    } else if word == b"4".as_slice() {
+        Some(BaseKind::Sorted)
+    } else {
+        None
+    }
 }
 
-/// The head of sorted trains, by the version of the design and the number of steps.
-fn sorted_head(text: Option<&[u8]>) -> Option<Head>
-    ensures { result ≡ if_all (made sorted_by (two_plain_numbers (words_left text.entry))) }
+/// The head of a question by a base, by the version of the design and the number of steps.
+fn head_of_question(base: BaseKind, text: Option<&[u8]>) -> Option<Head>
+    ensures { result ≡ head_of_question (Some base) (words_left text.entry) }
 {
     let ((version, steps), after) = two_plain_numbers(text)?;
-    whole(Head::Sorted { version, steps }, after)
+    let question = Question {
+        version,
+        steps,
+        base,
+    };
+    whole(Head::Of(question), after)
 }
 
 /// The head of a version of the file, by the words after it.
@@ -80,14 +111,9 @@ fn head_of_version(version: &[u8], text: Option<&[u8]>) -> Option<Head>
     ensures { result ≡ head_of_version version.now (words_left text.entry) }
 {
     if version == b"1".as_slice() {
-        whole(Head::Plain, text)
-    } else if version == b"2".as_slice() {
-        named_head(text)
-    } else if version == b"4".as_slice() {
-        sorted_head(text)
-    } else {
-        None
+        return whole(Head::Unnamed, text);
     }
+    head_of_question(base_of_word(version)?, text)
 }
 
 /// The head by the words after the first.

@@ -20,9 +20,11 @@ use Rattle.log_checker.specs.declared.check_result.Reason.{Reason}
 use Rattle.log_checker.specs.declared.check_result.Reason.TheVariants.{HeadDiffers, BaseTooLarge, Text}
 use Rattle.log_checker.specs.Verdict.{SoFar, after_line, at_first, by_evidence, head_in, if_within, is_headed, may_stand, result_of, result_from, parsed, taken}
 use Rattle.clause_spec.specs.Clauses.{past_limit}
-use Rattle.clause_spec.specs.Variables.{variable_count}
+use Rattle.clause_spec.specs.declared.question.VariableCounts.{VariableCounts}
+use Rattle.clause_spec.specs.Variables.{variables_of}
 use Rattle.proof_log.specs.declared.head.Head.{Head}
-use Rattle.proof_log.specs.declared.head.Head.TheVariants.{Plain, Named, Sorted}
+use Rattle.proof_log.specs.declared.head.Head.TheVariants.{Unnamed, Of}
+use Rattle.proof_log.specs.Heads.{base_of}
 use Rattle.proof_log.specs.declared.line.Line.{Line}
 use Rattle.proof_log.specs.declared.line.Line.TheVariants.{Derive, Refute, Forget}
 use Rattle.proof_log.specs.Lines.{line_in_bytes}
@@ -70,42 +72,42 @@ valid_there d n (evidence.Bound b) clause h = none_of (fault_of d (routes_of d) 
 abbrev pub ShowsClause : (Evidence → Result (List Lit) EvidenceFault) → Piece → Type 0
 ShowsClause refute piece = (e : Evidence) → line_in_bytes piece.bytes ≡ Some (Refute e) → (clause : List Lit) × (refute e ≡ Ok clause)
 
-module _ (head : Head) (refute : Evidence → Result (List Lit) EvidenceFault) (vars steps : ℕ) where
+module _ (head : Head) (refute : Evidence → Result (List Lit) EvidenceFault) (variables : VariableCounts) where
   -- a cone or a bound of a line that is taken shows a clause
   evidence_taken : (s t : SoFar) (ending_of : Bool) (line : Option Line) (e : Evidence) → line ≡ Some (Refute e)
-      → taken head refute vars steps s (if ending_of then if_within head vars line else None) ≡ Ok t → (clause : List Lit) × (refute e ≡ Ok clause)
+      → taken head refute variables s (if ending_of then if_within (base_of head) variables.count line else None) ≡ Ok t → (clause : List Lit) × (refute e ≡ Ok clause)
   evidence_taken s t false line e is ok = absurd (cc)
-  evidence_taken s t true line e is ok = stands (may_stand head e) (sym (ap (λ l. taken head refute vars steps s (if_within head vars l)) is) ∙ ok)
+  evidence_taken s t true line e is ok = stands (may_stand (base_of head) e) (sym (ap (λ l. taken head refute variables s (if_within (base_of head) variables.count l)) is) ∙ ok)
     where
       by : (r : Result (List Lit) EvidenceFault) → refute e ≡ r → by_evidence s r ≡ Ok t → (clause : List Lit) × (refute e ≡ Ok clause)
       by (Ok clause) h ok = (clause, h)
       by (Err fault) h ok = absurd (cc)
 
-      stands : (b : Bool) → taken head refute vars steps s (if b then Some (Refute e) else None) ≡ Ok t → (clause : List Lit) × (refute e ≡ Ok clause)
+      stands : (b : Bool) → taken head refute variables s (if b then Some (Refute e) else None) ≡ Ok t → (clause : List Lit) × (refute e ≡ Ok clause)
       stands false ok = absurd (cc)
       stands true ok = by (refute e) refl ok
 
-  piece_taken : (s t : SoFar) (piece : Piece) → taken head refute vars steps s (parsed head vars piece) ≡ Ok t → ShowsClause refute piece
+  piece_taken : (s t : SoFar) (piece : Piece) → taken head refute variables s (parsed (base_of head) variables.count piece) ≡ Ok t → ShowsClause refute piece
   piece_taken s t piece ok e is = evidence_taken s t piece.ended (line_in_bytes piece.bytes) e is ok
 
   all_before : (p : Piece) (ps : List Piece) → ShowsClause refute p → All (ShowsClause refute) ps → All (ShowsClause refute) (p ∷ ps)
   all_before p ps first more zero other less = first
   all_before p ps first more (suc i) other less = more i other (omega arith)
 
-  pub all_taken : (here k : ℕ) (s : SoFar) (ps : List Piece) → result_from head refute vars steps here s ps ≡ Yes k → All (ShowsClause refute) ps
+  pub all_taken : (here k : ℕ) (s : SoFar) (ps : List Piece) → result_from head refute variables here s ps ≡ Yes k → All (ShowsClause refute) ps
   all_taken here k s [] found = λ i other less. absurd (omega arith)
-  all_taken here k s (p ∷ ps) found = next (taken head refute vars steps s (parsed head vars p)) refl found (λ t later. all_taken (here + 1) k t ps later)
+  all_taken here k s (p ∷ ps) found = next (taken head refute variables s (parsed (base_of head) variables.count p)) refl found (λ t later. all_taken (here + 1) k t ps later)
     where
-      next : (r : Result SoFar Reason) → taken head refute vars steps s (parsed head vars p) ≡ r → after_line here r (λ t. result_from head refute vars steps (here + 1) t ps) ≡ Yes k
-          → ((t : SoFar) → result_from head refute vars steps (here + 1) t ps ≡ Yes k → All (ShowsClause refute) ps) → All (ShowsClause refute) (p ∷ ps)
+      next : (r : Result SoFar Reason) → taken head refute variables s (parsed (base_of head) variables.count p) ≡ r → after_line here r (λ t. result_from head refute variables (here + 1) t ps) ≡ Yes k
+          → ((t : SoFar) → result_from head refute variables (here + 1) t ps ≡ Yes k → All (ShowsClause refute) ps) → All (ShowsClause refute) (p ∷ ps)
       next (Err reason) is found more = absurd (cc)
       next (Ok t) is found more = all_before p ps (piece_taken s t p is) (more t found)
 
-  pub all_shown : (k : ℕ) (base : Store) (ps : List Piece) → result_of head refute vars steps base ps ≡ Yes k → All (ShowsClause refute) (after_first ps)
+  pub all_shown : (k : ℕ) (base : Store) (ps : List Piece) → result_of head refute variables base ps ≡ Yes k → All (ShowsClause refute) (after_first ps)
   all_shown k base [] found = absurd (cc)
   all_shown k base (p ∷ ps) found = go (is_headed head p) found
     where
-      go : (b : Bool) → (if b then result_from head refute vars steps 2 (at_first base) ps else No 1 Text) ≡ Yes k → All (ShowsClause refute) ps
+      go : (b : Bool) → (if b then result_from head refute variables 2 (at_first base) ps else No 1 Text) ≡ Yes k → All (ShowsClause refute) ps
       go false found = absurd (cc)
       go true found = all_taken 2 k (at_first base) ps found
 
@@ -125,25 +127,20 @@ module _ (d : Station) (n : ℕ) where
   AllShow bytes = All (ShowsClause (refuted d n)) (after_first (pieces bytes))
 
   under_shown : (head : Head) (bytes : List ℕ) (k : ℕ) → judged_under head d n bytes ≡ Yes k → AllShow bytes
-  under_shown head bytes k found = all_shown head (refuted d n) (variable_count d (routes_of d) n) n k (all_live (clauses_under head d n)) (pieces bytes) found
+  under_shown head bytes k found = all_shown head (refuted d n) (variables_of d (routes_of d) n) k (all_live (clauses_under head d n)) (pieces bytes) found
 
   by_shown : (bytes : List ℕ) (head : Option Head) (k : ℕ) → judged_by d n bytes head ≡ Yes k → AllShow bytes
-  by_shown bytes None k found = under_shown Plain bytes k found
-  by_shown bytes (Some Plain) k found = under_shown Plain bytes k found
-  by_shown bytes (Some (Named version steps)) k found = differs (not (version == d.version && steps == n)) found
+  by_shown bytes None k found = under_shown Unnamed bytes k found
+  by_shown bytes (Some Unnamed) k found = under_shown Unnamed bytes k found
+  by_shown bytes (Some (Of q)) k found = differs (not (q.version == d.version && q.steps == n)) found
     where
-      differs : (b : Bool) → (if b then No 1 HeadDiffers else judged_under (Named version steps) d n bytes) ≡ Yes k → AllShow bytes
-      differs true found = absurd (cc)
-      differs false found = under_shown (Named version steps) bytes k found
-  by_shown bytes (Some (Sorted version steps)) k found = differs (not (version == d.version && steps == n)) found
-    where
-      large : (b : Bool) → (if b then No 1 BaseTooLarge else judged_under (Sorted version steps) d n bytes) ≡ Yes k → AllShow bytes
+      large : (b : Bool) → (if b then No 1 BaseTooLarge else judged_under (Of q) d n bytes) ≡ Yes k → AllShow bytes
       large true found = absurd (cc)
-      large false found = under_shown (Sorted version steps) bytes k found
+      large false found = under_shown (Of q) bytes k found
 
-      differs : (b : Bool) → (if b then No 1 HeadDiffers else if is_some (past_limit 16000000 0 (clauses_under (Sorted version steps) d n)) then No 1 BaseTooLarge else judged_under (Sorted version steps) d n bytes) ≡ Yes k → AllShow bytes
+      differs : (b : Bool) → (if b then No 1 HeadDiffers else if is_some (past_limit 16000000 0 (clauses_under (Of q) d n)) then No 1 BaseTooLarge else judged_under (Of q) d n bytes) ≡ Yes k → AllShow bytes
       differs true found = absurd (cc)
-      differs false found = large (is_some (past_limit 16000000 0 (clauses_under (Sorted version steps) d n))) found
+      differs false found = large (is_some (past_limit 16000000 0 (clauses_under (Of q) d n))) found
 
   judged_shown : (bytes : List ℕ) (k : ℕ) → judged d n bytes ≡ Yes k → AllShow bytes
   judged_shown bytes k found = by_shown bytes (head_in (pieces bytes)) k found

@@ -1,5 +1,5 @@
 -- Pieces of a file, one after the other.
-use Rattle.std.proofs.Common.{◌≡◌, zero, inl, inr, List, [], ◌∷◌, ◌++◌, All, suc, flat_map, subst, sym, ap, ◌∙◌, append_assoc, arith}
+use Rattle.std.proofs.Common.{◌≡◌, inl, inr, List, [], ◌∷◌, ◌++◌, All, suc, flat_map, subst, sym, ap, ◌∙◌, append_assoc, arith}
 use Rattle.rail_base.specs.Members.{In}
 
 pub first_all : {X : Type 0} (P : X → Type 0) (xs : List X) (x : X) (more : List X) → xs ≡ x ∷ more → All P xs → P x

@@ -1,7 +1,7 @@
 //! A proof file explained.
 
 ghost use Rattle.std.specs.Prelude.{◌≡◌, IfOk};
-ghost use Rattle.rail_spec.specs.Track.{routes_of};
+ghost use Rattle.clause_spec.specs.declared.question.BaseKind.TheVariants.{Plain};
 ghost use Rattle.plan_encoding.specs.Bases.{IsBaseOf};
 ghost use Rattle.proof_words.specs.Explained.{explained_of, sentences_or};
 
@@ -31,9 +31,10 @@ pub fn explain(
     base: Base,
     bytes: &[u8],
 ) -> Result<Explained, AllocError>
-    requires base { let d = interlocking.now.design.station in IsBaseOf d (routes_of d) base.steps base }
+    requires base { let i = interlocking.now in
+        IsBaseOf Plain i.design.station i.routes base.numbering.steps base }
     ensures { IfOk result (λ e. sentences_or e
-        ≡ explained_of interlocking.now.design.station base.steps bytes.now) }
+        ≡ explained_of interlocking.now.design.station base.numbering.steps bytes.now) }
 {
     let shown = judge(alloc, interlocking, base, bytes)?;
     match shown {

@@ -1,11 +1,10 @@
 -- Runs over a shelf whose files need not be known.
-use Rattle.std.proofs.Common.{◌≡◌, ◌≤◌, ◌<◌, ◌+◌, ℕ, suc, List, [], length, replicate, Bool, Option, Some, None, Result, Ok, Err, IfOk, Vec, Global, refl, ap, sym, ◌∙◌, subst, arith}
+use Rattle.std.proofs.Common.{◌≡◌, ◌≤◌, ◌<◌, ◌+◌, ℕ, List, [], length, replicate, Bool, Option, Some, None, Result, Ok, Err, IfOk, Vec, Global, refl, ap, sym, ◌∙◌, subst, arith}
 use Rattle.std.proofs.lemmas.List.{length-replicate}
 use Rattle.std.proofs.lemmas.Bool.{lt-ltb}
 use Rattle.std.specs.declared.alloc.AllocError.{AllocError}
-use Rattle.plan_exclusion.specs.declared.method.Method.{Method}
-use Rattle.plan_exclusion.specs.declared.method.Method.TheVariants.{Cones}
-use Rattle.rail_base.specs.declared.design.Design.{Design}
+use Rattle.clause_spec.specs.declared.question.BaseKind.{BaseKind}
+use Rattle.clause_spec.specs.declared.question.BaseKind.TheVariants.{Plain}
 use Rattle.rail_base.specs.declared.station.Station.{Station}
 use Rattle.rail_words.specs.Requests.{RequestSeen, simulate, routes, verify, check, trial}
 use Rattle.verify_loop.specs.declared.outcome.Budgets.{Budgets}
@@ -20,7 +19,7 @@ use Rattle.rail_cli.specs.declared.reply.Reply.{Reply}
 use Rattle.rail_cli.specs.declared.ending.Ending.{Ending}
 use Rattle.rail_cli.specs.declared.ending.Ending.TheVariants as ending
 use Rattle.rail_cli.specs.Texts.{limit_of, usage_line, too_long_line}
-use Rattle.rail_cli.specs.Answers.{ReplySeen, one_line, within_limit, design_in, unless_refused, planned, simulation_reply, routes_answer, routes_reply, with_clauses, checked_against, with_proof, check_reply, searched_in, method_of, search_reply, answer_given}
+use Rattle.rail_cli.specs.Answers.{ReplySeen, one_line, within_limit, design_in, unless_refused, planned, simulation_reply, routes_answer, routes_reply, with_clauses, checked_against, with_proof, check_reply, searched_in, base_kind_of, search_reply, answer_given}
 use Rattle.rail_cli.specs.Replies.{reply_seen, ending_of, ReadsOrEnds, Replies, RepliesTrial, RepliesSome}
 use Rattle.rail_cli.specs.Searches.{budgets_of, EndsSearch, FindsGiven}
 use Rattle.rail_cli.specs.Prints.{Prints, PrintsSome}
@@ -85,7 +84,7 @@ simulated_text plan_bytes text = unless_refused (design_in text) (λ d. unless_r
 abbrev checked_text : ℕ → List ℕ → List ℕ → ReplySeen
 checked_text n proof_bytes text = unless_refused (design_in text) (λ d. with_proof n d proof_bytes)
 
-abbrev searched_text : Method → ℕ → ℕ → ℕ → Outcome → List ℕ → ReplySeen
+abbrev searched_text : BaseKind → ℕ → ℕ → ℕ → Outcome → List ℕ → ReplySeen
 searched_text m n conflicts ticks found text = unless_refused (design_in text) (λ d. searched_in m d n conflicts ticks found)
 
 -- for any answer that reads the design first
@@ -166,11 +165,11 @@ module _ (r : Result Reply Ending) (n : ℕ) (d : Station) where
   abbrev with_bytes : List ℕ → ReplySeen
   with_bytes bytes = unless_refused (within_limit file.Proof bytes) (checked_against d n)
 
-  pub no_base : {X : Type 0} (view : X → Station) (e : Ending) → r ≡ Err e → ReadsOrEnds view (Err e) (with_clauses Cones n d) → ProvenSo
-  no_base view e is h = ([], ends_so r view e (with_clauses Cones n d) (λ same. with_bytes []) _ is h refl)
+  pub no_base : {X : Type 0} (view : X → Station) (e : Ending) → r ≡ Err e → ReadsOrEnds view (Err e) (with_clauses Plain n d) → ProvenSo
+  no_base view e is h = ([], ends_so r view e (with_clauses Plain n d) (λ same. with_bytes []) _ is h refl)
 
-  pub no_proof : (e : Ending) → r ≡ Err e → with_clauses Cones n d ≡ Ok d → (bytes : List ℕ) × ReadsOrEnds (λ (v : Vec ℕ Global). v.items) (Err e) (within_limit file.Proof bytes) → ProvenSo
-  no_proof e is few h = (h.0, ends_so r (λ (v : Vec ℕ Global). v.items) e _ (checked_against d n) _ is h.1 (answered_next (with_clauses Cones n d) d (λ same. with_bytes h.0) few))
+  pub no_proof : (e : Ending) → r ≡ Err e → with_clauses Plain n d ≡ Ok d → (bytes : List ℕ) × ReadsOrEnds (λ (v : Vec ℕ Global). v.items) (Err e) (within_limit file.Proof bytes) → ProvenSo
+  no_proof e is few h = (h.0, ends_so r (λ (v : Vec ℕ Global). v.items) e _ (checked_against d n) _ is h.1 (answered_next (with_clauses Plain n d) d (λ same. with_bytes h.0) few))
 
   pub no_memory : r ≡ Err ending.Memory → ProvenSo
   no_memory is = ([], subst (λ (x : Result Reply Ending). Replies x (with_proof n d [])) (sym is) tt)
@@ -182,8 +181,8 @@ module _ (r : Result Reply Ending) (n : ℕ) (bounds : Bool) (b : Budgets) (desi
   SearchedSo = RepliesSome r (Some (verify n b.conflicts b.ticks bounds design proof))
 
   -- how plans that fail are excluded
-  abbrev by : Method
-  by = method_of bounds
+  abbrev by : BaseKind
+  by = base_kind_of bounds
 
   -- memory was wanting
   wanting_so : (a : List ℕ) → Replies r (search_reply by n b.conflicts b.ticks a outcome.Memory) → SearchedSo

@@ -5,8 +5,8 @@ use Rattle.std.proofs.lemmas.List.{append-nil}
 use Rattle.infra_reader.specs.Design.{design_of}
 use Rattle.log_checker.specs.declared.check_result.CheckResult.TheVariants.{Yes}
 use Rattle.clause_spec.specs.Clauses.{past_limit}
-use Rattle.plan_exclusion.specs.declared.method.Method.{Method}
-use Rattle.plan_exclusion.specs.declared.method.Method.TheVariants.{Cones}
+use Rattle.clause_spec.specs.declared.question.BaseKind.{BaseKind}
+use Rattle.clause_spec.specs.declared.question.BaseKind.TheVariants.{Plain}
 use Rattle.proof_judge.specs.Judged.{judged}
 use Rattle.proof_judge.proofs.Sound.{yes_infeasible}
 use Rattle.infra_reader.proofs.Reading.{spelled_admitted}
@@ -34,7 +34,7 @@ use Rattle.rail_cli.specs.declared.ending.Ending.{Ending}
 use Rattle.rail_cli.specs.declared.ending.Ending.TheVariants as ending
 use Rattle.rail_cli.specs.Statuses.{is_answered, is_verdict}
 use Rattle.rail_cli.specs.Texts.{limit_of, usage_line, too_large_line, yes_line, infeasible_line}
-use Rattle.rail_cli.specs.Answers.{ReplySeen, one_line, within_limit, with_routes, design_in, and_then, unless_too_large, with_clauses, unless_refused, reply_for, checked_against, with_proof, check_reply, reply_for_plan, reply_for_outcome, searched_in, method_of, search_reply, answer_to, answer_of}
+use Rattle.rail_cli.specs.Answers.{ReplySeen, one_line, within_limit, with_routes, design_in, and_then, unless_too_large, with_clauses, unless_refused, reply_for, checked_against, with_proof, check_reply, reply_for_plan, reply_for_outcome, searched_in, base_kind_of, search_reply, answer_to, answer_of}
 use Rattle.rail_cli.specs.Shows.{verdict_at_horizon}
 use Rattle.rail_cli.specs.Replies.{reply_seen, ReadsOrEnds, RefusesFile, OnlyFails, Replies, EndsIn, EndsWith, RepliesSo, RepliesTrial}
 use Rattle.rail_cli.specs.Searches.{budgets_of, Finds, HoldsLog, HoldsProof, SearchLeaves, Leaves, Searches, ReportsPlan, ReportsNone}
@@ -65,11 +65,11 @@ finds_so files (Some (simulate design plan)) found ends = tt
 finds_so files (Some (routes design)) found ends = tt
 finds_so files (Some (check n design proof)) found ends = tt
 finds_so files (Some (trial seed size)) found ends = ends
-finds_so files (Some (verify n conflicts ticks bounds design proof)) found (inl same) = λ d parsed. subst (λ (o : Outcome). IsOutcome (method_of bounds) d n (budgets_of conflicts ticks) o × Fits (method_of bounds) d n o) (sym same) (tt, tt)
+finds_so files (Some (verify n conflicts ticks bounds design proof)) found (inl same) = λ d parsed. subst (λ (o : Outcome). IsOutcome (base_kind_of bounds) d n (budgets_of conflicts ticks) o × Fits (base_kind_of bounds) d n o) (sym same) (tt, tt)
 finds_so files (Some (verify n conflicts ticks bounds design proof)) found (inr e) = λ d parsed.
     (let one : Ok e.design.station ≡ Ok d = sym e.parsed ∙ parsed in
     let same : e.design.station ≡ d = cc in
-    subst (λ (x : Station). IsOutcome (method_of bounds) x n (budgets_of conflicts ticks) found × Fits (method_of bounds) x n found) same (e.says, e.fits))
+    subst (λ (x : Station). IsOutcome (base_kind_of bounds) x n (budgets_of conflicts ticks) found × Fits (base_kind_of bounds) x n found) same (e.says, e.fits))
 
 -- ---- what is said of it
 
@@ -81,7 +81,7 @@ never_memory (Err ending.Memory) want answer is h = tt
 never_memory (Err ending.ShelfFault) want answer is h = tt
 
 -- for any texts of outcomes, that for too many clauses being the refusal
-module _ (m : Method) (d : Station) (n : ℕ) (b : Budgets) (make_reply : Outcome → ReplySeen) (large : (literals : ℕ) → make_reply (outcome.TooLarge literals) ≡ one_line statuses.DesignRefused too_large_line) (want : (make_reply outcome.Memory).status ≡ statuses.Memory) where
+module _ (m : BaseKind) (d : Station) (n : ℕ) (b : Budgets) (make_reply : Outcome → ReplySeen) (large : (literals : ℕ) → make_reply (outcome.TooLarge literals) ≡ one_line statuses.DesignRefused too_large_line) (want : (make_reply outcome.Memory).status ≡ statuses.Memory) where
   -- what is said, unless the clauses are too many
   abbrev unless_many : Outcome → ReplySeen
   unless_many found = unless_refused (with_clauses m n d) (λ same. make_reply found)
@@ -107,7 +107,7 @@ module _ (d : Station) (n : ℕ) (b : Budgets) where
   abbrev outcome_told : Outcome → ReplySeen
   outcome_told found = reply_for_outcome d n b.conflicts b.ticks found
 
-  pub searched_so : (m : Method) (r : Result Reply Ending) (found : Outcome) → IsOutcome m d n b found → Fits m d n found → Replies r (outcome_told found) → Replies r (searched_in m d n b.conflicts b.ticks found)
+  pub searched_so : (m : BaseKind) (r : Result Reply Ending) (found : Outcome) → IsOutcome m d n b found → Fits m d n found → Replies r (outcome_told found) → Replies r (searched_in m d n b.conflicts b.ticks found)
   searched_so m r found says fits h = reply_unless_many m d n b outcome_told (λ literals. refl) refl r found says fits h
 
   -- it is never that the words ask for nothing
@@ -124,7 +124,7 @@ module _ (d : Station) (n : ℕ) (b : Budgets) where
   told_no_usage found reply seen e = outcome_no_usage found (ap (λ (a : ReplySeen). a.status) (sym seen) ∙ e)
 
 -- a plan comes with what its run shows
-pub comes_shown : (d : Station) (n : ℕ) (b : Budgets) (found : Outcome) (plan : Plan) (verdict : Verdict) → found ≡ outcome.Plan plan verdict → (m : Method) × IsOutcome m d n b found → verdict ≡ verdict_at_horizon d plan.steps
+pub comes_shown : (d : Station) (n : ℕ) (b : Budgets) (found : Outcome) (plan : Plan) (verdict : Verdict) → found ≡ outcome.Plan plan verdict → (m : BaseKind) × IsOutcome m d n b found → verdict ≡ verdict_at_horizon d plan.steps
 comes_shown d n b found plan verdict is h = (subst (λ (o : Outcome). IsOutcome h.0 d n b o) is h.1).2
 
 -- a store that failed says nothing
@@ -140,7 +140,7 @@ failed_refuses ending.ShelfFault r is h = subst (λ (x : Result Reply Ending). R
 
 -- ---- the design is read
 
-module _ (m : Method) (n conflicts ticks : ℕ) (design_bytes : List ℕ) (found : Outcome) where
+module _ (m : BaseKind) (n conflicts ticks : ℕ) (design_bytes : List ℕ) (found : Outcome) where
   -- the rest of a search, with the design's text
   abbrev with_text : List ℕ → ReplySeen
   with_text text = unless_refused (design_in text) (λ d. searched_in m d n conflicts ticks found)
@@ -164,11 +164,11 @@ module _ (m : Method) (n conflicts ticks : ℕ) (design_bytes : List ℕ) (found
 
 -- ---- the replies to a search
 
-pub within_budgets : (m : Method) (d : Station) (n : ℕ) (b : Budgets) (found : Outcome) → b.log_bytes ≡ limit_of file.Proof → IsOutcome m d n b found → IsOutcome m d n (budgets_of b.conflicts b.ticks) found
+pub within_budgets : (m : BaseKind) (d : Station) (n : ℕ) (b : Budgets) (found : Outcome) → b.log_bytes ≡ limit_of file.Proof → IsOutcome m d n b found → IsOutcome m d n (budgets_of b.conflicts b.ticks) found
 within_budgets m d n b found room says = subst (λ (k : ℕ). IsOutcome m d n (record { conflicts = b.conflicts; ticks = b.ticks; log_bytes = k }) found) room says
 
--- the reply to a search in a design by a method, for an outcome with which it may end
-abbrev pub RepliesBy : Result Reply Ending → Station → ℕ → Budgets → Method → Type 0
+-- the reply to a search in a design by a base, for an outcome with which it may end
+abbrev pub RepliesBy : Result Reply Ending → Station → ℕ → Budgets → BaseKind → Type 0
 RepliesBy r d n b m = (found : Outcome) × IsOutcome m d n b found × Fits m d n found × Replies r (searched_in m d n b.conflicts b.ticks found)
 
 module _ (files : Files) (n : ℕ) (bounds : Bool) (b : Budgets) (design proof : List ℕ) where
@@ -177,8 +177,8 @@ module _ (files : Files) (n : ℕ) (bounds : Bool) (b : Budgets) (design proof :
   search_asked = Some (verify n b.conflicts b.ticks bounds design proof)
 
   -- how plans that fail are excluded
-  abbrev by : Method
-  by = method_of bounds
+  abbrev by : BaseKind
+  by = base_kind_of bounds
 
   pub unfetched_so : (view : Vec ℕ Global → List ℕ) (e : Ending) (r : Result Reply Ending) → r ≡ Err e → ReadsOrEnds view (Err e) (within_limit file.Design (files design)) → RepliesSo r files search_asked
   unfetched_so view e r is h = subst (λ (x : Result Reply Ending). RepliesSo x files search_asked) (sym is) (outcome.Memory, inl refl, unfetched by n b.conflicts b.ticks (files design) outcome.Memory view e h)
@@ -251,7 +251,7 @@ module _ (files : Files) (words : List (List ℕ)) (reply : Reply) (t : Status) 
 -- ---- where the answer is yes or no
 
 -- the design was read, its clauses are few, and the end of the search is said
-record Searched (m : Method) (n conflicts ticks : ℕ) (design_bytes : List ℕ) (found : Outcome) (d : Station) : Type 0 where
+record Searched (m : BaseKind) (n conflicts ticks : ℕ) (design_bytes : List ℕ) (found : Outcome) (d : Station) : Type 0 where
   fits : within_limit file.Design design_bytes ≡ Ok design_bytes
   reads : design_in design_bytes ≡ Ok d
   clauses : with_clauses m n d ≡ Ok d
@@ -261,7 +261,7 @@ same_clauses : (d : Station) (many : Option ℕ) (e : Station) → unless_too_la
 same_clauses d None e h = refl
 same_clauses d (Some k) e h = absurd (cc)
 
-was_searched : (m : Method) (n conflicts ticks : ℕ) (design_bytes : List ℕ) (found : Outcome) (d : Station) → design_of design_bytes ≡ Ok d → is_verdict (search_reply m n conflicts ticks design_bytes found).status ≡ true → Searched m n conflicts ticks design_bytes found d
+was_searched : (m : BaseKind) (n conflicts ticks : ℕ) (design_bytes : List ℕ) (found : Outcome) (d : Station) → design_of design_bytes ≡ Ok d → is_verdict (search_reply m n conflicts ticks design_bytes found).status ≡ true → Searched m n conflicts ticks design_bytes found d
 was_searched m n conflicts ticks design_bytes found d spells verdict =
     let one = passed (within_limit file.Design design_bytes) (with_text m n conflicts ticks design_bytes found) (long_refuses file.Design design_bytes) verdict in
     let two = passed (design_in one.read) (λ e. searched_in m e n conflicts ticks found) (design_refuses (and_then (design_of one.read) with_routes)) one.verdict in
@@ -302,7 +302,7 @@ none_told d n conflicts ticks (outcome.TooLarge literals) e = absurd (cc)
 none_told d n conflicts ticks outcome.Memory e = absurd (cc)
 
 -- where a plan was found, memory was not wanting
-ended_in : (files : Files) (n conflicts ticks : ℕ) (bounds : Bool) (design proof : List ℕ) (found : Outcome) → PlanFound found → EndsWith files (Some (verify n conflicts ticks bounds design proof)) found → EndsIn files (method_of bounds) n conflicts ticks design found
+ended_in : (files : Files) (n conflicts ticks : ℕ) (bounds : Bool) (design proof : List ℕ) (found : Outcome) → PlanFound found → EndsWith files (Some (verify n conflicts ticks bounds design proof)) found → EndsIn files (base_kind_of bounds) n conflicts ticks design found
 ended_in files n conflicts ticks bounds design proof found p (inl same) = (let clash = sym same ∙ p.is in absurd (cc))
 ended_in files n conflicts ticks bounds design proof found p (inr e) = e
 
@@ -312,8 +312,8 @@ module _ (files : Files) (words : List (List ℕ)) (n : ℕ) (d : Station) (s : 
   found_here = replies.0
 
   -- how plans that fail were excluded
-  abbrev by_here : Method
-  by_here = method_of s.bounds
+  abbrev by_here : BaseKind
+  by_here = base_kind_of s.bounds
 
   answer_here : reply_seen reply ≡ search_reply by_here n s.conflicts s.ticks (files s.design_name) found_here
   answer_here = sym replies.2 ∙ ap (answer_to files found_here) s.asked
@@ -356,7 +356,7 @@ module _ (files : Files) (words : List (List ℕ)) (n : ℕ) (d : Station) (s : 
   log_passes q log short shows =
       answered_next (within_limit file.Design (files s.design_name)) (files s.design_name) (λ bytes. unless_refused (design_in bytes) (λ e. with_proof n e log)) q.fits
       ∙ (answered_next (design_in (files s.design_name)) d (λ e. with_proof n e log) q.reads
-      ∙ (answered_next (with_clauses Cones n d) d (λ same. unless_refused (within_limit file.Proof log) (checked_against d n)) (base_passes by_here n d q.clauses)
+      ∙ (answered_next (with_clauses Plain n d) d (λ same. unless_refused (within_limit file.Proof log) (checked_against d n)) (base_passes by_here n d q.clauses)
       ∙ (answered_next (within_limit file.Proof log) log (checked_against d n) (file_fits file.Proof log short)
       ∙ ap reply_for shows)))
 

@@ -6,8 +6,8 @@ use Rattle.infra_reader.specs.Design.{design_of}
 use Rattle.log_checker.specs.declared.check_result.CheckResult.{CheckResult}
 use Rattle.log_checker.specs.declared.check_result.CheckResult.TheVariants.{Yes, No}
 use Rattle.clause_spec.specs.Clauses.{base_clauses, past_limit}
-use Rattle.plan_exclusion.specs.declared.method.Method.{Method}
-use Rattle.plan_exclusion.specs.declared.method.Method.TheVariants.{Cones, Bounds}
+use Rattle.clause_spec.specs.declared.question.BaseKind.{BaseKind}
+use Rattle.clause_spec.specs.declared.question.BaseKind.TheVariants.{Plain, Sorted}
 use Rattle.proof_judge.specs.Judged.{judged}
 use Rattle.proof_judge.proofs.Sound.{yes_infeasible}
 use Rattle.rail_base.specs.Admitted.{IsAdmitted}
@@ -69,7 +69,7 @@ pub checked_shows : (n : ℕ) (design_bytes proof_bytes : List ℕ) (d : Station
 checked_shows n design_bytes proof_bytes d some spells done =
     let one = passed (within_limit file.Design design_bytes) (λ text. unless_refused (design_in text) (λ e. with_proof n e proof_bytes)) (long_refuses file.Design design_bytes) (ap is_verdict done) in
     let two = passed (design_in one.read) (λ e. with_proof n e proof_bytes) (design_refuses (and_then (design_of one.read) with_routes)) one.verdict in
-    let three = passed (with_clauses Cones n two.read) (λ same. unless_refused (within_limit file.Proof proof_bytes) (checked_against two.read n)) (clauses_refuse two.read (past_limit 16000000 0 (base_clauses two.read (routes_of two.read) n))) two.verdict in
+    let three = passed (with_clauses Plain n two.read) (λ same. unless_refused (within_limit file.Proof proof_bytes) (checked_against two.read n)) (clauses_refuse two.read (past_limit 16000000 0 (base_clauses two.read (routes_of two.read) n))) two.verdict in
     let four = passed (within_limit file.Proof proof_bytes) (checked_against two.read n) (long_refuses file.Proof proof_bytes) three.verdict in
     let text : design_bytes ≡ one.read = file_is file.Design design_bytes one.read one.is in
     let same : d ≡ two.read = read-same one.read d two.read (ap design_of (sym text) ∙ spells) two.is in
@@ -97,10 +97,10 @@ tells_infeasible files found words n d t text new_text pieces new_pieces prints 
 
 -- ---- the clauses of the design
 
-pub too_large_refused : (m : Method) (n : ℕ) (d : Station) (k : ℕ) → past_limit 16000000 0 (first_clauses m d n) ≡ Some k → with_clauses m n d ≡ Err (one_line DesignRefused too_large_line)
+pub too_large_refused : (m : BaseKind) (n : ℕ) (d : Station) (k : ℕ) → past_limit 16000000 0 (first_clauses m d n) ≡ Some k → with_clauses m n d ≡ Err (one_line DesignRefused too_large_line)
 too_large_refused m n d k e = ap (unless_too_large d) e
 
-pub small_passes : (m : Method) (n : ℕ) (d : Station) → past_limit 16000000 0 (first_clauses m d n) ≡ None → with_clauses m n d ≡ Ok d
+pub small_passes : (m : BaseKind) (n : ℕ) (d : Station) → past_limit 16000000 0 (first_clauses m d n) ≡ None → with_clauses m n d ≡ Ok d
 small_passes m n d e = ap (unless_too_large d) e
 
 -- the prefix of clauses that fit fits
@@ -114,25 +114,25 @@ prefix_fits limit sum (c ∷ cs) more h = go (nat_lt limit (sum + length c)) (pr
     go true next h = absurd (cc)
     go false next h = next h
 
--- where the clauses of a search by any method fit, those of a check do
-base_fits : (m : Method) (n : ℕ) (d : Station) → past_limit 16000000 0 (first_clauses m d n) ≡ None → past_limit 16000000 0 (first_clauses Cones d n) ≡ None
-base_fits Cones n d h = h
-base_fits Bounds n d h = prefix_fits 16000000 0 (base_clauses d (routes_of d) n) _ h
+-- where the clauses of a search by any base fit, those of a check do
+base_fits : (m : BaseKind) (n : ℕ) (d : Station) → past_limit 16000000 0 (first_clauses m d n) ≡ None → past_limit 16000000 0 (first_clauses Plain d n) ≡ None
+base_fits Plain n d h = h
+base_fits Sorted n d h = prefix_fits 16000000 0 (base_clauses d (routes_of d) n) _ h
 
 not_many : (d : Station) (many : Option ℕ) (e : Station) → unless_too_large d many ≡ Ok e → many ≡ None
 not_many d None e h = refl
 not_many d (Some k) e h = absurd (cc)
 
-pub base_passes : (m : Method) (n : ℕ) (d : Station) → with_clauses m n d ≡ Ok d → with_clauses Cones n d ≡ Ok d
-base_passes m n d h = small_passes Cones n d (base_fits m n d (not_many d (past_limit 16000000 0 (first_clauses m d n)) d h))
+pub base_passes : (m : BaseKind) (n : ℕ) (d : Station) → with_clauses m n d ≡ Ok d → with_clauses Plain n d ≡ Ok d
+base_passes m n d h = small_passes Plain n d (base_fits m n d (not_many d (past_limit 16000000 0 (first_clauses m d n)) d h))
 
-pub refused_so : (n : ℕ) (d : Station) (routes : List Route) (fault : BaseFault) (k : ℕ) → routes ≡ routes_of d → fault ≡ TooLarge k → IsRefused d routes n fault → with_clauses Cones n d ≡ Err (one_line DesignRefused too_large_line)
-refused_so n d routes (TooLarge j) k table same e = too_large_refused Cones n d j (ap (λ (r : List Route). past_limit 16000000 0 (base_clauses d r n)) (sym table) ∙ e)
+pub refused_so : (n : ℕ) (d : Station) (routes : List Route) (fault : BaseFault) (k : ℕ) → routes ≡ routes_of d → fault ≡ TooLarge k → IsRefused Plain d routes n fault → with_clauses Plain n d ≡ Err (one_line DesignRefused too_large_line)
+refused_so n d routes (TooLarge j) k table same e = too_large_refused Plain n d j (ap (λ (r : List Route). past_limit 16000000 0 (base_clauses d r n)) (sym table) ∙ e)
 refused_so n d routes Memory k table same e = absurd (cc)
 
 -- ---- what is said of the proof
 
-pub proof_shown : (n : ℕ) (d : Station) (proof_bytes text : List ℕ) (shown : CheckResult) (reply : Reply) → with_clauses Cones n d ≡ Ok d → within_limit file.Proof proof_bytes ≡ Ok text → shown ≡ judged d n text → reply_seen reply ≡ reply_for shown → with_proof n d proof_bytes ≡ reply_seen reply
+pub proof_shown : (n : ℕ) (d : Station) (proof_bytes text : List ℕ) (shown : CheckResult) (reply : Reply) → with_clauses Plain n d ≡ Ok d → within_limit file.Proof proof_bytes ≡ Ok text → shown ≡ judged d n text → reply_seen reply ≡ reply_for shown → with_proof n d proof_bytes ≡ reply_seen reply
 proof_shown n d proof_bytes text shown reply clauses fits is seen =
     ap (λ q. unless_refused q (λ (same : Station). unless_refused (within_limit file.Proof proof_bytes) (checked_against d n))) clauses
     ∙ (ap (λ q. unless_refused q (checked_against d n)) fits ∙ (ap reply_for (sym is) ∙ sym seen))

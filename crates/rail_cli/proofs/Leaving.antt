@@ -1,6 +1,6 @@
 -- What a run leaves on the shelf.
 use Rattle.std.proofs.Common.{◌≡◌, ◌⊎◌, ℕ, Bool, true, List, Option, None, Some, Result, Ok, Err, Vec, Global, refl, ap, sym, ◌∙◌, subst, inl, inr}
-use Rattle.plan_exclusion.specs.declared.method.Method.{Method}
+use Rattle.clause_spec.specs.declared.question.BaseKind.{BaseKind}
 use Rattle.rail_base.specs.declared.station.Station.{Station}
 use Rattle.rail_outside.specs.Files.{Files}
 use Rattle.rail_words.specs.Requests.{RequestSeen, simulate, routes, verify, check, trial}
@@ -82,7 +82,7 @@ module _ (files : Files) (n : ℕ) (design proof : List ℕ) (known_files : Opti
       go ending.ShelfFault refuses = inr same
 
   -- what a search in the design in the file leaves
-  module _ (m : Method) (d : Station) (parsed : design_in (files design) ≡ Ok d) (b : Budgets) (room : b.log_bytes ≡ limit_of file.Proof) where
+  module _ (m : BaseKind) (d : Station) (parsed : design_in (files design) ≡ Ok d) (b : Budgets) (room : b.log_bytes ≡ limit_of file.Proof) where
     -- the log of a search shows that there is no plan
     log_shows : (log : Vec ℕ Global) → IsOutcome m d n b (outcome.Infeasible log) → ShowsNone d n log.items
     log_shows log says = record { within_limit = rw (← room) says.2; shows = says.1.accepted }

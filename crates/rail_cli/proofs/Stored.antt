@@ -1,11 +1,10 @@
 -- Checks of proofs that a search has stored.
-use Rattle.std.proofs.Common.{◌≡◌, ◌≢◌, Bool, true, false, ℕ, List, Option, Some, bytes_eq, if◌then◌else◌, refl, ap, sym, ◌∙◌}
+use Rattle.std.proofs.Common.{◌≡◌, ◌≢◌, Bool, true, false, ℕ, List, Some, bytes_eq, refl, ap, sym, ◌∙◌}
 use Rattle.std.proofs.lemmas.Bool.{false_from_ne_true}
 use Rattle.std.proofs.lemmas.Slice.Eq.{bytes_eq-Decides}
-use Rattle.rail_base.specs.declared.station.Station.{Station}
 use Rattle.rail_outside.specs.Files.{Files, updated}
 use Rattle.rail_words.specs.Laws.{is_plain}
-use Rattle.rail_words.specs.Requests.{check, verify, request_of, steps_of, conflicts_of, ticks_of}
+use Rattle.rail_words.specs.Requests.{verify, request_of, steps_of, conflicts_of, ticks_of}
 use Rattle.rail_words.proofs.Taken.{verify_read, bounds_read, check_read}
 use Rattle.rail_cli.specs.Answers.{check_reply, answer_to}
 use Rattle.rail_cli.specs.Passes.{StoredProofsPass, VerifyPassesCheck, verify_words}

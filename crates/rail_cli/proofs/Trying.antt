@@ -12,7 +12,7 @@ use Rattle.rail_spec.specs.Histories.{decided}
 use Rattle.rail_spec.specs.Requirements.{cost, path_violation, violation_at}
 use Rattle.rail_spec.specs.Track.{routes_of}
 use Rattle.clause_spec.specs.Clauses.{base_clauses, past_limit}
-use Rattle.plan_exclusion.specs.declared.method.Method.TheVariants.{Cones}
+use Rattle.clause_spec.specs.declared.question.BaseKind.TheVariants.{Plain}
 use Rattle.rail_words.specs.Requests.{RequestSeen, simulate, routes, verify, check, trial, IsRequestInRange}
 use Rattle.verify_loop.specs.declared.outcome.Budgets.{Budgets}
 use Rattle.verify_loop.specs.declared.outcome.Outcome.{Outcome}
@@ -77,12 +77,12 @@ module _ (seed size : ℕ) where
 
   -- the search came to its end
   pub listed_so : {X : Type 0} (view : X → Station) (d : Station) (x : X) (reply : Reply) → d ≡ made seed size → view x ≡ d → ReadsOrEnds view (Ok x) (design_or_answer (with_routes d))
-      → (found : Outcome) × IsOutcome Cones d (2 * size) trial_budgets found × Fits Cones d (2 * size) found × (reply_seen reply ≡ reply_for_trial seed size d found)
+      → (found : Outcome) × IsOutcome Plain d (2 * size) trial_budgets found × Fits Plain d (2 * size) found × (reply_seen reply ≡ reply_for_trial seed size d found)
       → RepliesTrial (Ok reply) seed size
   listed_so view d x reply same is reads h =
       let found = h.0 in
-      let ends : IsOutcome Cones (made seed size) (2 * size) trial_budgets found × Fits Cones (made seed size) (2 * size) found = subst (λ (e : Station). IsOutcome Cones e (2 * size) trial_budgets found × Fits Cones e (2 * size) found) same (h.1, h.2) in
-      let few : tried_in seed size d found ≡ reply_seen reply = reply_unless_many Cones d (2 * size) trial_budgets (reply_for_trial seed size d) (λ literals. refl) refl (Ok reply) found h.1 h.2 (sym h.3) in
+      let ends : IsOutcome Plain (made seed size) (2 * size) trial_budgets found × Fits Plain (made seed size) (2 * size) found = subst (λ (e : Station). IsOutcome Plain e (2 * size) trial_budgets found × Fits Plain e (2 * size) found) same (h.1, h.2) in
+      let few : tried_in seed size d found ≡ reply_seen reply = reply_unless_many Plain d (2 * size) trial_budgets (reply_for_trial seed size d) (λ literals. refl) refl (Ok reply) found h.1 h.2 (sym h.3) in
       let here : of_station d found ≡ reply_seen reply = answered_next (design_or_answer (with_routes d)) d (λ e. tried_in seed size e found) (reads ∙ ap (λ (e : Station). Ok e) is) ∙ few in
       (found, ends, subst (λ (e : Station). of_station e found ≡ reply_seen reply) same here)
 
@@ -157,7 +157,7 @@ module _ (seed size : ℕ) (t : Status) (text new_text : Option (List ℕ)) (pie
   was_tried : (found : Outcome) → is_verdict (tried seed size found).status ≡ true → tried seed size found ≡ reply_for_trial seed size (made seed size) found
   was_tried found verdict =
       let one = passed (design_or_answer (with_routes (made seed size))) (λ d. tried_in seed size d found) (design_refuses (with_routes (made seed size))) verdict in
-      let two = passed (with_clauses Cones (2 * size) one.read) (λ same. reply_for_trial seed size one.read found) (clauses_refuse one.read (past_limit 16000000 0 (base_clauses one.read (routes_of one.read) (2 * size)))) one.verdict in
+      let two = passed (with_clauses Plain (2 * size) one.read) (λ same. reply_for_trial seed size one.read found) (clauses_refuse one.read (past_limit 16000000 0 (base_clauses one.read (routes_of one.read) (2 * size)))) one.verdict in
       let same : made seed size ≡ one.read = routes_answer-same (made seed size) one.read one.is in
       one.comes ∙ two.comes ∙ ap (λ (d : Station). reply_for_trial seed size d found) (sym same)
 

@@ -1,10 +1,10 @@
 -- Refusals and how the program is used: no refusal of a file has the status of usage.
-use Rattle.std.proofs.Common.{◌≡◌, ℕ, Bool, true, false, List, length, nat_lt, if◌then◌else◌, Option, Some, None, Result, Ok, Err, refl, ap, sym, ◌∙◌}
+use Rattle.std.proofs.Common.{◌≡◌, ℕ, Bool, true, false, List, length, nat_lt, if◌then◌else◌, Option, Some, None, Result, Ok, Err, refl, ap, ◌∙◌}
 use Rattle.design_table.specs.declared.fault.Code.{Code}
 use Rattle.design_table.specs.declared.place.Place.{Place}
 use Rattle.infra_reader.specs.Design.{design_of}
 use Rattle.clause_spec.specs.Clauses.{base_clauses, past_limit}
-use Rattle.plan_exclusion.specs.declared.method.Method.TheVariants.{Cones}
+use Rattle.clause_spec.specs.declared.question.BaseKind.TheVariants.{Plain}
 use Rattle.rail_base.specs.declared.station.Station.{Station}
 use Rattle.rail_base.specs.declared.plan.Command.{Command}
 use Rattle.rail_plan.specs.Reading.{Refusal, plan_of}
@@ -41,7 +41,7 @@ too_large : (d : Station) (many : Option ℕ) → IsNoUsage (unless_too_large d 
 too_large d None a e is = absurd (cc)
 too_large d (Some k) a e is = let kind : DesignRefused ≡ Usage = one_status (unless_too_large d (Some k)) DesignRefused too_large_line a refl e is in absurd (cc)
 
-pub clauses_are_no_usage : (n : ℕ) (d : Station) → IsNoUsage (with_clauses Cones n d)
+pub clauses_are_no_usage : (n : ℕ) (d : Station) → IsNoUsage (with_clauses Plain n d)
 clauses_are_no_usage n d = too_large d (past_limit 16000000 0 (base_clauses d (routes_of d) n))
 
 refused_plan : (d : Station) (r : Result (List (List Command)) Refusal) → IsNoUsage (plan_or_answer d r)

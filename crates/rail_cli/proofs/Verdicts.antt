@@ -6,8 +6,8 @@ use Rattle.infra_reader.specs.Design.{design_of}
 use Rattle.log_checker.specs.declared.check_result.CheckResult.{CheckResult}
 use Rattle.log_checker.specs.declared.check_result.CheckResult.TheVariants.{Yes, No}
 use Rattle.clause_spec.specs.Clauses.{literals, past_limit}
-use Rattle.plan_exclusion.specs.declared.method.Method.{Method}
-use Rattle.plan_exclusion.specs.declared.method.Method.TheVariants.{Cones}
+use Rattle.clause_spec.specs.declared.question.BaseKind.{BaseKind}
+use Rattle.clause_spec.specs.declared.question.BaseKind.TheVariants.{Plain}
 use Rattle.proof_judge.specs.Judged.{judged}
 use Rattle.rail_base.specs.declared.history.Verdict.{Verdict}
 use Rattle.rail_base.specs.declared.history.Verdict.TheVariants as verdict
@@ -24,7 +24,7 @@ use Rattle.rail_cli.specs.declared.status.Status.TheVariants as statuses
 use Rattle.rail_cli.specs.declared.input.InputFile.TheVariants as file
 use Rattle.rail_cli.specs.Statuses.{is_answered}
 use Rattle.rail_cli.specs.Texts.{limit_of}
-use Rattle.rail_cli.specs.Answers.{ReplySeen, within_limit, with_routes, design_or_answer, design_in, plan_or_answer, plan_in, verdict_reply, verdict_status, simulation_reply, routes_answer, routes_reply, with_clauses, reply_for, checked_against, with_proof, check_reply, reply_for_outcome, method_of, search_reply, trial_conflicts, trial_ticks, reply_for_trial, tried_in, tried, unless_refused, answer_to, answer_of}
+use Rattle.rail_cli.specs.Answers.{ReplySeen, within_limit, with_routes, design_or_answer, design_in, plan_or_answer, plan_in, verdict_reply, verdict_status, simulation_reply, routes_answer, routes_reply, with_clauses, reply_for, checked_against, with_proof, check_reply, reply_for_outcome, base_kind_of, search_reply, trial_conflicts, trial_ticks, reply_for_trial, tried_in, tried, unless_refused, answer_to, answer_of}
 use Rattle.rail_cli.specs.Shows.{verdict_at_horizon}
 use Rattle.rail_cli.specs.Searches.{budgets_of, Finds}
 use Rattle.rail_cli.specs.Prints.{Prints}
@@ -42,10 +42,10 @@ within limit sum (c ∷ cs) few =
     let all : literals (c ∷ cs) ≡ length c + literals cs = sum_by-cons length c cs in
     rw (le-ltb limit (sum + length c) (omega arith)) (within limit (sum + length c) cs (omega arith))
 
-few_fit : (m : Method) (d : Station) (n : ℕ) → HasFewClauses m d n → past_limit 16000000 0 (first_clauses m d n) ≡ None
+few_fit : (m : BaseKind) (d : Station) (n : ℕ) → HasFewClauses m d n → past_limit 16000000 0 (first_clauses m d n) ≡ None
 few_fit m d n few = within 16000000 0 (first_clauses m d n) (omega arith)
 
-few_pass : (m : Method) (d : Station) (n : ℕ) → HasFewClauses m d n → with_clauses m n d ≡ Ok d
+few_pass : (m : BaseKind) (d : Station) (n : ℕ) → HasFewClauses m d n → with_clauses m n d ≡ Ok d
 few_pass m d n few = small_passes m n d (few_fit m d n few)
 
 routes_pass : (d : Station) → HasRoutes d → with_routes d ≡ Ok d
@@ -68,21 +68,21 @@ module _ (bytes : List ℕ) (d : Station) (s : IsDesignText bytes d) where
   listed_so : routes_reply bytes ≡ routes_answer d
   listed_so = answered_next (within_limit file.Design bytes) bytes (λ text. unless_refused (design_in text) routes_answer) fits ∙ answered_next (design_in bytes) d routes_answer reads
 
-  searched_so : (m : Method) (n conflicts ticks : ℕ) (found : Outcome) → HasFewClauses m d n → search_reply m n conflicts ticks bytes found ≡ reply_for_outcome d n conflicts ticks found
+  searched_so : (m : BaseKind) (n conflicts ticks : ℕ) (found : Outcome) → HasFewClauses m d n → search_reply m n conflicts ticks bytes found ≡ reply_for_outcome d n conflicts ticks found
   searched_so m n conflicts ticks found few =
       read_so m n conflicts ticks bytes found bytes fits d reads ∙ answered_next (with_clauses m n d) d (λ same. reply_for_outcome d n conflicts ticks found) (few_pass m d n few)
 
-  pub checked_so : (n : ℕ) (proof_bytes : List ℕ) → HasFewClauses Cones d n → length proof_bytes ≤ limit_of file.Proof → check_reply n bytes proof_bytes ≡ reply_for (judged d n proof_bytes)
+  pub checked_so : (n : ℕ) (proof_bytes : List ℕ) → HasFewClauses Plain d n → length proof_bytes ≤ limit_of file.Proof → check_reply n bytes proof_bytes ≡ reply_for (judged d n proof_bytes)
   checked_so n proof_bytes few short =
       answered_next (within_limit file.Design bytes) bytes (λ text. unless_refused (design_in text) (λ e. with_proof n e proof_bytes)) fits
       ∙ (answered_next (design_in bytes) d (λ e. with_proof n e proof_bytes) reads
-      ∙ (answered_next (with_clauses Cones n d) d (λ same. unless_refused (within_limit file.Proof proof_bytes) (checked_against d n)) (few_pass Cones d n few)
+      ∙ (answered_next (with_clauses Plain n d) d (λ same. unless_refused (within_limit file.Proof proof_bytes) (checked_against d n)) (few_pass Plain d n few)
       ∙ answered_next (within_limit file.Proof proof_bytes) proof_bytes (checked_against d n) (refusing.file_fits file.Proof proof_bytes short)))
 
-tried_so : (seed size : ℕ) (found : Outcome) → HasRoutes (made seed size) → HasFewClauses Cones (made seed size) (2 * size) → tried seed size found ≡ reply_for_trial seed size (made seed size) found
+tried_so : (seed size : ℕ) (found : Outcome) → HasRoutes (made seed size) → HasFewClauses Plain (made seed size) (2 * size) → tried seed size found ≡ reply_for_trial seed size (made seed size) found
 tried_so seed size found has few =
     answered_next (design_or_answer (with_routes (made seed size))) (made seed size) (λ d. tried_in seed size d found) (ap design_or_answer (routes_pass (made seed size) has))
-    ∙ answered_next (with_clauses Cones (2 * size) (made seed size)) (made seed size) (λ same. reply_for_trial seed size (made seed size) found) (few_pass Cones (made seed size) (2 * size) few)
+    ∙ answered_next (with_clauses Plain (2 * size) (made seed size)) (made seed size) (λ same. reply_for_trial seed size (made seed size) found) (few_pass Plain (made seed size) (2 * size) few)
 
 -- ---- their statuses
 
@@ -124,7 +124,7 @@ trial_status seed size d (outcome.TooLarge literals) = refl
 trial_status seed size d outcome.Memory = refl
 
 -- a search with few clauses ends with a verdict or a budget spent, unless memory was wanting
-module _ (m : Method) (d : Station) (n : ℕ) (b : Budgets) (few : HasFewClauses m d n) (s : Status) (answered : is_answered s ≡ true) where
+module _ (m : BaseKind) (d : Station) (n : ℕ) (b : Budgets) (few : HasFewClauses m d n) (s : Status) (answered : is_answered s ≡ true) where
   ends_so : (found : Outcome) → IsOutcome m d n b found × Fits m d n found → s ≡ status_of found → IsVerdict s ⊎ SpendsBudget m d n b s
   ends_so (outcome.Plan plan verdict) ends is = inl (inl is)
   ends_so (outcome.Infeasible log) ends is = inl (inr is)
@@ -135,7 +135,7 @@ module _ (m : Method) (d : Station) (n : ℕ) (b : Budgets) (few : HasFewClauses
   ends_so outcome.Memory ends is = (let kind : is_answered s ≡ is_answered statuses.Memory = ap is_answered is in absurd (cc))
 
 -- of a design that is spelled
-spent_in : (m : Method) (d : Station) (bytes : List ℕ) (n : ℕ) (b : Budgets) (s : Status) → design_of bytes ≡ Ok d → IsVerdict s ⊎ SpendsBudget m d n b s → IsVerdict s ⊎ ((e : Station) × (design_of bytes ≡ Ok e) × SpendsBudget m e n b s)
+spent_in : (m : BaseKind) (d : Station) (bytes : List ℕ) (n : ℕ) (b : Budgets) (s : Status) → design_of bytes ≡ Ok d → IsVerdict s ⊎ SpendsBudget m d n b s → IsVerdict s ⊎ ((e : Station) × (design_of bytes ≡ Ok e) × SpendsBudget m e n b s)
 spent_in m d bytes n b s spells (inl verdict) = inl verdict
 spent_in m d bytes n b s spells (inr spent) = inr (d, spells, spent)
 
@@ -150,12 +150,12 @@ comes_so files (Some (simulate design plan)) found s finds is u answered =
     subst IsVerdict (sym (status_so _ _ s is (simulated_so (files design) u.0 u.1 (files plan) u.2))) (shown_verdict (verdict_at_horizon u.0 u.2.plan))
 comes_so files (Some (routes design)) found s finds is u answered = status_so _ _ s is (listed_so (files design) u.0 u.1)
 comes_so files (Some (verify n conflicts ticks bounds design proof)) found s finds is u answered =
-    spent_in (method_of bounds) u.0 (files design) n (budgets_of conflicts ticks) s u.1.parses
-    (ends_so (method_of bounds) u.0 n (budgets_of conflicts ticks) u.2 s answered found (finds u.0 (reads (files design) u.0 u.1)) (status_so _ _ s is (searched_so (files design) u.0 u.1 (method_of bounds) n conflicts ticks found u.2) ∙ search_status u.0 n conflicts ticks found))
+    spent_in (base_kind_of bounds) u.0 (files design) n (budgets_of conflicts ticks) s u.1.parses
+    (ends_so (base_kind_of bounds) u.0 n (budgets_of conflicts ticks) u.2 s answered found (finds u.0 (reads (files design) u.0 u.1)) (status_so _ _ s is (searched_so (files design) u.0 u.1 (base_kind_of bounds) n conflicts ticks found u.2) ∙ search_status u.0 n conflicts ticks found))
 comes_so files (Some (check n design proof)) found s finds is u answered =
     subst IsVerdict (sym (status_so _ _ s is (checked_so (files design) u.0 u.1 n (files proof) u.2 u.3))) (told_verdict (judged u.0 n (files proof)))
 comes_so files (Some (trial seed size)) found s finds is u answered =
-    ends_so Cones (made seed size) (2 * size) (budgets_of trial_conflicts trial_ticks) u.1 s answered found finds (status_so _ _ s is (tried_so seed size found u.0 u.1) ∙ trial_status seed size (made seed size) found)
+    ends_so Plain (made seed size) (2 * size) (budgets_of trial_conflicts trial_ticks) u.1 s answered found finds (status_so _ _ s is (tried_so seed size found u.0 u.1) ∙ trial_status seed size (made seed size) found)
 
 module _ (files : Files) (words : List (List ℕ)) (s : Status) (text new_text : Option (List ℕ)) (pieces new_pieces : Option (List (List ℕ))) where
   -- the answer was printed

@@ -12,8 +12,8 @@ use Rattle.log_checker.specs.declared.check_result.CheckResult.{CheckResult}
 use Rattle.log_checker.specs.declared.check_result.CheckResult.TheVariants as check_result
 use Rattle.proof_judge.specs.Judged.{judged}
 use Rattle.clause_spec.specs.Clauses.{past_limit}
-use Rattle.plan_exclusion.specs.declared.method.Method.{Method}
-use Rattle.plan_exclusion.specs.declared.method.Method.TheVariants.{Cones, Bounds}
+use Rattle.clause_spec.specs.declared.question.BaseKind.{BaseKind}
+use Rattle.clause_spec.specs.declared.question.BaseKind.TheVariants.{Plain, Sorted}
 use Rattle.rail_base.specs.declared.station.Station.{Station}
 use Rattle.rail_base.specs.declared.station.EdgeNo.{EdgeNo}
 use Rattle.rail_base.specs.declared.plan.Command.{Command}
@@ -135,8 +135,8 @@ abbrev pub unless_too_large : Station → Option ℕ → Result Station ReplySee
 unless_too_large d None = Ok d
 unless_too_large d (Some literals) = Err (one_line status.DesignRefused too_large_line)
 
--- a design of which the clauses that a search by the method begins with have at most 16,000,000 literals
-abbrev pub with_clauses : Method → ℕ → Station → Result Station ReplySeen
+-- a design of which the clauses that a search by the base begins with have at most 16,000,000 literals
+abbrev pub with_clauses : BaseKind → ℕ → Station → Result Station ReplySeen
 with_clauses m n d = unless_too_large d (past_limit 16000000 0 (first_clauses m d n))
 
 -- what a proof file shows
@@ -151,7 +151,7 @@ checked_against d n bytes = reply_for (judged d n bytes)
 -- the answer to a check of a design, for the bytes of the proof
 abbrev pub with_proof : ℕ → Station → List ℕ → ReplySeen
 with_proof n d proof_bytes =
-    unless_refused (with_clauses Cones n d) (λ same.
+    unless_refused (with_clauses Plain n d) (λ same.
     unless_refused (within_limit file.Proof proof_bytes) (checked_against d n))
 
 -- the answer to a check, for the bytes of the design and of the proof
@@ -181,17 +181,17 @@ reply_for_outcome d n conflicts ticks (outcome.LogSpent log bytes next) =
 reply_for_outcome d n conflicts ticks (outcome.TooLarge literals) = one_line status.DesignRefused too_large_line
 reply_for_outcome d n conflicts ticks outcome.Memory = record { status = status.Memory; lines = [] }
 
--- the answer to a search in a design by a method, by what it ended with
-abbrev pub searched_in : Method → Station → ℕ → ℕ → ℕ → Outcome → ReplySeen
+-- the answer to a search in a design by a base, by what it ended with
+abbrev pub searched_in : BaseKind → Station → ℕ → ℕ → ℕ → Outcome → ReplySeen
 searched_in m d n conflicts ticks found =
     unless_refused (with_clauses m n d) (λ same. reply_for_outcome d n conflicts ticks found)
 
 -- plans that fail are excluded by bounds where these are asked for
-abbrev pub method_of : Bool → Method
-method_of bounds = if bounds then Bounds else Cones
+abbrev pub base_kind_of : Bool → BaseKind
+base_kind_of bounds = if bounds then Sorted else Plain
 
 -- the answer to a search, for the bytes of the design, by what it ended with
-abbrev pub search_reply : Method → ℕ → ℕ → ℕ → List ℕ → Outcome → ReplySeen
+abbrev pub search_reply : BaseKind → ℕ → ℕ → ℕ → List ℕ → Outcome → ReplySeen
 search_reply m n conflicts ticks design_bytes found =
     unless_refused (within_limit file.Design design_bytes) (λ design_text.
     unless_refused (design_in design_text) (λ d.
@@ -225,7 +225,7 @@ reply_for_trial seed size d outcome.Memory = record { status = status.Memory; li
 
 -- the answer to a trial of a station with its routes, by what it ended with
 abbrev pub tried_in : ℕ → ℕ → Station → Outcome → ReplySeen
-tried_in seed size d found = unless_refused (with_clauses Cones (2 * size) d) (λ same. reply_for_trial seed size d found)
+tried_in seed size d found = unless_refused (with_clauses Plain (2 * size) d) (λ same. reply_for_trial seed size d found)
 
 -- the answer to a trial: the station that the seed and the size make is searched for a plan of twice as many steps as its size
 abbrev pub tried : ℕ → ℕ → Outcome → ReplySeen
@@ -238,7 +238,7 @@ answer_to files found None = one_line status.Usage usage_line
 answer_to files found (Some (simulate design plan)) = simulation_reply (files design) (files plan)
 answer_to files found (Some (routes design)) = routes_reply (files design)
 answer_to files found (Some (verify n conflicts ticks bounds design proof)) =
-    search_reply (method_of bounds) n conflicts ticks (files design) found
+    search_reply (base_kind_of bounds) n conflicts ticks (files design) found
 answer_to files found (Some (check n design proof)) = check_reply n (files design) (files proof)
 answer_to files found (Some (trial seed size)) = tried seed size found
 
@@ -248,7 +248,7 @@ answer_given design_bytes other_bytes found None = one_line status.Usage usage_l
 answer_given design_bytes other_bytes found (Some (simulate design plan)) = simulation_reply design_bytes other_bytes
 answer_given design_bytes other_bytes found (Some (routes design)) = routes_reply design_bytes
 answer_given design_bytes other_bytes found (Some (verify n conflicts ticks bounds design proof)) =
-    search_reply (method_of bounds) n conflicts ticks design_bytes found
+    search_reply (base_kind_of bounds) n conflicts ticks design_bytes found
 answer_given design_bytes other_bytes found (Some (check n design proof)) = check_reply n design_bytes other_bytes
 answer_given design_bytes other_bytes found (Some (trial seed size)) = tried seed size found
 

@@ -3,8 +3,8 @@ use Rattle.std.specs.Prelude.{◌≡◌, ◌≤◌, ◌<◌, ◌⊎◌, ℕ, ◌
 use Rattle.std.specs.List.{concat}
 use Rattle.infra_reader.specs.Design.{design_of}
 use Rattle.log_checker.specs.declared.check_result.CheckResult.TheVariants.{Yes}
-use Rattle.plan_exclusion.specs.declared.method.Method.{Method}
-use Rattle.plan_exclusion.specs.declared.method.Method.TheVariants.{Cones}
+use Rattle.clause_spec.specs.declared.question.BaseKind.{BaseKind}
+use Rattle.clause_spec.specs.declared.question.BaseKind.TheVariants.{Plain}
 use Rattle.proof_judge.specs.Judged.{judged}
 use Rattle.rail_base.specs.declared.plan.Command.{Command}
 use Rattle.rail_base.specs.declared.station.Station.{Station}
@@ -23,8 +23,8 @@ use Rattle.workload.specs.Made.{made}
 use Rattle.rail_cli.specs.declared.status.Status.{Status}
 use Rattle.rail_cli.specs.declared.status.Status.TheVariants.{Done, No, Memory, ShelfFault, SinkFault}
 use Rattle.rail_cli.specs.declared.input.InputFile.TheVariants as file
-use Rattle.rail_cli.specs.Texts.{limit_of, yes_line, plan_steps_line, plan_line, infeasible_line}
-use Rattle.rail_cli.specs.Answers.{one_line, design_in, check_reply, method_of, trial_conflicts, trial_ticks, reply_for_plan}
+use Rattle.rail_cli.specs.Texts.{limit_of, yes_line, infeasible_line}
+use Rattle.rail_cli.specs.Answers.{one_line, design_in, check_reply, base_kind_of, trial_conflicts, trial_ticks, reply_for_plan}
 use Rattle.rail_cli.specs.Shows.{verdict_at_horizon}
 use Rattle.rail_cli.specs.Simulations.{RunsSafely}
 
@@ -37,25 +37,25 @@ budgets_of conflicts ticks = record { conflicts = conflicts; ticks = ticks; log_
 -- the outcome says what it is to say of the station that the seed and the size make, for twice as many steps as its size; want of memory says nothing
 abbrev pub EndsTrial : ℕ → ℕ → Outcome → Type 0
 EndsTrial seed size found =
-    IsOutcome Cones (made seed size) (2 * size) (budgets_of trial_conflicts trial_ticks) found
-    × Fits Cones (made seed size) (2 * size) found
+    IsOutcome Plain (made seed size) (2 * size) (budgets_of trial_conflicts trial_ticks) found
+    × Fits Plain (made seed size) (2 * size) found
 
 -- where the bytes spell a design, the outcome says what it is to say of that design and n, within the budgets
-abbrev pub EndsSearch : Method → List ℕ → ℕ → ℕ → ℕ → Outcome → Type 0
+abbrev pub EndsSearch : BaseKind → List ℕ → ℕ → ℕ → ℕ → Outcome → Type 0
 EndsSearch m design_bytes n conflicts ticks found = (d : Station) → design_in design_bytes ≡ Ok d
     → IsOutcome m d n (budgets_of conflicts ticks) found × Fits m d n found
 
 -- a search that is asked for ends so for the design's file, and a trial for the station that is made
 abbrev pub Finds : Files → Option RequestSeen → Outcome → Type 0
 Finds files (Some (verify n conflicts ticks bounds design proof)) found =
-    EndsSearch (method_of bounds) (files design) n conflicts ticks found
+    EndsSearch (base_kind_of bounds) (files design) n conflicts ticks found
 Finds files (Some (trial seed size)) found = EndsTrial seed size found
 Finds files _ found = Unit {0}
 
 -- the same for the bytes of the design's file
 abbrev pub FindsGiven : List ℕ → Option RequestSeen → Outcome → Type 0
 FindsGiven design_bytes (Some (verify n conflicts ticks bounds design proof)) found =
-    EndsSearch (method_of bounds) design_bytes n conflicts ticks found
+    EndsSearch (base_kind_of bounds) design_bytes n conflicts ticks found
 FindsGiven design_bytes (Some (trial seed size)) found = EndsTrial seed size found
 FindsGiven design_bytes _ found = Unit {0}
 

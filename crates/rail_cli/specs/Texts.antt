@@ -1,5 +1,5 @@
 -- The lines that are printed where there is no timetable, each with its LF.
-use Rattle.std.specs.Prelude.{ℕ, List, [], ◌++◌, length, codes, decimal}
+use Rattle.std.specs.Prelude.{ℕ, List, ◌++◌, length, codes, decimal}
 use Rattle.design_table.specs.declared.fault.Code.{Code}
 use Rattle.design_table.specs.declared.fault.Code.TheVariants as code
 use Rattle.design_table.specs.declared.place.EntryKind.{EntryKind}
@@ -11,7 +11,6 @@ use Rattle.log_checker.specs.Words.{reason_words}
 use Rattle.plan_text.specs.Text.{plan_text}
 use Rattle.rail_base.specs.declared.plan.Command.{Command}
 use Rattle.rail_base.specs.declared.station.Station.{Station}
-use Rattle.rail_base.specs.declared.station.SectionNo.{SectionNo}
 use Rattle.rail_base.specs.declared.station.TrainNo.{TrainNo}
 use Rattle.rail_plan.specs.declared.fault.PlanCode.{PlanCode}
 use Rattle.rail_plan.specs.declared.fault.PlanCode.TheVariants as plan_code

@@ -2,8 +2,8 @@
 use Rattle.std.specs.Prelude.{◌≡◌, ◌≤◌, ◌⊎◌, ℕ, ◌*◌, List, [], length, Option, None, Some, Ok}
 use Rattle.infra_reader.specs.Design.{design_of}
 use Rattle.clause_spec.specs.Clauses.{literals}
-use Rattle.plan_exclusion.specs.declared.method.Method.{Method}
-use Rattle.plan_exclusion.specs.declared.method.Method.TheVariants.{Cones}
+use Rattle.clause_spec.specs.declared.question.BaseKind.{BaseKind}
+use Rattle.clause_spec.specs.declared.question.BaseKind.TheVariants.{Plain}
 use Rattle.rail_base.specs.declared.plan.Command.{Command}
 use Rattle.rail_base.specs.declared.station.Station.{Station}
 use Rattle.rail_outside.specs.Files.{Files}
@@ -19,7 +19,7 @@ use Rattle.rail_cli.specs.declared.status.Status.{Status}
 use Rattle.rail_cli.specs.declared.status.Status.TheVariants as status
 use Rattle.rail_cli.specs.declared.input.InputFile.TheVariants as file
 use Rattle.rail_cli.specs.Texts.{limit_of}
-use Rattle.rail_cli.specs.Answers.{method_of, trial_conflicts, trial_ticks}
+use Rattle.rail_cli.specs.Answers.{base_kind_of, trial_conflicts, trial_ticks}
 use Rattle.rail_cli.specs.Searches.{budgets_of}
 
 -- ---- where nothing is refused
@@ -29,8 +29,8 @@ pub record HasRoutes (d : Station) : Type 0 where
   pub once : edges_met_again d ≡ []
   pub at_most_2000 : length (all_walks d) ≤ 2000
 
--- the clauses that a search by the method for plans of n steps begins with have at most 16,000,000 literals
-abbrev pub HasFewClauses : Method → Station → ℕ → Type 0
+-- the clauses that a search by the base for plans of n steps begins with have at most 16,000,000 literals
+abbrev pub HasFewClauses : BaseKind → Station → ℕ → Type 0
 HasFewClauses m d n = literals (first_clauses m d n) ≤ 16000000
 
 -- the file is within its limit and spells this design, whose routes can be listed
@@ -52,12 +52,12 @@ IsUnrefused files (Some (simulate design plan)) =
     (d : Station) × IsDesignText (files design) d × IsPlanText d (files plan)
 IsUnrefused files (Some (routes design)) = (d : Station) × IsDesignText (files design) d
 IsUnrefused files (Some (verify n conflicts ticks bounds design proof)) =
-    (d : Station) × IsDesignText (files design) d × HasFewClauses (method_of bounds) d n
+    (d : Station) × IsDesignText (files design) d × HasFewClauses (base_kind_of bounds) d n
 IsUnrefused files (Some (check n design proof)) =
-    (d : Station) × IsDesignText (files design) d × HasFewClauses Cones d n
+    (d : Station) × IsDesignText (files design) d × HasFewClauses Plain d n
     × (length (files proof) ≤ limit_of file.Proof)
 IsUnrefused files (Some (trial seed size)) =
-    HasRoutes (made seed size) × HasFewClauses Cones (made seed size) (2 * size)
+    HasRoutes (made seed size) × HasFewClauses Plain (made seed size) (2 * size)
 
 -- ---- what a run comes to then
 
@@ -73,7 +73,7 @@ IsSpent (outcome.LogSpent log bytes next) s = s ≡ status.LogSpent
 IsSpent _ s = ⊥
 
 -- a search for a plan of n steps has spent one of these budgets: what it ended with is so of the design, and this is its status
-pub record SpendsBudget (m : Method) (d : Station) (n : ℕ) (budgets : Budgets) (s : Status) : Type 0 where
+pub record SpendsBudget (m : BaseKind) (d : Station) (n : ℕ) (budgets : Budgets) (s : Status) : Type 0 where
   pub found : Outcome
   pub spent : IsSpent found s
   pub says : IsOutcome m d n budgets found
@@ -87,7 +87,7 @@ HasVerdict files (Some (routes design)) s = s ≡ status.Done
 HasVerdict files (Some (verify n conflicts ticks bounds design proof)) s =
     IsVerdict s
     ⊎ ((d : Station) × (design_of (files design) ≡ Ok d)
-    × SpendsBudget (method_of bounds) d n (budgets_of conflicts ticks) s)
+    × SpendsBudget (base_kind_of bounds) d n (budgets_of conflicts ticks) s)
 HasVerdict files (Some (check n design proof)) s = IsVerdict s
 HasVerdict files (Some (trial seed size)) s =
-    IsVerdict s ⊎ SpendsBudget Cones (made seed size) (2 * size) (budgets_of trial_conflicts trial_ticks) s
+    IsVerdict s ⊎ SpendsBudget Plain (made seed size) (2 * size) (budgets_of trial_conflicts trial_ticks) s

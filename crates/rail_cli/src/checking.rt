@@ -4,8 +4,7 @@ ghost use Rattle.std.specs.Prelude.{◌≡◌, ◌≤◌, [], ◌∷◌, true, I
 ghost use Rattle.rail_outside.specs.Asks.{fetched};
 ghost use Rattle.rail_outside.specs.Files.{Files};
 ghost use Rattle.rail_outside.specs.Growth.{Rose, GrowsByPrefix};
-ghost use Rattle.rail_spec.specs.Track.{routes_of};
-ghost use Rattle.plan_exclusion.specs.declared.method.Method.TheVariants.{Cones};
+ghost use Rattle.clause_spec.specs.declared.question.BaseKind.TheVariants.{Plain};
 ghost use Rattle.plan_encoding.specs.Bases.{IsBaseOf};
 ghost use Rattle.rail_cli.specs.Statuses.{is_verdict};
 ghost use Rattle.rail_cli.specs.Answers.{with_clauses, reply_for, with_proof, check_reply};
@@ -31,9 +30,9 @@ use std::alloc::{AllocError, Global};
 /// memory.
 pub fn encode(alloc: Global, interlocking: &Interlocking, steps: Steps) -> Result<Base, Ending>
     ensures reads { let d = interlocking.now.design.station in
-        ReadsOrEnds (λ _. d) result (with_clauses Cones steps.count d) }
+        ReadsOrEnds (λ _. d) result (with_clauses Plain steps.count d) }
     ensures refuses { OnlyRefuses result }
-    ensures base { let d = interlocking.now.design.station in IfOk result (IsBaseOf d (routes_of d) steps.count) }
+    ensures base { let i = interlocking.now in IfOk result (IsBaseOf Plain i.design.station i.routes steps.count) }
 {
     match base(alloc, interlocking, steps) {
         Ok(base) => Ok(base),

@@ -6,10 +6,10 @@ ghost use Rattle.rail_outside.specs.Files.{Files};
 ghost use Rattle.rail_outside.specs.Growth.{Rose, GrowsByPrefix};
 ghost use Rattle.rail_outside.specs.Lines.{lines_of};
 ghost use Rattle.rail_words.specs.Requests.{verify};
-ghost use Rattle.plan_exclusion.specs.declared.method.Method.{Method};
+ghost use Rattle.clause_spec.specs.declared.question.BaseKind.{BaseKind};
 ghost use Rattle.verify_loop.specs.declared.outcome.Outcome.{Outcome};
 ghost use Rattle.verify_loop.specs.Outcomes.{IsOutcome, Fits};
-ghost use Rattle.rail_cli.specs.Answers.{design_in, method_of, one_line, reply_for_plan, searched_in};
+ghost use Rattle.rail_cli.specs.Answers.{design_in, base_kind_of, one_line, reply_for_plan, searched_in};
 ghost use Rattle.rail_cli.specs.Answers.{reply_for_outcome};
 ghost use Rattle.rail_cli.specs.Shows.{verdict_at_horizon};
 ghost use Rattle.rail_cli.specs.Replies.{KeepsLog, OnEnd, OnlyFails, RefusesFile, Replies, RepliesSo};
@@ -28,8 +28,8 @@ use crate::texts::{
     conflicts_spent_line, infeasible_line, log_spent_line, plan_line, plan_steps_line,
     ticks_spent_line,
 };
+use clause_spec::BaseKind;
 use interlocking::{Interlocking, Steps};
-use plan_exclusion::Method;
 use rail_base::design::Design;
 use rail_base::history::Verdict;
 use rail_base::plan::Plan;
@@ -78,18 +78,18 @@ pub(crate) fn search_reply<S: Shelf>(
     let bytes = fetch(alloc, shelf, InputFile::Design, design)?;
     let interlocking = admit(alloc, bytes.as_slice())?;
     let steps = Steps { count: steps };
-    let method = method_of(bounds);
-    searched_in(alloc, shelf, &interlocking, steps, method, budgets, proof)
+    let kind = base_kind_of(bounds);
+    searched_in(alloc, shelf, &interlocking, steps, kind, budgets, proof)
 }
 
-/// How plans that fail are excluded.
-fn method_of(bounds: bool) -> Method
-    ensures { result ≡ method_of bounds }
+/// The base by which a search is made.
+fn base_kind_of(bounds: bool) -> BaseKind
+    ensures { result ≡ base_kind_of bounds }
 {
     if bounds {
-        Method::Bounds
+        BaseKind::Sorted
     } else {
-        Method::Cones
+        BaseKind::Plain
     }
 }
 
@@ -167,7 +167,7 @@ fn make_reply(
     budgets: Budgets,
     found: &Outcome,
 ) -> Result<Reply, AllocError>
-    requires { (m : Method) × IsOutcome m design.now.station steps budgets found.now }
+    requires { (m : BaseKind) × IsOutcome m design.now.station steps budgets found.now }
     ensures { RepliesWith result
         (reply_for_outcome design.now.station steps budgets.conflicts budgets.ticks found.now) }
 {
@@ -224,7 +224,7 @@ fn settle<S: Shelf>(
     proof: &str,
     found: &Outcome,
 ) -> Result<Reply, Ending>
-    requires says { (m : Method) × IsOutcome m design.now.station steps budgets found.now }
+    requires says { (m : BaseKind) × IsOutcome m design.now.station steps budgets found.now }
     requires room { budgets.log_bytes ≡ limit_of InputFile.Proof }
     ensures replies { Replies result
         (reply_for_outcome design.now.station steps budgets.conflicts budgets.ticks found.now) }
@@ -248,15 +248,15 @@ fn searched_in<S: Shelf>(
     shelf: &mut S,
     interlocking: &Interlocking,
     steps: Steps,
-    method: Method,
+    kind: BaseKind,
     budgets: Budgets,
     proof: &str,
 ) -> Result<Reply, Ending>
     requires room { budgets.log_bytes ≡ limit_of InputFile.Proof }
-    ensures replies { (found : Outcome) × IsOutcome method interlocking.now.design.station steps.count budgets found
-        × Fits method interlocking.now.design.station steps.count found
+    ensures replies { (found : Outcome) × IsOutcome kind interlocking.now.design.station steps.count budgets found
+        × Fits kind interlocking.now.design.station steps.count found
         × Replies result
-        (searched_in method interlocking.now.design.station steps.count budgets.conflicts budgets.ticks found) }
+        (searched_in kind interlocking.now.design.station steps.count budgets.conflicts budgets.ticks found) }
     ensures no_usage { IfOk result (λ reply. reply.status ≢ Status.Usage) }
     ensures refuses { RefusesFile result }
     ensures stored { (files : Files) (name : List ℕ) → S.known_files shelf.old ≡ Some files
@@ -266,7 +266,7 @@ fn searched_in<S: Shelf>(
     ensures never_falls { S.fault_count shelf.old ≤ S.fault_count shelf.new }
     ensures asks { GrowsByPrefix (S.asked shelf.old) (S.asked shelf.new) (stored proof.now ∷ []) }
 {
-    let found = verify(alloc, interlocking, steps, method, budgets);
+    let found = verify(alloc, interlocking, steps, kind, budgets);
     settle(
         alloc,
         shelf,

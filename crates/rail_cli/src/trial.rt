@@ -4,7 +4,7 @@ ghost use Rattle.std.specs.Prelude.{◌≡◌, ◌≢◌, ◌≤◌, ◌*◌, tr
 ghost use Rattle.rail_spec.specs.Feasible.{IsFeasible};
 ghost use Rattle.rail_spec.specs.Requirements.{cost};
 ghost use Rattle.rail_spec.specs.Track.{routes_of};
-ghost use Rattle.plan_exclusion.specs.declared.method.Method.TheVariants.{Cones};
+ghost use Rattle.clause_spec.specs.declared.question.BaseKind.TheVariants.{Plain};
 ghost use Rattle.verify_loop.specs.declared.outcome.Outcome.{Outcome};
 ghost use Rattle.verify_loop.specs.Outcomes.{IsOutcome, Fits};
 ghost use Rattle.rail_cli.specs.Statuses.{is_answered};
@@ -24,8 +24,8 @@ use crate::texts::{
     conflicts_spent_line, counts_line, infeasible_line, log_spent_line, plan_tick_line,
     ticks_spent_line, trial_line,
 };
+use clause_spec::BaseKind;
 use interlocking::{Interlocking, Steps};
-use plan_exclusion::Method;
 use rail_base::design::Design;
 use rail_base::history::Verdict;
 use rail_base::plan::Plan;
@@ -107,7 +107,7 @@ fn make_reply(
     found: &Outcome,
 ) -> Result<Reply, AllocError>
     requires at_most_six { size ≤ 6 }
-    requires says { IsOutcome Cones interlocking.now.design.station (2 * size)
+    requires says { IsOutcome Plain interlocking.now.design.station (2 * size)
         (budgets_of trial_conflicts trial_ticks) found.now }
     ensures replies { RepliesWith result (reply_for_trial seed size interlocking.now.design.station found.now) }
     ensures no_usage { IfOk result (λ reply. reply.status ≢ Status.Usage) }
@@ -155,13 +155,13 @@ fn tried_in(
     requires at_least_one { 1 ≤ size }
     requires at_most_six { size ≤ 6 }
     ensures replies { (found : Outcome)
-        × IsOutcome Cones interlocking.now.design.station (2 * size) (budgets_of trial_conflicts trial_ticks) found
-        × Fits Cones interlocking.now.design.station (2 * size) found
+        × IsOutcome Plain interlocking.now.design.station (2 * size) (budgets_of trial_conflicts trial_ticks) found
+        × Fits Plain interlocking.now.design.station (2 * size) found
         × RepliesWith result (reply_for_trial seed size interlocking.now.design.station found) }
     ensures no_usage { IfOk result (λ reply. reply.status ≢ Status.Usage) }
 {
     let steps = Steps { count: 2 * size };
     let budgets = budgets(CONFLICTS, TICKS);
-    let found = verify(alloc, interlocking, steps, Method::Cones, budgets);
+    let found = verify(alloc, interlocking, steps, BaseKind::Plain, budgets);
     make_reply(alloc, seed, size, interlocking, &found)
 }

@@ -2,12 +2,13 @@
 
 ghost use Rattle.std.specs.Prelude.{◌≡◌, IfOk};
 ghost use Rattle.interlocking.specs.Plans.{IsRunnable};
-ghost use Rattle.rail_spec.specs.Track.{routes_of};
+ghost use Rattle.clause_spec.specs.declared.question.BaseKind.TheVariants.{Plain};
 ghost use Rattle.plan_encoding.specs.Bases.{IsBaseOf};
 
 use crate::adding::SearchState;
 use anyhow::{Result, bail, ensure};
 use bound_spec::Evidence;
+use clause_spec::{BaseKind, Question};
 use cone_form::Contention;
 use halting::Halting;
 use interlocking::{Interlocking, Steps};
@@ -50,7 +51,8 @@ struct PlanSearch<'a> {
     alloc: Global,
     interlocking: &'a Interlocking,
     base: &'a Base,
-    ghost numbers: { let d = interlocking.now.design.station in IsBaseOf d (routes_of d) base.now.steps base.now },
+    ghost numbers: { let i = interlocking.now in
+        IsBaseOf Plain i.design.station i.routes base.now.numbering.steps base.now },
 }
 
 /// Looks for a plan of so many steps, where the recorder stops at these calls, until it is shown that there is none.
@@ -92,7 +94,7 @@ impl PlanSearch<'_> {
     fn plan_of(&self, values: &Assignment) -> Result<Plan>
         ensures { IfOk result (λ p. IsRunnable self.now.interlocking.now 256 p.steps) }
     {
-        let plan = decode(self.alloc, self.base, values)?;
+        let plan = decode(self.alloc, &self.base.numbering, values)?;
         let text = write_plan(self.alloc, &self.interlocking.design, &plan)?;
         Ok(read_plan(self.alloc, self.interlocking, text.as_slice())?)
     }
@@ -125,11 +127,11 @@ impl PlanSearch<'_> {
     fn clause_of(&self, evidence: &Evidence) -> Result<Vec<Lit>> {
         let contention = Contention {
             interlocking: self.interlocking,
-            pairs: self.base.pairs(),
+            pairs: self.base.numbering.pairs(),
         };
         let design = ByDesign {
             contention,
-            steps: self.base.steps(),
+            steps: self.base.numbering.steps(),
         };
         match design.clause_of(self.alloc, evidence) {
             Ok(clause) => Ok(clause),
@@ -148,10 +150,10 @@ impl PlanSearch<'_> {
 
     /// One round, and whether it shows that there is no plan.
     fn refine(&self, search: &mut SearchState) -> Result<bool> {
-        let most = self.base.steps().count;
+        let most = self.base.numbering.steps().count;
         let step = search.step;
         ensure!(step <= most, "too many steps");
-        let selector = self.base.selector(step);
+        let selector = self.base.numbering.selector(step);
         match search.solve_under(selector)? {
             Answer::Sat(values) => {
                 self.exclude(search, &values)?;
@@ -174,15 +176,16 @@ impl PlanSearch<'_> {
 
     /// The clauses of the base, given to a solver whose recorder stops at these calls.
     fn start(&self, stops: &[u64]) -> Result<SearchState> {
-        let head = Head::Named {
+        let question = Question {
             version: u64::from(self.interlocking.design.station.version),
-            steps: u64::from(self.base.steps().count),
+            steps: u64::from(self.base.numbering.steps().count),
+            base: BaseKind::Plain,
         };
-        let line = write_head(self.alloc, head)?;
+        let line = write_head(self.alloc, Head::Of(question))?;
         let Ok(text) = Text::new(self.alloc, MOST, line.as_slice()) else {
             bail!("a log has no room for its head");
         };
-        let vars = self.base.counts().vars;
+        let vars = self.base.numbering.variables().count;
         let solver = Solver::new(self.alloc, Halting::new(self.alloc, text, stops)?, vars)?;
         let mut search = SearchState {
             solver,
@@ -190,7 +193,7 @@ impl PlanSearch<'_> {
             step: 1,
             refused: 0,
         };
-        let clauses = self.base.clauses();
+        let clauses = &self.base.clauses;
         for done in 0..clauses.count() {
             let id = done + 1;
             ensure!(clauses.live(id), "a clause of the base is not live");

@@ -3,6 +3,7 @@
 #![tactic(auto)]
 
 mod assignment;
+mod attaching;
 mod keep;
 mod list_recorder;
 mod order;

@@ -1,10 +1,10 @@
-ghost use Rattle.std.specs.Prelude.{◌≡◌, ◌++◌, [], IfOk, IfErr, OnOk, OnErr, None, flat_map};
+ghost use Rattle.std.specs.Prelude.{◌≡◌, ◌+◌, ◌++◌, [], IfOk, IfErr, OnOk, OnErr, None, flat_map};
 ghost use Rattle.sat_core.specs.declared.recorder.RecordFault.TheVariants.{Memory};
 ghost use Rattle.sat_core.specs.Texts.{derive_line, added_line};
 
 use crate::recorder::{RecordFault, Recorder};
-use sat_clause::{Arena, Lit};
-use std::alloc::Global;
+use sat_clause::Lit;
+use std::alloc::{AllocError, Global};
 
 /// A line that was recorded.
 #[derive(Drop)]
@@ -22,27 +22,24 @@ pub enum Line {
     Forgot(u64),
 }
 
-/// Keeps the clauses and the lines, without a limit.
+/// Counts the clauses and keeps the lines, without a limit.
 #[derive(Drop)]
 pub struct ListRecorder {
     alloc: Global,
-    arena: Arena,
+    count: u64,
     lines: Vec<Line>,
-    learnt: Vec<u64>,
 }
 
 impl ListRecorder {
     /// No clause and no line.
     pub fn new(alloc: Global) -> ListRecorder
-        ensures clauses { result.arena ≡ [] }
+        ensures count { result.count ≡ 0 }
         ensures lines { result.lines.items ≡ [] }
-        ensures learnt { result.learnt.items ≡ [] }
     {
         ListRecorder {
             alloc,
-            arena: Arena::new(alloc),
+            count: 0,
             lines: Vec::new(alloc),
-            learnt: Vec::new(alloc),
         }
     }
 
@@ -51,6 +48,17 @@ impl ListRecorder {
         ensures { result.now ≡ self.now.lines.items }
     {
         &self.lines
+    }
+
+    /// The number of the next clause. There is no memory for more than 64 bits can count.
+    fn next(&self) -> Result<u64, RecordFault>
+        ensures next { IfOk result (λ n. n ≡ self.now.count + 1) }
+        ensures memory { IfErr result (λ f. f ≡ Memory) }
+    {
+        match self.count.checked_add(1) {
+            Some(next) => Ok(next),
+            None => Err(RecordFault::Memory),
+        }
     }
 }
 
@@ -92,37 +100,36 @@ fn put_bytes(alloc: Global, lines: &mut Vec<Line>, bytes: &[u8]) -> Result<(), R
 impl Recorder for ListRecorder {
     ghost limit = { λ s. None };
 
-    ghost clauses = { λ s. s.arena };
+    ghost count = { λ s. s.count };
 
     ghost text = { λ s. flat_map text_of_line s.lines.items };
 
-    ghost learnt = { λ s. s.learnt.items };
-
-    fn add(&mut self, line: &[u8], clause: &[Lit]) -> Result<(), RecordFault> {
-        if self.arena.push(clause).is_err() {
-            return Err(RecordFault::Memory);
-        }
+    fn add(&mut self, line: &[u8]) -> Result<(), RecordFault> {
+        let next = self.next()?;
         if put_bytes(self.alloc, &mut self.lines, line).is_err() {
-            self.arena.pop();
             return Err(RecordFault::Memory);
         }
+        self.count = next;
         Ok(())
     }
 
+    fn skip(&mut self, clauses: u64) -> Result<(), AllocError> {
+        match self.count.checked_add(clauses) {
+            Some(count) => {
+                self.count = count;
+                Ok(())
+            }
+            None => Err(AllocError),
+        }
+    }
+
     fn derive(&mut self, clause: &[Lit], hints: &[u64]) -> Result<(), RecordFault> {
+        let next = self.next()?;
         let line = derived_line(self.alloc, clause, hints)?;
-        let Ok(id) = self.arena.push(clause) else {
-            return Err(RecordFault::Memory);
-        };
-        if self.learnt.push(id).is_err() {
-            self.arena.pop();
-            return Err(RecordFault::Memory);
-        }
         if self.lines.push(line).is_err() {
-            let _ = self.learnt.pop();
-            self.arena.pop();
             return Err(RecordFault::Memory);
         }
+        self.count = next;
         Ok(())
     }
 
@@ -130,7 +137,6 @@ impl Recorder for ListRecorder {
         if self.lines.push(Line::Forgot(id)).is_err() {
             return Err(RecordFault::Memory);
         }
-        self.arena.forget(id);
         Ok(())
     }
 

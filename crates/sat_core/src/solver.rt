@@ -3,6 +3,7 @@ ghost use Rattle.std.specs.Prelude.{IfErr, IfNone, ◌^◌, ◌%◌};
 ghost use Rattle.sat_clause.specs.declared.follow.Follow.TheVariants.{Yes};
 ghost use Rattle.sat_clause.specs.Hints.{follow_of};
 ghost use Rattle.sat_clause.specs.Closed.{IsConsistent};
+ghost use Rattle.sat_trail.specs.Forced.{VarsUpTo};
 ghost use Rattle.sat_trail.specs.Trails.{AllIn, depth};
 ghost use Rattle.sat_trail.specs.Standing.{IsIncreasing};
 ghost use Rattle.sat_core.specs.Kept.{Holds};
@@ -13,6 +14,7 @@ ghost use Rattle.sat_core.specs.Lines.{ascends, live_among};
 ghost use Rattle.sat_clause.specs.Clauses.{opposite};
 
 use crate::assignment::Assignment;
+use crate::attaching::attach_all;
 use crate::keep::keep;
 use crate::order::Order;
 use crate::recorder::{RecordFault, Recorder};
@@ -25,7 +27,7 @@ use sat_clause::{Arena, Lit};
 use sat_trail::{Learnt, Trail};
 use std::alloc::{AllocError, Global};
 
-/// Clauses of variables from 1 to their count, and the recorder that is given each.
+/// Clauses of variables from 1 to their count, and the recorder that is told of each.
 #[derive(Drop)]
 pub struct Solver<R: Recorder> {
     alloc: Global,
@@ -40,11 +42,10 @@ pub struct Solver<R: Recorder> {
     spans: Spans,
     live: u64,
     room: u64,
-    ghost same: { R.clauses recorder ≡ arena },
+    ghost counted_alike: { R.count recorder ≡ length arena },
     ghost holds: { Holds arena trail vars },
     ghost counted: { derives ≤ length arena },
     ghost lines: { trail.parts.lines ≡ derives },
-    ghost same_learnt: { R.learnt recorder ≡ learnt.items },
     ghost ascending: { ascends 0 learnt.items (length arena) ≡ true },
     ghost alive: { live ≤ live_among arena learnt.items },
 }
@@ -88,10 +89,11 @@ pub enum Answer {
 }
 
 impl<R: Recorder> Solver<R> {
-    /// No clause yet. The recorder may not have one either; it is dropped where there is no memory.
+    /// No clause yet. The recorder may not have counted one either; it is dropped where there is no memory.
     pub fn new(alloc: Global, recorder: R, vars: u32) -> Result<Solver<R>, AllocError>
-        requires none { R.clauses recorder ≡ [] }
-        requires unlearnt { R.learnt recorder ≡ [] }
+        requires { R.count recorder ≡ 0 }
+        ensures clauses { IfOk result (λ s. s.arena ≡ []) }
+        ensures learnt { IfOk result (λ s. s.learnt.items ≡ []) }
         ensures recorder { IfOk result (λ s. s.recorder ≡ recorder) }
         ensures vars { IfOk result (λ s. s.vars ≡ vars) }
         ensures derives { IfOk result (λ s. s.derives ≡ 0) }
@@ -102,6 +104,45 @@ impl<R: Recorder> Solver<R> {
         Ok(Solver {
             alloc,
             arena: Arena::new(alloc),
+            trail,
+            order,
+            restarts: Restarts::new(),
+            recorder,
+            vars,
+            derives: 0,
+            learnt: Vec::new(alloc),
+            spans: Spans::new(alloc),
+            live: 0,
+            room: FEWEST,
+        })
+    }
+
+    /// The clauses of an arena, none of them derived. The recorder counts them, and may have counted none before; it is
+    /// dropped with them where there is no memory.
+    pub fn over(
+        alloc: Global,
+        arena: Arena,
+        recorder: R,
+        vars: u32,
+    ) -> Result<Solver<R>, AllocError>
+        requires none { R.count recorder ≡ 0 }
+        requires in_vars { VarsUpTo arena vars }
+        ensures clauses { IfOk result (λ s. s.arena ≡ arena) }
+        ensures learnt { IfOk result (λ s. s.learnt.items ≡ []) }
+        ensures text { IfOk result (λ s. R.text s.recorder ≡ R.text recorder) }
+        ensures limit { IfOk result (λ s. R.limit s.recorder ≡ R.limit recorder) }
+        ensures vars { IfOk result (λ s. s.vars ≡ vars) }
+        ensures derives { IfOk result (λ s. s.derives ≡ 0) }
+        ensures level { IfOk result (λ s. depth s.trail.steps ≡ 0) }
+    {
+        let mut recorder = recorder;
+        recorder.skip(arena.count())?;
+        let mut trail = Trail::new(alloc, vars)?;
+        attach_all(&arena, &mut trail)?;
+        let order = Order::new(alloc, vars)?;
+        Ok(Solver {
+            alloc,
+            arena,
             trail,
             order,
             restarts: Restarts::new(),
@@ -138,8 +179,8 @@ impl<R: Recorder> Solver<R> {
 
     /// Whether a live clause is the one literal that negates this one. Then no model makes the literal true.
     pub fn is_refuted(&self, lit: Lit) -> bool
-        ensures yes { IsTrue result → HasUnit (R.clauses self.now.recorder) (opposite lit) }
-        ensures no { IsFalse result → HasUnit (R.clauses self.now.recorder) (opposite lit) → ⊥ }
+        ensures yes { IsTrue result → HasUnit (self.now.arena) (opposite lit) }
+        ensures no { IsFalse result → HasUnit (self.now.arena) (opposite lit) → ⊥ }
     {
         has_unit(
             &self.arena,
@@ -156,20 +197,20 @@ impl<R: Recorder> Solver<R> {
         requires in_vars { AllIn self.old.vars clause.now }
         requires room { has_room_for (R.limit self.old.recorder)
             (R.text self.old.recorder) (added_line line.now) ≡ true }
-        ensures clauses { OnOk result (R.clauses self.new.recorder
-            ≡ R.clauses self.old.recorder ++ (clause.now, true) ∷ []) }
-        ensures id { IfOk result (λ id. id ≡ length (R.clauses self.new.recorder)) }
+        ensures clauses { OnOk result (self.new.arena
+            ≡ self.old.arena ++ (clause.now, true) ∷ []) }
+        ensures id { IfOk result (λ id. id ≡ length (self.new.arena)) }
         ensures text { OnOk result (R.text self.new.recorder ≡ R.text self.old.recorder ++ added_line line.now) }
-        ensures err { OnErr result ((R.clauses self.new.recorder ≡ R.clauses self.old.recorder)
+        ensures err { OnErr result ((self.new.arena ≡ self.old.arena)
             × (R.text self.new.recorder ≡ R.text self.old.recorder)) }
         ensures limit { R.limit self.new.recorder ≡ R.limit self.old.recorder }
-        ensures learnt { R.learnt self.new.recorder ≡ R.learnt self.old.recorder }
+        ensures learnt { self.new.learnt.items ≡ self.old.learnt.items }
         ensures vars { self.new.vars ≡ self.old.vars }
         ensures level { depth self.new.trail.steps ≡ depth self.old.trail.steps }
         ensures derives { self.new.derives ≡ self.old.derives }
     {
         let id = keep(&mut self.arena, &mut self.trail, clause)?;
-        match self.recorder.add(line, clause) {
+        match self.recorder.add(line) {
             Ok(()) => Ok(id),
             Err(RecordFault::Memory) => {
                 self.trail.detach(&self.arena, id);
@@ -241,7 +282,7 @@ impl<R: Recorder> Solver<R> {
         level: u32,
         levels: u32,
     ) -> Result<(), RecordFault>
-        requires follows { follow_of (R.clauses self.old.recorder) clause.now hints.now ≡ Yes }
+        requires follows { follow_of self.old.arena clause.now hints.now ≡ Yes }
         requires increasing { IsIncreasing clause.now }
         requires in_vars { AllIn self.old.vars clause.now }
         ensures recorded { OnOk result (IsRecorded (state_in self.old) (state_in self.new) clause.now hints.now) }
@@ -277,7 +318,7 @@ impl<R: Recorder> Solver<R> {
     /// Whether a derived clause is long, behind no literal, and at least half of the derived ones stay live without it.
     fn may_forget(&self, id: u64) -> bool
         requires { is_among self.now.learnt.items id ≡ true }
-        ensures may { IsTrue result → MayForget (R.clauses self.now.recorder) (R.learnt self.now.recorder) id }
+        ensures may { IsTrue result → MayForget (self.now.arena) (self.now.learnt.items) id }
         ensures idle { IsTrue result → IsBehindNone self.now.trail.steps id }
     {
         if !self.arena.live(id) {
@@ -296,7 +337,7 @@ impl<R: Recorder> Solver<R> {
 
     /// Forgets a derived clause.
     fn forget(&mut self, id: u64) -> Result<(), RecordFault>
-        requires may { MayForget (R.clauses self.old.recorder) (R.learnt self.old.recorder) id }
+        requires may { MayForget self.old.arena (self.old.learnt.items) id }
         requires idle { IsBehindNone self.old.trail.steps id }
         ensures gone { OnOk result (IsForgot (state_in self.old) (state_in self.new) id) }
         ensures err { OnErr result (state_in self.new ≡ state_in self.old) }
@@ -398,7 +439,7 @@ impl<R: Recorder> Solver<R> {
     /// Records the line of negated assumptions that a run ends with, unless no line is left.
     fn finish(&mut self, why: Learnt, _assumptions: &[Lit], last: bool) -> Answer
         requires assumed { AllIn self.old.vars _assumptions.now }
-        requires final_ { IsFinal (R.clauses self.old.recorder) _assumptions.now why.clause.items why.hints.items }
+        requires final_ { IsFinal self.old.arena _assumptions.now why.clause.items why.hints.items }
         ensures end { IsEnd (state_in self.old) (state_in self.new) _assumptions.now self.old.vars last result }
         ensures vars { self.new.vars ≡ self.old.vars }
         ensures questions { self.new.trail.parts.questions ≡ self.old.trail.parts.questions }
@@ -424,7 +465,7 @@ impl<R: Recorder> Solver<R> {
     /// Records a new line, unless no line is left.
     fn analyze(&mut self, why: Learnt, _assumptions: &[Lit], last: bool) -> Option<Answer>
         requires in_vars { AllIn self.old.vars why.clause.items }
-        requires learnt { IsLearntBeyond (R.clauses self.old.recorder) _assumptions.now
+        requires learnt { IsLearntBeyond self.old.arena _assumptions.now
             why.clause.items why.hints.items }
         ensures step { IsStep (state_in self.old) (state_in self.new) _assumptions.now self.old.vars last result }
         ensures vars { self.new.vars ≡ self.old.vars }
@@ -460,7 +501,7 @@ impl<R: Recorder> Solver<R> {
         ensures state { state_in self.new ≡ state_in self.old }
         ensures vars { self.new.vars ≡ self.old.vars }
         ensures parts { self.new.trail.parts ≡ self.old.trail.parts }
-        ensures found { IfOk result (λ f. IsRoundEnd (R.clauses self.old.recorder) assumptions.now self.old.vars f) }
+        ensures found { IfOk result (λ f. IsRoundEnd self.old.arena assumptions.now self.old.vars f) }
     {
         if let Some(found) = resume(
             self.alloc,

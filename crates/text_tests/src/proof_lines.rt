@@ -1,6 +1,7 @@
 //! Lines and heads, read and written, and bytes that are none.
 
 use bound_spec::{Evidence, Requirement};
+use clause_spec::{BaseKind, Question};
 use proof_log::{Head, Line, LineFault, read_head, read_line, write_head, write_line};
 use rail_base::plan::Command;
 use rail_base::route::RouteNo;
@@ -114,34 +115,38 @@ fn other_lines_are_refused(rt: HostRuntime) {
 #[test]
 fn heads_are_read_and_written(rt: HostRuntime) -> Result<(), AllocError> {
     let rows: [(&[u8], Head); 5] = [
-        (b"rcvlog 1", Head::Plain),
+        (b"rcvlog 1", Head::Unnamed),
         (
             b"rcvlog 2 1 12",
-            Head::Named {
+            Head::Of(Question {
                 version: 1,
                 steps: 12,
-            },
+                base: BaseKind::Plain,
+            }),
         ),
         (
             b"rcvlog 2 999999999999999999 0",
-            Head::Named {
+            Head::Of(Question {
                 version: 999_999_999_999_999_999,
                 steps: 0,
-            },
+                base: BaseKind::Plain,
+            }),
         ),
         (
             b"rcvlog 4 1 12",
-            Head::Sorted {
+            Head::Of(Question {
                 version: 1,
                 steps: 12,
-            },
+                base: BaseKind::Sorted,
+            }),
         ),
         (
             b"rcvlog 4 999999999999999999 0",
-            Head::Sorted {
+            Head::Of(Question {
                 version: 999_999_999_999_999_999,
                 steps: 0,
-            },
+                base: BaseKind::Sorted,
+            }),
         ),
     ];
     for (bytes, head) in rows {

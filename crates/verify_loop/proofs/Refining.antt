@@ -1,7 +1,7 @@
 -- What the answers of a solver say of a search that goes on.
 use Rattle.std.proofs.Common.{◌≡◌, ℕ, ◌+◌, ◌-◌, ◌<◌, ◌≤◌, true, false, List, [], ◌∷◌, ◌++◌, map, flat_map, length, nat_le, Option, Some, None, ◌⊎◌, inl, inr, refl, sym, ap, subst, ◌∙◌, arith, append-nil, length-append}
 use Rattle.clause_spec.specs.Clauses.{past_limit}
-use Rattle.plan_exclusion.specs.declared.method.Method.{Method}
+use Rattle.clause_spec.specs.declared.question.BaseKind.{BaseKind}
 use Rattle.proof_log.specs.Heads.{keeps_head}
 use Rattle.std.proofs.lemmas.Bool.Decides.{nat_tests}
 use Rattle.log_checker.specs.declared.check_result.CheckResult.TheVariants.{Yes}
@@ -18,7 +18,7 @@ use Rattle.rail_base.specs.Admitted.{IsAdmitted}
 use Rattle.rail_spec.specs.Feasible.{IsInfeasible}
 use Rattle.log_recorder.specs.declared.text.Text.{Text}
 use Rattle.log_recorder.specs.Laws.{EndedRunsAreAccepted, DenialsAreSo}
-use Rattle.log_recorder.specs.Logs.{LogLine, Learnt, log_line_of, by_step, log_text, with_log, learnt_in, learnt_count, AllGoOn, GoesOn, IsLast}
+use Rattle.log_recorder.specs.Logs.{IsInner, LogLine, Learnt, log_line_of, by_step, log_text, with_log, learnt_in, learnt_count, AllGoOn, GoesOn, IsLast}
 use Rattle.log_recorder.proofs.Appending.{with_log-append, with_log-lines, learnt_in-append, learnt_in-lines, go-on-append, log_text-append, text-lines, count-lines, evidence-lines}
 use Rattle.log_recorder.proofs.Searched.{IsUnknown, all-below, below-more, all-go-on, unknown-stays, denies-step, may-come, final-last, final-goes-on}
 use Rattle.sat_clause.specs.declared.lit.Lit.{Lit}
@@ -36,15 +36,15 @@ use Rattle.verify_loop.specs.Outcomes.{head, first_clauses, base, vars, plans_of
 use Rattle.verify_loop.specs.Searching.{AllBelow, IsSearch, state_in}
 use Rattle.verify_loop.proofs.Held.{some-same}
 
-module _ (m : Method) (d : Station) (n : ℕ) (b : Budgets) (some : 1 ≤ n) (recorder : Text) (solver_vars derives : ℕ) (failed : List Plan) (sum steps : ℕ) (s : IsSearch m d n b recorder solver_vars derives failed sum steps) where
+module _ (m : BaseKind) (d : Station) (n : ℕ) (b : Budgets) (some : 1 ≤ n) (store : Store) (recorder : Text) (ids : List ℕ) (solver_vars derives : ℕ) (failed : List Plan) (sum steps : ℕ) (s : IsSearch m d n b store recorder ids solver_vars derives failed sum steps) where
   abbrev old : State
-  old = state_in recorder derives
+  old = state_in store recorder ids derives
 
   -- a plan of so many steps is asked for
   abbrev pub assumed : List Lit
-  assumed = by_step (vars d n) n steps ∷ []
+  assumed = by_step (vars d n) steps ∷ []
 
-  wide : n ≤ vars d n
+  wide : (vars d n).before_selectors + (vars d n).steps ≤ (vars d n).count
   wide = omega arith
 
   module _ (new : State) (more : List Entry) (went : Went assumed old new more) where
@@ -58,11 +58,11 @@ module _ (m : Method) (d : Station) (n : ℕ) (b : Budgets) (some : 1 ≤ n) (re
     clauses_are = went.clauses ∙ (ap (λ (z : Store). with_lines z more) s.clauses ∙ longer)
 
     all_new : AllNew assumed (with_log (base m d n) s.lines) (learnt_in (base m d n) [] s.lines) more
-    all_new = subst (λ (z : Store). AllNew assumed z (learnt_in (base m d n) [] s.lines) more) s.clauses (subst (λ (z : List ℕ). AllNew assumed recorder.arena z more) s.numbers went.all_new)
+    all_new = subst (λ (z : Store). AllNew assumed z (learnt_in (base m d n) [] s.lines) more) s.clauses (subst (λ (z : List ℕ). AllNew assumed store z more) s.numbers went.all_new)
 
     pub numbers_are : new.learnt ≡ learnt_in (base m d n) [] lines
     numbers_are =
-        went.learnt ∙ (ap (λ (z : Store). learnt_with z recorder.learnt.items more) s.clauses
+        went.learnt ∙ (ap (λ (z : Store). learnt_with z ids more) s.clauses
         ∙ (ap (λ (z : List ℕ). learnt_with (with_log (base m d n) s.lines) z more) s.numbers
         ∙ (sym (learnt_in-lines (with_log (base m d n) s.lines) (learnt_in (base m d n) [] s.lines) more) ∙ sym (learnt_in-append (base m d n) [] s.lines (map log_line_of more)))))
 
@@ -75,21 +75,21 @@ module _ (m : Method) (d : Station) (n : ℕ) (b : Budgets) (some : 1 ≤ n) (re
         ∙ (ap (λ t. log_text (head m d n) s.lines ++ t) (sym (text-lines more)) ∙ sym (log_text-append (head m d n) s.lines (map log_line_of more))))
 
     -- where no clause denies these steps before, none does after
-    pub unknown : (HasUnit recorder.arena (opposite (by_step (vars d n) n steps)) → ⊥) → IsUnknown (with_log (base m d n) lines) (opposite (by_step (vars d n) n steps) ∷ [])
+    pub unknown : (HasUnit store (opposite (by_step (vars d n) steps)) → ⊥) → IsUnknown (with_log (base m d n) lines) (opposite (by_step (vars d n) steps) ∷ [])
     unknown unsaid =
-        subst (λ (z : Store). IsUnknown z (opposite (by_step (vars d n) n steps) ∷ [])) longer
-        (unknown-stays (by_step (vars d n) n steps) (with_log (base m d n) s.lines) (learnt_in (base m d n) [] s.lines) more all_new (λ id live. unsaid (id, subst (λ (z : Store). live_clause z id ≡ Some (opposite (by_step (vars d n) n steps) ∷ [])) (sym s.clauses) live)))
+        subst (λ (z : Store). IsUnknown z (opposite (by_step (vars d n) steps) ∷ [])) longer
+        (unknown-stays (by_step (vars d n) steps) (with_log (base m d n) s.lines) (learnt_in (base m d n) [] s.lines) more all_new (λ id live. unsaid (id, subst (λ (z : Store). live_clause z id ≡ Some (opposite (by_step (vars d n) steps) ∷ [])) (sym s.clauses) live)))
 
     module _ (le : length new.clauses ≤ greatest_clause_number) where
       pub few : length (with_log (base m d n) lines) ≤ greatest_clause_number
       few = let same = ap length clauses_are in omega arith
 
-      pub go_on : AllGoOn (head m d n) (refuted d n) (vars d n) n (base m d n) [] lines
+      pub go_on : AllGoOn (head m d n) (refuted d n) (vars d n) (base m d n) [] lines
       go_on =
           let same = ap length longer in
           let short = few in
-          go-on-append (head m d n) (refuted d n) (vars d n) n (base m d n) [] s.lines (map log_line_of more) s.log.run.go_on
-          (all-go-on (vars d n) n s.below_2_32 some (head m d n) (refuted d n) assumed (with_log (base m d n) s.lines) (learnt_in (base m d n) [] s.lines) more (omega arith) s.below all_new)
+          go-on-append (head m d n) (refuted d n) (vars d n) (base m d n) [] s.lines (map log_line_of more) s.log.run.go_on
+          (all-go-on (vars d n) s.below_2_32 some (head m d n) (refuted d n) assumed (with_log (base m d n) s.lines) (learnt_in (base m d n) [] s.lines) more (omega arith) s.below all_new)
 
       -- the text is a log of the search
       pub log_so : IsLog m d n lines s.rs new.text
@@ -103,12 +103,12 @@ module _ (m : Method) (d : Station) (n : ℕ) (b : Budgets) (some : 1 ≤ n) (re
       }
 
       -- and a line that the solver may derive next is one that may come next
-      pub next_so : (steps < n → HasUnit recorder.arena (opposite (by_step (vars d n) n steps)) → ⊥) → (clause : List Lit) (hints : List ℕ) → MayFollow new.clauses assumed clause hints → IsNextDerived m d n lines (clause, hints)
+      pub next_so : (steps < n → HasUnit store (opposite (by_step (vars d n) steps)) → ⊥) → (clause : List Lit) (hints : List ℕ) → MayFollow new.clauses assumed clause hints → IsNextDerived m d n lines (clause, hints)
       next_so unsaid clause hints follow =
-          may-come (vars d n) n s.below_2_32 some (base m d n) lines steps clause hints few below s.at_least_one s.at_most_n wide (λ less. unknown (unsaid less)) (subst (λ (z : Store). MayFollow z assumed clause hints) clauses_are follow)
+          may-come (vars d n) s.below_2_32 some (base m d n) lines steps clause hints few below s.at_least_one s.at_most_n wide (λ less. unknown (unsaid less)) (subst (λ (z : Store). MayFollow z assumed clause hints) clauses_are follow)
 
       -- where there is no room for it, the log is full
-      pub full_so : (steps < n → HasUnit recorder.arena (opposite (by_step (vars d n) n steps)) → ⊥) → (clause : List Lit) (hints : List ℕ) (bytes next : ℕ) → derive_count more ≤ b.conflicts - derives → MayFollow new.clauses assumed clause hints → bytes ≡ length new.text → next ≡ length (derive_line clause hints) → has_room new.limit (bytes + next) ≡ false
+      pub full_so : (steps < n → HasUnit store (opposite (by_step (vars d n) steps)) → ⊥) → (clause : List Lit) (hints : List ℕ) (bytes next : ℕ) → derive_count more ≤ b.conflicts - derives → MayFollow new.clauses assumed clause hints → bytes ≡ length new.text → next ≡ length (derive_line clause hints) → has_room new.limit (bytes + next) ≡ false
           → IsFull m d n b new.text bytes next
       full_so unsaid clause hints bytes next fewer follow e m none = (
         e,
@@ -124,18 +124,18 @@ module _ (m : Method) (d : Station) (n : ℕ) (b : Budgets) (some : 1 ≤ n) (re
       count_so e = let c = count-lines s.lines more in let now = s.derived in let spent = s.learnt in omega arith
 
   -- the search goes on with more lines
-  pub still : (later : Text) (later_vars later_derives : ℕ) (more : List Entry) → Went assumed old (state_in later later_derives) more → derive_count more ≤ b.conflicts - derives → later_vars ≡ solver_vars
-      → IsSearch m d n b later later_vars later_derives failed sum steps
-  still later later_vars later_derives more went within same = record {
-    lines = lines (state_in later later_derives) more went;
+  pub still : (later_store : Store) (later : Text) (later_ids : List ℕ) (later_vars later_derives : ℕ) (more : List Entry) → Went assumed old (state_in later_store later later_ids later_derives) more → derive_count more ≤ b.conflicts - derives → later_vars ≡ solver_vars → length later_store ≤ greatest_clause_number
+      → IsSearch m d n b later_store later later_ids later_vars later_derives failed sum steps
+  still later_store later later_ids later_vars later_derives more went within same few_left = record {
+    lines = lines (state_in later_store later later_ids later_derives) more went;
     rs = s.rs;
-    clauses = clauses_are (state_in later later_derives) more went;
-    numbers = numbers_are (state_in later later_derives) more went;
-    log = log_so (state_in later later_derives) more went later.has_numbers;
+    clauses = clauses_are (state_in later_store later later_ids later_derives) more went;
+    numbers = numbers_are (state_in later_store later later_ids later_derives) more went;
+    log = log_so (state_in later_store later later_ids later_derives) more went few_left;
     limit = some-same later.limit recorder.limit went.limit ∙ s.limit;
     same_vars = same ∙ s.same_vars;
     below_2_32 = s.below_2_32;
-    below = below (state_in later later_derives) more went;
+    below = below (state_in later_store later later_ids later_derives) more went;
     derived = (let c = count-lines s.lines more in let now = s.derived in let grown = went.derives in omega arith);
     learnt = (let c = count-lines s.lines more in let now = s.derived in let spent = s.learnt in omega arith);
     plans = s.plans;
@@ -146,10 +146,10 @@ module _ (m : Method) (d : Station) (n : ℕ) (b : Budgets) (some : 1 ≤ n) (re
     fewer = s.fewer;
   }
 
-  pub still_rs : (later : Text) (later_vars later_derives : ℕ) (more : List Entry) (went : Went assumed old (state_in later later_derives) more) (within : derive_count more ≤ b.conflicts - derives) (same : later_vars ≡ solver_vars)
-      → (still later later_vars later_derives more went within same).rs ≡ s.rs
+  pub still_rs : (later_store : Store) (later : Text) (later_ids : List ℕ) (later_vars later_derives : ℕ) (more : List Entry) (went : Went assumed old (state_in later_store later later_ids later_derives) more) (within : derive_count more ≤ b.conflicts - derives) (same : later_vars ≡ solver_vars) (few_left : length later_store ≤ greatest_clause_number)
+      → (still later_store later later_ids later_vars later_derives more went within same few_left).rs ≡ s.rs
   unfolding still
-  still_rs later later_vars later_derives more went within same = refl
+  still_rs later_store later later_ids later_vars later_derives more went within same few_left = refl
 
   -- the last line shows that there is no plan of so many steps
   module _ (now new : State) (more : List Entry) (core : List Lit) (hints : List ℕ) (went : Went assumed old now more) (final : IsFinal now.clauses assumed core hints) (recorded : IsRecorded now new core hints) (le : length new.clauses ≤ greatest_clause_number) where
@@ -172,15 +172,15 @@ module _ (m : Method) (d : Station) (n : ℕ) (b : Budgets) (some : 1 ≤ n) (re
 
     -- of all n of them
     module _ (which : (core ≡ []) ⊎ (steps ≡ n)) where
-      last : IsLast (vars d n) n (with_log (base m d n) before) (core, hints)
-      last = final-last (vars d n) n s.below_2_32 some (with_log (base m d n) before) steps (core, hints) (few now more went fewer) s.at_least_one s.at_most_n wide which final_there
+      last : IsLast (vars d n) (with_log (base m d n) before) (core, hints)
+      last = final-last (vars d n) s.below_2_32 some (with_log (base m d n) before) steps (core, hints) (few now more went fewer) s.at_least_one s.at_most_n wide which final_there
 
       shown_so : keeps_head (head m d n) ≡ true → past_limit 16000000 0 (first_clauses m d n) ≡ None → EndedRunsAreAccepted → judged d n new.text ≡ Yes n
       shown_so kept fits accepted =
           let all = before ++ Learnt (core, hints) ∷ [] in
           ap (judged d n) whole ∙ (ap (judged_by d n (log_text (head m d n) all)) (headed number_of-decimal (head m d n) kept all)
           ∙ (judged_so m d n (log_text (head m d n) all) fits
-          ∙ accepted (head m d n) (refuted d n) (vars d n) n (base m d n) before (core, hints) kept (go_on now more went fewer) last))
+          ∙ accepted (head m d n) (refuted d n) (vars d n) (base m d n) before (core, hints) kept (go_on now more went fewer) last))
 
       pub proof_so : keeps_head (head m d n) ≡ true → past_limit 16000000 0 (first_clauses m d n) ≡ None → derive_count more < b.conflicts - derives → EndedRunsAreAccepted → IsProof m d n b new.text
       proof_so kept fits less accepted = record {
@@ -199,23 +199,23 @@ module _ (m : Method) (d : Station) (n : ℕ) (b : Budgets) (some : 1 ≤ n) (re
       infeasible_so kept fits good accepted sound = (sound d good n n new.text some (shown_so kept fits accepted)).1.1
 
     -- of these, of which the search goes on with one more
-    module _ (not_empty : core ≡ [] → ⊥) (less : steps < n) (unsaid : HasUnit recorder.arena (opposite (by_step (vars d n) n steps)) → ⊥) where
-      goes_on : GoesOn (vars d n) n (with_log (base m d n) before) (core, hints) × (core ≡ opposite (by_step (vars d n) n steps) ∷ [])
-      goes_on = final-goes-on (vars d n) n s.below_2_32 some (with_log (base m d n) before) steps (core, hints) (few now more went fewer) s.at_least_one less wide not_empty (unknown now more went unsaid) final_there
+    module _ (not_empty : core ≡ [] → ⊥) (less : steps < n) (unsaid : HasUnit store (opposite (by_step (vars d n) steps)) → ⊥) where
+      goes_on : GoesOn (vars d n) (with_log (base m d n) before) (core, hints) × (core ≡ opposite (by_step (vars d n) steps) ∷ [])
+      goes_on = final-goes-on (vars d n) s.below_2_32 some (with_log (base m d n) before) steps (core, hints) (few now more went fewer) s.at_least_one less wide not_empty (unknown now more went unsaid) final_there
 
-      denial-below : (l : Lit) → is_assigned core l ≡ true → (1 ≤ l.var) × (l.var < vars d n)
+      denial-below : (l : Lit) → is_assigned core l ≡ true → IsInner (vars d n) l
       denial-below l h =
-          let e = opposite (by_step (vars d n) n steps) in
-          let at : l.var ≡ vars d n - n + steps = ap (λ (z : Lit). z.var) (assigned-one e l (subst (λ (c : List Lit). is_assigned c l ≡ true) goes_on.1 h)) in
+          let e = opposite (by_step (vars d n) steps) in
+          let at : l.var ≡ (vars d n).before_selectors + steps = ap (λ (z : Lit). z.var) (assigned-one e l (subst (λ (c : List Lit). is_assigned c l ≡ true) goes_on.1 h)) in
           let first = s.at_least_one in
           let fits = wide in
-          (omega arith, omega arith)
+          record { low = omega arith; high = omega arith; not_last = λ q. omega (arith, q, at, less) }
 
       with_it : with_log (base m d n) before ++ (core, true) ∷ [] ≡ with_log (base m d n) (before ++ Learnt (core, hints) ∷ [])
       with_it = sym (with_log-append (base m d n) before (Learnt (core, hints) ∷ []))
 
-      pub denied_so : (later : Text) (later_vars later_derives : ℕ) → new ≡ state_in later later_derives → derive_count more < b.conflicts - derives → later_vars ≡ solver_vars → IsSearch m d n b later later_vars later_derives failed sum steps
-      denied_so later later_vars later_derives is within same = record {
+      pub denied_so : (later_store : Store) (later : Text) (later_ids : List ℕ) (later_vars later_derives : ℕ) → new ≡ state_in later_store later later_ids later_derives → derive_count more < b.conflicts - derives → later_vars ≡ solver_vars → IsSearch m d n b later_store later later_ids later_vars later_derives failed sum steps
+      denied_so later_store later later_ids later_vars later_derives is within same = record {
         lines = before ++ Learnt (core, hints) ∷ [];
         rs = s.rs;
         clauses = sym (ap (λ (z : State). z.clauses) is) ∙ (recorded.clauses ∙ (ap (λ (z : Store). z ++ (core, true) ∷ []) (clauses_are now more went) ∙ with_it));
@@ -225,7 +225,7 @@ module _ (m : Method) (d : Station) (n : ℕ) (b : Budgets) (some : 1 ≤ n) (re
         log = record {
           run = record {
             text = sym (ap (λ (z : State). z.text) is) ∙ whole;
-            go_on = go-on-append (head m d n) (refuted d n) (vars d n) n (base m d n) [] before (Learnt (core, hints) ∷ []) (go_on now more went fewer) (goes_on.0, tt);
+            go_on = go-on-append (head m d n) (refuted d n) (vars d n) (base m d n) [] before (Learnt (core, hints) ∷ []) (go_on now more went fewer) (goes_on.0, tt);
           };
           of_failed_plans = record { evidence = evidence-lines before (inl (core, hints) ∷ []) ∙ (log_so now more went fewer).of_failed_plans.evidence; refuted = s.log.of_failed_plans.refuted };
         };
@@ -249,12 +249,12 @@ module _ (m : Method) (d : Station) (n : ℕ) (b : Budgets) (some : 1 ≤ n) (re
           let clauses = with_log (base m d n) before ++ (core, true) ∷ [] in
           let live : live_clause (with_log (base m d n) (before ++ Learnt (core, hints) ∷ [])) (length clauses) ≡ Some core =
           subst (λ (z : Store). live_clause z (length clauses) ≡ Some core) with_it (live-last (with_log (base m d n) before) clauses core (length clauses) refl refl) in
-          let go = go-on-append (head m d n) (refuted d n) (vars d n) n (base m d n) [] before (Learnt (core, hints) ∷ []) (go_on now more went fewer) (goes_on.0, tt) in
-          let says = ap (steps_denied (vars d n) n) goes_on.1 ∙ denies-step (vars d n) n steps s.at_least_one s.at_most_n in
-          sound d good n steps some (denials (head m d n) (refuted d n) (vars d n) n (base m d n) (before ++ Learnt (core, hints) ∷ []) (length clauses) steps core go live says)
+          let go = go-on-append (head m d n) (refuted d n) (vars d n) (base m d n) [] before (Learnt (core, hints) ∷ []) (go_on now more went fewer) (goes_on.0, tt) in
+          let says = ap (steps_denied (vars d n)) goes_on.1 ∙ denies-step (vars d n) steps s.at_least_one s.at_most_n in
+          sound d good n steps some (denials (head m d n) (refuted d n) (vars d n) (base m d n) (before ++ Learnt (core, hints) ∷ []) (length clauses) steps core go live says)
 
   -- where a clause denies these steps, there is no plan of so many
-  pub known_so : IsAdmitted d → DenialsAreSo → DeniedIsInfeasible m → HasUnit recorder.arena (opposite (by_step (vars d n) n steps)) → IsInfeasible d steps
+  pub known_so : IsAdmitted d → DenialsAreSo → DeniedIsInfeasible m → HasUnit store (opposite (by_step (vars d n) steps)) → IsInfeasible d steps
   known_so good denials sound unit =
-      let live = subst (λ (z : Store). live_clause z unit.0 ≡ Some (opposite (by_step (vars d n) n steps) ∷ [])) s.clauses unit.1 in
-      sound d good n steps some (denials (head m d n) (refuted d n) (vars d n) n (base m d n) s.lines unit.0 steps (opposite (by_step (vars d n) n steps) ∷ []) s.log.run.go_on live (denies-step (vars d n) n steps s.at_least_one s.at_most_n))
+      let live = subst (λ (z : Store). live_clause z unit.0 ≡ Some (opposite (by_step (vars d n) steps) ∷ [])) s.clauses unit.1 in
+      sound d good n steps some (denials (head m d n) (refuted d n) (vars d n) (base m d n) s.lines unit.0 steps (opposite (by_step (vars d n) steps) ∷ []) s.log.run.go_on live (denies-step (vars d n) steps s.at_least_one s.at_most_n))

@@ -1,5 +1,6 @@
 -- Where a search is that answers a question.
 use Rattle.std.specs.Prelude.{ℕ, ◌+◌, ◌<◌, Bool, List, [], ◌∷◌}
+use Rattle.clause_spec.specs.declared.question.VariableCounts.{VariableCounts}
 use Rattle.plan_exclusion.specs.declared.exclusion.Exclusion.{Exclusion}
 use Rattle.plan_exclusion.specs.Exclusions.{IsExclusion}
 use Rattle.plan_exclusion.specs.Failures.{AreValuesOfPlan}
@@ -23,21 +24,21 @@ module _ (q : PlanSearch) where
 
   -- how many steps a plan may have
   abbrev pub most_steps : ℕ
-  most_steps = q.base.now.steps
+  most_steps = q.numbering.now.steps
 
   -- how many variables there are
-  abbrev pub variables : ℕ
+  abbrev pub variables : VariableCounts
   variables = vars station_of most_steps
 
   -- the literal that says that all is given by a step
   abbrev pub given_by : ℕ → Lit
-  given_by step = logs.by_step variables most_steps step
+  given_by step = logs.by_step variables step
 
   -- ---- plans
 
   -- the plan was found where some cones and bounds were known
   abbrev pub WasFound : List (List Command) → Type 0
-  WasFound plan = (known : List Evidence) × IsFound q.method station_of most_steps known plan
+  WasFound plan = (known : List Evidence) × IsFound q.kind station_of most_steps known plan
 
   -- the values give the plan
   abbrev pub AreValuesFor : List Bool → List (List Command) → Type 0
@@ -45,7 +46,7 @@ module _ (q : PlanSearch) where
 
   -- the line and the clause of a cone or a bound that shows that a plan fails
   abbrev pub Excludes : List (List Command) → Exclusion → Type 0
-  Excludes plan e = IsExclusion q.method station_of most_steps plan e.line.items e.clause.items
+  Excludes plan e = IsExclusion q.kind station_of most_steps plan e.line.items e.clause.items
 
   -- how many ticks the plan costs
   abbrev pub ticks_of : List (List Command) → ℕ
@@ -56,24 +57,24 @@ module _ (q : PlanSearch) where
   -- the search goes on, and nothing is spent
   abbrev pub IsSearch : SearchState → Type 0
   IsSearch s =
-      searching.IsSearch q.method station_of most_steps q.budgets s.solver.recorder s.solver.vars s.solver.derives
+      searching.IsSearch q.kind station_of most_steps q.budgets s.solver.arena s.solver.recorder s.solver.learnt.items s.solver.vars s.solver.derives
       s.failed.items s.sum s.steps
 
   -- it came to this plan
   abbrev pub IsAtPlan : SearchState → List (List Command) → Type 0
   IsAtPlan s plan =
-      searching.IsAtPlan q.method station_of most_steps q.budgets s.solver.recorder s.solver.vars s.solver.derives
+      searching.IsAtPlan q.kind station_of most_steps q.budgets s.solver.arena s.solver.recorder s.solver.learnt.items s.solver.vars s.solver.derives
       s.failed.items s.sum s.steps plan
 
   -- the last line of its log shows by this clause that there is no plan, or none of so many steps
   abbrev pub IsDenied : SearchState → List Lit → Type 0
   IsDenied s clause =
-      searching.IsDenied q.method station_of most_steps q.budgets s.solver.recorder s.solver.vars s.solver.derives
+      searching.IsDenied q.kind station_of most_steps q.budgets s.solver.arena s.solver.recorder s.solver.learnt.items s.solver.vars s.solver.derives
       s.failed.items s.sum s.steps clause
 
   -- where it may look for longer plans, no clause says that there is none of so many steps
   abbrev pub IsOpen : SearchState → Type 0
-  IsOpen s = s.steps < most_steps → HasUnit s.solver.recorder.arena (opposite (given_by s.steps)) → ⊥
+  IsOpen s = s.steps < most_steps → HasUnit s.solver.arena (opposite (given_by s.steps)) → ⊥
 
   -- it goes on from one to the other: more is spent, or longer plans are looked for
   abbrev pub GoesOn : SearchState → SearchState → Type 0
@@ -81,4 +82,4 @@ module _ (q : PlanSearch) where
 
   -- what its end says
   abbrev pub EndsWith : Outcome → Type 0
-  EndsWith = IsOutcome q.method station_of most_steps q.budgets
+  EndsWith = IsOutcome q.kind station_of most_steps q.budgets

@@ -4,8 +4,9 @@ use Rattle.std.specs.List.{list_all}
 use Rattle.log_checker.specs.declared.check_result.CheckResult.TheVariants.{Yes}
 use Rattle.clause_spec.specs.Clauses.{past_limit}
 use Rattle.clause_spec.specs.Models.{model_of}
-use Rattle.clause_spec.specs.Variables.{variable_count}
-use Rattle.plan_exclusion.specs.declared.method.Method.{Method}
+use Rattle.clause_spec.specs.declared.question.VariableCounts.{VariableCounts}
+use Rattle.clause_spec.specs.Variables.{variables_of}
+use Rattle.clause_spec.specs.declared.question.BaseKind.{BaseKind}
 use Rattle.plan_exclusion.specs.Exclusions.{head_for}
 use Rattle.plan_exclusion.specs.Failures.{IsRefutedBy, clause_of_evidence}
 use Rattle.proof_judge.specs.Judged.{all_live, clauses_under, judged, refuted}
@@ -46,8 +47,8 @@ evidence_in rs = map (λ (r : Refutal). r.evidence) rs
 
 module _ (d : Station) (n : ℕ) where
   -- how many variables the clauses have
-  abbrev pub vars : ℕ
-  vars = variable_count d (routes_of d) n
+  abbrev pub vars : VariableCounts
+  vars = variables_of d (routes_of d) n
 
   -- how many ticks these plans cost
   abbrev pub cost_of : List (List (List Command)) → ℕ
@@ -57,7 +58,7 @@ module _ (d : Station) (n : ℕ) where
   abbrev pub HasFewestSteps : List (List Command) → Type 0
   HasFewestSteps plan = (s : ℕ) → s < length plan → IsInfeasible d s
 
-module _ (m : Method) (d : Station) (n : ℕ) where
+module _ (m : BaseKind) (d : Station) (n : ℕ) where
   -- the head of the log
   abbrev pub head : Head
   head = head_for m d n
@@ -96,12 +97,12 @@ module _ (m : Method) (d : Station) (n : ℕ) where
 
   -- a log of the search, with these lines and plans that failed
   pub record IsLog (lines : List LogLine) (rs : List Refutal) (log : List ℕ) : Type 0 where
-    pub run : IsRunLog head (refuted d n) (vars d n) n base lines log
+    pub run : IsRunLog head (refuted d n) (vars d n) base lines log
     pub of_failed_plans : AreOfFailedPlans lines rs
 
   -- a derived line that the search may record next
   abbrev pub IsNextDerived : List LogLine → Derived → Type 0
-  IsNextDerived = MayComeNext base (vars d n) n
+  IsNextDerived = MayComeNext base (vars d n)
 
   -- the next line has so many bytes: one that may be derived next, or that of the cone or bound of a plan that is found next and fails
   abbrev pub IsNextLine : List LogLine → List Refutal → ℕ → Type 0
@@ -137,7 +138,7 @@ module _ (m : Method) (d : Station) (n : ℕ) where
   pub record IsProof (b : Budgets) (log : List ℕ) : Type 0 where
     pub lines : List LogLine
     pub rs : List Refutal
-    pub ended_log : IsEndedLog head (refuted d n) (vars d n) n base lines log
+    pub ended_log : IsEndedLog head (refuted d n) (vars d n) base lines log
     pub of_failed_plans : AreOfFailedPlans lines rs
     pub accepted : judged d n log ≡ Yes n
     pub within : IsWithin b (lines ++ Learnt ended_log.last ∷ []) (plans_of rs)
@@ -168,5 +169,5 @@ module _ (m : Method) (d : Station) (n : ℕ) where
   Fits _ = past_limit 16000000 0 first_clauses ≡ None
 
 -- plans that are refuted so, from no evidence on, differ
-abbrev pub RefutedDiffer : Method → Station → Type 0
+abbrev pub RefutedDiffer : BaseKind → Station → Type 0
 RefutedDiffer m d = (n : ℕ) → 1 ≤ n → (rs : List Refutal) → AreRefuted m d n [] rs → Differ (plans_of rs)

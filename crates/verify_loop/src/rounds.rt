@@ -1,7 +1,7 @@
 //! A search, round after round.
 
 ghost use Rattle.std.specs.Prelude.{◌≡◌, ◌≤◌, ◌<◌, ◌+◌, [], ◌∷◌, IfOk, IfErr};
-ghost use Rattle.verify_loop.specs.Bases.{IsBaseFor};
+ghost use Rattle.verify_loop.specs.Bases.{IsNumberingFor};
 ghost use Rattle.verify_loop.specs.Outcomes.{first_clauses};
 ghost use Rattle.verify_loop.specs.Searching.{state_in};
 ghost use Rattle.rail_spec.specs.Feasible.{IsInfeasible};
@@ -11,12 +11,13 @@ ghost use Rattle.clause_spec.specs.Laws.{HasFewLiterals};
 
 use crate::outcome::{Budgets, Outcome};
 use bound_finder::Finder;
+use clause_spec::BaseKind;
 use cone_form::Contention;
 use interlocking::Interlocking;
 use log_recorder::Text;
 use plan_decoder::decode;
-use plan_encoding::Base;
-use plan_exclusion::{Exclusion, FailedPlan, Method};
+use plan_encoding::Numbering;
+use plan_exclusion::{Exclusion, FailedPlan};
 use plan_run::simulate;
 use rail_base::history::{History, Verdict};
 use rail_base::plan::{Plan, Violation};
@@ -44,13 +45,13 @@ pub(crate) struct SearchState {
 pub(crate) struct PlanSearch<'a> {
     pub alloc: Global,
     pub interlocking: &'a Interlocking,
-    pub method: Method,
-    pub base: &'a Base,
+    pub kind: BaseKind,
+    pub numbering: &'a Numbering,
     pub budgets: Budgets,
-    pub ghost numbers: { IsBaseFor interlocking.now base.now },
-    pub ghost at_least_one: { 1 ≤ base.now.steps },
-    pub ghost at_most_256: { base.now.steps ≤ 256 },
-    pub ghost fits: { HasFewLiterals (first_clauses method interlocking.now.design.station base.now.steps) },
+    pub ghost numbers: { IsNumberingFor interlocking.now numbering.now },
+    pub ghost at_least_one: { 1 ≤ numbering.now.steps },
+    pub ghost at_most_256: { numbering.now.steps ≤ 256 },
+    pub ghost fits: { HasFewLiterals (first_clauses kind interlocking.now.design.station numbering.now.steps) },
 }
 
 impl PlanSearch<'_> {
@@ -88,18 +89,18 @@ impl PlanSearch<'_> {
     {
         let contention = Contention {
             interlocking: self.interlocking,
-            pairs: self.base.pairs(),
+            pairs: self.numbering.pairs(),
         };
         let failed = FailedPlan {
             contention,
-            steps: self.base.steps(),
+            steps: self.numbering.steps(),
             plan,
             values,
             history,
             tick,
             violation,
         };
-        failed.exclusion(self.alloc, self.method, finder)
+        failed.exclusion(self.alloc, self.kind, finder)
     }
 
     /// The search with the clause that excludes a plan that fails at this tick, where the log has room for its line.
@@ -187,11 +188,11 @@ impl PlanSearch<'_> {
     fn longer(&self, search: SearchState) -> SearchState
         requires state { IsSearch self.now search }
         requires known { IsInfeasible self.now.interlocking.now.design.station search.steps }
-        requires less { search.steps < self.now.base.now.steps }
+        requires less { search.steps < self.now.numbering.now.steps }
         ensures { GoesOn self.now search result }
     {
         let mut search = search;
-        let _steps = self.base.counts().steps;
+        let _steps = self.numbering.counts().steps;
         search.steps += 1;
         search
     }
@@ -202,7 +203,7 @@ impl PlanSearch<'_> {
         ensures goes_on { IfOk result (GoesOn self.now search) }
         ensures ends { IfErr result (EndsWith self.now) }
     {
-        if core.is_empty() || search.steps == self.base.counts().steps {
+        if core.is_empty() || search.steps == self.numbering.counts().steps {
             return Err(Outcome::Infeasible {
                 log: log_of(search.solver),
             });
@@ -212,19 +213,19 @@ impl PlanSearch<'_> {
 
     /// The literal that all is given by a step.
     fn by_step(&self, step: u32) -> Lit
-        requires { step ≤ self.now.base.now.steps }
+        requires { step ≤ self.now.numbering.now.steps }
         ensures { result ≡ given_by self.now step }
     {
-        self.base.selector(step)
+        self.numbering.selector(step)
     }
 
     /// Asks the solver for values that give a plan of so many steps.
     fn put_to(&self, solver: &mut Solver<Text>, steps: u32, left: u64) -> Answer
-        requires vars { solver.old.vars ≡ variables self.now }
+        requires vars { solver.old.vars ≡ (variables self.now).count }
         requires at_least_one { 1 ≤ steps }
-        requires within { steps ≤ self.now.base.now.steps }
-        ensures run { let before = state_in solver.old.recorder solver.old.derives in
-            let after = state_in solver.new.recorder solver.new.derives in
+        requires within { steps ≤ self.now.numbering.now.steps }
+        ensures run { let before = state_in solver.old.arena solver.old.recorder solver.old.learnt.items solver.old.derives in
+            let after = state_in solver.new.arena solver.new.recorder solver.new.learnt.items solver.new.derives in
             Ends before after (given_by self.now steps ∷ []) solver.old.vars left result }
         ensures vars { solver.new.vars ≡ solver.old.vars }
     {
@@ -241,7 +242,7 @@ impl PlanSearch<'_> {
         let mut search = search;
         let left = self.budgets.conflicts - search.solver.derives();
         match self.put_to(&mut search.solver, search.steps, left) {
-            Answer::Sat(values) => match decode(self.alloc, self.base, &values) {
+            Answer::Sat(values) => match decode(self.alloc, self.numbering, &values) {
                 Ok(plan) => self.time_plan(search, plan, &values),
                 Err(_) => Err(Outcome::Memory),
             },
@@ -266,7 +267,7 @@ impl PlanSearch<'_> {
         ensures goes_on { IfOk result (GoesOn self.now search) }
         ensures ends { IfErr result (EndsWith self.now) }
     {
-        let most = self.base.counts().steps;
+        let most = self.numbering.counts().steps;
         if search.steps < most && search.solver.is_refuted(self.by_step(search.steps)) {
             return Ok(self.longer(search));
         }

@@ -4,7 +4,7 @@ use Rattle.infra_reader.specs.Design.{design_of}
 use Rattle.log_checker.specs.declared.check_result.CheckResult.{CheckResult}
 use Rattle.log_checker.specs.declared.check_result.CheckResult.TheVariants.{Yes, No}
 use Rattle.clause_spec.specs.Clauses.{base_clauses, past_limit}
-use Rattle.plan_exclusion.specs.declared.method.Method.TheVariants.{Cones}
+use Rattle.clause_spec.specs.declared.question.BaseKind.TheVariants.{Plain}
 use Rattle.proof_judge.specs.Judged.{judged}
 use Rattle.proof_words.specs.Explained.{sentences_where_yes}
 use Rattle.proof_words.specs.Meanings.{file_sentences}
@@ -34,7 +34,7 @@ shown_so design proof lines (No line reason) other = refl
 
 proof_refused : (design : List ℕ) (n : ℕ) (d : Station) (bytes : List ℕ) → (with_proof n d bytes).status ≢ Done → proof_explained design n d bytes ≡ with_proof n d bytes
 proof_refused design n d bytes other =
-    goes_on (with_clauses Cones n d) (λ same. unless_refused (within_limit file.Proof bytes) (explained_against design d n)) (λ same. unless_refused (within_limit file.Proof bytes) (checked_against d n))
+    goes_on (with_clauses Plain n d) (λ same. unless_refused (within_limit file.Proof bytes) (explained_against design d n)) (λ same. unless_refused (within_limit file.Proof bytes) (checked_against d n))
     (λ same. goes_on (within_limit file.Proof bytes) (explained_against design d n) (checked_against d n) (λ text. shown_so design text (file_sentences d text) (judged d n text))) other
 
 pub refuses_as_check : RefusesAsCheck
@@ -68,7 +68,7 @@ passes n design_bytes proof_bytes done =
     let one = passed (within_limit file.Design design_bytes) (λ text. unless_refused (design_in text) (λ e. with_proof n e proof_bytes)) (long_refuses file.Design design_bytes) (ap is_verdict done) in
     let two = passed (design_in one.read) (λ e. with_proof n e proof_bytes) (design_refuses (and_then (design_of one.read) with_routes)) one.verdict in
     let d = two.read in
-    let three = passed (with_clauses Cones n d) (λ same. unless_refused (within_limit file.Proof proof_bytes) (checked_against d n)) (clauses_refuse d (past_limit 16000000 0 (base_clauses d (routes_of d) n))) two.verdict in
+    let three = passed (with_clauses Plain n d) (λ same. unless_refused (within_limit file.Proof proof_bytes) (checked_against d n)) (clauses_refuse d (past_limit 16000000 0 (base_clauses d (routes_of d) n))) two.verdict in
     let four = passed (within_limit file.Proof proof_bytes) (checked_against d n) (long_refuses file.Proof proof_bytes) three.verdict in
     let text : design_bytes ≡ one.read = file_is file.Design design_bytes one.read one.is in
     let bytes : proof_bytes ≡ four.read = file_is file.Proof proof_bytes four.read four.is in
@@ -84,7 +84,7 @@ passes n design_bytes proof_bytes done =
       answer =
           answered_next (within_limit file.Design design_bytes) one.read (λ t. unless_refused (design_in t) (λ e. proof_explained t n e proof_bytes)) one.is
           ∙ (answered_next (design_in one.read) d (λ e. proof_explained one.read n e proof_bytes) two.is
-          ∙ (answered_next (with_clauses Cones n d) three.read (λ same. unless_refused (within_limit file.Proof proof_bytes) (explained_against one.read d n)) three.is
+          ∙ (answered_next (with_clauses Plain n d) three.read (λ same. unless_refused (within_limit file.Proof proof_bytes) (explained_against one.read d n)) three.is
           ∙ (answered_next (within_limit file.Proof proof_bytes) four.read (explained_against one.read d n) four.is
           ∙ (ap (λ v. sentences_or_shown one.read four.read (sentences_where_yes (file_sentences d four.read) v)) shown.is
           ∙ (ap (λ (b : List ℕ). sentences_or_shown b four.read (Ok (shown.steps, file_sentences d four.read))) (sym text)
@@ -119,7 +119,7 @@ shown_status design proof lines (No line reason) = refl
 
 proof_status : (design : List ℕ) (n : ℕ) (d : Station) (bytes : List ℕ) → (proof_explained design n d bytes).status ≡ (with_proof n d bytes).status
 proof_status design n d bytes =
-    same_status (with_clauses Cones n d) (λ same. unless_refused (within_limit file.Proof bytes) (explained_against design d n)) (λ same. unless_refused (within_limit file.Proof bytes) (checked_against d n))
+    same_status (with_clauses Plain n d) (λ same. unless_refused (within_limit file.Proof bytes) (explained_against design d n)) (λ same. unless_refused (within_limit file.Proof bytes) (checked_against d n))
     (λ same. same_status (within_limit file.Proof bytes) (explained_against design d n) (checked_against d n) (λ text. shown_status design text (file_sentences d text) (judged d n text)))
 
 -- it is that of a check
@@ -139,7 +139,7 @@ module _ (design : List ℕ) (bytes : List ℕ) (fits : within_limit file.Proof 
   by_head = answered_next (within_limit file.Proof bytes) bytes (λ text. explained_where design (steps_in text) d text) fits
 
   given : (n : ℕ) → proof_explained design n d bytes ≡ text_explained design n d bytes
-  given n = after_both (with_clauses Cones n d) (λ same. unless_refused (within_limit file.Proof bytes) (explained_against design d n)) (λ same. explained_against design d n bytes)
+  given n = after_both (with_clauses Plain n d) (λ same. unless_refused (within_limit file.Proof bytes) (explained_against design d n)) (λ same. explained_against design d n bytes)
       (λ same. answered_next (within_limit file.Proof bytes) bytes (explained_against design d n) fits)
 
   pub as_given : (n : ℕ) → steps_in bytes ≡ Some n → proof_by_head design d bytes ≡ proof_explained design n d bytes

@@ -1,6 +1,6 @@
 -- Replies, one reading after the other, and what is printed of them.
 use Rattle.std.proofs.Common.{◌≡◌, ℕ, inl, Bool, true, false, List, [], ◌∷◌, Option, Some, None, Result, Ok, Err, Vec, Global, refl, ap, sym, ◌∙◌, subst}
-use Rattle.plan_exclusion.specs.declared.method.Method.TheVariants.{Cones}
+use Rattle.clause_spec.specs.declared.question.BaseKind.TheVariants.{Plain}
 use Rattle.proof_words.specs.declared.explaining.Explained.{Explained}
 use Rattle.proof_words.specs.Explained.{explained_of, sentences_or}
 use Rattle.rail_base.specs.declared.station.Station.{Station}
@@ -32,8 +32,8 @@ use Rattle.why_cli.specs.Replies.{IsBaseAnswer, IsBaseText, IsFileAnswer, IsOfBa
 pub said_so : (design : List ℕ) (d : Station) (m n : ℕ) (text : List ℕ) (said : Explained) (a : ReplySeen) → m ≡ n → sentences_or said ≡ explained_of d m text → a ≡ sentences_or_shown design text (sentences_or said) → a ≡ explained_against design d n text
 said_so design d m n text said a same is seen = seen ∙ (ap (sentences_or_shown design text) is ∙ ap (λ (k : ℕ). explained_against design d k text) same)
 
-pub text_told : (design : List ℕ) (n : ℕ) (d : Station) (text : List ℕ) (reply : Reply) → with_clauses Cones n d ≡ Ok d → reply_seen reply ≡ explained_against design d n text → text_explained design n d text ≡ reply_seen reply
-text_told design n d text reply clauses seen = answered_next (with_clauses Cones n d) d (λ same. explained_against design d n text) clauses ∙ sym seen
+pub text_told : (design : List ℕ) (n : ℕ) (d : Station) (text : List ℕ) (reply : Reply) → with_clauses Plain n d ≡ Ok d → reply_seen reply ≡ explained_against design d n text → text_explained design n d text ≡ reply_seen reply
+text_told design n d text reply clauses seen = answered_next (with_clauses Plain n d) d (λ same. explained_against design d n text) clauses ∙ sym seen
 
 -- the steps of the head
 pub where_named : (r : Result Reply Ending) (design : List ℕ) (d : Station) (text : List ℕ) (named : Option ℕ) (n : ℕ) → named ≡ steps_in text → named ≡ Some n
@@ -57,9 +57,9 @@ kind_of bytes text is = ap is_plan (file_is file.Proof bytes text.items is)
 
 -- what is said where the clauses are few
 base_kind : (design : List ℕ) (n : ℕ) (d : Station) (bytes : List ℕ) (plan : Bool) (a : ReplySeen)
-    → Answers (with_clauses Cones n d) (λ x. IsOfBaseKind plan design n d bytes) a → IsOfKind plan design (Some n) d bytes a
+    → Answers (with_clauses Plain n d) (λ x. IsOfBaseKind plan design n d bytes) a → IsOfKind plan design (Some n) d bytes a
 base_kind design n d bytes true a h = h
-base_kind design n d bytes false a h = answers_one (with_clauses Cones n d) (λ x. base_explained design n d bytes) a h
+base_kind design n d bytes false a h = answers_one (with_clauses Plain n d) (λ x. base_explained design n d bytes) a h
 
 -- of a file
 module _ (known : Option Files) (design : List ℕ) (d : Station) (name : List ℕ) (r : Result Reply Unmade) where
@@ -68,17 +68,17 @@ module _ (known : Option Files) (design : List ℕ) (d : Station) (name : List �
   for_given steps given is h = subst (λ (s : Option ℕ). RepliesOf known name (IsFileAnswer design s d) r) (sym is) h
 
   -- the clauses are too many, or few
-  pub no_base : {X : Type 0} (view : X → Station) (n : ℕ) (e : Ending) → r ≡ Err (unmade_of e) → ReadsOrEnds view (Err e) (with_clauses Cones n d) → RepliesOf known name (IsFileAnswer design (Some n) d) r
+  pub no_base : {X : Type 0} (view : X → Station) (n : ℕ) (e : Ending) → r ≡ Err (unmade_of e) → ReadsOrEnds view (Err e) (with_clauses Plain n d) → RepliesOf known name (IsFileAnswer design (Some n) d) r
   no_base view n e is refused =
-      of_same known name (λ bytes. Answers (with_clauses Cones n d) (λ x. IsBaseAnswer design n d bytes)) (IsFileAnswer design (Some n) d) r
+      of_same known name (λ bytes. Answers (with_clauses Plain n d) (λ x. IsBaseAnswer design n d bytes)) (IsFileAnswer design (Some n) d) r
       (λ bytes a. base_kind design n d bytes (is_plan bytes) a)
-      (of_refused known name r view (λ bytes x. IsBaseAnswer design n d bytes) e (with_clauses Cones n d) is refused)
+      (of_refused known name r view (λ bytes x. IsBaseAnswer design n d bytes) e (with_clauses Plain n d) is refused)
 
-  pub with_base : (n m : ℕ) → m ≡ n → with_clauses Cones n d ≡ Ok d → RepliesOf known name (IsBaseAnswer design m d) r → RepliesOf known name (IsFileAnswer design (Some n) d) r
+  pub with_base : (n m : ℕ) → m ≡ n → with_clauses Plain n d ≡ Ok d → RepliesOf known name (IsBaseAnswer design m d) r → RepliesOf known name (IsFileAnswer design (Some n) d) r
   with_base n m same few of =
-      of_same known name (λ bytes. Answers (with_clauses Cones n d) (λ x. IsBaseAnswer design n d bytes)) (IsFileAnswer design (Some n) d) r
+      of_same known name (λ bytes. Answers (with_clauses Plain n d) (λ x. IsBaseAnswer design n d bytes)) (IsFileAnswer design (Some n) d) r
       (λ bytes a. base_kind design n d bytes (is_plan bytes) a)
-      (of_read known name r (λ bytes (x : Station). IsBaseAnswer design n d bytes) (with_clauses Cones n d) d few (subst (λ (k : ℕ). RepliesOf known name (IsBaseAnswer design k d) r) same of))
+      (of_read known name r (λ bytes (x : Station). IsBaseAnswer design n d bytes) (with_clauses Plain n d) d few (subst (λ (k : ℕ). RepliesOf known name (IsBaseAnswer design k d) r) same of))
 
   -- the file could not be read, and so on: over clauses, and by the head of a proof
   pub base_stops : (n : ℕ) (e : Unmade) → r ≡ Err e → Fetches known file.Proof name (Err e) → RepliesOf known name (IsBaseAnswer design n d) r

@@ -9,7 +9,7 @@ use Rattle.proof_judge.proofs.Sound.{yes_infeasible}
 use Rattle.proof_words.proofs.Naming.{proofs_deny}
 use Rattle.proof_words.specs.Denied.{EachLineDenies}
 use Rattle.proof_log.specs.declared.head.Head.{Head}
-use Rattle.proof_log.specs.declared.head.Head.TheVariants.{Plain, Named, Sorted}
+use Rattle.proof_log.specs.declared.head.Head.TheVariants.{Unnamed, Of}
 use Rattle.proof_words.specs.Meanings.{file_sentences}
 use Rattle.rail_base.specs.declared.station.Station.{Station}
 use Rattle.rail_base.specs.Admitted.{IsAdmitted}
@@ -93,9 +93,8 @@ some_in_range k n e = go (nat_le 1 k && nat_le k 256) refl e
 
 some_named : (head : Option Head) (n : ℕ) → steps_named head ≡ Some n → 1 ≤ n
 some_named None n e = absurd (cc)
-some_named (Some Plain) n e = absurd (cc)
-some_named (Some (Named version k)) n e = some_in_range k n e
-some_named (Some (Sorted version k)) n e = some_in_range k n e
+some_named (Some Unnamed) n e = absurd (cc)
+some_named (Some (Of question)) n e = some_in_range question.steps n e
 
 -- the head names so many
 record Names (bytes : List ℕ) : Type 0 where

@@ -2,7 +2,7 @@
 use Rattle.std.proofs.Common.{◌≡◌, ℕ, Bool, true, false, List, Option, Some, None, Result, Ok, Err, refl, ap, sym, ◌∙◌, subst}
 use Rattle.log_checker.specs.declared.check_result.CheckResult.{CheckResult}
 use Rattle.log_checker.specs.declared.check_result.CheckResult.TheVariants.{Yes, No}
-use Rattle.plan_exclusion.specs.declared.method.Method.TheVariants.{Cones}
+use Rattle.clause_spec.specs.declared.question.BaseKind.TheVariants.{Plain}
 use Rattle.proof_judge.specs.Judged.{judged}
 use Rattle.proof_words.specs.Explained.{sentences_where_yes}
 use Rattle.proof_words.specs.Meanings.{file_sentences}
@@ -45,7 +45,7 @@ shown_other design proof lines (No line reason) is = absurd (cc)
 
 proof_other : (design : List ℕ) (n : ℕ) (d : Station) (bytes : List ℕ) → (proof_explained design n d bytes).status ≡ Usage → ⊥
 proof_other design n d bytes =
-    goes_on (with_clauses Cones n d) (λ same. unless_refused (within_limit file.Proof bytes) (explained_against design d n)) (clauses_are_no_usage n d)
+    goes_on (with_clauses Plain n d) (λ same. unless_refused (within_limit file.Proof bytes) (explained_against design d n)) (clauses_are_no_usage n d)
     (λ same. goes_on (within_limit file.Proof bytes) (explained_against design d n) (long_is_no_usage file.Proof bytes) (λ text. shown_other design text (file_sentences d text) (judged d n text)))
 
 -- ---- answers on a design alone
@@ -63,7 +63,7 @@ clauses_other n d (Err refusal) a other so is = other refusal refl (sym so.statu
 
 steps_other : (steps : Option ℕ) (d : Station) (a : ReplySeen) → IsSaidForSteps steps d a → a.status ≡ Usage → ⊥
 steps_other None d a so is = said_other d a so is
-steps_other (Some n) d a so is = clauses_other n d (with_clauses Cones n d) a (clauses_are_no_usage n d) so is
+steps_other (Some n) d a so is = clauses_other n d (with_clauses Plain n d) a (clauses_are_no_usage n d) so is
 
 read_other : (steps : Option ℕ) (text : List ℕ) (reading : Result Station (Code × Place)) (a : ReplySeen) → IsReadSaid steps text reading a → a.status ≡ Usage → ⊥
 read_other steps text (Ok d) a so is = steps_other steps d a so is
@@ -92,7 +92,7 @@ file_other d bytes a so is =
 -- ---- answers on a file
 
 kind_other : (plan : Bool) (design : List ℕ) (n : ℕ) (d : Station) (bytes : List ℕ) (a : ReplySeen) → IsOfKind plan design (Some n) d bytes a → a.status ≡ Usage → ⊥
-kind_other true design n d bytes a so is = answers_other (with_clauses Cones n d) (λ same. IsPlanFileAnswer d bytes) a (clauses_are_no_usage n d) (λ same. file_other d bytes a) so is
+kind_other true design n d bytes a so is = answers_other (with_clauses Plain n d) (λ same. IsPlanFileAnswer d bytes) a (clauses_are_no_usage n d) (λ same. file_other d bytes a) so is
 kind_other false design n d bytes a so is = proof_other design n d bytes (ap (λ (b : ReplySeen). b.status) (sym so) ∙ is)
 
 both_other : (n : ℕ) (design_bytes bytes : List ℕ) (a : ReplySeen) → IsBothAnswer (Some n) design_bytes bytes a → a.status ≡ Usage → ⊥

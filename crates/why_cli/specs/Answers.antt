@@ -4,9 +4,9 @@ use Rattle.std.specs.Prelude.{ℕ, ◌&&◌, nat_le, if◌then◌else◌, List, 
 use Rattle.std.specs.Prelude.{Option, Some, None, Result, Ok, Err}
 use Rattle.log_checker.specs.declared.check_result.CheckResult.{CheckResult}
 use Rattle.log_checker.specs.Verdict.{head_in}
-use Rattle.plan_exclusion.specs.declared.method.Method.TheVariants.{Cones}
+use Rattle.clause_spec.specs.declared.question.BaseKind.TheVariants.{Plain}
 use Rattle.proof_log.specs.declared.head.Head.{Head}
-use Rattle.proof_log.specs.declared.head.Head.TheVariants.{Plain, Named, Sorted}
+use Rattle.proof_log.specs.declared.head.Head.TheVariants.{Unnamed, Of}
 use Rattle.proof_words.specs.Explained.{explained_of}
 use Rattle.rail_base.specs.declared.station.Station.{Station}
 use Rattle.rail_cli.specs.declared.status.Status.TheVariants.{Done, Usage}
@@ -36,7 +36,7 @@ explained_against design d n text = sentences_or_shown design text (explained_of
 
 -- the same, where the clauses of the design are few
 abbrev pub text_explained : List ℕ → ℕ → Station → List ℕ → ReplySeen
-text_explained design n d text = unless_refused (with_clauses Cones n d) (λ same. explained_against design d n text)
+text_explained design n d text = unless_refused (with_clauses Plain n d) (λ same. explained_against design d n text)
 
 -- ---- how many steps
 
@@ -47,9 +47,8 @@ if_in_range n = if nat_le 1 n && nat_le n 256 then Some n else None
 -- the number of steps that a head names, from 1 to 256
 abbrev pub steps_named : Option Head → Option ℕ
 steps_named None = None
-steps_named (Some Plain) = None
-steps_named (Some (Named version n)) = if_in_range n
-steps_named (Some (Sorted version n)) = if_in_range n
+steps_named (Some Unnamed) = None
+steps_named (Some (Of question)) = if_in_range question.steps
 
 -- that which the head of the proof names
 abbrev pub steps_in : List ℕ → Option ℕ
@@ -69,7 +68,7 @@ base_explained design n d proof_bytes = unless_refused (within_limit file.Proof 
 -- the answer for a design and n steps, for the bytes of the proof
 abbrev pub proof_explained : List ℕ → ℕ → Station → List ℕ → ReplySeen
 proof_explained design n d proof_bytes =
-    unless_refused (with_clauses Cones n d) (λ same. base_explained design n d proof_bytes)
+    unless_refused (with_clauses Plain n d) (λ same. base_explained design n d proof_bytes)
 
 -- the answer for the text of a proof and as many steps as are named, if any are
 abbrev pub explained_where : List ℕ → Option ℕ → Station → List ℕ → ReplySeen

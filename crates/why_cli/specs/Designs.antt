@@ -11,7 +11,7 @@ use Rattle.look_words.specs.Entries.{open_entries}
 use Rattle.look_words.specs.Looks.{looks}
 use Rattle.look_words.specs.Sections.{slipped_sections}
 use Rattle.named_files.specs.Replies.{Answers}
-use Rattle.plan_exclusion.specs.declared.method.Method.TheVariants.{Cones}
+use Rattle.clause_spec.specs.declared.question.BaseKind.TheVariants.{Plain}
 use Rattle.rail_base.specs.declared.station.Station.{Station}
 use Rattle.rail_cli.specs.declared.status.Status.TheVariants.{DesignRefused, Done}
 use Rattle.rail_cli.specs.declared.input.InputFile.TheVariants as file
@@ -58,7 +58,7 @@ IsClausesSaid n d (Err refusal) a = IsTooLargeSaid n d refusal a
 -- where steps are given, their clauses have to be few
 abbrev pub IsSaidForSteps : Option ℕ → Station → ReplySeen → Type 0
 IsSaidForSteps None d a = IsDesignSaid d a
-IsSaidForSteps (Some n) d a = IsClausesSaid n d (with_clauses Cones n d) a
+IsSaidForSteps (Some n) d a = IsClausesSaid n d (with_clauses Plain n d) a
 
 -- a design that was read, or its refusal
 abbrev pub IsReadSaid : Option ℕ → List ℕ → Result Station (Code × Place) → ReplySeen → Type 0

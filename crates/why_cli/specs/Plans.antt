@@ -3,7 +3,7 @@ use Rattle.std.specs.Prelude.{◌≡◌, ◌==◌, ◌||◌, not, ℕ, Bool, fal
 use Rattle.named_files.specs.Replies.{Answers}
 use Rattle.outcome_words.specs.Outcome.{outcome_lines}
 use Rattle.plan_fault_words.specs.Faults.{SaysRefused}
-use Rattle.plan_exclusion.specs.declared.method.Method.TheVariants.{Cones}
+use Rattle.clause_spec.specs.declared.question.BaseKind.TheVariants.{Plain}
 use Rattle.rail_base.specs.declared.plan.Command.{Command}
 use Rattle.rail_base.specs.declared.station.Station.{Station}
 use Rattle.rail_base.specs.Numbering.{from_first}
@@ -69,4 +69,4 @@ IsPlanFileAnswer d bytes a = Answers (within_limit file.Proof bytes) (IsPlanAnsw
 -- where steps are given, so many clauses have to be few
 abbrev pub IsPlanForSteps : Option ℕ → Station → List ℕ → ReplySeen → Type 0
 IsPlanForSteps None d bytes a = IsPlanFileAnswer d bytes a
-IsPlanForSteps (Some n) d bytes a = Answers (with_clauses Cones n d) (λ same. IsPlanFileAnswer d bytes) a
+IsPlanForSteps (Some n) d bytes a = Answers (with_clauses Plain n d) (λ same. IsPlanFileAnswer d bytes) a

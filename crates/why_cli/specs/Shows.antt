@@ -2,7 +2,7 @@
 use Rattle.std.specs.Prelude.{◌≡◌, ℕ, ◌≤◌, false, List, ◌++◌, length, Option, Some, None, Ok}
 use Rattle.std.specs.List.{concat}
 use Rattle.infra_reader.specs.Design.{design_of}
-use Rattle.plan_exclusion.specs.declared.method.Method.TheVariants.{Cones}
+use Rattle.clause_spec.specs.declared.question.BaseKind.TheVariants.{Plain}
 use Rattle.proof_words.specs.Denied.{EachLineDenies}
 use Rattle.proof_words.specs.Meanings.{file_sentences}
 use Rattle.rail_base.specs.declared.station.Station.{Station}
@@ -66,4 +66,4 @@ pub record IsUnrefused (files : Files) (words : List (List ℕ)) : Type 0 where
   pub within_limit : length (files proof) ≤ limit_of file.Proof
   pub steps : ℕ
   pub are_steps : steps_for wanted.steps (files proof) ≡ Some steps
-  pub has_few_clauses : HasFewClauses Cones design steps
+  pub has_few_clauses : HasFewClauses Plain design steps

@@ -2,7 +2,7 @@
 
 ghost use Rattle.std.specs.Prelude.{◌≡◌, ◌≢◌, [], Err, false};
 ghost use Rattle.named_files.specs.Replies.{Makes, is_unread};
-ghost use Rattle.rail_spec.specs.Track.{routes_of};
+ghost use Rattle.clause_spec.specs.declared.question.BaseKind.TheVariants.{Plain};
 ghost use Rattle.plan_encoding.specs.Bases.{IsBaseOf};
 ghost use Rattle.rail_cli.specs.Replies.{Replies, RepliesWith};
 ghost use Rattle.why_words.specs.Wanted.{AreStepsInRange};
@@ -48,9 +48,10 @@ pub(crate) fn reply_for(
     base: Base,
     text: &[u8],
 ) -> Result<Reply, AllocError>
-    requires { let d = interlocking.now.design.station in IsBaseOf d (routes_of d) base.steps base }
+    requires { let i = interlocking.now in
+        IsBaseOf Plain i.design.station i.routes base.numbering.steps base }
     ensures { RepliesWith result
-        (explained_against design_text.now interlocking.now.design.station base.steps text.now) }
+        (explained_against design_text.now interlocking.now.design.station base.numbering.steps text.now) }
 {
     let said = explain(alloc, interlocking, base, text)?;
     match said {
@@ -85,9 +86,8 @@ fn steps_named(head: Option<Head>) -> Option<u32>
 {
     match head {
         None => None,
-        Some(Head::Plain) => None,
-        Some(Head::Named { steps, .. }) => if_in_range(steps),
-        Some(Head::Sorted { steps, .. }) => if_in_range(steps),
+        Some(Head::Unnamed) => None,
+        Some(Head::Of(question)) => if_in_range(question.steps),
     }
 }
 

@@ -5,9 +5,9 @@ ghost use Rattle.rail_outside.specs.Growth.{Rose, GrowsByPrefix};
 ghost use Rattle.named_files.specs.Replies.{is_unread};
 ghost use Rattle.why_words.specs.Wanted.{AreStepsInRange};
 ghost use Rattle.why_words.specs.Words.{wanted_by};
+ghost use Rattle.clause_spec.specs.declared.question.BaseKind.TheVariants.{Plain};
 ghost use Rattle.plan_encoding.specs.Bases.{IsBaseOf};
 ghost use Rattle.rail_outside.specs.Asks.{fetched};
-ghost use Rattle.rail_spec.specs.Track.{routes_of};
 ghost use Rattle.named_files.specs.Replies.{RepliesFor, RepliesOf};
 ghost use Rattle.why_cli.specs.Replies.{IsAnswerOf, IsAnswerTo, IsBaseAnswer, IsBaseText, IsBothAnswer, IsFileAnswer};
 ghost use Rattle.why_cli.specs.Replies.{asks_to};
@@ -155,9 +155,10 @@ fn for_base<'a, S: Shelf>(
     base: Base,
     name: &'a str,
 ) -> Result<Reply, Unmade<'a>>
-    requires { let d = interlocking.now.design.station in IsBaseOf d (routes_of d) base.steps base }
+    requires { let i = interlocking.now in
+        IsBaseOf Plain i.design.station i.routes base.numbering.steps base }
     ensures replies { RepliesOf (S.known_files shelf.old) name.entry.now
-        (IsBaseAnswer design_text.now base.steps interlocking.now.design.station) result }
+        (IsBaseAnswer design_text.now base.numbering.steps interlocking.now.design.station) result }
     ensures cause { is_unread result ≡ true → Rose (S.fault_count shelf.old) (S.fault_count shelf.new) }
     ensures never_falls { S.fault_count shelf.old ≤ S.fault_count shelf.new }
     ensures files_stay { S.known_files shelf.new ≡ S.known_files shelf.old }
@@ -176,8 +177,9 @@ fn base_said(
     base: Base,
     text: &[u8],
 ) -> Result<Reply, AllocError>
-    requires { let d = interlocking.now.design.station in IsBaseOf d (routes_of d) base.steps base }
-    ensures { IfOk result (λ reply. IsBaseText (is_plan text.now) design_text.now base.steps
+    requires { let i = interlocking.now in
+        IsBaseOf Plain i.design.station i.routes base.numbering.steps base }
+    ensures { IfOk result (λ reply. IsBaseText (is_plan text.now) design_text.now base.numbering.steps
         interlocking.now.design.station text.now (reply_seen reply)) }
 {
     if is_plan(text) {

@@ -3,10 +3,10 @@
 #![tactic(auto)]
 
 use anyhow::{Result, ensure};
+use clause_spec::BaseKind;
 use infra_reader::read_design;
 use interlocking::{Interlocking, Steps};
-use plan_encoding::sorted_base;
-use plan_exclusion::Method;
+use plan_encoding::{base, base_of};
 use rail_base::history::{TrainHistory, Verdict};
 use rail_plan::reading::read_plan;
 use rail_routes::interlocking;
@@ -131,7 +131,7 @@ fn lacks_room(alloc: Global, interlocking: &Interlocking, search: &Search) -> Re
         ticks: 1000,
         log_bytes: search.log_bytes,
     };
-    match verify(alloc, interlocking, steps, Method::Cones, budgets) {
+    match verify(alloc, interlocking, steps, BaseKind::Plain, budgets) {
         Outcome::LogSpent { bytes, next, .. } => {
             Ok(bytes == search.bytes && search.next.is_none_or(|wanted| wanted == next))
         }
@@ -155,12 +155,13 @@ fn clause_text(alloc: Global, clause: &[Lit]) -> Result<String> {
 fn come_in_turn(alloc: Global, interlocking: &Interlocking, turns: &Turns<'_>) -> Result<bool> {
     ensure!(1 <= turns.steps && turns.steps <= 256, "steps out of range");
     let steps = Steps { count: turns.steps };
-    let listed = sorted_base(alloc, interlocking, steps)?.turns;
-    if listed.count() != turns.clauses.len() as u64 {
+    let before = base(alloc, interlocking, steps)?.clauses.count();
+    let listed = base_of(alloc, interlocking, steps, BaseKind::Sorted)?.clauses;
+    if listed.count() != before.saturating_add(turns.clauses.len() as u64) {
         return Ok(false);
     }
     for (place, wanted) in turns.clauses.iter().enumerate() {
-        let id = place as u64 + 1;
+        let id = before.saturating_add(place as u64).saturating_add(1);
         if !listed.live(id) || clause_text(alloc, listed.clause(id))?.as_str() != *wanted {
             return Ok(false);
         }

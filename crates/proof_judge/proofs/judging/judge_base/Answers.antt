@@ -1,13 +1,17 @@
-use Rattle.std.proofs.Common.{ap, sym, ◌∙◌}
-use Rattle.plan_encoding.specs.declared.numbered.Counts.{Counts}
+use Rattle.std.proofs.Common.{List, subst}
+use Rattle.rail_base.specs.declared.route.Route.{Route}
 use Rattle.rail_spec.specs.Track.{routes_of}
-use Rattle.proof_judge.specs.Judged.{all_live}
+use Rattle.plan_encoding.specs.Bases.{IsBaseOf}
+use Rattle.proof_log.specs.Heads.{base_of}
 use Rattle.proof_judge.proofs.Under.{under}
 use Rattle.proof_judge.proofs.judging.judge_base.Goals as goal
 
 pub returns : goal.returns
 returns c =
-    let d = c.args.interlocking.now.design.station in
-    under d c.args.base.steps c.args.bytes.now c.judge_clauses.result c.args.head c.steps-steps.result.count c.counts-vars.result.vars c.into_parts-clauses.result.0 c.steps-steps.ensures
-    (ap (λ (q : Counts). q.vars) (c.counts-vars.ensures.value d (routes_of d) c.args.base.steps c.requires.base))
-    (c.into_parts-clauses.ensures.clauses ∙ (c.requires.base.clauses ∙ ap all_live (sym c.requires.plain))) c.judge_clauses.ensures
+    let i = c.args.interlocking.now in
+    let d = i.design.station in
+    let n = c.args.base.numbering.steps in
+    let base : IsBaseOf (base_of c.args.head) d (routes_of d) n c.args.base =
+    subst (λ (rs : List Route). IsBaseOf (base_of c.args.head) d rs n c.args.base) i.table c.requires.base in
+    under d n c.args.bytes.now c.judge_clauses.result c.args.head c.steps.result.count c.variables.result c.args.base.clauses c.steps.ensures
+    (c.variables.ensures d (routes_of d) n base.numbering) base.clauses c.judge_clauses.ensures

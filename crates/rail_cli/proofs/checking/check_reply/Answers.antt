@@ -1,5 +1,5 @@
 use Rattle.rail_cli.proofs.Asking.{first_of_two, second_of_two}
-use Rattle.std.proofs.Common.{rules, List, ap, sym, ◌∙◌}
+use Rattle.std.proofs.Common.{rules, ap, sym, ◌∙◌}
 use Rattle.interlocking.specs.declared.railway.Interlocking.{Interlocking}
 use Rattle.rail_cli.specs.Answers.{design_in}
 use Rattle.rail_cli.proofs.AnyShelf.{unchecked, unchecked_design, all_checked}

@@ -1,4 +1,4 @@
-use Rattle.std.proofs.Common.{rules, List, Ok, refl, ap, sym, ◌∙◌}
+use Rattle.std.proofs.Common.{rules, Ok, refl, ap, sym, ◌∙◌}
 use Rattle.interlocking.specs.declared.railway.Interlocking.{Interlocking}
 use Rattle.rail_words.specs.Requests.{routes}
 use Rattle.rail_cli.specs.Answers.{design_in}

@@ -1,4 +1,4 @@
-use Rattle.std.proofs.Common.{rules, ℕ, List, Vec, Global, ap, sym, ◌∙◌, subst}
+use Rattle.std.proofs.Common.{rules, ℕ, Vec, Global, ap, sym, ◌∙◌, subst}
 use Rattle.interlocking.specs.declared.railway.Interlocking.{Interlocking}
 use Rattle.rail_cli.specs.Answers.{design_in}
 use Rattle.rail_cli.proofs.Asking.{first_of_two, second_of_two}
@@ -25,7 +25,7 @@ returns-in_err-interlocking-clause-replies g c = λ files reply_for.
 pub returns-clause-replies : goal.returns-clause-replies
 returns-clause-replies g c = λ files reply_for.
     ended_so files c.args.steps c.args.bounds c.args.budgets c.args.design.now c.args.proof.now c.in_ok-bytes.bytes.items (c.in_ok-bytes.ensures.reads files reply_for) c.in_ok-interlocking.interlocking.design c.searched_in.result c.requires.room
-    (ap design_in (sym c.as_slice.ensures.value) ∙ c.in_ok-interlocking.ensures.reads) (subst (RepliesBy c.searched_in.result c.in_ok-interlocking.interlocking.design.station c.args.steps c.args.budgets) c.method_of-method.ensures c.searched_in.ensures.replies)
+    (ap design_in (sym c.as_slice.ensures.value) ∙ c.in_ok-interlocking.ensures.reads) (subst (RepliesBy c.searched_in.result c.in_ok-interlocking.interlocking.design.station c.args.steps c.args.budgets) c.base_kind_of-kind.ensures c.searched_in.ensures.replies)
 
 pub returns-clause-stored : goal.returns-clause-stored
 returns-clause-stored g c = λ files reply_for.
@@ -45,4 +45,4 @@ returns-in_err-interlocking-clause-for_some_files g c =
 pub returns-clause-for_some_files : goal.returns-clause-for_some_files
 returns-clause-for_some_files g c =
     all_searched c.searched_in.result c.args.steps c.args.bounds c.args.budgets c.args.design.now c.args.proof.now c.in_ok-bytes.bytes.items c.in_ok-bytes.ensures.for_some_bytes c.in_ok-interlocking.interlocking.design.station c.requires.room
-    (ap design_in (sym c.as_slice.ensures.value) ∙ c.in_ok-interlocking.ensures.reads) (subst (RepliesBy c.searched_in.result c.in_ok-interlocking.interlocking.design.station c.args.steps c.args.budgets) c.method_of-method.ensures c.searched_in.ensures.replies)
+    (ap design_in (sym c.as_slice.ensures.value) ∙ c.in_ok-interlocking.ensures.reads) (subst (RepliesBy c.searched_in.result c.in_ok-interlocking.interlocking.design.station c.args.steps c.args.budgets) c.base_kind_of-kind.ensures c.searched_in.ensures.replies)

@@ -1,7 +1,7 @@
 use Rattle.rail_cli.specs.Answers.{design_in}
 use Rattle.rail_cli.proofs.Asking.{first_of_two, second_of_two}
 use Rattle.rail_cli.proofs.Deciding.{decides_so}
-use Rattle.std.proofs.Common.{rules, ap, sym, List, ◌∙◌}
+use Rattle.std.proofs.Common.{rules, ap, sym, ◌∙◌}
 use Rattle.interlocking.specs.declared.railway.Interlocking.{Interlocking}
 use Rattle.rail_cli.proofs.AnyShelf.{no_design, not_read, no_plan, all_read}
 use Rattle.rail_cli.proofs.simulation.simulation_reply.Goals as goal

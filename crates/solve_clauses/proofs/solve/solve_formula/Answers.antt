@@ -12,8 +12,8 @@ pub reply_for-requires : goal.reply_for-requires
 reply_for-requires c =
     let one = c.args.solver in
     let two = c.solve-answer.new.self in
-    let old : State = state_of one.recorder.arena (flat_map text_of_line one.recorder.lines.items) None one.recorder.learnt.items one.derives in
-    let new : State = state_of two.recorder.arena (flat_map text_of_line two.recorder.lines.items) None two.recorder.learnt.items two.derives in
+    let old : State = state_of one.arena (flat_map text_of_line one.recorder.lines.items) None one.learnt.items one.derives in
+    let new : State = state_of two.arena (flat_map text_of_line two.recorder.lines.items) None two.learnt.items two.derives in
     let vars : one.vars ≡ c.args.formula.vars = c.requires.loaded.same_vars in
     let run : AnswerEnds old new [] c.args.formula.vars c.args.conflicts c.solve-answer.result = subst (λ (v : ℕ). AnswerEnds old new [] v c.args.conflicts c.solve-answer.result) vars c.solve-answer.ensures.run in
     let listed : List Line = two.recorder.lines.items in
@@ -26,8 +26,8 @@ pub returns-in-Ok-None : goal.returns-in-Ok-None
 returns-in-Ok-None c =
     let one = c.args.solver in
     let two = c.solve-answer.new.self in
-    let old : State = state_of one.recorder.arena (flat_map text_of_line one.recorder.lines.items) None one.recorder.learnt.items one.derives in
-    let new : State = state_of two.recorder.arena (flat_map text_of_line two.recorder.lines.items) None two.recorder.learnt.items two.derives in
+    let old : State = state_of one.arena (flat_map text_of_line one.recorder.lines.items) None one.learnt.items one.derives in
+    let new : State = state_of two.arena (flat_map text_of_line two.recorder.lines.items) None two.learnt.items two.derives in
     let vars : one.vars ≡ c.args.formula.vars = c.requires.loaded.same_vars in
     let run : AnswerEnds old new [] c.args.formula.vars c.args.conflicts c.solve-answer.result = subst (λ (v : ℕ). AnswerEnds old new [] v c.args.conflicts c.solve-answer.result) vars c.solve-answer.ensures.run in
     let listed : List Line = two.recorder.lines.items in
@@ -42,8 +42,8 @@ pub returns-in-Ok-Some : goal.returns-in-Ok-Some
 returns-in-Ok-Some c =
     let one = c.args.solver in
     let two = c.solve-answer.new.self in
-    let old : State = state_of one.recorder.arena (flat_map text_of_line one.recorder.lines.items) None one.recorder.learnt.items one.derives in
-    let new : State = state_of two.recorder.arena (flat_map text_of_line two.recorder.lines.items) None two.recorder.learnt.items two.derives in
+    let old : State = state_of one.arena (flat_map text_of_line one.recorder.lines.items) None one.learnt.items one.derives in
+    let new : State = state_of two.arena (flat_map text_of_line two.recorder.lines.items) None two.learnt.items two.derives in
     let vars : one.vars ≡ c.args.formula.vars = c.requires.loaded.same_vars in
     let run : AnswerEnds old new [] c.args.formula.vars c.args.conflicts c.solve-answer.result = subst (λ (v : ℕ). AnswerEnds old new [] v c.args.conflicts c.solve-answer.result) vars c.solve-answer.ensures.run in
     let listed : List Line = two.recorder.lines.items in

@@ -29,4 +29,4 @@ returns c =
     let f = c.args.self.now in
     let i = f.contention.interlocking.now in
     excluded_so i.design.station f.steps.count i.routes i.table f.plan.now.steps f.runs (admitted i.design.station i.design.admitted) f.each f.steps.at_least_one f.steps.at_most_256 c.in_ok-cone.cone c.in_ok-cone.ensures.refutes c.in_ok-cone.ensures.is_small
-    c.args.method f.history.now f.tick f.violation f.fails c.in_ok-cone.ensures.value c.in_ok-line.line.items c.in_ok-clause.clause.items c.in_ok-line.ensures c.in_ok-clause.ensures
+    c.args.kind f.history.now f.tick f.violation f.fails c.in_ok-cone.ensures.value c.in_ok-line.line.items c.in_ok-clause.clause.items c.in_ok-line.ensures c.in_ok-clause.ensures

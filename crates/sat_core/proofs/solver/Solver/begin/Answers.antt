@@ -7,11 +7,10 @@ pub invariant_of-self : goal.invariant_of-self
 invariant_of-self g c =
     let old = c.args.self.now in
     record {
-      same = old.same;
+      counted_alike = old.counted_alike;
       holds = anew-holds old.arena old.trail c.begin_question.new.self _ old.vars c.begin_question.ensures old.holds;
       counted = old.counted;
       lines = ap (λ (v : View). v.parts.lines) c.begin_question.ensures ∙ old.lines;
-      same_learnt = old.same_learnt;
       ascending = old.ascending;
       alive = old.alive;
     }

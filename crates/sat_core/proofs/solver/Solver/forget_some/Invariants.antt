@@ -9,8 +9,8 @@ invariant-old g l = record {
   pace : l.self.trail.pace ≡ l.fn.self.trail.pace;
   parts : l.self.trail.parts ≡ l.fn.self.trail.parts;
   gone : (assumptions : List Lit) → Forgot assumptions
-      (state_of (g.R.Recorder.clauses l.fn.self.recorder) (g.R.Recorder.text l.fn.self.recorder) (g.R.Recorder.limit l.fn.self.recorder) (g.R.Recorder.learnt l.fn.self.recorder) l.fn.self.derives)
-      (state_of (g.R.Recorder.clauses l.self.recorder) (g.R.Recorder.text l.self.recorder) (g.R.Recorder.limit l.self.recorder) (g.R.Recorder.learnt l.self.recorder) l.self.derives);
+      (state_of l.fn.self.arena (g.R.Recorder.text l.fn.self.recorder) (g.R.Recorder.limit l.fn.self.recorder) l.fn.self.learnt.items l.fn.self.derives)
+      (state_of l.self.arena (g.R.Recorder.text l.self.recorder) (g.R.Recorder.limit l.self.recorder) l.self.learnt.items l.self.derives);
 }
 
 abbrev pub decreases-old : goal.decreases-old

@@ -7,10 +7,10 @@ use Rattle.sat_core.proofs.solver.Solver.solve.Goals as goal
 
 pub returns-clause-run : goal.returns-clause-run
 returns-clause-run g c =
-    let old : State = state_of (g.R.Recorder.clauses c.args.self.now.recorder) (g.R.Recorder.text c.args.self.now.recorder) (g.R.Recorder.limit c.args.self.now.recorder) (g.R.Recorder.learnt c.args.self.now.recorder) c.args.self.now.derives in
-    let start : State = state_of (g.R.Recorder.clauses c.begin.new.self.recorder) (g.R.Recorder.text c.begin.new.self.recorder) (g.R.Recorder.limit c.begin.new.self.recorder) (g.R.Recorder.learnt c.begin.new.self.recorder) c.begin.new.self.derives in
-    let end : State = state_of (g.R.Recorder.clauses c.search-answer.new.self.recorder) (g.R.Recorder.text c.search-answer.new.self.recorder) (g.R.Recorder.limit c.search-answer.new.self.recorder) (g.R.Recorder.learnt c.search-answer.new.self.recorder) c.search-answer.new.self.derives in
-    let new : State = state_of (g.R.Recorder.clauses c.go_back.new.self.recorder) (g.R.Recorder.text c.go_back.new.self.recorder) (g.R.Recorder.limit c.go_back.new.self.recorder) (g.R.Recorder.learnt c.go_back.new.self.recorder) c.go_back.new.self.derives in
+    let old : State = state_of c.args.self.now.arena (g.R.Recorder.text c.args.self.now.recorder) (g.R.Recorder.limit c.args.self.now.recorder) c.args.self.now.learnt.items c.args.self.now.derives in
+    let start : State = state_of c.begin.new.self.arena (g.R.Recorder.text c.begin.new.self.recorder) (g.R.Recorder.limit c.begin.new.self.recorder) c.begin.new.self.learnt.items c.begin.new.self.derives in
+    let end : State = state_of c.search-answer.new.self.arena (g.R.Recorder.text c.search-answer.new.self.recorder) (g.R.Recorder.limit c.search-answer.new.self.recorder) c.search-answer.new.self.learnt.items c.search-answer.new.self.derives in
+    let new : State = state_of c.go_back.new.self.arena (g.R.Recorder.text c.go_back.new.self.recorder) (g.R.Recorder.limit c.go_back.new.self.recorder) c.go_back.new.self.learnt.items c.go_back.new.self.derives in
     ends-same c.args.assumptions.now old start end new c.args.self.now.vars c.begin.new.self.vars c.args.left c.search-answer.result c.begin.ensures.state c.go_back.ensures.state c.begin.ensures.vars c.search-answer.ensures.run
 
 pub returns-clause-sparing : goal.returns-clause-sparing

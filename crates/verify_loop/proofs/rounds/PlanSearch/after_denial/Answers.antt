@@ -8,9 +8,9 @@ use Rattle.verify_loop.proofs.rounds.PlanSearch.after_denial.Goals.{then-is_empt
 
 pub returns-then-is_empty-clause-ends : goal.returns-then-is_empty-clause-ends
 returns-then-is_empty-clause-ends c =
-    let m = c.args.self.now.method in
+    let m = c.args.self.now.kind in
     let d = c.args.self.now.interlocking.now.design.station in
-    let n = c.args.self.now.base.now.steps in
+    let n = c.args.self.now.numbering.now.steps in
     let b = c.args.self.now.budgets in
     let which : (c.args.core.now ≡ []) ⊎ (c.args.search.steps ≡ n) = elim c.then-is_empty.branch [
       | then-is_empty-via-then-is_empty w ↦ inl (empty-so c.args.core.now c.is_empty.result c.is_empty.ensures w.if-is_empty.true)
@@ -20,6 +20,6 @@ returns-then-is_empty-clause-ends c =
 
 pub longer-requires-clause-known : goal.longer-requires-clause-known
 longer-requires-clause-known c =
-    let n = c.args.self.now.base.now.steps in
+    let n = c.args.self.now.numbering.now.steps in
     let less : c.args.search.steps < n = elim (le-split c.args.search.steps n c.requires.at_most_n) [ inl p ↦ p | inr q ↦ absurd (c.if-search-counts.false (q ∙ sym c.counts.ensures.steps)) ] in
     (c.requires.of_these (some-so c.args.core.now c.is_empty.result c.is_empty.ensures c.if-is_empty.false) less).0

@@ -8,9 +8,9 @@ use Rattle.verify_loop.proofs.rounds.PlanSearch.exclusion_of.Goals as goal
 
 pub invariant_of-failed : goal.invariant_of-failed
 invariant_of-failed c =
-    let m = c.args.self.now.method in
+    let m = c.args.self.now.kind in
     let d = c.args.self.now.interlocking.now.design.station in
-    let n = c.args.self.now.base.now.steps in
+    let n = c.args.self.now.numbering.now.steps in
     let plan = c.args.plan.now.steps in
     let good = admitted d c.args.self.now.interlocking.now.design.admitted in
     let found = c.requires.found in record {

@@ -1,5 +1,6 @@
-use Rattle.std.proofs.Common.{◌≡◌, ℕ, ◌≤◌, ◌<◌, ◌+◌, ◌-◌, true, List, [], ◌⊎◌, refl, sym, ap, ◌∙◌, subst, arith}
+use Rattle.std.proofs.Common.{◌≡◌, ℕ, ◌≤◌, ◌<◌, ◌+◌, ◌-◌, true, List, [], ◌⊎◌, length, refl, sym, ap, ◌∙◌, subst, arith}
 use Rattle.rail_base.proofs.Admitting.{admitted}
+use Rattle.proof_log.specs.Words.{greatest_clause_number}
 use Rattle.clause_spec.specs.Variables.{By, number_of}
 use Rattle.rail_spec.specs.Track.{routes_of}
 use Rattle.log_recorder.specs.Logs.{by_step}
@@ -18,51 +19,54 @@ use Rattle.verify_loop.proofs.rounds.PlanSearch.solve_round.Goals as goal
 
 pub time_plan-requires-clause-at : goal.time_plan-requires-clause-at
 time_plan-requires-clause-at c =
-    let m = c.args.self.now.method in
+    let m = c.args.self.now.kind in
     let d = c.args.self.now.interlocking.now.design.station in
-    let n = c.args.self.now.base.now.steps in
+    let n = c.args.self.now.numbering.now.steps in
     let b = c.args.self.now.budgets in
     let one = c.args.search.solver in
     let two = c.put_to.new.solver in
+    let few : length two.arena ≤ greatest_clause_number = subst (λ k. k ≤ greatest_clause_number) two.counted_alike two.recorder.has_numbers in
     let run = c.in-Sat.ensures.run in
     let some = c.args.self.now.at_least_one in
     let is = c.args.self.now.numbers in
     let within : derive_count run.0 ≤ b.conflicts - one.derives = subst (λ (k : ℕ). derive_count run.0 ≤ b.conflicts - k) c.derives.ensures run.2 in
-    let holds = base_holds m d n b some one.recorder one.vars one.derives c.args.search.failed.items c.args.search.sum c.args.search.steps c.requires.state two.recorder two.vars two.derives run.0 run.1 c.in-Sat.values run.3.clauses in
-    let at : vars d n - n + c.args.search.steps ≡ number_of d (routes_of d) n (By c.args.search.steps) = omega arith in
-    let told : value_in c.in-Sat.values (number_of d (routes_of d) n (By c.args.search.steps)) ≡ true = subst (λ (v : ℕ). value_in c.in-Sat.values v ≡ true) at (run.3.assumed (by_step (vars d n) n c.args.search.steps) (assigned-self (by_step (vars d n) n c.args.search.steps))) in
-    at_plan m d n b some one.recorder one.vars one.derives c.args.search.failed.items c.args.search.sum c.args.search.steps c.requires.state two.recorder two.vars two.derives run.0 run.1 c.in-Sat.values run.3.clauses
+    let holds = base_holds m d n b some one.arena one.recorder one.learnt.items one.vars one.derives c.args.search.failed.items c.args.search.sum c.args.search.steps c.requires.state two.arena two.recorder two.learnt.items two.vars two.derives run.0 run.1 c.in-Sat.values run.3.clauses few in
+    let at : (vars d n).before_selectors + c.args.search.steps ≡ number_of d (routes_of d) n (By c.args.search.steps) = omega arith in
+    let told : value_in c.in-Sat.values (number_of d (routes_of d) n (By c.args.search.steps)) ≡ true = subst (λ (v : ℕ). value_in c.in-Sat.values v ≡ true) at (run.3.assumed (by_step (vars d n) c.args.search.steps) (assigned-self (by_step (vars d n) c.args.search.steps))) in
+    at_plan m d n b some one.arena one.recorder one.learnt.items one.vars one.derives c.args.search.failed.items c.args.search.sum c.args.search.steps c.requires.state two.arena two.recorder two.learnt.items two.vars two.derives run.0 run.1 c.in-Sat.values run.3.clauses few
     within c.put_to.ensures.vars c.in-Ok.plan.steps (c.in-Ok.ensures.value d (routes_of d) n is)
     (c.in-Ok.ensures.runnable d (routes_of d) n is some holds)
     (c.in-Ok.ensures.ends d (routes_of d) n is holds c.args.search.steps c.requires.state.at_least_one c.requires.state.at_most_n told)
 
 pub time_plan-requires-clause-are_values : goal.time_plan-requires-clause-are_values
 time_plan-requires-clause-are_values c =
-    let m = c.args.self.now.method in
+    let m = c.args.self.now.kind in
     let d = c.args.self.now.interlocking.now.design.station in
-    let n = c.args.self.now.base.now.steps in
+    let n = c.args.self.now.numbering.now.steps in
     let b = c.args.self.now.budgets in
     let one = c.args.search.solver in
     let two = c.put_to.new.solver in
+    let few : length two.arena ≤ greatest_clause_number = subst (λ k. k ≤ greatest_clause_number) two.counted_alike two.recorder.has_numbers in
     let run = c.in-Sat.ensures.run in
     let some = c.args.self.now.at_least_one in
     record {
-      holds = base_holds m d n b some one.recorder one.vars one.derives c.args.search.failed.items c.args.search.sum c.args.search.steps c.requires.state two.recorder two.vars two.derives run.0 run.1 c.in-Sat.values run.3.clauses;
+      holds = base_holds m d n b some one.arena one.recorder one.learnt.items one.vars one.derives c.args.search.failed.items c.args.search.sum c.args.search.steps c.requires.state two.arena two.recorder two.learnt.items two.vars two.derives run.0 run.1 c.in-Sat.values run.3.clauses few;
       decoded = c.in-Ok.ensures.value d (routes_of d) n c.args.self.now.numbers;
     }
 
 pub after_denial-requires : goal.after_denial-requires
 after_denial-requires c =
-    let m = c.args.self.now.method in
+    let m = c.args.self.now.kind in
     let d = c.args.self.now.interlocking.now.design.station in
-    let n = c.args.self.now.base.now.steps in
+    let n = c.args.self.now.numbering.now.steps in
     let b = c.args.self.now.budgets in
     let one = c.args.search.solver in
     let two = c.put_to.new.solver in
+    let few : length two.arena ≤ greatest_clause_number = subst (λ k. k ≤ greatest_clause_number) two.counted_alike two.recorder.has_numbers in
     let run = c.in-Unsat.ensures.run in
     let some = c.args.self.now.at_least_one in
     let core = c.in-Unsat.core.clause.items in
-    let new = state_in two.recorder two.derives in
+    let new = state_in two.arena two.recorder two.learnt.items two.derives in
     let good = admitted d c.args.self.now.interlocking.now.design.admitted in
     let room : two.recorder.limit ≡ b.log_bytes = some-same two.recorder.limit one.recorder.limit (run.6.limit ∙ run.3.limit) ∙ c.requires.state.limit in
     let within = two.recorder.within in
@@ -72,49 +76,51 @@ after_denial-requires c =
     record {
       at_most_n = c.requires.state.at_most_n;
       of_all = λ told. let which = subst (λ (z : List Lit). (z ≡ []) ⊎ (c.args.search.steps ≡ n)) c.as_slice.ensures.value told in (
-        infeasible_so m d n b some one.recorder one.vars one.derives c.args.search.failed.items c.args.search.sum c.args.search.steps c.requires.state run.1 new run.0 core run.2 run.3 run.5 run.6 two.recorder.has_numbers which kept fits good ended_runs yes_is_so,
-        proof_so m d n b some one.recorder one.vars one.derives c.args.search.failed.items c.args.search.sum c.args.search.steps c.requires.state run.1 new run.0 core run.2 run.3 run.5 run.6 two.recorder.has_numbers which kept fits less ended_runs,
+        infeasible_so m d n b some one.arena one.recorder one.learnt.items one.vars one.derives c.args.search.failed.items c.args.search.sum c.args.search.steps c.requires.state run.1 new run.0 core run.2 run.3 run.5 run.6 few which kept fits good ended_runs yes_is_so,
+        proof_so m d n b some one.arena one.recorder one.learnt.items one.vars one.derives c.args.search.failed.items c.args.search.sum c.args.search.steps c.requires.state run.1 new run.0 core run.2 run.3 run.5 run.6 few which kept fits less ended_runs,
         omega (arith, room, within),
       );
       of_these = λ some_there fewer. let not_empty : core ≡ [] → ⊥ = λ e. some_there (c.as_slice.ensures.value ∙ e) in (
-        none_so m d n b some one.recorder one.vars one.derives c.args.search.failed.items c.args.search.sum c.args.search.steps c.requires.state run.1 new run.0 core run.2 run.3 run.5 run.6 two.recorder.has_numbers not_empty fewer (c.requires.unsaid fewer) good denials (denied_is_so m),
-        denied_so m d n b some one.recorder one.vars one.derives c.args.search.failed.items c.args.search.sum c.args.search.steps c.requires.state run.1 new run.0 core run.2 run.3 run.5 run.6 two.recorder.has_numbers not_empty fewer (c.requires.unsaid fewer) two.recorder two.vars two.derives refl less c.put_to.ensures.vars,
+        none_so m d n b some one.arena one.recorder one.learnt.items one.vars one.derives c.args.search.failed.items c.args.search.sum c.args.search.steps c.requires.state run.1 new run.0 core run.2 run.3 run.5 run.6 few not_empty fewer (c.requires.unsaid fewer) good denials (denied_is_so m),
+        denied_so m d n b some one.arena one.recorder one.learnt.items one.vars one.derives c.args.search.failed.items c.args.search.sum c.args.search.steps c.requires.state run.1 new run.0 core run.2 run.3 run.5 run.6 few not_empty fewer (c.requires.unsaid fewer) two.arena two.recorder two.learnt.items two.vars two.derives refl less c.put_to.ensures.vars,
       );
     }
 
 pub returns-in-Spent-clause-ends : goal.returns-in-Spent-clause-ends
 returns-in-Spent-clause-ends c =
-    let m = c.args.self.now.method in
+    let m = c.args.self.now.kind in
     let d = c.args.self.now.interlocking.now.design.station in
-    let n = c.args.self.now.base.now.steps in
+    let n = c.args.self.now.numbering.now.steps in
     let b = c.args.self.now.budgets in
     let one = c.args.search.solver in
     let two = c.put_to.new.solver in
+    let few : length two.arena ≤ greatest_clause_number = subst (λ k. k ≤ greatest_clause_number) two.counted_alike two.recorder.has_numbers in
     let run = c.in-Spent.ensures.run in
     let some = c.args.self.now.at_least_one in
-    let new = state_in two.recorder two.derives in
+    let new = state_in two.arena two.recorder two.learnt.items two.derives in
     let text : c.log_of.result.items ≡ new.text = ap (λ v. v.items) c.log_of.ensures in
     let all : derive_count run.0 ≡ b.conflicts - one.derives = subst (λ (k : ℕ). derive_count run.0 ≡ b.conflicts - k) c.derives.ensures run.2 in (
-      lines m d n b some one.recorder one.vars one.derives c.args.search.failed.items c.args.search.sum c.args.search.steps c.requires.state new run.0 run.1,
+      lines m d n b some one.arena one.recorder one.learnt.items one.vars one.derives c.args.search.failed.items c.args.search.sum c.args.search.steps c.requires.state new run.0 run.1,
       c.requires.state.rs,
-      rw text (log_so m d n b some one.recorder one.vars one.derives c.args.search.failed.items c.args.search.sum c.args.search.steps c.requires.state new run.0 run.1 two.recorder.has_numbers),
-      within_so m d n b some one.recorder one.vars one.derives c.args.search.failed.items c.args.search.sum c.args.search.steps c.requires.state new run.0 run.1 two.recorder.has_numbers (omega (arith, all)),
-      count_so m d n b some one.recorder one.vars one.derives c.args.search.failed.items c.args.search.sum c.args.search.steps c.requires.state new run.0 run.1 two.recorder.has_numbers all,
-      next_so m d n b some one.recorder one.vars one.derives c.args.search.failed.items c.args.search.sum c.args.search.steps c.requires.state new run.0 run.1 two.recorder.has_numbers c.requires.unsaid c.in-Spent.clause.items c.in-Spent.hints.items run.3,
+      rw text (log_so m d n b some one.arena one.recorder one.learnt.items one.vars one.derives c.args.search.failed.items c.args.search.sum c.args.search.steps c.requires.state new run.0 run.1 few),
+      within_so m d n b some one.arena one.recorder one.learnt.items one.vars one.derives c.args.search.failed.items c.args.search.sum c.args.search.steps c.requires.state new run.0 run.1 few (omega (arith, all)),
+      count_so m d n b some one.arena one.recorder one.learnt.items one.vars one.derives c.args.search.failed.items c.args.search.sum c.args.search.steps c.requires.state new run.0 run.1 few all,
+      next_so m d n b some one.arena one.recorder one.learnt.items one.vars one.derives c.args.search.failed.items c.args.search.sum c.args.search.steps c.requires.state new run.0 run.1 few c.requires.unsaid c.in-Spent.clause.items c.in-Spent.hints.items run.3,
     )
 
 pub returns-in-Full-clause-ends : goal.returns-in-Full-clause-ends
 returns-in-Full-clause-ends c =
-    let m = c.args.self.now.method in
+    let m = c.args.self.now.kind in
     let d = c.args.self.now.interlocking.now.design.station in
-    let n = c.args.self.now.base.now.steps in
+    let n = c.args.self.now.numbering.now.steps in
     let b = c.args.self.now.budgets in
     let one = c.args.search.solver in
     let two = c.put_to.new.solver in
+    let few : length two.arena ≤ greatest_clause_number = subst (λ k. k ≤ greatest_clause_number) two.counted_alike two.recorder.has_numbers in
     let run = c.in-Full.ensures.run in
-    let new = state_in two.recorder two.derives in
+    let new = state_in two.arena two.recorder two.learnt.items two.derives in
     let text : c.log_of-in-Full.result.items ≡ new.text = ap (λ v. v.items) c.log_of-in-Full.ensures in
     let fewer : derive_count run.0 ≤ b.conflicts - one.derives = (let less = subst (λ (k : ℕ). derive_count run.0 < b.conflicts - k) c.derives.ensures run.4 in omega arith) in
     let full : IsFull m d n b new.text c.in-Full.bytes c.in-Full.next =
-    full_so m d n b c.args.self.now.at_least_one one.recorder one.vars one.derives c.args.search.failed.items c.args.search.sum c.args.search.steps c.requires.state new run.0 run.3 two.recorder.has_numbers c.requires.unsaid run.1 run.2 c.in-Full.bytes c.in-Full.next fewer run.5 run.6 run.7 run.8 in
+    full_so m d n b c.args.self.now.at_least_one one.arena one.recorder one.learnt.items one.vars one.derives c.args.search.failed.items c.args.search.sum c.args.search.steps c.requires.state new run.0 run.3 few c.requires.unsaid run.1 run.2 c.in-Full.bytes c.in-Full.next fewer run.5 run.6 run.7 run.8 in
     subst (λ (t : List ℕ). IsFull m d n b t c.in-Full.bytes c.in-Full.next) (sym text) full

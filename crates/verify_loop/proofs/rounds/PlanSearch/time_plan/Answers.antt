@@ -66,10 +66,10 @@ returns-in-Ok-Met-clause-ends c =
     let one = c.args.search.solver in
     let spent = c.requires.at.search.left in
     let cheap = early.0 in (
-      met_feasible d c.args.plan.steps c.args.self.now.base.now.steps c.in-Ok-Met.history c.in-Ok-Met.tick good c.requires.at.found.runnable (sym early.1),
+      met_feasible d c.args.plan.steps c.args.self.now.numbering.now.steps c.in-Ok-Met.history c.in-Ok-Met.tick good c.requires.at.found.runnable (sym early.1),
       λ s less. (let short = c.requires.at.within_steps in c.requires.at.search.fewer s (omega arith)),
       early.1 ∙ sym (by_horizon d c.args.plan.steps good),
-      reached_so c.args.self.now.method d c.args.self.now.base.now.steps c.args.self.now.budgets one.recorder one.vars one.derives c.args.search.failed.items c.args.search.sum c.args.search.steps c.args.plan.steps c.requires.at (omega (arith, cheap, spent)),
+      reached_so c.args.self.now.kind d c.args.self.now.numbering.now.steps c.args.self.now.budgets one.arena one.recorder one.learnt.items one.vars one.derives c.args.search.failed.items c.args.search.sum c.args.search.steps c.args.plan.steps c.requires.at (omega (arith, cheap, spent)),
     )
 
 pub returns-in-Ok-Undecided-clause-ends : goal.returns-in-Ok-Undecided-clause-ends
@@ -78,14 +78,14 @@ returns-in-Ok-Undecided-clause-ends c =
     let left = c.args.self.now.budgets.ticks - c.args.search.sum in
     let same : Undecided ≡ verdict_of d (routes_of d) c.args.plan.steps left = over_routes d c.args.self.now.interlocking.now.routes c.args.plan.steps left c.in-Ok-Undecided.field-0 Undecided c.args.self.now.interlocking.now.table c.in-Ok-Undecided.ensures.value c.in-Ok-Undecided.field-0-is in
     let late = undecided_late d c.args.plan.steps left Undecided same refl in
-    let n = c.args.self.now.base.now.steps in
+    let n = c.args.self.now.numbering.now.steps in
     let b = c.args.self.now.budgets in
     let one = c.args.search.solver in
     let spent = c.requires.at.search.left in (
       c.requires.at.search.lines,
       c.requires.at.search.rs,
-      log_told c.args.self.now.method d n b one.recorder one.vars one.derives c.args.search.failed.items c.args.search.sum c.args.search.steps c.requires.at.search,
-      within_so c.args.self.now.method d n b one.recorder one.vars one.derives c.args.search.failed.items c.args.search.sum c.args.search.steps c.requires.at.search,
+      log_told c.args.self.now.kind d n b one.arena one.recorder one.learnt.items one.vars one.derives c.args.search.failed.items c.args.search.sum c.args.search.steps c.requires.at.search,
+      within_so c.args.self.now.kind d n b one.arena one.recorder one.learnt.items one.vars one.derives c.args.search.failed.items c.args.search.sum c.args.search.steps c.requires.at.search,
       c.requires.at.search.plans,
       c.requires.at.search.cost,
       c.requires.at.found,

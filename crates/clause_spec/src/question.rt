@@ -1,0 +1,27 @@
+//! What is asked of a design, and by which clauses.
+
+/// Which clauses are put to the solver.
+#[derive(Clone, Copy, PartialEq, Eq, Debug)]
+pub enum BaseKind {
+    /// Those that each plan makes true.
+    Plain,
+    /// Those, and that trains that are alike come in turn.
+    Sorted,
+}
+
+/// Whether designs of a version have a plan of at most so many steps, asked by the clauses of a base.
+#[derive(Clone, Copy, PartialEq, Eq, Debug)]
+pub struct Question {
+    pub version: u64,
+    pub steps: u64,
+    pub base: BaseKind,
+}
+
+/// How many variables a base has, how many of them come before those that all is given by a step, and how many steps
+/// there are.
+#[derive(Clone, Copy, PartialEq, Eq, Debug)]
+pub struct VariableCounts {
+    pub count: u32,
+    pub before_selectors: u32,
+    pub steps: u32,
+}
