@@ -3,7 +3,7 @@
 
 Each line: the station, the steps, the answer, the seconds and, where a proof is stored, its derived lines, its bounds and its
 cones (each of a plan that failed), how many literals their clauses have on average, its bytes, and the seconds of its check. With
-`--bounds` plans that fail are excluded by bounds where one is found. The file `figures` has a line
+`--bounds` plans that fail are excluded by bounds where one is found, and with `--any` a plan of any number of steps will do. The file `figures` has a line
 `<station> <steps> <answer> <lines>` for each, where `lines` may be `-`; the status is 1 where an answer differs from it, a search
 takes longer than its seconds, or derives more than three times the lines, or a proof does not pass its check.
 """
@@ -33,11 +33,11 @@ def asked():
         yield station, int(steps), answer, None if lines == "-" else int(lines)
 
 
-def verify(program, station, steps, bounds, seconds, folder):
+def verify(program, station, steps, flags, seconds, folder):
     """The status and first line of one search, its seconds, and the text of its proof."""
     proof = pathlib.Path(folder) / "proof"
     proof.unlink(missing_ok=True)
-    budgets = ["--conflicts", "10000000", "--ticks", "1000000000000"] + ["--bounds"] * bounds
+    budgets = ["--conflicts", "10000000", "--ticks", "1000000000000"] + flags
     begin = time.monotonic()
     try:
         done = subprocess.run(
@@ -157,10 +157,14 @@ def main():
     words = argparse.ArgumentParser(description=__doc__)
     words.add_argument("--program", default=TOP / "crates" / "rcv" / "out" / "rcv", help="the program, as ./rcv builds it")
     words.add_argument("--bounds", action="store_true", help="exclude plans that fail by bounds where one is found")
+    words.add_argument("--any", action="store_true", help="take a plan of any number of steps; only beside --bounds")
     words.add_argument("--seconds", type=float, default=20, help="how long a search may take before it is stopped")
     words.add_argument("--bar", type=float, default=10, help="how long a search should take at most")
     words.add_argument("stations", nargs="*", help="the stations, all of them if none is named")
     given = words.parse_args()
+    if given.any and not given.bounds:
+        words.error("--any stands beside --bounds alone")
+    flags = ["--bounds"] * given.bounds + ["--any"] * given.any
     if not os.access(given.program, os.X_OK):
         subprocess.run([TOP / "rcv", "routes", TOP / "stations" / "halt.toml"], stdout=subprocess.DEVNULL, check=True)
     missed = 0
@@ -168,7 +172,7 @@ def main():
         for station, steps, answer, most in asked():
             if given.stations and station not in given.stations:
                 continue
-            status, first, passed, proof = verify(given.program, station, steps, given.bounds, given.seconds, folder)
+            status, first, passed, proof = verify(given.program, station, steps, flags, given.seconds, folder)
             derived = len(re.findall(r"^d ", proof, re.M))
             bounds = re.findall(r"^b .*", proof, re.M)
             cones = re.findall(r"^r .*", proof, re.M)
@@ -180,6 +184,8 @@ def main():
                 told = f"{derived} lines {len(bounds)} bounds {len(cones)} cones of {of} {forgot} forgotten {len(proof)} bytes, check {took:.2f} s"
                 if not passes:
                     faults.append("not checked")
+            if given.any and answer.startswith("plan steps"):
+                answer = "plan steps"
             if answer != "open":
                 if not first.startswith(answer):
                     faults.append("other answer")

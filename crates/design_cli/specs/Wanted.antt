@@ -46,7 +46,7 @@ abbrev pub by_request : Form → Option RequestSeen → Option Wanted
 by_request form (Some (routes design)) = Some (in_file design)
 by_request form (Some (trial seed size)) = Some (of_trial seed size)
 by_request form (Some (simulate design plan)) = Some (of_plan form design plan)
-by_request form (Some (verify n conflicts ticks bounds design proof)) = None
+by_request form (Some (verify n conflicts ticks mode design proof)) = None
 by_request form (Some (check n design proof)) = None
 by_request form None = None
 

@@ -17,7 +17,7 @@ words_with_command command (program ∷ words) = program ∷ command ∷ words
 abbrev pub by_routes : Option RequestSeen → Option Wanted
 by_routes (Some (routes design)) = Some (track design)
 by_routes (Some (simulate design plan)) = None
-by_routes (Some (verify n conflicts ticks bounds design proof)) = None
+by_routes (Some (verify n conflicts ticks mode design proof)) = None
 by_routes (Some (check n design proof)) = None
 by_routes (Some (trial seed size)) = None
 by_routes None = None
@@ -26,7 +26,7 @@ by_routes None = None
 abbrev pub by_simulate : Option RequestSeen → Option Wanted
 by_simulate (Some (simulate design plan)) = Some (run design plan)
 by_simulate (Some (routes design)) = None
-by_simulate (Some (verify n conflicts ticks bounds design proof)) = None
+by_simulate (Some (verify n conflicts ticks mode design proof)) = None
 by_simulate (Some (check n design proof)) = None
 by_simulate (Some (trial seed size)) = None
 by_simulate None = None

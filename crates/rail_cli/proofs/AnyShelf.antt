@@ -1,9 +1,10 @@
 -- Runs over a shelf whose files need not be known.
-use Rattle.std.proofs.Common.{◌≡◌, ◌≤◌, ◌<◌, ◌+◌, ℕ, List, [], length, replicate, Bool, Option, Some, None, Result, Ok, Err, IfOk, Vec, Global, refl, ap, sym, ◌∙◌, subst, arith}
+use Rattle.std.proofs.Common.{◌≡◌, ◌≤◌, ◌<◌, ◌+◌, ℕ, List, [], length, replicate, Option, Some, None, Result, Ok, Err, IfOk, Vec, Global, refl, ap, sym, ◌∙◌, subst, arith}
 use Rattle.std.proofs.lemmas.List.{length-replicate}
 use Rattle.std.proofs.lemmas.Bool.{lt-ltb}
 use Rattle.std.specs.declared.alloc.AllocError.{AllocError}
-use Rattle.clause_spec.specs.declared.question.BaseKind.{BaseKind}
+use Rattle.verify_loop.specs.declared.outcome.Aim.{Aim}
+use Rattle.rail_words.specs.declared.request.SearchMode.{SearchMode}
 use Rattle.clause_spec.specs.declared.question.BaseKind.TheVariants.{Plain}
 use Rattle.rail_base.specs.declared.station.Station.{Station}
 use Rattle.rail_words.specs.Requests.{RequestSeen, simulate, routes, verify, check, trial}
@@ -19,7 +20,7 @@ use Rattle.rail_cli.specs.declared.reply.Reply.{Reply}
 use Rattle.rail_cli.specs.declared.ending.Ending.{Ending}
 use Rattle.rail_cli.specs.declared.ending.Ending.TheVariants as ending
 use Rattle.rail_cli.specs.Texts.{limit_of, usage_line, too_long_line}
-use Rattle.rail_cli.specs.Answers.{ReplySeen, one_line, within_limit, design_in, unless_refused, planned, simulation_reply, routes_answer, routes_reply, with_clauses, checked_against, with_proof, check_reply, searched_in, base_kind_of, search_reply, answer_given}
+use Rattle.rail_cli.specs.Answers.{ReplySeen, one_line, within_limit, design_in, unless_refused, planned, simulation_reply, routes_answer, routes_reply, with_clauses, checked_against, with_proof, check_reply, searched_in, aim_of, search_reply, answer_given}
 use Rattle.rail_cli.specs.Replies.{reply_seen, ending_of, ReadsOrEnds, Replies, RepliesTrial, RepliesSome}
 use Rattle.rail_cli.specs.Searches.{budgets_of, EndsSearch, FindsGiven}
 use Rattle.rail_cli.specs.Prints.{Prints, PrintsSome}
@@ -68,7 +69,7 @@ module _ (r : Result Reply Ending) where
       never : (asked : RequestSeen) → FindsGiven [] (Some asked) outcome.Memory
       never (simulate design plan) = tt
       never (routes design) = tt
-      never (verify n conflicts ticks bounds design proof) = λ d parsed. (tt, tt)
+      never (verify n conflicts ticks mode design proof) = λ d parsed. (tt, tt)
       never (check n design proof) = tt
       never (trial seed size) = (tt, tt)
 
@@ -84,7 +85,7 @@ simulated_text plan_bytes text = unless_refused (design_in text) (λ d. unless_r
 abbrev checked_text : ℕ → List ℕ → List ℕ → ReplySeen
 checked_text n proof_bytes text = unless_refused (design_in text) (λ d. with_proof n d proof_bytes)
 
-abbrev searched_text : BaseKind → ℕ → ℕ → ℕ → Outcome → List ℕ → ReplySeen
+abbrev searched_text : Aim → ℕ → ℕ → ℕ → Outcome → List ℕ → ReplySeen
 searched_text m n conflicts ticks found text = unless_refused (design_in text) (λ d. searched_in m d n conflicts ticks found)
 
 -- for any answer that reads the design first
@@ -176,40 +177,40 @@ module _ (r : Result Reply Ending) (n : ℕ) (d : Station) where
 
 -- ---- searches
 
-module _ (r : Result Reply Ending) (n : ℕ) (bounds : Bool) (b : Budgets) (design proof : List ℕ) where
+module _ (r : Result Reply Ending) (n : ℕ) (mode : SearchMode) (b : Budgets) (design proof : List ℕ) where
   abbrev SearchedSo : Type 0
-  SearchedSo = RepliesSome r (Some (verify n b.conflicts b.ticks bounds design proof))
+  SearchedSo = RepliesSome r (Some (verify n b.conflicts b.ticks mode design proof))
 
   -- how plans that fail are excluded
-  abbrev by : BaseKind
-  by = base_kind_of bounds
+  abbrev here : Aim
+  here = aim_of mode
 
   -- memory was wanting
-  wanting_so : (a : List ℕ) → Replies r (search_reply by n b.conflicts b.ticks a outcome.Memory) → SearchedSo
+  wanting_so : (a : List ℕ) → Replies r (search_reply here n b.conflicts b.ticks a outcome.Memory) → SearchedSo
   wanting_so a h = record { design_bytes = a; other_bytes = []; found = outcome.Memory; finds = λ d parsed. (tt, tt); replies = h }
 
   pub unsearched : (e : Ending) → r ≡ Err e → (bytes : List ℕ) × ReadsOrEnds (λ (v : Vec ℕ Global). v.items) (Err e) (within_limit file.Design bytes) → SearchedSo
-  unsearched e is h = wanting_so h.0 (ends_so r (λ (v : Vec ℕ Global). v.items) e _ (searched_text by n b.conflicts b.ticks outcome.Memory) _ is h.1 refl)
+  unsearched e is h = wanting_so h.0 (ends_so r (λ (v : Vec ℕ Global). v.items) e _ (searched_text here n b.conflicts b.ticks outcome.Memory) _ is h.1 refl)
 
   module _ (text : List ℕ) (first : (bytes : List ℕ) × (within_limit file.Design bytes ≡ Ok text)) where
     pub unsearched_design : {X : Type 0} (view : X → Station) (e : Ending) → r ≡ Err e → ReadsOrEnds view (Err e) (design_in text) → SearchedSo
-    unsearched_design view e is h = wanting_so first.0 (ends_so r view e (design_in text) (λ d. searched_in by d n b.conflicts b.ticks outcome.Memory) _ is h (with_text first.0 text first.1 (λ d. searched_in by d n b.conflicts b.ticks outcome.Memory)))
+    unsearched_design view e is h = wanting_so first.0 (ends_so r view e (design_in text) (λ d. searched_in here d n b.conflicts b.ticks outcome.Memory) _ is h (with_text first.0 text first.1 (λ d. searched_in here d n b.conflicts b.ticks outcome.Memory)))
 
     -- the outcome is that of the design
-    ends_search : (d : Station) (found : Outcome) → design_in text ≡ Ok d → IsOutcome by d n (budgets_of b.conflicts b.ticks) found → Fits by d n found → EndsSearch by first.0 n b.conflicts b.ticks found
+    ends_search : (d : Station) (found : Outcome) → design_in text ≡ Ok d → IsOutcome here d n (budgets_of b.conflicts b.ticks) found → Fits here d n found → EndsSearch here first.0 n b.conflicts b.ticks found
     ends_search d found reads says fits e parsed =
         let one : Ok d ≡ Ok e = sym reads ∙ (ap design_in (sym (file_is file.Design first.0 text first.1)) ∙ parsed) in
         let same : d ≡ e = cc in
-        subst (λ (x : Station). IsOutcome by x n (budgets_of b.conflicts b.ticks) found × Fits by x n found) same (says, fits)
+        subst (λ (x : Station). IsOutcome here x n (budgets_of b.conflicts b.ticks) found × Fits here x n found) same (says, fits)
 
     pub all_searched : (d : Station) → b.log_bytes ≡ limit_of file.Proof → design_in text ≡ Ok d
-        → RepliesBy r d n b by → SearchedSo
+        → RepliesBy r d n b here → SearchedSo
     all_searched d room reads h = record {
       design_bytes = first.0;
       other_bytes = [];
       found = h.0;
-      finds = ends_search d h.0 reads (within_budgets by d n b h.0 room h.1) h.2;
-      replies = subst (Replies r) (sym (read_so by n b.conflicts b.ticks first.0 h.0 text first.1 d reads)) h.3;
+      finds = ends_search d h.0 reads (within_budgets here d n b h.0 room h.1) h.2;
+      replies = subst (Replies r) (sym (read_so here n b.conflicts b.ticks first.0 h.0 text first.1 d reads)) h.3;
     }
 
 -- ---- requests
@@ -221,8 +222,8 @@ asks_some r a b is h = subst (RepliesSome r) (sym is) h
 pub asks_named : (r : Result Reply Ending) (a b : RequestSeen) → a ≡ b → RepliesSome r (Some b) → RepliesSome r (Some a)
 asks_named r a b is h = subst (λ (x : RequestSeen). RepliesSome r (Some x)) (sym is) h
 
-pub some_search : (r : Result Reply Ending) (n conflicts ticks : ℕ) (bounds : Bool) (b : Budgets) (design proof : List ℕ) → b ≡ budgets_of conflicts ticks → RepliesSome r (Some (verify n b.conflicts b.ticks bounds design proof)) → RepliesSome r (Some (verify n conflicts ticks bounds design proof))
-some_search r n conflicts ticks bounds b design proof within h = subst (λ (x : Budgets). RepliesSome r (Some (verify n x.conflicts x.ticks bounds design proof))) within h
+pub some_search : (r : Result Reply Ending) (n conflicts ticks : ℕ) (mode : SearchMode) (b : Budgets) (design proof : List ℕ) → b ≡ budgets_of conflicts ticks → RepliesSome r (Some (verify n b.conflicts b.ticks mode design proof)) → RepliesSome r (Some (verify n conflicts ticks mode design proof))
+some_search r n conflicts ticks mode b design proof within h = subst (λ (x : Budgets). RepliesSome r (Some (verify n x.conflicts x.ticks mode design proof))) within h
 
 pub some_trial : (r : Result Reply Ending) (seed size : ℕ) → RepliesTrial r seed size → RepliesSome r (Some (trial seed size))
 some_trial r seed size h = record { design_bytes = []; other_bytes = []; found = h.0; finds = h.1; replies = h.2 }

@@ -1,10 +1,11 @@
 -- Simulations in which nothing is refused.
-use Rattle.std.proofs.Common.{◌≡◌, ℕ, Bool, true, List, Option, Some, Result, Ok, Err, IfOk, ap, sym, ◌∙◌, subst}
+use Rattle.std.proofs.Common.{◌≡◌, ℕ, true, List, Option, Some, Result, Ok, Err, IfOk, ap, sym, ◌∙◌, subst}
 use Rattle.std.specs.List.{concat}
 use Rattle.rail_base.specs.declared.station.Station.{Station}
 use Rattle.rail_base.specs.declared.plan.Command.{Command}
 use Rattle.rail_outside.specs.Files.{Files}
 use Rattle.rail_outside.specs.Growth.{grown}
+use Rattle.rail_words.specs.declared.request.SearchMode.{SearchMode}
 use Rattle.rail_words.specs.Requests.{RequestSeen, simulate, routes, verify, check, trial, request_of}
 use Rattle.verify_loop.specs.declared.outcome.Outcome.{Outcome}
 use Rattle.rail_cli.specs.declared.status.Status.{Status}
@@ -112,8 +113,8 @@ module _ (files : Files) (words : List (List ℕ)) (d : Station) (plan : List (L
 routes_only : (files : Files) (words : List (List ℕ)) (design_name : List ℕ) (reply : Reply) → request_of words ≡ Some (routes design_name) → DoneWhereFeasible files words reply.status
 routes_only files words design_name reply asked = λ d plan s. (let clash = sym s.asked ∙ asked in absurd (cc))
 
-verify_only : (files : Files) (words : List (List ℕ)) (n conflicts ticks : ℕ) (bounds : Bool) (design_name proof_name : List ℕ) (reply : Reply) → request_of words ≡ Some (verify n conflicts ticks bounds design_name proof_name) → DoneWhereFeasible files words reply.status
-verify_only files words n conflicts ticks bounds design_name proof_name reply asked = λ d plan s. (let clash = sym s.asked ∙ asked in absurd (cc))
+verify_only : (files : Files) (words : List (List ℕ)) (n conflicts ticks : ℕ) (mode : SearchMode) (design_name proof_name : List ℕ) (reply : Reply) → request_of words ≡ Some (verify n conflicts ticks mode design_name proof_name) → DoneWhereFeasible files words reply.status
+verify_only files words n conflicts ticks mode design_name proof_name reply asked = λ d plan s. (let clash = sym s.asked ∙ asked in absurd (cc))
 
 check_only : (files : Files) (words : List (List ℕ)) (n : ℕ) (design_name proof_name : List ℕ) (reply : Reply) → request_of words ≡ Some (check n design_name proof_name) → DoneWhereFeasible files words reply.status
 check_only files words n design_name proof_name reply asked = λ d plan s. (let clash = sym s.asked ∙ asked in absurd (cc))
@@ -133,10 +134,10 @@ done_where_feasible files found words (routes design_name) (Ok reply) asked repl
 done_where_feasible files found words (routes design_name) (Err (ending.RefusedWith reply)) asked replies refuses decides = routes_only files words design_name reply asked
 done_where_feasible files found words (routes design_name) (Err ending.Memory) asked replies refuses decides = tt
 done_where_feasible files found words (routes design_name) (Err ending.ShelfFault) asked replies refuses decides = tt
-done_where_feasible files found words (verify n conflicts ticks bounds design_name proof_name) (Ok reply) asked replies refuses decides = verify_only files words n conflicts ticks bounds design_name proof_name reply asked
-done_where_feasible files found words (verify n conflicts ticks bounds design_name proof_name) (Err (ending.RefusedWith reply)) asked replies refuses decides = verify_only files words n conflicts ticks bounds design_name proof_name reply asked
-done_where_feasible files found words (verify n conflicts ticks bounds design_name proof_name) (Err ending.Memory) asked replies refuses decides = tt
-done_where_feasible files found words (verify n conflicts ticks bounds design_name proof_name) (Err ending.ShelfFault) asked replies refuses decides = tt
+done_where_feasible files found words (verify n conflicts ticks mode design_name proof_name) (Ok reply) asked replies refuses decides = verify_only files words n conflicts ticks mode design_name proof_name reply asked
+done_where_feasible files found words (verify n conflicts ticks mode design_name proof_name) (Err (ending.RefusedWith reply)) asked replies refuses decides = verify_only files words n conflicts ticks mode design_name proof_name reply asked
+done_where_feasible files found words (verify n conflicts ticks mode design_name proof_name) (Err ending.Memory) asked replies refuses decides = tt
+done_where_feasible files found words (verify n conflicts ticks mode design_name proof_name) (Err ending.ShelfFault) asked replies refuses decides = tt
 done_where_feasible files found words (check n design_name proof_name) (Ok reply) asked replies refuses decides = check_only files words n design_name proof_name reply asked
 done_where_feasible files found words (check n design_name proof_name) (Err (ending.RefusedWith reply)) asked replies refuses decides = check_only files words n design_name proof_name reply asked
 done_where_feasible files found words (check n design_name proof_name) (Err ending.Memory) asked replies refuses decides = tt
@@ -189,8 +190,8 @@ pub decides_routes : (files : Files) (asked : RequestSeen) (design_name : List �
 decides_routes files asked design_name r is = subst (λ (a : RequestSeen). DecidesRequest files a r) (sym is) tt
 
 -- nor does a request for a search
-pub decides_verify : (files : Files) (asked : RequestSeen) (n conflicts ticks : ℕ) (bounds : Bool) (design_name proof_name : List ℕ) (r : Result Reply Ending) → asked ≡ verify n conflicts ticks bounds design_name proof_name → DecidesRequest files asked r
-decides_verify files asked n conflicts ticks bounds design_name proof_name r is = subst (λ (a : RequestSeen). DecidesRequest files a r) (sym is) tt
+pub decides_verify : (files : Files) (asked : RequestSeen) (n conflicts ticks : ℕ) (mode : SearchMode) (design_name proof_name : List ℕ) (r : Result Reply Ending) → asked ≡ verify n conflicts ticks mode design_name proof_name → DecidesRequest files asked r
+decides_verify files asked n conflicts ticks mode design_name proof_name r is = subst (λ (a : RequestSeen). DecidesRequest files a r) (sym is) tt
 
 -- nor one for a check
 pub decides_check : (files : Files) (asked : RequestSeen) (n : ℕ) (design_name proof_name : List ℕ) (r : Result Reply Ending) → asked ≡ check n design_name proof_name → DecidesRequest files asked r

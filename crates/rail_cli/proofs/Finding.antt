@@ -1,11 +1,13 @@
 -- Searches: what they end with, and what their answers say.
-use Rattle.std.proofs.Common.{◌≡◌, ◌≤◌, ℕ, Bool, true, List, length, Option, None, Some, Result, Ok, Err, Vec, Global, refl, ap, sym, ◌∙◌, subst, inl, inr}
+use Rattle.std.proofs.Common.{◌≡◌, ◌≢◌, ◌≤◌, ◌<◌, ℕ, true, List, length, Option, None, Some, Result, Ok, Err, Vec, Global, refl, ap, sym, ◌∙◌, subst, inl, inr}
 use Rattle.std.specs.List.{concat}
 use Rattle.std.proofs.lemmas.List.{append-nil}
 use Rattle.infra_reader.specs.Design.{design_of}
 use Rattle.log_checker.specs.declared.check_result.CheckResult.TheVariants.{Yes}
 use Rattle.clause_spec.specs.Clauses.{past_limit}
-use Rattle.clause_spec.specs.declared.question.BaseKind.{BaseKind}
+use Rattle.verify_loop.specs.declared.outcome.Aim.{Aim}
+use Rattle.rail_words.specs.declared.request.SearchMode.{SearchMode}
+use Rattle.rail_words.specs.declared.request.SearchMode.TheVariants as by
 use Rattle.clause_spec.specs.declared.question.BaseKind.TheVariants.{Plain}
 use Rattle.proof_judge.specs.Judged.{judged}
 use Rattle.proof_judge.proofs.Sound.{yes_infeasible}
@@ -19,13 +21,13 @@ use Rattle.rail_base.specs.declared.station.Station.{Station}
 use Rattle.rail_base.specs.declared.history.Verdict.{Verdict}
 use Rattle.rail_outside.specs.Files.{Files}
 use Rattle.rail_outside.specs.Growth.{grown}
-use Rattle.rail_spec.specs.Feasible.{IsFeasible}
+use Rattle.rail_spec.specs.Feasible.{IsInfeasible, IsFeasible}
 use Rattle.rail_words.specs.Requests.{RequestSeen, simulate, routes, verify, check, trial, request_of, IsRequestInRange}
 use Rattle.rail_words.proofs.Ranges.{requests_in_range}
 use Rattle.verify_loop.specs.declared.outcome.Budgets.{Budgets}
 use Rattle.verify_loop.specs.declared.outcome.Outcome.{Outcome}
 use Rattle.verify_loop.specs.declared.outcome.Outcome.TheVariants as outcome
-use Rattle.verify_loop.specs.Outcomes.{IsOutcome, Fits, first_clauses}
+use Rattle.verify_loop.specs.Outcomes.{HasNoneBelow, IsOutcome, Fits, first_clauses}
 use Rattle.rail_cli.specs.declared.status.Status.{Status}
 use Rattle.rail_cli.specs.declared.status.Status.TheVariants as statuses
 use Rattle.rail_cli.specs.declared.input.InputFile.TheVariants as file
@@ -34,7 +36,7 @@ use Rattle.rail_cli.specs.declared.ending.Ending.{Ending}
 use Rattle.rail_cli.specs.declared.ending.Ending.TheVariants as ending
 use Rattle.rail_cli.specs.Statuses.{is_answered, is_verdict}
 use Rattle.rail_cli.specs.Texts.{limit_of, usage_line, too_large_line, yes_line, infeasible_line}
-use Rattle.rail_cli.specs.Answers.{ReplySeen, one_line, within_limit, with_routes, design_in, and_then, unless_too_large, with_clauses, unless_refused, reply_for, checked_against, with_proof, check_reply, reply_for_plan, reply_for_outcome, searched_in, base_kind_of, search_reply, answer_to, answer_of}
+use Rattle.rail_cli.specs.Answers.{ReplySeen, one_line, within_limit, with_routes, design_in, and_then, unless_too_large, with_clauses, unless_refused, reply_for, checked_against, with_proof, check_reply, reply_for_plan, reply_for_outcome, searched_in, aim_of, search_reply, answer_to, answer_of}
 use Rattle.rail_cli.specs.Shows.{verdict_at_horizon}
 use Rattle.rail_cli.specs.Replies.{reply_seen, ReadsOrEnds, RefusesFile, OnlyFails, Replies, EndsIn, EndsWith, RepliesSo, RepliesTrial}
 use Rattle.rail_cli.specs.Searches.{budgets_of, Finds, HoldsLog, HoldsProof, SearchLeaves, Leaves, Searches, ReportsPlan, ReportsNone}
@@ -56,7 +58,7 @@ may_want files (Some (simulate design plan)) = tt
 may_want files (Some (routes design)) = tt
 may_want files (Some (check n design proof)) = tt
 may_want files (Some (trial seed size)) = (tt, tt)
-may_want files (Some (verify n conflicts ticks bounds design proof)) = inl refl
+may_want files (Some (verify n conflicts ticks mode design proof)) = inl refl
 
 -- the outcome says what it is to say of the design in the file
 pub finds_so : (files : Files) (asked : Option RequestSeen) (found : Outcome) → EndsWith files asked found → Finds files asked found
@@ -65,11 +67,11 @@ finds_so files (Some (simulate design plan)) found ends = tt
 finds_so files (Some (routes design)) found ends = tt
 finds_so files (Some (check n design proof)) found ends = tt
 finds_so files (Some (trial seed size)) found ends = ends
-finds_so files (Some (verify n conflicts ticks bounds design proof)) found (inl same) = λ d parsed. subst (λ (o : Outcome). IsOutcome (base_kind_of bounds) d n (budgets_of conflicts ticks) o × Fits (base_kind_of bounds) d n o) (sym same) (tt, tt)
-finds_so files (Some (verify n conflicts ticks bounds design proof)) found (inr e) = λ d parsed.
+finds_so files (Some (verify n conflicts ticks mode design proof)) found (inl same) = λ d parsed. subst (λ (o : Outcome). IsOutcome (aim_of mode) d n (budgets_of conflicts ticks) o × Fits (aim_of mode) d n o) (sym same) (tt, tt)
+finds_so files (Some (verify n conflicts ticks mode design proof)) found (inr e) = λ d parsed.
     (let one : Ok e.design.station ≡ Ok d = sym e.parsed ∙ parsed in
     let same : e.design.station ≡ d = cc in
-    subst (λ (x : Station). IsOutcome (base_kind_of bounds) x n (budgets_of conflicts ticks) found × Fits (base_kind_of bounds) x n found) same (e.says, e.fits))
+    subst (λ (x : Station). IsOutcome (aim_of mode) x n (budgets_of conflicts ticks) found × Fits (aim_of mode) x n found) same (e.says, e.fits))
 
 -- ---- what is said of it
 
@@ -81,16 +83,16 @@ never_memory (Err ending.Memory) want answer is h = tt
 never_memory (Err ending.ShelfFault) want answer is h = tt
 
 -- for any texts of outcomes, that for too many clauses being the refusal
-module _ (m : BaseKind) (d : Station) (n : ℕ) (b : Budgets) (make_reply : Outcome → ReplySeen) (large : (literals : ℕ) → make_reply (outcome.TooLarge literals) ≡ one_line statuses.DesignRefused too_large_line) (want : (make_reply outcome.Memory).status ≡ statuses.Memory) where
+module _ (m : Aim) (d : Station) (n : ℕ) (b : Budgets) (make_reply : Outcome → ReplySeen) (large : (literals : ℕ) → make_reply (outcome.TooLarge literals) ≡ one_line statuses.DesignRefused too_large_line) (want : (make_reply outcome.Memory).status ≡ statuses.Memory) where
   -- what is said, unless the clauses are too many
   abbrev unless_many : Outcome → ReplySeen
-  unless_many found = unless_refused (with_clauses m n d) (λ same. make_reply found)
+  unless_many found = unless_refused (with_clauses m.base n d) (λ same. make_reply found)
 
   few_told : (found : Outcome) → past_limit 16000000 0 (first_clauses m d n) ≡ None → unless_many found ≡ make_reply found
-  few_told found few = answered_next (with_clauses m n d) d (λ same. make_reply found) (small_passes m n d few)
+  few_told found few = answered_next (with_clauses m.base n d) d (λ same. make_reply found) (small_passes m.base n d few)
 
   many_told : (literals : ℕ) → past_limit 16000000 0 (first_clauses m d n) ≡ Some literals → unless_many (outcome.TooLarge literals) ≡ make_reply (outcome.TooLarge literals)
-  many_told literals many = answered_refusal (with_clauses m n d) _ (λ same. make_reply (outcome.TooLarge literals)) (too_large_refused m n d literals many) ∙ sym (large literals)
+  many_told literals many = answered_refusal (with_clauses m.base n d) _ (λ same. make_reply (outcome.TooLarge literals)) (too_large_refused m.base n d literals many) ∙ sym (large literals)
 
   -- the reply to the end of a search is one to the search
   pub reply_unless_many : (r : Result Reply Ending) (found : Outcome) → IsOutcome m d n b found → Fits m d n found → Replies r (make_reply found) → Replies r (unless_many found)
@@ -107,7 +109,7 @@ module _ (d : Station) (n : ℕ) (b : Budgets) where
   abbrev outcome_told : Outcome → ReplySeen
   outcome_told found = reply_for_outcome d n b.conflicts b.ticks found
 
-  pub searched_so : (m : BaseKind) (r : Result Reply Ending) (found : Outcome) → IsOutcome m d n b found → Fits m d n found → Replies r (outcome_told found) → Replies r (searched_in m d n b.conflicts b.ticks found)
+  pub searched_so : (m : Aim) (r : Result Reply Ending) (found : Outcome) → IsOutcome m d n b found → Fits m d n found → Replies r (outcome_told found) → Replies r (searched_in m d n b.conflicts b.ticks found)
   searched_so m r found says fits h = reply_unless_many m d n b outcome_told (λ literals. refl) refl r found says fits h
 
   -- it is never that the words ask for nothing
@@ -124,7 +126,7 @@ module _ (d : Station) (n : ℕ) (b : Budgets) where
   told_no_usage found reply seen e = outcome_no_usage found (ap (λ (a : ReplySeen). a.status) (sym seen) ∙ e)
 
 -- a plan comes with what its run shows
-pub comes_shown : (d : Station) (n : ℕ) (b : Budgets) (found : Outcome) (plan : Plan) (verdict : Verdict) → found ≡ outcome.Plan plan verdict → (m : BaseKind) × IsOutcome m d n b found → verdict ≡ verdict_at_horizon d plan.steps
+pub comes_shown : (d : Station) (n : ℕ) (b : Budgets) (found : Outcome) (plan : Plan) (verdict : Verdict) → found ≡ outcome.Plan plan verdict → (m : Aim) × IsOutcome m d n b found → verdict ≡ verdict_at_horizon d plan.steps
 comes_shown d n b found plan verdict is h = (subst (λ (o : Outcome). IsOutcome h.0 d n b o) is h.1).2
 
 -- a store that failed says nothing
@@ -140,7 +142,7 @@ failed_refuses ending.ShelfFault r is h = subst (λ (x : Result Reply Ending). R
 
 -- ---- the design is read
 
-module _ (m : BaseKind) (n conflicts ticks : ℕ) (design_bytes : List ℕ) (found : Outcome) where
+module _ (m : Aim) (n conflicts ticks : ℕ) (design_bytes : List ℕ) (found : Outcome) where
   -- the rest of a search, with the design's text
   abbrev with_text : List ℕ → ReplySeen
   with_text text = unless_refused (design_in text) (λ d. searched_in m d n conflicts ticks found)
@@ -164,39 +166,39 @@ module _ (m : BaseKind) (n conflicts ticks : ℕ) (design_bytes : List ℕ) (fou
 
 -- ---- the replies to a search
 
-pub within_budgets : (m : BaseKind) (d : Station) (n : ℕ) (b : Budgets) (found : Outcome) → b.log_bytes ≡ limit_of file.Proof → IsOutcome m d n b found → IsOutcome m d n (budgets_of b.conflicts b.ticks) found
+pub within_budgets : (m : Aim) (d : Station) (n : ℕ) (b : Budgets) (found : Outcome) → b.log_bytes ≡ limit_of file.Proof → IsOutcome m d n b found → IsOutcome m d n (budgets_of b.conflicts b.ticks) found
 within_budgets m d n b found room says = subst (λ (k : ℕ). IsOutcome m d n (record { conflicts = b.conflicts; ticks = b.ticks; log_bytes = k }) found) room says
 
 -- the reply to a search in a design by a base, for an outcome with which it may end
-abbrev pub RepliesBy : Result Reply Ending → Station → ℕ → Budgets → BaseKind → Type 0
+abbrev pub RepliesBy : Result Reply Ending → Station → ℕ → Budgets → Aim → Type 0
 RepliesBy r d n b m = (found : Outcome) × IsOutcome m d n b found × Fits m d n found × Replies r (searched_in m d n b.conflicts b.ticks found)
 
-module _ (files : Files) (n : ℕ) (bounds : Bool) (b : Budgets) (design proof : List ℕ) where
+module _ (files : Files) (n : ℕ) (mode : SearchMode) (b : Budgets) (design proof : List ℕ) where
   -- what is asked
   abbrev search_asked : Option RequestSeen
-  search_asked = Some (verify n b.conflicts b.ticks bounds design proof)
+  search_asked = Some (verify n b.conflicts b.ticks mode design proof)
 
   -- how plans that fail are excluded
-  abbrev by : BaseKind
-  by = base_kind_of bounds
+  abbrev here : Aim
+  here = aim_of mode
 
   pub unfetched_so : (view : Vec ℕ Global → List ℕ) (e : Ending) (r : Result Reply Ending) → r ≡ Err e → ReadsOrEnds view (Err e) (within_limit file.Design (files design)) → RepliesSo r files search_asked
-  unfetched_so view e r is h = subst (λ (x : Result Reply Ending). RepliesSo x files search_asked) (sym is) (outcome.Memory, inl refl, unfetched by n b.conflicts b.ticks (files design) outcome.Memory view e h)
+  unfetched_so view e r is h = subst (λ (x : Result Reply Ending). RepliesSo x files search_asked) (sym is) (outcome.Memory, inl refl, unfetched here n b.conflicts b.ticks (files design) outcome.Memory view e h)
 
   module _ (text : List ℕ) (fits : within_limit file.Design (files design) ≡ Ok text) where
     pub unread_so : {X : Type 0} (view : X → Station) (e : Ending) (r : Result Reply Ending) → r ≡ Err e → ReadsOrEnds view (Err e) (design_in text) → RepliesSo r files search_asked
-    unread_so view e r is h = subst (λ (x : Result Reply Ending). RepliesSo x files search_asked) (sym is) (outcome.Memory, inl refl, unread by n b.conflicts b.ticks (files design) outcome.Memory text fits view e h)
+    unread_so view e r is h = subst (λ (x : Result Reply Ending). RepliesSo x files search_asked) (sym is) (outcome.Memory, inl refl, unread here n b.conflicts b.ticks (files design) outcome.Memory text fits view e h)
 
     -- the name spells the design
     pub spelled_so : (d : Station) → design_in text ≡ Ok d → design_in (files design) ≡ Ok d
     spelled_so d reads = ap design_in (file_is file.Design (files design) text fits) ∙ reads
 
     pub ended_so : (d : Design) (r : Result Reply Ending) → b.log_bytes ≡ limit_of file.Proof → design_in text ≡ Ok d.station
-        → RepliesBy r d.station n b by → RepliesSo r files search_asked
+        → RepliesBy r d.station n b here → RepliesSo r files search_asked
     ended_so d r room reads h = (
       h.0,
-      inr (record { design = d; parsed = spelled_so d.station reads; says = within_budgets by d.station n b h.0 room h.1; fits = h.2 }),
-      subst (Replies r) (sym (read_so by n b.conflicts b.ticks (files design) h.0 text fits d.station reads)) h.3,
+      inr (record { design = d; parsed = spelled_so d.station reads; says = within_budgets here d.station n b h.0 room h.1; fits = h.2 }),
+      subst (Replies r) (sym (read_so here n b.conflicts b.ticks (files design) h.0 text fits d.station reads)) h.3,
     )
 
 -- ---- the replies to a request
@@ -214,8 +216,8 @@ module _ (r : Result Reply Ending) (files : Files) (asked : RequestSeen) where
   pub trial_so : (seed size : ℕ) → asked ≡ trial seed size → RepliesTrial r seed size → RepliesSo r files (Some asked)
   trial_so seed size is h = subst (λ (a : RequestSeen). RepliesSo r files (Some a)) (sym is) h
 
-  pub verify_so : (n conflicts ticks : ℕ) (bounds : Bool) (b : Budgets) (design proof : List ℕ) → b ≡ budgets_of conflicts ticks → asked ≡ verify n conflicts ticks bounds design proof → RepliesSo r files (Some (verify n b.conflicts b.ticks bounds design proof)) → RepliesSo r files (Some asked)
-  verify_so n conflicts ticks bounds b design proof within is h = subst (λ (a : RequestSeen). RepliesSo r files (Some a)) (sym is) (subst (λ (x : Budgets). RepliesSo r files (Some (verify n x.conflicts x.ticks bounds design proof))) within h)
+  pub verify_so : (n conflicts ticks : ℕ) (mode : SearchMode) (b : Budgets) (design proof : List ℕ) → b ≡ budgets_of conflicts ticks → asked ≡ verify n conflicts ticks mode design proof → RepliesSo r files (Some (verify n b.conflicts b.ticks mode design proof)) → RepliesSo r files (Some asked)
+  verify_so n conflicts ticks mode b design proof within is h = subst (λ (a : RequestSeen). RepliesSo r files (Some a)) (sym is) (subst (λ (x : Budgets). RepliesSo r files (Some (verify n x.conflicts x.ticks mode design proof))) within h)
 
 -- the words ask for nothing
 pub usage_so : (files : Files) (asked : Option RequestSeen) (reply : Reply) → asked ≡ None → reply_seen reply ≡ one_line statuses.Usage usage_line → RepliesSo (Ok reply) files asked
@@ -226,8 +228,8 @@ pub want_so : (r : Result Reply Ending) (files : Files) (asked : Option RequestS
 want_so r files asked is = subst (λ (x : Result Reply Ending). RepliesSo x files asked) (sym is) (outcome.Memory, may_want files asked, tt)
 
 -- what a search was asked for, from a request that is in range
-pub search_steps : (asked : RequestSeen) (n conflicts ticks : ℕ) (bounds : Bool) (design proof : List ℕ) → asked ≡ verify n conflicts ticks bounds design proof → IsRequestInRange asked → (1 ≤ n) × (n ≤ 256)
-search_steps asked n conflicts ticks bounds design proof is range = subst IsRequestInRange is range
+pub search_steps : (asked : RequestSeen) (n conflicts ticks : ℕ) (mode : SearchMode) (design proof : List ℕ) → asked ≡ verify n conflicts ticks mode design proof → IsRequestInRange asked → (1 ≤ n) × (n ≤ 256)
+search_steps asked n conflicts ticks mode design proof is range = subst IsRequestInRange is range
 
 -- ---- runs
 
@@ -251,28 +253,28 @@ module _ (files : Files) (words : List (List ℕ)) (reply : Reply) (t : Status) 
 -- ---- where the answer is yes or no
 
 -- the design was read, its clauses are few, and the end of the search is said
-record Searched (m : BaseKind) (n conflicts ticks : ℕ) (design_bytes : List ℕ) (found : Outcome) (d : Station) : Type 0 where
+record Searched (m : Aim) (n conflicts ticks : ℕ) (design_bytes : List ℕ) (found : Outcome) (d : Station) : Type 0 where
   fits : within_limit file.Design design_bytes ≡ Ok design_bytes
   reads : design_in design_bytes ≡ Ok d
-  clauses : with_clauses m n d ≡ Ok d
+  clauses : with_clauses m.base n d ≡ Ok d
   answer : search_reply m n conflicts ticks design_bytes found ≡ reply_for_outcome d n conflicts ticks found
 
 same_clauses : (d : Station) (many : Option ℕ) (e : Station) → unless_too_large d many ≡ Ok e → unless_too_large d many ≡ Ok d
 same_clauses d None e h = refl
 same_clauses d (Some k) e h = absurd (cc)
 
-was_searched : (m : BaseKind) (n conflicts ticks : ℕ) (design_bytes : List ℕ) (found : Outcome) (d : Station) → design_of design_bytes ≡ Ok d → is_verdict (search_reply m n conflicts ticks design_bytes found).status ≡ true → Searched m n conflicts ticks design_bytes found d
+was_searched : (m : Aim) (n conflicts ticks : ℕ) (design_bytes : List ℕ) (found : Outcome) (d : Station) → design_of design_bytes ≡ Ok d → is_verdict (search_reply m n conflicts ticks design_bytes found).status ≡ true → Searched m n conflicts ticks design_bytes found d
 was_searched m n conflicts ticks design_bytes found d spells verdict =
     let one = passed (within_limit file.Design design_bytes) (with_text m n conflicts ticks design_bytes found) (long_refuses file.Design design_bytes) verdict in
     let two = passed (design_in one.read) (λ e. searched_in m e n conflicts ticks found) (design_refuses (and_then (design_of one.read) with_routes)) one.verdict in
-    let three = passed (with_clauses m n two.read) (λ same. reply_for_outcome two.read n conflicts ticks found) (clauses_refuse two.read (past_limit 16000000 0 (first_clauses m two.read n))) two.verdict in
+    let three = passed (with_clauses m.base n two.read) (λ same. reply_for_outcome two.read n conflicts ticks found) (clauses_refuse two.read (past_limit 16000000 0 (first_clauses m two.read n))) two.verdict in
     let text : design_bytes ≡ one.read = file_is file.Design design_bytes one.read one.is in
     let same : d ≡ two.read = read-same one.read d two.read (ap design_of (sym text) ∙ spells) two.is in
-    let few : with_clauses m n two.read ≡ Ok two.read = same_clauses two.read (past_limit 16000000 0 (first_clauses m two.read n)) three.read three.is in
+    let few : with_clauses m.base n two.read ≡ Ok two.read = same_clauses two.read (past_limit 16000000 0 (first_clauses m two.read n)) three.read three.is in
     record {
       fits = one.is ∙ ap (λ (bytes : List ℕ). Ok bytes) (sym text);
       reads = ap design_in text ∙ (two.is ∙ ap (λ (e : Station). Ok e) (sym same));
-      clauses = subst (λ (e : Station). with_clauses m n e ≡ Ok e) (sym same) few;
+      clauses = subst (λ (e : Station). with_clauses m.base n e ≡ Ok e) (sym same) few;
       answer = (one.comes ∙ (two.comes ∙ three.comes)) ∙ ap (λ (e : Station). reply_for_outcome e n conflicts ticks found) (sym same);
     }
 
@@ -302,9 +304,15 @@ none_told d n conflicts ticks (outcome.TooLarge literals) e = absurd (cc)
 none_told d n conflicts ticks outcome.Memory e = absurd (cc)
 
 -- where a plan was found, memory was not wanting
-ended_in : (files : Files) (n conflicts ticks : ℕ) (bounds : Bool) (design proof : List ℕ) (found : Outcome) → PlanFound found → EndsWith files (Some (verify n conflicts ticks bounds design proof)) found → EndsIn files (base_kind_of bounds) n conflicts ticks design found
-ended_in files n conflicts ticks bounds design proof found p (inl same) = (let clash = sym same ∙ p.is in absurd (cc))
-ended_in files n conflicts ticks bounds design proof found p (inr e) = e
+ended_in : (files : Files) (n conflicts ticks : ℕ) (mode : SearchMode) (design proof : List ℕ) (found : Outcome) → PlanFound found → EndsWith files (Some (verify n conflicts ticks mode design proof)) found → EndsIn files (aim_of mode) n conflicts ticks design found
+ended_in files n conflicts ticks mode design proof found p (inl same) = (let clash = sym same ∙ p.is in absurd (cc))
+ended_in files n conflicts ticks mode design proof found p (inr e) = e
+
+-- where one of the fewest steps is looked for, it is found
+fewest_so : (mode : SearchMode) (d : Station) (k : ℕ) → HasNoneBelow (aim_of mode).wanted d k → mode ≢ by.Any → (s : ℕ) → s < k → IsInfeasible d s
+fewest_so by.Plain d k none other = none
+fewest_so by.Bounds d k none other = none
+fewest_so by.Any d k none other = absurd (other refl)
 
 module _ (files : Files) (words : List (List ℕ)) (n : ℕ) (d : Station) (s : Searches files words n d) (reply : Reply) (t : Status) (text new_text : Option (List ℕ)) (pieces new_pieces : Option (List (List ℕ)))
     (replies : RepliesSo (Ok reply) files (request_of words)) (prints : Prints (reply_seen reply) t text new_text pieces new_pieces) where
@@ -312,8 +320,8 @@ module _ (files : Files) (words : List (List ℕ)) (n : ℕ) (d : Station) (s : 
   found_here = replies.0
 
   -- how plans that fail were excluded
-  abbrev by_here : BaseKind
-  by_here = base_kind_of s.bounds
+  abbrev by_here : Aim
+  by_here = aim_of s.mode
 
   answer_here : reply_seen reply ≡ search_reply by_here n s.conflicts s.ticks (files s.design_name) found_here
   answer_here = sym replies.2 ∙ ap (answer_to files found_here) s.asked
@@ -324,18 +332,18 @@ module _ (files : Files) (words : List (List ℕ)) (n : ℕ) (d : Station) (s : 
   told_here : is_answered t ≡ true → is_verdict t ≡ true → reply_seen reply ≡ reply_for_outcome d n s.conflicts s.ticks found_here
   told_here answered verdict = answer_here ∙ (searched_here answered verdict).answer
 
-  ends_here : EndsWith files (Some (verify n s.conflicts s.ticks s.bounds s.design_name s.proof_name)) found_here
+  ends_here : EndsWith files (Some (verify n s.conflicts s.ticks s.mode s.design_name s.proof_name)) found_here
   ends_here = subst (λ (a : Option RequestSeen). EndsWith files a found_here) s.asked replies.1
 
   -- status 0 says that there is a plan
-  pub tells_plan : t ≡ statuses.Done → ReportsPlan n d text new_text
+  pub tells_plan : t ≡ statuses.Done → ReportsPlan s.mode n d text new_text
   tells_plan done =
       let answered : is_answered t ≡ true = rw done refl in
       let verdict : is_verdict t ≡ true = rw done refl in
       let q = searched_here answered verdict in
       let reply_for = told_here answered verdict in
       let p = plan_found d n s.conflicts s.ticks found_here (ap (λ (a : ReplySeen). a.status) (sym reply_for) ∙ (sym (prints.status answered) ∙ done)) in
-      let e = ended_in files n s.conflicts s.ticks s.bounds s.design_name s.proof_name found_here p ends_here in
+      let e = ended_in files n s.conflicts s.ticks s.mode s.design_name s.proof_name found_here p ends_here in
       let one : Ok e.design.station ≡ Ok d = sym e.parsed ∙ q.reads in
       let same : e.design.station ≡ d = cc in
       let good = admitted d (subst (λ (x : Station). is_admitted x ≡ true) same e.design.admitted) in
@@ -346,7 +354,7 @@ module _ (files : Files) (words : List (List ℕ)) (n : ℕ) (d : Station) (s : 
         plan = p.plan.steps;
         text = prints.written answered ∙ ap (λ (a : ReplySeen). grown text (concat a.lines)) lines;
         feasible = feasible;
-        fewest = says.1;
+        fewest = fewest_so s.mode d (length p.plan.steps) says.1;
         met = met_first d p.plan.steps ((done_exactly d n p.plan.steps good feasible.runnable).1 feasible);
         safe = runs_safely d n p.plan.steps good feasible.runnable;
       }
@@ -356,7 +364,7 @@ module _ (files : Files) (words : List (List ℕ)) (n : ℕ) (d : Station) (s : 
   log_passes q log short shows =
       answered_next (within_limit file.Design (files s.design_name)) (files s.design_name) (λ bytes. unless_refused (design_in bytes) (λ e. with_proof n e log)) q.fits
       ∙ (answered_next (design_in (files s.design_name)) d (λ e. with_proof n e log) q.reads
-      ∙ (answered_next (with_clauses Plain n d) d (λ same. unless_refused (within_limit file.Proof log) (checked_against d n)) (base_passes by_here n d q.clauses)
+      ∙ (answered_next (with_clauses Plain n d) d (λ same. unless_refused (within_limit file.Proof log) (checked_against d n)) (base_passes by_here.base n d q.clauses)
       ∙ (answered_next (within_limit file.Proof log) log (checked_against d n) (file_fits file.Proof log short)
       ∙ ap reply_for shows)))
 
@@ -373,7 +381,7 @@ module _ (files : Files) (words : List (List ℕ)) (n : ℕ) (d : Station) (s : 
       let one : Ok proof.0 ≡ Ok d = sym proof.1 ∙ q.reads in
       let same : proof.0 ≡ d = cc in
       let log : HoldsLog files s.proof_name d n new = subst (λ (x : Station). HoldsLog files s.proof_name x n new) same proof.2 in
-      let some : 1 ≤ n = (requests_in_range words (verify n s.conflicts s.ticks s.bounds s.design_name s.proof_name) s.asked).0 in
+      let some : 1 ≤ n = (requests_in_range words (verify n s.conflicts s.ticks s.mode s.design_name s.proof_name) s.asked).0 in
       record {
         text = prints.written answered ∙ (ap (λ (a : ReplySeen). grown text (concat a.lines)) line ∙ ap (grown text) (append-nil (infeasible_line n)));
         none = (yes_infeasible d (spelled_admitted (files s.design_name) d s.parses_design) n n log.log some log.proves.shows).1.1;

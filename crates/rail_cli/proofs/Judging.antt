@@ -34,7 +34,7 @@ use Rattle.plan_encoding.specs.declared.sink.BaseFault.{BaseFault}
 use Rattle.plan_encoding.specs.declared.sink.BaseFault.TheVariants.{TooLarge, Memory}
 use Rattle.rail_base.specs.declared.route.Route.{Route}
 use Rattle.verify_loop.specs.declared.outcome.Outcome.{Outcome}
-use Rattle.verify_loop.specs.Outcomes.{first_clauses}
+use Rattle.alike_clause_spec.specs.Sorted.{clauses_of}
 use Rattle.rail_cli.proofs.Passing.{passed, long_refuses, design_refuses, clauses_refuse, read-same}
 use Rattle.rail_cli.proofs.Refusing.{file_is}
 
@@ -97,10 +97,10 @@ tells_infeasible files found words n d t text new_text pieces new_pieces prints 
 
 -- ---- the clauses of the design
 
-pub too_large_refused : (m : BaseKind) (n : ℕ) (d : Station) (k : ℕ) → past_limit 16000000 0 (first_clauses m d n) ≡ Some k → with_clauses m n d ≡ Err (one_line DesignRefused too_large_line)
+pub too_large_refused : (m : BaseKind) (n : ℕ) (d : Station) (k : ℕ) → past_limit 16000000 0 (clauses_of m d (routes_of d) n) ≡ Some k → with_clauses m n d ≡ Err (one_line DesignRefused too_large_line)
 too_large_refused m n d k e = ap (unless_too_large d) e
 
-pub small_passes : (m : BaseKind) (n : ℕ) (d : Station) → past_limit 16000000 0 (first_clauses m d n) ≡ None → with_clauses m n d ≡ Ok d
+pub small_passes : (m : BaseKind) (n : ℕ) (d : Station) → past_limit 16000000 0 (clauses_of m d (routes_of d) n) ≡ None → with_clauses m n d ≡ Ok d
 small_passes m n d e = ap (unless_too_large d) e
 
 -- the prefix of clauses that fit fits
@@ -115,7 +115,7 @@ prefix_fits limit sum (c ∷ cs) more h = go (nat_lt limit (sum + length c)) (pr
     go false next h = next h
 
 -- where the clauses of a search by any base fit, those of a check do
-base_fits : (m : BaseKind) (n : ℕ) (d : Station) → past_limit 16000000 0 (first_clauses m d n) ≡ None → past_limit 16000000 0 (first_clauses Plain d n) ≡ None
+base_fits : (m : BaseKind) (n : ℕ) (d : Station) → past_limit 16000000 0 (clauses_of m d (routes_of d) n) ≡ None → past_limit 16000000 0 (clauses_of Plain d (routes_of d) n) ≡ None
 base_fits Plain n d h = h
 base_fits Sorted n d h = prefix_fits 16000000 0 (base_clauses d (routes_of d) n) _ h
 
@@ -124,7 +124,7 @@ not_many d None e h = refl
 not_many d (Some k) e h = absurd (cc)
 
 pub base_passes : (m : BaseKind) (n : ℕ) (d : Station) → with_clauses m n d ≡ Ok d → with_clauses Plain n d ≡ Ok d
-base_passes m n d h = small_passes Plain n d (base_fits m n d (not_many d (past_limit 16000000 0 (first_clauses m d n)) d h))
+base_passes m n d h = small_passes Plain n d (base_fits m n d (not_many d (past_limit 16000000 0 (clauses_of m d (routes_of d) n)) d h))
 
 pub refused_so : (n : ℕ) (d : Station) (routes : List Route) (fault : BaseFault) (k : ℕ) → routes ≡ routes_of d → fault ≡ TooLarge k → IsRefused Plain d routes n fault → with_clauses Plain n d ≡ Err (one_line DesignRefused too_large_line)
 refused_so n d routes (TooLarge j) k table same e = too_large_refused Plain n d j (ap (λ (r : List Route). past_limit 16000000 0 (base_clauses d r n)) (sym table) ∙ e)

@@ -1,8 +1,9 @@
 -- What a run leaves on the shelf.
-use Rattle.std.proofs.Common.{◌≡◌, ◌⊎◌, ℕ, Bool, true, List, Option, None, Some, Result, Ok, Err, Vec, Global, refl, ap, sym, ◌∙◌, subst, inl, inr}
-use Rattle.clause_spec.specs.declared.question.BaseKind.{BaseKind}
+use Rattle.std.proofs.Common.{◌≡◌, ◌⊎◌, ℕ, true, List, Option, None, Some, Result, Ok, Err, Vec, Global, refl, ap, sym, ◌∙◌, subst, inl, inr}
+use Rattle.verify_loop.specs.declared.outcome.Aim.{Aim}
 use Rattle.rail_base.specs.declared.station.Station.{Station}
 use Rattle.rail_outside.specs.Files.{Files}
+use Rattle.rail_words.specs.declared.request.SearchMode.{SearchMode}
 use Rattle.rail_words.specs.Requests.{RequestSeen, simulate, routes, verify, check, trial}
 use Rattle.verify_loop.specs.declared.outcome.Budgets.{Budgets}
 use Rattle.verify_loop.specs.declared.outcome.Outcome.{Outcome}
@@ -82,7 +83,7 @@ module _ (files : Files) (n : ℕ) (design proof : List ℕ) (known_files : Opti
       go ending.ShelfFault refuses = inr same
 
   -- what a search in the design in the file leaves
-  module _ (m : BaseKind) (d : Station) (parsed : design_in (files design) ≡ Ok d) (b : Budgets) (room : b.log_bytes ≡ limit_of file.Proof) where
+  module _ (m : Aim) (d : Station) (parsed : design_in (files design) ≡ Ok d) (b : Budgets) (room : b.log_bytes ≡ limit_of file.Proof) where
     -- the log of a search shows that there is no plan
     log_shows : (log : Vec ℕ Global) → IsOutcome m d n b (outcome.Infeasible log) → ShowsNone d n log.items
     log_shows log says = record { within_limit = rw (← room) says.2; shows = says.1.accepted }
@@ -153,8 +154,8 @@ module _ (r : Result Reply Ending) (old new : Option Files) (asked : RequestSeen
   pub trial_leaves : (seed size : ℕ) → asked ≡ trial seed size → new ≡ old → leaves asked
   trial_leaves seed size is same = subst leaves (sym is) (every_status r (λ s. new ≡ old) (λ s. same))
 
-  pub verify_leaves : (n conflicts ticks : ℕ) (bounds : Bool) (design proof : List ℕ) → asked ≡ verify n conflicts ticks bounds design proof → ((files : Files) → old ≡ Some files → OnEnd r (λ s. SearchLeaves files n design proof s new)) → leaves asked
-  verify_leaves n conflicts ticks bounds design proof is h = subst leaves (sym is) (one_status r old (λ files s. SearchLeaves files n design proof s new) h)
+  pub verify_leaves : (n conflicts ticks : ℕ) (mode : SearchMode) (design proof : List ℕ) → asked ≡ verify n conflicts ticks mode design proof → ((files : Files) → old ≡ Some files → OnEnd r (λ s. SearchLeaves files n design proof s new)) → leaves asked
+  verify_leaves n conflicts ticks mode design proof is h = subst leaves (sym is) (one_status r old (λ files s. SearchLeaves files n design proof s new) h)
 
 -- ---- a run
 
@@ -179,4 +180,4 @@ run_leaves (Some (simulate design plan)) s t old new answered same no_shelf h = 
 run_leaves (Some (routes design)) s t old new answered same no_shelf h = h
 run_leaves (Some (check n design proof)) s t old new answered same no_shelf h = h
 run_leaves (Some (trial seed size)) s t old new answered same no_shelf h = h
-run_leaves (Some (verify n conflicts ticks bounds design proof)) s t old new answered same no_shelf h = λ files reply_for. printed_leaves files n design proof new s t answered same no_shelf (h files reply_for)
+run_leaves (Some (verify n conflicts ticks mode design proof)) s t old new answered same no_shelf h = λ files reply_for. printed_leaves files n design proof new s t answered same no_shelf (h files reply_for)

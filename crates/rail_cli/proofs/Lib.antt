@@ -11,6 +11,7 @@ pub mod Stored
 pub mod Finding
 pub mod AnyShelf
 pub mod Trying
+pub mod Telling
 pub mod Verdicts
 pub mod Using
 pub mod Shortly

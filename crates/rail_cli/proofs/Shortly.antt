@@ -1,5 +1,5 @@
 -- The promises in short, from those at length.
-use Rattle.std.proofs.Common.{◌≡◌, ℕ, ◌≤◌, Bool, true, false, List, [], ◌∷◌, length, map, nat_lt, nat_le, if◌then◌else◌, Option, Some, Result, Ok, Err, ◌⊎◌, inl, inr, ⊎_elim, refl, ap, sym, ◌∙◌, arith}
+use Rattle.std.proofs.Common.{◌≡◌, ℕ, ◌≤◌, Bool, true, false, List, [], ◌∷◌, length, map, nat_lt, nat_le, if◌then◌else◌, Option, Some, Result, Ok, Err, inl, inr, ⊎_elim, refl, ap, sym, ◌∙◌, arith}
 use Rattle.std.proofs.lemmas.Bool.Decides.{nat_tests}
 use Rattle.design_table.specs.declared.fault.Code.{Code}
 use Rattle.design_table.specs.declared.fault.Code.TheVariants.{D12, D13}
@@ -23,7 +23,7 @@ use Rattle.rail_cli.specs.declared.input.InputFile.{InputFile}
 use Rattle.rail_cli.specs.declared.input.InputFile.TheVariants as file
 use Rattle.rail_cli.specs.declared.status.Status.{Status}
 use Rattle.rail_cli.specs.declared.status.Status.TheVariants.{Done, No, PlanRefused}
-use Rattle.rail_cli.specs.Answers.{ReplySeen, one_line, within_limit, with_routes, edge_place, design_or_answer, and_then, design_in, plan_or_answer, plan_in, planned, unless_refused, verdict_reply, with_proof, searched_in, base_kind_of, answer_to, answer_of}
+use Rattle.rail_cli.specs.Answers.{ReplySeen, one_line, within_limit, with_routes, edge_place, design_or_answer, and_then, design_in, plan_or_answer, plan_in, planned, unless_refused, verdict_reply, with_proof, searched_in, aim_of, answer_to, answer_of}
 use Rattle.rail_cli.specs.Checks.{Checks, ReportsInfeasible}
 use Rattle.rail_cli.specs.Prints.{Prints}
 use Rattle.rail_cli.specs.Searches.{Finds, Searches, ReportsNone, ReportsPlan}
@@ -167,19 +167,20 @@ module _ (files : Files) (words : List (List ℕ)) (t : Status) (text new_text :
       }
 
   module _ (n : ℕ) (design proof : List ℕ) (line : VerifyLine words n design proof) where
-    asked_here : request_of words ≡ Some (verify n line.conflicts line.ticks line.bounds design proof)
+    asked_here : request_of words ≡ Some (verify n line.conflicts line.ticks line.mode design proof)
     asked_here = verify_asked words n design proof line
 
-    read_here : IsVerdict t → Read (files design) (λ d. searched_in (base_kind_of line.bounds) d n line.conflicts line.ticks answer.0)
+    read_here : IsVerdict t → Read (files design) (λ d. searched_in (aim_of line.mode) d n line.conflicts line.ticks answer.0)
     read_here v =
         let (found, finds, prints) = answer in
-        let status : is_verdict (answer_to files found (Some (verify n line.conflicts line.ticks line.bounds design proof))).status ≡ true = ap (λ a. is_verdict (answer_to files found a).status) (sym asked_here) ∙ (ap is_verdict (sym (prints.status (verdict_answered t v))) ∙ verdict_so t v) in
-        reads (files design) (λ d. searched_in (base_kind_of line.bounds) d n line.conflicts line.ticks found) status
+        let status : is_verdict (answer_to files found (Some (verify n line.conflicts line.ticks line.mode design proof))).status ≡ true = ap (λ a. is_verdict (answer_to files found a).status) (sym asked_here) ∙ (ap is_verdict (sym (prints.status (verdict_answered t v))) ∙ verdict_so t v) in
+        reads (files design) (λ d. searched_in (aim_of line.mode) d n line.conflicts line.ticks found) status
 
     search_here : (d : Station) → design_of (files design) ≡ Ok d → Searches files words n d
-    search_here d is = record { conflicts = line.conflicts; ticks = line.ticks; bounds = line.bounds; design_name = design; proof_name = proof; asked = asked_here; parses_design = is }
+    search_here d is = record { conflicts = line.conflicts; ticks = line.ticks; mode = line.mode; design_name = design; proof_name = proof; asked = asked_here; parses_design = is }
 
-    pub found : ((d : Station) → Searches files words n d → t ≡ Done → ReportsPlan n d text new_text) → t ≡ Done → Found (files design) n text new_text
+    pub found : ((d : Station) (s : Searches files words n d) → t ≡ Done → ReportsPlan s.mode n d text new_text) → t ≡ Done → Found line.mode (files design) n text new_text
+    unfolding search_here
     found finds done =
         let r = read_here (inl done) in
         let reports = finds r.design (search_here r.design r.is) done in

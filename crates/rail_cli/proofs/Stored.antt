@@ -1,11 +1,13 @@
 -- Checks of proofs that a search has stored.
-use Rattle.std.proofs.Common.{◌≡◌, ◌≢◌, Bool, true, false, ℕ, List, Some, bytes_eq, refl, ap, sym, ◌∙◌}
+use Rattle.std.proofs.Common.{◌≡◌, ◌≢◌, true, ℕ, List, Some, bytes_eq, refl, ap, sym, ◌∙◌}
 use Rattle.std.proofs.lemmas.Bool.{false_from_ne_true}
 use Rattle.std.proofs.lemmas.Slice.Eq.{bytes_eq-Decides}
 use Rattle.rail_outside.specs.Files.{Files, updated}
+use Rattle.rail_words.specs.declared.request.SearchMode.{SearchMode}
+use Rattle.rail_words.specs.declared.request.SearchMode.TheVariants.{Plain, Bounds, Any}
 use Rattle.rail_words.specs.Laws.{is_plain}
 use Rattle.rail_words.specs.Requests.{verify, request_of, steps_of, conflicts_of, ticks_of}
-use Rattle.rail_words.proofs.Taken.{verify_read, bounds_read, check_read}
+use Rattle.rail_words.proofs.Taken.{verify_read, bounds_read, any_read, check_read}
 use Rattle.rail_cli.specs.Answers.{check_reply, answer_to}
 use Rattle.rail_cli.specs.Passes.{StoredProofsPass, VerifyPassesCheck, verify_words}
 use Rattle.rail_cli.specs.Searches.{Searches}
@@ -27,14 +29,15 @@ passes_asked files left design proof n d old new tells differ found words asked 
     ∙ (ap (λ (bytes : List ℕ). check_reply n bytes (left proof)) (ap (λ (f : Files). f design) now ∙ stored_apart files proof log.log design differ)
     ∙ (ap (check_reply n (files design)) (ap (λ (f : Files). f proof) now ∙ stored_there files proof log.log) ∙ tells.passes))
 
--- the words of `verify`, without the flag or with it, ask for just what they say
-verify_asked : (bounds : Bool) (program steps conflicts ticks design proof : List ℕ) (n c t : ℕ) → steps_of steps ≡ Some n → conflicts_of conflicts ≡ Some c → ticks_of ticks ≡ Some t
-    → is_plain design ≡ true → is_plain proof ≡ true → request_of (verify_words program steps conflicts ticks bounds design proof) ≡ Some (verify n c t bounds design proof)
-verify_asked false = verify_read
-verify_asked true = bounds_read
+-- the words of `verify`, with whatever flags, ask for just what they say
+verify_asked : (mode : SearchMode) (program steps conflicts ticks design proof : List ℕ) (n c t : ℕ) → steps_of steps ≡ Some n → conflicts_of conflicts ≡ Some c → ticks_of ticks ≡ Some t
+    → is_plain design ≡ true → is_plain proof ≡ true → request_of (verify_words program steps conflicts ticks mode design proof) ≡ Some (verify n c t mode design proof)
+verify_asked Plain = verify_read
+verify_asked Bounds = bounds_read
+verify_asked Any = any_read
 
 pub passes_words : VerifyPassesCheck
-passes_words files left program steps conflicts ticks design proof bounds n c t d old new n_is c_is t_is plain_design plain_proof differ spells tells found =
-    let asked = verify_asked bounds program steps conflicts ticks design proof n c t n_is c_is t_is plain_design plain_proof in
-    let search : Searches files (verify_words program steps conflicts ticks bounds design proof) n d = record { conflicts = c; ticks = t; bounds = bounds; design_name = design; proof_name = proof; asked = asked; parses_design = spells } in
+passes_words files left program steps conflicts ticks design proof mode n c t d old new n_is c_is t_is plain_design plain_proof differ spells tells found =
+    let asked = verify_asked mode program steps conflicts ticks design proof n c t n_is c_is t_is plain_design plain_proof in
+    let search : Searches files (verify_words program steps conflicts ticks mode design proof) n d = record { conflicts = c; ticks = t; mode = mode; design_name = design; proof_name = proof; asked = asked; parses_design = spells } in
     passes_asked files left design proof n d old new (tells search) differ found _ (check_read program steps design proof n n_is plain_design plain_proof)

@@ -13,6 +13,7 @@ use Rattle.rail_spec.specs.Requirements.{cost, path_violation, violation_at}
 use Rattle.rail_spec.specs.Track.{routes_of}
 use Rattle.clause_spec.specs.Clauses.{base_clauses, past_limit}
 use Rattle.clause_spec.specs.declared.question.BaseKind.TheVariants.{Plain}
+use Rattle.rail_words.specs.declared.request.SearchMode.TheVariants as by
 use Rattle.rail_words.specs.Requests.{RequestSeen, simulate, routes, verify, check, trial, IsRequestInRange}
 use Rattle.verify_loop.specs.declared.outcome.Budgets.{Budgets}
 use Rattle.verify_loop.specs.declared.outcome.Outcome.{Outcome}
@@ -25,7 +26,7 @@ use Rattle.rail_cli.specs.declared.reply.Reply.{Reply}
 use Rattle.rail_cli.specs.declared.ending.Ending.{Ending}
 use Rattle.rail_cli.specs.declared.ending.Ending.TheVariants as ending
 use Rattle.rail_cli.specs.Statuses.{is_answered, is_verdict}
-use Rattle.rail_cli.specs.Answers.{ReplySeen, with_routes, design_or_answer, with_clauses, unless_refused, verdict_status, trial_conflicts, trial_ticks, reply_for_trial, tried_in, tried}
+use Rattle.rail_cli.specs.Answers.{aim_of, ReplySeen, with_routes, design_or_answer, with_clauses, unless_refused, verdict_status, trial_conflicts, trial_ticks, reply_for_trial, tried_in, tried}
 use Rattle.rail_cli.specs.Shows.{verdict_at_horizon}
 use Rattle.rail_cli.specs.Replies.{reply_seen, deciding_tick, ReadsOrEnds, Replies, RepliesTrial, Tries}
 use Rattle.rail_cli.specs.Searches.{budgets_of, EndsTrial}
@@ -77,12 +78,12 @@ module _ (seed size : ℕ) where
 
   -- the search came to its end
   pub listed_so : {X : Type 0} (view : X → Station) (d : Station) (x : X) (reply : Reply) → d ≡ made seed size → view x ≡ d → ReadsOrEnds view (Ok x) (design_or_answer (with_routes d))
-      → (found : Outcome) × IsOutcome Plain d (2 * size) trial_budgets found × Fits Plain d (2 * size) found × (reply_seen reply ≡ reply_for_trial seed size d found)
+      → (found : Outcome) × IsOutcome (aim_of by.Plain) d (2 * size) trial_budgets found × Fits (aim_of by.Plain) d (2 * size) found × (reply_seen reply ≡ reply_for_trial seed size d found)
       → RepliesTrial (Ok reply) seed size
   listed_so view d x reply same is reads h =
       let found = h.0 in
-      let ends : IsOutcome Plain (made seed size) (2 * size) trial_budgets found × Fits Plain (made seed size) (2 * size) found = subst (λ (e : Station). IsOutcome Plain e (2 * size) trial_budgets found × Fits Plain e (2 * size) found) same (h.1, h.2) in
-      let few : tried_in seed size d found ≡ reply_seen reply = reply_unless_many Plain d (2 * size) trial_budgets (reply_for_trial seed size d) (λ literals. refl) refl (Ok reply) found h.1 h.2 (sym h.3) in
+      let ends : IsOutcome (aim_of by.Plain) (made seed size) (2 * size) trial_budgets found × Fits (aim_of by.Plain) (made seed size) (2 * size) found = subst (λ (e : Station). IsOutcome (aim_of by.Plain) e (2 * size) trial_budgets found × Fits (aim_of by.Plain) e (2 * size) found) same (h.1, h.2) in
+      let few : tried_in seed size d found ≡ reply_seen reply = reply_unless_many (aim_of by.Plain) d (2 * size) trial_budgets (reply_for_trial seed size d) (λ literals. refl) refl (Ok reply) found h.1 h.2 (sym h.3) in
       let here : of_station d found ≡ reply_seen reply = answered_next (design_or_answer (with_routes d)) d (λ e. tried_in seed size e found) (reads ∙ ap (λ (e : Station). Ok e) is) ∙ few in
       (found, ends, subst (λ (e : Station). of_station e found ≡ reply_seen reply) same here)
 
@@ -105,7 +106,7 @@ no_memory : (asked : Option RequestSeen) → Tries asked (Err ending.Memory)
 no_memory None = tt
 no_memory (Some (simulate design plan)) = tt
 no_memory (Some (routes design)) = tt
-no_memory (Some (verify n conflicts ticks bounds design proof)) = tt
+no_memory (Some (verify n conflicts ticks mode design proof)) = tt
 no_memory (Some (check n design proof)) = tt
 no_memory (Some (trial seed size)) = (outcome.Memory, (tt, tt), tt)
 

@@ -8,6 +8,7 @@ use Rattle.log_checker.specs.declared.check_result.CheckResult.TheVariants.{Yes,
 use Rattle.clause_spec.specs.Clauses.{literals, past_limit}
 use Rattle.clause_spec.specs.declared.question.BaseKind.{BaseKind}
 use Rattle.clause_spec.specs.declared.question.BaseKind.TheVariants.{Plain}
+use Rattle.rail_words.specs.declared.request.SearchMode.TheVariants as by
 use Rattle.proof_judge.specs.Judged.{judged}
 use Rattle.rail_base.specs.declared.history.Verdict.{Verdict}
 use Rattle.rail_base.specs.declared.history.Verdict.TheVariants as verdict
@@ -17,14 +18,17 @@ use Rattle.rail_words.specs.Requests.{RequestSeen, simulate, routes, verify, che
 use Rattle.verify_loop.specs.declared.outcome.Budgets.{Budgets}
 use Rattle.verify_loop.specs.declared.outcome.Outcome.{Outcome}
 use Rattle.verify_loop.specs.declared.outcome.Outcome.TheVariants as outcome
-use Rattle.verify_loop.specs.Outcomes.{IsOutcome, Fits, first_clauses}
+use Rattle.alike_clause_spec.specs.Sorted.{clauses_of}
+use Rattle.verify_loop.specs.declared.outcome.Aim.{Aim}
+use Rattle.rail_spec.specs.Track.{routes_of}
+use Rattle.verify_loop.specs.Outcomes.{IsOutcome, Fits}
 use Rattle.workload.specs.Made.{made}
 use Rattle.rail_cli.specs.declared.status.Status.{Status}
 use Rattle.rail_cli.specs.declared.status.Status.TheVariants as statuses
 use Rattle.rail_cli.specs.declared.input.InputFile.TheVariants as file
 use Rattle.rail_cli.specs.Statuses.{is_answered}
 use Rattle.rail_cli.specs.Texts.{limit_of}
-use Rattle.rail_cli.specs.Answers.{ReplySeen, within_limit, with_routes, design_or_answer, design_in, plan_or_answer, plan_in, verdict_reply, verdict_status, simulation_reply, routes_answer, routes_reply, with_clauses, reply_for, checked_against, with_proof, check_reply, reply_for_outcome, base_kind_of, search_reply, trial_conflicts, trial_ticks, reply_for_trial, tried_in, tried, unless_refused, answer_to, answer_of}
+use Rattle.rail_cli.specs.Answers.{ReplySeen, within_limit, with_routes, design_or_answer, design_in, plan_or_answer, plan_in, verdict_reply, verdict_status, simulation_reply, routes_answer, routes_reply, with_clauses, reply_for, checked_against, with_proof, check_reply, reply_for_outcome, aim_of, search_reply, trial_conflicts, trial_ticks, reply_for_trial, tried_in, tried, unless_refused, answer_to, answer_of}
 use Rattle.rail_cli.specs.Shows.{verdict_at_horizon}
 use Rattle.rail_cli.specs.Searches.{budgets_of, Finds}
 use Rattle.rail_cli.specs.Prints.{Prints}
@@ -42,8 +46,8 @@ within limit sum (c ∷ cs) few =
     let all : literals (c ∷ cs) ≡ length c + literals cs = sum_by-cons length c cs in
     rw (le-ltb limit (sum + length c) (omega arith)) (within limit (sum + length c) cs (omega arith))
 
-few_fit : (m : BaseKind) (d : Station) (n : ℕ) → HasFewClauses m d n → past_limit 16000000 0 (first_clauses m d n) ≡ None
-few_fit m d n few = within 16000000 0 (first_clauses m d n) (omega arith)
+few_fit : (m : BaseKind) (d : Station) (n : ℕ) → HasFewClauses m d n → past_limit 16000000 0 (clauses_of m d (routes_of d) n) ≡ None
+few_fit m d n few = within 16000000 0 (clauses_of m d (routes_of d) n) (omega arith)
 
 few_pass : (m : BaseKind) (d : Station) (n : ℕ) → HasFewClauses m d n → with_clauses m n d ≡ Ok d
 few_pass m d n few = small_passes m n d (few_fit m d n few)
@@ -68,9 +72,9 @@ module _ (bytes : List ℕ) (d : Station) (s : IsDesignText bytes d) where
   listed_so : routes_reply bytes ≡ routes_answer d
   listed_so = answered_next (within_limit file.Design bytes) bytes (λ text. unless_refused (design_in text) routes_answer) fits ∙ answered_next (design_in bytes) d routes_answer reads
 
-  searched_so : (m : BaseKind) (n conflicts ticks : ℕ) (found : Outcome) → HasFewClauses m d n → search_reply m n conflicts ticks bytes found ≡ reply_for_outcome d n conflicts ticks found
+  searched_so : (m : Aim) (n conflicts ticks : ℕ) (found : Outcome) → HasFewClauses m.base d n → search_reply m n conflicts ticks bytes found ≡ reply_for_outcome d n conflicts ticks found
   searched_so m n conflicts ticks found few =
-      read_so m n conflicts ticks bytes found bytes fits d reads ∙ answered_next (with_clauses m n d) d (λ same. reply_for_outcome d n conflicts ticks found) (few_pass m d n few)
+      read_so m n conflicts ticks bytes found bytes fits d reads ∙ answered_next (with_clauses m.base n d) d (λ same. reply_for_outcome d n conflicts ticks found) (few_pass m.base d n few)
 
   pub checked_so : (n : ℕ) (proof_bytes : List ℕ) → HasFewClauses Plain d n → length proof_bytes ≤ limit_of file.Proof → check_reply n bytes proof_bytes ≡ reply_for (judged d n proof_bytes)
   checked_so n proof_bytes few short =
@@ -124,18 +128,18 @@ trial_status seed size d (outcome.TooLarge literals) = refl
 trial_status seed size d outcome.Memory = refl
 
 -- a search with few clauses ends with a verdict or a budget spent, unless memory was wanting
-module _ (m : BaseKind) (d : Station) (n : ℕ) (b : Budgets) (few : HasFewClauses m d n) (s : Status) (answered : is_answered s ≡ true) where
+module _ (m : Aim) (d : Station) (n : ℕ) (b : Budgets) (few : HasFewClauses m.base d n) (s : Status) (answered : is_answered s ≡ true) where
   ends_so : (found : Outcome) → IsOutcome m d n b found × Fits m d n found → s ≡ status_of found → IsVerdict s ⊎ SpendsBudget m d n b s
   ends_so (outcome.Plan plan verdict) ends is = inl (inl is)
   ends_so (outcome.Infeasible log) ends is = inl (inr is)
   ends_so (outcome.ConflictsSpent log clause hints) ends is = inr (record { found = outcome.ConflictsSpent log clause hints; spent = is; says = ends.0; fits = ends.1 })
   ends_so (outcome.TicksSpent failed sum at_hand) ends is = inr (record { found = outcome.TicksSpent failed sum at_hand; spent = is; says = ends.0; fits = ends.1 })
   ends_so (outcome.LogSpent log bytes next) ends is = inr (record { found = outcome.LogSpent log bytes next; spent = is; says = ends.0; fits = ends.1 })
-  ends_so (outcome.TooLarge k) ends is = (let many = ends.0 in let none = few_fit m d n few in absurd (cc))
+  ends_so (outcome.TooLarge k) ends is = (let many = ends.0 in let none = few_fit m.base d n few in absurd (cc))
   ends_so outcome.Memory ends is = (let kind : is_answered s ≡ is_answered statuses.Memory = ap is_answered is in absurd (cc))
 
 -- of a design that is spelled
-spent_in : (m : BaseKind) (d : Station) (bytes : List ℕ) (n : ℕ) (b : Budgets) (s : Status) → design_of bytes ≡ Ok d → IsVerdict s ⊎ SpendsBudget m d n b s → IsVerdict s ⊎ ((e : Station) × (design_of bytes ≡ Ok e) × SpendsBudget m e n b s)
+spent_in : (m : Aim) (d : Station) (bytes : List ℕ) (n : ℕ) (b : Budgets) (s : Status) → design_of bytes ≡ Ok d → IsVerdict s ⊎ SpendsBudget m d n b s → IsVerdict s ⊎ ((e : Station) × (design_of bytes ≡ Ok e) × SpendsBudget m e n b s)
 spent_in m d bytes n b s spells (inl verdict) = inl verdict
 spent_in m d bytes n b s spells (inr spent) = inr (d, spells, spent)
 
@@ -149,13 +153,13 @@ comes_so files None found s finds is u answered = absurd u
 comes_so files (Some (simulate design plan)) found s finds is u answered =
     subst IsVerdict (sym (status_so _ _ s is (simulated_so (files design) u.0 u.1 (files plan) u.2))) (shown_verdict (verdict_at_horizon u.0 u.2.plan))
 comes_so files (Some (routes design)) found s finds is u answered = status_so _ _ s is (listed_so (files design) u.0 u.1)
-comes_so files (Some (verify n conflicts ticks bounds design proof)) found s finds is u answered =
-    spent_in (base_kind_of bounds) u.0 (files design) n (budgets_of conflicts ticks) s u.1.parses
-    (ends_so (base_kind_of bounds) u.0 n (budgets_of conflicts ticks) u.2 s answered found (finds u.0 (reads (files design) u.0 u.1)) (status_so _ _ s is (searched_so (files design) u.0 u.1 (base_kind_of bounds) n conflicts ticks found u.2) ∙ search_status u.0 n conflicts ticks found))
+comes_so files (Some (verify n conflicts ticks mode design proof)) found s finds is u answered =
+    spent_in (aim_of mode) u.0 (files design) n (budgets_of conflicts ticks) s u.1.parses
+    (ends_so (aim_of mode) u.0 n (budgets_of conflicts ticks) u.2 s answered found (finds u.0 (reads (files design) u.0 u.1)) (status_so _ _ s is (searched_so (files design) u.0 u.1 (aim_of mode) n conflicts ticks found u.2) ∙ search_status u.0 n conflicts ticks found))
 comes_so files (Some (check n design proof)) found s finds is u answered =
     subst IsVerdict (sym (status_so _ _ s is (checked_so (files design) u.0 u.1 n (files proof) u.2 u.3))) (told_verdict (judged u.0 n (files proof)))
 comes_so files (Some (trial seed size)) found s finds is u answered =
-    ends_so Plain (made seed size) (2 * size) (budgets_of trial_conflicts trial_ticks) u.1 s answered found finds (status_so _ _ s is (tried_so seed size found u.0 u.1) ∙ trial_status seed size (made seed size) found)
+    ends_so (aim_of by.Plain) (made seed size) (2 * size) (budgets_of trial_conflicts trial_ticks) u.1 s answered found finds (status_so _ _ s is (tried_so seed size found u.0 u.1) ∙ trial_status seed size (made seed size) found)
 
 module _ (files : Files) (words : List (List ℕ)) (s : Status) (text new_text : Option (List ℕ)) (pieces new_pieces : Option (List (List ℕ))) where
   -- the answer was printed

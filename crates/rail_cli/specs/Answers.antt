@@ -1,5 +1,5 @@
 -- The answer to the words of a command line, for the files that are held.
-use Rattle.std.specs.Prelude.{ℕ, ◌*◌, Bool, List, [], ◌∷◌, length, map, nat_lt, nat_le, if◌then◌else◌}
+use Rattle.std.specs.Prelude.{ℕ, ◌*◌, List, [], ◌∷◌, length, map, nat_lt, nat_le, if◌then◌else◌}
 use Rattle.std.specs.Prelude.{Option, None, Some, Result, Ok, Err}
 use Rattle.design_table.specs.declared.fault.Code.{Code}
 use Rattle.design_table.specs.declared.fault.Code.TheVariants.{D12, D13}
@@ -26,7 +26,11 @@ use Rattle.rail_spec.specs.Track.{routes_of, all_walks, edges_met_again}
 use Rattle.rail_spec.specs.Requirements.{cost}
 use Rattle.rail_words.specs.Requests.{RequestSeen, simulate, routes, verify, check, trial, request_of}
 use Rattle.timetable.specs.Timetable.{timetable_of}
-use Rattle.verify_loop.specs.Outcomes.{first_clauses}
+use Rattle.alike_clause_spec.specs.Sorted.{clauses_of}
+use Rattle.verify_loop.specs.declared.outcome.Aim.{Aim}
+use Rattle.verify_loop.specs.declared.outcome.Wanted.TheVariants.{Fewest, Any}
+use Rattle.rail_words.specs.declared.request.SearchMode.{SearchMode}
+use Rattle.rail_words.specs.declared.request.SearchMode.TheVariants as by
 use Rattle.verify_loop.specs.declared.outcome.Outcome.{Outcome}
 use Rattle.verify_loop.specs.declared.outcome.Outcome.TheVariants as outcome
 use Rattle.workload.specs.Made.{made}
@@ -137,7 +141,7 @@ unless_too_large d (Some literals) = Err (one_line status.DesignRefused too_larg
 
 -- a design of which the clauses that a search by the base begins with have at most 16,000,000 literals
 abbrev pub with_clauses : BaseKind → ℕ → Station → Result Station ReplySeen
-with_clauses m n d = unless_too_large d (past_limit 16000000 0 (first_clauses m d n))
+with_clauses kind n d = unless_too_large d (past_limit 16000000 0 (clauses_of kind d (routes_of d) n))
 
 -- what a proof file shows
 abbrev pub reply_for : CheckResult → ReplySeen
@@ -182,16 +186,18 @@ reply_for_outcome d n conflicts ticks (outcome.TooLarge literals) = one_line sta
 reply_for_outcome d n conflicts ticks outcome.Memory = record { status = status.Memory; lines = [] }
 
 -- the answer to a search in a design by a base, by what it ended with
-abbrev pub searched_in : BaseKind → Station → ℕ → ℕ → ℕ → Outcome → ReplySeen
+abbrev pub searched_in : Aim → Station → ℕ → ℕ → ℕ → Outcome → ReplySeen
 searched_in m d n conflicts ticks found =
-    unless_refused (with_clauses m n d) (λ same. reply_for_outcome d n conflicts ticks found)
+    unless_refused (with_clauses m.base n d) (λ same. reply_for_outcome d n conflicts ticks found)
 
--- plans that fail are excluded by bounds where these are asked for
-abbrev pub base_kind_of : Bool → BaseKind
-base_kind_of bounds = if bounds then Sorted else Plain
+-- what is looked for, and by which clauses
+abbrev pub aim_of : SearchMode → Aim
+aim_of by.Plain = record { base = Plain; wanted = Fewest }
+aim_of by.Bounds = record { base = Sorted; wanted = Fewest }
+aim_of by.Any = record { base = Sorted; wanted = Any }
 
 -- the answer to a search, for the bytes of the design, by what it ended with
-abbrev pub search_reply : BaseKind → ℕ → ℕ → ℕ → List ℕ → Outcome → ReplySeen
+abbrev pub search_reply : Aim → ℕ → ℕ → ℕ → List ℕ → Outcome → ReplySeen
 search_reply m n conflicts ticks design_bytes found =
     unless_refused (within_limit file.Design design_bytes) (λ design_text.
     unless_refused (design_in design_text) (λ d.
@@ -237,8 +243,8 @@ abbrev pub answer_to : Files → Outcome → Option RequestSeen → ReplySeen
 answer_to files found None = one_line status.Usage usage_line
 answer_to files found (Some (simulate design plan)) = simulation_reply (files design) (files plan)
 answer_to files found (Some (routes design)) = routes_reply (files design)
-answer_to files found (Some (verify n conflicts ticks bounds design proof)) =
-    search_reply (base_kind_of bounds) n conflicts ticks (files design) found
+answer_to files found (Some (verify n conflicts ticks mode design proof)) =
+    search_reply (aim_of mode) n conflicts ticks (files design) found
 answer_to files found (Some (check n design proof)) = check_reply n (files design) (files proof)
 answer_to files found (Some (trial seed size)) = tried seed size found
 
@@ -247,8 +253,8 @@ abbrev pub answer_given : List ℕ → List ℕ → Outcome → Option RequestSe
 answer_given design_bytes other_bytes found None = one_line status.Usage usage_line
 answer_given design_bytes other_bytes found (Some (simulate design plan)) = simulation_reply design_bytes other_bytes
 answer_given design_bytes other_bytes found (Some (routes design)) = routes_reply design_bytes
-answer_given design_bytes other_bytes found (Some (verify n conflicts ticks bounds design proof)) =
-    search_reply (base_kind_of bounds) n conflicts ticks design_bytes found
+answer_given design_bytes other_bytes found (Some (verify n conflicts ticks mode design proof)) =
+    search_reply (aim_of mode) n conflicts ticks design_bytes found
 answer_given design_bytes other_bytes found (Some (check n design proof)) = check_reply n design_bytes other_bytes
 answer_given design_bytes other_bytes found (Some (trial seed size)) = tried seed size found
 
@@ -263,7 +269,7 @@ abbrev pub asks_to : Option RequestSeen → List Ask
 asks_to None = []
 asks_to (Some (simulate design plan)) = fetched design ∷ fetched plan ∷ []
 asks_to (Some (routes design)) = fetched design ∷ []
-asks_to (Some (verify n conflicts ticks bounds design proof)) = fetched design ∷ stored proof ∷ []
+asks_to (Some (verify n conflicts ticks mode design proof)) = fetched design ∷ stored proof ∷ []
 asks_to (Some (check n design proof)) = fetched design ∷ fetched proof ∷ []
 asks_to (Some (trial seed size)) = []
 

@@ -1,8 +1,10 @@
 -- A proof that a search has stored passes a check.
-use Rattle.std.specs.Prelude.{◌≡◌, ◌≢◌, Bool, true, false, ℕ, List, [], ◌∷◌, ◌++◌, codes, Option, Some, Ok}
+use Rattle.std.specs.Prelude.{◌≡◌, ◌≢◌, true, ℕ, List, [], ◌∷◌, ◌++◌, codes, Option, Some, Ok}
 use Rattle.infra_reader.specs.Design.{design_of}
 use Rattle.rail_base.specs.declared.station.Station.{Station}
 use Rattle.rail_outside.specs.Files.{Files}
+use Rattle.rail_spelling.specs.Lines.{flags_of}
+use Rattle.rail_words.specs.declared.request.SearchMode.{SearchMode}
 use Rattle.rail_words.specs.Laws.{is_plain}
 use Rattle.rail_words.specs.Requests.{check, request_of, steps_of, conflicts_of, ticks_of}
 use Rattle.verify_loop.specs.declared.outcome.Outcome.{Outcome}
@@ -22,28 +24,23 @@ StoredProofsPass = (files left : Files) (design proof : List ℕ) (n : ℕ) (d :
     → (found : Outcome) (words : List (List ℕ)) → request_of words ≡ Some (check n design proof)
     → Passes left found n words
 
--- the flag `--bounds`, where bounds are asked for
-abbrev pub bounds_flag : Bool → List (List ℕ)
-bounds_flag true = codes "--bounds" ∷ []
-bounds_flag false = []
-
--- `verify --steps N --conflicts C --ticks T [--bounds] DESIGN PROOF`, after the program's name
-abbrev pub verify_words : List ℕ → List ℕ → List ℕ → List ℕ → Bool → List ℕ → List ℕ → List (List ℕ)
-verify_words program steps conflicts ticks bounds design proof =
+-- `verify --steps N --conflicts C --ticks T [--bounds [--any]] DESIGN PROOF`, after the program's name
+abbrev pub verify_words : List ℕ → List ℕ → List ℕ → List ℕ → SearchMode → List ℕ → List ℕ → List (List ℕ)
+verify_words program steps conflicts ticks mode design proof =
     program ∷ codes "verify" ∷ codes "--steps" ∷ steps ∷ codes "--conflicts" ∷ conflicts
-    ∷ codes "--ticks" ∷ ticks ∷ (bounds_flag bounds ++ design ∷ proof ∷ [])
+    ∷ codes "--ticks" ∷ ticks ∷ (flags_of mode ++ design ∷ proof ∷ [])
 
 -- `check --steps N DESIGN PROOF`, after the program's name
 abbrev pub check_words : List ℕ → List ℕ → List ℕ → List ℕ → List (List ℕ)
 check_words program steps design proof = program ∷ codes "check" ∷ codes "--steps" ∷ steps ∷ design ∷ proof ∷ []
 
--- where the words of `verify`, without the flag or with it, have said that there is no plan and have left these files, the words of `check` with the same N, DESIGN and PROOF pass; the numbers are in range, and the names differ and are plain
+-- where the words of `verify`, with whatever flags, have said that there is no plan and have left these files, the words of `check` with the same N, DESIGN and PROOF pass; the numbers are in range, and the names differ and are plain
 abbrev pub VerifyPassesCheck : Type 0
 VerifyPassesCheck =
-    (files left : Files) (program steps conflicts ticks design proof : List ℕ) (bounds : Bool) (n c t : ℕ) (d : Station)
+    (files left : Files) (program steps conflicts ticks design proof : List ℕ) (mode : SearchMode) (n c t : ℕ) (d : Station)
     → (old new : Option (List ℕ))
     → steps_of steps ≡ Some n → conflicts_of conflicts ≡ Some c → ticks_of ticks ≡ Some t
     → is_plain design ≡ true → is_plain proof ≡ true → design ≢ proof → design_of (files design) ≡ Ok d
-    → ((s : Searches files (verify_words program steps conflicts ticks bounds design proof) n d)
+    → ((s : Searches files (verify_words program steps conflicts ticks mode design proof) n d)
     → ReportsNone files s.design_name s.proof_name n d old new (Some left))
     → (found : Outcome) → Passes left found n (check_words program steps design proof)

@@ -10,7 +10,7 @@ use Rattle.rail_outside.specs.Lines.{lines_of}
 use Rattle.rail_spec.specs.Feasible.{IsFeasible}
 use Rattle.rail_outside.specs.Files.{Files, updated}
 use Rattle.rail_words.specs.Requests.{RequestSeen, simulate, routes, verify, check, trial}
-use Rattle.clause_spec.specs.declared.question.BaseKind.{BaseKind}
+use Rattle.verify_loop.specs.declared.outcome.Aim.{Aim}
 use Rattle.verify_loop.specs.declared.outcome.Outcome.{Outcome}
 use Rattle.verify_loop.specs.declared.outcome.Outcome.TheVariants as outcome
 use Rattle.verify_loop.specs.Outcomes.{IsOutcome, Fits}
@@ -20,7 +20,7 @@ use Rattle.rail_cli.specs.declared.reply.Reply.{Reply}
 use Rattle.rail_cli.specs.declared.ending.Ending.{Ending}
 use Rattle.rail_cli.specs.declared.ending.Ending.TheVariants as ending
 use Rattle.rail_cli.specs.Statuses.{is_refusal}
-use Rattle.rail_cli.specs.Answers.{ReplySeen, design_in, plan_in, base_kind_of, tried, answer_to, answer_given}
+use Rattle.rail_cli.specs.Answers.{ReplySeen, design_in, plan_in, aim_of, tried, answer_to, answer_given}
 use Rattle.rail_cli.specs.Simulations.{RunsSafely}
 use Rattle.rail_cli.specs.Searches.{budgets_of, EndsTrial, FindsGiven}
 
@@ -109,14 +109,14 @@ abbrev pub DecidesRequest : Files → RequestSeen → Result Reply Ending → Ty
 DecidesRequest files (simulate design plan) result =
     IfOk result (λ reply. Decides (files design) (files plan) reply.status)
 DecidesRequest files (routes design) result = Unit {0}
-DecidesRequest files (verify n conflicts ticks bounds design proof) result = Unit {0}
+DecidesRequest files (verify n conflicts ticks mode design proof) result = Unit {0}
 DecidesRequest files (check n design proof) result = Unit {0}
 DecidesRequest files (trial seed size) result = Unit {0}
 
 -- ---- searches
 
 -- the file spells an admitted design, of which the outcome says what it is to say
-pub record EndsIn (files : Files) (m : BaseKind) (n conflicts ticks : ℕ) (design_name : List ℕ) (found : Outcome)
+pub record EndsIn (files : Files) (m : Aim) (n conflicts ticks : ℕ) (design_name : List ℕ) (found : Outcome)
     : Type 0 where
   pub design : Design
   pub parsed : design_in (files design_name) ≡ Ok design.station
@@ -125,8 +125,8 @@ pub record EndsIn (files : Files) (m : BaseKind) (n conflicts ticks : ℕ) (desi
 
 -- where a search is asked for, it ends so, or for want of memory; a trial too
 abbrev pub EndsWith : Files → Option RequestSeen → Outcome → Type 0
-EndsWith files (Some (verify n conflicts ticks bounds design proof)) found =
-    (found ≡ outcome.Memory) ⊎ EndsIn files (base_kind_of bounds) n conflicts ticks design found
+EndsWith files (Some (verify n conflicts ticks mode design proof)) found =
+    (found ≡ outcome.Memory) ⊎ EndsIn files (aim_of mode) n conflicts ticks design found
 EndsWith files (Some (trial seed size)) found = EndsTrial seed size found
 EndsWith files _ found = Unit {0}
 

@@ -1,10 +1,11 @@
 -- Searches for a plan: what they end with, what they leave on the shelf, and what their answers say of the design.
-use Rattle.std.specs.Prelude.{◌≡◌, ◌≤◌, ◌<◌, ◌⊎◌, ℕ, ◌*◌, Bool, List, ◌∷◌, length, Option, Some, Ok}
+use Rattle.std.specs.Prelude.{◌≡◌, ◌≢◌, ◌≤◌, ◌<◌, ◌⊎◌, ℕ, ◌*◌, List, ◌∷◌, length, Option, Some, Ok}
 use Rattle.std.specs.List.{concat}
 use Rattle.infra_reader.specs.Design.{design_of}
 use Rattle.log_checker.specs.declared.check_result.CheckResult.TheVariants.{Yes}
-use Rattle.clause_spec.specs.declared.question.BaseKind.{BaseKind}
-use Rattle.clause_spec.specs.declared.question.BaseKind.TheVariants.{Plain}
+use Rattle.verify_loop.specs.declared.outcome.Aim.{Aim}
+use Rattle.rail_words.specs.declared.request.SearchMode.{SearchMode}
+use Rattle.rail_words.specs.declared.request.SearchMode.TheVariants as by
 use Rattle.proof_judge.specs.Judged.{judged}
 use Rattle.rail_base.specs.declared.plan.Command.{Command}
 use Rattle.rail_base.specs.declared.station.Station.{Station}
@@ -19,12 +20,13 @@ use Rattle.timetable.specs.Timetable.{timetable_of}
 use Rattle.verify_loop.specs.declared.outcome.Budgets.{Budgets}
 use Rattle.verify_loop.specs.declared.outcome.Outcome.{Outcome}
 use Rattle.verify_loop.specs.Outcomes.{IsOutcome, Fits}
+use Rattle.verify_loop.specs.Telling.{TellsHowFar}
 use Rattle.workload.specs.Made.{made}
 use Rattle.rail_cli.specs.declared.status.Status.{Status}
 use Rattle.rail_cli.specs.declared.status.Status.TheVariants.{Done, No, Memory, ShelfFault, SinkFault}
 use Rattle.rail_cli.specs.declared.input.InputFile.TheVariants as file
 use Rattle.rail_cli.specs.Texts.{limit_of, yes_line, infeasible_line}
-use Rattle.rail_cli.specs.Answers.{one_line, design_in, check_reply, base_kind_of, trial_conflicts, trial_ticks, reply_for_plan}
+use Rattle.rail_cli.specs.Answers.{one_line, design_in, check_reply, aim_of, trial_conflicts, trial_ticks, reply_for_plan}
 use Rattle.rail_cli.specs.Shows.{verdict_at_horizon}
 use Rattle.rail_cli.specs.Simulations.{RunsSafely}
 
@@ -37,27 +39,36 @@ budgets_of conflicts ticks = record { conflicts = conflicts; ticks = ticks; log_
 -- the outcome says what it is to say of the station that the seed and the size make, for twice as many steps as its size; want of memory says nothing
 abbrev pub EndsTrial : ℕ → ℕ → Outcome → Type 0
 EndsTrial seed size found =
-    IsOutcome Plain (made seed size) (2 * size) (budgets_of trial_conflicts trial_ticks) found
-    × Fits Plain (made seed size) (2 * size) found
+    IsOutcome (aim_of by.Plain) (made seed size) (2 * size) (budgets_of trial_conflicts trial_ticks) found
+    × Fits (aim_of by.Plain) (made seed size) (2 * size) found
 
 -- where the bytes spell a design, the outcome says what it is to say of that design and n, within the budgets
-abbrev pub EndsSearch : BaseKind → List ℕ → ℕ → ℕ → ℕ → Outcome → Type 0
+abbrev pub EndsSearch : Aim → List ℕ → ℕ → ℕ → ℕ → Outcome → Type 0
 EndsSearch m design_bytes n conflicts ticks found = (d : Station) → design_in design_bytes ≡ Ok d
     → IsOutcome m d n (budgets_of conflicts ticks) found × Fits m d n found
 
 -- a search that is asked for ends so for the design's file, and a trial for the station that is made
 abbrev pub Finds : Files → Option RequestSeen → Outcome → Type 0
-Finds files (Some (verify n conflicts ticks bounds design proof)) found =
-    EndsSearch (base_kind_of bounds) (files design) n conflicts ticks found
+Finds files (Some (verify n conflicts ticks mode design proof)) found =
+    EndsSearch (aim_of mode) (files design) n conflicts ticks found
 Finds files (Some (trial seed size)) found = EndsTrial seed size found
 Finds files _ found = Unit {0}
 
 -- the same for the bytes of the design's file
 abbrev pub FindsGiven : List ℕ → Option RequestSeen → Outcome → Type 0
-FindsGiven design_bytes (Some (verify n conflicts ticks bounds design proof)) found =
-    EndsSearch (base_kind_of bounds) design_bytes n conflicts ticks found
+FindsGiven design_bytes (Some (verify n conflicts ticks mode design proof)) found =
+    EndsSearch (aim_of mode) design_bytes n conflicts ticks found
 FindsGiven design_bytes (Some (trial seed size)) found = EndsTrial seed size found
 FindsGiven design_bytes _ found = Unit {0}
+
+-- ---- what is told meanwhile
+
+-- lines are put that tell how far the search is that is asked for, or that of a trial; else nothing is put
+abbrev pub Tells : Files → Option RequestSeen → Option (List (List ℕ)) → Option (List (List ℕ)) → Type 0
+Tells files (Some (verify n conflicts ticks mode design proof)) old new =
+    (d : Station) → design_in (files design) ≡ Ok d → TellsHowFar (aim_of mode) d n old new
+Tells files (Some (trial seed size)) old new = TellsHowFar (aim_of by.Plain) (made seed size) (2 * size) old new
+Tells files _ old new = new ≡ old
 
 -- ---- what a run leaves on the shelf
 
@@ -100,7 +111,7 @@ SearchLeaves files n design proof _ known_files = known_files ≡ Some files
 
 -- what the shelf holds after a request with this status: only a search changes it
 abbrev pub Leaves : Option RequestSeen → Status → Option Files → Option Files → Type 0
-Leaves (Some (verify n conflicts ticks bounds design proof)) s old new =
+Leaves (Some (verify n conflicts ticks mode design proof)) s old new =
     (files : Files) → old ≡ Some files → SearchLeaves files n design proof s new
 Leaves _ s old new = new ≡ old
 
@@ -110,18 +121,18 @@ Leaves _ s old new = new ≡ old
 pub record Searches (files : Files) (words : List (List ℕ)) (n : ℕ) (d : Station) : Type 0 where
   pub conflicts : ℕ
   pub ticks : ℕ
-  pub bounds : Bool
+  pub mode : SearchMode
   pub design_name : List ℕ
   pub proof_name : List ℕ
-  pub asked : request_of words ≡ Some (verify n conflicts ticks bounds design_name proof_name)
+  pub asked : request_of words ≡ Some (verify n conflicts ticks mode design_name proof_name)
   pub parses_design : design_of (files design_name) ≡ Ok d
 
--- the lines printed are `plan steps <number of steps>`, the plan and its timetable; the plan is feasible for n steps, and none of fewer steps is; and its run is safe
-pub record ReportsPlan (n : ℕ) (d : Station) (old new : Option (List ℕ)) : Type 0 where
+-- the lines printed are `plan steps <number of steps>`, the plan and its timetable; the plan is feasible for n steps, and none of fewer steps is, unless any number of them was to do; and its run is safe
+pub record ReportsPlan (mode : SearchMode) (n : ℕ) (d : Station) (old new : Option (List ℕ)) : Type 0 where
   pub plan : List (List Command)
   pub text : new ≡ grown old (concat (reply_for_plan d plan).lines)
   pub feasible : IsFeasible d n plan
-  pub fewest : (s : ℕ) → s < length plan → IsInfeasible d s
+  pub fewest : mode ≢ by.Any → (s : ℕ) → s < length plan → IsInfeasible d s
   pub met : (more : List (List ℕ)) × (timetable_of d (verdict_at_horizon d plan) ≡ met_line (cost d (routes_of d) plan) ∷ more)
   pub safe : RunsSafely d plan
 

@@ -1,10 +1,12 @@
 -- The promises in short: of plain command lines, and of files by what they spell.
-use Rattle.std.specs.Prelude.{◌≡◌, ◌⊎◌, ℕ, ◌<◌, List, ◌∷◌, length, Option}
+use Rattle.std.specs.Prelude.{◌≡◌, ◌≢◌, ◌⊎◌, ℕ, ◌<◌, List, ◌∷◌, length, Option}
 use Rattle.std.specs.List.{concat}
 use Rattle.rail_base.specs.declared.plan.Command.{Command}
 use Rattle.rail_base.specs.declared.station.Station.{Station}
 use Rattle.rail_outside.specs.Growth.{grown}
 use Rattle.rail_spec.specs.Feasible.{IsFeasible, IsInfeasible}
+use Rattle.rail_words.specs.declared.request.SearchMode.{SearchMode}
+use Rattle.rail_words.specs.declared.request.SearchMode.TheVariants.{Any}
 use Rattle.rail_spelling.specs.Designs.{Spells}
 use Rattle.rail_spelling.specs.Plans.{SpellsPlan}
 use Rattle.rail_cli.specs.declared.status.Status.{Status}
@@ -41,15 +43,15 @@ pub record Checked (design_bytes : List ℕ) (n : ℕ) (old new : Option (List �
   pub is_design : IsDesign design_bytes design
   pub reports : ReportsInfeasible n design old new
 
--- a search that ended with 0: the plan that is printed in the second line is feasible for n steps over the design in the file, none of fewer steps is, and its run is safe
-pub record Found (design_bytes : List ℕ) (n : ℕ) (old new : Option (List ℕ)) : Type 0 where
+-- a search that ended with 0: the plan that is printed in the second line is feasible for n steps over the design in the file, none of fewer steps is, unless any number of them was to do, and its run is safe
+pub record Found (mode : SearchMode) (design_bytes : List ℕ) (n : ℕ) (old new : Option (List ℕ)) : Type 0 where
   pub design : Station
   pub is_design : IsDesign design_bytes design
   pub plan : List (List Command)
   pub more : List (List ℕ)
   pub text : new ≡ grown old (concat (plan_steps_line (length plan) ∷ plan_line design plan ∷ more))
   pub feasible : IsFeasible design n plan
-  pub fewest : (s : ℕ) → s < length plan → IsInfeasible design s
+  pub fewest : mode ≢ Any → (s : ℕ) → s < length plan → IsInfeasible design s
   pub safe : RunsSafely design plan
 
 -- a search that ended with 1: no plan of n steps is feasible over the design in the file

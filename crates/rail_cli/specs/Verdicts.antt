@@ -13,13 +13,16 @@ use Rattle.rail_words.specs.Requests.{RequestSeen, simulate, routes, verify, che
 use Rattle.verify_loop.specs.declared.outcome.Budgets.{Budgets}
 use Rattle.verify_loop.specs.declared.outcome.Outcome.{Outcome}
 use Rattle.verify_loop.specs.declared.outcome.Outcome.TheVariants as outcome
-use Rattle.verify_loop.specs.Outcomes.{IsOutcome, Fits, first_clauses}
+use Rattle.alike_clause_spec.specs.Sorted.{clauses_of}
+use Rattle.verify_loop.specs.declared.outcome.Aim.{Aim}
+use Rattle.rail_words.specs.declared.request.SearchMode.TheVariants as by
+use Rattle.verify_loop.specs.Outcomes.{IsOutcome, Fits}
 use Rattle.workload.specs.Made.{made}
 use Rattle.rail_cli.specs.declared.status.Status.{Status}
 use Rattle.rail_cli.specs.declared.status.Status.TheVariants as status
 use Rattle.rail_cli.specs.declared.input.InputFile.TheVariants as file
 use Rattle.rail_cli.specs.Texts.{limit_of}
-use Rattle.rail_cli.specs.Answers.{base_kind_of, trial_conflicts, trial_ticks}
+use Rattle.rail_cli.specs.Answers.{aim_of, trial_conflicts, trial_ticks}
 use Rattle.rail_cli.specs.Searches.{budgets_of}
 
 -- ---- where nothing is refused
@@ -31,7 +34,7 @@ pub record HasRoutes (d : Station) : Type 0 where
 
 -- the clauses that a search by the base for plans of n steps begins with have at most 16,000,000 literals
 abbrev pub HasFewClauses : BaseKind → Station → ℕ → Type 0
-HasFewClauses m d n = literals (first_clauses m d n) ≤ 16000000
+HasFewClauses kind d n = literals (clauses_of kind d (routes_of d) n) ≤ 16000000
 
 -- the file is within its limit and spells this design, whose routes can be listed
 pub record IsDesignText (bytes : List ℕ) (d : Station) : Type 0 where
@@ -51,8 +54,8 @@ IsUnrefused files None = ⊥
 IsUnrefused files (Some (simulate design plan)) =
     (d : Station) × IsDesignText (files design) d × IsPlanText d (files plan)
 IsUnrefused files (Some (routes design)) = (d : Station) × IsDesignText (files design) d
-IsUnrefused files (Some (verify n conflicts ticks bounds design proof)) =
-    (d : Station) × IsDesignText (files design) d × HasFewClauses (base_kind_of bounds) d n
+IsUnrefused files (Some (verify n conflicts ticks mode design proof)) =
+    (d : Station) × IsDesignText (files design) d × HasFewClauses (aim_of mode).base d n
 IsUnrefused files (Some (check n design proof)) =
     (d : Station) × IsDesignText (files design) d × HasFewClauses Plain d n
     × (length (files proof) ≤ limit_of file.Proof)
@@ -73,7 +76,7 @@ IsSpent (outcome.LogSpent log bytes next) s = s ≡ status.LogSpent
 IsSpent _ s = ⊥
 
 -- a search for a plan of n steps has spent one of these budgets: what it ended with is so of the design, and this is its status
-pub record SpendsBudget (m : BaseKind) (d : Station) (n : ℕ) (budgets : Budgets) (s : Status) : Type 0 where
+pub record SpendsBudget (m : Aim) (d : Station) (n : ℕ) (budgets : Budgets) (s : Status) : Type 0 where
   pub found : Outcome
   pub spent : IsSpent found s
   pub says : IsOutcome m d n budgets found
@@ -84,10 +87,10 @@ abbrev pub HasVerdict : Files → Option RequestSeen → Status → Type 0
 HasVerdict files None s = ⊥
 HasVerdict files (Some (simulate design plan)) s = IsVerdict s
 HasVerdict files (Some (routes design)) s = s ≡ status.Done
-HasVerdict files (Some (verify n conflicts ticks bounds design proof)) s =
+HasVerdict files (Some (verify n conflicts ticks mode design proof)) s =
     IsVerdict s
     ⊎ ((d : Station) × (design_of (files design) ≡ Ok d)
-    × SpendsBudget (base_kind_of bounds) d n (budgets_of conflicts ticks) s)
+    × SpendsBudget (aim_of mode) d n (budgets_of conflicts ticks) s)
 HasVerdict files (Some (check n design proof)) s = IsVerdict s
 HasVerdict files (Some (trial seed size)) s =
-    IsVerdict s ⊎ SpendsBudget Plain (made seed size) (2 * size) (budgets_of trial_conflicts trial_ticks) s
+    IsVerdict s ⊎ SpendsBudget (aim_of by.Plain) (made seed size) (2 * size) (budgets_of trial_conflicts trial_ticks) s

@@ -27,6 +27,6 @@ pub use reading::{admit, admit_design, fetch};
 pub use refusals::{design_refused, one_line, plan_refused, too_long};
 pub use reliable::run_words_reliably;
 pub use reply::Reply;
-pub use run::{print, run_words};
+pub use run::{print, run_watched, run_words};
 pub use simulation::read_steps;
 pub use status::Status;

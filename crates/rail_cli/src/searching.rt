@@ -6,10 +6,12 @@ ghost use Rattle.rail_outside.specs.Files.{Files};
 ghost use Rattle.rail_outside.specs.Growth.{Rose, GrowsByPrefix};
 ghost use Rattle.rail_outside.specs.Lines.{lines_of};
 ghost use Rattle.rail_words.specs.Requests.{verify};
-ghost use Rattle.clause_spec.specs.declared.question.BaseKind.{BaseKind};
+ghost use Rattle.verify_loop.specs.declared.outcome.Aim.{Aim};
 ghost use Rattle.verify_loop.specs.declared.outcome.Outcome.{Outcome};
 ghost use Rattle.verify_loop.specs.Outcomes.{IsOutcome, Fits};
-ghost use Rattle.rail_cli.specs.Answers.{design_in, base_kind_of, one_line, reply_for_plan, searched_in};
+ghost use Rattle.verify_loop.specs.Telling.{TellsHowFar};
+ghost use Rattle.rail_base.specs.declared.station.Station.{Station};
+ghost use Rattle.rail_cli.specs.Answers.{aim_of, design_in, one_line, reply_for_plan, searched_in};
 ghost use Rattle.rail_cli.specs.Answers.{reply_for_outcome};
 ghost use Rattle.rail_cli.specs.Shows.{verdict_at_horizon};
 ghost use Rattle.rail_cli.specs.Replies.{KeepsLog, OnEnd, OnlyFails, RefusesFile, Replies, RepliesSo};
@@ -33,10 +35,11 @@ use interlocking::{Interlocking, Steps};
 use rail_base::design::Design;
 use rail_base::history::Verdict;
 use rail_base::plan::Plan;
-use rail_outside::{Shelf, StoreFault};
+use rail_outside::{Shelf, Sink, StoreFault};
+use rail_words::SearchMode;
 use std::alloc::{AllocError, Global};
 use timetable::timetable_lines;
-use verify_loop::{Budgets, Outcome, verify};
+use verify_loop::{Aim, Budgets, Outcome, Wanted, verify};
 
 /// What a search may spend: so many derived clauses and ticks, and a log as long as a proof may be.
 pub(crate) fn budgets(conflicts: u64, ticks: u64) -> Budgets
@@ -49,24 +52,25 @@ pub(crate) fn budgets(conflicts: u64, ticks: u64) -> Budgets
     }
 }
 
-/// The reply to a search for a plan of so many steps, 1 to 256, by the names of its files; plans that fail are excluded
-/// by bounds where these are asked for. Where there is no plan, the log that shows it is stored under the proof's name.
-pub(crate) fn search_reply<S: Shelf>(
+/// The reply to a search for a plan of so many steps, 1 to 256, in this way, by the names of its files. Where there is
+/// no plan, the log that shows it is stored under the proof's name. How far it is is told meanwhile.
+pub(crate) fn search_reply<S: Shelf, P: Sink>(
     alloc: Global,
     shelf: &mut S,
     steps: u32,
-    bounds: bool,
+    mode: SearchMode,
     budgets: Budgets,
     design: &str,
     proof: &str,
+    progress: &mut P,
 ) -> Result<Reply, Ending>
     requires at_least_one { 1 ≤ steps }
     requires at_most_256 { steps ≤ 256 }
     requires room { budgets.log_bytes ≡ limit_of InputFile.Proof }
     ensures replies { (files : Files) → S.known_files shelf.old ≡ Some files
-        → RepliesSo result files (Some (verify steps budgets.conflicts budgets.ticks bounds design.now proof.now)) }
+        → RepliesSo result files (Some (verify steps budgets.conflicts budgets.ticks mode design.now proof.now)) }
     ensures for_some_files { RepliesSome result
-        (Some (verify steps budgets.conflicts budgets.ticks bounds design.now proof.now)) }
+        (Some (verify steps budgets.conflicts budgets.ticks mode design.now proof.now)) }
     ensures no_usage { IfOk result (λ reply. reply.status ≢ Status.Usage) }
     ensures refuses { RefusesFile result }
     ensures stored { (files : Files) → S.known_files shelf.old ≡ Some files
@@ -74,22 +78,43 @@ pub(crate) fn search_reply<S: Shelf>(
     ensures cause { result ≡ Err Ending.ShelfFault → Rose (S.fault_count shelf.old) (S.fault_count shelf.new) }
     ensures never_falls { S.fault_count shelf.old ≤ S.fault_count shelf.new }
     ensures asks { GrowsByPrefix (S.asked shelf.old) (S.asked shelf.new) (fetched design.now ∷ stored proof.now ∷ []) }
+    ensures tells { (files : Files) → S.known_files shelf.old ≡ Some files
+        → (d : Station) → design_in (files design.now) ≡ Ok d
+        → TellsHowFar (aim_of mode) d steps (P.puts progress.old) (P.puts progress.new) }
 {
     let bytes = fetch(alloc, shelf, InputFile::Design, design)?;
     let interlocking = admit(alloc, bytes.as_slice())?;
     let steps = Steps { count: steps };
-    let kind = base_kind_of(bounds);
-    searched_in(alloc, shelf, &interlocking, steps, kind, budgets, proof)
+    let aim = aim_of(mode);
+    searched_in(
+        alloc,
+        shelf,
+        &interlocking,
+        steps,
+        aim,
+        budgets,
+        proof,
+        progress,
+    )
 }
 
-/// The base by which a search is made.
-fn base_kind_of(bounds: bool) -> BaseKind
-    ensures { result ≡ base_kind_of bounds }
+/// What is looked for, and by which clauses.
+pub(crate) fn aim_of(mode: SearchMode) -> Aim
+    ensures { result ≡ aim_of mode }
 {
-    if bounds {
-        BaseKind::Sorted
-    } else {
-        BaseKind::Plain
+    match mode {
+        SearchMode::Plain => Aim {
+            base: BaseKind::Plain,
+            wanted: Wanted::Fewest,
+        },
+        SearchMode::Bounds => Aim {
+            base: BaseKind::Sorted,
+            wanted: Wanted::Fewest,
+        },
+        SearchMode::Any => Aim {
+            base: BaseKind::Sorted,
+            wanted: Wanted::Any,
+        },
     }
 }
 
@@ -167,7 +192,7 @@ fn make_reply(
     budgets: Budgets,
     found: &Outcome,
 ) -> Result<Reply, AllocError>
-    requires { (m : BaseKind) × IsOutcome m design.now.station steps budgets found.now }
+    requires { (m : Aim) × IsOutcome m design.now.station steps budgets found.now }
     ensures { RepliesWith result
         (reply_for_outcome design.now.station steps budgets.conflicts budgets.ticks found.now) }
 {
@@ -224,7 +249,7 @@ fn settle<S: Shelf>(
     proof: &str,
     found: &Outcome,
 ) -> Result<Reply, Ending>
-    requires says { (m : BaseKind) × IsOutcome m design.now.station steps budgets found.now }
+    requires says { (m : Aim) × IsOutcome m design.now.station steps budgets found.now }
     requires room { budgets.log_bytes ≡ limit_of InputFile.Proof }
     ensures replies { Replies result
         (reply_for_outcome design.now.station steps budgets.conflicts budgets.ticks found.now) }
@@ -243,20 +268,21 @@ fn settle<S: Shelf>(
 }
 
 /// The reply to a search in a design, by the name of the proof's file.
-fn searched_in<S: Shelf>(
+fn searched_in<S: Shelf, P: Sink>(
     alloc: Global,
     shelf: &mut S,
     interlocking: &Interlocking,
     steps: Steps,
-    kind: BaseKind,
+    aim: Aim,
     budgets: Budgets,
     proof: &str,
+    progress: &mut P,
 ) -> Result<Reply, Ending>
     requires room { budgets.log_bytes ≡ limit_of InputFile.Proof }
-    ensures replies { (found : Outcome) × IsOutcome kind interlocking.now.design.station steps.count budgets found
-        × Fits kind interlocking.now.design.station steps.count found
+    ensures replies { (found : Outcome) × IsOutcome aim interlocking.now.design.station steps.count budgets found
+        × Fits aim interlocking.now.design.station steps.count found
         × Replies result
-        (searched_in kind interlocking.now.design.station steps.count budgets.conflicts budgets.ticks found) }
+        (searched_in aim interlocking.now.design.station steps.count budgets.conflicts budgets.ticks found) }
     ensures no_usage { IfOk result (λ reply. reply.status ≢ Status.Usage) }
     ensures refuses { RefusesFile result }
     ensures stored { (files : Files) (name : List ℕ) → S.known_files shelf.old ≡ Some files
@@ -265,8 +291,10 @@ fn searched_in<S: Shelf>(
     ensures cause { result ≡ Err Ending.ShelfFault → Rose (S.fault_count shelf.old) (S.fault_count shelf.new) }
     ensures never_falls { S.fault_count shelf.old ≤ S.fault_count shelf.new }
     ensures asks { GrowsByPrefix (S.asked shelf.old) (S.asked shelf.new) (stored proof.now ∷ []) }
+    ensures tells { TellsHowFar aim interlocking.now.design.station steps.count
+        (P.puts progress.old) (P.puts progress.new) }
 {
-    let found = verify(alloc, interlocking, steps, kind, budgets);
+    let found = verify(alloc, interlocking, steps, aim, budgets, progress);
     settle(
         alloc,
         shelf,

@@ -4,11 +4,13 @@ ghost use Rattle.std.specs.Prelude.{◌≡◌, ◌≢◌, ◌≤◌, ◌*◌, tr
 ghost use Rattle.rail_spec.specs.Feasible.{IsFeasible};
 ghost use Rattle.rail_spec.specs.Requirements.{cost};
 ghost use Rattle.rail_spec.specs.Track.{routes_of};
-ghost use Rattle.clause_spec.specs.declared.question.BaseKind.TheVariants.{Plain};
+ghost use Rattle.rail_words.specs.declared.request.SearchMode.TheVariants.{Plain};
 ghost use Rattle.verify_loop.specs.declared.outcome.Outcome.{Outcome};
 ghost use Rattle.verify_loop.specs.Outcomes.{IsOutcome, Fits};
+ghost use Rattle.verify_loop.specs.Telling.{TellsHowFar};
+ghost use Rattle.workload.specs.Made.{made};
 ghost use Rattle.rail_cli.specs.Statuses.{is_answered};
-ghost use Rattle.rail_cli.specs.Answers.{trial_conflicts, trial_ticks, three_lines, reply_for_trial};
+ghost use Rattle.rail_cli.specs.Answers.{aim_of, trial_conflicts, trial_ticks, three_lines, reply_for_trial};
 ghost use Rattle.rail_cli.specs.Shows.{verdict_at_horizon};
 ghost use Rattle.rail_cli.specs.Replies.{deciding_tick, OnlyRefuses, RepliesTrial, RepliesWith};
 ghost use Rattle.rail_cli.specs.Searches.{budgets_of};
@@ -18,17 +20,18 @@ use crate::ending::Ending;
 use crate::reading::interlock;
 use crate::refusals::too_large;
 use crate::reply::Reply;
-use crate::searching::budgets;
+use crate::searching::{aim_of, budgets};
 use crate::status::Status;
 use crate::texts::{
     conflicts_spent_line, counts_line, infeasible_line, log_spent_line, plan_tick_line,
     ticks_spent_line, trial_line,
 };
-use clause_spec::BaseKind;
 use interlocking::{Interlocking, Steps};
 use rail_base::design::Design;
 use rail_base::history::Verdict;
 use rail_base::plan::Plan;
+use rail_outside::Sink;
+use rail_words::SearchMode;
 use std::alloc::{AllocError, Global};
 use verify_loop::{Outcome, verify};
 use workload::make;
@@ -41,16 +44,22 @@ const TICKS: u64 = 1_000_000_000;
 
 /// The reply to a trial: the station of the seed and the size, 1 to 6, is searched for a plan of twice as many steps as
 /// its size. Nothing is asked of the shelf.
-pub(crate) fn trial_reply(alloc: Global, seed: u64, size: u32) -> Result<Reply, Ending>
+pub(crate) fn trial_reply<P: Sink>(
+    alloc: Global,
+    seed: u64,
+    size: u32,
+    progress: &mut P,
+) -> Result<Reply, Ending>
     requires at_least_one { 1 ≤ size }
     requires at_most_six { size ≤ 6 }
     ensures replies { RepliesTrial result seed size }
     ensures no_usage { IfOk result (λ reply. reply.status ≢ Status.Usage) }
     ensures refuses { OnlyRefuses result }
+    ensures tells { TellsHowFar (aim_of Plain) (made seed size) (2 * size) (P.puts progress.old) (P.puts progress.new) }
 {
     let design = make(alloc, seed, size)?;
     let interlocking = interlock(alloc, design)?;
-    Ok(tried_in(alloc, seed, size, &interlocking)?)
+    Ok(tried_in(alloc, seed, size, &interlocking, progress)?)
 }
 
 /// The lines of a trial, with this last one.
@@ -107,7 +116,7 @@ fn make_reply(
     found: &Outcome,
 ) -> Result<Reply, AllocError>
     requires at_most_six { size ≤ 6 }
-    requires says { IsOutcome Plain interlocking.now.design.station (2 * size)
+    requires says { IsOutcome (aim_of Plain) interlocking.now.design.station (2 * size)
         (budgets_of trial_conflicts trial_ticks) found.now }
     ensures replies { RepliesWith result (reply_for_trial seed size interlocking.now.design.station found.now) }
     ensures no_usage { IfOk result (λ reply. reply.status ≢ Status.Usage) }
@@ -146,22 +155,32 @@ fn make_reply(
 }
 
 /// The reply to a trial of a station with its routes.
-fn tried_in(
+fn tried_in<P: Sink>(
     alloc: Global,
     seed: u64,
     size: u32,
     interlocking: &Interlocking,
+    progress: &mut P,
 ) -> Result<Reply, AllocError>
     requires at_least_one { 1 ≤ size }
     requires at_most_six { size ≤ 6 }
     ensures replies { (found : Outcome)
-        × IsOutcome Plain interlocking.now.design.station (2 * size) (budgets_of trial_conflicts trial_ticks) found
-        × Fits Plain interlocking.now.design.station (2 * size) found
+        × IsOutcome (aim_of Plain) interlocking.now.design.station (2 * size) (budgets_of trial_conflicts trial_ticks) found
+        × Fits (aim_of Plain) interlocking.now.design.station (2 * size) found
         × RepliesWith result (reply_for_trial seed size interlocking.now.design.station found) }
     ensures no_usage { IfOk result (λ reply. reply.status ≢ Status.Usage) }
+    ensures tells { TellsHowFar (aim_of Plain) interlocking.now.design.station (2 * size)
+        (P.puts progress.old) (P.puts progress.new) }
 {
     let steps = Steps { count: 2 * size };
     let budgets = budgets(CONFLICTS, TICKS);
-    let found = verify(alloc, interlocking, steps, BaseKind::Plain, budgets);
+    let found = verify(
+        alloc,
+        interlocking,
+        steps,
+        aim_of(SearchMode::Plain),
+        budgets,
+        progress,
+    );
     make_reply(alloc, seed, size, interlocking, &found)
 }

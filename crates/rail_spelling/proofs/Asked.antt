@@ -2,8 +2,10 @@
 use Rattle.std.proofs.Common.{◌≡◌, ℕ, Bool, true, false, not, ◌&&◌, ◌==◌, nat_le, [], ◌∷◌, ◌++◌, Some, None, option_and_then, if◌then◌else◌, codes, refl, ap, ap₂, ◌∙◌, le-leb, eqb-true}
 use Rattle.rail_words.specs.Laws.{is_plain}
 use Rattle.rail_words.specs.Requests.{number_to, request_of, verify}
-use Rattle.rail_words.proofs.Taken.{simulate_read, verify_read, bounds_read, check_read, trial_read}
-use Rattle.rail_spelling.specs.Lines.{Word, IsNumber, IsName, bounds_flag}
+use Rattle.rail_words.proofs.Taken.{simulate_read, verify_read, bounds_read, any_read, check_read, trial_read}
+use Rattle.rail_spelling.specs.Lines.{Word, IsNumber, IsName, flags_of}
+use Rattle.rail_words.specs.declared.request.SearchMode.{SearchMode}
+use Rattle.rail_words.specs.declared.request.SearchMode.TheVariants.{Plain, Bounds, Any}
 use Rattle.rail_spelling.specs.Laws.{SimulateLinesAsk, VerifyLinesAsk, CheckLinesAsk, TrialLinesAsk}
 
 plain : (word : Word) → IsName word → is_plain word ≡ true
@@ -27,7 +29,7 @@ check_asked words n design proof l =
     ap request_of l.line ∙ check_read l.program l.steps_word design proof n (numbered l.steps_word n 256 l.number) (plain design l.names.0) (plain proof l.names.1)
 
 pub verify_asked : VerifyLinesAsk
-verify_asked words n design proof l = ap request_of l.line ∙ go l.bounds
+verify_asked words n design proof l = ap request_of l.line ∙ go l.mode
   where
     steps : number_to 256 l.steps_word ≡ Some n
     steps = numbered l.steps_word n 256 l.numbers.0
@@ -38,10 +40,11 @@ verify_asked words n design proof l = ap request_of l.line ∙ go l.bounds
     ticks : number_to 1_000_000_000_000 l.ticks_word ≡ Some l.ticks
     ticks = numbered l.ticks_word l.ticks 1_000_000_000_000 l.numbers.2
 
-    go : (bounds : Bool) → request_of (l.program ∷ codes "verify" ∷ codes "--steps" ∷ l.steps_word ∷ codes "--conflicts" ∷ l.conflicts_word ∷ codes "--ticks" ∷ l.ticks_word ∷ (bounds_flag bounds ++ design ∷ proof ∷ []))
-        ≡ Some (verify n l.conflicts l.ticks bounds design proof)
-    go true = bounds_read l.program l.steps_word l.conflicts_word l.ticks_word design proof n l.conflicts l.ticks steps conflicts ticks (plain design l.names.0) (plain proof l.names.1)
-    go false = verify_read l.program l.steps_word l.conflicts_word l.ticks_word design proof n l.conflicts l.ticks steps conflicts ticks (plain design l.names.0) (plain proof l.names.1)
+    go : (mode : SearchMode) → request_of (l.program ∷ codes "verify" ∷ codes "--steps" ∷ l.steps_word ∷ codes "--conflicts" ∷ l.conflicts_word ∷ codes "--ticks" ∷ l.ticks_word ∷ (flags_of mode ++ design ∷ proof ∷ []))
+        ≡ Some (verify n l.conflicts l.ticks mode design proof)
+    go Bounds = bounds_read l.program l.steps_word l.conflicts_word l.ticks_word design proof n l.conflicts l.ticks steps conflicts ticks (plain design l.names.0) (plain proof l.names.1)
+    go Any = any_read l.program l.steps_word l.conflicts_word l.ticks_word design proof n l.conflicts l.ticks steps conflicts ticks (plain design l.names.0) (plain proof l.names.1)
+    go Plain = verify_read l.program l.steps_word l.conflicts_word l.ticks_word design proof n l.conflicts l.ticks steps conflicts ticks (plain design l.names.0) (plain proof l.names.1)
 
 pub trial_asked : TrialLinesAsk
 trial_asked words seed size l = ap request_of l.line ∙ trial_read l.program l.seed_word l.size_word seed size l.numbers.0 (numbered l.size_word size 6 l.numbers.1)

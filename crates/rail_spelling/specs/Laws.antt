@@ -37,7 +37,7 @@ SimulateLinesAsk = (words : List Word) (design plan : Word) → SimulateLine wor
 
 abbrev pub VerifyLinesAsk : Type 0
 VerifyLinesAsk = (words : List Word) (n : ℕ) (design proof : Word) → (l : VerifyLine words n design proof)
-    → request_of words ≡ Some (verify n l.conflicts l.ticks l.bounds design proof)
+    → request_of words ≡ Some (verify n l.conflicts l.ticks l.mode design proof)
 
 abbrev pub CheckLinesAsk : Type 0
 CheckLinesAsk = (words : List Word) (n : ℕ) (design proof : Word) → CheckLine words n design proof

@@ -1,6 +1,8 @@
 -- Plain command lines: words in their order, with numbers in digits and names of files.
-use Rattle.std.specs.Prelude.{◌≡◌, ◌≢◌, ℕ, ◌≤◌, Bool, true, false, List, [], ◌∷◌, ◌++◌, Some, codes}
+use Rattle.std.specs.Prelude.{◌≡◌, ◌≢◌, ℕ, ◌≤◌, List, [], ◌∷◌, ◌++◌, Some, codes}
 use Rattle.rail_text.specs.Numbers.{number_of}
+use Rattle.rail_words.specs.declared.request.SearchMode.{SearchMode}
+use Rattle.rail_words.specs.declared.request.SearchMode.TheVariants.{Plain, Bounds, Any}
 
 -- a word by its bytes
 abbrev pub Word : Type 0
@@ -21,12 +23,13 @@ pub record SimulateLine (words : List Word) (design plan : Word) : Type 0 where
   pub line : words ≡ program ∷ codes "simulate" ∷ design ∷ plan ∷ []
   pub names : IsName design × IsName plan
 
--- the flag of a search by bounds, where it is given
-abbrev pub bounds_flag : Bool → List Word
-bounds_flag true = codes "--bounds" ∷ []
-bounds_flag false = []
+-- the flags by which a plan is looked for
+abbrev pub flags_of : SearchMode → List Word
+flags_of Plain = []
+flags_of Bounds = codes "--bounds" ∷ []
+flags_of Any = codes "--bounds" ∷ codes "--any" ∷ []
 
--- `verify --steps N --conflicts C --ticks T [--bounds] DESIGN PROOF`
+-- `verify --steps N --conflicts C --ticks T [--bounds [--any]] DESIGN PROOF`
 pub record VerifyLine (words : List Word) (n : ℕ) (design proof : Word) : Type 0 where
   pub program : Word
   pub steps_word : Word
@@ -34,9 +37,9 @@ pub record VerifyLine (words : List Word) (n : ℕ) (design proof : Word) : Type
   pub ticks_word : Word
   pub conflicts : ℕ
   pub ticks : ℕ
-  pub bounds : Bool
+  pub mode : SearchMode
   pub line : words ≡ program ∷ codes "verify" ∷ codes "--steps" ∷ steps_word ∷ codes "--conflicts" ∷ conflicts_word
-      ∷ codes "--ticks" ∷ ticks_word ∷ (bounds_flag bounds ++ design ∷ proof ∷ [])
+      ∷ codes "--ticks" ∷ ticks_word ∷ (flags_of mode ++ design ∷ proof ∷ [])
   pub numbers : IsNumber steps_word n 256 × IsNumber conflicts_word conflicts 10_000_000
       × IsNumber ticks_word ticks 1_000_000_000_000
   pub names : IsName design × IsName proof

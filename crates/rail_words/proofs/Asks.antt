@@ -10,23 +10,32 @@ use Rattle.clap.specs.Simple.{Shape, argument_words, built, label_of}
 use Rattle.clap.specs.Walk.{Row, Text, answers_to, first_of, rows_after}
 use Rattle.clap.specs.Words.{fault_of}
 use Rattle.rail_words.specs.FixedCommand.{rcv_app, is_taken, simulate_app, routes_app, verify_app, check_app, trial_app}
-use Rattle.rail_words.specs.Requests.{asked_by, check, check_with, conflicts_of, is_given, request_of, seed_of, size_of, steps_of, ticks_of, trial_with, trial_within, verify_with, verify_within}
-use Rattle.rail_words.specs.Laws.{LacksNumber, HasNumberOutOfRange, AsksForNothing, SilenceHasACause}
+use Rattle.rail_words.specs.Requests.{asked_by, check, check_with, conflicts_of, is_given, mode_of, request_of, seed_of, size_of, steps_of, ticks_of, trial_with, trial_within, verify_with, verify_within}
+use Rattle.rail_words.specs.declared.request.SearchMode.{SearchMode}
+use Rattle.rail_words.specs.Laws.{IsLacking, IsFaulty, AsksForNothing, SilenceHasACause}
 use Rattle.rail_words.proofs.Entered.{IsAmong, IsNotHelp, level_enters}
 use Rattle.rail_words.proofs.Reading.{request_of-refused, request_of-taken}
 use Rattle.rail_words.proofs.Values.{AreGiven, level_given, gives}
 
 -- ---- values that are there
 
-verify_numbers : (steps conflicts ticks : Option ℕ) (bounds : Bool) (design proof : Text) → IsSome (verify_within steps conflicts ticks bounds design proof) ⊎ (steps ≡ None) ⊎ (conflicts ≡ None) ⊎ (ticks ≡ None)
-verify_numbers None conflicts ticks bounds design proof = inr (inl refl)
-verify_numbers (Some n) None ticks bounds design proof = inr (inr (inl refl))
-verify_numbers (Some n) (Some c) None bounds design proof = inr (inr (inr refl))
-verify_numbers (Some n) (Some c) (Some t) bounds design proof = inl refl
+verify_numbers : (steps conflicts ticks : Option ℕ) (mode : Option SearchMode) (design proof : Text) → IsSome (verify_within steps conflicts ticks mode design proof) ⊎ (steps ≡ None) ⊎ (conflicts ≡ None) ⊎ (ticks ≡ None) ⊎ (mode ≡ None)
+verify_numbers None conflicts ticks mode design proof = inr (inl refl)
+verify_numbers (Some n) None ticks mode design proof = inr (inr (inl refl))
+verify_numbers (Some n) (Some c) None mode design proof = inr (inr (inr (inl refl)))
+verify_numbers (Some n) (Some c) (Some t) None design proof = inr (inr (inr (inr refl)))
+verify_numbers (Some n) (Some c) (Some t) (Some mode) design proof = inl refl
 
-verify_values : (a b c : Option Text) (bounds : Bool) (d e : Option Text) (steps conflicts ticks design proof : Text) → a ≡ Some steps → b ≡ Some conflicts → c ≡ Some ticks → d ≡ Some design → e ≡ Some proof
-    → IsSome (verify_with a b c bounds d e) ⊎ (steps_of steps ≡ None) ⊎ (conflicts_of conflicts ≡ None) ⊎ (ticks_of ticks ≡ None)
-verify_values a b c bounds d e steps conflicts ticks design proof f g h i j = rw (f, g, h, i, j) (verify_numbers (steps_of steps) (conflicts_of conflicts) (ticks_of ticks) bounds design proof)
+-- only any number of steps without bounds is no way to look for a plan
+no_mode : (bounds any : Bool) → mode_of bounds any ≡ None → (bounds ≡ false) × (any ≡ true)
+no_mode false false e = absurd (cc)
+no_mode true false e = absurd (cc)
+no_mode true true e = absurd (cc)
+no_mode false true e = (refl, refl)
+
+verify_values : (a b c : Option Text) (mode : Option SearchMode) (d e : Option Text) (steps conflicts ticks design proof : Text) → a ≡ Some steps → b ≡ Some conflicts → c ≡ Some ticks → d ≡ Some design → e ≡ Some proof
+    → IsSome (verify_with a b c mode d e) ⊎ (steps_of steps ≡ None) ⊎ (conflicts_of conflicts ≡ None) ⊎ (ticks_of ticks ≡ None) ⊎ (mode ≡ None)
+verify_values a b c mode d e steps conflicts ticks design proof f g h i j = rw (f, g, h, i, j) (verify_numbers (steps_of steps) (conflicts_of conflicts) (ticks_of ticks) mode design proof)
 
 check_number : (steps : Option ℕ) (design proof : Text) → IsSome (option_map (λ n. check n design proof) steps) ⊎ (steps ≡ None)
 check_number None design proof = inr refl
@@ -47,7 +56,7 @@ trial_values a b seed size f g = rw (f, g) (trial_numbers (seed_of seed) (size_o
 
 -- the subcommand with its required arguments asks for something, or a number of it is out of range
 abbrev Asks : Shape → Type 0
-Asks s = (rows : List Row) → AreGiven s.rules rows → IsSome (asked_by (s.name, rows)) ⊎ LacksNumber (s.name, rows)
+Asks s = (rows : List Row) → AreGiven s.rules rows → IsSome (asked_by (s.name, rows)) ⊎ IsLacking (s.name, rows)
 
 simulate_asks : Asks (slice_index_or (built rcv_app).subs 0 simulate_app.top)
 simulate_asks rows given =
@@ -63,13 +72,15 @@ verify_asks rows given =
     let steps = given.0 refl in
     let conflicts = given.1.0 refl in
     let ticks = given.1.1.0 refl in
-    let design = given.1.1.1.1.0 refl in
-    let proof = given.1.1.1.1.1.0 refl in
-    elim (verify_values _ _ _ (is_given (codes "bounds") rows) _ _ steps.0 conflicts.0 ticks.0 design.0 proof.0 steps.1 conflicts.1 ticks.1 design.1 proof.1) [
+    let design = given.1.1.1.1.1.1.0 refl in
+    let proof = given.1.1.1.1.1.1.1.0 refl in
+    let flags = no_mode (is_given (codes "bounds") rows) (is_given (codes "any") rows) in
+    elim (verify_values _ _ _ (mode_of (is_given (codes "bounds") rows) (is_given (codes "any") rows)) _ _ steps.0 conflicts.0 ticks.0 design.0 proof.0 steps.1 conflicts.1 ticks.1 design.1 proof.1) [
       | inl ok ↦ inl ok
-      | inr (inl none) ↦ inr (inl (refl, inl (steps.0, steps.1, none)))
-      | inr (inr (inl none)) ↦ inr (inl (refl, inr (inl (conflicts.0, conflicts.1, none))))
-      | inr (inr (inr none)) ↦ inr (inl (refl, inr (inr (ticks.0, ticks.1, none))))
+      | inr (inl none) ↦ inr (inl (refl, inl (inl (steps.0, steps.1, none))))
+      | inr (inr (inl none)) ↦ inr (inl (refl, inl (inr (inl (conflicts.0, conflicts.1, none)))))
+      | inr (inr (inr (inl none))) ↦ inr (inl (refl, inl (inr (inr (ticks.0, ticks.1, none)))))
+      | inr (inr (inr (inr none))) ↦ inr (inl (refl, inr (flags none)))
     ]
 
 check_asks : Asks (slice_index_or (built rcv_app).subs 3 check_app.top)
@@ -84,8 +95,8 @@ check_asks rows given =
 
 trial_asks : Asks (slice_index_or (built rcv_app).subs 4 trial_app.top)
 trial_asks rows given =
-    let seed = given.0 refl in
-    let size = given.1.0 refl in
+    let seed = given.1.0 refl in
+    let size = given.1.1.0 refl in
     elim (trial_values _ _ seed.0 size.0 seed.1 size.1) [
       | inl ok ↦ inl ok
       | inr (inl none) ↦ inr (inr (inr (refl, inl (seed.0, seed.1, none))))
@@ -122,7 +133,7 @@ no_kinds [] e = refl
 no_kinds (k ∷ ks) e = let more : 0 < length (k ∷ ks) = omega arith in absurd (grind (arith, nat_tests))
 
 -- words that the fixed command takes ask for something, or a number among them is out of range
-taken_words_ask : (words : List Text) → is_taken words ≡ true → IsSome (request_of words) ⊎ HasNumberOutOfRange words
+taken_words_ask : (words : List Text) → is_taken words ≡ true → IsSome (request_of words) ⊎ IsFaulty words
 taken_words_ask words taken =
     let in_sub = level_enters (built rcv_app) (argument_words rcv_app words) refl refl (no_kinds (fault_of rcv_app words) taken) in
     let parts = each_asks in_sub.word in_sub.command in_sub.among in_sub.answers in_sub.not_help in
@@ -137,7 +148,7 @@ taken_words_ask words taken =
 pub asks_nothing : (words : List Text) → request_of words ≡ None → AsksForNothing words
 asks_nothing words none = go (is_taken words) refl
   where
-    go : (b : Bool) → is_taken words ≡ b → (is_taken words ≡ false) ⊎ HasNumberOutOfRange words
+    go : (b : Bool) → is_taken words ≡ b → (is_taken words ≡ false) ⊎ IsFaulty words
     go false e = inl e
     go true e = elim (taken_words_ask words e) [
       | inl asked ↦ absurd (true≢false (sym asked ∙ ap is_some none))
@@ -146,11 +157,26 @@ asks_nothing words none = go (is_taken words) refl
 
 -- ---- a number out of range
 
-verify_lacks : (steps conflicts ticks : Option ℕ) (bounds : Bool) (design proof : Text) → (steps ≡ None) ⊎ (conflicts ≡ None) ⊎ (ticks ≡ None) → verify_within steps conflicts ticks bounds design proof ≡ None
-verify_lacks None conflicts ticks bounds design proof out = refl
-verify_lacks (Some n) None ticks bounds design proof out = refl
-verify_lacks (Some n) (Some c) None bounds design proof out = refl
-verify_lacks (Some n) (Some c) (Some t) bounds design proof out = grind arith
+verify_lacks : (steps conflicts ticks : Option ℕ) (mode : Option SearchMode) (design proof : Text) → (steps ≡ None) ⊎ (conflicts ≡ None) ⊎ (ticks ≡ None) → verify_within steps conflicts ticks mode design proof ≡ None
+verify_lacks None conflicts ticks mode design proof out = refl
+verify_lacks (Some n) None ticks mode design proof out = refl
+verify_lacks (Some n) (Some c) None mode design proof out = refl
+verify_lacks (Some n) (Some c) (Some t) mode design proof out = grind arith
+
+-- in no way
+nothing_within : (steps conflicts ticks : Option ℕ) (design proof : Text) → verify_within steps conflicts ticks None design proof ≡ None
+nothing_within None conflicts ticks design proof = refl
+nothing_within (Some n) None ticks design proof = refl
+nothing_within (Some n) (Some c) None design proof = refl
+nothing_within (Some n) (Some c) (Some t) design proof = refl
+
+nothing_with : (a b c d e : Option Text) → verify_with a b c None d e ≡ None
+nothing_with None b c d e = refl
+nothing_with (Some steps) None c d e = refl
+nothing_with (Some steps) (Some conflicts) None d e = refl
+nothing_with (Some steps) (Some conflicts) (Some ticks) None e = refl
+nothing_with (Some steps) (Some conflicts) (Some ticks) (Some design) None = refl
+nothing_with (Some steps) (Some conflicts) (Some ticks) (Some design) (Some proof) = nothing_within (steps_of steps) (conflicts_of conflicts) (ticks_of ticks) design proof
 
 -- the value is there, but is no number in its range
 abbrev IsOut : (Text → Option ℕ) → Option Text → Type 0
@@ -159,15 +185,15 @@ IsOut number_of_text value = (text : Text) × (value ≡ Some text) × (number_o
 unread : (number_of_text : Text → Option ℕ) (text : Text) → IsOut number_of_text (Some text) → number_of_text text ≡ None
 unread number_of_text text (other, is, none) = let same : text ≡ other = cc in ap number_of_text same ∙ none
 
-verify_unread : (a b c : Option Text) (bounds : Bool) (d e : Option Text) → IsOut steps_of a ⊎ IsOut conflicts_of b ⊎ IsOut ticks_of c → verify_with a b c bounds d e ≡ None
-verify_unread None b c bounds d e out = refl
-verify_unread (Some steps) None c bounds d e out = refl
-verify_unread (Some steps) (Some conflicts) None bounds d e out = refl
-verify_unread (Some steps) (Some conflicts) (Some ticks) bounds None e out = refl
-verify_unread (Some steps) (Some conflicts) (Some ticks) bounds (Some design) None out = refl
-verify_unread (Some steps) (Some conflicts) (Some ticks) bounds (Some design) (Some proof) (inl out) = verify_lacks _ _ _ bounds design proof (inl (unread steps_of steps out))
-verify_unread (Some steps) (Some conflicts) (Some ticks) bounds (Some design) (Some proof) (inr (inl out)) = verify_lacks _ _ _ bounds design proof (inr (inl (unread conflicts_of conflicts out)))
-verify_unread (Some steps) (Some conflicts) (Some ticks) bounds (Some design) (Some proof) (inr (inr out)) = verify_lacks _ _ _ bounds design proof (inr (inr (unread ticks_of ticks out)))
+verify_unread : (a b c : Option Text) (mode : Option SearchMode) (d e : Option Text) → IsOut steps_of a ⊎ IsOut conflicts_of b ⊎ IsOut ticks_of c → verify_with a b c mode d e ≡ None
+verify_unread None b c mode d e out = refl
+verify_unread (Some steps) None c mode d e out = refl
+verify_unread (Some steps) (Some conflicts) None mode d e out = refl
+verify_unread (Some steps) (Some conflicts) (Some ticks) mode None e out = refl
+verify_unread (Some steps) (Some conflicts) (Some ticks) mode (Some design) None out = refl
+verify_unread (Some steps) (Some conflicts) (Some ticks) mode (Some design) (Some proof) (inl out) = verify_lacks _ _ _ mode design proof (inl (unread steps_of steps out))
+verify_unread (Some steps) (Some conflicts) (Some ticks) mode (Some design) (Some proof) (inr (inl out)) = verify_lacks _ _ _ mode design proof (inr (inl (unread conflicts_of conflicts out)))
+verify_unread (Some steps) (Some conflicts) (Some ticks) mode (Some design) (Some proof) (inr (inr out)) = verify_lacks _ _ _ mode design proof (inr (inr (unread ticks_of ticks out)))
 
 check_unread : (a b c : Option Text) → IsOut steps_of a → check_with a b c ≡ None
 check_unread None b c out = refl
@@ -187,8 +213,9 @@ trial_unread (Some seed) (Some size) (inl out) = trial_lacks _ _ (inl (unread se
 trial_unread (Some seed) (Some size) (inr out) = trial_lacks _ _ (inr (unread size_of size out))
 
 -- a subcommand with a number out of range asks for nothing
-lacking : (name : Text) (rows : List Row) → LacksNumber (name, rows) → asked_by (name, rows) ≡ None
-lacking name rows (inl (is, out)) = rw is (verify_unread (first_of (codes "steps") rows) (first_of (codes "conflicts") rows) (first_of (codes "ticks") rows) (is_given (codes "bounds") rows) (first_of (codes "DESIGN") rows) (first_of (codes "PROOF") rows) out)
+lacking : (name : Text) (rows : List Row) → IsLacking (name, rows) → asked_by (name, rows) ≡ None
+lacking name rows (inl (is, inl out)) = rw is (verify_unread (first_of (codes "steps") rows) (first_of (codes "conflicts") rows) (first_of (codes "ticks") rows) (mode_of (is_given (codes "bounds") rows) (is_given (codes "any") rows)) (first_of (codes "DESIGN") rows) (first_of (codes "PROOF") rows) out)
+lacking name rows (inl (is, inr flags)) = rw (is, flags.0, flags.1) (nothing_with (first_of (codes "steps") rows) (first_of (codes "conflicts") rows) (first_of (codes "ticks") rows) (first_of (codes "DESIGN") rows) (first_of (codes "PROOF") rows))
 lacking name rows (inr (inl (is, out))) = rw is (check_unread (first_of (codes "steps") rows) (first_of (codes "DESIGN") rows) (first_of (codes "PROOF") rows) out)
 lacking name rows (inr (inr (is, out))) = rw is (trial_unread (first_of (codes "SEED") rows) (first_of (codes "SIZE") rows) out)
 

@@ -1,4 +1,4 @@
--- The words of `verify` with its flag, taken one by one.
+-- The words of `verify` with bounds, taken one by one.
 use Rattle.std.proofs.Common.{◌≡◌, ℕ, ◌==◌, true, false, List, [], ◌∷◌, codes, refl, Some, slice_index_or}
 use Rattle.clap.specs.Kinds.{or_else}
 use Rattle.clap.specs.Walk.{Text, Walk, idle, walk, walked, walk_from, nothing_held, reacted, rows_after, first_of}
@@ -19,14 +19,14 @@ module _ (x : ℕ) (xs : Text) (u : ℕ) (us : Text) (v : ℕ) (vs : Text) (y : 
   w6 = search.w6 x xs u us v vs y ys z zs
 
   -- after the flag
-  abbrev w7 : Walk
+  abbrev pub w7 : Walk
   w7 = stand (reacted leaf.rules bounds_rule [] w6.held) idle 1
 
-  to_w7 : walked leaf.rules [] w6 (codes "--bounds") ≡ w7
+  pub to_w7 : walked leaf.rules [] w6 (codes "--bounds") ≡ w7
   unfolding clap_on_literals
   to_w7 = refl
 
-  turn7 : turn_fault leaf [] w6 (codes "--bounds") ≡ []
+  pub turn7 : turn_fault leaf [] w6 (codes "--bounds") ≡ []
   unfolding clap_on_literals
   turn7 = refl
 
@@ -114,6 +114,14 @@ module _ (x : ℕ) (xs : Text) (u : ℕ) (us : Text) (v : ℕ) (vs : Text) (y : 
     pub with_bounds : is_given (codes "bounds") (rows_after leaf.rules [] words) ≡ true
     unfolding clap_on_literals
     with_bounds = rw walk_is refl
+
+    pub not_any : is_given (codes "any") (rows_after leaf.rules [] words) ≡ false
+    unfolding clap_on_literals
+    not_any = rw walk_is refl
+
+    pub no_progress : is_given (codes "progress") (rows_after leaf.rules [] words) ≡ false
+    unfolding clap_on_literals
+    no_progress = rw walk_is refl
 
 -- the rows of the subcommand
 pub bounds_rows : (program a b c d e f g h i : Text) → subcommand_of rcv_app (program ∷ codes "verify" ∷ a ∷ b ∷ c ∷ d ∷ e ∷ f ∷ g ∷ h ∷ i ∷ []) ≡ Some (codes "verify", rows_after leaf.rules [] (a ∷ b ∷ c ∷ d ∷ e ∷ f ∷ g ∷ h ∷ i ∷ []))

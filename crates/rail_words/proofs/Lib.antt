@@ -4,6 +4,8 @@ pub mod Reading
 pub mod Walks
 pub mod Searches
 pub mod Bounded
+pub mod Freely
+pub mod Watched
 pub mod Trials
 pub mod Taken
 pub mod Ranges

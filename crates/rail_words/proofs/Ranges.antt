@@ -4,7 +4,8 @@ use Rattle.clap.specs.Words.{Row, Text, first_of, subcommand_of}
 use Rattle.std.specs.Str.Parse.{digits_value}
 use Rattle.rail_text.specs.Numbers.{is_numeral, number_of}
 use Rattle.rail_words.specs.FixedCommand.{rcv_app, is_taken}
-use Rattle.rail_words.specs.Requests.{RequestSeen, simulate, routes, verify, check, trial, IsRequestInRange, simulate_with, routes_with, verify_within, verify_with, check_with, trial_within, trial_with, steps_of, conflicts_of, ticks_of, seed_of, size_of, asked_by, is_given, request_of}
+use Rattle.rail_words.specs.declared.request.SearchMode.{SearchMode}
+use Rattle.rail_words.specs.Requests.{RequestSeen, simulate, routes, verify, check, trial, IsRequestInRange, simulate_with, routes_with, verify_within, verify_with, check_with, trial_within, trial_with, steps_of, conflicts_of, ticks_of, seed_of, size_of, asked_by, is_given, mode_of, request_of}
 use Rattle.rail_words.specs.Laws.{RequestsAreInRange}
 use Rattle.rail_words.specs.Words.{request_seen}
 use Rattle.rail_words.specs.declared.request.Request.{Request}
@@ -43,19 +44,20 @@ checked_so (Some steps) None proof a e = absurd (cc)
 checked_so (Some steps) (Some design) None a e = absurd (cc)
 checked_so (Some steps) (Some design) (Some proof) a e = check_made (steps_of steps) design proof a (λ n h. kept 256 (number_of steps) n h) e
 
-verify_made : (steps conflicts ticks : Option ℕ) (bounds : Bool) (design proof : Text) (a : RequestSeen) → ((n : ℕ) → steps ≡ Some n → (1 ≤ n) × (n ≤ 256)) → verify_within steps conflicts ticks bounds design proof ≡ Some a → IsRequestInRange a
-verify_made None conflicts ticks bounds design proof a h e = absurd (cc)
-verify_made (Some n) None ticks bounds design proof a h e = absurd (cc)
-verify_made (Some n) (Some c) None bounds design proof a h e = absurd (cc)
-verify_made (Some n) (Some c) (Some t) bounds design proof a h e = let same : verify n c t bounds design proof ≡ a = cc in subst IsRequestInRange same (h n refl)
+verify_made : (steps conflicts ticks : Option ℕ) (mode : Option SearchMode) (design proof : Text) (a : RequestSeen) → ((n : ℕ) → steps ≡ Some n → (1 ≤ n) × (n ≤ 256)) → verify_within steps conflicts ticks mode design proof ≡ Some a → IsRequestInRange a
+verify_made None conflicts ticks mode design proof a h e = absurd (cc)
+verify_made (Some n) None ticks mode design proof a h e = absurd (cc)
+verify_made (Some n) (Some c) None mode design proof a h e = absurd (cc)
+verify_made (Some n) (Some c) (Some t) None design proof a h e = absurd (cc)
+verify_made (Some n) (Some c) (Some t) (Some mode) design proof a h e = let same : verify n c t mode design proof ≡ a = cc in subst IsRequestInRange same (h n refl)
 
-verified_so : (steps conflicts ticks : Option Text) (bounds : Bool) (design proof : Option Text) (a : RequestSeen) → verify_with steps conflicts ticks bounds design proof ≡ Some a → IsRequestInRange a
-verified_so None conflicts ticks bounds design proof a e = absurd (cc)
-verified_so (Some s) None ticks bounds design proof a e = absurd (cc)
-verified_so (Some s) (Some c) None bounds design proof a e = absurd (cc)
-verified_so (Some s) (Some c) (Some t) bounds None proof a e = absurd (cc)
-verified_so (Some s) (Some c) (Some t) bounds (Some design) None a e = absurd (cc)
-verified_so (Some s) (Some c) (Some t) bounds (Some design) (Some proof) a e = verify_made (steps_of s) (conflicts_of c) (ticks_of t) bounds design proof a (λ n h. kept 256 (number_of s) n h) e
+verified_so : (steps conflicts ticks : Option Text) (mode : Option SearchMode) (design proof : Option Text) (a : RequestSeen) → verify_with steps conflicts ticks mode design proof ≡ Some a → IsRequestInRange a
+verified_so None conflicts ticks mode design proof a e = absurd (cc)
+verified_so (Some s) None ticks mode design proof a e = absurd (cc)
+verified_so (Some s) (Some c) None mode design proof a e = absurd (cc)
+verified_so (Some s) (Some c) (Some t) mode None proof a e = absurd (cc)
+verified_so (Some s) (Some c) (Some t) mode (Some design) None a e = absurd (cc)
+verified_so (Some s) (Some c) (Some t) mode (Some design) (Some proof) a e = verify_made (steps_of s) (conflicts_of c) (ticks_of t) mode design proof a (λ n h. kept 256 (number_of s) n h) e
 
 simulated_so : (design plan : Option Text) (a : RequestSeen) → simulate_with design plan ≡ Some a → IsRequestInRange a
 simulated_so None plan a e = absurd (cc)
@@ -76,19 +78,19 @@ tried_so None size a e = absurd (cc)
 tried_so (Some seed) None a e = absurd (cc)
 tried_so (Some seed) (Some size) a e = trial_made (seed_of seed) (size_of size) a (seed_fits seed) (λ n h. kept 6 (number_of size) n h) e
 
-chosen : (first second third fourth fifth bounds : Bool) (design plan file steps conflicts ticks of proof seed size : Option Text) (a : RequestSeen)
-    → (if first then simulate_with design plan else if second then routes_with file else if third then verify_with steps conflicts ticks bounds of proof else if fourth then check_with steps of proof else if fifth then trial_with seed size else None) ≡ Some a → IsRequestInRange a
-chosen true second third fourth fifth bounds design plan file steps conflicts ticks of proof seed size a e = simulated_so design plan a e
-chosen false true third fourth fifth bounds design plan file steps conflicts ticks of proof seed size a e = routed_so file a e
-chosen false false true fourth fifth bounds design plan file steps conflicts ticks of proof seed size a e = verified_so steps conflicts ticks bounds of proof a e
-chosen false false false true fifth bounds design plan file steps conflicts ticks of proof seed size a e = checked_so steps of proof a e
-chosen false false false false true bounds design plan file steps conflicts ticks of proof seed size a e = tried_so seed size a e
-chosen false false false false false bounds design plan file steps conflicts ticks of proof seed size a e = absurd (cc)
+chosen : (first second third fourth fifth : Bool) (mode : Option SearchMode) (design plan file steps conflicts ticks of proof seed size : Option Text) (a : RequestSeen)
+    → (if first then simulate_with design plan else if second then routes_with file else if third then verify_with steps conflicts ticks mode of proof else if fourth then check_with steps of proof else if fifth then trial_with seed size else None) ≡ Some a → IsRequestInRange a
+chosen true second third fourth fifth mode design plan file steps conflicts ticks of proof seed size a e = simulated_so design plan a e
+chosen false true third fourth fifth mode design plan file steps conflicts ticks of proof seed size a e = routed_so file a e
+chosen false false true fourth fifth mode design plan file steps conflicts ticks of proof seed size a e = verified_so steps conflicts ticks mode of proof a e
+chosen false false false true fifth mode design plan file steps conflicts ticks of proof seed size a e = checked_so steps of proof a e
+chosen false false false false true mode design plan file steps conflicts ticks of proof seed size a e = tried_so seed size a e
+chosen false false false false false mode design plan file steps conflicts ticks of proof seed size a e = absurd (cc)
 
 named : (entered : Option (Text × List Row)) (a : RequestSeen) → option_and_then asked_by entered ≡ Some a → IsRequestInRange a
 named None a e = absurd (cc)
 named (Some entered) a e =
-    chosen (bytes_eq entered.0 (codes "simulate")) (bytes_eq entered.0 (codes "routes")) (bytes_eq entered.0 (codes "verify")) (bytes_eq entered.0 (codes "check")) (bytes_eq entered.0 (codes "trial")) (is_given (codes "bounds") entered.1)
+    chosen (bytes_eq entered.0 (codes "simulate")) (bytes_eq entered.0 (codes "routes")) (bytes_eq entered.0 (codes "verify")) (bytes_eq entered.0 (codes "check")) (bytes_eq entered.0 (codes "trial")) (mode_of (is_given (codes "bounds") entered.1) (is_given (codes "any") entered.1))
     (first_of (codes "DESIGN") entered.1) (first_of (codes "PLAN") entered.1) (first_of (codes "DESIGN") entered.1)
     (first_of (codes "steps") entered.1) (first_of (codes "conflicts") entered.1) (first_of (codes "ticks") entered.1) (first_of (codes "DESIGN") entered.1) (first_of (codes "PROOF") entered.1)
     (first_of (codes "SEED") entered.1) (first_of (codes "SIZE") entered.1) a e

@@ -148,6 +148,14 @@ module _ (x : ℕ) (xs : Text) (u : ℕ) (us : Text) (v : ℕ) (vs : Text) (y : 
     unfolding clap_on_literals
     no_bounds = rw walk_is refl
 
+    pub not_any : is_given (codes "any") (rows_after leaf.rules [] words) ≡ false
+    unfolding clap_on_literals
+    not_any = rw walk_is refl
+
+    pub no_progress : is_given (codes "progress") (rows_after leaf.rules [] words) ≡ false
+    unfolding clap_on_literals
+    no_progress = rw walk_is refl
+
 -- the rows of the subcommand
 pub verify_rows : (program a b c d e f g h : Text) → subcommand_of rcv_app (program ∷ codes "verify" ∷ a ∷ b ∷ c ∷ d ∷ e ∷ f ∷ g ∷ h ∷ []) ≡ Some (codes "verify", rows_after leaf.rules [] (a ∷ b ∷ c ∷ d ∷ e ∷ f ∷ g ∷ h ∷ []))
 unfolding clap_on_literals

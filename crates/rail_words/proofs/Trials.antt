@@ -7,6 +7,7 @@ use Rattle.clap.specs.Faults.{walk_fault, turn_fault, level_fault, defaults_faul
 use Rattle.clap.specs.Words.{subcommand_of}
 use Rattle.clap.proofs.OnLiterals.{clap_on_literals}
 use Rattle.rail_words.specs.FixedCommand.{rcv_app, trial_app}
+use Rattle.rail_words.specs.Requests.{is_given}
 use Rattle.rail_words.proofs.Walks.{stand, plain_walked, plain_turn}
 
 abbrev pub leaf : Shape
@@ -56,6 +57,10 @@ module _ (x : ℕ) (xs : Text) (y : ℕ) (ys : Text) (e : (x == 45) ≡ false) (
 
   pub size_read : first_of (codes "SIZE") (rows_after leaf.rules [] words) ≡ Some (y ∷ ys)
   size_read = rw walk_is refl
+
+  pub no_progress : is_given (codes "progress") (rows_after leaf.rules [] words) ≡ false
+  unfolding clap_on_literals
+  no_progress = rw walk_is refl
 
 -- the rows of the subcommand
 pub trial_rows : (program a b : Text) → subcommand_of rcv_app (program ∷ codes "trial" ∷ a ∷ b ∷ []) ≡ Some (codes "trial", rows_after leaf.rules [] (a ∷ b ∷ []))

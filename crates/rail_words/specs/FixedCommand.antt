@@ -35,25 +35,29 @@ simulate_app = with_value (with_value (new_app (codes "simulate")) (codes "DESIG
 abbrev pub routes_app : App
 routes_app = with_value (new_app (codes "routes")) (codes "DESIGN")
 
--- `verify --steps N --conflicts C --ticks T`, before its flag and its files
+-- `verify --steps N --conflicts C --ticks T`, before its flags and its files
 abbrev pub verify_options_app : App
 verify_options_app =
     with_option (with_option (with_option (new_app (codes "verify")) (codes "steps")) (codes "conflicts"))
     (codes "ticks")
 
--- `verify --steps N --conflicts C --ticks T [--bounds] DESIGN PROOF`
+-- with the flags `[--bounds] [--any] [--progress]`
+abbrev pub verify_flags_app : App
+verify_flags_app =
+    with_flag (with_flag (with_flag verify_options_app (codes "bounds")) (codes "any")) (codes "progress")
+
+-- `verify --steps N --conflicts C --ticks T [--bounds] [--any] [--progress] DESIGN PROOF`
 abbrev pub verify_app : App
-verify_app =
-    with_value (with_value (with_flag verify_options_app (codes "bounds")) (codes "DESIGN")) (codes "PROOF")
+verify_app = with_value (with_value verify_flags_app (codes "DESIGN")) (codes "PROOF")
 
 -- `check --steps N DESIGN PROOF`
 abbrev pub check_app : App
 check_app =
     with_value (with_value (with_option (new_app (codes "check")) (codes "steps")) (codes "DESIGN")) (codes "PROOF")
 
--- `trial SEED SIZE`
+-- `trial [--progress] SEED SIZE`
 abbrev pub trial_app : App
-trial_app = with_value (with_value (new_app (codes "trial")) (codes "SEED")) (codes "SIZE")
+trial_app = with_value (with_value (with_flag (new_app (codes "trial")) (codes "progress")) (codes "SEED")) (codes "SIZE")
 
 abbrev pub top_app : App
 top_app = record (new_app (codes "rcv")) { top = record (new_app (codes "rcv")).top { subcommand_required = true } }

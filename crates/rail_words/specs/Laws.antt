@@ -2,7 +2,8 @@
 use Rattle.std.specs.Prelude.{ℕ, List, ◌≡◌, ◌↔◌, ◌==◌, ◌⊎◌, not, Bool, true, false, [], ◌∷◌, Option, Some, None, codes}
 use Rattle.clap.specs.Words.{Row, Text, first_of, subcommand_of}
 use Rattle.rail_words.specs.FixedCommand.{rcv_app, is_taken}
-use Rattle.rail_words.specs.Requests.{RequestSeen, IsRequestInRange, request_of, steps_of, conflicts_of, ticks_of, seed_of, size_of}
+use Rattle.rail_words.specs.declared.request.SearchMode.TheVariants.{Plain, Bounds, Any}
+use Rattle.rail_words.specs.Requests.{RequestSeen, IsRequestInRange, is_given, is_watched, request_of, steps_of, conflicts_of, ticks_of, seed_of, size_of}
 use Rattle.rail_words.specs.Requests.{simulate, routes, verify, check, trial}
 
 -- not empty, and not beginning with a hyphen
@@ -33,7 +34,7 @@ VerifyIsRead = (program steps conflicts ticks design proof : Text) (n c t : ℕ)
     → ticks_of ticks ≡ Some t
     → is_plain design ≡ true
     → is_plain proof ≡ true
-    → request_of (verify_words program steps conflicts ticks design proof) ≡ Some (verify n c t false design proof)
+    → request_of (verify_words program steps conflicts ticks design proof) ≡ Some (verify n c t Plain design proof)
 
 -- the words `verify --steps N --conflicts C --ticks T --bounds DESIGN PROOF` behind the program's name
 abbrev pub bounds_words : Text → Text → Text → Text → Text → Text → List Text
@@ -49,7 +50,52 @@ BoundsAreRead = (program steps conflicts ticks design proof : Text) (n c t : ℕ
     → ticks_of ticks ≡ Some t
     → is_plain design ≡ true
     → is_plain proof ≡ true
-    → request_of (bounds_words program steps conflicts ticks design proof) ≡ Some (verify n c t true design proof)
+    → request_of (bounds_words program steps conflicts ticks design proof) ≡ Some (verify n c t Bounds design proof)
+
+-- the words `verify --steps N --conflicts C --ticks T --bounds --any DESIGN PROOF` behind the program's name
+abbrev pub any_words : Text → Text → Text → Text → Text → Text → List Text
+any_words program steps conflicts ticks design proof =
+    program ∷ codes "verify"
+    ∷ codes "--steps" ∷ steps ∷ codes "--conflicts" ∷ conflicts ∷ codes "--ticks" ∷ ticks ∷ codes "--bounds" ∷ codes "--any"
+    ∷ design ∷ proof ∷ []
+
+abbrev pub AnyIsRead : Type 0
+AnyIsRead = (program steps conflicts ticks design proof : Text) (n c t : ℕ)
+    → steps_of steps ≡ Some n
+    → conflicts_of conflicts ≡ Some c
+    → ticks_of ticks ≡ Some t
+    → is_plain design ≡ true
+    → is_plain proof ≡ true
+    → request_of (any_words program steps conflicts ticks design proof) ≡ Some (verify n c t Any design proof)
+
+-- the words `verify --steps N --conflicts C --ticks T --progress DESIGN PROOF` behind the program's name
+abbrev pub progress_words : Text → Text → Text → Text → Text → Text → List Text
+progress_words program steps conflicts ticks design proof =
+    program ∷ codes "verify"
+    ∷ codes "--steps" ∷ steps ∷ codes "--conflicts" ∷ conflicts ∷ codes "--ticks" ∷ ticks ∷ codes "--progress"
+    ∷ design ∷ proof ∷ []
+
+abbrev pub ProgressIsRead : Type 0
+ProgressIsRead = (program steps conflicts ticks design proof : Text) (n c t : ℕ)
+    → steps_of steps ≡ Some n
+    → conflicts_of conflicts ≡ Some c
+    → ticks_of ticks ≡ Some t
+    → is_plain design ≡ true
+    → is_plain proof ≡ true
+    → (request_of (progress_words program steps conflicts ticks design proof) ≡ Some (verify n c t Plain design proof))
+    × (is_watched (progress_words program steps conflicts ticks design proof) ≡ true)
+
+-- the lines of `verify` above do not ask to be told how far a search is
+abbrev pub OthersAreQuiet : Type 0
+OthersAreQuiet = (program steps conflicts ticks design proof : Text) (n c t : ℕ)
+    → steps_of steps ≡ Some n
+    → conflicts_of conflicts ≡ Some c
+    → ticks_of ticks ≡ Some t
+    → is_plain design ≡ true
+    → is_plain proof ≡ true
+    → (is_watched (verify_words program steps conflicts ticks design proof) ≡ false)
+    × (is_watched (bounds_words program steps conflicts ticks design proof) ≡ false)
+    × (is_watched (any_words program steps conflicts ticks design proof) ≡ false)
 
 abbrev pub CheckIsRead : Type 0
 CheckIsRead = (program steps design proof : Text) (n : ℕ)
@@ -83,22 +129,26 @@ VerifyLacksNumber rows =
 abbrev pub TrialLacksNumber : List Row → Type 0
 TrialLacksNumber rows = IsOutOfRange seed_of (codes "SEED") rows ⊎ IsOutOfRange size_of (codes "SIZE") rows
 
--- a number of the subcommand is out of range, by its name and the values of its arguments
-abbrev pub LacksNumber : Text × List Row → Type 0
-LacksNumber entered =
-    (entered.0 ≡ codes "verify") × VerifyLacksNumber entered.1
+-- any number of steps is to do without bounds
+abbrev pub AsksAnyAlone : List Row → Type 0
+AsksAnyAlone rows = (is_given (codes "bounds") rows ≡ false) × (is_given (codes "any") rows ≡ true)
+
+-- a number of the subcommand is out of range, or its flags don't go together, by its name and the values of its arguments
+abbrev pub IsLacking : Text × List Row → Type 0
+IsLacking entered =
+    (entered.0 ≡ codes "verify") × (VerifyLacksNumber entered.1 ⊎ AsksAnyAlone entered.1)
     ⊎ (entered.0 ≡ codes "check") × IsOutOfRange steps_of (codes "steps") entered.1
     ⊎ (entered.0 ≡ codes "trial") × TrialLacksNumber entered.1
 
--- a number of the subcommand that the words name is out of range
-abbrev pub HasNumberOutOfRange : List Text → Type 0
-HasNumberOutOfRange words = (entered : Text × List Row)
-    × (subcommand_of rcv_app words ≡ Some entered) × LacksNumber entered
+-- a number of the subcommand that the words name is out of range, or its flags don't go together
+abbrev pub IsFaulty : List Text → Type 0
+IsFaulty words = (entered : Text × List Row)
+    × (subcommand_of rcv_app words ≡ Some entered) × IsLacking entered
 
--- the fixed command does not take the words, or a number among them is out of range
+-- the fixed command does not take the words, or a number among them is out of range, or flags don't go together
 abbrev pub AsksForNothing : List Text → Type 0
-AsksForNothing words = (is_taken words ≡ false) ⊎ HasNumberOutOfRange words
+AsksForNothing words = (is_taken words ≡ false) ⊎ IsFaulty words
 
--- words make no request exactly where the fixed command does not take them, or a number among them is out of range
+-- words make no request exactly where that is so
 abbrev pub SilenceHasACause : Type 0
 SilenceHasACause = (words : List Text) → (request_of words ≡ None) ↔ AsksForNothing words

@@ -1,10 +1,12 @@
 -- What the words of a command line ask for.
-use Rattle.std.specs.Prelude.{ℕ, ◌≤◌, ◌&&◌, nat_le, Bool, false, List, Option, Some, None, codes, if◌then◌else◌}
+use Rattle.std.specs.Prelude.{ℕ, ◌≤◌, ◌&&◌, nat_le, Bool, true, false, List, Option, Some, None, codes, if◌then◌else◌}
 use Rattle.std.specs.Prelude.{bytes_eq, option_and_then, option_map}
 use Rattle.std.specs.Option.{option_map_or}
 use Rattle.clap.specs.Words.{Row, Text, first_of, one_of, subcommand_of}
 use Rattle.rail_text.specs.Numbers.{number_of}
 use Rattle.rail_words.specs.FixedCommand.{rcv_app, is_taken}
+use Rattle.rail_words.specs.declared.request.SearchMode.{SearchMode}
+use Rattle.rail_words.specs.declared.request.SearchMode.TheVariants.{Plain, Bounds, Any}
 
 -- the number that a text gives, where it is from 1 to a greatest: 1 to 20 digits
 abbrev pub number_to : ℕ → Text → Option ℕ
@@ -35,7 +37,7 @@ size_of = number_to 6
 pub data RequestSeen : Type 0 where
   simulate : Text → Text → RequestSeen
   routes : Text → RequestSeen
-  verify : ℕ → ℕ → ℕ → Bool → Text → Text → RequestSeen
+  verify : ℕ → ℕ → ℕ → SearchMode → Text → Text → RequestSeen
   check : ℕ → Text → Text → RequestSeen
   trial : ℕ → ℕ → RequestSeen
 
@@ -43,7 +45,7 @@ pub data RequestSeen : Type 0 where
 abbrev pub IsRequestInRange : RequestSeen → Type 0
 IsRequestInRange (simulate design plan) = Unit {0}
 IsRequestInRange (routes design) = Unit {0}
-IsRequestInRange (verify n conflicts ticks bounds design proof) = (1 ≤ n) × (n ≤ 256)
+IsRequestInRange (verify n conflicts ticks mode design proof) = (1 ≤ n) × (n ≤ 256)
 IsRequestInRange (check n design proof) = (1 ≤ n) × (n ≤ 256)
 IsRequestInRange (trial seed size) = (seed ≤ 18446744073709551615) × (1 ≤ size) × (size ≤ 6)
 
@@ -54,16 +56,23 @@ simulate_with _ _ = None
 abbrev pub routes_with : Option Text → Option RequestSeen
 routes_with design = option_map routes design
 
--- a search with these numbers, if all of them are there
-abbrev pub verify_within : Option ℕ → Option ℕ → Option ℕ → Bool → Text → Text → Option RequestSeen
-verify_within (Some n) (Some conflicts) (Some ticks) bounds design proof =
-    Some (verify n conflicts ticks bounds design proof)
-verify_within _ _ _ bounds design proof = None
+-- how a plan is looked for, by whether bounds are asked for, and any number of steps will do: only with bounds
+abbrev pub mode_of : Bool → Bool → Option SearchMode
+mode_of false false = Some Plain
+mode_of true false = Some Bounds
+mode_of true true = Some Any
+mode_of false true = None
 
-abbrev pub verify_with : Option Text → Option Text → Option Text → Bool → Option Text → Option Text → Option RequestSeen
-verify_with (Some steps) (Some conflicts) (Some ticks) bounds (Some design) (Some proof) =
-    verify_within (steps_of steps) (conflicts_of conflicts) (ticks_of ticks) bounds design proof
-verify_with _ _ _ bounds _ _ = None
+-- a search with these numbers, if all of them are there, and in this way, if it is one
+abbrev pub verify_within : Option ℕ → Option ℕ → Option ℕ → Option SearchMode → Text → Text → Option RequestSeen
+verify_within (Some n) (Some conflicts) (Some ticks) (Some mode) design proof =
+    Some (verify n conflicts ticks mode design proof)
+verify_within _ _ _ _ design proof = None
+
+abbrev pub verify_with : Option Text → Option Text → Option Text → Option SearchMode → Option Text → Option Text → Option RequestSeen
+verify_with (Some steps) (Some conflicts) (Some ticks) mode (Some design) (Some proof) =
+    verify_within (steps_of steps) (conflicts_of conflicts) (ticks_of ticks) mode design proof
+verify_with _ _ _ mode _ _ = None
 
 abbrev pub check_with : Option Text → Option Text → Option Text → Option RequestSeen
 check_with (Some steps) (Some design) (Some proof) = option_map (λ n. check n design proof) (steps_of steps)
@@ -96,7 +105,7 @@ verify_by rows =
     (first_of (codes "steps") rows)
     (first_of (codes "conflicts") rows)
     (first_of (codes "ticks") rows)
-    (is_given (codes "bounds") rows)
+    (mode_of (is_given (codes "bounds") rows) (is_given (codes "any") rows))
     (first_of (codes "DESIGN") rows)
     (first_of (codes "PROOF") rows)
 
@@ -120,3 +129,11 @@ asked_by entered =
 -- what the words ask for, where the fixed command takes them
 unfoldable pub request_of : List Text → Option RequestSeen
 request_of words = if is_taken words then option_and_then asked_by (subcommand_of rcv_app words) else None
+
+-- the flag `--progress` is among the values of the subcommand
+abbrev pub is_watched_by : Text × List Row → Bool
+is_watched_by entered = is_given (codes "progress") entered.1
+
+-- the fixed command takes the words, and they ask to be told how far a search is
+unfoldable pub is_watched : List Text → Bool
+is_watched words = if is_taken words then option_map_or is_watched_by (subcommand_of rcv_app words) false else false

@@ -14,7 +14,7 @@ texts_of words = map (λ word. string_bytes word) words
 abbrev pub request_seen : Request → RequestSeen
 request_seen (Simulate design plan) = simulate design.now plan.now
 request_seen (Routes design) = routes design.now
-request_seen (Verify steps conflicts ticks bounds design proof) =
-    verify steps conflicts ticks bounds design.now proof.now
+request_seen (Verify steps conflicts ticks mode design proof) =
+    verify steps conflicts ticks mode design.now proof.now
 request_seen (Check steps design proof) = check steps design.now proof.now
 request_seen (Trial seed size) = trial seed size

@@ -5,7 +5,7 @@ ghost use Rattle.clap.specs.Words.{app_of, rule_of};
 ghost use Rattle.clap.specs.declared.builder.command.Command.TheViews.{out-Command as fields_of};
 ghost use Rattle.rail_words.specs.FixedCommand.{flag_rule, option_rule, positional_rule};
 ghost use Rattle.rail_words.specs.FixedCommand.{simulate_app, routes_app, numberless_app};
-ghost use Rattle.rail_words.specs.FixedCommand.{verify_options_app, verify_app, check_app, trial_app, files_app};
+ghost use Rattle.rail_words.specs.FixedCommand.{verify_options_app, verify_flags_app, verify_app, check_app, trial_app, files_app};
 ghost use Rattle.rail_words.specs.FixedCommand.{rcv_app};
 
 use clap::{Arg, ArgAction, Command};
@@ -69,12 +69,22 @@ fn verify_options<'a>(alloc: Global) -> Result<Command<'a>, AllocError>
         .arg(option(alloc, "ticks"))
 }
 
-fn verify_command<'a>(alloc: Global) -> Result<Command<'a>, AllocError>
-    ensures shape { IfOk result (λ command. app_of command ≡ verify_app) }
+/// With its flags.
+fn verify_flags<'a>(alloc: Global) -> Result<Command<'a>, AllocError>
+    ensures shape { IfOk result (λ command. app_of command ≡ verify_flags_app) }
     ensures local { IfOk result (λ command. (fields_of command).has_globals ≡ false) }
 {
     verify_options(alloc)?
         .arg(flag(alloc, "bounds"))?
+        .arg(flag(alloc, "any"))?
+        .arg(flag(alloc, "progress"))
+}
+
+fn verify_command<'a>(alloc: Global) -> Result<Command<'a>, AllocError>
+    ensures shape { IfOk result (λ command. app_of command ≡ verify_app) }
+    ensures local { IfOk result (λ command. (fields_of command).has_globals ≡ false) }
+{
+    verify_flags(alloc)?
         .arg(positional(alloc, "DESIGN"))?
         .arg(positional(alloc, "PROOF"))
 }
@@ -94,6 +104,7 @@ fn trial_command<'a>(alloc: Global) -> Result<Command<'a>, AllocError>
     ensures local { IfOk result (λ command. (fields_of command).has_globals ≡ false) }
 {
     Command::new(alloc, "trial")
+        .arg(flag(alloc, "progress"))?
         .arg(positional(alloc, "SEED"))?
         .arg(positional(alloc, "SIZE"))
 }

@@ -1,7 +1,8 @@
 //! Which words are taken.
 
 ghost use Rattle.rail_words.specs.Laws.{SimulateIsRead, RoutesIsRead, VerifyIsRead, CheckIsRead, TrialIsRead};
-ghost use Rattle.rail_words.specs.Laws.{BoundsAreRead, RequestsAreInRange, SilenceHasACause};
+ghost use Rattle.rail_words.specs.Laws.{AnyIsRead, BoundsAreRead, OthersAreQuiet, ProgressIsRead};
+ghost use Rattle.rail_words.specs.Laws.{RequestsAreInRange, SilenceHasACause};
 
 /// `simulate DESIGN PLAN` after the program's name, no value empty or beginning with a hyphen, asks for that.
 pub fn simulate_is_read()
@@ -23,6 +24,23 @@ pub fn verify_is_read()
 /// in range, with such values, asks for the same, with bounds.
 pub fn bounds_are_read()
     ensures { BoundsAreRead }
+{}
+
+/// `verify --steps N --conflicts C --ticks T --bounds --any DESIGN PROOF` after the program's name, the numbers in
+/// digits and in range, with such values, asks for the same, with bounds and for a plan of whatever number of steps.
+pub fn any_is_read()
+    ensures { AnyIsRead }
+{}
+
+/// `verify --steps N --conflicts C --ticks T --progress DESIGN PROOF` after the program's name, the numbers in digits
+/// and in range, with such values, asks for what it asks for without the flag, and to be told how far it is.
+pub fn progress_is_read()
+    ensures { ProgressIsRead }
+{}
+
+/// The lines of `verify` without that flag do not ask to be told.
+pub fn others_are_quiet()
+    ensures { OthersAreQuiet }
 {}
 
 /// `check --steps N DESIGN PROOF` after the program's name, N from 1 to 256 in digits, with such values, asks for that.

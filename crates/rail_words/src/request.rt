@@ -2,10 +2,11 @@
 
 ghost use Rattle.std.specs.Prelude.{◌≡◌, ◌≢◌, IfOk, OnOk, Err, Some, None, true, false, option_map, option_and_then};
 ghost use Rattle.std.specs.Prelude.{codes};
+ghost use Rattle.std.specs.Option.{option_map_or};
 ghost use Rattle.clap.specs.Words.{first_of, rows_of, found_of, subcommand_of, subcommand_rows_of};
 ghost use Rattle.rail_words.specs.FixedCommand.{rcv_app, is_taken};
-ghost use Rattle.rail_words.specs.Requests.{IsRequestInRange, asked_by, check_with, conflicts_of, is_given, number_to};
-ghost use Rattle.rail_words.specs.Requests.{request_of};
+ghost use Rattle.rail_words.specs.Requests.{IsRequestInRange, asked_by, check_with, conflicts_of, is_given, mode_of, number_to};
+ghost use Rattle.rail_words.specs.Requests.{request_of, is_watched, is_watched_by};
 ghost use Rattle.rail_words.specs.Requests.{simulate_by, routes_by, verify_by, check_by, trial_by};
 ghost use Rattle.rail_words.specs.Requests.{simulate_with, steps_of, ticks_of, routes_with, seed_of, size_of};
 ghost use Rattle.rail_words.specs.Requests.{trial_with, trial_within, verify_with, verify_within};
@@ -18,6 +19,17 @@ use clap::error::ErrorKind;
 use rail_text::number;
 use std::alloc::{AllocError, Global};
 use thiserror::Error;
+
+/// How a plan is looked for.
+#[derive(Clone, Copy, Debug, PartialEq, Eq)]
+pub enum SearchMode {
+    /// One of the fewest steps. Plans that fail are excluded by the cones of their failures.
+    Plain,
+    /// One of the fewest steps. Plans that fail are excluded by lower bounds where one is found.
+    Bounds,
+    /// One of whatever number of steps, with bounds.
+    Any,
+}
 
 /// What is asked of the program.
 #[derive(Clone, Copy, Debug, PartialEq, Eq)]
@@ -37,8 +49,7 @@ pub enum Request<'a> {
         steps: u32,
         conflicts: u64,
         ticks: u64,
-        /// Whether plans that fail are excluded by lower bounds where one is found.
-        bounds: bool,
+        mode: SearchMode,
         design: &'a str,
         proof: &'a str,
     },
@@ -54,6 +65,14 @@ pub enum Request<'a> {
         seed: u64,
         size: u32,
     },
+}
+
+/// What the words of a command line say.
+#[derive(Clone, Copy, Debug, PartialEq, Eq)]
+pub struct Asked<'a> {
+    pub request: Request<'a>,
+    /// Whether a search is to tell how far it is.
+    pub watched: bool,
 }
 
 /// Why words ask for nothing.
@@ -81,8 +100,27 @@ pub fn read_words<'a>(alloc: Global, words: &'a [String]) -> Result<Request<'a>,
     ensures usage { result ≡ Err WordsFault.Usage → request_of (texts_of words.entry.now) ≡ None }
     ensures range { IfOk result (λ request. IsRequestInRange (request_seen request)) }
 {
+    match read_asked(alloc, words) {
+        Ok(asked) => Ok(asked.request),
+        Err(fault) => Err(fault),
+    }
+}
+
+/// What the words ask for, the first of which is the program's name, and whether a search is to tell how far it is.
+pub fn read_asked<'a>(alloc: Global, words: &'a [String]) -> Result<Asked<'a>, WordsFault>
+    ensures ok { IfOk result (λ asked. request_of (texts_of words.entry.now) ≡ Some (request_seen asked.request)) }
+    ensures watched { IfOk result (λ asked. asked.watched ≡ is_watched (texts_of words.entry.now)) }
+    ensures usage { result ≡ Err WordsFault.Usage → request_of (texts_of words.entry.now) ≡ None }
+    ensures range { IfOk result (λ asked. IsRequestInRange (request_seen asked.request)) }
+{
     match matches_of(alloc, words) {
-        Ok(matches) => request_in(&matches).ok_or(WordsFault::Usage),
+        Ok(matches) => {
+            let Some(request) = request_in(&matches) else {
+                return Err(WordsFault::Usage);
+            };
+            let watched = is_watched(&matches);
+            Ok(Asked { request, watched })
+        }
         Err(fault) => Err(fault),
     }
 }
@@ -132,6 +170,16 @@ fn is_given(values: &ArgMatches, flag: &str) -> bool
     values.get_one::<bool>(flag).unwrap_or(false)
 }
 
+/// Whether the matches ask to be told how far a search is.
+fn is_watched(matches: &ArgMatches) -> bool
+    ensures { result ≡ option_map_or is_watched_by (subcommand_rows_of matches.now) false }
+{
+    match subcommand_of(matches) {
+        Some((_, values)) => is_given(values, "progress"),
+        None => false,
+    }
+}
+
 /// What the values of `simulate` ask for.
 fn simulate<'a>(values: &ArgMatches<'a>) -> Option<Request<'a>>
     ensures { option_map request_seen result ≡ simulate_by (rows_of (found_of values.now)) }
@@ -175,18 +223,31 @@ fn steps_of(text: &str) -> Option<u32>
     }
 }
 
-/// What the numbers and names of `verify` ask for.
+/// How the flags of `verify` say that a plan is looked for. One of whatever number of steps is looked for with bounds
+/// alone.
+fn mode_of(bounds: bool, any: bool) -> Option<SearchMode>
+    ensures { result ≡ mode_of bounds any }
+{
+    match (bounds, any) {
+        (false, false) => Some(SearchMode::Plain),
+        (true, false) => Some(SearchMode::Bounds),
+        (true, true) => Some(SearchMode::Any),
+        (false, true) => None,
+    }
+}
+
+/// What the numbers, flags and names of `verify` ask for.
 fn verify_within<'a>(
     steps: &str,
     conflicts: &str,
     ticks: &str,
-    bounds: bool,
+    mode: Option<SearchMode>,
     design: &'a str,
     proof: &'a str,
 ) -> Option<Request<'a>>
     ensures { option_map request_seen result
         ≡ verify_within (steps_of steps.now) (conflicts_of conflicts.now) (ticks_of ticks.now)
-        bounds design.now proof.now }
+        mode design.now proof.now }
 {
     let Some(steps) = steps_of(steps) else {
         return None;
@@ -197,11 +258,14 @@ fn verify_within<'a>(
     let Some(ticks) = number_to(1_000_000_000_000, ticks) else {
         return None;
     };
+    let Some(mode) = mode else {
+        return None;
+    };
     Some(Request::Verify {
         steps,
         conflicts,
         ticks,
-        bounds,
+        mode,
         design,
         proof,
     })
@@ -226,8 +290,8 @@ fn verify<'a>(values: &ArgMatches<'a>) -> Option<Request<'a>>
     let Some(proof) = value(values, "PROOF") else {
         return None;
     };
-    let bounds = is_given(values, "bounds");
-    verify_within(steps, conflicts, ticks, bounds, design, proof)
+    let mode = mode_of(is_given(values, "bounds"), is_given(values, "any"));
+    verify_within(steps, conflicts, ticks, mode, design, proof)
 }
 
 /// What the values of `check` ask for.

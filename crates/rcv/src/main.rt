@@ -1,4 +1,4 @@
-//! The program `rcv`: the top call over real files and standard output.
+//! The program `rcv`: the top call over real files, standard output and standard error.
 #![tactic(auto)]
 
 mod program;

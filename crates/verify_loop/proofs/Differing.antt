@@ -3,7 +3,7 @@ use Rattle.std.proofs.Common.{◌≡◌, ℕ, ◌≤◌, true, false, ◌&&◌, 
 use Rattle.std.specs.List.{list_all}
 use Rattle.std.proofs.lemmas.List.Folds.{list_all-append}
 use Rattle.clause_spec.specs.Models.{model_of}
-use Rattle.clause_spec.specs.declared.question.BaseKind.{BaseKind}
+use Rattle.verify_loop.specs.declared.outcome.Aim.{Aim}
 use Rattle.plan_exclusion.specs.Failures.{IsRefutedBy, clause_of_evidence}
 use Rattle.plan_exclusion.proofs.Denying.{evidence_denies}
 use Rattle.rail_base.specs.declared.plan.Command.{Command}
@@ -18,7 +18,7 @@ use Rattle.sat_clause.specs.Clauses.{clause_holds}
 use Rattle.verify_loop.specs.Outcomes.{Refutal, plans_of, first_clauses, IsFound, AreRefuted}
 use Rattle.verify_loop.proofs.Each.{each_given}
 
-module _ (m : BaseKind) (d : Station) (good : IsAdmitted d) (n : ℕ) (some : 1 ≤ n) where
+module _ (m : Aim) (d : Station) (good : IsAdmitted d) (n : ℕ) (some : 1 ≤ n) where
   -- the clause of what shows that a found plan fails is false in the plan's model
   own_false : (known : List Evidence) (plan : List (List Command)) (e : Evidence) → IsFound m d n known plan → IsRefutedBy d plan e → clause_holds (model_of d (routes_of d) n plan) (clause_of_evidence d n e) ≡ false
   own_false known plan e found shown = evidence_denies d good n some plan found.runnable (each_given m d n good some known plan found) e shown

@@ -11,3 +11,5 @@ pub mod Each
 pub mod Refuting
 pub mod Answering
 pub mod Differing
+pub mod Fewer
+pub mod Told

@@ -1,7 +1,7 @@
 -- What the answers of a solver say of a search that goes on.
 use Rattle.std.proofs.Common.{◌≡◌, ℕ, ◌+◌, ◌-◌, ◌<◌, ◌≤◌, true, false, List, [], ◌∷◌, ◌++◌, map, flat_map, length, nat_le, Option, Some, None, ◌⊎◌, inl, inr, refl, sym, ap, subst, ◌∙◌, arith, append-nil, length-append}
 use Rattle.clause_spec.specs.Clauses.{past_limit}
-use Rattle.clause_spec.specs.declared.question.BaseKind.{BaseKind}
+use Rattle.verify_loop.specs.declared.outcome.Aim.{Aim}
 use Rattle.proof_log.specs.Heads.{keeps_head}
 use Rattle.std.proofs.lemmas.Bool.Decides.{nat_tests}
 use Rattle.log_checker.specs.declared.check_result.CheckResult.TheVariants.{Yes}
@@ -36,7 +36,7 @@ use Rattle.verify_loop.specs.Outcomes.{head, first_clauses, base, vars, plans_of
 use Rattle.verify_loop.specs.Searching.{AllBelow, IsSearch, state_in}
 use Rattle.verify_loop.proofs.Held.{some-same}
 
-module _ (m : BaseKind) (d : Station) (n : ℕ) (b : Budgets) (some : 1 ≤ n) (store : Store) (recorder : Text) (ids : List ℕ) (solver_vars derives : ℕ) (failed : List Plan) (sum steps : ℕ) (s : IsSearch m d n b store recorder ids solver_vars derives failed sum steps) where
+module _ (m : Aim) (d : Station) (n : ℕ) (b : Budgets) (some : 1 ≤ n) (store : Store) (recorder : Text) (ids : List ℕ) (solver_vars derives : ℕ) (failed : List Plan) (sum steps : ℕ) (s : IsSearch m d n b store recorder ids solver_vars derives failed sum steps) where
   abbrev old : State
   old = state_in store recorder ids derives
 

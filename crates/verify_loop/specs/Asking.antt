@@ -1,5 +1,5 @@
 -- Where a search is that answers a question.
-use Rattle.std.specs.Prelude.{ℕ, ◌+◌, ◌<◌, Bool, List, [], ◌∷◌}
+use Rattle.std.specs.Prelude.{ℕ, ◌+◌, ◌<◌, Bool, List, [], ◌∷◌, Option}
 use Rattle.clause_spec.specs.declared.question.VariableCounts.{VariableCounts}
 use Rattle.plan_exclusion.specs.declared.exclusion.Exclusion.{Exclusion}
 use Rattle.plan_exclusion.specs.Exclusions.{IsExclusion}
@@ -16,6 +16,7 @@ use Rattle.verify_loop.specs.declared.rounds.PlanSearch.{PlanSearch}
 use Rattle.verify_loop.specs.declared.rounds.SearchState.{SearchState}
 use Rattle.verify_loop.specs.Outcomes.{IsOutcome, IsFound, cost_of, vars}
 use Rattle.verify_loop.specs.Searching as searching
+use Rattle.verify_loop.specs.Telling as telling
 
 module _ (q : PlanSearch) where
   -- the station
@@ -38,7 +39,7 @@ module _ (q : PlanSearch) where
 
   -- the plan was found where some cones and bounds were known
   abbrev pub WasFound : List (List Command) → Type 0
-  WasFound plan = (known : List Evidence) × IsFound q.kind station_of most_steps known plan
+  WasFound plan = (known : List Evidence) × IsFound q.aim station_of most_steps known plan
 
   -- the values give the plan
   abbrev pub AreValuesFor : List Bool → List (List Command) → Type 0
@@ -46,7 +47,7 @@ module _ (q : PlanSearch) where
 
   -- the line and the clause of a cone or a bound that shows that a plan fails
   abbrev pub Excludes : List (List Command) → Exclusion → Type 0
-  Excludes plan e = IsExclusion q.kind station_of most_steps plan e.line.items e.clause.items
+  Excludes plan e = IsExclusion q.aim.base station_of most_steps plan e.line.items e.clause.items
 
   -- how many ticks the plan costs
   abbrev pub ticks_of : List (List Command) → ℕ
@@ -57,19 +58,19 @@ module _ (q : PlanSearch) where
   -- the search goes on, and nothing is spent
   abbrev pub IsSearch : SearchState → Type 0
   IsSearch s =
-      searching.IsSearch q.kind station_of most_steps q.budgets s.solver.arena s.solver.recorder s.solver.learnt.items s.solver.vars s.solver.derives
+      searching.IsSearch q.aim station_of most_steps q.budgets s.solver.arena s.solver.recorder s.solver.learnt.items s.solver.vars s.solver.derives
       s.failed.items s.sum s.steps
 
   -- it came to this plan
   abbrev pub IsAtPlan : SearchState → List (List Command) → Type 0
   IsAtPlan s plan =
-      searching.IsAtPlan q.kind station_of most_steps q.budgets s.solver.arena s.solver.recorder s.solver.learnt.items s.solver.vars s.solver.derives
+      searching.IsAtPlan q.aim station_of most_steps q.budgets s.solver.arena s.solver.recorder s.solver.learnt.items s.solver.vars s.solver.derives
       s.failed.items s.sum s.steps plan
 
   -- the last line of its log shows by this clause that there is no plan, or none of so many steps
   abbrev pub IsDenied : SearchState → List Lit → Type 0
   IsDenied s clause =
-      searching.IsDenied q.kind station_of most_steps q.budgets s.solver.arena s.solver.recorder s.solver.learnt.items s.solver.vars s.solver.derives
+      searching.IsDenied q.aim station_of most_steps q.budgets s.solver.arena s.solver.recorder s.solver.learnt.items s.solver.vars s.solver.derives
       s.failed.items s.sum s.steps clause
 
   -- where it may look for longer plans, no clause says that there is none of so many steps
@@ -78,8 +79,13 @@ module _ (q : PlanSearch) where
 
   -- it goes on from one to the other: more is spent, or longer plans are looked for
   abbrev pub GoesOn : SearchState → SearchState → Type 0
-  GoesOn old new = IsSearch new × (old.sum + old.steps < new.sum + new.steps)
+  GoesOn old new =
+      IsSearch new × (old.solver.derives + old.sum + old.steps < new.solver.derives + new.sum + new.steps)
+
+  -- lines are put that tell how far it is
+  abbrev pub TellsHowFar : Option (List (List ℕ)) → Option (List (List ℕ)) → Type 0
+  TellsHowFar = telling.TellsHowFar q.aim station_of most_steps
 
   -- what its end says
   abbrev pub EndsWith : Outcome → Type 0
-  EndsWith = IsOutcome q.kind station_of most_steps q.budgets
+  EndsWith = IsOutcome q.aim station_of most_steps q.budgets

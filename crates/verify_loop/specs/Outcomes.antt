@@ -6,7 +6,6 @@ use Rattle.clause_spec.specs.Clauses.{past_limit}
 use Rattle.clause_spec.specs.Models.{model_of}
 use Rattle.clause_spec.specs.declared.question.VariableCounts.{VariableCounts}
 use Rattle.clause_spec.specs.Variables.{variables_of}
-use Rattle.clause_spec.specs.declared.question.BaseKind.{BaseKind}
 use Rattle.plan_exclusion.specs.Exclusions.{head_for}
 use Rattle.plan_exclusion.specs.Failures.{IsRefutedBy, clause_of_evidence}
 use Rattle.proof_judge.specs.Judged.{all_live, clauses_under, judged, refuted}
@@ -27,6 +26,9 @@ use Rattle.log_recorder.specs.Logs.{LogLine, Learnt, IsRunLog, IsEndedLog, MayCo
 use Rattle.sat_clause.specs.Clauses.{Store, clause_holds}
 use Rattle.sat_core.specs.Lines.{Derived, derived_text}
 use Rattle.sat_core.specs.Texts.{ended}
+use Rattle.verify_loop.specs.declared.outcome.Aim.{Aim}
+use Rattle.verify_loop.specs.declared.outcome.Wanted.{Wanted}
+use Rattle.verify_loop.specs.declared.outcome.Wanted.TheVariants.{Fewest, Any}
 use Rattle.verify_loop.specs.declared.outcome.Budgets.{Budgets}
 use Rattle.verify_loop.specs.declared.outcome.Outcome.{Outcome}
 use Rattle.verify_loop.specs.declared.outcome.Outcome.TheVariants.{Plan, Infeasible, ConflictsSpent, TicksSpent}
@@ -54,14 +56,15 @@ module _ (d : Station) (n : ℕ) where
   abbrev pub cost_of : List (List (List Command)) → ℕ
   cost_of plans = sum_by (cost d (routes_of d)) plans
 
-  -- no plan of fewer steps is feasible
-  abbrev pub HasFewestSteps : List (List Command) → Type 0
-  HasFewestSteps plan = (s : ℕ) → s < length plan → IsInfeasible d s
+-- where a plan of the fewest steps is wanted, none of fewer steps than these is feasible
+abbrev pub HasNoneBelow : Wanted → Station → ℕ → Type 0
+HasNoneBelow Fewest d steps = (s : ℕ) → s < steps → IsInfeasible d s
+HasNoneBelow Any d steps = Unit {0}
 
-module _ (m : BaseKind) (d : Station) (n : ℕ) where
+module _ (m : Aim) (d : Station) (n : ℕ) where
   -- the head of the log
   abbrev pub head : Head
-  head = head_for m d n
+  head = head_for m.base d n
 
   -- the clauses that a search begins with: where there is a plan, the model of one makes them true
   abbrev pub first_clauses : List (List Lit)
@@ -147,7 +150,7 @@ module _ (m : BaseKind) (d : Station) (n : ℕ) where
 
   -- what the end of a search within these budgets says
   abbrev pub IsOutcome : Budgets → Outcome → Type 0
-  IsOutcome b (Plan plan verdict) = IsFeasible d n plan.steps × HasFewestSteps d n plan.steps
+  IsOutcome b (Plan plan verdict) = IsFeasible d n plan.steps × HasNoneBelow m.wanted d (length plan.steps)
       × (verdict ≡ verdict_of d (routes_of d) plan.steps (horizon d)) × IsReached b plan.steps
   IsOutcome b (Infeasible log) = IsInfeasible d n × IsProof b log.items × (length log.items ≤ b.log_bytes)
   IsOutcome b (ConflictsSpent log clause hints) =
@@ -169,5 +172,5 @@ module _ (m : BaseKind) (d : Station) (n : ℕ) where
   Fits _ = past_limit 16000000 0 first_clauses ≡ None
 
 -- plans that are refuted so, from no evidence on, differ
-abbrev pub RefutedDiffer : BaseKind → Station → Type 0
+abbrev pub RefutedDiffer : Aim → Station → Type 0
 RefutedDiffer m d = (n : ℕ) → 1 ≤ n → (rs : List Refutal) → AreRefuted m d n [] rs → Differ (plans_of rs)

@@ -4,14 +4,15 @@ ghost use Rattle.std.specs.Prelude.{◌≡◌, ◌≤◌, ◌<◌, ◌+◌, [], 
 ghost use Rattle.verify_loop.specs.Bases.{IsNumberingFor};
 ghost use Rattle.verify_loop.specs.Outcomes.{first_clauses};
 ghost use Rattle.verify_loop.specs.Searching.{state_in};
+ghost use Rattle.verify_loop.specs.Telling.{IsProgress};
 ghost use Rattle.rail_spec.specs.Feasible.{IsInfeasible};
 ghost use Rattle.plan_exclusion.specs.Failures.{FailsSo};
 ghost use Rattle.sat_core.specs.Runs.{Ends};
 ghost use Rattle.clause_spec.specs.Laws.{HasFewLiterals};
 
-use crate::outcome::{Budgets, Outcome};
+use crate::outcome::{Aim, Budgets, Outcome};
+use crate::progress::{Progress, none_before, progress_line};
 use bound_finder::Finder;
-use clause_spec::BaseKind;
 use cone_form::Contention;
 use interlocking::Interlocking;
 use log_recorder::Text;
@@ -21,9 +22,13 @@ use plan_exclusion::{Exclusion, FailedPlan};
 use plan_run::simulate;
 use rail_base::history::{History, Verdict};
 use rail_base::plan::{Plan, Violation};
+use rail_outside::Sink;
 use sat_clause::Lit;
 use sat_core::{Answer, Assignment, Recorder, Solver};
 use std::alloc::{AllocError, Global};
+
+/// After so many derived clauses at the most it is told how far a search is.
+const LINES: u64 = 1000;
 
 /// A search that goes on.
 #[derive(Drop)]
@@ -34,7 +39,7 @@ pub(crate) struct SearchState {
     pub failed: Vec<Plan>,
     /// How many ticks they took.
     pub sum: u64,
-    /// A plan of so many steps is looked for. There is none of fewer.
+    /// A plan of at most so many steps is looked for. Where one of the fewest is wanted, there is none of fewer.
     pub steps: u32,
     /// It looks for bounds by which plans fail.
     pub finder: Finder,
@@ -45,30 +50,54 @@ pub(crate) struct SearchState {
 pub(crate) struct PlanSearch<'a> {
     pub alloc: Global,
     pub interlocking: &'a Interlocking,
-    pub kind: BaseKind,
+    pub aim: Aim,
     pub numbering: &'a Numbering,
     pub budgets: Budgets,
     pub ghost numbers: { IsNumberingFor interlocking.now numbering.now },
     pub ghost at_least_one: { 1 ≤ numbering.now.steps },
     pub ghost at_most_256: { numbering.now.steps ≤ 256 },
-    pub ghost fits: { HasFewLiterals (first_clauses kind interlocking.now.design.station numbering.now.steps) },
+    pub ghost fits: { HasFewLiterals (first_clauses aim interlocking.now.design.station numbering.now.steps) },
 }
 
 impl PlanSearch<'_> {
     ghost use Rattle.verify_loop.specs.Asking.{EndsWith, Excludes, GoesOn, IsAtPlan, IsDenied, IsOpen, IsSearch};
-    ghost use Rattle.verify_loop.specs.Asking.{AreValuesFor, WasFound, given_by, ticks_of, variables};
+    ghost use Rattle.verify_loop.specs.Asking.{AreValuesFor, TellsHowFar, WasFound, given_by, ticks_of, variables};
 
     /// Round after round, each of which but the last excludes a plan that fails.
-    pub(crate) fn run_rounds(&self, search: SearchState) -> Outcome
+    pub(crate) fn run_rounds<P: Sink>(&self, search: SearchState, progress: &mut P) -> Outcome
         requires { IsSearch self.now search }
-        ensures { EndsWith self.now result }
+        ensures ends { EndsWith self.now result }
+        ensures tells { TellsHowFar self.now (P.puts progress.old) (P.puts progress.new) }
     {
         let mut search = search;
         'rounds: loop {
-            match self.refine(search) {
+            match self.refine(search, progress) {
                 Ok(next) => search = next,
                 Err(outcome) => return outcome,
             }
+        }
+    }
+
+    /// How far the search is.
+    fn progress(&self, search: &SearchState) -> Progress
+        requires { IsSearch self.now search.now }
+        ensures { let q = self.now in IsProgress q.aim q.interlocking.now.design.station q.numbering.now.steps result }
+    {
+        Progress {
+            none_of: none_before(self.aim.wanted, search.steps),
+            lines: search.solver.derives(),
+            failed: search.failed.as_slice().len() as u64,
+            ticks: search.sum,
+        }
+    }
+
+    /// Tells how far the search is. Where there is no memory, or the sink fails, the line is left out.
+    fn tell<P: Sink>(&self, search: &SearchState, progress: &mut P)
+        requires { IsSearch self.now search.now }
+        ensures { TellsHowFar self.now (P.puts progress.old) (P.puts progress.new) }
+    {
+        if let Ok(line) = progress_line(self.alloc, self.progress(search)) {
+            let _ = progress.put(line.as_slice());
         }
     }
 
@@ -100,7 +129,7 @@ impl PlanSearch<'_> {
             tick,
             violation,
         };
-        failed.exclusion(self.alloc, self.kind, finder)
+        failed.exclusion(self.alloc, self.aim.base, finder)
     }
 
     /// The search with the clause that excludes a plan that fails at this tick, where the log has room for its line.
@@ -198,17 +227,25 @@ impl PlanSearch<'_> {
     }
 
     /// What follows where the solver shows that there is no plan of so many steps.
-    fn after_denial(&self, search: SearchState, core: &[Lit]) -> Result<SearchState, Outcome>
+    fn after_denial<P: Sink>(
+        &self,
+        search: SearchState,
+        core: &[Lit],
+        progress: &mut P,
+    ) -> Result<SearchState, Outcome>
         requires { IsDenied self.now search core.now }
         ensures goes_on { IfOk result (GoesOn self.now search) }
         ensures ends { IfErr result (EndsWith self.now) }
+        ensures tells { TellsHowFar self.now (P.puts progress.old) (P.puts progress.new) }
     {
         if core.is_empty() || search.steps == self.numbering.counts().steps {
             return Err(Outcome::Infeasible {
                 log: log_of(search.solver),
             });
         }
-        Ok(self.longer(search))
+        let search = self.longer(search);
+        self.tell(&search, progress);
+        Ok(search)
     }
 
     /// The literal that all is given by a step.
@@ -232,46 +269,66 @@ impl PlanSearch<'_> {
         solver.solve(&[self.by_step(steps)], left)
     }
 
-    /// One question to the solver, whether there is a plan of so many steps, and what follows of its answer.
-    fn solve_round(&self, search: SearchState) -> Result<SearchState, Outcome>
+    /// One question to the solver, whether there is a plan of so many steps, and what follows of its answer. It is put
+    /// again after a thousand derived clauses, so that it can be told how far the search is.
+    fn solve_round<P: Sink>(
+        &self,
+        search: SearchState,
+        progress: &mut P,
+    ) -> Result<SearchState, Outcome>
         requires state { IsSearch self.now search }
         requires unsaid { IsOpen self.now search }
         ensures goes_on { IfOk result (GoesOn self.now search) }
         ensures ends { IfErr result (EndsWith self.now) }
+        ensures tells { TellsHowFar self.now (P.puts progress.old) (P.puts progress.new) }
     {
         let mut search = search;
         let left = self.budgets.conflicts - search.solver.derives();
-        match self.put_to(&mut search.solver, search.steps, left) {
-            Answer::Sat(values) => match decode(self.alloc, self.numbering, &values) {
-                Ok(plan) => self.time_plan(search, plan, &values),
-                Err(_) => Err(Outcome::Memory),
-            },
-            Answer::Unsat(core) => self.after_denial(search, core.clause.as_slice()),
-            Answer::Spent { clause, hints } => Err(Outcome::ConflictsSpent {
-                log: log_of(search.solver),
-                clause,
-                hints,
-            }),
-            Answer::Full { bytes, next } => Err(Outcome::LogSpent {
-                log: log_of(search.solver),
-                bytes,
-                next,
-            }),
+        let allowed = left.min(LINES);
+        match self.put_to(&mut search.solver, search.steps, allowed) {
+            Answer::Sat(values) => {
+                self.tell(&search, progress);
+                match decode(self.alloc, self.numbering, &values) {
+                    Ok(plan) => self.time_plan(search, plan, &values),
+                    Err(_) => Err(Outcome::Memory),
+                }
+            }
+            Answer::Unsat(core) => self.after_denial(search, core.clause.as_slice(), progress),
+            Answer::Spent { clause, hints } => {
+                self.tell(&search, progress);
+                if allowed < left {
+                    return Ok(search);
+                }
+                Err(Outcome::ConflictsSpent {
+                    log: log_of(search.solver),
+                    clause,
+                    hints,
+                })
+            }
+            Answer::Full { bytes, next } => {
+                self.tell(&search, progress);
+                Err(Outcome::LogSpent {
+                    log: log_of(search.solver),
+                    bytes,
+                    next,
+                })
+            }
             Answer::Memory => Err(Outcome::Memory),
         }
     }
 
     /// One question to the solver, unless a clause says already that there is no plan of so many steps.
-    fn refine(&self, search: SearchState) -> Result<SearchState, Outcome>
+    fn refine<P: Sink>(&self, search: SearchState, progress: &mut P) -> Result<SearchState, Outcome>
         requires { IsSearch self.now search }
         ensures goes_on { IfOk result (GoesOn self.now search) }
         ensures ends { IfErr result (EndsWith self.now) }
+        ensures tells { TellsHowFar self.now (P.puts progress.old) (P.puts progress.new) }
     {
         let most = self.numbering.counts().steps;
         if search.steps < most && search.solver.is_refuted(self.by_step(search.steps)) {
             return Ok(self.longer(search));
         }
-        self.solve_round(search)
+        self.solve_round(search, progress)
     }
 }
 

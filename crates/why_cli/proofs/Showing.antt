@@ -64,7 +64,7 @@ check_in_range None w range e = absurd (cc)
 check_in_range (Some (check n design proof)) w range e = let same : asking (Some n) design (Some proof) ≡ w = cc in subst (λ (x : Wanted). AreStepsInRange x.steps) same (range (check n design proof) refl)
 check_in_range (Some (simulate design plan)) w range e = absurd (cc)
 check_in_range (Some (routes design)) w range e = absurd (cc)
-check_in_range (Some (verify n conflicts ticks bounds design proof)) w range e = absurd (cc)
+check_in_range (Some (verify n conflicts ticks mode design proof)) w range e = absurd (cc)
 check_in_range (Some (trial seed size)) w range e = absurd (cc)
 
 alone_in_range : (first : Option Wanted) (w : Wanted) → ((x : Wanted) → first ≡ Some x → AreStepsInRange x.steps) → of_design first ≡ Some w → AreStepsInRange w.steps

@@ -38,7 +38,7 @@ abbrev pub by_check : Option RequestSeen → Option Wanted
 by_check (Some (check n design proof)) = Some (record { steps = Some n; design = design; file = Some proof })
 by_check (Some (simulate design plan)) = None
 by_check (Some (routes design)) = None
-by_check (Some (verify n conflicts ticks bounds design proof)) = None
+by_check (Some (verify n conflicts ticks mode design proof)) = None
 by_check (Some (trial seed size)) = None
 by_check None = None
 

@@ -8,11 +8,12 @@ use infra_reader::read_design;
 use interlocking::{Interlocking, Steps};
 use plan_encoding::{base, base_of};
 use rail_base::history::{TrainHistory, Verdict};
+use rail_outside::NullSink;
 use rail_plan::reading::read_plan;
 use rail_routes::interlocking;
 use sat_clause::Lit;
 use std::alloc::Global;
-use verify_loop::{Budgets, Outcome, verify};
+use verify_loop::{Aim, Budgets, Outcome, Wanted, verify};
 use worked_examples::{Row, Run, Search, Text, Turns};
 
 /// How many runs, searches and lists of clauses of a worked example are not what they have to be; each is named.
@@ -131,7 +132,12 @@ fn lacks_room(alloc: Global, interlocking: &Interlocking, search: &Search) -> Re
         ticks: 1000,
         log_bytes: search.log_bytes,
     };
-    match verify(alloc, interlocking, steps, BaseKind::Plain, budgets) {
+    let aim = Aim {
+        base: BaseKind::Plain,
+        wanted: Wanted::Fewest,
+    };
+    let mut unseen = NullSink;
+    match verify(alloc, interlocking, steps, aim, budgets, &mut unseen) {
         Outcome::LogSpent { bytes, next, .. } => {
             Ok(bytes == search.bytes && search.next.is_none_or(|wanted| wanted == next))
         }

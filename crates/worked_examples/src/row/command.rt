@@ -15,6 +15,8 @@ pub struct Command<'a> {
     pub prints: Vec<&'a str>,
     /// How the text begins.
     pub begins: Option<&'a str>,
+    /// The lines that tell how far a search is.
+    pub tells: &'a str,
     pub faults: SinkFaults,
     pub leaves: Leaves<'a>,
     /// Whether a second run prints the same.
@@ -50,11 +52,12 @@ pub struct Leaves<'a> {
 }
 
 /// The keys of a command.
-const KEYS: [&str; 14] = [
+const KEYS: [&str; 15] = [
     "words",
     "status",
     "prints",
     "begins",
+    "tells",
     "failing_put",
     "bytes_out",
     "wanting_put",
@@ -109,6 +112,7 @@ fn command_of<'a>(alloc: Global, value: &'a Value) -> Result<Command<'a>> {
         words: fields.needed_text("words")?,
         status: status_of(fields)?,
         begins: fields.text("begins")?,
+        tells: fields.text("tells")?.unwrap_or(""),
         faults: faults_of(fields)?,
         twice: fields.flag("twice")?.unwrap_or(false),
         prints: fields.texts(alloc, "prints")?,

@@ -1,4 +1,4 @@
-use Rattle.std.proofs.Common.{rules, ap}
+use Rattle.std.proofs.Common.{rules, ap, Some}
 use Rattle.rail_words.specs.Requests.{simulate, routes, verify, check, trial}
 use Rattle.rail_words.specs.Words.{request_seen}
 use Rattle.verify_loop.specs.declared.outcome.Budgets.{Budgets}
@@ -9,6 +9,7 @@ use Rattle.rail_cli.proofs.Judging.{asked_steps}
 use Rattle.rail_cli.proofs.Leaving.{simulate_leaves, routes_leaves, check_leaves, verify_leaves, trial_leaves}
 use Rattle.rail_cli.proofs.Trying.{tries_other, trial_size}
 use Rattle.rail_cli.proofs.AnyShelf.{asks_named, some_search, some_trial}
+use Rattle.rail_cli.proofs.Telling.{nothing_told, search_tells, trial_tells}
 use Rattle.rail_cli.proofs.run.request_reply.Goals as goal
 
 pub returns-in-Simulate-clause-replies : goal.returns-in-Simulate-clause-replies
@@ -31,17 +32,17 @@ returns-in-Routes-clause-stored g c = routes_leaves c.routes_reply.result _ _ (r
 
 pub returns-in-Verify-clause-replies : goal.returns-in-Verify-clause-replies
 returns-in-Verify-clause-replies g c = λ files reply_for.
-    verify_so c.search_reply.result files (request_seen c.args.request) c.in-Verify.steps c.in-Verify.conflicts c.in-Verify.ticks c.in-Verify.bounds c.budgets.result c.in-Verify.design.now c.in-Verify.proof.now c.budgets.ensures (search rules) (c.search_reply.ensures.replies files reply_for)
+    verify_so c.search_reply.result files (request_seen c.args.request) c.in-Verify.steps c.in-Verify.conflicts c.in-Verify.ticks c.in-Verify.mode c.budgets.result c.in-Verify.design.now c.in-Verify.proof.now c.budgets.ensures (search rules) (c.search_reply.ensures.replies files reply_for)
 
 pub returns-in-Verify-clause-decides : goal.returns-in-Verify-clause-decides
-returns-in-Verify-clause-decides g c = λ files reply_for. decides_verify files (request_seen c.args.request) c.in-Verify.steps c.in-Verify.conflicts c.in-Verify.ticks c.in-Verify.bounds c.in-Verify.design.now c.in-Verify.proof.now c.search_reply.result (search rules)
+returns-in-Verify-clause-decides g c = λ files reply_for. decides_verify files (request_seen c.args.request) c.in-Verify.steps c.in-Verify.conflicts c.in-Verify.ticks c.in-Verify.mode c.in-Verify.design.now c.in-Verify.proof.now c.search_reply.result (search rules)
 
 pub returns-in-Verify-clause-stored : goal.returns-in-Verify-clause-stored
-returns-in-Verify-clause-stored g c = verify_leaves c.search_reply.result (g.S.Shelf.known_files c.args.shelf.now) (g.S.Shelf.known_files c.search_reply.new.shelf) (request_seen c.args.request) c.in-Verify.steps c.in-Verify.conflicts c.in-Verify.ticks c.in-Verify.bounds c.in-Verify.design.now c.in-Verify.proof.now (search rules) c.search_reply.ensures.stored
+returns-in-Verify-clause-stored g c = verify_leaves c.search_reply.result (g.S.Shelf.known_files c.args.shelf.now) (g.S.Shelf.known_files c.search_reply.new.shelf) (request_seen c.args.request) c.in-Verify.steps c.in-Verify.conflicts c.in-Verify.ticks c.in-Verify.mode c.in-Verify.design.now c.in-Verify.proof.now (search rules) c.search_reply.ensures.stored
 
 pub search_reply-requires : goal.search_reply-requires
 search_reply-requires g c =
-    let steps = search_steps (request_seen c.args.request) c.in-Verify.steps c.in-Verify.conflicts c.in-Verify.ticks c.in-Verify.bounds c.in-Verify.design.now c.in-Verify.proof.now (search rules) c.requires.range in
+    let steps = search_steps (request_seen c.args.request) c.in-Verify.steps c.in-Verify.conflicts c.in-Verify.ticks c.in-Verify.mode c.in-Verify.design.now c.in-Verify.proof.now (search rules) c.requires.range in
     record { at_least_one = steps.0; at_most_256 = steps.1; room = ap (λ (b : Budgets). b.log_bytes) c.budgets.ensures }
 
 pub returns-in-Check-clause-replies : goal.returns-in-Check-clause-replies
@@ -65,7 +66,7 @@ pub returns-in-Routes-clause-tries : goal.returns-in-Routes-clause-tries
 returns-in-Routes-clause-tries g c = tries_other c.routes_reply.result (request_seen c.args.request) (routes c.in-Routes.design.now) (search rules) tt
 
 pub returns-in-Verify-clause-tries : goal.returns-in-Verify-clause-tries
-returns-in-Verify-clause-tries g c = tries_other c.search_reply.result (request_seen c.args.request) (verify c.in-Verify.steps c.in-Verify.conflicts c.in-Verify.ticks c.in-Verify.bounds c.in-Verify.design.now c.in-Verify.proof.now) (search rules) tt
+returns-in-Verify-clause-tries g c = tries_other c.search_reply.result (request_seen c.args.request) (verify c.in-Verify.steps c.in-Verify.conflicts c.in-Verify.ticks c.in-Verify.mode c.in-Verify.design.now c.in-Verify.proof.now) (search rules) tt
 
 pub returns-in-Check-clause-tries : goal.returns-in-Check-clause-tries
 returns-in-Check-clause-tries g c = tries_other c.check_reply.result (request_seen c.args.request) (check c.in-Check.steps c.in-Check.design.now c.in-Check.proof.now) (search rules) tt
@@ -98,11 +99,26 @@ returns-in-Routes-clause-for_some_files g c = asks_named c.routes_reply.result (
 
 pub returns-in-Verify-clause-for_some_files : goal.returns-in-Verify-clause-for_some_files
 returns-in-Verify-clause-for_some_files g c =
-    asks_named c.search_reply.result (request_seen c.args.request) (verify c.in-Verify.steps c.in-Verify.conflicts c.in-Verify.ticks c.in-Verify.bounds c.in-Verify.design.now c.in-Verify.proof.now) (search rules)
-    (some_search c.search_reply.result c.in-Verify.steps c.in-Verify.conflicts c.in-Verify.ticks c.in-Verify.bounds c.budgets.result c.in-Verify.design.now c.in-Verify.proof.now c.budgets.ensures c.search_reply.ensures.for_some_files)
+    asks_named c.search_reply.result (request_seen c.args.request) (verify c.in-Verify.steps c.in-Verify.conflicts c.in-Verify.ticks c.in-Verify.mode c.in-Verify.design.now c.in-Verify.proof.now) (search rules)
+    (some_search c.search_reply.result c.in-Verify.steps c.in-Verify.conflicts c.in-Verify.ticks c.in-Verify.mode c.budgets.result c.in-Verify.design.now c.in-Verify.proof.now c.budgets.ensures c.search_reply.ensures.for_some_files)
 
 pub returns-in-Check-clause-for_some_files : goal.returns-in-Check-clause-for_some_files
 returns-in-Check-clause-for_some_files g c = asks_named c.check_reply.result (request_seen c.args.request) (check c.in-Check.steps c.in-Check.design.now c.in-Check.proof.now) (search rules) c.check_reply.ensures.for_some_files
 
 pub returns-in-Trial-clause-for_some_files : goal.returns-in-Trial-clause-for_some_files
 returns-in-Trial-clause-for_some_files g c = asks_named c.trial_reply.result (request_seen c.args.request) (trial c.in-Trial.seed c.in-Trial.size) (search rules) (some_trial c.trial_reply.result c.in-Trial.seed c.in-Trial.size c.trial_reply.ensures.replies)
+
+pub returns-in-Simulate-clause-tells : goal.returns-in-Simulate-clause-tells
+returns-in-Simulate-clause-tells g c = λ files reply_for. nothing_told files (Some (request_seen c.args.request)) _
+
+pub returns-in-Routes-clause-tells : goal.returns-in-Routes-clause-tells
+returns-in-Routes-clause-tells g c = λ files reply_for. nothing_told files (Some (request_seen c.args.request)) _
+
+pub returns-in-Check-clause-tells : goal.returns-in-Check-clause-tells
+returns-in-Check-clause-tells g c = λ files reply_for. nothing_told files (Some (request_seen c.args.request)) _
+
+pub returns-in-Verify-clause-tells : goal.returns-in-Verify-clause-tells
+returns-in-Verify-clause-tells g c = λ files reply_for. search_tells files (request_seen c.args.request) c.in-Verify.steps c.in-Verify.conflicts c.in-Verify.ticks c.in-Verify.mode c.in-Verify.design.now c.in-Verify.proof.now _ _ (search rules) (c.search_reply.ensures.tells files reply_for)
+
+pub returns-in-Trial-clause-tells : goal.returns-in-Trial-clause-tells
+returns-in-Trial-clause-tells g c = λ files reply_for. trial_tells files (request_seen c.args.request) c.in-Trial.seed c.in-Trial.size _ _ (search rules) c.trial_reply.ensures.tells

@@ -6,8 +6,8 @@ returns-clause-replies g c = (
   c.verify-found.result,
   c.verify-found.ensures.says,
   c.verify-found.ensures.fits,
-  searched_so c.args.interlocking.now.design.station c.args.steps.count c.args.budgets c.args.kind c.settle.result c.verify-found.result c.verify-found.ensures.says c.verify-found.ensures.fits c.settle.ensures.replies,
+  searched_so c.args.interlocking.now.design.station c.args.steps.count c.args.budgets c.args.aim c.settle.result c.verify-found.result c.verify-found.ensures.says c.verify-found.ensures.fits c.settle.ensures.replies,
 )
 
 pub settle-requires : goal.settle-requires
-settle-requires g c = record { says = (c.args.kind, c.verify-found.ensures.says); room = c.requires.room }
+settle-requires g c = record { says = (c.args.aim, c.verify-found.ensures.says); room = c.requires.room }

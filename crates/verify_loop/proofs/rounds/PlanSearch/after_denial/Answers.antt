@@ -7,8 +7,8 @@ use Rattle.verify_loop.proofs.rounds.PlanSearch.after_denial.Goals as goal
 use Rattle.verify_loop.proofs.rounds.PlanSearch.after_denial.Goals.{then-is_empty-via-then-is_empty, then-is_empty-via-else-is_empty+then-search-counts}
 
 pub returns-then-is_empty-clause-ends : goal.returns-then-is_empty-clause-ends
-returns-then-is_empty-clause-ends c =
-    let m = c.args.self.now.kind in
+returns-then-is_empty-clause-ends g c =
+    let m = c.args.self.now.aim in
     let d = c.args.self.now.interlocking.now.design.station in
     let n = c.args.self.now.numbering.now.steps in
     let b = c.args.self.now.budgets in
@@ -18,8 +18,8 @@ returns-then-is_empty-clause-ends c =
     ] in
     subst (λ (log : List ℕ). IsInfeasible d n × IsProof m d n b log × (length log ≤ b.log_bytes)) (sym (ap (λ v. v.items) c.log_of.ensures)) (c.requires.of_all which)
 
-pub longer-requires-clause-known : goal.longer-requires-clause-known
-longer-requires-clause-known c =
+pub longer-search-requires-clause-known : goal.longer-search-requires-clause-known
+longer-search-requires-clause-known g c =
     let n = c.args.self.now.numbering.now.steps in
     let less : c.args.search.steps < n = elim (le-split c.args.search.steps n c.requires.at_most_n) [ inl p ↦ p | inr q ↦ absurd (c.if-search-counts.false (q ∙ sym c.counts.ensures.steps)) ] in
     (c.requires.of_these (some-so c.args.core.now c.is_empty.result c.is_empty.ensures c.if-is_empty.false) less).0

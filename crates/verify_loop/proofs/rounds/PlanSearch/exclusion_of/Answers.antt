@@ -8,7 +8,7 @@ use Rattle.verify_loop.proofs.rounds.PlanSearch.exclusion_of.Goals as goal
 
 pub invariant_of-failed : goal.invariant_of-failed
 invariant_of-failed c =
-    let m = c.args.self.now.kind in
+    let m = c.args.self.now.aim in
     let d = c.args.self.now.interlocking.now.design.station in
     let n = c.args.self.now.numbering.now.steps in
     let plan = c.args.plan.now.steps in

@@ -1,6 +1,5 @@
-use Rattle.std.proofs.Common.{inl, inr, subst, sym, arith}
-use Rattle.rail_spec.specs.Feasible.{IsInfeasible}
-use Rattle.log_recorder.proofs.Searched.{le-split}
+use Rattle.std.proofs.Common.{refl, arith}
+use Rattle.verify_loop.proofs.Fewer.{none_below_more}
 use Rattle.verify_loop.proofs.rounds.PlanSearch.longer.Goals as goal
 
 pub returns : goal.returns
@@ -25,7 +24,7 @@ returns c =
         left = s.left;
         at_least_one = omega arith;
         at_most_n = omega (arith, less);
-        fewer = λ k h. elim (le-split k c.args.search.steps (omega (arith, h))) [ inl p ↦ s.fewer k p | inr q ↦ subst (IsInfeasible d) (sym q) c.requires.known ];
+        fewer = none_below_more c.args.self.now.aim.wanted d c.args.search.steps _ refl s.fewer c.requires.known;
       },
       omega arith,
     )

@@ -9,14 +9,14 @@ use Rattle.verify_loop.proofs.rounds.PlanSearch.refine.Goals as goal
 use Rattle.verify_loop.proofs.rounds.PlanSearch.refine.Goals.{else-search-most-via-then-search-most+else-is_refuted, else-search-most-via-else-search-most}
 
 pub longer-requires-clause-known : goal.longer-requires-clause-known
-longer-requires-clause-known c =
+longer-requires-clause-known g c =
     let one = c.args.search.solver in
-    known_so c.args.self.now.kind c.args.self.now.interlocking.now.design.station c.args.self.now.numbering.now.steps c.args.self.now.budgets c.args.self.now.at_least_one one.arena one.recorder one.learnt.items one.vars one.derives c.args.search.failed.items c.args.search.sum c.args.search.steps c.requires
-    (admitted c.args.self.now.interlocking.now.design.station c.args.self.now.interlocking.now.design.admitted) denials (denied_is_so c.args.self.now.kind)
+    known_so c.args.self.now.aim c.args.self.now.interlocking.now.design.station c.args.self.now.numbering.now.steps c.args.self.now.budgets c.args.self.now.at_least_one one.arena one.recorder one.learnt.items one.vars one.derives c.args.search.failed.items c.args.search.sum c.args.search.steps c.requires
+    (admitted c.args.self.now.interlocking.now.design.station c.args.self.now.interlocking.now.design.admitted) denials (denied_is_so c.args.self.now.aim)
     (subst (λ (z : Lit). HasUnit one.arena (opposite z)) c.by_step.ensures (c.is_refuted.ensures.yes c.if-is_refuted.true))
 
 pub solve_round-requires-clause-unsaid : goal.solve_round-requires-clause-unsaid
-solve_round-requires-clause-unsaid c = elim c.else-search-most.branch [
+solve_round-requires-clause-unsaid g c = elim c.else-search-most.branch [
   | else-search-most-via-then-search-most+else-is_refuted w ↦ (λ less unit. w.is_refuted.ensures.no w.if-is_refuted.false (subst (λ (z : Lit). HasUnit c.args.search.solver.arena (opposite z)) (sym w.by_step.ensures) unit))
   | else-search-most-via-else-search-most w ↦ (λ less. (let most = w.if-search-most.false in let same = c.counts-most.ensures.steps in absurd (omega arith)))
 ]

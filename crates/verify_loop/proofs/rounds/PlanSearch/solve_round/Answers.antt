@@ -14,12 +14,12 @@ use Rattle.verify_loop.proofs.Answering.{base_holds, at_plan}
 use Rattle.verify_loop.proofs.Heading.{kept_so}
 use Rattle.verify_loop.proofs.Held.{some-same}
 use Rattle.verify_loop.proofs.Known.{denials, denied_is_so, ended_runs, yes_is_so}
-use Rattle.verify_loop.proofs.Refining.{lines, log_so, next_so, full_so, within_so, count_so, proof_so, infeasible_so, none_so, denied_so}
+use Rattle.verify_loop.proofs.Refining.{still, lines, log_so, next_so, full_so, within_so, count_so, proof_so, infeasible_so, none_so, denied_so}
 use Rattle.verify_loop.proofs.rounds.PlanSearch.solve_round.Goals as goal
 
 pub time_plan-requires-clause-at : goal.time_plan-requires-clause-at
-time_plan-requires-clause-at c =
-    let m = c.args.self.now.kind in
+time_plan-requires-clause-at g c =
+    let m = c.args.self.now.aim in
     let d = c.args.self.now.interlocking.now.design.station in
     let n = c.args.self.now.numbering.now.steps in
     let b = c.args.self.now.budgets in
@@ -29,7 +29,7 @@ time_plan-requires-clause-at c =
     let run = c.in-Sat.ensures.run in
     let some = c.args.self.now.at_least_one in
     let is = c.args.self.now.numbers in
-    let within : derive_count run.0 ≤ b.conflicts - one.derives = subst (λ (k : ℕ). derive_count run.0 ≤ b.conflicts - k) c.derives.ensures run.2 in
+    let within : derive_count run.0 ≤ b.conflicts - one.derives = (let most = run.2 in let is = c.min-allowed.ensures in let spent = c.derives.ensures in omega arith) in
     let holds = base_holds m d n b some one.arena one.recorder one.learnt.items one.vars one.derives c.args.search.failed.items c.args.search.sum c.args.search.steps c.requires.state two.arena two.recorder two.learnt.items two.vars two.derives run.0 run.1 c.in-Sat.values run.3.clauses few in
     let at : (vars d n).before_selectors + c.args.search.steps ≡ number_of d (routes_of d) n (By c.args.search.steps) = omega arith in
     let told : value_in c.in-Sat.values (number_of d (routes_of d) n (By c.args.search.steps)) ≡ true = subst (λ (v : ℕ). value_in c.in-Sat.values v ≡ true) at (run.3.assumed (by_step (vars d n) c.args.search.steps) (assigned-self (by_step (vars d n) c.args.search.steps))) in
@@ -39,8 +39,8 @@ time_plan-requires-clause-at c =
     (c.in-Ok.ensures.ends d (routes_of d) n is holds c.args.search.steps c.requires.state.at_least_one c.requires.state.at_most_n told)
 
 pub time_plan-requires-clause-are_values : goal.time_plan-requires-clause-are_values
-time_plan-requires-clause-are_values c =
-    let m = c.args.self.now.kind in
+time_plan-requires-clause-are_values g c =
+    let m = c.args.self.now.aim in
     let d = c.args.self.now.interlocking.now.design.station in
     let n = c.args.self.now.numbering.now.steps in
     let b = c.args.self.now.budgets in
@@ -55,8 +55,8 @@ time_plan-requires-clause-are_values c =
     }
 
 pub after_denial-requires : goal.after_denial-requires
-after_denial-requires c =
-    let m = c.args.self.now.kind in
+after_denial-requires g c =
+    let m = c.args.self.now.aim in
     let d = c.args.self.now.interlocking.now.design.station in
     let n = c.args.self.now.numbering.now.steps in
     let b = c.args.self.now.budgets in
@@ -72,7 +72,7 @@ after_denial-requires c =
     let within = two.recorder.within in
     let fits = c.args.self.now.fits in
     let kept = kept_so m d n good c.args.self.now.at_most_256 in
-    let less : derive_count run.0 < b.conflicts - one.derives = subst (λ (k : ℕ). derive_count run.0 < b.conflicts - k) c.derives.ensures run.4 in
+    let less : derive_count run.0 < b.conflicts - one.derives = (let most = run.4 in let is = c.min-allowed.ensures in let spent = c.derives.ensures in omega arith) in
     record {
       at_most_n = c.requires.state.at_most_n;
       of_all = λ told. let which = subst (λ (z : List Lit). (z ≡ []) ⊎ (c.args.search.steps ≡ n)) c.as_slice.ensures.value told in (
@@ -86,9 +86,9 @@ after_denial-requires c =
       );
     }
 
-pub returns-in-Spent-clause-ends : goal.returns-in-Spent-clause-ends
-returns-in-Spent-clause-ends c =
-    let m = c.args.self.now.kind in
+pub returns-else-allowed-left-clause-ends : goal.returns-else-allowed-left-clause-ends
+returns-else-allowed-left-clause-ends g c =
+    let m = c.args.self.now.aim in
     let d = c.args.self.now.interlocking.now.design.station in
     let n = c.args.self.now.numbering.now.steps in
     let b = c.args.self.now.budgets in
@@ -99,7 +99,7 @@ returns-in-Spent-clause-ends c =
     let some = c.args.self.now.at_least_one in
     let new = state_in two.arena two.recorder two.learnt.items two.derives in
     let text : c.log_of.result.items ≡ new.text = ap (λ v. v.items) c.log_of.ensures in
-    let all : derive_count run.0 ≡ b.conflicts - one.derives = subst (λ (k : ℕ). derive_count run.0 ≡ b.conflicts - k) c.derives.ensures run.2 in (
+    let all : derive_count run.0 ≡ b.conflicts - one.derives = (let most = run.2 in let is = c.min-allowed.ensures in let spent = c.derives.ensures in let no = c.if-allowed-left.false in omega arith) in (
       lines m d n b some one.arena one.recorder one.learnt.items one.vars one.derives c.args.search.failed.items c.args.search.sum c.args.search.steps c.requires.state new run.0 run.1,
       c.requires.state.rs,
       rw text (log_so m d n b some one.arena one.recorder one.learnt.items one.vars one.derives c.args.search.failed.items c.args.search.sum c.args.search.steps c.requires.state new run.0 run.1 few),
@@ -109,8 +109,8 @@ returns-in-Spent-clause-ends c =
     )
 
 pub returns-in-Full-clause-ends : goal.returns-in-Full-clause-ends
-returns-in-Full-clause-ends c =
-    let m = c.args.self.now.kind in
+returns-in-Full-clause-ends g c =
+    let m = c.args.self.now.aim in
     let d = c.args.self.now.interlocking.now.design.station in
     let n = c.args.self.now.numbering.now.steps in
     let b = c.args.self.now.budgets in
@@ -120,7 +120,69 @@ returns-in-Full-clause-ends c =
     let run = c.in-Full.ensures.run in
     let new = state_in two.arena two.recorder two.learnt.items two.derives in
     let text : c.log_of-in-Full.result.items ≡ new.text = ap (λ v. v.items) c.log_of-in-Full.ensures in
-    let fewer : derive_count run.0 ≤ b.conflicts - one.derives = (let less = subst (λ (k : ℕ). derive_count run.0 < b.conflicts - k) c.derives.ensures run.4 in omega arith) in
+    let fewer : derive_count run.0 ≤ b.conflicts - one.derives = (let most = run.4 in let is = c.min-allowed.ensures in let spent = c.derives.ensures in omega arith) in
     let full : IsFull m d n b new.text c.in-Full.bytes c.in-Full.next =
     full_so m d n b c.args.self.now.at_least_one one.arena one.recorder one.learnt.items one.vars one.derives c.args.search.failed.items c.args.search.sum c.args.search.steps c.requires.state new run.0 run.3 few c.requires.unsaid run.1 run.2 c.in-Full.bytes c.in-Full.next fewer run.5 run.6 run.7 run.8 in
     subst (λ (t : List ℕ). IsFull m d n b t c.in-Full.bytes c.in-Full.next) (sym text) full
+
+pub tell-requires : goal.tell-requires
+tell-requires g c =
+    let m = c.args.self.now.aim in
+    let d = c.args.self.now.interlocking.now.design.station in
+    let n = c.args.self.now.numbering.now.steps in
+    let b = c.args.self.now.budgets in
+    let one = c.args.search.solver in
+    let two = c.put_to.new.solver in
+    let few : length two.arena ≤ greatest_clause_number = subst (λ k. k ≤ greatest_clause_number) two.counted_alike two.recorder.has_numbers in
+    let run = c.in-Sat.ensures.run in
+    let some = c.args.self.now.at_least_one in
+    let within : derive_count run.0 ≤ b.conflicts - one.derives = (let most = run.2 in let is = c.min-allowed.ensures in let spent = c.derives.ensures in omega arith) in
+    still m d n b some one.arena one.recorder one.learnt.items one.vars one.derives c.args.search.failed.items c.args.search.sum c.args.search.steps c.requires.state two.arena two.recorder two.learnt.items two.vars two.derives run.0 run.1 within c.put_to.ensures.vars few
+
+pub tell-requires-in-Spent : goal.tell-requires-in-Spent
+tell-requires-in-Spent g c =
+    let m = c.args.self.now.aim in
+    let d = c.args.self.now.interlocking.now.design.station in
+    let n = c.args.self.now.numbering.now.steps in
+    let b = c.args.self.now.budgets in
+    let one = c.args.search.solver in
+    let two = c.put_to.new.solver in
+    let few : length two.arena ≤ greatest_clause_number = subst (λ k. k ≤ greatest_clause_number) two.counted_alike two.recorder.has_numbers in
+    let run = c.in-Spent.ensures.run in
+    let some = c.args.self.now.at_least_one in
+    let within : derive_count run.0 ≤ b.conflicts - one.derives = (let most = run.2 in let is = c.min-allowed.ensures in let spent = c.derives.ensures in omega arith) in
+    still m d n b some one.arena one.recorder one.learnt.items one.vars one.derives c.args.search.failed.items c.args.search.sum c.args.search.steps c.requires.state two.arena two.recorder two.learnt.items two.vars two.derives run.0 run.1 within c.put_to.ensures.vars few
+
+pub tell-requires-in-Full : goal.tell-requires-in-Full
+tell-requires-in-Full g c =
+    let m = c.args.self.now.aim in
+    let d = c.args.self.now.interlocking.now.design.station in
+    let n = c.args.self.now.numbering.now.steps in
+    let b = c.args.self.now.budgets in
+    let one = c.args.search.solver in
+    let two = c.put_to.new.solver in
+    let few : length two.arena ≤ greatest_clause_number = subst (λ k. k ≤ greatest_clause_number) two.counted_alike two.recorder.has_numbers in
+    let run = c.in-Full.ensures.run in
+    let some = c.args.self.now.at_least_one in
+    let within : derive_count run.0 ≤ b.conflicts - one.derives = (let most = run.4 in let is = c.min-allowed.ensures in let spent = c.derives.ensures in omega arith) in
+    still m d n b some one.arena one.recorder one.learnt.items one.vars one.derives c.args.search.failed.items c.args.search.sum c.args.search.steps c.requires.state two.arena two.recorder two.learnt.items two.vars two.derives run.0 run.3 within c.put_to.ensures.vars few
+
+pub returns-then-allowed-left-clause-goes_on : goal.returns-then-allowed-left-clause-goes_on
+returns-then-allowed-left-clause-goes_on g c =
+    let m = c.args.self.now.aim in
+    let d = c.args.self.now.interlocking.now.design.station in
+    let n = c.args.self.now.numbering.now.steps in
+    let b = c.args.self.now.budgets in
+    let one = c.args.search.solver in
+    let two = c.put_to.new.solver in
+    let few : length two.arena ≤ greatest_clause_number = subst (λ k. k ≤ greatest_clause_number) two.counted_alike two.recorder.has_numbers in
+    let run = c.in-Spent.ensures.run in
+    let some = c.args.self.now.at_least_one in
+    let within : derive_count run.0 ≤ b.conflicts - one.derives = (let most = run.2 in let is = c.min-allowed.ensures in let spent = c.derives.ensures in omega arith) in
+    let grown = run.1.derives in
+    let many = run.2 in
+    let is = c.min-allowed.ensures in
+    let fewer = c.if-allowed-left.true in (
+      still m d n b some one.arena one.recorder one.learnt.items one.vars one.derives c.args.search.failed.items c.args.search.sum c.args.search.steps c.requires.state two.arena two.recorder two.learnt.items two.vars two.derives run.0 run.1 within c.put_to.ensures.vars few,
+      omega arith,
+    )

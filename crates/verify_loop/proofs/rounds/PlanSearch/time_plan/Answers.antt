@@ -8,6 +8,7 @@ use Rattle.rail_spec.specs.Track.{routes_of}
 use Rattle.rail_laws.proofs.Verdicts.{verdict}
 use Rattle.verify_loop.specs.Outcomes.{evidence_in}
 use Rattle.verify_loop.proofs.Timing.{decided_early, undecided_late, by_horizon, met_feasible, failed_tick, over_routes}
+use Rattle.verify_loop.proofs.Fewer.{none_below_less}
 use Rattle.verify_loop.proofs.Within.{within_so, log_told, reached_so}
 use Rattle.verify_loop.proofs.rounds.PlanSearch.time_plan.Goals as goal
 
@@ -67,9 +68,9 @@ returns-in-Ok-Met-clause-ends c =
     let spent = c.requires.at.search.left in
     let cheap = early.0 in (
       met_feasible d c.args.plan.steps c.args.self.now.numbering.now.steps c.in-Ok-Met.history c.in-Ok-Met.tick good c.requires.at.found.runnable (sym early.1),
-      λ s less. (let short = c.requires.at.within_steps in c.requires.at.search.fewer s (omega arith)),
+      none_below_less c.args.self.now.aim.wanted d _ _ c.requires.at.within_steps c.requires.at.search.fewer,
       early.1 ∙ sym (by_horizon d c.args.plan.steps good),
-      reached_so c.args.self.now.kind d c.args.self.now.numbering.now.steps c.args.self.now.budgets one.arena one.recorder one.learnt.items one.vars one.derives c.args.search.failed.items c.args.search.sum c.args.search.steps c.args.plan.steps c.requires.at (omega (arith, cheap, spent)),
+      reached_so c.args.self.now.aim d c.args.self.now.numbering.now.steps c.args.self.now.budgets one.arena one.recorder one.learnt.items one.vars one.derives c.args.search.failed.items c.args.search.sum c.args.search.steps c.args.plan.steps c.requires.at (omega (arith, cheap, spent)),
     )
 
 pub returns-in-Ok-Undecided-clause-ends : goal.returns-in-Ok-Undecided-clause-ends
@@ -84,8 +85,8 @@ returns-in-Ok-Undecided-clause-ends c =
     let spent = c.requires.at.search.left in (
       c.requires.at.search.lines,
       c.requires.at.search.rs,
-      log_told c.args.self.now.kind d n b one.arena one.recorder one.learnt.items one.vars one.derives c.args.search.failed.items c.args.search.sum c.args.search.steps c.requires.at.search,
-      within_so c.args.self.now.kind d n b one.arena one.recorder one.learnt.items one.vars one.derives c.args.search.failed.items c.args.search.sum c.args.search.steps c.requires.at.search,
+      log_told c.args.self.now.aim d n b one.arena one.recorder one.learnt.items one.vars one.derives c.args.search.failed.items c.args.search.sum c.args.search.steps c.requires.at.search,
+      within_so c.args.self.now.aim d n b one.arena one.recorder one.learnt.items one.vars one.derives c.args.search.failed.items c.args.search.sum c.args.search.steps c.requires.at.search,
       c.requires.at.search.plans,
       c.requires.at.search.cost,
       c.requires.at.found,

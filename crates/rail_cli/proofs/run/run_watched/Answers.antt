@@ -16,7 +16,7 @@ use Rattle.rail_cli.proofs.Trying.{tries_trial, told_trial_reply, tells_nothing,
 use Rattle.rail_cli.proofs.Silence.{silent_for_memory, silent_at_shelf}
 use Rattle.rail_cli.proofs.Verdicts.{run_comes, no_answer}
 use Rattle.rail_cli.proofs.AnyShelf.{prints_some, prints_told, want_prints, fault_prints}
-use Rattle.rail_cli.proofs.run.run_words.Goals as goal
+use Rattle.rail_cli.proofs.run.run_watched.Goals as goal
 
 pub returns-in-Ok-clause-answer : goal.returns-in-Ok-clause-answer
 returns-in-Ok-clause-answer g c = λ files reply_for. run_so files (texts_of c.args.words.now) c.in-Ok.reply c.print.result _ _ _ _ (c.in-Ok.ensures.replies files reply_for) c.print.ensures.prints
