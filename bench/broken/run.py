@@ -36,7 +36,8 @@ SECOND = {
 OLDER = b"rcvlog 1\nan older file\n"
 COMMANDS = ("simulate", "routes", "verify", "check", "trial")
 USAGE = (
-    rb"usage: rcv simulate DESIGN PLAN; rcv routes DESIGN; rcv verify --steps N --conflicts C --ticks T DESIGN PROOF; "
+    rb"usage: rcv simulate DESIGN PLAN; rcv routes DESIGN; rcv verify [--normal] --steps N --conflicts C --ticks T "
+    rb"DESIGN PROOF; "
     rb"rcv check --steps N DESIGN PROOF; rcv trial SEED SIZE\n"
 )
 

@@ -171,7 +171,7 @@ class Base:
                         self.before.setdefault((t, r), []).append(d)
         self.last = T * R * n + len(self.pairs) + n
         self.clauses = list(self.made())
-        self.turns = None
+        self.turns = self.normal = None
 
     def given(self, c, i):
         return ((c[0] - 1) * self.design.R + (c[1] - 1)) * self.n + i
@@ -249,6 +249,46 @@ class Base:
                             self.turns.append((-self.given((u, q), i),)
                                               + tuple(self.given((t, r), i) for r in design.begins(t)))
         return self.turns
+
+    def given_in(self, c, i):
+        return self.last + self.given(c, i)
+
+    def led_to(self, v):
+        """The routes to which chains from a route lead."""
+        design, found, front = self.design, {v}, [v]
+        while front:
+            front = [q for r in front for q in range(1, design.R + 1)
+                     if design.route(q).follows(design.route(r)) and design.route(q).start != design.route(v).start
+                     and q not in found and not found.add(q)]
+        return found
+
+    def normal_clauses(self):
+        if self.normal is None:
+            self.normal = []
+            design, n, given, given_in = self.design, self.n, self.given, self.given_in
+            numbers = range(1, design.R + 1)
+            for c in self.commands:
+                for i in range(1, n + 1):
+                    self.normal.append((-given_in(c, i), given(c, i)))
+                    if i > 1:
+                        self.normal.append((-given_in(c, i), -given(c, i - 1)))
+                    self.normal.append((-given(c, i),) + ((given(c, i - 1),) if i > 1 else ()) + (given_in(c, i),))
+            led = {v: self.led_to(v) for v in numbers}
+            keep = {r: set().union(*(led[v] for v in numbers if design.route(v).shares(design.route(r)))) for r in numbers}
+            for c in self.commands:
+                leaders = [(c[0], q) for q in numbers if design.route(c[1]).follows(design.route(q))]
+                keepers = [e for e in self.commands if e[0] != c[0] and e[1] in keep[c[1]]]
+                for i in range(2, n + 1):
+                    self.normal.append((-given_in(c, i),) + tuple(given_in(e, i - 1) for e in leaders + keepers))
+        return self.normal
+
+    def behind(self, version):
+        """The clauses behind those of the base under a head, and the number of the last variable."""
+        if version == 4:
+            return self.turn_clauses(), self.last
+        if version == 3:
+            return self.normal_clauses(), self.last + len(self.commands) * self.n
+        return [], self.last
 
 
 def are_alike(design, t, u):
@@ -332,7 +372,7 @@ def head_of(text):
         if version == b"1":
             words.end()
             return (1, None, None)
-        if version in (b"2", b"4"):
+        if version in (b"2", b"3", b"4"):
             head = (int(version), words.long(), words.long())
             words.end()
             return head
@@ -928,8 +968,8 @@ def bound_line(base, words):
 class Log:
     """The clauses so far: of each its literals, or None where it is not live, and whether a line derived it."""
 
-    def __init__(self, base, clauses):
-        self.base, self.clauses, self.derived = base, list(clauses), set()
+    def __init__(self, base, clauses, last):
+        self.base, self.clauses, self.last, self.derived = base, list(clauses), last, set()
 
     def live(self, number):
         clause = self.clauses[number - 1] if number <= len(self.clauses) else None
@@ -960,7 +1000,7 @@ class Log:
                 raise Bad("text")
             hints = words.listed(as_clause)
             words.end()
-            if clause and abs(clause[-1]) > self.base.last:
+            if clause and abs(clause[-1]) > self.last:
                 raise Bad("text")
             self.follows(clause, hints)
             self.clauses.append(clause)
@@ -1007,14 +1047,13 @@ def judge(design, n, data):
     head = head_of(lines[0]) if ends[0] else None
     if head is None:
         return "no line 1 text"
-    clauses = base.clauses
     if head[0] != 1 and head[1:] != (design.version, n):
         return "no line 1 head differs"
-    if head[0] == 4:
-        clauses = clauses + base.turn_clauses()
-        if many(clauses) > LITERALS:
-            return "no line 1 base too large"
-    log, shown = Log(base, clauses), None
+    more, last = base.behind(head[0])
+    clauses = base.clauses + more
+    if many(clauses) > LITERALS:
+        return "no line 1 base too large"
+    log, shown = Log(base, clauses, last), None
     for number, (text, ended) in enumerate(zip(lines, ends), 1):
         if number > 1:
             try:

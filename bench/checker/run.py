@@ -1,7 +1,7 @@
 #!/usr/bin/env python3
 """Compares what check.py and `rcv check` say of proof files.
 
-The files are those that `rcv verify` stores, with and without `--bounds`, for designs of `stations` and
+The files are those that `rcv verify` stores, plainly, with `--bounds` and with `--normal`, for designs of `stations` and
 `bench/stations`, and those of the worked examples of `crates/rail_vectors`. Each case takes one of them and mostly
 changes it once by chance, or with `--made` makes a file for its design with one line of a cone or a bound; and asks
 both. Printed are how many answers agree, how often each was given, and every case in which the two differ; the status
@@ -59,16 +59,16 @@ def stored(program, folder, version):
     for path, steps in asked_for():
         design = folder / "stored.toml"
         design.write_bytes(of_version(path.read_bytes(), version))
-        for bounds in ([], ["--bounds"]):
+        for way in ([], ["--bounds"], ["--normal"]):
             proof = folder / "stored"
             proof.unlink(missing_ok=True)
-            words = ["verify", "--steps", str(steps), "--conflicts", "3000", "--ticks", "300000", *bounds, design, proof]
+            words = ["verify", "--steps", str(steps), "--conflicts", "3000", "--ticks", "300000", *way, design, proof]
             subprocess.run([program, *words], stdout=subprocess.DEVNULL)
             if proof.exists():
-                name = f"{path.stem} {steps}{' bounds' * bool(bounds)}"
+                name = " ".join([path.stem, str(steps), *way])
                 yield File(name, design.read_bytes(), steps, proof.read_bytes())
             else:
-                print(f"nothing stored: {path.stem} {steps}{' bounds' * bool(bounds)}")
+                print("nothing stored:", path.stem, steps, *way)
 
 
 def examples(version):
@@ -145,7 +145,7 @@ def forget(chance, lines):
 
 def other_head(chance, lines):
     steps = chance.randrange(1, 9)
-    lines[0] = chance.choice((b"rcvlog 1", b"rcvlog 2 1 %d" % steps, b"rcvlog 4 1 %d" % steps, b"rcvlog 4 1 2", b"rcvlog 2"))
+    lines[0] = chance.choice((b"rcvlog 1", b"rcvlog 2 1 %d" % steps, b"rcvlog 3 1 %d" % steps, b"rcvlog 4 1 %d" % steps, b"rcvlog 4 1 2", b"rcvlog 2"))
 
 
 CHANGES = [other_number] * 20 + [sign, drop_line, swap_lines] * 2 + [other_word, double_line, forget, other_head]

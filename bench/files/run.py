@@ -44,7 +44,8 @@ MET = (
 YES = b"yes steps 2\n"
 INFEASIBLE = b"infeasible steps 2\n"
 USAGE = (
-    b"usage: rcv simulate DESIGN PLAN; rcv routes DESIGN; rcv verify --steps N --conflicts C --ticks T DESIGN PROOF; "
+    b"usage: rcv simulate DESIGN PLAN; rcv routes DESIGN; rcv verify [--normal] --steps N --conflicts C --ticks T "
+    b"DESIGN PROOF; "
     b"rcv check --steps N DESIGN PROOF; rcv trial SEED SIZE\n"
 )
 

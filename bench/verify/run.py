@@ -3,7 +3,8 @@
 
 Each line: the station, the steps, the answer, the seconds and, where a proof is stored, its derived lines, its bounds and its
 cones (each of a plan that failed), how many literals their clauses have on average, its bytes, and the seconds of its check. With
-`--bounds` plans that fail are excluded by bounds where one is found, and with `--any` a plan of any number of steps will do. The file `figures` has a line
+`--bounds` plans that fail are excluded by bounds where one is found, with `--any` a plan of any number of steps will do, and
+with `--normal` only plans are looked at in which no command could be given a step earlier. The file `figures` has a line
 `<station> <steps> <answer> <lines>` for each, where `lines` may be `-`; the status is 1 where an answer differs from it, a search
 takes longer than its seconds, or derives more than three times the lines, or a proof does not pass its check.
 """
@@ -158,13 +159,16 @@ def main():
     words.add_argument("--program", default=TOP / "crates" / "rcv" / "out" / "rcv", help="the program, as ./rcv builds it")
     words.add_argument("--bounds", action="store_true", help="exclude plans that fail by bounds where one is found")
     words.add_argument("--any", action="store_true", help="take a plan of any number of steps; only beside --bounds")
+    words.add_argument("--normal", action="store_true", help="look only at plans in which no command could be given earlier; without --bounds")
     words.add_argument("--seconds", type=float, default=20, help="how long a search may take before it is stopped")
     words.add_argument("--bar", type=float, default=10, help="how long a search should take at most")
     words.add_argument("stations", nargs="*", help="the stations, all of them if none is named")
     given = words.parse_args()
     if given.any and not given.bounds:
         words.error("--any stands beside --bounds alone")
-    flags = ["--bounds"] * given.bounds + ["--any"] * given.any
+    if given.normal and given.bounds:
+        words.error("--normal does not stand beside --bounds")
+    flags = ["--bounds"] * given.bounds + ["--any"] * given.any + ["--normal"] * given.normal
     if not os.access(given.program, os.X_OK):
         subprocess.run([TOP / "rcv", "routes", TOP / "stations" / "halt.toml"], stdout=subprocess.DEVNULL, check=True)
     missed = 0

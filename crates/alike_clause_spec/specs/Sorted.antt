@@ -10,8 +10,6 @@ use Rattle.rail_spec.specs.Feasible.{IsFeasible, IsInfeasible}
 use Rattle.rail_alike.specs.Tests.{neighbors}
 use Rattle.sat_clause.specs.declared.lit.Lit.{Lit}
 use Rattle.sat_clause.specs.Clauses.{clause_holds}
-use Rattle.clause_spec.specs.declared.question.BaseKind.{BaseKind}
-use Rattle.clause_spec.specs.declared.question.BaseKind.TheVariants.{Plain, Sorted}
 use Rattle.clause_spec.specs.Variables.{By, number_of, variable_count}
 use Rattle.clause_spec.specs.Clauses.{base_clauses}
 use Rattle.clause_spec.specs.Models.{model_of}
@@ -20,11 +18,6 @@ use Rattle.alike_clause_spec.specs.Turns.{turn_clauses}
 -- the base, and then the clauses that each train and the next one that is like it come in turn
 abbrev pub sorted_base : Station → List Route → ℕ → List (List Lit)
 sorted_base d routes n = base_clauses d routes n ++ turn_clauses d routes n (neighbors d)
-
--- the clauses of a base
-abbrev pub clauses_of : BaseKind → Station → List Route → ℕ → List (List Lit)
-clauses_of Plain d routes n = base_clauses d routes n
-clauses_of Sorted d routes n = sorted_base d routes n
 
 -- the model of each feasible plan makes these clauses true
 abbrev pub AreSound : Station → ℕ → List (List Lit) → Type 0

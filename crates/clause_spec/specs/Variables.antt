@@ -7,7 +7,6 @@ use Rattle.rail_base.specs.declared.plan.Command.{Command}
 use Rattle.rail_base.specs.Numbering.{one_to, before_first}
 use Rattle.rail_spec.specs.Plans.{is_command, contend, all_commands}
 use Rattle.sat_clause.specs.declared.lit.Lit.{Lit}
-use Rattle.clause_spec.specs.declared.question.VariableCounts.{VariableCounts}
 
 -- what a variable says: a command is given by a step, one command is given before another, or all is given by a step
 pub data Variable : Type 0 where
@@ -63,14 +62,6 @@ module _ (d : Station) (routes : List Route) (n : ℕ) where
   -- how many variables there are
   abbrev pub variable_count : ℕ
   variable_count = length d.trains * length routes * n + length (pairs d routes) + n
-
-  -- with how many come before those that all is given by a step
-  abbrev pub variables_of : VariableCounts
-  variables_of = record {
-    count = variable_count;
-    before_selectors = length d.trains * length routes * n + length (pairs d routes);
-    steps = n;
-  }
 
   -- a literal over the number of its variable
   abbrev pub numbered : Literal → Lit

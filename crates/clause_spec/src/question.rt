@@ -7,6 +7,8 @@ pub enum BaseKind {
     Plain,
     /// Those, and that trains that are alike come in turn.
     Sorted,
+    /// Those, and that no command could be given a step earlier.
+    Normal,
 }
 
 /// Whether designs of a version have a plan of at most so many steps, asked by the clauses of a base.

@@ -1,7 +1,7 @@
 -- Numbers that grow evenly with the number of steps, from one step on.
 use Rattle.std.proofs.Common.{◌≡◌, ℕ, zero, suc, ◌+◌, ◌-◌, ◌*◌, List, [], ◌∷◌, ◌++◌, map, flat_map, length, sum_by, refl, sym, ap, ◌∙◌, arith, suc-mul, zero-mul}
 use Rattle.std.proofs.lemmas.List.Sums.{sum_by-cons, sum_by-append, sum_by_push}
-use Rattle.rail_base.specs.Numbering.{one_to}
+use Rattle.rail_base.specs.Numbering.{count_from, one_to}
 use Rattle.clause_spec.specs.Clauses.{literals}
 use Rattle.clause_spec.proofs.Lists.{one_to-push, sum_by-map}
 
@@ -19,6 +19,15 @@ same_sums f g (x ∷ xs) same =
     let b = sum_by-cons g x xs in
     let c = same x in
     let rest = same_sums f g xs same in
+    omega arith
+
+-- the same number for each of as many numbers
+pub same_counts : (k a b n : ℕ) → sum_by (λ i. k) (count_from a n) ≡ sum_by (λ i. k) (count_from b n)
+same_counts k a b zero = refl
+same_counts k a b (suc n) =
+    let one = sum_by-cons (λ (i : ℕ). k) a (count_from (a + 1) n) in
+    let other = sum_by-cons (λ (i : ℕ). k) b (count_from (b + 1) n) in
+    let rest = same_counts k (a + 1) (b + 1) n in
     omega arith
 
 pub literals-map : {X Y : Type 0} (f : X → List Y) (xs : List X) → literals (map f xs) ≡ sum_by (λ x. length (f x)) xs

@@ -6,7 +6,7 @@ use Rattle.clause_spec.proofs.Few.{within_limit}
 use Rattle.rail_base.specs.declared.route.Route.{Route}
 use Rattle.rail_base.specs.declared.station.Station.{Station}
 use Rattle.sat_clause.specs.declared.lit.Lit.{Lit}
-use Rattle.alike_clause_spec.specs.Sorted.{clauses_of}
+use Rattle.base_spec.specs.Bases.{clauses_of}
 use Rattle.limit_words.specs.Counts.{Fits}
 use Rattle.clause_spec.specs.declared.question.BaseKind.{BaseKind}
 use Rattle.limit_words.proofs.Even.{literals-cons}

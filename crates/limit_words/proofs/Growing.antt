@@ -7,7 +7,7 @@ use Rattle.rail_base.specs.declared.route.RouteNo.{RouteNo}
 use Rattle.rail_base.specs.declared.route.Start.{Start}
 use Rattle.rail_base.specs.declared.route.Start.TheVariants as start
 use Rattle.rail_base.specs.declared.plan.Command.{Command}
-use Rattle.rail_base.specs.Numbering.{one_to, entry}
+use Rattle.rail_base.specs.Numbering.{count_from, one_to, entry}
 use Rattle.rail_base.specs.Stations.{trains, train_of, first_visit}
 use Rattle.rail_base.proofs.Lists.{length-map}
 use Rattle.rail_spec.specs.Plans.{route_at, has_node, route_numbers, all_commands}
@@ -15,11 +15,13 @@ use Rattle.clause_spec.specs.Variables.{Given, Before, By, Literal, yes, no, if_
 use Rattle.clause_spec.specs.Clauses.{Clause, all_given, base_clauses, chains, clauses, clearing, exclude, excluded, first_pairs, in_order, later_pairs, leading_to, literals, makes_visits, may_visit, not_at_once, not_both, onward, start_clause, starts_rightly, stays_given, visited, wait_clause, waits}
 use Rattle.clause_spec.proofs.Few.{literals_told}
 use Rattle.alike_clause_spec.specs.Turns.{begun_always, beginnings, has_begun, in_turn, turn_clauses}
+use Rattle.normal_clause_spec.specs.Variables.{of_base, is_in, is_not_in, normal_numbered}
+use Rattle.normal_clause_spec.specs.Clauses.{NormalClause, not_before, exactly_in, exactly, leaders, keepers, kept_clause, kept, normal_clauses}
 use Rattle.rail_alike.specs.Tests.{neighbors}
 use Rattle.limit_words.specs.Counts.{literal_count, GrowEvenly}
 use Rattle.clause_spec.specs.declared.question.BaseKind.{BaseKind}
-use Rattle.clause_spec.specs.declared.question.BaseKind.TheVariants.{Plain, Sorted}
-use Rattle.limit_words.proofs.Even.{Even, even_like, even_still, even_both, even_steps, even_fewer, even_append, even_each, evenly, same_sums, literals-map, literals-append, literals-cons, literals-flat_map}
+use Rattle.clause_spec.specs.declared.question.BaseKind.TheVariants.{Plain, Sorted, Normal}
+use Rattle.limit_words.proofs.Even.{Even, even_like, even_still, even_both, even_steps, even_fewer, even_append, even_each, evenly, same_counts, same_sums, literals-map, literals-append, literals-cons, literals-flat_map}
 
 -- for each step from the second on one literal says that a command is given by the step before
 given_before : (c : Command) (i : ℕ) → length (if_given c (suc (suc i) - 1)) ≡ 1
@@ -207,9 +209,55 @@ module _ (d : Station) (routes : List Route) where
       even_like (λ n. literals (flat_map (in_turn d routes n) pairs)) (λ n. literals (turn_clauses d routes n pairs)) (λ n. literals_told (numbered d routes n) (flat_map (in_turn d routes n) pairs))
       (even_each (in_turn d routes) pairs turn_even)
 
+  -- ---- and those of normal plans
+
+  -- the clauses of a command and a step, the step before being named
+  abbrev exact : Command → ℕ → ℕ → List NormalClause
+  exact c i before =
+      (is_not_in c i ∷ of_base (yes (Given c i)) ∷ [])
+      ∷ not_before d routes 1 c before
+      ++ (of_base (no (Given c i)) ∷ map of_base (if_given c before) ++ is_in c i ∷ [])
+      ∷ []
+
+  exact_is : (c : Command) (i : ℕ) → literals (exactly_in d routes 1 c (suc (suc i))) ≡ 7
+  exact_is c i =
+      let before : suc (suc i) - 1 ≡ suc i = omega arith in
+      let last : NormalClause = of_base (no (Given c (suc (suc i)))) ∷ of_base (yes (Given c (suc i))) ∷ is_in c (suc (suc i)) ∷ [] in
+      let second : NormalClause = is_not_in c (suc (suc i)) ∷ of_base (no (Given c (suc i))) ∷ [] in
+      let all = literals-cons (is_not_in c (suc (suc i)) ∷ of_base (yes (Given c (suc (suc i)))) ∷ []) (second ∷ last ∷ []) in
+      let more = literals-cons second (last ∷ []) in
+      let end = literals-cons last [] in
+      let told : literals (exact c (suc (suc i)) (suc i)) ≡ 7 = omega arith in
+      ap (λ k. literals (exact c (suc (suc i)) k)) before ∙ told
+
+  exactly_even : (c : Command) → Even (λ n. literals (exactly d routes n c))
+  exactly_even c =
+      even_like (λ n. sum_by (λ i. literals (exactly_in d routes 1 c i)) (one_to n)) (λ n. literals (exactly d routes n c))
+      (λ n. literals-flat_map (exactly_in d routes n c) (one_to n))
+      (even_steps (λ i. literals (exactly_in d routes 1 c i)) 7 (exact_is c))
+
+  kept_is : (c : Command) (n i : ℕ) → length (kept_clause d routes n c i) ≡ suc (length (leaders d routes 1 c ++ keepers d routes 1 c))
+  kept_is c n i = ap suc (length-map (λ e. is_in e (i - 1)) (leaders d routes n c ++ keepers d routes n c))
+
+  kept_even : (c : Command) → Even (λ n. literals (kept d routes n c))
+  kept_even c =
+      let each : ℕ = suc (length (leaders d routes 1 c ++ keepers d routes 1 c)) in
+      even_like (λ n. sum_by (λ i. each) (one_to (n - 1))) (λ n. literals (kept d routes n c))
+      (λ n. literals-map (kept_clause d routes n c) (count_from 2 (n - 1))
+      ∙ (same_sums (λ i. length (kept_clause d routes n c i)) (λ i. each) (count_from 2 (n - 1)) (kept_is c n) ∙ same_counts each 2 1 (n - 1)))
+      (even_fewer (λ i. each) each (λ i. refl))
+
+  normal_even : Even (λ n. literals (map (map (normal_numbered d routes n)) (normal_clauses d routes n)))
+  normal_even =
+      even_like (λ n. literals (normal_clauses d routes n)) (λ n. literals (map (map (normal_numbered d routes n)) (normal_clauses d routes n))) (λ n. literals_told (normal_numbered d routes n) (normal_clauses d routes n))
+      (even_append (λ n. flat_map (exactly d routes n) (all_commands d routes)) (λ n. flat_map (kept d routes n) (all_commands d routes))
+      (even_each (exactly d routes) (all_commands d routes) exactly_even)
+      (even_each (kept d routes) (all_commands d routes) kept_even))
+
   count_even : (kind : BaseKind) → Even (literal_count kind d routes)
   count_even Plain = base_even
   count_even Sorted = even_append (base_clauses d routes) (λ n. turn_clauses d routes n (neighbors d)) base_even (turns_even (neighbors d))
+  count_even Normal = even_append (base_clauses d routes) (λ n. map (map (normal_numbered d routes n)) (normal_clauses d routes n)) base_even normal_even
 
 pub grow_evenly : (kind : BaseKind) (d : Station) (routes : List Route) → GrowEvenly kind d routes
 grow_evenly kind d routes = evenly (literal_count kind d routes) (count_even d routes kind)

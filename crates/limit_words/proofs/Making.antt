@@ -1,6 +1,6 @@
 -- Clauses that are made and counted.
 use Rattle.std.proofs.Common.{◌≡◌, ℕ, List, subst, arith}
-use Rattle.alike_clause_spec.specs.Sorted.{clauses_of}
+use Rattle.base_spec.specs.Bases.{clauses_of}
 use Rattle.clause_spec.specs.declared.question.BaseKind.{BaseKind}
 use Rattle.plan_encoding.specs.Bases.{IsBaseOf, IsRefused}
 use Rattle.plan_encoding.specs.declared.numbering.Base.{Base}

@@ -1,6 +1,6 @@
 -- How many literals the clauses have with which a search begins.
 use Rattle.std.specs.Prelude.{◌≡◌, ℕ, ◌+◌, ◌-◌, ◌*◌, ◌≤◌, ◌<◌, List}
-use Rattle.alike_clause_spec.specs.Sorted.{clauses_of}
+use Rattle.base_spec.specs.Bases.{clauses_of}
 use Rattle.clause_spec.specs.Clauses.{literals}
 use Rattle.clause_spec.specs.declared.question.BaseKind.{BaseKind}
 use Rattle.rail_base.specs.declared.route.Route.{Route}

@@ -3,7 +3,7 @@ use Rattle.std.specs.Prelude.{◌≡◌, ℕ, ◌+◌, List, [], ◌∷◌, ◌+
 use Rattle.limit_words.specs.Limits.{IsLimitFor}
 use Rattle.limit_words.specs.declared.greatest.Limit.{Limit}
 use Rattle.clause_spec.specs.declared.question.BaseKind.{BaseKind}
-use Rattle.clause_spec.specs.declared.question.BaseKind.TheVariants.{Plain, Sorted}
+use Rattle.clause_spec.specs.declared.question.BaseKind.TheVariants.{Plain, Sorted, Normal}
 use Rattle.rail_base.specs.declared.route.Route.{Route}
 use Rattle.rail_base.specs.declared.station.Station.{Station}
 
@@ -11,6 +11,7 @@ use Rattle.rail_base.specs.declared.station.Station.{Station}
 abbrev pub kind_text : BaseKind → List ℕ
 kind_text Plain = codes "without --bounds"
 kind_text Sorted = codes "with --bounds"
+kind_text Normal = codes "with --normal"
 
 -- how many literals the clauses for n steps have
 abbrev pub known_text : ℕ → ℕ → List ℕ
@@ -41,10 +42,12 @@ limits_said kind n None = []
 limits_said kind n (Some l) = limit_line kind n l ∷ []
 
 module _ (d : Station) (routes : List Route) where
-  -- the lines for n steps, without bounds and with them
+  -- the lines for n steps: without bounds, with them, and for normal plans alone
   pub record AreLimitLines (n : ℕ) (lines : List (List ℕ)) : Type 0 where
     pub plain : Option Limit
     pub is_plain : IsLimitFor Plain d routes n plain
     pub bounds : Option Limit
     pub is_bounds : IsLimitFor Sorted d routes n bounds
-    pub are : lines ≡ limits_said Plain n plain ++ limits_said Sorted n bounds
+    pub normal : Option Limit
+    pub is_normal : IsLimitFor Normal d routes n normal
+    pub are : lines ≡ limits_said Plain n plain ++ limits_said Sorted n bounds ++ limits_said Normal n normal

@@ -2,7 +2,7 @@
 
 ghost use Rattle.std.specs.Prelude.{◌↔◌, ℕ, List};
 ghost use Rattle.clause_spec.specs.Laws.{HasFewLiterals};
-ghost use Rattle.alike_clause_spec.specs.Sorted.{clauses_of};
+ghost use Rattle.base_spec.specs.Bases.{clauses_of};
 ghost use Rattle.limit_words.specs.Counts.{Fits, GrowEvenly};
 ghost use Rattle.clause_spec.specs.declared.question.BaseKind.{BaseKind};
 ghost use Rattle.rail_base.specs.declared.route.Route.{Route};

@@ -19,6 +19,7 @@ fn put_kind(text: &mut Vec<u8>, kind: BaseKind) -> Result<(), AllocError>
     match kind {
         BaseKind::Plain => text.extend_from_slice(b"without --bounds"),
         BaseKind::Sorted => text.extend_from_slice(b"with --bounds"),
+        BaseKind::Normal => text.extend_from_slice(b"with --normal"),
     }
 }
 
@@ -87,7 +88,8 @@ fn push_limit(
     Ok(())
 }
 
-/// How many steps can be asked for without bounds and with them, where they are fewer than these, from 1 to 256.
+/// How many steps can be asked for without bounds, with them, and for normal plans alone, where they are fewer than
+/// these, from 1 to 256.
 pub fn limit_lines(
     alloc: Global,
     interlocking: &Interlocking,
@@ -99,8 +101,10 @@ pub fn limit_lines(
 {
     let plain = limit_for(alloc, interlocking, BaseKind::Plain, steps)?;
     let bounds = limit_for(alloc, interlocking, BaseKind::Sorted, steps)?;
+    let normal = limit_for(alloc, interlocking, BaseKind::Normal, steps)?;
     let mut lines = Vec::new(alloc);
     push_limit(alloc, BaseKind::Plain, steps, plain, &mut lines)?;
     push_limit(alloc, BaseKind::Sorted, steps, bounds, &mut lines)?;
+    push_limit(alloc, BaseKind::Normal, steps, normal, &mut lines)?;
     Ok(lines)
 }

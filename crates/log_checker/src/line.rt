@@ -82,7 +82,7 @@ fn may_stand(base: BaseKind, evidence: &Evidence) -> bool
 {
     match (base, evidence) {
         (_, Evidence::Cone(_)) => true,
-        (BaseKind::Plain, Evidence::Bound(_)) => false,
+        (BaseKind::Plain | BaseKind::Normal, Evidence::Bound(_)) => false,
         (BaseKind::Sorted, Evidence::Bound(_)) => true,
     }
 }

@@ -12,7 +12,10 @@ use Rattle.plan_encoding.specs.declared.encoder.Encoder.{Encoder}
 use Rattle.clause_spec.specs.Clauses.{Clause, literals, past_limit}
 use Rattle.plan_encoding.specs.Sinks.{SinkView, Emission, Emitted, TooMany, with_clause, emitted, FaultSays}
 use Rattle.clause_spec.specs.Variables.{numbered}
-use Rattle.plan_encoding.specs.Encoders.{numbered_clauses}
+use Rattle.normal_clause_spec.specs.Variables.{normal_numbered}
+use Rattle.normal_clause_spec.specs.Clauses.{NormalClause}
+use Rattle.plan_encoding.specs.Encoders.{numbered_clauses, over}
+use Rattle.plan_encoding.specs.Normal.{normal_numbered_clauses}
 use Rattle.rail_base.proofs.Lists.{count_next}
 
 -- what is listed after a part that was listed
@@ -50,47 +53,78 @@ handed_on P (Err x) e h p = subst P (sym h) p
 -- ---- lists of which parts are left
 
 -- what is left is the next part, and what is left then
-pub record Next (now part later : List Clause) : Type 0 where
+pub record Next {X : Type 0} (now part later : List X) : Type 0 where
   pub is : now ≡ part ++ later
 
-module _ (f : Encoder) (now part later : List Clause) (n : Next now part later) where
-  joined : numbered_clauses f now ≡ numbered_clauses f part ++ numbered_clauses f later
-  joined = ap (numbered_clauses f) n.is ∙ map-append (map (numbered f.interlocking.now.design.station f.interlocking.now.routes f.steps.count)) part later
+-- of clauses whose literals are written so
+module _ {L : Type 0} (num : L → Lit) (now part later : List (List L)) (n : Next now part later) where
+  joined : map (map num) now ≡ map (map num) part ++ map (map num) later
+  joined = ap (map (map num)) n.is ∙ map-append (map num) part later
 
   -- once the next part is listed, what is left makes all of it
-  pub emitted_next : (old new : SinkView) (all : Emission) → emitted old (numbered_clauses f part) ≡ Emitted new → emitted old (numbered_clauses f now) ≡ all → emitted new (numbered_clauses f later) ≡ all
-  emitted_next old new all h k = sym (emitted_then old new (numbered_clauses f part) (numbered_clauses f later) h) ∙ (sym (ap (emitted old) joined) ∙ k)
+  pub part_listed : (old new : SinkView) (all : Emission) → emitted old (map (map num) part) ≡ Emitted new → emitted old (map (map num) now) ≡ all → emitted new (map (map num) later) ≡ all
+  part_listed old new all h k = sym (emitted_then old new (map (map num) part) (map (map num) later) h) ∙ (sym (ap (emitted old) joined) ∙ k)
 
   -- a fault in the next part is one of all
-  pub next_fails : (old : SinkView) (e : BaseFault) (all : Emission) → FaultSays (emitted old (numbered_clauses f part)) e → emitted old (numbered_clauses f now) ≡ all → FaultSays all e
-  next_fails old e all h k = subst (λ l. FaultSays l e) (sym (ap (emitted old) joined) ∙ k) (fault_then old (numbered_clauses f part) (numbered_clauses f later) e h)
+  pub part_fails : (old : SinkView) (e : BaseFault) (all : Emission) → FaultSays (emitted old (map (map num) part)) e → emitted old (map (map num) now) ≡ all → FaultSays all e
+  part_fails old e all h k = subst (λ l. FaultSays l e) (sym (ap (emitted old) joined) ∙ k) (fault_then old (map (map num) part) (map (map num) later) e h)
 
-module _ (f : Encoder) (now later : List Clause) (cl : Clause) (n : Next now (cl ∷ []) later) (ls : List Lit) (is : ls ≡ map (numbered f.interlocking.now.design.station f.interlocking.now.routes f.steps.count) cl) where
+module _ {L : Type 0} (num : L → Lit) (now later : List (List L)) (cl : List L) (n : Next now (cl ∷ []) later) (ls : List Lit) (is : ls ≡ map num cl) where
   -- the same of one clause
+  pub clause_listed : (old new : SinkView) (all : Emission) → emitted old (ls ∷ []) ≡ Emitted new → emitted old (map (map num) now) ≡ all → emitted new (map (map num) later) ≡ all
+  clause_listed old new all h = part_listed num now (cl ∷ []) later n old new all (ap (λ x. emitted old (x ∷ [])) (sym is) ∙ h)
+
+  pub clause_fails : (old : SinkView) (e : BaseFault) (all : Emission) → FaultSays (emitted old (ls ∷ [])) e → emitted old (map (map num) now) ≡ all → FaultSays all e
+  clause_fails old e all h = part_fails num now (cl ∷ []) later n old e all (subst (λ x. FaultSays (emitted old (x ∷ [])) e) is h)
+
+-- of clauses of the plain base
+module _ (f : Encoder) (now part later : List Clause) (n : Next now part later) where
+  pub emitted_next : (old new : SinkView) (all : Emission) → emitted old (numbered_clauses f part) ≡ Emitted new → emitted old (numbered_clauses f now) ≡ all → emitted new (numbered_clauses f later) ≡ all
+  emitted_next = part_listed (over f numbered) now part later n
+
+  pub next_fails : (old : SinkView) (e : BaseFault) (all : Emission) → FaultSays (emitted old (numbered_clauses f part)) e → emitted old (numbered_clauses f now) ≡ all → FaultSays all e
+  next_fails = part_fails (over f numbered) now part later n
+
+module _ (f : Encoder) (now later : List Clause) (cl : Clause) (n : Next now (cl ∷ []) later) (ls : List Lit) (is : ls ≡ map (over f numbered) cl) where
   pub next_one : (old new : SinkView) (all : Emission) → emitted old (ls ∷ []) ≡ Emitted new → emitted old (numbered_clauses f now) ≡ all → emitted new (numbered_clauses f later) ≡ all
-  next_one old new all h = emitted_next f now (cl ∷ []) later n old new all (ap (λ x. emitted old (x ∷ [])) (sym is) ∙ h)
+  next_one = clause_listed (over f numbered) now later cl n ls is
 
   pub next_one_fails : (old : SinkView) (e : BaseFault) (all : Emission) → FaultSays (emitted old (ls ∷ [])) e → emitted old (numbered_clauses f now) ≡ all → FaultSays all e
-  next_one_fails old e all h = next_fails f now (cl ∷ []) later n old e all (subst (λ x. FaultSays (emitted old (x ∷ [])) e) is h)
+  next_one_fails = clause_fails (over f numbered) now later cl n ls is
+
+-- of clauses of normal plans
+module _ (f : Encoder) (now part later : List NormalClause) (n : Next now part later) where
+  pub normal_next : (old new : SinkView) (all : Emission) → emitted old (normal_numbered_clauses f part) ≡ Emitted new → emitted old (normal_numbered_clauses f now) ≡ all → emitted new (normal_numbered_clauses f later) ≡ all
+  normal_next = part_listed (over f normal_numbered) now part later n
+
+  pub normal_fails : (old : SinkView) (e : BaseFault) (all : Emission) → FaultSays (emitted old (normal_numbered_clauses f part)) e → emitted old (normal_numbered_clauses f now) ≡ all → FaultSays all e
+  normal_fails = part_fails (over f normal_numbered) now part later n
+
+module _ (f : Encoder) (now later : List NormalClause) (cl : NormalClause) (n : Next now (cl ∷ []) later) (ls : List Lit) (is : ls ≡ map (over f normal_numbered) cl) where
+  pub normal_one : (old new : SinkView) (all : Emission) → emitted old (ls ∷ []) ≡ Emitted new → emitted old (normal_numbered_clauses f now) ≡ all → emitted new (normal_numbered_clauses f later) ≡ all
+  normal_one = clause_listed (over f normal_numbered) now later cl n ls is
+
+  pub normal_one_fails : (old : SinkView) (e : BaseFault) (all : Emission) → FaultSays (emitted old (ls ∷ [])) e → emitted old (normal_numbered_clauses f now) ≡ all → FaultSays all e
+  normal_one_fails = clause_fails (over f normal_numbered) now later cl n ls is
 
 -- parts for numbers in a row
-pub next_count : (g : ℕ → List Clause) (i n : ℕ) → i < n → Next (flat_map g (count_from i (n - i))) (g i) (flat_map g (count_from (i + 1) (n - (i + 1))))
+pub next_count : {X : Type 0} (g : ℕ → List X) (i n : ℕ) → i < n → Next (flat_map g (count_from i (n - i))) (g i) (flat_map g (count_from (i + 1) (n - (i + 1))))
 next_count g i n h = record { is = ap (flat_map g) (count_next i n h) }
 
 -- one clause for each of numbers in a row
-pub next_count_one : (g : ℕ → Clause) (i n : ℕ) → i < n → Next (map g (count_from i (n - i))) (g i ∷ []) (map g (count_from (i + 1) (n - (i + 1))))
+pub next_count_one : {X : Type 0} (g : ℕ → X) (i n : ℕ) → i < n → Next (map g (count_from i (n - i))) (g i ∷ []) (map g (count_from (i + 1) (n - (i + 1))))
 next_count_one g i n h = record { is = ap (map g) (count_next i n h) }
 
 -- parts for the members of a list
-pub next_member : {X : Type 0} (g : X → List Clause) (xs : List X) (i : ℕ) (other : X) → i < length xs → Next (flat_map g (drop i xs)) (g (get_or xs i other)) (flat_map g (drop (i + 1) xs))
+pub next_member : {X Y : Type 0} (g : X → List Y) (xs : List X) (i : ℕ) (other : X) → i < length xs → Next (flat_map g (drop i xs)) (g (get_or xs i other)) (flat_map g (drop (i + 1) xs))
 next_member g xs i other h = record { is = ap (flat_map g) (drop_more xs i other h) }
 
 -- one clause for each member of a list
-pub next_member_one : {X : Type 0} (g : X → Clause) (xs : List X) (i : ℕ) (other : X) → i < length xs → Next (map g (drop i xs)) (g (get_or xs i other) ∷ []) (map g (drop (i + 1) xs))
+pub next_member_one : {X Y : Type 0} (g : X → Y) (xs : List X) (i : ℕ) (other : X) → i < length xs → Next (map g (drop i xs)) (g (get_or xs i other) ∷ []) (map g (drop (i + 1) xs))
 next_member_one g xs i other h = record { is = ap (map g) (drop_more xs i other h) }
 
 -- parts for what is made of the members of a list
-pub next_mapped : {X Y : Type 0} (g : Y → List Clause) (h : X → Y) (xs : List X) (i : ℕ) (other : X) → i < length xs → Next (flat_map g (map h (drop i xs))) (g (h (get_or xs i other))) (flat_map g (map h (drop (i + 1) xs)))
+pub next_mapped : {X Y Z : Type 0} (g : Y → List Z) (h : X → Y) (xs : List X) (i : ℕ) (other : X) → i < length xs → Next (flat_map g (map h (drop i xs))) (g (h (get_or xs i other))) (flat_map g (map h (drop (i + 1) xs)))
 next_mapped g h xs i other l = record { is = ap (λ ys. flat_map g (map h ys)) (drop_more xs i other l) }
 
 -- two literals that are these

@@ -10,4 +10,5 @@ pub mod Ordering
 pub mod Counting
 pub mod Based
 pub mod Beginning
-pub mod Sorting
+pub mod Behind
+pub mod Keeping

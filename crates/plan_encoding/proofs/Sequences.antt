@@ -1,19 +1,23 @@
 -- Clauses that calls list one after another.
-use Rattle.std.proofs.Common.{◌≡◌, ℕ, Bool, true, false, cond, nat_lt, List, [], ◌∷◌, ◌++◌, flat_map, filter, refl, sym, ap, subst, ◌∙◌}
+use Rattle.std.proofs.Common.{◌≡◌, ℕ, Bool, true, false, cond, nat_lt, List, [], ◌∷◌, ◌++◌, map, flat_map, filter, refl, sym, ap, subst, ◌∙◌}
 use Rattle.std.proofs.lemmas.List.{append_assoc}
 use Rattle.std.proofs.lemmas.Grind.{flat_map-append}
 use Rattle.rail_base.specs.declared.station.Station.{Station}
 use Rattle.rail_base.specs.declared.route.Route.{Route}
 use Rattle.rail_spec.specs.Plans.{all_commands}
-use Rattle.clause_spec.specs.Variables.{pairs, pairs_before}
+use Rattle.clause_spec.specs.Variables.{numbered, pairs, pairs_before}
 use Rattle.plan_encoding.specs.Waiting.{apart_once}
-use Rattle.plan_encoding.proofs.Emission.{emitted_next, next_fails}
+use Rattle.plan_encoding.proofs.Emission.{part_listed, part_fails}
 use Rattle.std.specs.Prelude.{Result, Ok, Err, OnOk, IfErr}
 use Rattle.plan_encoding.specs.declared.sink.BaseFault.{BaseFault}
 use Rattle.plan_encoding.specs.declared.encoder.Encoder.{Encoder}
 use Rattle.clause_spec.specs.Clauses.{Clause, first_pairs, not_at_once}
 use Rattle.plan_encoding.specs.Sinks.{SinkView, Emission, Emitted, emitted, FaultSays}
-use Rattle.plan_encoding.specs.Encoders.{numbered_clauses}
+use Rattle.normal_clause_spec.specs.Variables.{normal_numbered}
+use Rattle.normal_clause_spec.specs.Clauses.{NormalClause}
+use Rattle.sat_clause.specs.declared.lit.Lit.{Lit}
+use Rattle.plan_encoding.specs.Encoders.{numbered_clauses, over}
+use Rattle.plan_encoding.specs.Normal.{normal_numbered_clauses}
 
 -- what holds where the answer is Ok, if another thing does
 pub on_ok : {A E : Type 0} {P Q : Type 0} (r : Result A E) → (P → Q) → OnOk r P → OnOk r Q
@@ -33,14 +37,28 @@ module _ {A : Type 0} (one other : Emission) (r : Result A BaseFault) (e : other
   pub last_err : IfErr r (FaultSays other) → IfErr r (FaultSays one)
   last_err p = if_err r (λ x q. subst (λ l. FaultSays l x) e q) p
 
-module _ (f : Encoder) (a b : List Clause) (old new : SinkView) where
+module _ {L : Type 0} (num : L → Lit) (a b : List (List L)) (old : SinkView) where
   -- what is listed after a part, of both
-  pub then_rest : emitted old (numbered_clauses f a) ≡ Emitted new → emitted new (numbered_clauses f b) ≡ emitted old (numbered_clauses f (a ++ b))
-  then_rest h = emitted_next f (a ++ b) a b (record { is = refl }) old new (emitted old (numbered_clauses f (a ++ b))) h refl
+  pub rest_listed : (new : SinkView) → emitted old (map (map num) a) ≡ Emitted new → emitted new (map (map num) b) ≡ emitted old (map (map num) (a ++ b))
+  rest_listed new h = part_listed num (a ++ b) a b (record { is = refl }) old new (emitted old (map (map num) (a ++ b))) h refl
 
--- a fault in the first part is one of both
+  -- a fault in the first part is one of both
+  pub first_fails : (e : BaseFault) → FaultSays (emitted old (map (map num) a)) e → FaultSays (emitted old (map (map num) (a ++ b))) e
+  first_fails e h = part_fails num (a ++ b) a b (record { is = refl }) old e (emitted old (map (map num) (a ++ b))) h refl
+
+-- the same of clauses of the plain base
+pub then_rest : (f : Encoder) (a b : List Clause) (old new : SinkView) → emitted old (numbered_clauses f a) ≡ Emitted new → emitted new (numbered_clauses f b) ≡ emitted old (numbered_clauses f (a ++ b))
+then_rest f a b old new h = rest_listed (over f numbered) a b old new h
+
 pub then_fails : (f : Encoder) (a b : List Clause) (old : SinkView) (e : BaseFault) → FaultSays (emitted old (numbered_clauses f a)) e → FaultSays (emitted old (numbered_clauses f (a ++ b))) e
-then_fails f a b old e h = next_fails f (a ++ b) a b (record { is = refl }) old e (emitted old (numbered_clauses f (a ++ b))) h refl
+then_fails f a b old e h = first_fails (over f numbered) a b old e h
+
+-- and of normal plans
+pub normal_rest : (f : Encoder) (a b : List NormalClause) (old new : SinkView) → emitted old (normal_numbered_clauses f a) ≡ Emitted new → emitted new (normal_numbered_clauses f b) ≡ emitted old (normal_numbered_clauses f (a ++ b))
+normal_rest f a b old new h = rest_listed (over f normal_numbered) a b old new h
+
+pub normal_then_fails : (f : Encoder) (a b : List NormalClause) (old : SinkView) (e : BaseFault) → FaultSays (emitted old (normal_numbered_clauses f a)) e → FaultSays (emitted old (normal_numbered_clauses f (a ++ b))) e
+normal_then_fails f a b old e h = first_fails (over f normal_numbered) a b old e h
 
 -- a filter's parts
 parts_kept : {X Y : Type 0} (g : X → List Y) (test : X → Bool) (xs : List X) → flat_map g (filter test xs) ≡ flat_map (λ x. cond (test x) (g x) []) xs

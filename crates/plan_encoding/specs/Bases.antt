@@ -5,7 +5,7 @@ use Rattle.rail_base.specs.declared.route.Route.{Route}
 use Rattle.clause_spec.specs.declared.question.BaseKind.{BaseKind}
 use Rattle.clause_spec.specs.Clauses.{literals, past_limit}
 use Rattle.clause_spec.specs.Laws.{HasFewLiterals}
-use Rattle.alike_clause_spec.specs.Sorted.{clauses_of}
+use Rattle.base_spec.specs.Bases.{clauses_of}
 use Rattle.plan_encoding.specs.declared.numbering.Base.{Base}
 use Rattle.plan_encoding.specs.declared.sink.BaseFault.{BaseFault}
 use Rattle.plan_encoding.specs.declared.sink.BaseFault.TheVariants.{TooLarge, Memory}

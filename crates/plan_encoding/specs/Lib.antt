@@ -10,3 +10,4 @@ pub mod Numberings
 pub mod Bases
 pub mod Nodes
 pub mod Releases
+pub mod Normal

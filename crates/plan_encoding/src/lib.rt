@@ -3,12 +3,15 @@
 
 mod apart;
 mod encoder;
+mod exact;
 mod excluded;
 mod families;
+mod kept;
 mod links;
 mod literals;
 mod make;
 mod network;
+mod normal;
 mod numbering;
 mod orders;
 mod pair;

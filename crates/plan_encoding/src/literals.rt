@@ -66,7 +66,7 @@ impl Encoder<'_> {
     }
 
     /// The number of the variable that a command is given by a step.
-    fn given_number(&self, command: Command, step: u32) -> u32
+    pub fn given_number(&self, command: Command, step: u32) -> u32
         requires command { IsCommand self.now command }
         requires step { step ≤ self.now.steps.count }
         ensures { result ≡ over self.now number_of (Given command step) }

@@ -1,11 +1,12 @@
-//! How bases are made: all clauses are emitted twice, first to count their literals, then to keep them; those that a base
-//! has beside them are emitted once.
+//! How bases are made: all clauses are emitted twice, first to count their literals, then to keep them; those that a
+//! base has beside them are emitted once.
 
 ghost use Rattle.std.specs.Prelude.{IfOk, IfErr};
-ghost use Rattle.clause_spec.specs.declared.question.BaseKind.TheVariants.{Plain, Sorted};
+ghost use Rattle.clause_spec.specs.declared.question.BaseKind.TheVariants.{Normal, Plain, Sorted};
 ghost use Rattle.plan_encoding.specs.Bases.{IsBaseOf, IsRefused};
 
 use crate::encoder::Encoder;
+use crate::normal::NormalEncoder;
 use crate::numbering::{Base, number_variables};
 use crate::sink::{BaseFault, ClauseSink};
 use clause_spec::BaseKind;
@@ -70,6 +71,38 @@ fn with_turns(alloc: Global, interlocking: &Interlocking, base: Base) -> Result<
     })
 }
 
+/// A base with the clauses of normal plans. Where a plan is feasible, some plan of no more steps has values that make
+/// all of them true.
+fn with_normal(alloc: Global, interlocking: &Interlocking, base: Base) -> Result<Base, BaseFault>
+    requires base { IsBaseOf Plain interlocking.now.design.station interlocking.now.routes base.numbering.steps base }
+    ensures base { IfOk result
+        (IsBaseOf Normal interlocking.now.design.station interlocking.now.routes base.numbering.steps) }
+    ensures fault { IfErr result
+        (IsRefused Normal interlocking.now.design.station interlocking.now.routes base.numbering.steps) }
+{
+    let Base {
+        numbering,
+        clauses,
+        literals,
+    } = base;
+    let normal = NormalEncoder {
+        encoder: Encoder {
+            interlocking,
+            steps: numbering.steps(),
+        },
+        count: numbering.variables(BaseKind::Plain).count,
+    };
+    let tables = normal.tables(alloc)?;
+    let mut sink = ClauseSink::behind(clauses, literals);
+    tables.emit_normal(alloc, &mut sink)?;
+    let literals = sink.literals();
+    Ok(Base {
+        numbering,
+        clauses: sink.into_clauses(),
+        literals,
+    })
+}
+
 /// The base of another kind, with the clauses that it has beside those of this one.
 ///
 /// # Errors
@@ -90,6 +123,7 @@ pub fn extended(
     match kind {
         BaseKind::Plain => Ok(base),
         BaseKind::Sorted => with_turns(alloc, interlocking, base),
+        BaseKind::Normal => with_normal(alloc, interlocking, base),
     }
 }
 

@@ -1,10 +1,11 @@
 //! A base, and the numbers of its variables.
 
 ghost use Rattle.std.specs.Prelude.{◌≡◌, ◌≤◌, Some, None, length};
-ghost use Rattle.clause_spec.specs.Variables.{By, yes, numbered, variables_of};
+ghost use Rattle.base_spec.specs.Bases.{variables_of};
+ghost use Rattle.clause_spec.specs.Variables.{By, yes, numbered};
 ghost use Rattle.plan_encoding.specs.Numberings.{HasCommand, OfNumbering, given_number, before_number};
 
-use clause_spec::VariableCounts;
+use clause_spec::{BaseKind, VariableCounts};
 use contending::ContendingPairs;
 use interlocking::{Interlocking, Steps};
 use rail_base::plan::Command;
@@ -122,14 +123,18 @@ impl Numbering {
         }
     }
 
-    /// How many variables there are, and how many come before those that all is given by a step.
-    pub fn variables(&self) -> VariableCounts
-        ensures { OfNumbering self.now (λ d routes n. result ≡ variables_of d routes n) }
+    /// How many variables a base has, and how many come before those that all is given by a step.
+    pub fn variables(&self, kind: BaseKind) -> VariableCounts
+        ensures { OfNumbering self.now (λ d routes n. result ≡ variables_of kind d routes n) }
     {
-        let before_selectors = self.trains * self.routes * self.steps.count
-            + self.pairs.count() as u32;
+        let given = self.trains * self.routes * self.steps.count;
+        let before_selectors = given + self.pairs.count() as u32;
+        let count = before_selectors + self.steps.count;
         VariableCounts {
-            count: before_selectors + self.steps.count,
+            count: match kind {
+                BaseKind::Plain | BaseKind::Sorted => count,
+                BaseKind::Normal => count + given,
+            },
             before_selectors,
             steps: self.steps.count,
         }

@@ -94,7 +94,7 @@ impl<'a> Network<'a> {
     }
 
     /// For each route, those that end where it starts.
-    fn all_leading(&self, alloc: Global) -> Result<Vec<List<RouteNo>>, AllocError>
+    pub fn all_leading(&self, alloc: Global) -> Result<Vec<List<RouteNo>>, AllocError>
         ensures { IfOk result (λ rows. rows.items ≡ rows_by leading (table self.now.encoder)) }
     {
         let mut rows = Vec::new(alloc);

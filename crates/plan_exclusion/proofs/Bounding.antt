@@ -28,9 +28,9 @@ use Rattle.sat_core.specs.Models.{value_in}
 use Rattle.clause_spec.specs.declared.question.BaseKind.TheVariants.{Sorted}
 use Rattle.plan_exclusion.specs.Exclusions.{IsExclusion}
 use Rattle.plan_exclusion.specs.Failures.{FailsSo, AreValuesOfPlan}
-use Rattle.plan_exclusion.proofs.Below.{bound-below}
+use Rattle.proof_judge.proofs.Below.{bound-below}
 use Rattle.plan_exclusion.proofs.Modelling.{bound_alike}
-use Rattle.plan_exclusion.proofs.Showing.{shown_valid}
+use Rattle.proof_judge.proofs.Showing.{shown_valid}
 use Rattle.clause_spec.proofs.Shown.{short_enough}
 
 not_false : (b : Bool) → not b ≡ false → b ≡ true

@@ -28,9 +28,9 @@ use Rattle.timing_refuter.specs.Small.{IsSmall}
 use Rattle.clause_spec.specs.declared.question.BaseKind.{BaseKind}
 use Rattle.plan_exclusion.specs.Exclusions.{IsExclusion}
 use Rattle.plan_exclusion.specs.Failures.{FailsSo}
-use Rattle.plan_exclusion.proofs.Below.{numbered-below}
+use Rattle.proof_judge.proofs.Below.{numbered-below}
 use Rattle.plan_exclusion.proofs.Forming.{well_formed_within}
-use Rattle.plan_exclusion.proofs.Showing.{valid_shows}
+use Rattle.proof_judge.proofs.Showing.{valid_shows}
 use Rattle.plan_exclusion.proofs.Written.{cone-written}
 
 -- a cone that refutes the plan shows its clause

@@ -1,10 +1,8 @@
-pub mod Below
 pub mod Bounding
 pub mod Denying
 pub mod Failing
 pub mod Failure
 pub mod Forming
 pub mod Modelling
-pub mod Showing
 pub mod Truth
 pub mod Written

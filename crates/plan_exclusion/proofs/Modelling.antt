@@ -28,7 +28,7 @@ use Rattle.rail_spec.specs.Track.{routes_of}
 use Rattle.sat_clause.specs.declared.lit.Lit.{Lit}
 use Rattle.sat_clause.specs.Clauses.{lit_holds, clause_holds}
 use Rattle.plan_exclusion.specs.Failures.{clause_of_evidence}
-use Rattle.plan_exclusion.proofs.Showing.{shown_valid}
+use Rattle.proof_judge.proofs.Showing.{shown_valid}
 
 module _ (d : Station) (n : ℕ) (some : 1 ≤ n) (values : ℕ → Bool) (true_ : list_all (clause_holds values) (base_clauses d (routes_of d) n) ≡ true) where
   abbrev model : ℕ → Bool

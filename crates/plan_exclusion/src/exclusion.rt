@@ -75,7 +75,7 @@ impl FailedPlan<'_, '_> {
         ensures { IfOk result (IsExclusionOf self.now kind) }
     {
         match kind {
-            BaseKind::Plain => self.by_cone(alloc, kind),
+            BaseKind::Plain | BaseKind::Normal => self.by_cone(alloc, kind),
             BaseKind::Sorted => match self.by_bounds(alloc, finder)? {
                 Some(exclusion) => Ok(exclusion),
                 None => self.by_cone(alloc, kind),

@@ -1,4 +1,6 @@
 pub mod Living
 pub mod Deciding
+pub mod Showing
+pub mod Below
 pub mod Sound
 pub mod Under

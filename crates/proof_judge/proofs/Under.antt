@@ -7,20 +7,18 @@ use Rattle.log_checker.specs.Verdict.{log_verdict}
 use Rattle.clause_spec.specs.declared.question.Question.{Question}
 use Rattle.clause_spec.specs.declared.question.VariableCounts.{VariableCounts}
 use Rattle.clause_spec.specs.Clauses.{past_limit}
-use Rattle.clause_spec.specs.Variables.{variables_of}
 use Rattle.proof_log.specs.declared.head.Head.{Head}
 use Rattle.proof_log.specs.declared.head.Head.TheVariants.{Of}
 use Rattle.rail_base.specs.declared.station.Station.{Station}
-use Rattle.rail_spec.specs.Track.{routes_of}
 use Rattle.sat_clause.specs.Clauses.{Store}
-use Rattle.proof_judge.specs.Judged.{all_live, clauses_under, judged_by, judged_under, refuted}
+use Rattle.proof_judge.specs.Judged.{all_live, clauses_under, judged_by, judged_under, refuted, variables_under}
 
 module _ {E : Type 0} (d : Station) (n : ℕ) (bytes : List ℕ) (r : Result CheckResult E) where
   -- what was shown over these clauses and variables
-  pub under : (head : Head) (steps : ℕ) (variables : VariableCounts) (clauses : Store) → steps ≡ n → variables ≡ variables_of d (routes_of d) n → clauses ≡ all_live (clauses_under head d n)
+  pub under : (head : Head) (steps : ℕ) (variables : VariableCounts) (clauses : Store) → steps ≡ n → variables ≡ variables_under head d n → clauses ≡ all_live (clauses_under head d n)
       → IfOk r (λ shown. shown ≡ log_verdict head (refuted d steps) variables clauses bytes) → IfOk r (λ shown. shown ≡ judged_under head d n bytes)
   under head steps variables clauses s v c h =
-      subst (λ m. IfOk r (λ shown. shown ≡ log_verdict head (refuted d m) (variables_of d (routes_of d) n) (all_live (clauses_under head d n)) bytes)) s
+      subst (λ m. IfOk r (λ shown. shown ≡ log_verdict head (refuted d m) (variables_under head d n) (all_live (clauses_under head d n)) bytes)) s
       (subst (λ (m : VariableCounts). IfOk r (λ shown. shown ≡ log_verdict head (refuted d steps) m (all_live (clauses_under head d n)) bytes)) v
       (subst (λ (z : Store). IfOk r (λ shown. shown ≡ log_verdict head (refuted d steps) variables z bytes)) c h))
 

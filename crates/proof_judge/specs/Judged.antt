@@ -2,7 +2,7 @@
 use Rattle.std.specs.Prelude.{◌≡◌, ℕ, ◌≤◌, ◌==◌, true, not, ◌&&◌, if◌then◌else◌, List, map, Option, Some, None}
 use Rattle.std.specs.Prelude.{is_some, Result, Ok, Err}
 use Rattle.rail_text.specs.Pieces.{pieces}
-use Rattle.alike_clause_spec.specs.Sorted.{clauses_of}
+use Rattle.base_spec.specs.Bases.{clauses_of, variables_of}
 use Rattle.bound_clause.specs.Numbered.{numbered_bound}
 use Rattle.cone_clause.specs.Numbered.{numbered_clause}
 use Rattle.log_checker.specs.declared.check_result.CheckResult.{CheckResult}
@@ -10,7 +10,7 @@ use Rattle.log_checker.specs.declared.check_result.CheckResult.TheVariants.{Yes,
 use Rattle.log_checker.specs.declared.check_result.Reason.TheVariants.{HeadDiffers, BaseTooLarge}
 use Rattle.log_checker.specs.Verdict.{head_in, log_verdict}
 use Rattle.clause_spec.specs.Clauses.{past_limit}
-use Rattle.clause_spec.specs.Variables.{variables_of}
+use Rattle.clause_spec.specs.declared.question.VariableCounts.{VariableCounts}
 use Rattle.proof_log.specs.declared.head.Head.{Head}
 use Rattle.proof_log.specs.declared.head.Head.TheVariants.{Unnamed, Of}
 use Rattle.proof_log.specs.Heads.{base_of}
@@ -45,10 +45,14 @@ refuted d n (evidence.Bound b) = unless of.Bound (bound.fault_of d (routes_of d)
 abbrev pub clauses_under : Head → Station → ℕ → List (List Lit)
 clauses_under head d n = clauses_of (base_of head) d (routes_of d) n
 
+-- their variables
+abbrev pub variables_under : Head → Station → ℕ → VariableCounts
+variables_under head d n = variables_of (base_of head) d (routes_of d) n
+
 -- what the bytes show of the clauses that a head names, and of those of valid cones and bounds
 abbrev pub judged_under : Head → Station → ℕ → List ℕ → CheckResult
 judged_under head d n bytes =
-    log_verdict head (refuted d n) (variables_of d (routes_of d) n) (all_live (clauses_under head d n)) bytes
+    log_verdict head (refuted d n) (variables_under head d n) (all_live (clauses_under head d n)) bytes
 
 -- the same, where a head that names a question names this version of designs and so many steps, and its clauses are not too many
 abbrev pub judged_by : Station → ℕ → List ℕ → Option Head → CheckResult

@@ -109,7 +109,8 @@ fn judge_base(
         contention,
         steps: numbering.steps(),
     };
-    judge_clauses(alloc, &design, head, numbering.variables(), clauses, bytes)
+    let variables = numbering.variables(head.base());
+    judge_clauses(alloc, &design, head, variables, clauses, bytes)
 }
 
 /// What the bytes of a file that is to have this head show over these variables and clauses.

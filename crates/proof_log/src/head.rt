@@ -66,6 +66,13 @@ pub fn write_head(alloc: Global, head: Head) -> Result<Vec<u8>, AllocError>
                 base: BaseKind::Sorted,
             },
         ) => write_named(alloc, b"rcvlog 4", version, steps),
+        Head::Of(
+            Question {
+                version,
+                steps,
+                base: BaseKind::Normal,
+            },
+        ) => write_named(alloc, b"rcvlog 3", version, steps),
     }
 }
 
@@ -88,6 +95,8 @@ fn base_of_word(word: &[u8]) -> Option<BaseKind>
         Some(BaseKind::Plain)
     } else if word == b"4".as_slice() {
         Some(BaseKind::Sorted)
+    } else if word == b"3".as_slice() {
+        Some(BaseKind::Normal)
     } else {
         None
     }

@@ -21,14 +21,13 @@ use Rattle.log_checker.specs.declared.check_result.Reason.TheVariants.{HeadDiffe
 use Rattle.log_checker.specs.Verdict.{SoFar, after_line, at_first, by_evidence, head_in, if_within, is_headed, may_stand, result_of, result_from, parsed, taken}
 use Rattle.clause_spec.specs.Clauses.{past_limit}
 use Rattle.clause_spec.specs.declared.question.VariableCounts.{VariableCounts}
-use Rattle.clause_spec.specs.Variables.{variables_of}
 use Rattle.proof_log.specs.declared.head.Head.{Head}
 use Rattle.proof_log.specs.declared.head.Head.TheVariants.{Unnamed, Of}
 use Rattle.proof_log.specs.Heads.{base_of}
 use Rattle.proof_log.specs.declared.line.Line.{Line}
 use Rattle.proof_log.specs.declared.line.Line.TheVariants.{Derive, Refute, Forget}
 use Rattle.proof_log.specs.Lines.{line_in_bytes}
-use Rattle.proof_judge.specs.Judged.{all_live, clauses_under, judged, judged_by, judged_under, refuted, unless}
+use Rattle.proof_judge.specs.Judged.{all_live, clauses_under, judged, judged_by, judged_under, refuted, unless, variables_under}
 use Rattle.cone_clause.specs.Numbered.{numbered_clause}
 use Rattle.cone_spec.specs.declared.ConeFault.{ConeFault}
 use Rattle.cone_spec.specs.Validity as cone
@@ -127,7 +126,7 @@ module _ (d : Station) (n : ℕ) where
   AllShow bytes = All (ShowsClause (refuted d n)) (after_first (pieces bytes))
 
   under_shown : (head : Head) (bytes : List ℕ) (k : ℕ) → judged_under head d n bytes ≡ Yes k → AllShow bytes
-  under_shown head bytes k found = all_shown head (refuted d n) (variables_of d (routes_of d) n) k (all_live (clauses_under head d n)) (pieces bytes) found
+  under_shown head bytes k found = all_shown head (refuted d n) (variables_under head d n) k (all_live (clauses_under head d n)) (pieces bytes) found
 
   by_shown : (bytes : List ℕ) (head : Option Head) (k : ℕ) → judged_by d n bytes head ≡ Yes k → AllShow bytes
   by_shown bytes None k found = under_shown Unnamed bytes k found

@@ -313,6 +313,7 @@ fewest_so : (mode : SearchMode) (d : Station) (k : ℕ) → HasNoneBelow (aim_of
 fewest_so by.Plain d k none other = none
 fewest_so by.Bounds d k none other = none
 fewest_so by.Any d k none other = absurd (other refl)
+fewest_so by.Normal d k none other = none
 
 module _ (files : Files) (words : List (List ℕ)) (n : ℕ) (d : Station) (s : Searches files words n d) (reply : Reply) (t : Status) (text new_text : Option (List ℕ)) (pieces new_pieces : Option (List (List ℕ)))
     (replies : RepliesSo (Ok reply) files (request_of words)) (prints : Prints (reply_seen reply) t text new_text pieces new_pieces) where

@@ -7,7 +7,7 @@ use Rattle.log_checker.specs.declared.check_result.CheckResult.{CheckResult}
 use Rattle.log_checker.specs.declared.check_result.CheckResult.TheVariants.{Yes, No}
 use Rattle.clause_spec.specs.Clauses.{base_clauses, past_limit}
 use Rattle.clause_spec.specs.declared.question.BaseKind.{BaseKind}
-use Rattle.clause_spec.specs.declared.question.BaseKind.TheVariants.{Plain, Sorted}
+use Rattle.clause_spec.specs.declared.question.BaseKind.TheVariants.{Plain, Sorted, Normal}
 use Rattle.proof_judge.specs.Judged.{judged}
 use Rattle.proof_judge.proofs.Sound.{yes_infeasible}
 use Rattle.rail_base.specs.Admitted.{IsAdmitted}
@@ -34,7 +34,7 @@ use Rattle.plan_encoding.specs.declared.sink.BaseFault.{BaseFault}
 use Rattle.plan_encoding.specs.declared.sink.BaseFault.TheVariants.{TooLarge, Memory}
 use Rattle.rail_base.specs.declared.route.Route.{Route}
 use Rattle.verify_loop.specs.declared.outcome.Outcome.{Outcome}
-use Rattle.alike_clause_spec.specs.Sorted.{clauses_of}
+use Rattle.base_spec.specs.Bases.{clauses_of}
 use Rattle.rail_cli.proofs.Passing.{passed, long_refuses, design_refuses, clauses_refuse, read-same}
 use Rattle.rail_cli.proofs.Refusing.{file_is}
 
@@ -118,6 +118,7 @@ prefix_fits limit sum (c ∷ cs) more h = go (nat_lt limit (sum + length c)) (pr
 base_fits : (m : BaseKind) (n : ℕ) (d : Station) → past_limit 16000000 0 (clauses_of m d (routes_of d) n) ≡ None → past_limit 16000000 0 (clauses_of Plain d (routes_of d) n) ≡ None
 base_fits Plain n d h = h
 base_fits Sorted n d h = prefix_fits 16000000 0 (base_clauses d (routes_of d) n) _ h
+base_fits Normal n d h = prefix_fits 16000000 0 (base_clauses d (routes_of d) n) _ h
 
 not_many : (d : Station) (many : Option ℕ) (e : Station) → unless_too_large d many ≡ Ok e → many ≡ None
 not_many d None e h = refl

@@ -4,10 +4,10 @@ use Rattle.std.proofs.lemmas.Bool.{false_from_ne_true}
 use Rattle.std.proofs.lemmas.Slice.Eq.{bytes_eq-Decides}
 use Rattle.rail_outside.specs.Files.{Files, updated}
 use Rattle.rail_words.specs.declared.request.SearchMode.{SearchMode}
-use Rattle.rail_words.specs.declared.request.SearchMode.TheVariants.{Plain, Bounds, Any}
+use Rattle.rail_words.specs.declared.request.SearchMode.TheVariants.{Plain, Bounds, Any, Normal}
 use Rattle.rail_words.specs.Laws.{is_plain}
 use Rattle.rail_words.specs.Requests.{verify, request_of, steps_of, conflicts_of, ticks_of}
-use Rattle.rail_words.proofs.Taken.{verify_read, bounds_read, any_read, check_read}
+use Rattle.rail_words.proofs.Taken.{verify_read, bounds_read, any_read, normal_read, check_read}
 use Rattle.rail_cli.specs.Answers.{check_reply, answer_to}
 use Rattle.rail_cli.specs.Passes.{StoredProofsPass, VerifyPassesCheck, verify_words}
 use Rattle.rail_cli.specs.Searches.{Searches}
@@ -35,6 +35,7 @@ verify_asked : (mode : SearchMode) (program steps conflicts ticks design proof :
 verify_asked Plain = verify_read
 verify_asked Bounds = bounds_read
 verify_asked Any = any_read
+verify_asked Normal = normal_read
 
 pub passes_words : VerifyPassesCheck
 passes_words files left program steps conflicts ticks design proof mode n c t d old new n_is c_is t_is plain_design plain_proof differ spells tells found =

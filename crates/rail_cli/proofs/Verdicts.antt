@@ -18,7 +18,7 @@ use Rattle.rail_words.specs.Requests.{RequestSeen, simulate, routes, verify, che
 use Rattle.verify_loop.specs.declared.outcome.Budgets.{Budgets}
 use Rattle.verify_loop.specs.declared.outcome.Outcome.{Outcome}
 use Rattle.verify_loop.specs.declared.outcome.Outcome.TheVariants as outcome
-use Rattle.alike_clause_spec.specs.Sorted.{clauses_of}
+use Rattle.base_spec.specs.Bases.{clauses_of}
 use Rattle.verify_loop.specs.declared.outcome.Aim.{Aim}
 use Rattle.rail_spec.specs.Track.{routes_of}
 use Rattle.verify_loop.specs.Outcomes.{IsOutcome, Fits}

@@ -13,7 +13,7 @@ use Rattle.log_checker.specs.declared.check_result.CheckResult.TheVariants as ch
 use Rattle.proof_judge.specs.Judged.{judged}
 use Rattle.clause_spec.specs.Clauses.{past_limit}
 use Rattle.clause_spec.specs.declared.question.BaseKind.{BaseKind}
-use Rattle.clause_spec.specs.declared.question.BaseKind.TheVariants.{Plain, Sorted}
+use Rattle.clause_spec.specs.declared.question.BaseKind.TheVariants.{Plain, Sorted, Normal}
 use Rattle.rail_base.specs.declared.station.Station.{Station}
 use Rattle.rail_base.specs.declared.station.EdgeNo.{EdgeNo}
 use Rattle.rail_base.specs.declared.plan.Command.{Command}
@@ -26,7 +26,7 @@ use Rattle.rail_spec.specs.Track.{routes_of, all_walks, edges_met_again}
 use Rattle.rail_spec.specs.Requirements.{cost}
 use Rattle.rail_words.specs.Requests.{RequestSeen, simulate, routes, verify, check, trial, request_of}
 use Rattle.timetable.specs.Timetable.{timetable_of}
-use Rattle.alike_clause_spec.specs.Sorted.{clauses_of}
+use Rattle.base_spec.specs.Bases.{clauses_of}
 use Rattle.verify_loop.specs.declared.outcome.Aim.{Aim}
 use Rattle.verify_loop.specs.declared.outcome.Wanted.TheVariants.{Fewest, Any}
 use Rattle.rail_words.specs.declared.request.SearchMode.{SearchMode}
@@ -195,6 +195,7 @@ abbrev pub aim_of : SearchMode → Aim
 aim_of by.Plain = record { base = Plain; wanted = Fewest }
 aim_of by.Bounds = record { base = Sorted; wanted = Fewest }
 aim_of by.Any = record { base = Sorted; wanted = Any }
+aim_of by.Normal = record { base = Normal; wanted = Fewest }
 
 -- the answer to a search, for the bytes of the design, by what it ended with
 abbrev pub search_reply : Aim → ℕ → ℕ → ℕ → List ℕ → Outcome → ReplySeen

@@ -24,7 +24,7 @@ StoredProofsPass = (files left : Files) (design proof : List ℕ) (n : ℕ) (d :
     → (found : Outcome) (words : List (List ℕ)) → request_of words ≡ Some (check n design proof)
     → Passes left found n words
 
--- `verify --steps N --conflicts C --ticks T [--bounds [--any]] DESIGN PROOF`, after the program's name
+-- `verify --steps N --conflicts C --ticks T [--normal | --bounds [--any]] DESIGN PROOF`, after the program's name
 abbrev pub verify_words : List ℕ → List ℕ → List ℕ → List ℕ → SearchMode → List ℕ → List ℕ → List (List ℕ)
 verify_words program steps conflicts ticks mode design proof =
     program ∷ codes "verify" ∷ codes "--steps" ∷ steps ∷ codes "--conflicts" ∷ conflicts

@@ -27,7 +27,7 @@ use Rattle.rail_cli.specs.declared.input.InputFile.TheVariants as file
 abbrev pub usage_line : List ℕ
 usage_line =
     codes "usage: rcv simulate DESIGN PLAN; rcv routes DESIGN; "
-    ++ codes "rcv verify --steps N --conflicts C --ticks T DESIGN PROOF; "
+    ++ codes "rcv verify [--normal] --steps N --conflicts C --ticks T DESIGN PROOF; "
     ++ codes "rcv check --steps N DESIGN PROOF; rcv trial SEED SIZE\n"
 
 -- ---- files that are too long

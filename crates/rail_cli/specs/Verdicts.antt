@@ -13,7 +13,7 @@ use Rattle.rail_words.specs.Requests.{RequestSeen, simulate, routes, verify, che
 use Rattle.verify_loop.specs.declared.outcome.Budgets.{Budgets}
 use Rattle.verify_loop.specs.declared.outcome.Outcome.{Outcome}
 use Rattle.verify_loop.specs.declared.outcome.Outcome.TheVariants as outcome
-use Rattle.alike_clause_spec.specs.Sorted.{clauses_of}
+use Rattle.base_spec.specs.Bases.{clauses_of}
 use Rattle.verify_loop.specs.declared.outcome.Aim.{Aim}
 use Rattle.rail_words.specs.declared.request.SearchMode.TheVariants as by
 use Rattle.verify_loop.specs.Outcomes.{IsOutcome, Fits}

@@ -115,6 +115,10 @@ pub(crate) fn aim_of(mode: SearchMode) -> Aim
             base: BaseKind::Sorted,
             wanted: Wanted::Any,
         },
+        SearchMode::Normal => Aim {
+            base: BaseKind::Normal,
+            wanted: Wanted::Fewest,
+        },
     }
 }
 

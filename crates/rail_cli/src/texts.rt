@@ -30,7 +30,9 @@ pub(crate) fn usage_line(alloc: Global) -> Result<Vec<u8>, AllocError>
         alloc,
         b"usage: rcv simulate DESIGN PLAN; rcv routes DESIGN; ",
     )?;
-    line.extend_from_slice(b"rcv verify --steps N --conflicts C --ticks T DESIGN PROOF; ")?;
+    line.extend_from_slice(
+        b"rcv verify [--normal] --steps N --conflicts C --ticks T DESIGN PROOF; ",
+    )?;
     line.extend_from_slice(b"rcv check --steps N DESIGN PROOF; rcv trial SEED SIZE\n")?;
     Ok(line)
 }

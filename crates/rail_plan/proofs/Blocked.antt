@@ -11,11 +11,12 @@ use Rattle.rail_base.specs.declared.route.Route.{Route}
 use Rattle.rail_base.specs.declared.plan.Command.{Command}
 use Rattle.rail_base.specs.Members.{In}
 use Rattle.rail_base.specs.Stations.{trains, train_of, train_length, IsTrain}
-use Rattle.rail_spec.specs.Plans.{is_train, is_path, commands, route_at, length_mm, sections, has_section, release_offset, exits, path_routes, step_of, given_between, can_clear}
+use Rattle.rail_spec.specs.Plans.{is_train, is_path, commands, route_at, length_mm, sections, has_section, release_offset, exits, path_routes, step_of, can_clear}
 use Rattle.rail_spec.specs.Feasible.{is_of, names_only}
 use Rattle.rail_plan.specs.declared.place.PlanPlace.TheVariants as place
 use Rattle.rail_plan.specs.Ahead.{clears, stops, is_stopped, stopped_sections, stopped_in, stopped}
 use Rattle.rail_plan.specs.Executable.{keeps_from, blocked_sections, blocked_in}
+use Rattle.rail_plan.specs.Normal.{can_clear_by, given_before}
 use Rattle.rail_base.proofs.Members.{and_both, list_all_at, list_any_gives, filter-append, map-map, false_unless, not_less}
 use Rattle.rail_base.proofs.Lists.{in_append_right, in_filter_back, in_flat_map}
 use Rattle.rail_laws.proofs.Given.{path_is}
@@ -30,7 +31,7 @@ pub kept_same : {X : Type 0} (p q : X → Bool) (xs : List X) → ((x : X) → I
 kept_same p q [] same = refl
 kept_same p q (x ∷ xs) same = ap (λ b. cond b (x ∷ filter p xs) (filter p xs)) (same x (inl refl)) ∙ ap (λ ys. cond (q x) (x ∷ ys) ys) (kept_same p q xs (λ y m. same y (inr m)))
 
-kept_none : {X : Type 0} (p : X → Bool) (xs : List X) → ((x : X) → In x xs → p x ≡ false) → filter p xs ≡ []
+pub kept_none : {X : Type 0} (p : X → Bool) (xs : List X) → ((x : X) → In x xs → p x ≡ false) → filter p xs ≡ []
 kept_none p xs none = none_in (filter p xs) (λ x m. let l = in_filter_back p xs x m in true≢false (sym l.1 ∙ none x l.0))
 
 pub any_same : {X : Type 0} (p q : X → Bool) (xs : List X) → ((x : X) → In x xs → p x ≡ q x) → list_any p xs ≡ list_any q xs
@@ -54,33 +55,32 @@ not_eq : (a b : ℕ) → a < b → (a == b) ≡ false
 not_eq a b h = false_unless (a == b) (λ e. let l : a ≡ b = eqb-true a b e in absurd (omega arith))
 
 module _ (d : Station) (routes : List Route) (plan : List (List Command)) (named : names_only d routes plan ≡ true) (paths : list_all (λ t. is_path (train_of d t) (path_routes routes plan t)) (trains d) ≡ true) where
-  -- ---- one earlier step
+  -- ---- what a train is given from one of its commands on
 
-  module _ (prefix mid : List (List Command)) (s : List Command) (step : List Command) (after : List (List Command)) (split : plan ≡ prefix ++ ((s ∷ mid) ++ step ∷ after)) (e c : Command) (m : In e s) (n : In c step) where
+  module _ (prefix mid : List (List Command)) (s : List Command) (rest : List (List Command)) (split : plan ≡ prefix ++ ((s ∷ mid) ++ rest)) (e : Command) (m : In e s) where
     first_step : step_of plan e ≡ length prefix + 1
-    first_step = step_is d routes plan named paths prefix s (mid ++ step ∷ after) e split m
+    first_step = step_is d routes plan named paths prefix s (mid ++ rest) e split m
 
-    last_step : step_of plan c ≡ length prefix + suc (length mid) + 1
-    last_step =
-        step_is d routes plan named paths (prefix ++ s ∷ mid) step after c (split ∙ sym (append_assoc prefix (s ∷ mid) (step ∷ after))) n
-        ∙ ap (λ k. k + 1) (length-append prefix (s ∷ mid))
+    -- the number of the step after them
+    abbrev next : ℕ
+    next = length prefix + suc (length mid) + 1
 
     abbrev own : Command → Bool
     own g = is_train g.train e.train
 
     abbrev test : Command → Bool
-    test g = is_train g.train e.train && nat_le (step_of plan e) (step_of plan g) && nat_lt (step_of plan g) (step_of plan c)
+    test g = is_train g.train e.train && nat_le (step_of plan e) (step_of plan g) && nat_lt (step_of plan g) next
 
-    -- e's train is given between the two just what the steps from e's on give it
-    given_there : given_between plan e c ≡ filter own (commands (s ∷ mid))
+    -- before that step it is just what the steps from e's on give it
+    given_there : given_before plan e next ≡ filter own (commands (s ∷ mid))
     given_there =
         ap (λ p. filter test (commands p)) split
-        ∙ ap (filter test) (flat_map-append (λ (z : List Command). z) prefix ((s ∷ mid) ++ step ∷ after))
-        ∙ filter-append test (commands prefix) (commands ((s ∷ mid) ++ step ∷ after))
-        ∙ ap (λ xs. xs ++ filter test (commands ((s ∷ mid) ++ step ∷ after))) (kept_none test (commands prefix) too_early)
-        ∙ ap (filter test) (flat_map-append (λ (z : List Command). z) (s ∷ mid) (step ∷ after))
-        ∙ filter-append test (commands (s ∷ mid)) (commands (step ∷ after))
-        ∙ ap (λ xs. filter test (commands (s ∷ mid)) ++ xs) (kept_none test (commands (step ∷ after)) too_late)
+        ∙ ap (filter test) (flat_map-append (λ (z : List Command). z) prefix ((s ∷ mid) ++ rest))
+        ∙ filter-append test (commands prefix) (commands ((s ∷ mid) ++ rest))
+        ∙ ap (λ xs. xs ++ filter test (commands ((s ∷ mid) ++ rest))) (kept_none test (commands prefix) too_early)
+        ∙ ap (filter test) (flat_map-append (λ (z : List Command). z) (s ∷ mid) rest)
+        ∙ filter-append test (commands (s ∷ mid)) (commands rest)
+        ∙ ap (λ xs. filter test (commands (s ∷ mid)) ++ xs) (kept_none test (commands rest) too_late)
         ∙ append-nil (filter test (commands (s ∷ mid)))
         ∙ kept_same test own (commands (s ∷ mid)) between
       where
@@ -94,19 +94,18 @@ module _ (d : Station) (routes : List Route) (plan : List (List Command)) (named
 
         too_early : (g : Command) → In g (commands prefix) → test g ≡ false
         too_early g k =
-            let w = step_within d routes plan named paths [] prefix ((s ∷ mid) ++ step ∷ after) g split k in
+            let w = step_within d routes plan named paths [] prefix ((s ∷ mid) ++ rest) g split k in
             let high = w.1 in
             let here = first_step in
-            part (own g) (nat_le (step_of plan e) (step_of plan g)) (nat_lt (step_of plan g) (step_of plan c)) (not_le (step_of plan e) (step_of plan g) (omega arith))
+            part (own g) (nat_le (step_of plan e) (step_of plan g)) (nat_lt (step_of plan g) next) (not_le (step_of plan e) (step_of plan g) (omega arith))
 
-        too_late : (g : Command) → In g (commands (step ∷ after)) → test g ≡ false
+        too_late : (g : Command) → In g (commands rest) → test g ≡ false
         too_late g k =
-            let whole : plan ≡ (prefix ++ s ∷ mid) ++ ((step ∷ after) ++ []) = split ∙ sym (append_assoc prefix (s ∷ mid) (step ∷ after)) ∙ ap (λ p. (prefix ++ s ∷ mid) ++ p) (sym (append-nil (step ∷ after))) in
-            let w = step_within d routes plan named paths (prefix ++ s ∷ mid) (step ∷ after) [] g whole k in
+            let whole : plan ≡ (prefix ++ s ∷ mid) ++ (rest ++ []) = split ∙ sym (append_assoc prefix (s ∷ mid) rest) ∙ ap (λ p. (prefix ++ s ∷ mid) ++ p) (sym (append-nil rest)) in
+            let w = step_within d routes plan named paths (prefix ++ s ∷ mid) rest [] g whole k in
             let low = w.0 in
             let size = length-append prefix (s ∷ mid) in
-            let there = last_step in
-            last (own g && nat_le (step_of plan e) (step_of plan g)) (nat_lt (step_of plan g) (step_of plan c)) (not_less (step_of plan g) (step_of plan c) (omega arith))
+            last (own g && nat_le (step_of plan e) (step_of plan g)) (nat_lt (step_of plan g) next) (not_less (step_of plan g) next (omega arith))
 
         right : (a b f : Bool) → b ≡ true → f ≡ true → ((a && b) && f) ≡ a
         right true b f p q = and_both b f p q
@@ -114,23 +113,33 @@ module _ (d : Station) (routes : List Route) (plan : List (List Command)) (named
 
         between : (g : Command) → In g (commands (s ∷ mid)) → test g ≡ own g
         between g k =
-            let w = step_within d routes plan named paths prefix (s ∷ mid) (step ∷ after) g split k in
+            let w = step_within d routes plan named paths prefix (s ∷ mid) rest g split k in
             let low = w.0 in
             let high = w.1 in
             let here = first_step in
-            let there = last_step in
-            right (own g) (nat_le (step_of plan e) (step_of plan g)) (nat_lt (step_of plan g) (step_of plan c)) (le-leb (step_of plan e) (step_of plan g) (omega arith)) (le-leb (suc (step_of plan g)) (step_of plan c) (omega arith))
+            right (own g) (nat_le (step_of plan e) (step_of plan g)) (nat_lt (step_of plan g) next) (le-leb (step_of plan e) (step_of plan g) (omega arith)) (le-leb (suc (step_of plan g)) next (omega arith))
 
-    pub clears_there : (z : SectionNo) → can_clear d routes plan e c z ≡ clears d routes (s ∷ mid) e z
-    clears_there z =
+    pub clears_by : (z : SectionNo) → can_clear_by d routes plan (length prefix + suc (length mid) + 1) e z ≡ clears d routes (s ∷ mid) e z
+    clears_by z =
         let wants : List Route → Bool = λ given. nat_le (release_offset (route_at routes e.route) z + train_length d e.train) (sum_by length_mm given) || list_any exits given in
         ap wants (ap (map (λ (g : Command). route_at routes g.route)) given_there
         ∙ sym (map-map (route_at routes) (λ (g : Command). g.route) (filter own (commands (s ∷ mid))))
         ∙ ap (map (route_at routes)) (sym (path_is e.train (s ∷ mid))))
 
+  -- ---- one earlier step
+
+  module _ (prefix mid : List (List Command)) (s : List Command) (step : List Command) (after : List (List Command)) (split : plan ≡ prefix ++ ((s ∷ mid) ++ step ∷ after)) (e c : Command) (m : In e s) (n : In c step) where
+    last_step : step_of plan c ≡ length prefix + suc (length mid) + 1
+    last_step =
+        step_is d routes plan named paths (prefix ++ s ∷ mid) step after c (split ∙ sym (append_assoc prefix (s ∷ mid) (step ∷ after))) n
+        ∙ ap (λ k. k + 1) (length-append prefix (s ∷ mid))
+
+    clears_there : (z : SectionNo) → can_clear d routes plan e c z ≡ clears d routes (s ∷ mid) e z
+    clears_there z = ap (λ k. can_clear_by d routes plan k e z) last_step ∙ clears_by prefix mid s (step ∷ after) split e m z
+
     pub earlier_keeps : (z : SectionNo) → keeps_from d routes plan c z e ≡ stops d routes (s ∷ mid) c.train z e
     earlier_keeps z =
-        let here = first_step in
+        let here = first_step prefix mid s (step ∷ after) split e m in
         let there = last_step in
         ap (λ b. not (is_train e.train c.train) && has_section (route_at routes e.route) z && (b || (nat_lt (step_of plan e) (step_of plan c) && not (can_clear d routes plan e c z)))) (not_eq (step_of plan e) (step_of plan c) (omega arith))
         ∙ ap (λ b. not (is_train e.train c.train) && has_section (route_at routes e.route) z && (b && not (can_clear d routes plan e c z))) (le-leb (suc (step_of plan e)) (step_of plan c) (omega arith))

@@ -200,7 +200,7 @@ module _ (d : Station) (routes : List Route) (t : TrainNo) (z : SectionNo) where
 
 module _ (d : Station) (routes : List Route) where
   -- one stops another train in its step wherever it has the section
-  here_is : (t : TrainNo) (z : SectionNo) (e : Command) → 1 ≤ train_length d e.train → stops d routes [] t z e ≡ takes routes t z e
+  pub here_is : (t : TrainNo) (z : SectionNo) (e : Command) → 1 ≤ train_length d e.train → stops d routes [] t z e ≡ takes routes t z e
   here_is t z e long =
       let need = release_offset (route_at routes e.route) z + train_length d e.train in
       let never : nat_le need 0 ≡ false = false_unless (nat_le need 0) (λ k. let l = leb-true need 0 k in absurd (omega arith)) in

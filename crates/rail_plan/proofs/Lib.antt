@@ -17,3 +17,10 @@ pub mod Holding
 pub mod Taking
 pub mod Within
 pub mod Contending
+pub mod Free
+pub mod Giving
+pub mod Moved
+pub mod Trimmed
+pub mod Held
+pub mod Joining
+pub mod Ends

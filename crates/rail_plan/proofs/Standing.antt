@@ -26,7 +26,7 @@ use Rattle.rail_plan.proofs.Empties.{none_in, none_mapped, none_kept, none_joine
 same_section : (y z : SectionNo) → (y.0 == z.0) ≡ true → y ≡ z
 same_section y z h = let n : y.0 ≡ z.0 = eqb-true y.0 z.0 h in ap (λ k. record { 0 = k }) n
 
-has_its_section : (r : Route) (z : SectionNo) → In z (sections r) → has_section r z ≡ true
+pub has_its_section : (r : Route) (z : SectionNo) → In z (sections r) → has_section r z ≡ true
 has_its_section r z m = go (in_map_back (λ (p : SectionNo × ℤ). p.0) r.sections z m)
   where
     go : (p : SectionNo × ℤ) × In p r.sections × (p.0 ≡ z) → has_section r z ≡ true
@@ -44,11 +44,11 @@ shares_it r q z h m = go (list_any_gives (λ (p : SectionNo × ℤ). p.0.0 == z.
     go : (p : SectionNo × ℤ) × In p r.sections × ((p.0.0 == z.0) ≡ true) → share r q ≡ true
     go (p, k, e) = list_any_from (λ (p : SectionNo × ℤ). has_section q p.0) r.sections p k (subst (λ y. has_section q y ≡ true) (sym (same_section p.0 z e)) (has_its_section q z m))
 
-in_shared : (r q : Route) (z : SectionNo) → has_section r z ≡ true → In z (sections q) → In z (shared r q)
+pub in_shared : (r q : Route) (z : SectionNo) → has_section r z ≡ true → In z (sections q) → In z (shared r q)
 in_shared r q z h m = in_filter (has_section q) (sections r) z (its_section r z h) (has_its_section q z m)
 
 -- a section that two routes share
-one_shared : (r q : Route) → share r q ≡ true → (z : SectionNo) × (has_section r z ≡ true) × In z (sections q)
+pub one_shared : (r q : Route) → share r q ≡ true → (z : SectionNo) × (has_section r z ≡ true) × In z (sections q)
 one_shared r q h = go (list_any_gives (λ (p : SectionNo × ℤ). has_section q p.0) r.sections h)
   where
     go : (p : SectionNo × ℤ) × In p r.sections × (has_section q p.0 ≡ true) → (z : SectionNo) × (has_section r z ≡ true) × In z (sections q)

@@ -25,7 +25,7 @@ split_at [] x m = absurd m
 split_at (y ∷ ys) x (inl e) = ([], ys, ap (λ z. z ∷ ys) e)
 split_at (y ∷ ys) x (inr m) = let l = split_at ys x m in (y ∷ l.0, l.1, ap (λ zs. y ∷ zs) l.2)
 
-all_pairs_across : {X : Type 0} (test : X → X → Bool) (xs ys : List X) (x y : X) → all_pairs test (xs ++ ys) ≡ true → In x xs → In y ys → test x y ≡ true
+pub all_pairs_across : {X : Type 0} (test : X → X → Bool) (xs ys : List X) (x y : X) → all_pairs test (xs ++ ys) ≡ true → In x xs → In y ys → test x y ≡ true
 all_pairs_across test [] ys x y h m n = absurd m
 all_pairs_across test (z ∷ zs) ys x y h (inl e) n = subst (λ w. test w y ≡ true) e (list_all_at (test z) (zs ++ ys) y (and_left (list_all (test z) (zs ++ ys)) (all_pairs test (zs ++ ys)) h) (in_append_right y zs ys n))
 all_pairs_across test (z ∷ zs) ys x y h (inr m) n = all_pairs_across test zs ys x y (and_right (list_all (test z) (zs ++ ys)) (all_pairs test (zs ++ ys)) h) m n

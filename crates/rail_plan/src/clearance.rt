@@ -87,7 +87,7 @@ fn is_kept_from(
 }
 
 /// The first section, in the order of its route, from which the holds or the commands of its step keep a command.
-fn kept_section(
+pub(crate) fn kept_section(
     interlocking: &Interlocking,
     holds: &[Hold],
     step: &List<Command>,

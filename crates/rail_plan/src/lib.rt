@@ -7,6 +7,7 @@ pub mod formed;
 mod holds;
 pub mod laws;
 mod names;
+pub mod normal;
 pub mod paths;
 pub mod place;
 pub mod reading;

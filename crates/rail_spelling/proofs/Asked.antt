@@ -2,10 +2,10 @@
 use Rattle.std.proofs.Common.{◌≡◌, ℕ, Bool, true, false, not, ◌&&◌, ◌==◌, nat_le, [], ◌∷◌, ◌++◌, Some, None, option_and_then, if◌then◌else◌, codes, refl, ap, ap₂, ◌∙◌, le-leb, eqb-true}
 use Rattle.rail_words.specs.Laws.{is_plain}
 use Rattle.rail_words.specs.Requests.{number_to, request_of, verify}
-use Rattle.rail_words.proofs.Taken.{simulate_read, verify_read, bounds_read, any_read, check_read, trial_read}
+use Rattle.rail_words.proofs.Taken.{simulate_read, verify_read, bounds_read, any_read, normal_read, check_read, trial_read}
 use Rattle.rail_spelling.specs.Lines.{Word, IsNumber, IsName, flags_of}
 use Rattle.rail_words.specs.declared.request.SearchMode.{SearchMode}
-use Rattle.rail_words.specs.declared.request.SearchMode.TheVariants.{Plain, Bounds, Any}
+use Rattle.rail_words.specs.declared.request.SearchMode.TheVariants.{Plain, Bounds, Any, Normal}
 use Rattle.rail_spelling.specs.Laws.{SimulateLinesAsk, VerifyLinesAsk, CheckLinesAsk, TrialLinesAsk}
 
 plain : (word : Word) → IsName word → is_plain word ≡ true
@@ -44,6 +44,7 @@ verify_asked words n design proof l = ap request_of l.line ∙ go l.mode
         ≡ Some (verify n l.conflicts l.ticks mode design proof)
     go Bounds = bounds_read l.program l.steps_word l.conflicts_word l.ticks_word design proof n l.conflicts l.ticks steps conflicts ticks (plain design l.names.0) (plain proof l.names.1)
     go Any = any_read l.program l.steps_word l.conflicts_word l.ticks_word design proof n l.conflicts l.ticks steps conflicts ticks (plain design l.names.0) (plain proof l.names.1)
+    go Normal = normal_read l.program l.steps_word l.conflicts_word l.ticks_word design proof n l.conflicts l.ticks steps conflicts ticks (plain design l.names.0) (plain proof l.names.1)
     go Plain = verify_read l.program l.steps_word l.conflicts_word l.ticks_word design proof n l.conflicts l.ticks steps conflicts ticks (plain design l.names.0) (plain proof l.names.1)
 
 pub trial_asked : TrialLinesAsk

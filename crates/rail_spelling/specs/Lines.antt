@@ -2,7 +2,7 @@
 use Rattle.std.specs.Prelude.{◌≡◌, ◌≢◌, ℕ, ◌≤◌, List, [], ◌∷◌, ◌++◌, Some, codes}
 use Rattle.rail_text.specs.Numbers.{number_of}
 use Rattle.rail_words.specs.declared.request.SearchMode.{SearchMode}
-use Rattle.rail_words.specs.declared.request.SearchMode.TheVariants.{Plain, Bounds, Any}
+use Rattle.rail_words.specs.declared.request.SearchMode.TheVariants.{Plain, Bounds, Any, Normal}
 
 -- a word by its bytes
 abbrev pub Word : Type 0
@@ -28,8 +28,9 @@ abbrev pub flags_of : SearchMode → List Word
 flags_of Plain = []
 flags_of Bounds = codes "--bounds" ∷ []
 flags_of Any = codes "--bounds" ∷ codes "--any" ∷ []
+flags_of Normal = codes "--normal" ∷ []
 
--- `verify --steps N --conflicts C --ticks T [--bounds [--any]] DESIGN PROOF`
+-- `verify --steps N --conflicts C --ticks T [--normal | --bounds [--any]] DESIGN PROOF`
 pub record VerifyLine (words : List Word) (n : ℕ) (design proof : Word) : Type 0 where
   pub program : Word
   pub steps_word : Word

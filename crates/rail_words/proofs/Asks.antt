@@ -26,12 +26,20 @@ verify_numbers (Some n) (Some c) None mode design proof = inr (inr (inr (inl ref
 verify_numbers (Some n) (Some c) (Some t) None design proof = inr (inr (inr (inr refl)))
 verify_numbers (Some n) (Some c) (Some t) (Some mode) design proof = inl refl
 
--- only any number of steps without bounds is no way to look for a plan
-no_mode : (bounds any : Bool) → mode_of bounds any ≡ None → (bounds ≡ false) × (any ≡ true)
-no_mode false false e = absurd (cc)
-no_mode true false e = absurd (cc)
-no_mode true true e = absurd (cc)
-no_mode false true e = (refl, refl)
+-- only any number of steps without bounds, and normal plans with them, are no way to look for a plan
+no_mode : (bounds any normal : Bool) → mode_of bounds any normal ≡ None → ((bounds ≡ false) × (any ≡ true)) ⊎ ((bounds ≡ true) × (normal ≡ true))
+no_mode false false false e = absurd (cc)
+no_mode false false true e = absurd (cc)
+no_mode false true normal e = inl (refl, refl)
+no_mode true false false e = absurd (cc)
+no_mode true true false e = absurd (cc)
+no_mode true false true e = inr (refl, refl)
+no_mode true true true e = inr (refl, refl)
+
+-- nor are normal plans with bounds
+normal_bounds : (any : Bool) → mode_of true any true ≡ None
+normal_bounds false = refl
+normal_bounds true = refl
 
 verify_values : (a b c : Option Text) (mode : Option SearchMode) (d e : Option Text) (steps conflicts ticks design proof : Text) → a ≡ Some steps → b ≡ Some conflicts → c ≡ Some ticks → d ≡ Some design → e ≡ Some proof
     → IsSome (verify_with a b c mode d e) ⊎ (steps_of steps ≡ None) ⊎ (conflicts_of conflicts ≡ None) ⊎ (ticks_of ticks ≡ None) ⊎ (mode ≡ None)
@@ -72,10 +80,10 @@ verify_asks rows given =
     let steps = given.0 refl in
     let conflicts = given.1.0 refl in
     let ticks = given.1.1.0 refl in
-    let design = given.1.1.1.1.1.1.0 refl in
-    let proof = given.1.1.1.1.1.1.1.0 refl in
-    let flags = no_mode (is_given (codes "bounds") rows) (is_given (codes "any") rows) in
-    elim (verify_values _ _ _ (mode_of (is_given (codes "bounds") rows) (is_given (codes "any") rows)) _ _ steps.0 conflicts.0 ticks.0 design.0 proof.0 steps.1 conflicts.1 ticks.1 design.1 proof.1) [
+    let design = given.1.1.1.1.1.1.1.0 refl in
+    let proof = given.1.1.1.1.1.1.1.1.0 refl in
+    let flags = no_mode (is_given (codes "bounds") rows) (is_given (codes "any") rows) (is_given (codes "normal") rows) in
+    elim (verify_values _ _ _ (mode_of (is_given (codes "bounds") rows) (is_given (codes "any") rows) (is_given (codes "normal") rows)) _ _ steps.0 conflicts.0 ticks.0 design.0 proof.0 steps.1 conflicts.1 ticks.1 design.1 proof.1) [
       | inl ok ↦ inl ok
       | inr (inl none) ↦ inr (inl (refl, inl (inl (steps.0, steps.1, none))))
       | inr (inr (inl none)) ↦ inr (inl (refl, inl (inr (inl (conflicts.0, conflicts.1, none)))))
@@ -214,8 +222,10 @@ trial_unread (Some seed) (Some size) (inr out) = trial_lacks _ _ (inr (unread si
 
 -- a subcommand with a number out of range asks for nothing
 lacking : (name : Text) (rows : List Row) → IsLacking (name, rows) → asked_by (name, rows) ≡ None
-lacking name rows (inl (is, inl out)) = rw is (verify_unread (first_of (codes "steps") rows) (first_of (codes "conflicts") rows) (first_of (codes "ticks") rows) (mode_of (is_given (codes "bounds") rows) (is_given (codes "any") rows)) (first_of (codes "DESIGN") rows) (first_of (codes "PROOF") rows) out)
-lacking name rows (inl (is, inr flags)) = rw (is, flags.0, flags.1) (nothing_with (first_of (codes "steps") rows) (first_of (codes "conflicts") rows) (first_of (codes "ticks") rows) (first_of (codes "DESIGN") rows) (first_of (codes "PROOF") rows))
+lacking name rows (inl (is, inl out)) = rw is (verify_unread (first_of (codes "steps") rows) (first_of (codes "conflicts") rows) (first_of (codes "ticks") rows) (mode_of (is_given (codes "bounds") rows) (is_given (codes "any") rows) (is_given (codes "normal") rows)) (first_of (codes "DESIGN") rows) (first_of (codes "PROOF") rows) out)
+lacking name rows (inl (is, inr (inr flags))) =
+    rw (is, flags.0, flags.1, normal_bounds (is_given (codes "any") rows)) (nothing_with (first_of (codes "steps") rows) (first_of (codes "conflicts") rows) (first_of (codes "ticks") rows) (first_of (codes "DESIGN") rows) (first_of (codes "PROOF") rows))
+lacking name rows (inl (is, inr (inl flags))) = rw (is, flags.0, flags.1) (nothing_with (first_of (codes "steps") rows) (first_of (codes "conflicts") rows) (first_of (codes "ticks") rows) (first_of (codes "DESIGN") rows) (first_of (codes "PROOF") rows))
 lacking name rows (inr (inl (is, out))) = rw is (check_unread (first_of (codes "steps") rows) (first_of (codes "DESIGN") rows) (first_of (codes "PROOF") rows) out)
 lacking name rows (inr (inr (is, out))) = rw is (trial_unread (first_of (codes "SEED") rows) (first_of (codes "SIZE") rows) out)
 

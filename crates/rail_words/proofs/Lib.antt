@@ -5,6 +5,7 @@ pub mod Walks
 pub mod Searches
 pub mod Bounded
 pub mod Freely
+pub mod Normally
 pub mod Watched
 pub mod Trials
 pub mod Taken

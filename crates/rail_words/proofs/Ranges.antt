@@ -90,7 +90,7 @@ chosen false false false false false mode design plan file steps conflicts ticks
 named : (entered : Option (Text × List Row)) (a : RequestSeen) → option_and_then asked_by entered ≡ Some a → IsRequestInRange a
 named None a e = absurd (cc)
 named (Some entered) a e =
-    chosen (bytes_eq entered.0 (codes "simulate")) (bytes_eq entered.0 (codes "routes")) (bytes_eq entered.0 (codes "verify")) (bytes_eq entered.0 (codes "check")) (bytes_eq entered.0 (codes "trial")) (mode_of (is_given (codes "bounds") entered.1) (is_given (codes "any") entered.1))
+    chosen (bytes_eq entered.0 (codes "simulate")) (bytes_eq entered.0 (codes "routes")) (bytes_eq entered.0 (codes "verify")) (bytes_eq entered.0 (codes "check")) (bytes_eq entered.0 (codes "trial")) (mode_of (is_given (codes "bounds") entered.1) (is_given (codes "any") entered.1) (is_given (codes "normal") entered.1))
     (first_of (codes "DESIGN") entered.1) (first_of (codes "PLAN") entered.1) (first_of (codes "DESIGN") entered.1)
     (first_of (codes "steps") entered.1) (first_of (codes "conflicts") entered.1) (first_of (codes "ticks") entered.1) (first_of (codes "DESIGN") entered.1) (first_of (codes "PROOF") entered.1)
     (first_of (codes "SEED") entered.1) (first_of (codes "SIZE") entered.1) a e

@@ -152,6 +152,10 @@ module _ (x : ℕ) (xs : Text) (u : ℕ) (us : Text) (v : ℕ) (vs : Text) (y : 
     unfolding clap_on_literals
     not_any = rw walk_is refl
 
+    pub not_normal : is_given (codes "normal") (rows_after leaf.rules [] words) ≡ false
+    unfolding clap_on_literals
+    not_normal = rw walk_is refl
+
     pub no_progress : is_given (codes "progress") (rows_after leaf.rules [] words) ≡ false
     unfolding clap_on_literals
     no_progress = rw walk_is refl

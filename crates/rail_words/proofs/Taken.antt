@@ -12,11 +12,12 @@ use Rattle.rail_words.proofs.Walks.{level, steps_read, design_read, proof_read, 
 use Rattle.rail_words.proofs.Searches as search
 use Rattle.rail_words.proofs.Bounded as bounded
 use Rattle.rail_words.proofs.Freely as freely
+use Rattle.rail_words.proofs.Normally as normally
 use Rattle.rail_words.proofs.Watched as watched
 use Rattle.rail_words.proofs.Trials as trials
 use Rattle.rail_words.specs.declared.request.SearchMode.{SearchMode}
-use Rattle.rail_words.specs.declared.request.SearchMode.TheVariants.{Plain, Bounds, Any}
-use Rattle.rail_words.specs.Laws.{is_plain, verify_words, bounds_words, any_words, progress_words, SimulateIsRead, RoutesIsRead, VerifyIsRead, BoundsAreRead, AnyIsRead, ProgressIsRead, OthersAreQuiet, CheckIsRead, TrialIsRead}
+use Rattle.rail_words.specs.declared.request.SearchMode.TheVariants.{Plain, Bounds, Any, Normal}
+use Rattle.rail_words.specs.Laws.{is_plain, verify_words, bounds_words, any_words, normal_words, progress_words, SimulateIsRead, RoutesIsRead, VerifyIsRead, BoundsAreRead, AnyIsRead, NormalIsRead, ProgressIsRead, OthersAreQuiet, CheckIsRead, TrialIsRead}
 
 off : (b : Bool) → not b ≡ true → b ≡ false
 off true h = absurd (false≢true h)
@@ -84,12 +85,12 @@ check_read program (x ∷ xs) (y ∷ ys) (z ∷ zs) n h i j =
     (steps_read x xs y ys z zs e f g) (design_read x xs y ys z zs e f g) (proof_read x xs y ys z zs e f g) h
 
 -- what is read of the rows of a search
-search_rows : (words : List Text) (rows : List Row) (steps conflicts ticks design proof : Text) (n c t : ℕ) (bounds any : Bool) (mode : SearchMode) → fault_of rcv_app words ≡ [] → subcommand_of rcv_app words ≡ Some (codes "verify", rows)
-    → first_of (codes "steps") rows ≡ Some steps → first_of (codes "conflicts") rows ≡ Some conflicts → first_of (codes "ticks") rows ≡ Some ticks → is_given (codes "bounds") rows ≡ bounds → is_given (codes "any") rows ≡ any → mode_of bounds any ≡ Some mode
+search_rows : (words : List Text) (rows : List Row) (steps conflicts ticks design proof : Text) (n c t : ℕ) (bounds any normal : Bool) (mode : SearchMode) → fault_of rcv_app words ≡ [] → subcommand_of rcv_app words ≡ Some (codes "verify", rows)
+    → first_of (codes "steps") rows ≡ Some steps → first_of (codes "conflicts") rows ≡ Some conflicts → first_of (codes "ticks") rows ≡ Some ticks → is_given (codes "bounds") rows ≡ bounds → is_given (codes "any") rows ≡ any → is_given (codes "normal") rows ≡ normal → mode_of bounds any normal ≡ Some mode
     → first_of (codes "DESIGN") rows ≡ Some design → first_of (codes "PROOF") rows ≡ Some proof
     → steps_of steps ≡ Some n → conflicts_of conflicts ≡ Some c → ticks_of ticks ≡ Some t → request_of words ≡ Some (verify n c t mode design proof)
 unfolding request_of
-search_rows words rows steps conflicts ticks design proof n c t bounds any mode taken named a b e flag other way f g h i j = rw (taken, named, a, b, e, flag, other, way, f, g, h, i, j) refl
+search_rows words rows steps conflicts ticks design proof n c t bounds any normal mode taken named a b e flag other third way f g h i j = rw (taken, named, a, b, e, flag, other, third, way, f, g, h, i, j) refl
 
 -- whether the rows of a search ask to be told
 told : (words : List Text) (rows : List Row) (given : Bool) → fault_of rcv_app words ≡ [] → subcommand_of rcv_app words ≡ Some (codes "verify", rows) → is_given (codes "progress") rows ≡ given → is_watched words ≡ given
@@ -108,10 +109,10 @@ verify_read program (x ∷ xs) (u ∷ us) (v ∷ vs) (y ∷ ys) (z ∷ zs) n c t
     let d : (v == 45) ≡ false = off (v == 45) (digits_plain 1000000000000 (v ∷ vs) t r) in
     let f : (y == 45) ≡ false = off (y == 45) i in
     let g : (z == 45) ≡ false = off (z == 45) j in
-    search_rows (verify_words program (x ∷ xs) (u ∷ us) (v ∷ vs) (y ∷ ys) (z ∷ zs)) _ (x ∷ xs) (u ∷ us) (v ∷ vs) (y ∷ ys) (z ∷ zs) n c t false false Plain
+    search_rows (verify_words program (x ∷ xs) (u ∷ us) (v ∷ vs) (y ∷ ys) (z ∷ zs)) _ (x ∷ xs) (u ∷ us) (v ∷ vs) (y ∷ ys) (z ∷ zs) n c t false false false Plain
     (search.verify_top program _ _ _ _ _ _ _ _ ∙ rw (search.level x xs u us v vs y ys z zs a b d f g) refl) (search.verify_rows program _ _ _ _ _ _ _ _)
     (search.steps_read x xs u us v vs y ys z zs a b d f g) (search.conflicts_read x xs u us v vs y ys z zs a b d f g) (search.ticks_read x xs u us v vs y ys z zs a b d f g)
-    (search.no_bounds x xs u us v vs y ys z zs a b d f g) (search.not_any x xs u us v vs y ys z zs a b d f g) refl (search.design_read x xs u us v vs y ys z zs a b d f g) (search.proof_read x xs u us v vs y ys z zs a b d f g) p q r
+    (search.no_bounds x xs u us v vs y ys z zs a b d f g) (search.not_any x xs u us v vs y ys z zs a b d f g) (search.not_normal x xs u us v vs y ys z zs a b d f g) refl (search.design_read x xs u us v vs y ys z zs a b d f g) (search.proof_read x xs u us v vs y ys z zs a b d f g) p q r
 
 pub bounds_read : BoundsAreRead
 bounds_read program [] conflicts ticks design proof n c t p q r i j = absurd (cc)
@@ -125,10 +126,27 @@ bounds_read program (x ∷ xs) (u ∷ us) (v ∷ vs) (y ∷ ys) (z ∷ zs) n c t
     let d : (v == 45) ≡ false = off (v == 45) (digits_plain 1000000000000 (v ∷ vs) t r) in
     let f : (y == 45) ≡ false = off (y == 45) i in
     let g : (z == 45) ≡ false = off (z == 45) j in
-    search_rows (bounds_words program (x ∷ xs) (u ∷ us) (v ∷ vs) (y ∷ ys) (z ∷ zs)) _ (x ∷ xs) (u ∷ us) (v ∷ vs) (y ∷ ys) (z ∷ zs) n c t true false Bounds
+    search_rows (bounds_words program (x ∷ xs) (u ∷ us) (v ∷ vs) (y ∷ ys) (z ∷ zs)) _ (x ∷ xs) (u ∷ us) (v ∷ vs) (y ∷ ys) (z ∷ zs) n c t true false false Bounds
     (bounded.bounds_top program _ _ _ _ _ _ _ _ _ ∙ rw (bounded.level x xs u us v vs y ys z zs a b d f g) refl) (bounded.bounds_rows program _ _ _ _ _ _ _ _ _)
     (bounded.steps_read x xs u us v vs y ys z zs a b d f g) (bounded.conflicts_read x xs u us v vs y ys z zs a b d f g) (bounded.ticks_read x xs u us v vs y ys z zs a b d f g)
-    (bounded.with_bounds x xs u us v vs y ys z zs a b d f g) (bounded.not_any x xs u us v vs y ys z zs a b d f g) refl (bounded.design_read x xs u us v vs y ys z zs a b d f g) (bounded.proof_read x xs u us v vs y ys z zs a b d f g) p q r
+    (bounded.with_bounds x xs u us v vs y ys z zs a b d f g) (bounded.not_any x xs u us v vs y ys z zs a b d f g) (bounded.not_normal x xs u us v vs y ys z zs a b d f g) refl (bounded.design_read x xs u us v vs y ys z zs a b d f g) (bounded.proof_read x xs u us v vs y ys z zs a b d f g) p q r
+
+pub normal_read : NormalIsRead
+normal_read program [] conflicts ticks design proof n c t p q r i j = absurd (cc)
+normal_read program (x ∷ xs) [] ticks design proof n c t p q r i j = absurd (cc)
+normal_read program (x ∷ xs) (u ∷ us) [] design proof n c t p q r i j = absurd (cc)
+normal_read program (x ∷ xs) (u ∷ us) (v ∷ vs) [] proof n c t p q r i j = absurd (false≢true i)
+normal_read program (x ∷ xs) (u ∷ us) (v ∷ vs) (y ∷ ys) [] n c t p q r i j = absurd (false≢true j)
+normal_read program (x ∷ xs) (u ∷ us) (v ∷ vs) (y ∷ ys) (z ∷ zs) n c t p q r i j =
+    let a : (x == 45) ≡ false = off (x == 45) (digits_plain 256 (x ∷ xs) n p) in
+    let b : (u == 45) ≡ false = off (u == 45) (digits_plain 10000000 (u ∷ us) c q) in
+    let d : (v == 45) ≡ false = off (v == 45) (digits_plain 1000000000000 (v ∷ vs) t r) in
+    let f : (y == 45) ≡ false = off (y == 45) i in
+    let g : (z == 45) ≡ false = off (z == 45) j in
+    search_rows (normal_words program (x ∷ xs) (u ∷ us) (v ∷ vs) (y ∷ ys) (z ∷ zs)) _ (x ∷ xs) (u ∷ us) (v ∷ vs) (y ∷ ys) (z ∷ zs) n c t false false true Normal
+    (normally.normal_top program _ _ _ _ _ _ _ _ _ ∙ rw (normally.level x xs u us v vs y ys z zs a b d f g) refl) (normally.normal_rows program _ _ _ _ _ _ _ _ _)
+    (normally.steps_read x xs u us v vs y ys z zs a b d f g) (normally.conflicts_read x xs u us v vs y ys z zs a b d f g) (normally.ticks_read x xs u us v vs y ys z zs a b d f g)
+    (normally.no_bounds x xs u us v vs y ys z zs a b d f g) (normally.not_any x xs u us v vs y ys z zs a b d f g) (normally.with_normal x xs u us v vs y ys z zs a b d f g) refl (normally.design_read x xs u us v vs y ys z zs a b d f g) (normally.proof_read x xs u us v vs y ys z zs a b d f g) p q r
 
 pub progress_read : ProgressIsRead
 progress_read program [] conflicts ticks design proof n c t p q r i j = absurd (cc)
@@ -142,10 +160,10 @@ progress_read program (x ∷ xs) (u ∷ us) (v ∷ vs) (y ∷ ys) (z ∷ zs) n c
     let d : (v == 45) ≡ false = off (v == 45) (digits_plain 1000000000000 (v ∷ vs) t r) in
     let f : (y == 45) ≡ false = off (y == 45) i in
     let g : (z == 45) ≡ false = off (z == 45) j in (
-      search_rows (progress_words program (x ∷ xs) (u ∷ us) (v ∷ vs) (y ∷ ys) (z ∷ zs)) _ (x ∷ xs) (u ∷ us) (v ∷ vs) (y ∷ ys) (z ∷ zs) n c t false false Plain
+      search_rows (progress_words program (x ∷ xs) (u ∷ us) (v ∷ vs) (y ∷ ys) (z ∷ zs)) _ (x ∷ xs) (u ∷ us) (v ∷ vs) (y ∷ ys) (z ∷ zs) n c t false false false Plain
           (watched.progress_top program _ _ _ _ _ _ _ _ _ ∙ rw (watched.level x xs u us v vs y ys z zs a b d f g) refl) (watched.progress_rows program _ _ _ _ _ _ _ _ _)
           (watched.steps_read x xs u us v vs y ys z zs a b d f g) (watched.conflicts_read x xs u us v vs y ys z zs a b d f g) (watched.ticks_read x xs u us v vs y ys z zs a b d f g)
-          (watched.no_bounds x xs u us v vs y ys z zs a b d f g) (watched.not_any x xs u us v vs y ys z zs a b d f g) refl (watched.design_read x xs u us v vs y ys z zs a b d f g) (watched.proof_read x xs u us v vs y ys z zs a b d f g) p q r,
+          (watched.no_bounds x xs u us v vs y ys z zs a b d f g) (watched.not_any x xs u us v vs y ys z zs a b d f g) (watched.not_normal x xs u us v vs y ys z zs a b d f g) refl (watched.design_read x xs u us v vs y ys z zs a b d f g) (watched.proof_read x xs u us v vs y ys z zs a b d f g) p q r,
       told (progress_words program (x ∷ xs) (u ∷ us) (v ∷ vs) (y ∷ ys) (z ∷ zs)) _ true
           (watched.progress_top program _ _ _ _ _ _ _ _ _ ∙ rw (watched.level x xs u us v vs y ys z zs a b d f g) refl) (watched.progress_rows program _ _ _ _ _ _ _ _ _)
           (watched.with_progress x xs u us v vs y ys z zs a b d f g),
@@ -172,6 +190,9 @@ others_quiet program (x ∷ xs) (u ∷ us) (v ∷ vs) (y ∷ ys) (z ∷ zs) n c 
       told (any_words program (x ∷ xs) (u ∷ us) (v ∷ vs) (y ∷ ys) (z ∷ zs)) _ false
           (freely.any_top program _ _ _ _ _ _ _ _ _ _ ∙ rw (freely.level x xs u us v vs y ys z zs a b d f g) refl) (freely.any_rows program _ _ _ _ _ _ _ _ _ _)
           (freely.no_progress x xs u us v vs y ys z zs a b d f g),
+      told (normal_words program (x ∷ xs) (u ∷ us) (v ∷ vs) (y ∷ ys) (z ∷ zs)) _ false
+          (normally.normal_top program _ _ _ _ _ _ _ _ _ ∙ rw (normally.level x xs u us v vs y ys z zs a b d f g) refl) (normally.normal_rows program _ _ _ _ _ _ _ _ _)
+          (normally.no_progress x xs u us v vs y ys z zs a b d f g),
     )
 
 pub any_read : AnyIsRead
@@ -186,10 +207,10 @@ any_read program (x ∷ xs) (u ∷ us) (v ∷ vs) (y ∷ ys) (z ∷ zs) n c t p 
     let d : (v == 45) ≡ false = off (v == 45) (digits_plain 1000000000000 (v ∷ vs) t r) in
     let f : (y == 45) ≡ false = off (y == 45) i in
     let g : (z == 45) ≡ false = off (z == 45) j in
-    search_rows (any_words program (x ∷ xs) (u ∷ us) (v ∷ vs) (y ∷ ys) (z ∷ zs)) _ (x ∷ xs) (u ∷ us) (v ∷ vs) (y ∷ ys) (z ∷ zs) n c t true true Any
+    search_rows (any_words program (x ∷ xs) (u ∷ us) (v ∷ vs) (y ∷ ys) (z ∷ zs)) _ (x ∷ xs) (u ∷ us) (v ∷ vs) (y ∷ ys) (z ∷ zs) n c t true true false Any
     (freely.any_top program _ _ _ _ _ _ _ _ _ _ ∙ rw (freely.level x xs u us v vs y ys z zs a b d f g) refl) (freely.any_rows program _ _ _ _ _ _ _ _ _ _)
     (freely.steps_read x xs u us v vs y ys z zs a b d f g) (freely.conflicts_read x xs u us v vs y ys z zs a b d f g) (freely.ticks_read x xs u us v vs y ys z zs a b d f g)
-    (freely.with_bounds x xs u us v vs y ys z zs a b d f g) (freely.with_any x xs u us v vs y ys z zs a b d f g) refl (freely.design_read x xs u us v vs y ys z zs a b d f g) (freely.proof_read x xs u us v vs y ys z zs a b d f g) p q r
+    (freely.with_bounds x xs u us v vs y ys z zs a b d f g) (freely.with_any x xs u us v vs y ys z zs a b d f g) (freely.not_normal x xs u us v vs y ys z zs a b d f g) refl (freely.design_read x xs u us v vs y ys z zs a b d f g) (freely.proof_read x xs u us v vs y ys z zs a b d f g) p q r
 
 -- what is read of the rows of a trial
 trial_rows : (words : List Text) (rows : List Row) (seed size : Text) (s k : ℕ) → fault_of rcv_app words ≡ [] → subcommand_of rcv_app words ≡ Some (codes "trial", rows)

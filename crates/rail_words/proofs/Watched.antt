@@ -12,7 +12,7 @@ use Rattle.rail_words.proofs.Searches.{leaf, after}
 use Rattle.rail_words.proofs.Searches as search
 
 abbrev progress_rule : Rule
-progress_rule = slice_index_or leaf.rules 5 (flag_rule (codes "progress"))
+progress_rule = slice_index_or leaf.rules 6 (flag_rule (codes "progress"))
 
 module _ (x : ℕ) (xs : Text) (u : ℕ) (us : Text) (v : ℕ) (vs : Text) (y : ℕ) (ys : Text) (z : ℕ) (zs : Text) where
   abbrev w6 : Walk
@@ -118,6 +118,10 @@ module _ (x : ℕ) (xs : Text) (u : ℕ) (us : Text) (v : ℕ) (vs : Text) (y : 
     pub not_any : is_given (codes "any") (rows_after leaf.rules [] words) ≡ false
     unfolding clap_on_literals
     not_any = rw walk_is refl
+
+    pub not_normal : is_given (codes "normal") (rows_after leaf.rules [] words) ≡ false
+    unfolding clap_on_literals
+    not_normal = rw walk_is refl
 
     pub with_progress : is_given (codes "progress") (rows_after leaf.rules [] words) ≡ true
     unfolding clap_on_literals

@@ -41,12 +41,13 @@ verify_options_app =
     with_option (with_option (with_option (new_app (codes "verify")) (codes "steps")) (codes "conflicts"))
     (codes "ticks")
 
--- with the flags `[--bounds] [--any] [--progress]`
+-- with the flags `[--bounds] [--any] [--normal] [--progress]`
 abbrev pub verify_flags_app : App
 verify_flags_app =
-    with_flag (with_flag (with_flag verify_options_app (codes "bounds")) (codes "any")) (codes "progress")
+    with_flag (with_flag (with_flag (with_flag verify_options_app (codes "bounds")) (codes "any")) (codes "normal"))
+    (codes "progress")
 
--- `verify --steps N --conflicts C --ticks T [--bounds] [--any] [--progress] DESIGN PROOF`
+-- `verify --steps N --conflicts C --ticks T [--bounds] [--any] [--normal] [--progress] DESIGN PROOF`
 abbrev pub verify_app : App
 verify_app = with_value (with_value verify_flags_app (codes "DESIGN")) (codes "PROOF")
 

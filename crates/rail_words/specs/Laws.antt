@@ -2,7 +2,7 @@
 use Rattle.std.specs.Prelude.{ℕ, List, ◌≡◌, ◌↔◌, ◌==◌, ◌⊎◌, not, Bool, true, false, [], ◌∷◌, Option, Some, None, codes}
 use Rattle.clap.specs.Words.{Row, Text, first_of, subcommand_of}
 use Rattle.rail_words.specs.FixedCommand.{rcv_app, is_taken}
-use Rattle.rail_words.specs.declared.request.SearchMode.TheVariants.{Plain, Bounds, Any}
+use Rattle.rail_words.specs.declared.request.SearchMode.TheVariants.{Plain, Bounds, Any, Normal}
 use Rattle.rail_words.specs.Requests.{RequestSeen, IsRequestInRange, is_given, is_watched, request_of, steps_of, conflicts_of, ticks_of, seed_of, size_of}
 use Rattle.rail_words.specs.Requests.{simulate, routes, verify, check, trial}
 
@@ -68,6 +68,22 @@ AnyIsRead = (program steps conflicts ticks design proof : Text) (n c t : ℕ)
     → is_plain proof ≡ true
     → request_of (any_words program steps conflicts ticks design proof) ≡ Some (verify n c t Any design proof)
 
+-- the words `verify --steps N --conflicts C --ticks T --normal DESIGN PROOF` behind the program's name
+abbrev pub normal_words : Text → Text → Text → Text → Text → Text → List Text
+normal_words program steps conflicts ticks design proof =
+    program ∷ codes "verify"
+    ∷ codes "--steps" ∷ steps ∷ codes "--conflicts" ∷ conflicts ∷ codes "--ticks" ∷ ticks ∷ codes "--normal"
+    ∷ design ∷ proof ∷ []
+
+abbrev pub NormalIsRead : Type 0
+NormalIsRead = (program steps conflicts ticks design proof : Text) (n c t : ℕ)
+    → steps_of steps ≡ Some n
+    → conflicts_of conflicts ≡ Some c
+    → ticks_of ticks ≡ Some t
+    → is_plain design ≡ true
+    → is_plain proof ≡ true
+    → request_of (normal_words program steps conflicts ticks design proof) ≡ Some (verify n c t Normal design proof)
+
 -- the words `verify --steps N --conflicts C --ticks T --progress DESIGN PROOF` behind the program's name
 abbrev pub progress_words : Text → Text → Text → Text → Text → Text → List Text
 progress_words program steps conflicts ticks design proof =
@@ -96,6 +112,7 @@ OthersAreQuiet = (program steps conflicts ticks design proof : Text) (n c t : �
     → (is_watched (verify_words program steps conflicts ticks design proof) ≡ false)
     × (is_watched (bounds_words program steps conflicts ticks design proof) ≡ false)
     × (is_watched (any_words program steps conflicts ticks design proof) ≡ false)
+    × (is_watched (normal_words program steps conflicts ticks design proof) ≡ false)
 
 abbrev pub CheckIsRead : Type 0
 CheckIsRead = (program steps design proof : Text) (n : ℕ)
@@ -133,10 +150,14 @@ TrialLacksNumber rows = IsOutOfRange seed_of (codes "SEED") rows ⊎ IsOutOfRang
 abbrev pub AsksAnyAlone : List Row → Type 0
 AsksAnyAlone rows = (is_given (codes "bounds") rows ≡ false) × (is_given (codes "any") rows ≡ true)
 
+-- normal plans alone are looked for with bounds
+abbrev pub AsksNormalBounds : List Row → Type 0
+AsksNormalBounds rows = (is_given (codes "bounds") rows ≡ true) × (is_given (codes "normal") rows ≡ true)
+
 -- a number of the subcommand is out of range, or its flags don't go together, by its name and the values of its arguments
 abbrev pub IsLacking : Text × List Row → Type 0
 IsLacking entered =
-    (entered.0 ≡ codes "verify") × (VerifyLacksNumber entered.1 ⊎ AsksAnyAlone entered.1)
+    (entered.0 ≡ codes "verify") × (VerifyLacksNumber entered.1 ⊎ AsksAnyAlone entered.1 ⊎ AsksNormalBounds entered.1)
     ⊎ (entered.0 ≡ codes "check") × IsOutOfRange steps_of (codes "steps") entered.1
     ⊎ (entered.0 ≡ codes "trial") × TrialLacksNumber entered.1
 

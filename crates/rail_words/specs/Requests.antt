@@ -6,7 +6,7 @@ use Rattle.clap.specs.Words.{Row, Text, first_of, one_of, subcommand_of}
 use Rattle.rail_text.specs.Numbers.{number_of}
 use Rattle.rail_words.specs.FixedCommand.{rcv_app, is_taken}
 use Rattle.rail_words.specs.declared.request.SearchMode.{SearchMode}
-use Rattle.rail_words.specs.declared.request.SearchMode.TheVariants.{Plain, Bounds, Any}
+use Rattle.rail_words.specs.declared.request.SearchMode.TheVariants.{Plain, Bounds, Any, Normal}
 
 -- the number that a text gives, where it is from 1 to a greatest: 1 to 20 digits
 abbrev pub number_to : ℕ → Text → Option ℕ
@@ -56,12 +56,15 @@ simulate_with _ _ = None
 abbrev pub routes_with : Option Text → Option RequestSeen
 routes_with design = option_map routes design
 
--- how a plan is looked for, by whether bounds are asked for, and any number of steps will do: only with bounds
-abbrev pub mode_of : Bool → Bool → Option SearchMode
-mode_of false false = Some Plain
-mode_of true false = Some Bounds
-mode_of true true = Some Any
-mode_of false true = None
+-- how a plan is looked for, by whether bounds are asked for, any number of steps will do, and normal plans alone are
+-- looked for: any number only with bounds, normal plans only without
+abbrev pub mode_of : Bool → Bool → Bool → Option SearchMode
+mode_of false false false = Some Plain
+mode_of false false true = Some Normal
+mode_of false true normal = None
+mode_of true false false = Some Bounds
+mode_of true true false = Some Any
+mode_of true any true = None
 
 -- a search with these numbers, if all of them are there, and in this way, if it is one
 abbrev pub verify_within : Option ℕ → Option ℕ → Option ℕ → Option SearchMode → Text → Text → Option RequestSeen
@@ -105,7 +108,7 @@ verify_by rows =
     (first_of (codes "steps") rows)
     (first_of (codes "conflicts") rows)
     (first_of (codes "ticks") rows)
-    (mode_of (is_given (codes "bounds") rows) (is_given (codes "any") rows))
+    (mode_of (is_given (codes "bounds") rows) (is_given (codes "any") rows) (is_given (codes "normal") rows))
     (first_of (codes "DESIGN") rows)
     (first_of (codes "PROOF") rows)
 

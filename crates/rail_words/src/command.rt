@@ -77,6 +77,7 @@ fn verify_flags<'a>(alloc: Global) -> Result<Command<'a>, AllocError>
     verify_options(alloc)?
         .arg(flag(alloc, "bounds"))?
         .arg(flag(alloc, "any"))?
+        .arg(flag(alloc, "normal"))?
         .arg(flag(alloc, "progress"))
 }
 

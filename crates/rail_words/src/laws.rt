@@ -1,7 +1,7 @@
 //! Which words are taken.
 
 ghost use Rattle.rail_words.specs.Laws.{SimulateIsRead, RoutesIsRead, VerifyIsRead, CheckIsRead, TrialIsRead};
-ghost use Rattle.rail_words.specs.Laws.{AnyIsRead, BoundsAreRead, OthersAreQuiet, ProgressIsRead};
+ghost use Rattle.rail_words.specs.Laws.{AnyIsRead, BoundsAreRead, NormalIsRead, OthersAreQuiet, ProgressIsRead};
 ghost use Rattle.rail_words.specs.Laws.{RequestsAreInRange, SilenceHasACause};
 
 /// `simulate DESIGN PLAN` after the program's name, no value empty or beginning with a hyphen, asks for that.
@@ -30,6 +30,12 @@ pub fn bounds_are_read()
 /// digits and in range, with such values, asks for the same, with bounds and for a plan of whatever number of steps.
 pub fn any_is_read()
     ensures { AnyIsRead }
+{}
+
+/// `verify --steps N --conflicts C --ticks T --normal DESIGN PROOF` after the program's name, the numbers in digits and
+/// in range, with such values, asks for the same, by normal plans alone.
+pub fn normal_is_read()
+    ensures { NormalIsRead }
 {}
 
 /// `verify --steps N --conflicts C --ticks T --progress DESIGN PROOF` after the program's name, the numbers in digits

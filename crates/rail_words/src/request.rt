@@ -29,6 +29,9 @@ pub enum SearchMode {
     Bounds,
     /// One of whatever number of steps, with bounds.
     Any,
+    /// One of the fewest steps, by clauses that only plans make true of which no command could be given a step earlier.
+    /// Plans that fail are excluded by the cones of their failures.
+    Normal,
 }
 
 /// What is asked of the program.
@@ -224,15 +227,16 @@ fn steps_of(text: &str) -> Option<u32>
 }
 
 /// How the flags of `verify` say that a plan is looked for. One of whatever number of steps is looked for with bounds
-/// alone.
-fn mode_of(bounds: bool, any: bool) -> Option<SearchMode>
-    ensures { result ≡ mode_of bounds any }
+/// alone, and normal plans without them.
+fn mode_of(bounds: bool, any: bool, normal: bool) -> Option<SearchMode>
+    ensures { result ≡ mode_of bounds any normal }
 {
-    match (bounds, any) {
-        (false, false) => Some(SearchMode::Plain),
-        (true, false) => Some(SearchMode::Bounds),
-        (true, true) => Some(SearchMode::Any),
-        (false, true) => None,
+    match (bounds, any, normal) {
+        (false, false, false) => Some(SearchMode::Plain),
+        (false, false, true) => Some(SearchMode::Normal),
+        (true, false, false) => Some(SearchMode::Bounds),
+        (true, true, false) => Some(SearchMode::Any),
+        (false, true, _) | (true, _, true) => None,
     }
 }
 
@@ -290,7 +294,11 @@ fn verify<'a>(values: &ArgMatches<'a>) -> Option<Request<'a>>
     let Some(proof) = value(values, "PROOF") else {
         return None;
     };
-    let mode = mode_of(is_given(values, "bounds"), is_given(values, "any"));
+    let mode = mode_of(
+        is_given(values, "bounds"),
+        is_given(values, "any"),
+        is_given(values, "normal"),
+    );
     verify_within(steps, conflicts, ticks, mode, design, proof)
 }
 

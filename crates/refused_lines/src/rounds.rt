@@ -185,7 +185,7 @@ impl PlanSearch<'_> {
         let Ok(text) = Text::new(self.alloc, MOST, line.as_slice()) else {
             bail!("a log has no room for its head");
         };
-        let vars = self.base.numbering.variables().count;
+        let vars = self.base.numbering.variables(BaseKind::Plain).count;
         let solver = Solver::new(self.alloc, Halting::new(self.alloc, text, stops)?, vars)?;
         let mut search = SearchState {
             solver,

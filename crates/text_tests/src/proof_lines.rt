@@ -114,7 +114,7 @@ fn other_lines_are_refused(rt: HostRuntime) {
 
 #[test]
 fn heads_are_read_and_written(rt: HostRuntime) -> Result<(), AllocError> {
-    let rows: [(&[u8], Head); 5] = [
+    let rows: [(&[u8], Head); 6] = [
         (b"rcvlog 1", Head::Unnamed),
         (
             b"rcvlog 2 1 12",
@@ -148,6 +148,14 @@ fn heads_are_read_and_written(rt: HostRuntime) -> Result<(), AllocError> {
                 base: BaseKind::Sorted,
             }),
         ),
+        (
+            b"rcvlog 3 1 12",
+            Head::Of(Question {
+                version: 1,
+                steps: 12,
+                base: BaseKind::Normal,
+            }),
+        ),
     ];
     for (bytes, head) in rows {
         assert_eq!(rt; read_head(bytes), Some(head));
@@ -168,7 +176,7 @@ fn other_heads_are_refused(rt: HostRuntime) {
         b"rcvlog 2 01 2",
         b"rcvlog 2 1 2 3",
         b"rcvlog 2 1000000000000000000 1",
-        b"rcvlog 3 1 2",
+        b"rcvlog 5 1 2",
         b"rcvlog 4",
         b"rcvlog 4 1",
         b"rcvlog 4 1 1000000000000000000",

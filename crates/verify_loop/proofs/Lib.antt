@@ -3,7 +3,6 @@ pub mod Made
 pub mod Timing
 pub mod Known
 pub mod Heading
-pub mod Turning
 pub mod Modelling
 pub mod Within
 pub mod Refining

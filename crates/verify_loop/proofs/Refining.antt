@@ -42,9 +42,9 @@ module _ (m : Aim) (d : Station) (n : ℕ) (b : Budgets) (some : 1 ≤ n) (store
 
   -- a plan of so many steps is asked for
   abbrev pub assumed : List Lit
-  assumed = by_step (vars d n) steps ∷ []
+  assumed = by_step (vars m d n) steps ∷ []
 
-  wide : (vars d n).before_selectors + (vars d n).steps ≤ (vars d n).count
+  wide : (vars m d n).before_selectors + (vars m d n).steps ≤ (vars m d n).count
   wide = omega arith
 
   module _ (new : State) (more : List Entry) (went : Went assumed old new more) where
@@ -66,8 +66,8 @@ module _ (m : Aim) (d : Station) (n : ℕ) (b : Budgets) (some : 1 ≤ n) (store
         ∙ (ap (λ (z : List ℕ). learnt_with (with_log (base m d n) s.lines) z more) s.numbers
         ∙ (sym (learnt_in-lines (with_log (base m d n) s.lines) (learnt_in (base m d n) [] s.lines) more) ∙ sym (learnt_in-append (base m d n) [] s.lines (map log_line_of more)))))
 
-    pub below : AllBelow (vars d n) (with_log (base m d n) lines)
-    below = subst (AllBelow (vars d n)) longer (all-below (vars d n) assumed (with_log (base m d n) s.lines) (learnt_in (base m d n) [] s.lines) more s.below all_new)
+    pub below : AllBelow (vars m d n) (with_log (base m d n) lines)
+    below = subst (AllBelow (vars m d n)) longer (all-below (vars m d n) assumed (with_log (base m d n) s.lines) (learnt_in (base m d n) [] s.lines) more s.below all_new)
 
     pub text_is : new.text ≡ log_text (head m d n) lines
     text_is =
@@ -75,21 +75,21 @@ module _ (m : Aim) (d : Station) (n : ℕ) (b : Budgets) (some : 1 ≤ n) (store
         ∙ (ap (λ t. log_text (head m d n) s.lines ++ t) (sym (text-lines more)) ∙ sym (log_text-append (head m d n) s.lines (map log_line_of more))))
 
     -- where no clause denies these steps before, none does after
-    pub unknown : (HasUnit store (opposite (by_step (vars d n) steps)) → ⊥) → IsUnknown (with_log (base m d n) lines) (opposite (by_step (vars d n) steps) ∷ [])
+    pub unknown : (HasUnit store (opposite (by_step (vars m d n) steps)) → ⊥) → IsUnknown (with_log (base m d n) lines) (opposite (by_step (vars m d n) steps) ∷ [])
     unknown unsaid =
-        subst (λ (z : Store). IsUnknown z (opposite (by_step (vars d n) steps) ∷ [])) longer
-        (unknown-stays (by_step (vars d n) steps) (with_log (base m d n) s.lines) (learnt_in (base m d n) [] s.lines) more all_new (λ id live. unsaid (id, subst (λ (z : Store). live_clause z id ≡ Some (opposite (by_step (vars d n) steps) ∷ [])) (sym s.clauses) live)))
+        subst (λ (z : Store). IsUnknown z (opposite (by_step (vars m d n) steps) ∷ [])) longer
+        (unknown-stays (by_step (vars m d n) steps) (with_log (base m d n) s.lines) (learnt_in (base m d n) [] s.lines) more all_new (λ id live. unsaid (id, subst (λ (z : Store). live_clause z id ≡ Some (opposite (by_step (vars m d n) steps) ∷ [])) (sym s.clauses) live)))
 
     module _ (le : length new.clauses ≤ greatest_clause_number) where
       pub few : length (with_log (base m d n) lines) ≤ greatest_clause_number
       few = let same = ap length clauses_are in omega arith
 
-      pub go_on : AllGoOn (head m d n) (refuted d n) (vars d n) (base m d n) [] lines
+      pub go_on : AllGoOn (head m d n) (refuted d n) (vars m d n) (base m d n) [] lines
       go_on =
           let same = ap length longer in
           let short = few in
-          go-on-append (head m d n) (refuted d n) (vars d n) (base m d n) [] s.lines (map log_line_of more) s.log.run.go_on
-          (all-go-on (vars d n) s.below_2_32 some (head m d n) (refuted d n) assumed (with_log (base m d n) s.lines) (learnt_in (base m d n) [] s.lines) more (omega arith) s.below all_new)
+          go-on-append (head m d n) (refuted d n) (vars m d n) (base m d n) [] s.lines (map log_line_of more) s.log.run.go_on
+          (all-go-on (vars m d n) s.below_2_32 some (head m d n) (refuted d n) assumed (with_log (base m d n) s.lines) (learnt_in (base m d n) [] s.lines) more (omega arith) s.below all_new)
 
       -- the text is a log of the search
       pub log_so : IsLog m d n lines s.rs new.text
@@ -103,12 +103,12 @@ module _ (m : Aim) (d : Station) (n : ℕ) (b : Budgets) (some : 1 ≤ n) (store
       }
 
       -- and a line that the solver may derive next is one that may come next
-      pub next_so : (steps < n → HasUnit store (opposite (by_step (vars d n) steps)) → ⊥) → (clause : List Lit) (hints : List ℕ) → MayFollow new.clauses assumed clause hints → IsNextDerived m d n lines (clause, hints)
+      pub next_so : (steps < n → HasUnit store (opposite (by_step (vars m d n) steps)) → ⊥) → (clause : List Lit) (hints : List ℕ) → MayFollow new.clauses assumed clause hints → IsNextDerived m d n lines (clause, hints)
       next_so unsaid clause hints follow =
-          may-come (vars d n) s.below_2_32 some (base m d n) lines steps clause hints few below s.at_least_one s.at_most_n wide (λ less. unknown (unsaid less)) (subst (λ (z : Store). MayFollow z assumed clause hints) clauses_are follow)
+          may-come (vars m d n) s.below_2_32 some (base m d n) lines steps clause hints few below s.at_least_one s.at_most_n wide (λ less. unknown (unsaid less)) (subst (λ (z : Store). MayFollow z assumed clause hints) clauses_are follow)
 
       -- where there is no room for it, the log is full
-      pub full_so : (steps < n → HasUnit store (opposite (by_step (vars d n) steps)) → ⊥) → (clause : List Lit) (hints : List ℕ) (bytes next : ℕ) → derive_count more ≤ b.conflicts - derives → MayFollow new.clauses assumed clause hints → bytes ≡ length new.text → next ≡ length (derive_line clause hints) → has_room new.limit (bytes + next) ≡ false
+      pub full_so : (steps < n → HasUnit store (opposite (by_step (vars m d n) steps)) → ⊥) → (clause : List Lit) (hints : List ℕ) (bytes next : ℕ) → derive_count more ≤ b.conflicts - derives → MayFollow new.clauses assumed clause hints → bytes ≡ length new.text → next ≡ length (derive_line clause hints) → has_room new.limit (bytes + next) ≡ false
           → IsFull m d n b new.text bytes next
       full_so unsaid clause hints bytes next fewer follow e m none = (
         e,
@@ -172,15 +172,15 @@ module _ (m : Aim) (d : Station) (n : ℕ) (b : Budgets) (some : 1 ≤ n) (store
 
     -- of all n of them
     module _ (which : (core ≡ []) ⊎ (steps ≡ n)) where
-      last : IsLast (vars d n) (with_log (base m d n) before) (core, hints)
-      last = final-last (vars d n) s.below_2_32 some (with_log (base m d n) before) steps (core, hints) (few now more went fewer) s.at_least_one s.at_most_n wide which final_there
+      last : IsLast (vars m d n) (with_log (base m d n) before) (core, hints)
+      last = final-last (vars m d n) s.below_2_32 some (with_log (base m d n) before) steps (core, hints) (few now more went fewer) s.at_least_one s.at_most_n wide which final_there
 
       shown_so : keeps_head (head m d n) ≡ true → past_limit 16000000 0 (first_clauses m d n) ≡ None → EndedRunsAreAccepted → judged d n new.text ≡ Yes n
       shown_so kept fits accepted =
           let all = before ++ Learnt (core, hints) ∷ [] in
           ap (judged d n) whole ∙ (ap (judged_by d n (log_text (head m d n) all)) (headed number_of-decimal (head m d n) kept all)
           ∙ (judged_so m d n (log_text (head m d n) all) fits
-          ∙ accepted (head m d n) (refuted d n) (vars d n) (base m d n) before (core, hints) kept (go_on now more went fewer) last))
+          ∙ accepted (head m d n) (refuted d n) (vars m d n) (base m d n) before (core, hints) kept (go_on now more went fewer) last))
 
       pub proof_so : keeps_head (head m d n) ≡ true → past_limit 16000000 0 (first_clauses m d n) ≡ None → derive_count more < b.conflicts - derives → EndedRunsAreAccepted → IsProof m d n b new.text
       proof_so kept fits less accepted = record {
@@ -199,14 +199,14 @@ module _ (m : Aim) (d : Station) (n : ℕ) (b : Budgets) (some : 1 ≤ n) (store
       infeasible_so kept fits good accepted sound = (sound d good n n new.text some (shown_so kept fits accepted)).1.1
 
     -- of these, of which the search goes on with one more
-    module _ (not_empty : core ≡ [] → ⊥) (less : steps < n) (unsaid : HasUnit store (opposite (by_step (vars d n) steps)) → ⊥) where
-      goes_on : GoesOn (vars d n) (with_log (base m d n) before) (core, hints) × (core ≡ opposite (by_step (vars d n) steps) ∷ [])
-      goes_on = final-goes-on (vars d n) s.below_2_32 some (with_log (base m d n) before) steps (core, hints) (few now more went fewer) s.at_least_one less wide not_empty (unknown now more went unsaid) final_there
+    module _ (not_empty : core ≡ [] → ⊥) (less : steps < n) (unsaid : HasUnit store (opposite (by_step (vars m d n) steps)) → ⊥) where
+      goes_on : GoesOn (vars m d n) (with_log (base m d n) before) (core, hints) × (core ≡ opposite (by_step (vars m d n) steps) ∷ [])
+      goes_on = final-goes-on (vars m d n) s.below_2_32 some (with_log (base m d n) before) steps (core, hints) (few now more went fewer) s.at_least_one less wide not_empty (unknown now more went unsaid) final_there
 
-      denial-below : (l : Lit) → is_assigned core l ≡ true → IsInner (vars d n) l
+      denial-below : (l : Lit) → is_assigned core l ≡ true → IsInner (vars m d n) l
       denial-below l h =
-          let e = opposite (by_step (vars d n) steps) in
-          let at : l.var ≡ (vars d n).before_selectors + steps = ap (λ (z : Lit). z.var) (assigned-one e l (subst (λ (c : List Lit). is_assigned c l ≡ true) goes_on.1 h)) in
+          let e = opposite (by_step (vars m d n) steps) in
+          let at : l.var ≡ (vars m d n).before_selectors + steps = ap (λ (z : Lit). z.var) (assigned-one e l (subst (λ (c : List Lit). is_assigned c l ≡ true) goes_on.1 h)) in
           let first = s.at_least_one in
           let fits = wide in
           record { low = omega arith; high = omega arith; not_last = λ q. omega (arith, q, at, less) }
@@ -225,14 +225,14 @@ module _ (m : Aim) (d : Station) (n : ℕ) (b : Budgets) (some : 1 ≤ n) (store
         log = record {
           run = record {
             text = sym (ap (λ (z : State). z.text) is) ∙ whole;
-            go_on = go-on-append (head m d n) (refuted d n) (vars d n) (base m d n) [] before (Learnt (core, hints) ∷ []) (go_on now more went fewer) (goes_on.0, tt);
+            go_on = go-on-append (head m d n) (refuted d n) (vars m d n) (base m d n) [] before (Learnt (core, hints) ∷ []) (go_on now more went fewer) (goes_on.0, tt);
           };
           of_failed_plans = record { evidence = evidence-lines before (inl (core, hints) ∷ []) ∙ (log_so now more went fewer).of_failed_plans.evidence; refuted = s.log.of_failed_plans.refuted };
         };
         limit = some-same later.limit recorder.limit (sym (ap (λ (z : State). z.limit) is) ∙ (recorded.limit ∙ went.limit)) ∙ s.limit;
         same_vars = same ∙ s.same_vars;
         below_2_32 = s.below_2_32;
-        below = subst (AllBelow (vars d n)) with_it (below-more (vars d n) (with_log (base m d n) before) core (below now more went) denial-below);
+        below = subst (AllBelow (vars m d n)) with_it (below-more (vars m d n) (with_log (base m d n) before) core (below now more went) denial-below);
         derived = (let c = one-more before (core, hints) in let k = count-lines s.lines more in let so = s.derived in let grown = went.derives in let last = recorded.derives in let e = ap (λ (z : State). z.derives) is in omega arith);
         learnt = (let c = one-more before (core, hints) in let k = count-lines s.lines more in let so = s.derived in let spent = s.learnt in omega arith);
         plans = s.plans;
@@ -249,12 +249,12 @@ module _ (m : Aim) (d : Station) (n : ℕ) (b : Budgets) (some : 1 ≤ n) (store
           let clauses = with_log (base m d n) before ++ (core, true) ∷ [] in
           let live : live_clause (with_log (base m d n) (before ++ Learnt (core, hints) ∷ [])) (length clauses) ≡ Some core =
           subst (λ (z : Store). live_clause z (length clauses) ≡ Some core) with_it (live-last (with_log (base m d n) before) clauses core (length clauses) refl refl) in
-          let go = go-on-append (head m d n) (refuted d n) (vars d n) (base m d n) [] before (Learnt (core, hints) ∷ []) (go_on now more went fewer) (goes_on.0, tt) in
-          let says = ap (steps_denied (vars d n)) goes_on.1 ∙ denies-step (vars d n) steps s.at_least_one s.at_most_n in
-          sound d good n steps some (denials (head m d n) (refuted d n) (vars d n) (base m d n) (before ++ Learnt (core, hints) ∷ []) (length clauses) steps core go live says)
+          let go = go-on-append (head m d n) (refuted d n) (vars m d n) (base m d n) [] before (Learnt (core, hints) ∷ []) (go_on now more went fewer) (goes_on.0, tt) in
+          let says = ap (steps_denied (vars m d n)) goes_on.1 ∙ denies-step (vars m d n) steps s.at_least_one s.at_most_n in
+          sound d good n steps some (denials (head m d n) (refuted d n) (vars m d n) (base m d n) (before ++ Learnt (core, hints) ∷ []) (length clauses) steps core go live says)
 
   -- where a clause denies these steps, there is no plan of so many
-  pub known_so : IsAdmitted d → DenialsAreSo → DeniedIsInfeasible m → HasUnit store (opposite (by_step (vars d n) steps)) → IsInfeasible d steps
+  pub known_so : IsAdmitted d → DenialsAreSo → DeniedIsInfeasible m → HasUnit store (opposite (by_step (vars m d n) steps)) → IsInfeasible d steps
   known_so good denials sound unit =
-      let live = subst (λ (z : Store). live_clause z unit.0 ≡ Some (opposite (by_step (vars d n) steps) ∷ [])) s.clauses unit.1 in
-      sound d good n steps some (denials (head m d n) (refuted d n) (vars d n) (base m d n) s.lines unit.0 steps (opposite (by_step (vars d n) steps) ∷ []) s.log.run.go_on live (denies-step (vars d n) steps s.at_least_one s.at_most_n))
+      let live = subst (λ (z : Store). live_clause z unit.0 ≡ Some (opposite (by_step (vars m d n) steps) ∷ [])) s.clauses unit.1 in
+      sound d good n steps some (denials (head m d n) (refuted d n) (vars m d n) (base m d n) s.lines unit.0 steps (opposite (by_step (vars m d n) steps) ∷ []) s.log.run.go_on live (denies-step (vars m d n) steps s.at_least_one s.at_most_n))

@@ -29,7 +29,7 @@ module _ (q : PlanSearch) where
 
   -- how many variables there are
   abbrev pub variables : VariableCounts
-  variables = vars station_of most_steps
+  variables = vars q.aim station_of most_steps
 
   -- the literal that says that all is given by a step
   abbrev pub given_by : ℕ → Lit

@@ -1,14 +1,12 @@
 -- What each end of a search says of a design, for plans of at most n steps.
 use Rattle.std.specs.Prelude.{ℕ, ◌≡◌, ◌+◌, ◌<◌, ◌≤◌, ◌⊎◌, true, List, [], ◌∷◌, ◌++◌, map, length, None, Some, sum_by}
-use Rattle.std.specs.List.{list_all}
 use Rattle.log_checker.specs.declared.check_result.CheckResult.TheVariants.{Yes}
+use Rattle.base_spec.specs.Bases.{HasModelFor}
 use Rattle.clause_spec.specs.Clauses.{past_limit}
-use Rattle.clause_spec.specs.Models.{model_of}
 use Rattle.clause_spec.specs.declared.question.VariableCounts.{VariableCounts}
-use Rattle.clause_spec.specs.Variables.{variables_of}
 use Rattle.plan_exclusion.specs.Exclusions.{head_for}
 use Rattle.plan_exclusion.specs.Failures.{IsRefutedBy, clause_of_evidence}
-use Rattle.proof_judge.specs.Judged.{all_live, clauses_under, judged, refuted}
+use Rattle.proof_judge.specs.Judged.{all_live, clauses_under, judged, refuted, variables_under}
 use Rattle.proof_log.specs.declared.line.Line.TheVariants.{Refute}
 use Rattle.bound_spec.specs.declared.Evidence.{Evidence}
 use Rattle.proof_log.specs.declared.head.Head.{Head}
@@ -23,7 +21,7 @@ use Rattle.rail_spec.specs.Histories.{verdict_of}
 use Rattle.rail_spec.specs.Requirements.{cost}
 use Rattle.rail_spec.specs.Track.{routes_of}
 use Rattle.log_recorder.specs.Logs.{LogLine, Learnt, IsRunLog, IsEndedLog, MayComeNext, evidence_of, learnt_count, log_text}
-use Rattle.sat_clause.specs.Clauses.{Store, clause_holds}
+use Rattle.sat_clause.specs.Clauses.{Store}
 use Rattle.sat_core.specs.Lines.{Derived, derived_text}
 use Rattle.sat_core.specs.Texts.{ended}
 use Rattle.verify_loop.specs.declared.outcome.Aim.{Aim}
@@ -48,10 +46,6 @@ abbrev pub evidence_in : List Refutal → List Evidence
 evidence_in rs = map (λ (r : Refutal). r.evidence) rs
 
 module _ (d : Station) (n : ℕ) where
-  -- how many variables the clauses have
-  abbrev pub vars : VariableCounts
-  vars = variables_of d (routes_of d) n
-
   -- how many ticks these plans cost
   abbrev pub cost_of : List (List (List Command)) → ℕ
   cost_of plans = sum_by (cost d (routes_of d)) plans
@@ -70,6 +64,10 @@ module _ (m : Aim) (d : Station) (n : ℕ) where
   abbrev pub first_clauses : List (List Lit)
   first_clauses = clauses_under head d n
 
+  -- how many variables they have
+  abbrev pub vars : VariableCounts
+  vars = variables_under head d n
+
   -- they are all live
   abbrev pub base : Store
   base = all_live first_clauses
@@ -80,10 +78,10 @@ module _ (m : Aim) (d : Station) (n : ℕ) where
 
   -- ---- plans that fail
 
-  -- a plan that can be carried out, and whose model makes the clauses true, those of these cones and bounds too
+  -- a plan that can be carried out, and values of its model that make the clauses true, those of these cones and bounds too
   pub record IsFound (known : List Evidence) (plan : List (List Command)) : Type 0 where
     pub runnable : IsRunnable d (routes_of d) n plan
-    pub model : list_all (clause_holds (model_of d (routes_of d) n plan)) (clauses_with known) ≡ true
+    pub model : HasModelFor d (routes_of d) n plan (clauses_with known)
 
   -- each plan fails, and was found where the cones and bounds of those before were known, besides these
   abbrev pub AreRefuted : List Evidence → List Refutal → Type 0
@@ -100,12 +98,12 @@ module _ (m : Aim) (d : Station) (n : ℕ) where
 
   -- a log of the search, with these lines and plans that failed
   pub record IsLog (lines : List LogLine) (rs : List Refutal) (log : List ℕ) : Type 0 where
-    pub run : IsRunLog head (refuted d n) (vars d n) base lines log
+    pub run : IsRunLog head (refuted d n) vars base lines log
     pub of_failed_plans : AreOfFailedPlans lines rs
 
   -- a derived line that the search may record next
   abbrev pub IsNextDerived : List LogLine → Derived → Type 0
-  IsNextDerived = MayComeNext base (vars d n)
+  IsNextDerived = MayComeNext base vars
 
   -- the next line has so many bytes: one that may be derived next, or that of the cone or bound of a plan that is found next and fails
   abbrev pub IsNextLine : List LogLine → List Refutal → ℕ → Type 0
@@ -141,7 +139,7 @@ module _ (m : Aim) (d : Station) (n : ℕ) where
   pub record IsProof (b : Budgets) (log : List ℕ) : Type 0 where
     pub lines : List LogLine
     pub rs : List Refutal
-    pub ended_log : IsEndedLog head (refuted d n) (vars d n) base lines log
+    pub ended_log : IsEndedLog head (refuted d n) vars base lines log
     pub of_failed_plans : AreOfFailedPlans lines rs
     pub accepted : judged d n log ≡ Yes n
     pub within : IsWithin b (lines ++ Learnt ended_log.last ∷ []) (plans_of rs)

@@ -5,7 +5,7 @@ use Rattle.sha2.specs.Sha256.{sha256}
 
 -- the version of all texts, formats and definitions: another one where any of them means something else
 abbrev pub version : List ℕ
-version = codes "4"
+version = codes "5"
 
 -- `rcv <version>`
 abbrev pub version_line : List ℕ

@@ -9,7 +9,7 @@ mod wanting;
 
 pub use judging::{may_answer, may_leave};
 pub use row::command::{Command, Leaves, SinkFaults};
-pub use row::run::{Run, Search, Turns};
+pub use row::run::{Behind, Run, Search};
 pub use row::{DesignText, FileTexts, PlanText, Row, ShelfFaults, rows_of};
 pub use texts::{Text, fetch_text, texts_of};
 pub use wanting::{WantingShelf, WantingSink};

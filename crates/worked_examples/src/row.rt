@@ -7,7 +7,7 @@ pub(crate) mod run;
 use anyhow::{Result, ensure};
 use command::{Command, commands_of};
 use fields::Fields;
-use run::{Run, Search, Turns, all_turns_of, runs_of, searches_of};
+use run::{Behind, Run, Search, all_behind_of, runs_of, searches_of};
 use std::alloc::Global;
 use toml::{Table, Value};
 
@@ -23,7 +23,9 @@ pub struct Row<'a> {
     pub commands: Vec<Command<'a>>,
     pub runs: Vec<Run>,
     pub searches: Vec<Search>,
-    pub turns: Vec<Turns<'a>>,
+    pub behind: Vec<Behind<'a>>,
+    /// The plan as it is normalised.
+    pub normalised: Option<&'a str>,
 }
 
 /// What the files on the shelf hold; a file that has no text is not there.
@@ -68,7 +70,7 @@ pub struct ShelfFaults {
 }
 
 /// The keys of a worked example.
-const KEYS: [&str; 16] = [
+const KEYS: [&str; 17] = [
     "name",
     "station",
     "replaced",
@@ -84,7 +86,8 @@ const KEYS: [&str; 16] = [
     "command",
     "run",
     "search",
-    "turns",
+    "behind",
+    "normalised",
 ];
 
 /// The worked examples of a file.
@@ -147,7 +150,8 @@ fn row_of<'a>(alloc: Global, value: &'a Value) -> Result<Row<'a>> {
         surely: fields.flag("surely")?.unwrap_or(false),
         runs: runs_of(alloc, fields)?,
         searches: searches_of(alloc, fields)?,
-        turns: all_turns_of(alloc, fields)?,
+        behind: all_behind_of(alloc, fields)?,
+        normalised: fields.text("normalised")?,
         commands: commands_of(alloc, fields)?,
     })
 }

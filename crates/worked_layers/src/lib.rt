@@ -1,24 +1,31 @@
-//! Worked examples below the commands: runs and searches whose budgets no command gives, clauses for which none asks,
-//! and each plan run from event to event and tick by tick.
+//! Worked examples below the commands: runs and searches whose budgets no command gives, clauses and normal plans for
+//! which none asks, and each plan run from event to event and tick by tick.
 #![tactic(auto)]
 
-use anyhow::{Result, ensure};
+use anyhow::{Result, bail, ensure};
 use clause_spec::BaseKind;
 use infra_reader::read_design;
 use interlocking::{Interlocking, Steps};
 use plan_encoding::{base, base_of};
 use rail_base::history::{TrainHistory, Verdict};
+use rail_base::plan::Plan;
 use rail_outside::NullSink;
+use rail_plan::normal::normalise;
 use rail_plan::reading::read_plan;
 use rail_routes::interlocking;
 use sat_clause::Lit;
 use std::alloc::Global;
 use verify_loop::{Aim, Budgets, Outcome, Wanted, verify};
-use worked_examples::{Row, Run, Search, Text, Turns};
+use worked_examples::{Behind, Row, Run, Search, Text};
 
-/// How many runs, searches and lists of clauses of a worked example are not what they have to be; each is named.
+/// How many runs, searches, lists of clauses and normal plans of a worked example are not what they have to be; each is
+/// named.
 pub fn wrong_layers(rt: &impl Print, alloc: Global, row: &Row<'_>, texts: &[Text]) -> Result<u64> {
-    if row.runs.is_empty() && row.searches.is_empty() && row.turns.is_empty() {
+    if row.runs.is_empty()
+        && row.searches.is_empty()
+        && row.behind.is_empty()
+        && row.normalised.is_none()
+    {
         return Ok(0);
     }
     let design = read_design(alloc, bytes_of(texts, "design.toml"))?;
@@ -26,8 +33,13 @@ pub fn wrong_layers(rt: &impl Print, alloc: Global, row: &Row<'_>, texts: &[Text
     let plan = bytes_of(texts, "plan.json");
     let runs = wrong_runs(rt, alloc, &interlocking, row, plan)?;
     let searches = wrong_searches(rt, alloc, &interlocking, row)?;
-    let turns = wrong_turns(rt, alloc, &interlocking, row)?;
-    Ok(runs.saturating_add(searches).saturating_add(turns))
+    let behind = wrong_behind(rt, alloc, &interlocking, row)?;
+    let normalised = wrong_normalised(rt, alloc, &interlocking, row, plan)?;
+    Ok(
+        runs.saturating_add(searches)
+            .saturating_add(behind)
+            .saturating_add(normalised),
+    )
 }
 
 /// Whether a plan shows the same from event to event and tick by tick, up to the horizon: the verdict, its tick, its
@@ -157,16 +169,30 @@ fn clause_text(alloc: Global, clause: &[Lit]) -> Result<String> {
     Ok(text)
 }
 
-/// Whether trains that are alike come in turn by just the clauses that are named.
-fn come_in_turn(alloc: Global, interlocking: &Interlocking, turns: &Turns<'_>) -> Result<bool> {
-    ensure!(1 <= turns.steps && turns.steps <= 256, "steps out of range");
-    let steps = Steps { count: turns.steps };
+/// The base of a name.
+fn kind_of(name: &str) -> Result<BaseKind> {
+    match name {
+        "sorted" => Ok(BaseKind::Sorted),
+        "normal" => Ok(BaseKind::Normal),
+        _ => bail!("a base is sorted or normal"),
+    }
+}
+
+/// Whether a base has just the clauses that are named behind those of the plain base.
+fn come_behind(alloc: Global, interlocking: &Interlocking, behind: &Behind<'_>) -> Result<bool> {
+    ensure!(
+        1 <= behind.steps && behind.steps <= 256,
+        "steps out of range"
+    );
+    let steps = Steps {
+        count: behind.steps,
+    };
     let before = base(alloc, interlocking, steps)?.clauses.count();
-    let listed = base_of(alloc, interlocking, steps, BaseKind::Sorted)?.clauses;
-    if listed.count() != before.saturating_add(turns.clauses.len() as u64) {
+    let listed = base_of(alloc, interlocking, steps, kind_of(behind.base)?)?.clauses;
+    if listed.count() != before.saturating_add(behind.clauses.len() as u64) {
         return Ok(false);
     }
-    for (place, wanted) in turns.clauses.iter().enumerate() {
+    for (place, wanted) in behind.clauses.iter().enumerate() {
         let id = before.saturating_add(place as u64).saturating_add(1);
         if !listed.live(id) || clause_text(alloc, listed.clause(id))?.as_str() != *wanted {
             return Ok(false);
@@ -213,17 +239,47 @@ fn wrong_searches(
     Ok(wrong)
 }
 
+/// Whether two plans are one.
+fn is_same_plan(one: &Plan, other: &Plan) -> bool {
+    let (one, other) = (one.steps.as_slice(), other.steps.as_slice());
+    one.len() == other.len()
+        && one
+            .iter()
+            .zip(other.iter())
+            .all(|(step, other)| step.as_slice() == other.as_slice())
+}
+
+/// How many plans are not normalised as they have to be: one at most, which is named.
+fn wrong_normalised(
+    rt: &impl Print,
+    alloc: Global,
+    interlocking: &Interlocking,
+    row: &Row<'_>,
+    plan: &[u8],
+) -> Result<u64> {
+    let Some(wanted) = row.normalised else {
+        return Ok(0);
+    };
+    let plan = read_plan(alloc, interlocking, plan)?;
+    let wanted = read_plan(alloc, interlocking, wanted.as_bytes())?;
+    if is_same_plan(&normalise(alloc, interlocking, &plan)?, &wanted) {
+        return Ok(0);
+    }
+    println!(rt; "{}: the plan is normalised otherwise", row.name)?;
+    Ok(1)
+}
+
 /// How many lists of clauses of a worked example are not as they have to be; each is named.
-fn wrong_turns(
+fn wrong_behind(
     rt: &impl Print,
     alloc: Global,
     interlocking: &Interlocking,
     row: &Row<'_>,
 ) -> Result<u64> {
     let mut wrong = 0u64;
-    for turns in row.turns.iter() {
-        if !come_in_turn(alloc, interlocking, turns)? {
-            println!(rt; "{}: {} steps have other clauses", row.name, turns.steps)?;
+    for behind in row.behind.iter() {
+        if !come_behind(alloc, interlocking, behind)? {
+            println!(rt; "{}: {} steps have other clauses", row.name, behind.steps)?;
             wrong = wrong.saturating_add(1);
         }
     }

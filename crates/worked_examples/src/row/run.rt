@@ -24,9 +24,11 @@ pub struct Search {
     pub next: Option<u64>,
 }
 
-/// The clauses for so many steps that trains that are alike come in turn.
+/// The clauses for so many steps that a base has behind those of the plain base.
 #[derive(Drop)]
-pub struct Turns<'a> {
+pub struct Behind<'a> {
+    /// `sorted` or `normal`.
+    pub base: &'a str,
     pub steps: u32,
     /// The literals of each, with a space between each and the next.
     pub clauses: Vec<&'a str>,
@@ -51,12 +53,12 @@ pub fn searches_of(alloc: Global, row: Fields<'_>) -> Result<Vec<Search>> {
 }
 
 /// The clauses of a worked example.
-pub fn all_turns_of<'a>(alloc: Global, row: Fields<'a>) -> Result<Vec<Turns<'a>>> {
-    let mut turns = Vec::new(alloc);
-    for entry in row.entries("turns")? {
-        turns.push(turns_of(alloc, entry)?)?;
+pub fn all_behind_of<'a>(alloc: Global, row: Fields<'a>) -> Result<Vec<Behind<'a>>> {
+    let mut behind = Vec::new(alloc);
+    for entry in row.entries("behind")? {
+        behind.push(behind_of(alloc, entry)?)?;
     }
-    Ok(turns)
+    Ok(behind)
 }
 
 /// A run.
@@ -80,9 +82,10 @@ fn search_of(value: &Value) -> Result<Search> {
 }
 
 /// Clauses.
-fn turns_of<'a>(alloc: Global, value: &'a Value) -> Result<Turns<'a>> {
-    let fields = Fields::of(value, &["steps", "clauses"])?;
-    Ok(Turns {
+fn behind_of<'a>(alloc: Global, value: &'a Value) -> Result<Behind<'a>> {
+    let fields = Fields::of(value, &["base", "steps", "clauses"])?;
+    Ok(Behind {
+        base: fields.needed_text("base")?,
         steps: u32::try_from(fields.needed_number("steps")?)?,
         clauses: fields.texts(alloc, "clauses")?,
     })

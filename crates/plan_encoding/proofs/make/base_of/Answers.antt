@@ -1,7 +1,7 @@
 use Rattle.std.proofs.Common.{subst, sym}
 use Rattle.clause_spec.specs.declared.question.BaseKind.TheVariants.{Plain}
 use Rattle.plan_encoding.specs.Bases.{IsBaseOf}
-use Rattle.plan_encoding.proofs.Sorting.{kind_refused}
+use Rattle.plan_encoding.proofs.Behind.{kind_refused}
 use Rattle.plan_encoding.proofs.make.base_of.Goals as goal
 
 pub extended-requires : goal.extended-requires

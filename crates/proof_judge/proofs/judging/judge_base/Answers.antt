@@ -1,4 +1,6 @@
-use Rattle.std.proofs.Common.{List, subst}
+use Rattle.std.proofs.Common.{List, ap, subst, ◌∙◌}
+use Rattle.base_spec.specs.Bases.{variables_of}
+use Rattle.clause_spec.specs.declared.question.BaseKind.{BaseKind}
 use Rattle.rail_base.specs.declared.route.Route.{Route}
 use Rattle.rail_spec.specs.Track.{routes_of}
 use Rattle.plan_encoding.specs.Bases.{IsBaseOf}
@@ -13,5 +15,5 @@ returns c =
     let n = c.args.base.numbering.steps in
     let base : IsBaseOf (base_of c.args.head) d (routes_of d) n c.args.base =
     subst (λ (rs : List Route). IsBaseOf (base_of c.args.head) d rs n c.args.base) i.table c.requires.base in
-    under d n c.args.bytes.now c.judge_clauses.result c.args.head c.steps.result.count c.variables.result c.args.base.clauses c.steps.ensures
-    (c.variables.ensures d (routes_of d) n base.numbering) base.clauses c.judge_clauses.ensures
+    under d n c.args.bytes.now c.judge_clauses.result c.args.head c.steps.result.count c.variables-variables.result c.args.base.clauses c.steps.ensures
+    (c.variables-variables.ensures d (routes_of d) n base.numbering ∙ ap (λ (k : BaseKind). variables_of k d (routes_of d) n) c.base.ensures) base.clauses c.judge_clauses.ensures

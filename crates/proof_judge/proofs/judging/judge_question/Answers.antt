@@ -1,5 +1,5 @@
 use Rattle.std.proofs.Common.{◌≡◌, ◌&&◌, ◌==◌, List, None, ap, sym, subst, ◌∙◌}
-use Rattle.alike_clause_spec.specs.Sorted.{clauses_of}
+use Rattle.base_spec.specs.Bases.{clauses_of}
 use Rattle.clause_spec.specs.Clauses.{past_limit}
 use Rattle.rail_base.specs.declared.route.Route.{Route}
 use Rattle.proof_judge.proofs.Under.{under_question}

@@ -10,7 +10,8 @@ pub solve-requires-clause-assumed : goal.solve-requires-clause-assumed
 solve-requires-clause-assumed c = λ l h.
     let d = c.args.self.now.interlocking.now.design.station in
     let n = c.args.self.now.numbering.now.steps in
-    let at : l.var ≡ (vars d n).before_selectors + c.args.steps = ap (λ (z : Lit). z.var) (assigned-one c.by_step.result l h ∙ c.by_step.ensures) in
+    let m = c.args.self.now.aim in
+    let at : l.var ≡ (vars m d n).before_selectors + c.args.steps = ap (λ (z : Lit). z.var) (assigned-one c.by_step.result l h ∙ c.by_step.ensures) in
     let same = c.requires.vars in
     let first = c.requires.at_least_one in
     let last = c.requires.within in

@@ -31,8 +31,8 @@ time_plan-requires-clause-at g c =
     let is = c.args.self.now.numbers in
     let within : derive_count run.0 ≤ b.conflicts - one.derives = (let most = run.2 in let is = c.min-allowed.ensures in let spent = c.derives.ensures in omega arith) in
     let holds = base_holds m d n b some one.arena one.recorder one.learnt.items one.vars one.derives c.args.search.failed.items c.args.search.sum c.args.search.steps c.requires.state two.arena two.recorder two.learnt.items two.vars two.derives run.0 run.1 c.in-Sat.values run.3.clauses few in
-    let at : (vars d n).before_selectors + c.args.search.steps ≡ number_of d (routes_of d) n (By c.args.search.steps) = omega arith in
-    let told : value_in c.in-Sat.values (number_of d (routes_of d) n (By c.args.search.steps)) ≡ true = subst (λ (v : ℕ). value_in c.in-Sat.values v ≡ true) at (run.3.assumed (by_step (vars d n) c.args.search.steps) (assigned-self (by_step (vars d n) c.args.search.steps))) in
+    let at : (vars m d n).before_selectors + c.args.search.steps ≡ number_of d (routes_of d) n (By c.args.search.steps) = omega arith in
+    let told : value_in c.in-Sat.values (number_of d (routes_of d) n (By c.args.search.steps)) ≡ true = subst (λ (v : ℕ). value_in c.in-Sat.values v ≡ true) at (run.3.assumed (by_step (vars m d n) c.args.search.steps) (assigned-self (by_step (vars m d n) c.args.search.steps))) in
     at_plan m d n b some one.arena one.recorder one.learnt.items one.vars one.derives c.args.search.failed.items c.args.search.sum c.args.search.steps c.requires.state two.arena two.recorder two.learnt.items two.vars two.derives run.0 run.1 c.in-Sat.values run.3.clauses few
     within c.put_to.ensures.vars c.in-Ok.plan.steps (c.in-Ok.ensures.value d (routes_of d) n is)
     (c.in-Ok.ensures.runnable d (routes_of d) n is some holds)

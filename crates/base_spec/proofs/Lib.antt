@@ -1,0 +1,5 @@
+pub mod Alike
+pub mod Turning
+pub mod Retold
+pub mod Models
+pub mod Ranges

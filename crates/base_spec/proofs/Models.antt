@@ -1,0 +1,92 @@
+-- Feasible plans have values that make the clauses of each base true, and such values give plans that have some.
+use Rattle.std.proofs.Common.{◌≡◌, ℕ, ◌≤◌, Bool, true, List, nat_le, refl, sym, ◌∙◌, arith, le-leb}
+use Rattle.std.specs.List.{list_all}
+use Rattle.rail_base.specs.declared.station.Station.{Station}
+use Rattle.rail_base.specs.declared.plan.Command.{Command}
+use Rattle.rail_base.specs.Admitted.{IsAdmitted}
+use Rattle.rail_base.proofs.Lists.{list_all_from}
+use Rattle.rail_spec.specs.Track.{routes_of}
+use Rattle.rail_spec.specs.Plans.{commands, step_of}
+use Rattle.rail_spec.specs.Feasible.{IsFeasible}
+use Rattle.rail_alike.specs.Tests.{neighbors}
+use Rattle.sat_clause.specs.Clauses.{clause_holds}
+use Rattle.clause_spec.specs.declared.question.BaseKind.{BaseKind}
+use Rattle.clause_spec.specs.declared.question.BaseKind.TheVariants.{Plain, Sorted, Normal}
+use Rattle.clause_spec.specs.Variables.{By, number_of}
+use Rattle.clause_spec.specs.Clauses.{base_clauses}
+use Rattle.clause_spec.specs.Models.{is_so, decoded, model_of}
+use Rattle.clause_spec.proofs.DecodedModels.{retold}
+use Rattle.clause_spec.proofs.Numbers.{model_says}
+use Rattle.clause_spec.proofs.Shown.{more_feasible, short_enough}
+use Rattle.clause_spec.proofs.Steps.{step_high}
+use Rattle.clause_spec.proofs.Theorems.{feasible_plans_are_models}
+use Rattle.clause_spec.proofs.Variables.{number_high}
+use Rattle.alike_clause_spec.specs.Turns.{turn_clauses}
+use Rattle.alike_clause_spec.proofs.Holding.{has_model}
+use Rattle.normal_clause_spec.specs.Models.{normal_model_of}
+use Rattle.normal_clause_spec.proofs.Shown.{has_normal_model}
+use Rattle.normal_clause_spec.proofs.Values.{on_base}
+use Rattle.base_spec.specs.Laws.{HasModelBy, ModelsGivePlans}
+use Rattle.base_spec.proofs.Alike.{both_true, first_true, last_true}
+use Rattle.base_spec.proofs.Retold.{joined, joined_low, normal_retold}
+use Rattle.base_spec.proofs.Turning.{turns_retold}
+
+module _ (d : Station) (n k : ℕ) (some : 1 ≤ k) (within : k ≤ n) where
+  plain_model : (plan : List (List Command)) → IsFeasible d k plan → HasModelBy Plain d n k
+  plain_model plan f =
+      let g = more_feasible d k n plan within f in
+      let short = short_enough d (routes_of d) k plan f.runnable.well_formed.formed in
+      let by_then : is_so plan (By k) ≡ true = list_all_from (λ c. nat_le (step_of plan c) k) (commands plan) (λ c m. (let high = step_high plan c m in le-leb (step_of plan c) k (omega arith))) in
+      record {
+        plan = plan;
+        feasible = g;
+        model = record { values = model_of d (routes_of d) n plan; of_plan = λ v h. refl; holds = feasible_plans_are_models d n plan (omega arith) g };
+        by = model_says d (routes_of d) n plan (By k) (some, within) ∙ by_then;
+      }
+
+  sorted_model : (plan : List (List Command)) → IsFeasible d k plan → HasModelBy Sorted d n k
+  sorted_model plan f =
+      let m = has_model d n k some within plan f in
+      record {
+        plan = m.plan;
+        feasible = m.feasible;
+        model = record { values = model_of d (routes_of d) n m.plan; of_plan = λ v h. refl; holds = m.holds };
+        by = m.by;
+      }
+
+  normal_model : IsAdmitted d → (plan : List (List Command)) → IsFeasible d k plan → HasModelBy Normal d n k
+  normal_model admitted plan f =
+      let m = has_normal_model d n k some within admitted plan f in
+      record {
+        plan = m.plan;
+        feasible = m.feasible;
+        model = record { values = normal_model_of d (routes_of d) n m.plan; of_plan = on_base d (routes_of d) n m.plan; holds = m.holds };
+        by = sym (on_base d (routes_of d) n m.plan (number_of d (routes_of d) n (By k)) (number_high d (routes_of d) n (By k) (some, within))) ∙ m.by;
+      }
+
+  pub has_model_by : (kind : BaseKind) → IsAdmitted d → (plan : List (List Command)) → IsFeasible d k plan → HasModelBy kind d n k
+  has_model_by Plain admitted plan f = plain_model plan f
+  has_model_by Sorted admitted plan f = sorted_model plan f
+  has_model_by Normal admitted plan f = normal_model admitted plan f
+
+pub gives_plan : (kind : BaseKind) (d : Station) (n : ℕ) → 1 ≤ n → ModelsGivePlans kind d n
+gives_plan Plain d n some values h = record {
+  values = model_of d (routes_of d) n (decoded d (routes_of d) n values);
+  of_plan = λ v l. refl;
+  holds = retold d (routes_of d) n values h some;
+}
+gives_plan Sorted d n some values h =
+    let model : ℕ → Bool = model_of d (routes_of d) n (decoded d (routes_of d) n values) in
+    let base = base_clauses d (routes_of d) n in
+    let turns = turn_clauses d (routes_of d) n (neighbors d) in
+    let true_ : list_all (clause_holds values) (base_clauses d (routes_of d) n) ≡ true = first_true values base turns h in
+    record {
+      values = model;
+      of_plan = λ v l. refl;
+      holds = both_true model base turns (retold d (routes_of d) n values true_ some) (turns_retold d n values true_ (last_true values base turns h));
+    }
+gives_plan Normal d n some values h = record {
+  values = joined d (routes_of d) n values;
+  of_plan = joined_low d (routes_of d) n values;
+  holds = normal_retold d (routes_of d) n values some h;
+}

@@ -1,0 +1,10 @@
+pub mod Values
+pub mod Exact
+pub mod Places
+pub mod Chains
+pub mod Kept
+pub mod InRange
+pub mod Holding
+pub mod Rows
+pub mod Walks
+pub mod Shown

@@ -1,0 +1,4 @@
+//! Plans that run alike, and the normal plan of each that is feasible.
+#![tactic(auto)]
+
+pub mod laws;

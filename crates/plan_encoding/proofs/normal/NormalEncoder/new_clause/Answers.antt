@@ -1,0 +1,6 @@
+use Rattle.plan_encoding.proofs.Keeping.{new_is}
+use Rattle.plan_encoding.proofs.normal.NormalEncoder.new_clause.Goals as goal
+
+pub returns : goal.returns
+returns c =
+    new_is c.args.self.now.encoder c.args.command c.args.step _ _ _ _ _ _ c.new-clause.ensures.items c.in_ok-push.ensures.items c.in_ok-push_if_given.ensures c.in_ok-push-2.ensures.items c.not_given_lit.ensures c.in_lit.ensures
