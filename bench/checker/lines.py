@@ -235,7 +235,8 @@ def made_file(chance, text, n):
     line = " ".join(map(str, words)).encode()
     lines = [b"rcvlog 4 %d %d" % (design.version, n), line]
     base = check.Base(design, n)
-    log = check.Log(base, base.clauses + base.turn_clauses())
+    more, last = base.behind(4)
+    log = check.Log(base, base.clauses + more, last)
     try:
         log.line(line, 4)
     except check.Bad:
