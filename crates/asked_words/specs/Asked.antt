@@ -1,11 +1,11 @@
 -- What a design asks for, in words.
-use Rattle.std.specs.Prelude.{ℕ, List, [], ◌∷◌, ◌++◌, map, length, codes, decimal}
+use Rattle.std.specs.Prelude.{ℕ, ◌==◌, if◌then◌else◌, List, [], ◌∷◌, ◌++◌, map, length, codes, decimal}
 use Rattle.std.specs.List.{flat_map}
 use Rattle.rail_base.specs.declared.station.Station.{Station}
 use Rattle.rail_base.specs.declared.station.TrainNo.{TrainNo}
 use Rattle.rail_base.specs.declared.station.Vehicle.{Vehicle}
 use Rattle.rail_base.specs.Names.{train_name}
-use Rattle.rail_base.specs.Numbering.{one_to}
+use Rattle.rail_base.specs.Numbering.{entry, one_to}
 use Rattle.rail_base.specs.Stations.{order_of, train_of, trains, vehicle_of, within_of}
 use Rattle.cone_words.specs.Names.{makes_text, nodes_text}
 use Rattle.asked_words.specs.Quantities.{duration_text, metres_text, speed_text}
@@ -18,16 +18,24 @@ vehicle_text v = v.name ++ codes ", " ++ metres_text v.length_mm ++ codes ", at 
 abbrev pub count_text : ℕ → List ℕ → List ℕ
 count_text n word = decimal n ++ word
 
+-- for how many ms a train has to stand at its visit of this number
+abbrev pub dwell_of : Station → TrainNo → ℕ → ℕ
+dwell_of d t k = entry 0 (train_of d t).dwell_ms k
+
+-- `, and stands there for 30 s`, where it has to
+abbrev pub stand_text : ℕ → List ℕ
+stand_text ms = if ms == 0 then [] else codes ", and stands there for " ++ duration_text ms
+
 module _ (d : Station) where
   -- `ICe: vehicle ic, 200 m, at most 200 km/h`
   abbrev pub train_line : TrainNo → List ℕ
   train_line t = train_name d t ++ codes ": vehicle " ++ vehicle_text (vehicle_of d t) ++ codes "\n"
 
-  -- `ICe makes visit 1, at w1 or w2`
+  -- `ICe makes visit 2, at x1 or x2, and stands there for 30 s`
   abbrev pub visit_line : TrainNo → ℕ → List ℕ
-  visit_line t k = makes_text d t k ++ nodes_text d t k ++ codes "\n"
+  visit_line t k = makes_text d t k ++ nodes_text d t k ++ stand_text (dwell_of d t k) ++ codes "\n"
 
-  -- a train: what runs, and where it is to pass
+  -- a train: what runs, and where it is to pass and to stand
   abbrev pub train_lines : TrainNo → List (List ℕ)
   train_lines t = train_line t ∷ map (visit_line t) (one_to (length (train_of d t).visits))
 

@@ -6,12 +6,13 @@ ghost use Rattle.rail_base.specs.Numbering.{one_to};
 ghost use Rattle.rail_base.specs.Stations.{IsTrain, trains};
 ghost use Rattle.rail_text.specs.Added.{AddsLines, AddsText};
 ghost use Rattle.asked_words.specs.Asked.{asked_lines, counts_line, order_line, train_line, train_lines, vehicle_text};
-ghost use Rattle.asked_words.specs.Asked.{count_text, track_counts, traffic_counts, visit_line, within_line};
+ghost use Rattle.asked_words.specs.Asked.{count_text, dwell_of, stand_text, track_counts, traffic_counts, visit_line};
+ghost use Rattle.asked_words.specs.Asked.{within_line};
 
 use crate::quantities::{put_duration, put_metres, put_speed};
 use cone_words::{order_of, put_makes, put_nodes, within_of};
 use rail_base::design::Design;
-use rail_base::names::train_name;
+use rail_base::names::{entry, train_name};
 use rail_base::station::{TrainNo, Vehicle};
 use rail_text::put_number;
 use std::alloc::{AllocError, Global};
@@ -41,7 +42,32 @@ fn train_line(alloc: Global, design: &Design, train: TrainNo) -> Result<Vec<u8>,
     Ok(line)
 }
 
-/// Where a train is to pass.
+/// For how many ms a train has to stand at a visit of a number, counted from 1; 0 where there is none.
+pub fn dwell_of(design: &Design, train: TrainNo, visit: usize) -> u32
+    ensures { result ≡ dwell_of design.now.station train visit }
+{
+    match entry(design.station.trains.as_slice(), train.0 as usize) {
+        Some(train) => match entry(train.dwell_ms.as_slice(), visit) {
+            Some(ms) => *ms,
+            None => 0,
+        },
+        None => 0,
+    }
+}
+
+/// Appends for how many ms a train is to stand, where it is.
+fn put_stand(text: &mut Vec<u8>, ms: u32) -> Result<(), AllocError>
+    ensures { OnOk result (AddsText text.old text.new (stand_text ms)) }
+{
+    if ms == 0 {
+        return Ok(());
+    }
+    text.extend_from_slice(b", and stands there for ")?;
+    put_duration(text, u64::from(ms))?;
+    Ok(())
+}
+
+/// Where a train is to pass, and for how long it is to stand there.
 fn visit_line(
     alloc: Global,
     design: &Design,
@@ -53,6 +79,7 @@ fn visit_line(
     let mut line = Vec::new(alloc);
     put_makes(&mut line, design, train, visit)?;
     put_nodes(&mut line, design, train, visit)?;
+    put_stand(&mut line, dwell_of(design, train, visit as usize))?;
     line.push(b'\n')?;
     Ok(line)
 }
@@ -91,7 +118,7 @@ fn within_line(alloc: Global, design: &Design, number: u32) -> Result<Vec<u8>, A
     Ok(line)
 }
 
-/// Appends what runs, and where it is to pass.
+/// Appends what runs, and where it is to pass and to stand.
 fn push_train(
     alloc: Global,
     design: &Design,
@@ -192,8 +219,9 @@ fn counts_line(alloc: Global, design: &Design, routes: u64) -> Result<Vec<u8>, A
     Ok(line)
 }
 
-/// Appends what a design with so many routes asks for: its trains with their vehicles and visits, its orders and its
-/// greatest times, and how much of everything there is. An error leaves a part of the lines.
+/// Appends what a design with so many routes asks for: its trains with their vehicles and visits, and how long they
+/// stand there, its orders and its greatest times, and how much of everything there is. An error leaves a part of the
+/// lines.
 pub fn push_asked(
     alloc: Global,
     design: &Design,

@@ -6,5 +6,5 @@
 mod asked;
 mod quantities;
 
-pub use asked::push_asked;
+pub use asked::{dwell_of, push_asked};
 pub use quantities::{put_duration, put_metres, put_speed};

@@ -7,7 +7,7 @@ use Rattle.rail_spec.specs.Track.{routes_of}
 use Rattle.rail_spec.specs.Dispatches.{of_plan}
 use Rattle.rail_spec.specs.Visits.{visit_tick}
 use Rattle.cone_spec.specs.Clauses.{Used, Before}
-use Rattle.rail_laws.proofs.Stations.{line, at, edge, plain_edges, signal, goes_east, within, plan_one, plan_two, command}
+use Rattle.rail_laws.proofs.Stations.{line, at, edge, plain_edges, signal, node, train_with, goes_east, within, plan_one, plan_two, command}
 use Rattle.bound_spec.specs.declared.Requirement.TheVariants as requirement
 use Rattle.bound_spec.specs.declared.Origin.TheVariants as origin
 use Rattle.bound_spec.specs.declared.Place.{Place}
@@ -155,3 +155,21 @@ by_cone_shown = refl
 
 by_cone_elsewhere : fault_of (in_turn 0 20000) (routes_of (in_turn 0 20000)) (by_cone 2) ≡ Some fault.BoundNotShown
 by_cone_elsewhere = refl
+
+-- ---- stops
+
+-- one train that stands for three ticks between its first visit and its third: no bound counts these, so it is no more than what the run takes
+abbrev standing : ℕ → Station
+standing ms = line plain_edges (signal ∷ []) (train_with "A" ((node 1 ∷ []) ∷ (node 2 ∷ []) ∷ (node 3 ∷ []) ∷ []) (0 ∷ 3000 ∷ 0 ∷ []) ∷ []) [] (within 1 1 1 3 ms ∷ []) 20000
+
+standing_ticks : ticks_to (standing 8000) (routes_of (standing 8000)) (horizon (standing 8000)) (visit_to (standing 8000) (requirement.Within 1)) (leg 1 (named 1 ∷ named 2 ∷ []) ∷ []) ≡ 9
+standing_ticks = refl
+
+standing_run : visit_tick (standing 8000) (routes_of (standing 8000)) (of_plan (routes_of (standing 8000)) plan_one) 20 (record { 0 = 1 }) 3 ≡ Some 16
+standing_run = refl
+
+standing_too_long : fault_of (standing 8999) (routes_of (standing 8999)) through ≡ None
+standing_too_long = refl
+
+standing_not_shown : fault_of (standing 9000) (routes_of (standing 9000)) through ≡ Some fault.BoundNotShown
+standing_not_shown = refl

@@ -1,4 +1,3 @@
-pub mod Pathing
 pub mod Ranging
 pub mod Riding
 pub mod Leading

@@ -24,7 +24,7 @@ module _ (i : Interlocking) (k : Cone) where
   abbrev pub first_reason : Option ConeFault
   first_reason = fault_of i.design.station i.routes k
 
-  -- the tick, up to the train's horizon, of a visit in the run, where the commands are granted or held up as the cone says
+  -- the tick, up to the train's horizon, of a visit in the run, where the commands are granted or held up as it says
   abbrev pub visit_in_run : TrainNo → ℕ → Option ℕ
   visit_in_run t v = let d = i.design.station in
       if list_all (free_granted d i.routes k) k.trains && list_all (λ c. holder_fits d i.routes k c c.holder) k.trains

@@ -3,6 +3,8 @@
 ghost use Rattle.std.specs.Prelude.{◌≡◌, IfOk};
 ghost use Rattle.cone_run.specs.Layouts.{fault_in};
 ghost use Rattle.cone_run.specs.Runs.{first_reason};
+ghost use Rattle.cone_run.specs.Standing.{ConeStands};
+ghost use Rattle.interlocking.specs.Plans.{on};
 
 use crate::checked::ConeRun;
 use crate::layout::ConeLayout;
@@ -11,12 +13,15 @@ use cone_spec::{Cone, ConeFault};
 use std::alloc::{AllocError, Global};
 
 /// The first of the reasons for which a cone shows nothing, or None where it is valid.
+///
+/// In the run of a cone of the design each train stands its ticks exactly where it makes its visits, up to its horizon.
 pub fn fault_of<'a>(
     alloc: Global,
     contention: &Contention<'a>,
     cone: &'a Cone,
 ) -> Result<Option<ConeFault>, AllocError>
     ensures value { IfOk result (λ f. f ≡ first_reason contention.now.interlocking.now cone.now) }
+    ensures stands { on contention.now.interlocking.now ConeStands cone.now }
 {
     let fits = is_in_design(alloc, contention, cone)?;
     if !fits {

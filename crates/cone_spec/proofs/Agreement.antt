@@ -1,5 +1,6 @@
 -- Two dispatches, of which the second may know more commands and more trains: up to a train's horizon it moves alike under both.
-use Rattle.std.proofs.Common.{◌≡◌, ℕ, zero, suc, ◌+◌, ◌-◌, ◌≤◌, ◌<◌, ◌⊎◌, inl, inr, Bool, true, false, cond, ◌&&◌, if◌then◌else◌, nat_le, nat_lt, List, [], ◌∷◌, ◌++◌, map, length, take, slice_get, sum_by, Option, None, Some, refl, sym, ap, ap₂, subst, ◌∙◌, arith, leb-true, le-leb, eq-eqb, true≢false}
+use Rattle.std.proofs.Common.{◌≡◌, ℕ, zero, suc, ◌+◌, ◌-◌, ◌≤◌, ◌<◌, ◌⊎◌, inl, inr, Bool, true, false, cond, ◌&&◌, if◌then◌else◌, nat_le, nat_lt, List, [], ◌∷◌, ◌++◌, map, length, take, slice_get, sum_by, Option, None, Some, option_map, refl, sym, ap, ap₂, subst, ◌∙◌, arith, leb-true, le-leb, eq-eqb, true≢false}
+use Rattle.std.specs.Option.{option_or}
 use Rattle.std.proofs.lemmas.List.{map-append, take-append-le}
 use Rattle.rail_base.specs.declared.station.Station.{Station}
 use Rattle.rail_base.specs.declared.station.SectionNo.{SectionNo}
@@ -8,11 +9,13 @@ use Rattle.rail_base.specs.declared.route.Route.{Route}
 use Rattle.rail_base.specs.declared.route.RouteNo.{RouteNo}
 use Rattle.rail_base.specs.declared.plan.Command.{Command}
 use Rattle.rail_base.specs.declared.state.TrainState.{TrainState}
+use Rattle.rail_base.specs.declared.state.PathNode.{PathNode}
 use Rattle.rail_base.specs.Numbering.{before_first}
 use Rattle.rail_spec.specs.Plans.{route_at, shared, release_offset, length_mm, is_route}
-use Rattle.rail_base.specs.Stations.{train_length}
-use Rattle.rail_spec.specs.Dispatches.{state_of, stretches, rates, Dispatch, routes_before, is_granted, has_released, has_cleared, is_ready, granted_with, granted_after, moved, state_at, track_end}
+use Rattle.rail_base.specs.Stations.{train_of, train_length, dwell_ticks}
+use Rattle.rail_spec.specs.Dispatches.{state_of, stretches, rates, Dispatch, routes_before, is_granted, has_released, has_cleared, is_ready, granted_with, granted_after, moved, state_at, track_end, is_at}
 use Rattle.rail_spec.specs.Motion.{next_speed}
+use Rattle.rail_spec.specs.Places.{path_nodes, visits_on, next_stop}
 use Rattle.rail_base.proofs.Members.{In, and_left, and_right, and_both, list_all_at, below_or_not, same_bool, not_less}
 use Rattle.rail_laws.proofs.Running.{Later, Moves, Idles, after_tick, run_later, granted_after_more, granted_cleared, stays, idle_at_first}
 use Rattle.rail_base.proofs.Lists.{list_all_from, length-map}
@@ -168,7 +171,14 @@ module _ (d : Station) (routes : List Route) (p q : Dispatch) (h : TrainNo → �
 
     pub moved_same : (t : TrainNo) (s : TrainState) (n : ℕ) → n ≤ length (p.path t) → moved d routes q t s n ≡ moved d routes p t s n
     moved_same t s zero l = refl
-    moved_same t s (suc n) l = ap (λ given. let u = next_speed (rates d t) (stretches d given) (track_end given) s.x s.v in record { granted = suc n; x = s.x + u; v = u }) (given_same t (suc n) l)
+    moved_same t s (suc n) l = ap by_routes (given_same t (suc n) l)
+      where
+        -- how it goes on or stands is seen from the routes that it is granted
+        by_routes : List Route → TrainState
+        by_routes given =
+            let place = option_map (λ (n : PathNode). n.event.place) (next_stop (dwell_ticks d t) (visits_on (train_of d t).visits (path_nodes given)) s.stood) in
+            let u = next_speed (rates d t) (stretches d given) (option_or place (track_end given)) s.x s.v in
+            record { granted = suc n; x = s.x + u; v = u; stood = if is_at place s.x then s.stood + 1 else s.stood }
 
     pub moved_granted : (t : TrainNo) (s : TrainState) (n : ℕ) → s.granted ≤ n → (moved d routes p t s n).granted ≤ n
     moved_granted t s zero l = l

@@ -1,5 +1,6 @@
 mod Rows
 pub mod Agreement
+pub mod Orderly
 pub mod Prefixes
 pub mod Saying
 pub mod Sorted

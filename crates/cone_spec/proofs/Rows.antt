@@ -6,11 +6,12 @@ use Rattle.rail_base.specs.declared.plan.Command.{Command}
 use Rattle.rail_base.specs.declared.plan.Violation.{Violation}
 use Rattle.rail_base.specs.declared.plan.Violation.TheVariants as violation
 use Rattle.rail_spec.specs.Track.{routes_of}
-use Rattle.rail_laws.proofs.Stations.{follow_short, parallel, halt_within, follow_within, plan_two, plan_one, plan_together, command}
+use Rattle.rail_laws.proofs.Stations.{halt_for, within, follow_short, parallel, halt_within, follow_within, plan_two, plan_one, plan_together, command}
 use Rattle.cone_spec.specs.declared.ConeTrain.{ConeTrain}
 use Rattle.cone_spec.specs.declared.Cone.{Cone}
 use Rattle.cone_spec.specs.declared.ConeFault.{ConeFault}
 use Rattle.cone_spec.specs.declared.ConeFault.TheVariants as fault
+use Rattle.cone_spec.specs.Cones.{cone_state_at}
 use Rattle.cone_spec.specs.Validity.{fault_of}
 use Rattle.cone_spec.specs.Clauses.{clause_of_cone, is_false_of, Literal, Fact, Used, Before}
 
@@ -263,3 +264,29 @@ holder_is_not_needed = refl
 
 holder_is_not_listed : fault_in follow_short (shut_out_by (first_train ∷ second_train ∷ []) []) ≡ Some fault.HolderNotValid
 holder_is_not_listed = refl
+
+-- ---- a train that stands for three ticks at its second visit, and comes to its third 15 ticks after its first
+
+abbrev standing_within : ℕ → ℕ → Station
+standing_within dwell ms = record (halt_for dwell) { withins = within 1 1 1 3 ms ∷ [] }
+
+standing_valid : fault_in (standing_within 3000 14999) (slow_train 15) ≡ None
+standing_valid = refl
+
+standing_early : fault_in (standing_within 3000 14999) (slow_train 14) ≡ Some fault.ViolationNotShown
+standing_early = refl
+
+standing_in_time : fault_in (standing_within 3000 15000) (slow_train 16) ≡ Some fault.ViolationNotShown
+standing_in_time = refl
+
+standing_false : is_false_of plan_one (clause_in (standing_within 3000 14999) (slow_train 15)) ≡ true
+standing_false = refl
+
+-- nor is it late where it stands a tick less
+standing_less : fault_in (standing_within 2000 14999) (slow_train 15) ≡ Some fault.ViolationNotShown
+standing_less = refl
+
+-- past its horizon it stands no longer
+standing_stays : cone_state_at (standing_within 3000 14999) (routes_of (standing_within 3000 14999)) (slow_train 10) 20 (record { 0 = 1 })
+    ≡ record { granted = 2; x = 10000; v = 0; stood = 2 }
+standing_stays = refl

@@ -5,7 +5,7 @@ use Rattle.rail_base.specs.declared.route.Route.{Route}
 use Rattle.rail_base.specs.declared.plan.Command.{Command}
 use Rattle.rail_spec.specs.Feasible.{IsWellFormed}
 use Rattle.cone_spec.specs.declared.Cone.{Cone}
-use Rattle.cone_spec.specs.Validity.{is_valid_cone}
+use Rattle.cone_spec.specs.Validity.{in_design, is_valid_cone}
 use Rattle.cone_spec.specs.Clauses.{clause_of_cone, is_false_of}
 use Rattle.rail_base.specs.declared.station.TrainNo.{TrainNo}
 use Rattle.rail_base.specs.Stations.{horizon}
@@ -14,7 +14,8 @@ use Rattle.rail_spec.specs.Track.{routes_of}
 use Rattle.rail_spec.specs.Dispatches.{state_of, of_plan, state_at}
 use Rattle.rail_spec.specs.Requirements.{is_certain}
 use Rattle.rail_base.specs.declared.plan.Violation.TheVariants as violation
-use Rattle.cone_spec.specs.Cones.{named, cone_state_at}
+use Rattle.cone_spec.specs.Cones.{named, of_cone, cone_state_at}
+use Rattle.rail_laws.specs.Standing.{IsOrderly}
 
 -- the cone is valid, and each literal of its clause is false of the plan, which is well formed
 pub record Refutes (d : Station) (routes : List Route) (n : ℕ) (k : Cone) (plan : List (List Command)) : Type 0 where
@@ -45,6 +46,15 @@ NamesWholePath d routes k plan = (t : TrainNo) (j : ℕ) → k.violation ≡ vio
 -- at a tick by the horizon the plan is certain to break what the cone says
 abbrev pub BreaksInTime : Station → List Route → Cone → List (List Command) → Type 0
 BreaksInTime d routes k plan = (tick : ℕ) × (tick ≤ horizon d) × (is_certain d routes plan tick k.violation ≡ true)
+
+-- past its horizon each train of the cone stays as it is, stopped or not
+abbrev pub StaysPastHorizon : Station → List Route → Cone → Type 0
+StaysPastHorizon d routes k = (tick : ℕ) (t : TrainNo) → (named k t).horizon ≤ tick
+    → cone_state_at d routes k tick t ≡ cone_state_at d routes k (named k t).horizon t
+
+-- the run of each cone of the design is orderly
+abbrev pub ConesAreOrderly : Station → Type 0
+ConesAreOrderly d = (k : Cone) → in_design d (routes_of d) k ≡ true → IsOrderly d (routes_of d) (of_cone k)
 
 -- of the clause of each valid cone a literal is true of the plan
 abbrev pub ValidConesHold : Station → ℕ → List (List Command) → Type 0

@@ -1,6 +1,6 @@
 -- The first of a list and the rest of it, joined.
-use Rattle.std.proofs.Common.{◌≡◌, ℕ, ◌-◌, ◌≤◌, ◌<◌, List, [], ◌∷◌, ◌++◌, take, drop, length, get_or, ap, sym, ◌∙◌, arith, append_assoc}
-use Rattle.std.proofs.lemmas.List.{take_all, append-nil}
+use Rattle.std.proofs.Common.{◌≡◌, ℕ, ◌+◌, ◌-◌, ◌≤◌, ◌<◌, List, [], ◌∷◌, ◌++◌, take, drop, length, get_or, flat_map, ap, sym, ◌∙◌, arith, append_assoc}
+use Rattle.std.proofs.lemmas.List.{take_all, take_more, flat_map_more, append-nil}
 use Rattle.cone_words.specs.Phrases.{joined, each_after}
 
 pub rest_is : {X : Type 0} (x : X) (xs : List X) → take (length (x ∷ xs) - 1) (drop 1 (x ∷ xs)) ≡ xs
@@ -38,3 +38,10 @@ more_as old a b c mid new first then same = first_as old (a ++ b) (a ++ c) new (
 -- one text put after a whole one
 pub then_as : {X : Type 0} (a b c mid new : List X) → mid ≡ a → new ≡ mid ++ b → b ≡ c → new ≡ a ++ c
 then_as a b c mid new first then same = then ∙ ap (λ ys. ys ++ b) first ∙ ap (λ ys. a ++ ys) same
+
+-- all texts of the member at place i put after those of the members before it
+pub one_told : {X Y : Type 0} (tell : X → List Y) (xs : List X) (i : ℕ) (x : X) → i < length xs → get_or xs i x ≡ x
+    → (old mid new : List Y) → mid ≡ old ++ flat_map tell (take i xs) → new ≡ mid ++ tell x → new ≡ old ++ flat_map tell (take (i + 1) xs)
+one_told tell xs i x lt at old mid new before then =
+    let one : take (i + 1) xs ≡ take i xs ++ x ∷ [] = take_more xs i x lt ∙ ap (λ y. take i xs ++ y ∷ []) at in
+    then ∙ rw (before, one) (flat_map_more tell old (take i xs) x)

@@ -5,7 +5,6 @@ use Rattle.std.proofs.lemmas.List.Folds.{list_all-append}
 use Rattle.rail_base.specs.declared.station.Station.{Station}
 use Rattle.rail_base.specs.declared.station.TrainNo.{TrainNo}
 use Rattle.rail_base.specs.declared.route.Route.{Route}
-use Rattle.rail_base.specs.declared.route.RouteNo.{RouteNo}
 use Rattle.rail_base.specs.declared.plan.Command.{Command}
 use Rattle.rail_base.specs.declared.plan.Violation.{Violation}
 use Rattle.rail_base.specs.declared.plan.Violation.TheVariants as violation
@@ -20,8 +19,8 @@ use Rattle.cone_spec.specs.Clauses.{Used, Before, Literal, holds_of, is_true_of,
 use Rattle.cone_spec.proofs.Naming.{IsNamed, named_or_not, has_route_in}
 use Rattle.cone_spec.proofs.Saying.{is_command_same, is_command_self}
 use Rattle.cone_spec.proofs.Refusing.{true_of_feasible, timed_of}
-use Rattle.cone_words.specs.Cones.{is_of_path, goes_no_further}
-use Rattle.cone_words.specs.So.{IsGiven, GoesBefore, of_train, ConeIsSo, SentencesOfConesDeny}
+use Rattle.cone_words.specs.Cones.{is_of_path}
+use Rattle.cone_words.specs.So.{of_train, ConeIsSo, SentencesOfConesDeny}
 
 -- ---- lists
 

@@ -19,6 +19,7 @@ use Rattle.rail_base.specs.Names.{section_name, train_name}
 use Rattle.cone_words.specs.Names.{makes_text, nodes_text}
 use Rattle.cone_words.specs.Phrases.{joined, sentence}
 use Rattle.cone_words.specs.Routes.{path_text, route_text}
+use Rattle.cone_words.specs.Stops.{stop_sentences}
 use Rattle.cone_words.specs.Times.{tick_text, ticks_text}
 use Rattle.rail_base.specs.declared.route.RouteNo.{RouteNo}
 
@@ -88,9 +89,10 @@ others_sentences n k =
     then sentence n (codes "of all other routes that share a section with one granted here, none goes before it but where this is said") ∷ []
     else []
 
--- a train of a cone, with where it ends
+-- a train of a cone, with where it stands and where it ends
 abbrev pub train_sentences : Station → List Route → ℕ → Cone → ConeTrain → List (List ℕ)
-train_sentences d routes n k t = sentence n (train_text d routes t) ∷ end_sentences d n k t
+train_sentences d routes n k t =
+    sentence n (train_text d routes t) ∷ stop_sentences d routes n t ++ end_sentences d n k t
 
 -- these trains of it
 abbrev pub trains_sentences : Station → List Route → ℕ → Cone → List ConeTrain → List (List ℕ)

@@ -3,5 +3,6 @@ pub mod Phrases
 pub mod Names
 pub mod Routes
 pub mod Times
+pub mod Stops
 pub mod Cones
 pub mod So

@@ -6,7 +6,6 @@ use Rattle.rail_base.specs.declared.route.Route.{Route}
 use Rattle.rail_base.specs.declared.route.RouteNo.{RouteNo}
 use Rattle.rail_base.specs.declared.plan.Command.{Command}
 use Rattle.rail_base.specs.Members.{In}
-use Rattle.rail_spec.specs.Feasible.{IsFeasible}
 use Rattle.rail_spec.specs.Plans.{route_at, contend, has_command}
 use Rattle.rail_spec.specs.Track.{routes_of}
 use Rattle.cone_spec.specs.declared.Cone.{Cone}

@@ -17,6 +17,7 @@ use crate::entries::{order_of, within_of};
 use crate::phrases::{most_ticks, put_makes, put_nodes, put_shared};
 use crate::routes::{put_path, put_route};
 use crate::sentences::push_sentence;
+use crate::stops::push_stops;
 use crate::times::{put_tick, put_ticks};
 use cone_spec::{Cone, ConeTrain};
 use interlocking::Interlocking;
@@ -236,6 +237,7 @@ fn push_train(
 {
     let text = train_text(alloc, interlocking, train)?;
     push_sentence(alloc, lines, line, &text)?;
+    push_stops(alloc, interlocking, line, train, lines)?;
     push_end(alloc, &interlocking.design, line, cone, train, lines)?;
     Ok(())
 }

@@ -1,5 +1,6 @@
 //! What cones mean, in sentences with the names of the design. A route is named by where it starts and ends, with its
-//! number behind. Each sentence begins with the number of a file's line, and ends with an LF. Wherever a call answers with an error, it is want of memory.
+//! number behind. Each sentence begins with the number of a file's line, and ends with an LF. Wherever a call answers
+//! with an error, it is want of memory.
 #![tactic(auto)]
 
 mod cones;
@@ -8,6 +9,7 @@ mod laws;
 mod phrases;
 mod routes;
 mod sentences;
+mod stops;
 mod times;
 
 pub use cones::{push_cone, push_opening, push_parts};

@@ -79,7 +79,11 @@ fn put_each_node(text: &mut Vec<u8>, design: &Design, nodes: &[NodeNo]) -> Resul
 }
 
 /// Appends nodes, with ` or ` between each and the next.
-fn put_joined_nodes(text: &mut Vec<u8>, design: &Design, nodes: &[NodeNo]) -> Result<(), AllocError>
+pub(crate) fn put_joined_nodes(
+    text: &mut Vec<u8>,
+    design: &Design,
+    nodes: &[NodeNo],
+) -> Result<(), AllocError>
     ensures { OnOk result (AddsText text.old text.new (joined_nodes design.now.station nodes.now)) }
 {
     match nodes {

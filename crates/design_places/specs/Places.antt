@@ -9,8 +9,7 @@ use Rattle.design_table.specs.declared.place.EntryKind.{EntryKind}
 use Rattle.design_table.specs.declared.place.Place.{Place}
 use Rattle.design_table.specs.declared.place.Place.TheVariants as places
 use Rattle.design_table.specs.Forms.{is_known}
-use Rattle.design_table.specs.Keys.{key_text, kind_key}
-use Rattle.design_table.specs.Sheet.{keys_of as keys_of_kind, top_keys}
+use Rattle.design_table.specs.Keys.{key_text, kind_key, keys_of as keys_of_kind, top_keys}
 
 -- a line, or a key of a table, begins with this key
 abbrev pub begins_as : Key → List ℕ → Bool
@@ -30,16 +29,16 @@ module _ (lines : List (List ℕ)) where
   abbrev pub field_at : EntryKind → ℕ → (List ℕ → Bool) → Option (List ℕ)
   field_at kind i test = option_map (λ entry. unwrap_or (find test (keys_of entry)) entry) (entry_at kind i)
 
-  -- the place, where the text has it: a key, or an entry
-  abbrev pub place_at : Place → Option (List ℕ)
-  place_at places.File = None
-  place_at (places.Top key) = find (begins_as key) (top_lines lines)
-  place_at (places.Entry kind i) = entry_at kind i
-  place_at (places.Field kind i key) = field_at kind i (begins_as key)
-  place_at (places.UnknownField kind i) = field_at kind i (begins_otherwise (keys_of_kind kind))
-  place_at places.Unknown = find (begins_otherwise top_keys) (top_lines lines)
-  place_at places.Routes = None
+  -- the place, where the text has it: a key, or an entry. Which keys are unknown depends on the version of the design.
+  abbrev pub place_at : ℕ → Place → Option (List ℕ)
+  place_at version places.File = None
+  place_at version (places.Top key) = find (begins_as key) (top_lines lines)
+  place_at version (places.Entry kind i) = entry_at kind i
+  place_at version (places.Field kind i key) = field_at kind i (begins_as key)
+  place_at version (places.UnknownField kind i) = field_at kind i (begins_otherwise (keys_of_kind version kind))
+  place_at version places.Unknown = find (begins_otherwise (top_keys version)) (top_lines lines)
+  place_at version places.Routes = None
 
 -- the place in a text
-abbrev pub place_in : List ℕ → Place → Option (List ℕ)
-place_in text place = place_at (document_lines text) place
+abbrev pub place_in : ℕ → List ℕ → Place → Option (List ℕ)
+place_in version text place = place_at (document_lines text) version place

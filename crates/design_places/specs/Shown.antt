@@ -22,6 +22,6 @@ abbrev pub shown : List ℕ → Option (List ℕ) → List (List ℕ)
 shown text None = []
 shown text (Some rest) = spot_lines text rest
 
--- where a place of a design stands in its text, if it does
-abbrev pub place_lines : List ℕ → Place → List (List ℕ)
-place_lines text place = shown text (place_in text place)
+-- where a place of a design of a version stands in its text, if it does
+abbrev pub place_lines : ℕ → List ℕ → Place → List (List ℕ)
+place_lines version text place = shown text (place_in version text place)

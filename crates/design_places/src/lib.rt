@@ -1,7 +1,6 @@
 //! Where the place that a design's refusal names stands in the design's text.
 #![tactic(auto)]
 
-mod keys;
 mod places;
 mod shown;
 

@@ -2,23 +2,22 @@
 
 ghost use Rattle.std.specs.Prelude.{◌≡◌, option_map, IfOk};
 ghost use Rattle.std.specs.List.{find};
-ghost use Rattle.design_table.specs.Forms.{is_known};
 ghost use Rattle.design_places.specs.Places.{begins_as, begins_otherwise, entry_at, field_at, place_at, place_in};
 ghost use Rattle.design_places.specs.Seen.{is_wanted, matches, now};
 ghost use Rattle.toml_places.specs.Finding.{top_lines};
 ghost use Rattle.toml_places.specs.Texts.{texts};
 
-use crate::keys::{keys_of, top_keys};
-use design_table::{EntryKind, Key, Place};
+use design_table::{EntryKind, Key, Place, columns_of, is_known, top_columns};
 use std::alloc::{AllocError, Global};
 use toml_places::{document_lines, entries_of, name_at, top_lines};
 
-/// The key that is looked for: this one, or any that an entry of a kind, or the document itself, may not have.
+/// The key that is looked for: this one, or any that an entry of a kind, or the document itself, may not have in a
+/// version.
 #[derive(Clone, Copy)]
 enum Wanted {
     Key(Key),
-    UnknownAt(EntryKind),
-    UnknownAtTop,
+    UnknownAt(EntryKind, u64),
+    UnknownAtTop(u64),
 }
 
 /// Whether a line, or a key of a table, begins with the key that is looked for.
@@ -31,21 +30,14 @@ fn is_wanted(alloc: Global, text: &str, wanted: Wanted) -> Result<bool, AllocErr
     }
 }
 
-/// Whether the name is one of these keys.
-fn is_known(known: &[Key], name: &str) -> bool
-    ensures { result ≡ is_known known.now name.now }
-{
-    known.iter().any(|key| key.text() == name)
-}
-
 /// Whether the name is the key that is looked for.
 fn matches(wanted: Wanted, name: &str) -> bool
     ensures { result ≡ matches wanted name.now }
 {
     match wanted {
         Wanted::Key(key) => name == key.text(),
-        Wanted::UnknownAt(kind) => !is_known(keys_of(kind), name),
-        Wanted::UnknownAtTop => !is_known(top_keys(), name),
+        Wanted::UnknownAt(kind, version) => !is_known(columns_of(kind), version, name),
+        Wanted::UnknownAtTop(version) => !is_known(top_columns(), version, name),
     }
 }
 
@@ -108,15 +100,16 @@ fn top_at<'a>(
     find_wanted(alloc, top.as_slice(), wanted)
 }
 
-/// Where the place stands in a text: the text from there on. It is the key or the entry that the place names; of a key
-/// that is missing in an entry, the entry; and nothing where the text does not have it, or for the file as a whole and
-/// its routes. An error is want of memory.
+/// Where the place stands in the text of a design of a version: the text from there on. It is the key or the entry
+/// that the place names; of a key that is missing in an entry, the entry; and nothing where the text does not have it,
+/// or for the file as a whole and its routes. An error is want of memory.
 pub fn place_in<'a>(
     alloc: Global,
+    version: u64,
     text: &'a str,
     place: Place,
 ) -> Result<Option<&'a str>, AllocError>
-    ensures { IfOk result (λ found. now found ≡ place_in text.now place) }
+    ensures { IfOk result (λ found. now found ≡ place_in version text.now place) }
 {
     let lines = document_lines(alloc, text)?;
     let lines = lines.as_slice();
@@ -128,8 +121,8 @@ pub fn place_in<'a>(
             field_at(alloc, lines, kind, number, Wanted::Key(key))
         }
         Place::UnknownField(kind, number) => {
-            field_at(alloc, lines, kind, number, Wanted::UnknownAt(kind))
+            field_at(alloc, lines, kind, number, Wanted::UnknownAt(kind, version))
         }
-        Place::Unknown => top_at(alloc, lines, Wanted::UnknownAtTop),
+        Place::Unknown => top_at(alloc, lines, Wanted::UnknownAtTop(version)),
     }
 }

@@ -49,17 +49,18 @@ pub fn push_spot(
     Ok(())
 }
 
-/// Appends where a place of a design stands in its text: the line and the column, and that line; nothing where the
-/// text does not have the place.
+/// Appends where a place of a design of a version stands in its text: the line and the column, and that line; nothing
+/// where the text does not have the place.
 pub fn push_place(
     alloc: Global,
+    version: u64,
     text: &str,
     place: Place,
     lines: &mut Vec<Vec<u8>>,
 ) -> Result<(), AllocError>
-    ensures { OnOk result (AddsLines lines.old lines.new (place_lines text.now place)) }
+    ensures { OnOk result (AddsLines lines.old lines.new (place_lines version text.now place)) }
 {
-    match place_in(alloc, text, place)? {
+    match place_in(alloc, version, text, place)? {
         Some(rest) => push_spot(alloc, text.as_bytes(), rest.as_bytes(), lines),
         None => Ok(()),
     }

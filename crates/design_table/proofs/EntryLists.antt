@@ -1,5 +1,5 @@
 -- The entries of an array one by one, as a loop reads them.
-use Rattle.std.proofs.Common.{◌≡◌, Bool, true, false, not, ◌&&◌, ℕ, ◌+◌, ◌<◌, ◌≤◌, List, [], ◌∷◌, ◌++◌, length, drop, get_or, map, refl, ap, sym, ◌∙◌, append_assoc}
+use Rattle.std.proofs.Common.{◌≡◌, Bool, true, false, ◌&&◌, ℕ, ◌+◌, ◌<◌, ◌≤◌, List, [], ◌∷◌, ◌++◌, length, drop, get_or, map, refl, ap, sym, subst, ◌∙◌, append_assoc}
 use Rattle.std.proofs.lemmas.List.{map_push, append-nil, drop_more}
 use Rattle.std.proofs.Math.ListN.{drop_of_length-le}
 use Rattle.std.specs.List.{enumerate_from, flat_map, list_all}
@@ -8,10 +8,9 @@ use Rattle.toml.specs.View.{view, items_view}
 use Rattle.toml.specs.declared.value.Value.{Value}
 use Rattle.design_table.specs.declared.fault.Code.{Code}
 use Rattle.design_table.specs.declared.fault.DesignFault.{DesignFault}
-use Rattle.design_table.specs.declared.fault.DesignFault.TheVariants as faults
 use Rattle.design_table.specs.declared.place.Place.{Place}
 use Rattle.design_table.specs.Forms.{list_of_items}
-use Rattle.design_table.specs.Reads.{at, Fails}
+use Rattle.design_table.specs.Reads.{Fails}
 use Rattle.design_table.proofs.Walks.{fails_here}
 
 pub listed_view : (vs : List Value) → list_of_items (items_view vs) ≡ map view vs
@@ -60,23 +59,11 @@ all-drop : (test : Data → Bool) (vs : List Value) (k : ℕ) (v : Value) → k 
     → list_all test (map view (drop k vs)) ≡ (test (view v) && list_all test (map view (drop (k + 1) vs)))
 all-drop test vs k v lt is = rw (drop_more vs k v lt, ← is) refl
 
-fails_both : (e : DesignFault) (code : Code) (place : Place) (here later : Bool) → Fails e code (at (not here) place) → Fails e code (at (not (here && later)) place)
-fails_both (faults.Refused c p) code place false later h = h
-fails_both (faults.Refused c p) code place true later h = absurd (cc)
-fails_both faults.Memory code place here later h = tt
+pub value_fails : (test : Data → Bool) (vs : List Value) (k : ℕ) (v : Value) (total : Bool) → k < length vs → v ≡ get_or vs k v → list_all test (map view (drop k vs)) ≡ total → test (view v) ≡ false → false ≡ total
+value_fails test vs k v total lt is so_far e = sym (ap (λ b. b && list_all test (map view (drop (k + 1) vs))) e) ∙ (sym (all-drop test vs k v lt is) ∙ so_far)
 
-passes : (place : Place) (here later : Bool) → at (not here) place ≡ [] → (here && later) ≡ later
-passes place true later h = refl
-passes place false later h = absurd (cc)
+pub value_passes : (test : Data → Bool) (vs : List Value) (k : ℕ) (v : Value) (total : Bool) → k < length vs → v ≡ get_or vs k v → list_all test (map view (drop k vs)) ≡ total → test (view v) ≡ true → list_all test (map view (drop (k + 1) vs)) ≡ total
+value_passes test vs k v total lt is so_far e = sym (ap (λ b. b && list_all test (map view (drop (k + 1) vs))) e) ∙ (sym (all-drop test vs k v lt is) ∙ so_far)
 
-pub value_fails : (test : Data → Bool) (vs : List Value) (k : ℕ) (v : Value) (e : DesignFault) (code : Code) (place : Place) (total : Bool)
-    → k < length vs → v ≡ get_or vs k v → total ≡ list_all test (map view (drop k vs)) → Fails e code (at (not (test (view v))) place) → Fails e code (at (not total) place)
-value_fails test vs k v e code place total lt is so_far h =
-    rw (so_far, all-drop test vs k v lt is) (fails_both e code place (test (view v)) (list_all test (map view (drop (k + 1) vs))) h)
-
-pub value_passes : (test : Data → Bool) (vs : List Value) (k : ℕ) (v : Value) (place : Place) (total : Bool)
-    → k < length vs → v ≡ get_or vs k v → total ≡ list_all test (map view (drop k vs)) → at (not (test (view v))) place ≡ [] → total ≡ list_all test (map view (drop (k + 1) vs))
-value_passes test vs k v place total lt is so_far h = so_far ∙ all-drop test vs k v lt is ∙ passes place (test (view v)) _ h
-
-pub all_passed : (test : Data → Bool) (vs : List Value) (k : ℕ) (place : Place) (total : Bool) → length vs ≤ k → total ≡ list_all test (map view (drop k vs)) → at (not total) place ≡ []
-all_passed test vs k place total le so_far = rw (so_far, drop_of_length-le vs le) refl
+pub all_passed : (test : Data → Bool) (vs : List Value) (k : ℕ) (total : Bool) → length vs ≤ k → list_all test (map view (drop k vs)) ≡ total → true ≡ total
+all_passed test vs k total le so_far = subst (λ (ws : List Value). list_all test (map view ws) ≡ total) (drop_of_length-le vs le) so_far

@@ -4,6 +4,8 @@ use Rattle.std.specs.Prelude.{Option, Some, None, codes, bytes_eq, if◌then◌e
 use Rattle.std.specs.List.{list_all, list_any}
 use Rattle.toml.specs.Data.{Data, string, integer, boolean, array, Items, no_items, item, Members, no_members, member}
 use Rattle.toml.specs.Data.{get_member}
+use Rattle.design_table.specs.declared.field.Form.{Form}
+use Rattle.design_table.specs.declared.field.Form.TheVariants as forms
 use Rattle.design_table.specs.declared.key.Key.{Key}
 use Rattle.design_table.specs.declared.sheet.Side.{Side}
 use Rattle.design_table.specs.declared.sheet.Side.TheVariants.{A, B}
@@ -77,6 +79,16 @@ abbrev pub whole_of : Option Data → ℤ
 whole_of (Some (integer z)) = z
 whole_of _ = pos 0
 
+-- there is an array of integers
+abbrev pub is_wholes : Option Data → Bool
+is_wholes (Some (array ds)) = list_all (λ d. is_whole (Some d)) (list_of_items ds)
+is_wholes _ = false
+
+-- the integers of the array that is there
+abbrev pub wholes_of : Option Data → Option (List ℤ)
+wholes_of (Some (array ds)) = Some (map (λ d. whole_of (Some d)) (list_of_items ds))
+wholes_of _ = None
+
 -- ---- truth values, where an absent one is false
 
 -- there is a truth value, or nothing
@@ -125,6 +137,18 @@ abbrev pub items_of : Option Data → List Data
 items_of (Some (array ds)) = list_of_items ds
 items_of _ = []
 
+-- ---- forms by their names
+
+-- the value at a key, or that there is none, has the form
+abbrev pub has_form : Form → Option Data → Bool
+has_form forms.Name = is_name
+has_form forms.Side = is_side
+has_form forms.Whole = is_whole
+has_form forms.Flag = is_flag
+has_form forms.Visits = is_visits
+has_form forms.Wholes = is_wholes
+has_form forms.Array = is_array
+
 -- ---- unknown keys
 
 -- the text is one of these keys
@@ -135,3 +159,7 @@ is_known known text = list_any (λ key. bytes_eq (key_text key) text) known
 abbrev pub has_unknown : List Key → Members → Bool
 has_unknown known no_members = false
 has_unknown known (member text d ms) = not (is_known known text) || has_unknown known ms
+
+-- the value at a key that is one of these; at another key nothing is spelled
+abbrev pub known_value : List Key → Members → Key → Option Data
+known_value known ms key = if is_known known (key_text key) then found key ms else None

@@ -1,5 +1,8 @@
--- The keys as the document writes them.
-use Rattle.std.specs.Prelude.{ℕ, List, codes}
+-- The keys as the document writes them, and the table of the format: the columns of each kind of entry.
+use Rattle.std.specs.Prelude.{ℕ, ℤ, pos, negsuc, Bool, ◌||◌, nat_le, List, [], ◌∷◌, map, filter, codes, if◌then◌else◌}
+use Rattle.design_table.specs.declared.field.Form.{Form}
+use Rattle.design_table.specs.declared.field.Form.TheVariants as forms
+use Rattle.design_table.specs.declared.key.Column.{Column}
 use Rattle.design_table.specs.declared.key.Key.{Key}
 use Rattle.design_table.specs.declared.key.Key.TheVariants as keys
 use Rattle.design_table.specs.declared.place.EntryKind.{EntryKind}
@@ -30,6 +33,7 @@ key_text keys.Toward = codes "toward"
 key_text keys.AccelMmS2 = codes "accel_mm_s2"
 key_text keys.BrakeMmS2 = codes "brake_mm_s2"
 key_text keys.Visits = codes "visits"
+key_text keys.DwellMs = codes "dwell_ms"
 key_text keys.FirstTrain = codes "first_train"
 key_text keys.FirstVisit = codes "first_visit"
 key_text keys.ThenTrain = codes "then_train"
@@ -49,3 +53,94 @@ kind_key kinds.Vehicle = keys.Vehicle
 kind_key kinds.Train = keys.Train
 kind_key kinds.Order = keys.Order
 kind_key kinds.Within = keys.Within
+
+-- ---- columns: a key, the form of its value, and the first version that has it
+
+abbrev pub column : Key → Form → ℕ → Column
+column key form since = record { key = key; form = form; since = since }
+
+-- the columns of each kind of entry, in order
+abbrev pub columns_of : EntryKind → List Column
+columns_of kinds.Node =
+    column keys.Name forms.Name 1
+    ∷ column keys.Boundary forms.Flag 1
+    ∷ []
+columns_of kinds.Edge =
+    column keys.Name forms.Name 1
+    ∷ column keys.From forms.Name 1
+    ∷ column keys.FromSide forms.Side 1
+    ∷ column keys.To forms.Name 1
+    ∷ column keys.ToSide forms.Side 1
+    ∷ column keys.LengthMm forms.Whole 1
+    ∷ column keys.SpeedMmS forms.Whole 1
+    ∷ column keys.Section forms.Name 1
+    ∷ []
+columns_of kinds.Signal =
+    column keys.Name forms.Name 1
+    ∷ column keys.Node forms.Name 1
+    ∷ column keys.Toward forms.Side 1
+    ∷ []
+columns_of kinds.Vehicle =
+    column keys.Name forms.Name 1
+    ∷ column keys.LengthMm forms.Whole 1
+    ∷ column keys.AccelMmS2 forms.Whole 1
+    ∷ column keys.BrakeMmS2 forms.Whole 1
+    ∷ column keys.SpeedMmS forms.Whole 1
+    ∷ []
+columns_of kinds.Train =
+    column keys.Name forms.Name 1
+    ∷ column keys.Vehicle forms.Name 1
+    ∷ column keys.Visits forms.Visits 1
+    ∷ column keys.DwellMs forms.Wholes 3
+    ∷ []
+columns_of kinds.Order =
+    column keys.FirstTrain forms.Name 1
+    ∷ column keys.FirstVisit forms.Whole 1
+    ∷ column keys.ThenTrain forms.Name 1
+    ∷ column keys.ThenVisit forms.Whole 1
+    ∷ []
+columns_of kinds.Within =
+    column keys.FromTrain forms.Name 1
+    ∷ column keys.FromVisit forms.Whole 1
+    ∷ column keys.ToTrain forms.Name 1
+    ∷ column keys.ToVisit forms.Whole 1
+    ∷ column keys.MaxMs forms.Whole 1
+    ∷ []
+
+-- and of the top
+abbrev pub top_columns : List Column
+top_columns =
+    column keys.Version forms.Whole 1
+    ∷ column keys.TickMs forms.Whole 1
+    ∷ column keys.HorizonMs forms.Whole 1
+    ∷ column keys.Node forms.Array 1
+    ∷ column keys.Edge forms.Array 1
+    ∷ column keys.Signal forms.Array 1
+    ∷ column keys.Vehicle forms.Array 1
+    ∷ column keys.Train forms.Array 1
+    ∷ column keys.Order forms.Array 1
+    ∷ column keys.Within forms.Array 1
+    ∷ []
+
+-- ---- what a version knows
+
+-- the number of a version, from 1 to 3; 0 for a number that is no version
+abbrev pub version_number : ℤ → ℕ
+version_number (pos n) = if nat_le n 3 then n else 0
+version_number (negsuc n) = 0
+
+-- A version knows the columns of those up to it. What is no version knows what version 1 has.
+abbrev pub known_in : ℕ → Column → Bool
+known_in version column = nat_le column.since 1 || nat_le column.since version
+
+-- the keys of these columns that a version knows
+abbrev pub keys_in : ℕ → List Column → List Key
+keys_in version columns = map (λ column. column.key) (filter (known_in version) columns)
+
+-- of a kind of entry
+abbrev pub keys_of : ℕ → EntryKind → List Key
+keys_of version kind = keys_in version (columns_of kind)
+
+-- of the top
+abbrev pub top_keys : ℕ → List Key
+top_keys version = keys_in version top_columns

@@ -6,4 +6,3 @@ pub mod Sheet
 pub mod Parsed
 pub mod Texts
 pub mod Toml
-pub mod Views

@@ -1,80 +1,77 @@
 //! The fields of one entry.
 
-ghost use Rattle.std.specs.Prelude.{◌≡◌, map, not};
-ghost use Rattle.toml.specs.View.{table_view};
-ghost use Rattle.design_table.specs.Forms.{found, is_name, name_of, is_side, side_of, is_whole, whole_of, is_flag};
-ghost use Rattle.design_table.specs.Forms.{flag_of, is_visits, visits_of, has_unknown};
+ghost use Rattle.std.specs.Prelude.{◌≡◌, not, option_map};
+ghost use Rattle.std.specs.List.{find};
+ghost use Rattle.toml.specs.View.{view, table_view};
+ghost use Rattle.design_table.specs.Forms.{has_unknown};
+ghost use Rattle.design_table.specs.Keys.{columns_of, keys_of};
 ghost use Rattle.design_table.specs.declared.place.Place.TheVariants.{Field, UnknownField};
-ghost use Rattle.design_table.specs.Reads.{ReadsOrRefuses, at, ReadsParsed};
-ghost use Rattle.design_table.specs.Places.{place_in, value_in};
-ghost use Rattle.design_table.specs.Texts.{visits_seen};
+ghost use Rattle.design_table.specs.Reads.{ReadsOrRefuses, at};
+ghost use Rattle.design_table.specs.Places.{value_in};
+ghost use Rattle.design_table.specs.Sheet.{is_right, wrong_fields};
 
 use crate::fault::{Code, DesignFault};
-use crate::field::{flag_at, form_fault, has_unknown_key, name_at, side_at, whole_at};
-use crate::key::Key;
+use crate::field::{form_fault, has_form, has_unknown_key, known_value, value_at};
+use crate::key::{Column, Key, columns_of};
 use crate::place::{EntryKind, Place};
-use crate::sheet::Side;
-use crate::visits::visits_at;
-use std::alloc::Global;
-use toml::Table;
+use toml::{Table, Value};
 
-/// The table of one entry, and which entry it is, counted from 1.
+/// The table of one entry, which entry it is, counted from 1, and the version of the design.
 #[derive(Clone, Copy)]
 pub struct Fields<'a> {
     pub table: &'a Table,
     pub kind: EntryKind,
     pub number: u64,
+    pub version: u64,
 }
 
 impl<'a> Fields<'a> {
-    /// The name at a key.
-    pub fn name(self, key: Key) -> Result<&'a str, DesignFault>
-        ensures { ReadsParsed (λ x. x.now) result is_name name_of (value_in self.entry key) (place_in self.entry key) }
+    /// The value at a key that the version knows.
+    pub fn value(self, key: Key) -> Option<&'a Value>
+        ensures { option_map (λ v. view v.now) result ≡ value_in self.entry key }
     {
-        name_at(self.table, key, Place::Field(self.kind, self.number, key))
+        known_value(columns_of(self.kind), self.version, self.table, key)
     }
 
-    /// The side at a key.
-    pub fn side(self, key: Key) -> Result<Side, DesignFault>
-        ensures { ReadsParsed (λ x. x) result is_side side_of (value_in self.entry key) (place_in self.entry key) }
+    /// Whether the value has the form of a column, if the version knows it.
+    fn is_right(self, column: Column) -> bool
+        ensures { let fields = self.entry in result ≡ is_right fields.version (table_view fields.table.now) column }
     {
-        side_at(self.table, key, Place::Field(self.kind, self.number, key))
+        !column.is_known_in(self.version) || has_form(column.form, value_at(self.table, column.key))
     }
 
-    /// The whole number at a key.
-    pub fn whole(self, key: Key) -> Result<i64, DesignFault>
-        ensures { ReadsParsed (λ x. x) result is_whole whole_of (value_in self.entry key) (place_in self.entry key) }
+    /// The first column that is not right.
+    fn wrong_column(self) -> Option<Column>
+        ensures { let fields = self.entry in let members = table_view fields.table.now in
+            result ≡ find (λ c. not (is_right fields.version members c)) (columns_of fields.kind) }
     {
-        whole_at(self.table, key, Place::Field(self.kind, self.number, key))
+        columns_of(self.kind)
+            .iter()
+            .copied()
+            .find(|column| !self.is_right(*column))
     }
 
-    /// The truth value at a key, which may be absent.
-    pub fn flag(self, key: Key) -> Result<bool, DesignFault>
-        ensures { ReadsParsed (λ x. x) result is_flag flag_of (value_in self.entry key) (place_in self.entry key) }
+    /// Refuses the first column that is not right, and then a key that the version does not know.
+    pub fn refuse_wrong(self) -> Result<(), DesignFault>
+        ensures { let fields = self.entry in ReadsOrRefuses (λ x. x) result Code.D02
+            (wrong_fields fields.version fields.kind fields.number (table_view fields.table.now)) tt }
     {
-        flag_at(self.table, key, Place::Field(self.kind, self.number, key))
+        match self.wrong_column() {
+            Some(column) => {
+                let place = Place::Field(self.kind, self.number, column.key);
+                Err(form_fault(place))
+            }
+            None => self.refuse_unknown(),
+        }
     }
 
-    /// The visits at a key.
-    pub fn visits(self, alloc: Global, key: Key) -> Result<Vec<Vec<&'a str>>, DesignFault>
-        ensures { ReadsParsed (λ v. visits_seen v.items) result is_visits visits_of
-            (value_in self.entry key) (place_in self.entry key) }
+    /// Refuses a key that the version does not know.
+    fn refuse_unknown(self) -> Result<(), DesignFault>
+        ensures { let fields = self.entry in
+            let unknown = has_unknown (keys_of fields.version fields.kind) (table_view fields.table.now) in
+            ReadsOrRefuses (λ x. x) result Code.D02 (at unknown (UnknownField fields.kind fields.number)) tt }
     {
-        visits_at(
-            alloc,
-            self.table,
-            key,
-            Place::Field(self.kind, self.number, key),
-        )
-    }
-
-    /// Refuses a key that is none of these.
-    pub fn only(self, known: &[Key]) -> Result<(), DesignFault>
-        ensures { let unknown = UnknownField self.entry.kind self.entry.number in
-            ReadsOrRefuses (λ x. x) result Code.D02
-            (at (has_unknown known.now (table_view self.entry.table.now)) unknown) tt }
-    {
-        if has_unknown_key(self.table, known) {
+        if has_unknown_key(columns_of(self.kind), self.version, self.table) {
             Err(form_fault(Place::UnknownField(self.kind, self.number)))
         } else {
             Ok(())

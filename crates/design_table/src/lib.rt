@@ -9,18 +9,18 @@ mod entry;
 mod fault;
 mod field;
 mod fields;
+mod items;
 mod key;
-mod kinds;
 mod place;
 mod read;
 mod sheet;
-mod visits;
 
 pub use document::toml_table;
 pub use fault::{Code, DesignFault};
-pub use key::Key;
+pub use field::Form;
+pub use key::{Column, Key, columns_of, is_known, top_columns, version_number};
 pub use place::{EntryKind, Place};
-pub use read::read_sheet;
+pub use read::{read_sheet, version_of};
 pub use sheet::{
     EdgeEntry, NodeEntry, OrderEntry, Sheet, Side, SignalEntry, TrainEntry, VehicleEntry,
     WithinEntry,

@@ -5,31 +5,18 @@ ghost use Rattle.toml.specs.View.{table_view};
 ghost use Rattle.design_table.specs.declared.place.Place.TheVariants.{Unknown, Top};
 ghost use Rattle.design_table.specs.Forms.{found, whole_of, has_unknown, is_whole};
 ghost use Rattle.design_table.specs.Reads.{ReadsOrRefuses, at, ReadsParsed};
-ghost use Rattle.design_table.specs.Sheet.{wrong_whole, top_keys, form_fault, sheet_of};
-ghost use Rattle.design_table.specs.Views.{sheet_seen};
+ghost use Rattle.design_table.specs.Keys.{top_keys};
+ghost use Rattle.design_table.specs.Parsed.{sheet_seen};
+ghost use Rattle.design_table.specs.Sheet.{form_fault, sheet_of, version_of};
 
 use crate::entry::read_array;
 use crate::fault::{Code, DesignFault};
-use crate::field::{form_fault, has_unknown_key, whole_at};
-use crate::key::Key;
+use crate::field::{Form, form_fault, has_form, has_unknown_key, value_at, whole_of};
+use crate::key::{Key, top_columns, version_number};
 use crate::place::Place;
 use crate::sheet::Sheet;
 use std::alloc::Global;
 use toml::Table;
-
-/// The keys at the top, in order.
-const TOP_KEYS: [Key; 10] = [
-    Key::Version,
-    Key::TickMs,
-    Key::HorizonMs,
-    Key::Node,
-    Key::Edge,
-    Key::Signal,
-    Key::Vehicle,
-    Key::Train,
-    Key::Order,
-    Key::Within,
-];
 
 /// The design as its table has it.
 ///
@@ -37,7 +24,7 @@ const TOP_KEYS: [Key; 10] = [
 ///
 /// D02 at the first key or entry, in the order of the walk, that is missing, unknown or of the wrong form. The walk
 /// takes the top keys in order; at an array the array itself and then its entries, each with its keys in order and
-/// then any unknown key; and last any unknown top key.
+/// then any key that the version does not know; and last any such key at the top.
 pub fn read_sheet<'a>(alloc: Global, table: &'a Table) -> Result<Sheet<'a>, DesignFault>
     ensures { ReadsOrRefuses sheet_seen result Code.D02 (form_fault (table_view table.now))
         (sheet_of (table_view table.now)) }
@@ -45,14 +32,15 @@ pub fn read_sheet<'a>(alloc: Global, table: &'a Table) -> Result<Sheet<'a>, Desi
     let version = read_whole(table, Key::Version)?;
     let tick_ms = read_whole(table, Key::TickMs)?;
     let horizon_ms = read_whole(table, Key::HorizonMs)?;
-    let nodes = read_array(alloc, table)?;
-    let edges = read_array(alloc, table)?;
-    let signals = read_array(alloc, table)?;
-    let vehicles = read_array(alloc, table)?;
-    let trains = read_array(alloc, table)?;
-    let orders = read_array(alloc, table)?;
-    let withins = read_array(alloc, table)?;
-    refuse_unknown(table)?;
+    let known = version_of(table);
+    let nodes = read_array(alloc, known, table)?;
+    let edges = read_array(alloc, known, table)?;
+    let signals = read_array(alloc, known, table)?;
+    let vehicles = read_array(alloc, known, table)?;
+    let trains = read_array(alloc, known, table)?;
+    let orders = read_array(alloc, known, table)?;
+    let withins = read_array(alloc, known, table)?;
+    refuse_unknown(known, table)?;
     Ok(Sheet {
         version,
         tick_ms,
@@ -67,18 +55,31 @@ pub fn read_sheet<'a>(alloc: Global, table: &'a Table) -> Result<Sheet<'a>, Desi
     })
 }
 
+/// The number of the version that a document names, 0 where it names none. That there is such a one is asked later.
+pub fn version_of(table: &Table) -> u64
+    ensures { result ≡ version_of (table_view table.now) }
+{
+    version_number(whole_of(value_at(table, Key::Version)))
+}
+
 /// The whole number at a key of the top.
 fn read_whole(table: &Table, key: Key) -> Result<i64, DesignFault>
     ensures { ReadsParsed (λ x. x) result is_whole whole_of (found key (table_view table.now)) (Top key) }
 {
-    whole_at(table, key, Place::Top(key))
+    let value = value_at(table, key);
+    if has_form(Form::Whole, value) {
+        Ok(whole_of(value))
+    } else {
+        Err(form_fault(Place::Top(key)))
+    }
 }
 
-/// Refuses an unknown key at the top.
-fn refuse_unknown(table: &Table) -> Result<(), DesignFault>
-    ensures { ReadsOrRefuses (λ x. x) result Code.D02 (at (has_unknown top_keys (table_view table.now)) Unknown) tt }
+/// Refuses a key at the top that the version does not know.
+fn refuse_unknown(version: u64, table: &Table) -> Result<(), DesignFault>
+    ensures { let unknown = has_unknown (top_keys version) (table_view table.now) in
+        ReadsOrRefuses (λ x. x) result Code.D02 (at unknown Unknown) tt }
 {
-    if has_unknown_key(table, &TOP_KEYS) {
+    if has_unknown_key(top_columns(), version, table) {
         Err(form_fault(Place::Unknown))
     } else {
         Ok(())

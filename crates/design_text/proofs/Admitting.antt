@@ -1,5 +1,5 @@
 -- What an admitted design passes.
-use Rattle.std.proofs.Common.{◌≡◌, ℕ, ◌+◌, ◌<◌, true, ◌||◌, ◌==◌, not, nat_le, List, length, map, arith, leb-true}
+use Rattle.std.proofs.Common.{◌≡◌, ℕ, ◌+◌, ◌<◌, ◌≤◌, Bool, true, false, if◌then◌else◌, eqb-true, ◌||◌, ◌==◌, not, nat_le, List, length, map, arith, leb-true}
 use Rattle.std.specs.List.{list_all}
 use Rattle.rail_base.specs.declared.station.Station.{Station}
 use Rattle.rail_base.specs.declared.station.Node.{Node}
@@ -11,11 +11,11 @@ use Rattle.rail_base.specs.declared.station.Order.{Order}
 use Rattle.rail_base.specs.declared.station.Within.{Within}
 use Rattle.rail_base.specs.declared.station.NodeNo.{NodeNo}
 use Rattle.rail_base.specs.declared.station.TrainNo.{TrainNo}
-use Rattle.rail_base.specs.Numbering.{one_to}
+use Rattle.rail_base.specs.Numbering.{entry, one_to}
 use Rattle.rail_base.specs.Members.{In, all_pairs}
-use Rattle.rail_base.specs.Stations.{node_of, train_of, first_visit, horizon, per_tick_speed, per_tick_accel}
+use Rattle.rail_base.specs.Stations.{node_of, train_of, first_visit, horizon, longest_dwell, per_tick_speed, per_tick_accel}
 use Rattle.rail_base.specs.Admitted.{Ranges, ends_a, ends_b}
-use Rattle.rail_base.specs.Admission.{is_from, is_name, are_names, is_node, is_vehicle, is_visit, is_good_set, is_good_node, is_good_edge, are_numbered, is_good_signal, are_apart, is_good_vehicle, is_good_train, is_good_order, is_good_within, are_few, is_timed, are_named, is_sound_track, is_sound_traffic, is_admitted}
+use Rattle.rail_base.specs.Admission.{is_from, is_name, are_names, is_node, is_vehicle, is_visit, is_good_set, is_good_node, is_good_edge, are_numbered, is_good_signal, are_apart, is_good_vehicle, are_good_dwells, is_good_train, is_good_order, is_good_within, are_few, is_timed, are_named, is_sound_track, is_sound_traffic, is_admitted}
 use Rattle.rail_base.proofs.Members.{list_all_at}
 use Rattle.rail_base.proofs.Lists.{in_map, in_count}
 use Rattle.infra_reader.proofs.Apart.{names_apart}
@@ -59,8 +59,11 @@ module _ (d : Station) where
       × (nat_le 1 (per_tick_accel d v.accel_mm_s2) ≡ true) × (nat_le 1 (per_tick_accel d v.brake_mm_s2) ≡ true) × (nat_le 1 (per_tick_speed d v.speed_mm_s) ≡ true)
   vehicle_parts v h = seven (is_from 1 2000000 v.length_mm) (is_from 1 100000 v.accel_mm_s2) (is_from 1 100000 v.brake_mm_s2) (is_from 1 100000 v.speed_mm_s) (nat_le 1 (per_tick_accel d v.accel_mm_s2)) (nat_le 1 (per_tick_accel d v.brake_mm_s2)) (nat_le 1 (per_tick_speed d v.speed_mm_s)) h
 
-  pub train_parts : (t : Train) → is_good_train d t ≡ true → (is_vehicle d t.vehicle ≡ true) × (is_from 1 16 (length t.visits) ≡ true) × (list_all (is_good_set d) t.visits ≡ true) × (list_all (λ n. (node_of d n).boundary) (first_visit t) ≡ true)
-  train_parts t h = four (is_vehicle d t.vehicle) (is_from 1 16 (length t.visits)) (list_all (is_good_set d) t.visits) (list_all (λ n. (node_of d n).boundary) (first_visit t)) h
+  pub train_parts : (t : Train) → is_good_train d t ≡ true → (is_vehicle d t.vehicle ≡ true) × (is_from 1 16 (length t.visits) ≡ true) × (list_all (is_good_set d) t.visits ≡ true) × (list_all (λ n. (node_of d n).boundary) (first_visit t) ≡ true) × (are_good_dwells d t ≡ true)
+  train_parts t h = five (is_vehicle d t.vehicle) (is_from 1 16 (length t.visits)) (list_all (is_good_set d) t.visits) (list_all (λ n. (node_of d n).boundary) (first_visit t)) (are_good_dwells d t) h
+
+  pub dwell_parts : (t : Train) → are_good_dwells d t ≡ true → ((length t.dwell_ms == length t.visits) ≡ true) × (list_all (λ ms. nat_le ms (longest_dwell d)) t.dwell_ms ≡ true) × ((entry 0 t.dwell_ms 1 == 0) ≡ true)
+  dwell_parts t h = three (length t.dwell_ms == length t.visits) (list_all (λ ms. nat_le ms (longest_dwell d)) t.dwell_ms) (entry 0 t.dwell_ms 1 == 0) h
 
   pub signal_parts : (s : Signal) → is_good_signal d s ≡ true → (is_node d s.node ≡ true) × (not (node_of d s.node).boundary ≡ true)
   signal_parts s h = two (is_node d s.node) (not (node_of d s.node).boundary) h
@@ -92,8 +95,8 @@ module _ (d : Station) (admitted : is_admitted d ≡ true) where
       × (is_from 1 128 (length d.trains) ≡ true) × (nat_le (length d.orders) 256 ≡ true) × (nat_le (length d.withins) 256 ≡ true)
   few = seven (nat_le (length d.nodes) 2000) (nat_le (length d.edges) 4000) (nat_le (length d.signals) 1000) (nat_le (length d.vehicles) 64) (is_from 1 128 (length d.trains)) (nat_le (length d.orders) 256) (nat_le (length d.withins) 256) whole.0
 
-  pub timed : ((is_from 1 2 d.version) ≡ true) × (is_from 100 1000 d.tick_ms ≡ true) × (is_from 1 86400 (horizon d) ≡ true)
-  timed = three (is_from 1 2 d.version) (is_from 100 1000 d.tick_ms) (is_from 1 86400 (horizon d)) whole.1
+  pub timed : ((is_from 1 3 d.version) ≡ true) × (is_from 100 1000 d.tick_ms ≡ true) × (is_from 1 86400 (horizon d) ≡ true)
+  timed = three (is_from 1 3 d.version) (is_from 100 1000 d.tick_ms) (is_from 1 86400 (horizon d)) whole.1
 
   -- the names of nodes, edges, sections, signals, vehicles and trains
   pub named : (are_names (node_names d) ≡ true) × (are_names (edge_names d) ≡ true) × (are_names d.sections ≡ true) × (are_names (signal_names d) ≡ true) × (are_names (vehicle_names d) ≡ true) × (are_names (train_names d) ≡ true)
@@ -130,6 +133,20 @@ module _ (d : Station) (admitted : is_admitted d ≡ true) where
 
   pub good_train : (t : Train) → In t d.trains → is_good_train d t ≡ true
   good_train t m = list_all_at (is_good_train d) d.trains t traffic.1 m
+
+  -- how long trains stand: at most an hour, and not at all before version 3
+  pub dwell_within : (t : Train) → In t d.trains → (ms : ℕ) → In ms t.dwell_ms → ms ≤ longest_dwell d
+  dwell_within t m ms i = leb-true ms (longest_dwell d) (list_all_at (λ ms. nat_le ms (longest_dwell d)) t.dwell_ms ms (dwell_parts d t (train_parts d t (good_train t m)).4).1 i)
+
+  pub dwell_most : (t : Train) → In t d.trains → (ms : ℕ) → In ms t.dwell_ms → ms ≤ 3600000
+  dwell_most t m ms i = let most = dwell_within t m ms i in let hour = an_hour (nat_le 3 d.version) in omega arith
+    where
+      an_hour : (b : Bool) → (if b then 3600000 else 0) ≤ 3600000
+      an_hour true = omega arith
+      an_hour false = omega arith
+
+  pub dwell_count : (t : Train) → In t d.trains → length t.dwell_ms ≡ length t.visits
+  dwell_count t m = eqb-true (length t.dwell_ms) (length t.visits) (dwell_parts d t (train_parts d t (good_train t m)).4).0
 
   pub good_order : (o : Order) → In o d.orders → is_good_order d o ≡ true
   good_order o m = list_all_at (is_good_order d) d.orders o traffic.2 m

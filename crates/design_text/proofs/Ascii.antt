@@ -73,6 +73,7 @@ letters keys.Toward = refl
 letters keys.AccelMmS2 = refl
 letters keys.BrakeMmS2 = refl
 letters keys.Visits = refl
+letters keys.DwellMs = refl
 letters keys.FirstTrain = refl
 letters keys.FirstVisit = refl
 letters keys.ThenTrain = refl

@@ -1,5 +1,5 @@
 -- What the text of a design is read as: the rows of each entry, the table of them, and the parts of the document.
-use Rattle.std.proofs.Common.{ℕ, pos, Bool, true, false, List, [], ◌∷◌, map, codes, decimal, Option, Some, None}
+use Rattle.std.proofs.Common.{ℕ, pos, nat_le, Bool, true, false, List, [], ◌∷◌, map, codes, decimal, Option, Some, None}
 use Rattle.std.specs.List.{concat}
 use Rattle.toml.specs.Data.{Data, string, integer, boolean, array, table, Members}
 use Rattle.toml.specs.View.{items_of}
@@ -42,6 +42,12 @@ number_row key number = record { at = key; text = decimal number; holds = intege
 abbrev pub true_row : Key → Row
 true_row key = record { at = key; text = codes "true"; holds = boolean true }
 
+abbrev pub number_value : ℕ → Data
+number_value number = integer (pos number)
+
+abbrev pub numbers_row : Key → List ℕ → Row
+numbers_row key numbers = record { at = key; text = in_brackets (map decimal numbers); holds = array_of number_value numbers }
+
 -- the table of rows
 abbrev pub table_of : List Row → Data
 table_of rows = table (close (with_rows rows no_nodes))
@@ -60,6 +66,10 @@ vehicle_more v = number_row keys.LengthMm v.length_mm ∷ number_row keys.AccelM
 
 abbrev pub vehicle_table : Vehicle → Data
 vehicle_table v = table_of (name_row keys.Name v.name ∷ vehicle_more v)
+
+abbrev pub dwell_more : Bool → List ℕ → List Row
+dwell_more true dwells = numbers_row keys.DwellMs dwells ∷ []
+dwell_more false dwells = []
 
 -- ---- parts of the document
 
@@ -92,7 +102,7 @@ module _ (d : Station) where
   signal_table s = table_of (name_row keys.Name s.name ∷ signal_more s)
 
   abbrev pub train_more : Train → List Row
-  train_more t = name_row keys.Vehicle (vehicle_at d t.vehicle).name ∷ visits_row t.visits ∷ []
+  train_more t = name_row keys.Vehicle (vehicle_at d t.vehicle).name ∷ visits_row t.visits ∷ dwell_more (nat_le 3 d.version) t.dwell_ms
 
   abbrev pub train_table : Train → Data
   train_table t = table_of (name_row keys.Name t.name ∷ train_more t)

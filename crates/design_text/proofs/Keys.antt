@@ -30,6 +30,7 @@ bare keys.Toward = refl
 bare keys.AccelMmS2 = refl
 bare keys.BrakeMmS2 = refl
 bare keys.Visits = refl
+bare keys.DwellMs = refl
 bare keys.FirstTrain = refl
 bare keys.FirstVisit = refl
 bare keys.ThenTrain = refl

@@ -28,8 +28,8 @@ use Rattle.design_text.specs.Laws.{TextsAreShort}
 use Rattle.design_text.specs.Texts.{behind_comma, joined, in_quotes, in_brackets, side_name, field_text, entry_line, array_lines, number_line, visit_text, node_line, edge_line, signal_line, vehicle_line, train_line, order_line, within_line}
 use Rattle.design_text.proofs.ReadEntries.{Row, field_of_row}
 use Rattle.design_text.proofs.Parts.{Part, parts_text}
-use Rattle.design_text.proofs.Documents.{name_row, true_row, edge_more, signal_more, vehicle_more, train_more, order_more, within_more, first_part, more_parts}
-use Rattle.design_text.proofs.Admitting.{ranged, are_all_names, node_names, edge_names, signal_names, vehicle_names, train_names, few, timed, named, edge_parts, vehicle_parts, train_parts, signal_parts, set_parts, order_parts, within_parts, good_edge, good_signal, good_vehicle, good_train, good_order, good_within}
+use Rattle.design_text.proofs.Documents.{name_row, true_row, edge_more, signal_more, vehicle_more, visits_row, numbers_row, order_more, within_more, first_part, more_parts}
+use Rattle.design_text.proofs.Admitting.{ranged, are_all_names, node_names, edge_names, signal_names, vehicle_names, train_names, few, timed, named, edge_parts, vehicle_parts, train_parts, signal_parts, set_parts, order_parts, within_parts, good_edge, good_signal, good_vehicle, good_train, dwell_most, dwell_count, good_order, good_within}
 use Rattle.design_text.proofs.Spelling.{name_right, node_right, section_right, vehicle_right, train_right}
 use Rattle.design_text.proofs.Returning.{visit_most, horizon_most}
 use Rattle.design_text.proofs.ReadTexts.{text_parts}
@@ -156,14 +156,29 @@ module _ (d : Station) (admitted : is_admitted d ≡ true) where
       let row = row_short (visit_text d) 2306 x.visits (λ set i. visit_short set (list_all_at (is_good_set d) x.visits set f.2 i)) in
       omega (arith, most, row)
 
-  train_short : (x : Train) → In x d.trains → length (train_line d x) ≤ 37100
-  train_short x m =
+  dwells_short : (x : Train) → In x d.trains → length (in_brackets (map decimal x.dwell_ms)) ≤ 162
+  dwells_short x m =
       let f = train_parts d x (good_train d admitted x m) in
-      let whole = entry_length (name_row keys.Name x.name) (train_more d x) in
-      let a = name_short x.name (name_right (λ (t : Train). t.name) d.trains x (are_all_names (train_names d) (named d admitted).5) m) in
-      let b = name_short (vehicle_at d x.vehicle).name (vehicle_right d admitted x.vehicle f.0) in
-      let c = visits_short x m in
-      omega (arith, whole, a, b, c)
+      let most = (ranged 1 16 (length x.visits) f.1).1 in
+      let count = dwell_count d admitted x m in
+      let row = row_short decimal 8 x.dwell_ms (λ ms i. number_short ms 3600000 (dwell_most d admitted x m ms i) (omega arith)) in
+      omega (arith, most, count, row)
+
+  train_short : (x : Train) → In x d.trains → length (train_line d x) ≤ 37300
+  train_short x m = by_version (nat_le 3 d.version)
+    where
+      short : (rows : List Row) → rows_length rows ≤ 173 → length (entry_line (map field_of_row (name_row keys.Name x.name ∷ name_row keys.Vehicle (vehicle_at d x.vehicle).name ∷ visits_row d x.visits ∷ rows))) ≤ 37300
+      short rows h =
+          let f = train_parts d x (good_train d admitted x m) in
+          let whole = entry_length (name_row keys.Name x.name) (name_row keys.Vehicle (vehicle_at d x.vehicle).name ∷ visits_row d x.visits ∷ rows) in
+          let a = name_short x.name (name_right (λ (t : Train). t.name) d.trains x (are_all_names (train_names d) (named d admitted).5) m) in
+          let b = name_short (vehicle_at d x.vehicle).name (vehicle_right d admitted x.vehicle f.0) in
+          let c = visits_short x m in
+          omega (arith, whole, a, b, c, h)
+
+      by_version : (b : Bool) → length (entry_line ((keys.Name, in_quotes x.name) ∷ (keys.Vehicle, in_quotes (vehicle_at d x.vehicle).name) ∷ (keys.Visits, in_brackets (map (visit_text d) x.visits)) ∷ (if b then (keys.DwellMs, in_brackets (map decimal x.dwell_ms)) ∷ [] else []))) ≤ 37300
+      by_version true = let most = dwells_short x m in short (numbers_row keys.DwellMs x.dwell_ms ∷ []) (omega (arith, most))
+      by_version false = short [] (omega arith)
 
   visit_number : (t : TrainNo) (j : ℕ) → is_visit d t j ≡ true → length (decimal j) ≤ 8
   visit_number t j h = number_short j 16 (visit_most d admitted t j h) (omega arith)
@@ -210,17 +225,17 @@ so_many n many most h = mul-le-mul h (omega arith)
 pub texts_are_short : TextsAreShort
 texts_are_short d admitted =
     let f = few d admitted in
-    let v = ranged 1 2 d.version (timed d admitted).0 in
+    let v = ranged 1 3 d.version (timed d admitted).0 in
     let t = ranged 100 1000 d.tick_ms (timed d admitted).1 in
     let trains = ranged 1 128 (length d.trains) f.4 in
-    let l1 = line_length keys.Version d.version 2 v.1 (omega arith) in
+    let l1 = line_length keys.Version d.version 3 v.1 (omega arith) in
     let l2 = line_length keys.TickMs d.tick_ms 1000 t.1 (omega arith) in
     let l3 = line_length keys.HorizonMs d.horizon_ms 86401000 (horizon_most d admitted) (omega arith) in
     let a1 = array_short node_line 80 keys.Node d.nodes (node_short d admitted) in
     let a2 = array_short (edge_line d) 400 keys.Edge d.edges (edge_short d admitted) in
     let a3 = array_short (signal_line d) 200 keys.Signal d.signals (signal_short d admitted) in
     let a4 = array_short vehicle_line 200 keys.Vehicle d.vehicles (vehicle_short d admitted) in
-    let a5 = array_short (train_line d) 37100 keys.Train d.trains (train_short d admitted) in
+    let a5 = array_short (train_line d) 37300 keys.Train d.trains (train_short d admitted) in
     let a6 = array_short (order_line d) 300 keys.Order d.orders (order_short d admitted) in
     let a7 = array_short (within_line d) 300 keys.Within d.withins (within_short d admitted) in
     let n1 = leb-true (length d.nodes) 2000 f.0 in

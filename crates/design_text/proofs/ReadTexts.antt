@@ -41,21 +41,21 @@ use Rattle.design_text.proofs.Ascii.{ascii_none, ascii_name, ascii_quotes, ascii
 use Rattle.design_text.proofs.Keys.{bare}
 use Rattle.design_text.proofs.ReadEntries.{Row, IsRead, AllRead, AllNew, field_of_row, LineIsRead, lines_then, entries_read, entry_read, entry_ascii}
 use Rattle.design_text.proofs.Parts.{Part, PartIsRead, TextIsRead, parts_text, document_read}
-use Rattle.design_text.proofs.Documents.{array_of, name_row, number_row, true_row, visits_row, table_of, node_value, node_more, edge_more, signal_more, vehicle_more, train_more, order_more, within_more, node_table, edge_table, signal_table, vehicle_table, train_table, order_table, within_table, number_part, array_part, first_part, more_parts, document}
-use Rattle.design_text.proofs.Values.{name_is_text, array_is_text, array_depth, array_dates, name_is_read, number_is_read, true_is_read}
-use Rattle.design_text.proofs.Admitting.{ranged, are_all_names, node_names, edge_names, signal_names, vehicle_names, train_names, timed, named, edge_parts, vehicle_parts, train_parts, signal_parts, set_parts, order_parts, within_parts, good_edge, good_signal, good_vehicle, good_train, good_order, good_within}
+use Rattle.design_text.proofs.Documents.{array_of, name_row, number_row, numbers_row, true_row, visits_row, table_of, node_value, node_more, dwell_more, edge_more, signal_more, vehicle_more, order_more, within_more, node_table, edge_table, signal_table, vehicle_table, train_table, order_table, within_table, number_part, array_part, first_part, more_parts, document}
+use Rattle.design_text.proofs.Values.{name_is_text, array_is_text, array_depth, array_dates, name_is_read, number_is_read, numbers_are_read, true_is_read}
+use Rattle.design_text.proofs.Admitting.{ranged, are_all_names, node_names, edge_names, signal_names, vehicle_names, train_names, timed, named, edge_parts, vehicle_parts, train_parts, signal_parts, set_parts, order_parts, within_parts, good_edge, good_signal, good_vehicle, good_train, dwell_most, good_order, good_within}
 use Rattle.design_text.proofs.Spelling.{name_right, node_right, section_right, vehicle_right, train_right}
 use Rattle.design_text.proofs.Returning.{visit_most, horizon_most}
 use Rattle.infra_reader.proofs.Spelling.{same_name}
 use Rattle.std.proofs.lemmas.Str.{IsAscii-append}
-use Rattle.std.proofs.Common.{if◌then◌else◌}
+use Rattle.std.proofs.Common.{if◌then◌else◌, nat_le}
 use Rattle.design_table.specs.Forms.{is_name_text}
 use Rattle.rail_base.specs.Names.{section_name, train_name}
 use Rattle.rail_base.specs.Stations.{vehicle_at}
 use Rattle.rail_base.specs.Admission.{is_from, is_visit}
 use Rattle.rail_base.specs.declared.station.NodeNo.{NodeNo}
 use Rattle.rail_base.specs.declared.station.TrainNo.{TrainNo}
-use Rattle.design_text.specs.Texts.{entry_line, in_quotes, side_name, visit_text}
+use Rattle.design_text.specs.Texts.{entry_line, in_quotes, in_brackets, side_name, visit_text}
 
 -- ---- lines of the document
 
@@ -192,12 +192,28 @@ module _ (d : Station) (admitted : is_admitted d ≡ true) where
       (refl, (refl, (refl, (refl, (refl, tt)))))
 
   train_good : (x : Train) → In x d.trains → GoodLine (train_line d x) (train_table d x)
-  train_good x m =
-      let f = train_parts d x (good_train d admitted x m) in
-      good_entry (name_row keys.Name x.name) (train_more d x)
-      (named_row keys.Name x.name (name_right (λ (t : Train). t.name) d.trains x (are_all_names (train_names d) (named d admitted).5) m))
-      (named_row keys.Vehicle (vehicle_at d x.vehicle).name (vehicle_right d admitted x.vehicle f.0), (visits_are_read x.visits f.2, tt))
-      (refl, (refl, (refl, tt)))
+  train_good x m = by_version (nat_le 3 d.version)
+    where
+      name_good : IsRead 78 (name_row keys.Name x.name)
+      name_good = named_row keys.Name x.name (name_right (λ (t : Train). t.name) d.trains x (are_all_names (train_names d) (named d admitted).5) m)
+
+      vehicle_good : IsRead 78 (name_row keys.Vehicle (vehicle_at d x.vehicle).name)
+      vehicle_good = named_row keys.Vehicle (vehicle_at d x.vehicle).name (vehicle_right d admitted x.vehicle (train_parts d x (good_train d admitted x m)).0)
+
+      visits_good : IsRead 78 (visits_row d x.visits)
+      visits_good = visits_are_read x.visits (train_parts d x (good_train d admitted x m)).2
+
+      dwells_good : IsRead 78 (numbers_row keys.DwellMs x.dwell_ms)
+      dwells_good = numbers_are_read 78 keys.DwellMs x.dwell_ms (omega arith) (λ ms i. tiny ms 3600000 (dwell_most d admitted x m ms i) (omega arith))
+
+      by_version : (b : Bool)
+          → GoodLine (entry_line ((keys.Name, in_quotes x.name) ∷ (keys.Vehicle, in_quotes (vehicle_at d x.vehicle).name) ∷ (keys.Visits, in_brackets (map (visit_text d) x.visits)) ∷ (if b then (keys.DwellMs, in_brackets (map decimal x.dwell_ms)) ∷ [] else []))) (table_of (name_row keys.Name x.name ∷ name_row keys.Vehicle (vehicle_at d x.vehicle).name ∷ visits_row d x.visits ∷ dwell_more b x.dwell_ms))
+      by_version true =
+          good_entry (name_row keys.Name x.name) (name_row keys.Vehicle (vehicle_at d x.vehicle).name ∷ visits_row d x.visits ∷ numbers_row keys.DwellMs x.dwell_ms ∷ []) name_good
+          (vehicle_good, (visits_good, (dwells_good, tt))) (refl, (refl, (refl, (refl, tt))))
+      by_version false =
+          good_entry (name_row keys.Name x.name) (name_row keys.Vehicle (vehicle_at d x.vehicle).name ∷ visits_row d x.visits ∷ []) name_good
+          (vehicle_good, (visits_good, tt)) (refl, (refl, (refl, tt)))
 
   order_good : (x : Order) → In x d.orders → GoodLine (order_line d x) (order_table d x)
   order_good x m =
@@ -264,9 +280,9 @@ seven_joined x y z a b c d e f g =
 module _ (d : Station) (admitted : is_admitted d ≡ true) where
   all_good : GoodParts (first_part d ∷ more_parts d)
   all_good =
-      let version = ranged 1 2 d.version (timed d admitted).0 in
+      let version = ranged 1 3 d.version (timed d admitted).0 in
       let tick = ranged 100 1000 d.tick_ms (timed d admitted).1 in (
-        number_good keys.Version d.version 2 version.1 (omega arith),
+        number_good keys.Version d.version 3 version.1 (omega arith),
         (
           number_good keys.TickMs d.tick_ms 1000 tick.1 (omega arith),
           (

@@ -1,5 +1,5 @@
 -- The text of an admitted design spells that design.
-use Rattle.std.proofs.Common.{◌≡◌, List, [], Result, Ok, refl, ap, ◌∙◌}
+use Rattle.std.proofs.Common.{◌≡◌, nat_le, List, [], Result, Ok, refl, ap, ◌∙◌}
 use Rattle.design_table.specs.declared.fault.Code.{Code}
 use Rattle.design_table.specs.declared.fault.Code.TheVariants.{D02, D03, D04, D05, D06, D07, D08, D09, D10, D11}
 use Rattle.design_table.specs.declared.place.Place.{Place}
@@ -17,6 +17,8 @@ use Rattle.design_text.specs.Laws.{TextsReadBack}
 use Rattle.design_text.proofs.Documents.{document}
 use Rattle.design_text.proofs.ReadTexts.{text_read}
 use Rattle.design_text.proofs.Sheets.{sheet, sheet_is}
+use Rattle.design_text.proofs.Splitting.{two}
+use Rattle.design_text.proofs.Admitting.{timed}
 use Rattle.design_text.proofs.Spelling.{well_spelled}
 use Rattle.design_text.proofs.Returning.{station_is}
 use Rattle.design_text.proofs.Rules.{once_named, all_known, all_inside, none_crowded, none_open, none_misplaced, none_zero, none_inner, none_missing}
@@ -38,7 +40,7 @@ read_back d admitted =
     let from_d04 = unless_at D04 (unknown_names s) from_d05 in
     ap parsed_by (text_read d admitted)
     ∙ past D02 (form_fault (document d)) (resolved (sheet_of (document d))) (well_spelled d admitted)
-    ∙ ap resolved (sheet_is d)
+    ∙ ap resolved (sheet_is d (two (nat_le 1 d.version) (nat_le d.version 3) (timed d admitted).0).1)
     ∙ past D03 (repeated_names s) from_d04 (once_named d admitted)
     ∙ past D04 (unknown_names s) from_d05 (all_known d admitted)
     ∙ past D05 (out_of_range s) rules (all_inside d admitted)

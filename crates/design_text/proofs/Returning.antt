@@ -1,5 +1,5 @@
 -- The station of the sheet of an admitted design is the design.
-use Rattle.std.proofs.Common.{◌≡◌, ℕ, ◌≤◌, ◌<◌, pos, Bool, true, nat_lt, ◌*◌, ◌/◌, false, if◌then◌else◌, List, [], ◌∷◌, length, map, refl, ap, ap₂, ◌∙◌, arith, inl, inr, leb-true}
+use Rattle.std.proofs.Common.{◌≡◌, ℕ, ◌≤◌, ◌<◌, pos, Bool, true, nat_le, nat_lt, ◌*◌, ◌/◌, false, if◌then◌else◌, List, [], ◌∷◌, length, map, refl, sym, ap, ap₂, ◌∙◌, arith, inl, inr, leb-true}
 use Rattle.std.proofs.Math.Nat.{mul-le-mul}
 use Rattle.rail_base.specs.declared.station.Station.{Station}
 use Rattle.rail_base.specs.declared.station.Node.{Node}
@@ -17,18 +17,18 @@ use Rattle.rail_base.specs.declared.station.VehicleNo.{VehicleNo}
 use Rattle.rail_base.specs.declared.station.Side.{Side}
 use Rattle.rail_base.specs.declared.station.Side.TheVariants.{A, B}
 use Rattle.rail_base.specs.Members.{In}
-use Rattle.rail_base.specs.Stations.{no_train, train_of, horizon, IsNode, IsVehicle, IsTrain}
+use Rattle.rail_base.specs.Stations.{no_train, train_of, horizon, longest_dwell, IsNode, IsVehicle, IsTrain}
 use Rattle.rail_base.specs.Admitted.{Ranges}
 use Rattle.rail_base.specs.Admission.{is_node, is_visit, is_good_set, is_admitted}
 use Rattle.rail_base.proofs.Members.{map-map, list_all_at}
-use Rattle.rail_base.proofs.Lists.{in_entry}
+use Rattle.rail_base.proofs.Lists.{in_entry, length-map}
 use Rattle.design_table.specs.Parsed.{ParsedNode, ParsedEdge, ParsedVehicle, ParsedTrain}
 use Rattle.infra_reader.specs.Names.{Names, names_of, number_in, each_once}
-use Rattle.infra_reader.specs.Stations.{number_32, side_of, end_in, node_in, edge_in, signal_in, vehicle_in, nodes_in, train_in, order_in, within_in, station_in, station_of}
+use Rattle.infra_reader.specs.Stations.{number_32, side_of, end_in, node_in, edge_in, signal_in, vehicle_in, nodes_in, dwells_in, train_in, order_in, within_in, station_in, station_of}
 use Rattle.design_text.proofs.Distinct.{number_of, number_of_entry}
 use Rattle.design_text.proofs.Sections.{once}
-use Rattle.design_text.proofs.Sheets.{parsed_side, node_named, section_named, vehicle_named, train_named, parsed_node, parsed_edge, parsed_signal, parsed_vehicle, parsed_train, parsed_order, parsed_within, sheet}
-use Rattle.design_text.proofs.Admitting.{edge_parts, vehicle_parts, train_parts, signal_parts, set_parts, visit_parts, order_parts, within_parts, ranged, are_distinct, node_names, vehicle_names, train_names, timed, named, good_edge, sections_numbered, good_signal, good_vehicle, good_train, good_order, good_within}
+use Rattle.design_text.proofs.Sheets.{parsed_side, parsed_dwells, node_named, section_named, vehicle_named, train_named, parsed_node, parsed_edge, parsed_signal, parsed_vehicle, parsed_train, parsed_order, parsed_within, sheet}
+use Rattle.design_text.proofs.Admitting.{edge_parts, vehicle_parts, train_parts, signal_parts, set_parts, visit_parts, order_parts, within_parts, ranged, are_distinct, node_names, vehicle_names, train_names, timed, named, good_edge, sections_numbered, good_signal, good_vehicle, good_train, dwell_within, dwell_most, dwell_count, good_order, good_within}
 
 -- ---- what is made and made back
 
@@ -51,6 +51,13 @@ small n most l h = kept (nat_lt n 4294967296) (grind arith)
 small_product : (a b : ℕ) → 0 < b → b ≤ 1000 → a / b ≤ 86400 → a ≤ 86401000
 small_product a b l u q = let p : b * (a / b) ≤ 1000 * 86400 = mul-le-mul u q in omega arith
 
+-- a 0 for each
+all_zero : {V : Type 0} (vs : List V) (ns : List ℕ) → length ns ≡ length vs → ((n : ℕ) → In n ns → n ≤ 0) → map (λ v. 0) vs ≡ ns
+all_zero [] [] same none = refl
+all_zero [] (n ∷ ns) same none = absurd (omega arith)
+all_zero (v ∷ vs) [] same none = absurd (omega arith)
+all_zero (v ∷ vs) (n ∷ ns) same none = let most = none n (inl refl) in let here : 0 ≡ n = omega arith in ap₂ (λ m ms. m ∷ ms) here (all_zero vs ns (omega arith) (λ k i. none k (inr i)))
+
 -- ---- records whose parts are the same
 
 same_names : (n1 n2 s1 s2 v1 v2 t1 t2 : List (List ℕ)) → n1 ≡ n2 → s1 ≡ s2 → v1 ≡ v2 → t1 ≡ t2 → let made : Names = record { nodes = n1; sections = s1; vehicles = v1; trains = t1 } in made ≡ record { nodes = n2; sections = s2; vehicles = v2; trains = t2 }
@@ -63,6 +70,10 @@ same_edge name f1 f2 t1 t2 l1 l2 s1 s2 z1 z2 f t l s z = rw (f, t, l, s, z) refl
 same_vehicle : (name : List ℕ) (l1 l2 a1 a2 b1 b2 s1 s2 : ℕ) → l1 ≡ l2 → a1 ≡ a2 → b1 ≡ b2 → s1 ≡ s2
     → let made : Vehicle = record { name = name; length_mm = l1; accel_mm_s2 = a1; brake_mm_s2 = b1; speed_mm_s = s1 } in made ≡ record { name = name; length_mm = l2; accel_mm_s2 = a2; brake_mm_s2 = b2; speed_mm_s = s2 }
 same_vehicle name l1 l2 a1 a2 b1 b2 s1 s2 l a b s = rw (l, a, b, s) refl
+
+same_train : (name : List ℕ) (v1 v2 : ℕ) (s1 s2 : List (List NodeNo)) (w1 w2 : List ℕ) → v1 ≡ v2 → s1 ≡ s2 → w1 ≡ w2
+    → let made : Train = record { name = name; vehicle = record { 0 = v1 }; visits = s1; dwell_ms = w1 } in made ≡ record { name = name; vehicle = record { 0 = v2 }; visits = s2; dwell_ms = w2 }
+same_train name v1 v2 s1 s2 w1 w2 v s w = rw (v, s, w) refl
 
 same_order : (f1 f2 v1 v2 t1 t2 w1 w2 : ℕ) → f1 ≡ f2 → v1 ≡ v2 → t1 ≡ t2 → w1 ≡ w2
     → let made : Order = record { first_train = record { 0 = f1 }; first_visit = v1; then_train = record { 0 = t1 }; then_visit = w1 } in made ≡ record { first_train = record { 0 = f2 }; first_visit = v2; then_train = record { 0 = t2 }; then_visit = w2 }
@@ -153,12 +164,21 @@ module _ (d : Station) (admitted : is_admitted d ≡ true) where
       made_back (node_named d) (λ name. record { 0 = number_in (node_names d) name }) set
       (λ n m. ap (λ k. record { 0 = k }) (node_number n (ranged 1 (length d.nodes) n.0 (list_all_at (is_node d) set n f.1 m))))
 
+  dwells_back : (t : Train) → In t d.trains → (b : Bool) → nat_le 3 d.version ≡ b → dwells_in (map (map (node_named d)) t.visits) (parsed_dwells b t.dwell_ms) ≡ t.dwell_ms
+  dwells_back t m true e = made_back (λ n. pos n) number_32 t.dwell_ms (λ ms i. small ms 3600000 (dwell_most d admitted t m ms i) (omega arith))
+  dwells_back t m false e =
+      let none : longest_dwell d ≡ 0 = rw e refl in
+      all_zero (map (map (node_named d)) t.visits) t.dwell_ms (dwell_count d admitted t m ∙ sym (length-map (map (node_named d)) t.visits)) (λ ms i. let most = dwell_within d admitted t m ms i in omega arith)
+
   train_back : (t : Train) → In t d.trains → train_in own_names (parsed_train d t) ≡ t
   train_back t m =
       let f = train_parts d t (good_train d admitted t m) in
-      ap₂ (λ v visits. record { name = t.name; vehicle = record { 0 = v }; visits = visits })
+      same_train t.name
+      (number_in (vehicle_names d) (vehicle_named d t.vehicle)) t.vehicle.0 (map (nodes_in (node_names d)) (map (map (node_named d)) t.visits)) t.visits
+      (dwells_in (map (map (node_named d)) t.visits) (parsed_dwells (nat_le 3 d.version) t.dwell_ms)) t.dwell_ms
       (vehicle_number t.vehicle (ranged 1 (length d.vehicles) t.vehicle.0 f.0))
       (made_back (map (node_named d)) (nodes_in (node_names d)) t.visits (λ set i. set_back set (list_all_at (is_good_set d) t.visits set f.2 i)))
+      (dwells_back t m (nat_le 3 d.version) refl)
 
   -- a train has 16 visits at most
   pub visit_most : (t : TrainNo) (j : ℕ) → is_visit d t j ≡ true → j ≤ 16
@@ -196,8 +216,8 @@ module _ (d : Station) (admitted : is_admitted d ≡ true) where
 
   version_small : number_32 (pos d.version) ≡ d.version
   version_small =
-      let range = ranged 1 2 d.version (timed d admitted).0 in
-      small d.version 2 range.1 (omega arith)
+      let range = ranged 1 3 d.version (timed d admitted).0 in
+      small d.version 3 range.1 (omega arith)
 
   tick_small : number_32 (pos d.tick_ms) ≡ d.tick_ms
   tick_small =

@@ -1,5 +1,6 @@
 -- No rule refuses the sheet of an admitted design.
-use Rattle.std.proofs.Common.{◌≡◌, ℕ, suc, ◌+◌, ◌-◌, ◌/◌, ◌≤◌, ◌<◌, pos, Bool, true, false, not, ◌&&◌, ◌||◌, ◌==◌, nat_le, List, [], ◌++◌, length, take, get_or, map, bytes_eq, refl, sym, ap, ap₂, subst, ◌∙◌, arith, leb-true}
+use Rattle.std.proofs.Common.{◌≡◌, ℕ, inl, inr, eqb-true, suc, ◌+◌, ◌-◌, ◌/◌, ◌≤◌, ◌<◌, pos, Bool, true, false, not, ◌&&◌, ◌||◌, ◌==◌, nat_le, List, [], ◌∷◌, ◌++◌, length, take, get_or, map, bytes_eq, refl, sym, ap, ap₂, subst, ◌∙◌, arith, leb-true}
+use Rattle.std.specs.Ordering.{int_eq}
 use Rattle.std.specs.List.{list_any, list_all}
 use Rattle.design_table.specs.declared.key.Key.{Key}
 use Rattle.design_table.specs.declared.key.Key.TheVariants as keys
@@ -21,6 +22,7 @@ use Rattle.rail_base.specs.declared.station.NodeNo.{NodeNo}
 use Rattle.rail_base.specs.declared.station.VehicleNo.{VehicleNo}
 use Rattle.rail_base.specs.declared.station.TrainNo.{TrainNo}
 use Rattle.rail_base.specs.declared.station.Side.TheVariants.{A, B}
+use Rattle.rail_base.specs.Numbering.{entry}
 use Rattle.rail_base.specs.Members.{In, all_pairs}
 use Rattle.rail_base.specs.Stations.{node_of, no_train, horizon, per_tick_speed, per_tick_accel}
 use Rattle.rail_base.specs.Admitted.{ends_a, ends_b}
@@ -30,7 +32,7 @@ use Rattle.rail_base.proofs.Lists.{list_all_from, in_map_back, length-map}
 use Rattle.rail_base.proofs.Contained.{in_at}
 use Rattle.infra_reader.specs.Names.{Names, is_among, repeated, repeated_names}
 use Rattle.infra_reader.specs.Unknown.{unless_among, edge_unknown, signal_unknown, train_unknown, order_unknown, within_unknown, track_unknown, traffic_unknown, unknown_names}
-use Rattle.infra_reader.specs.Limits.{unless_from, count_outside, array_outside, edge_outside, vehicle_outside, are_few_visits, train_outside, within_outside, is_horizon, times_outside, track_outside, traffic_outside, out_of_range}
+use Rattle.infra_reader.specs.Limits.{Limit, limit, is_kept, limits_outside, unless_from, count_outside, array_outside, edge_outside, vehicle_outside, are_few_visits, are_good_dwells as are_dwells, train_outside, within_outside, is_horizon, times_outside, track_outside, traffic_outside, out_of_range}
 use Rattle.infra_reader.specs.Track.{ends_at, is_crowded, is_loop, is_open, is_beside, is_misplaced, crowded, open_boundaries, misplaced_signals}
 use Rattle.infra_reader.specs.Traffic.{if_zero, vehicle_zeros, zeros, can_enter, inner_starts, unless_visit, order_missing, within_missing, missing_visits}
 use Rattle.infra_reader.proofs.Apart.{names_apart, any_turned}
@@ -38,8 +40,8 @@ use Rattle.infra_reader.proofs.EndCounts.{leave_count}
 use Rattle.design_text.proofs.Splitting.{neither}
 use Rattle.design_text.proofs.Nowhere.{unmet, met, nothing, nowhere, nowhere_made, nowhere_at}
 use Rattle.design_text.proofs.Distinct.{none_before, among_entries}
-use Rattle.design_text.proofs.Sheets.{node_named, vehicle_named, train_named, parsed_node, parsed_edge, parsed_signal, parsed_vehicle, parsed_train, parsed_order, parsed_within, sheet}
-use Rattle.design_text.proofs.Admitting.{ranged, are_distinct, node_names, edge_names, signal_names, vehicle_names, train_names, few, timed, named, node_parts, edge_parts, signal_parts, vehicle_parts, train_parts, set_parts, visit_parts, order_parts, within_parts, good_node, good_edge, good_signal, signals_apart, good_vehicle, good_train, good_order, good_within}
+use Rattle.design_text.proofs.Sheets.{parsed_dwells, node_named, vehicle_named, train_named, parsed_node, parsed_edge, parsed_signal, parsed_vehicle, parsed_train, parsed_order, parsed_within, sheet}
+use Rattle.design_text.proofs.Admitting.{ranged, are_distinct, node_names, edge_names, signal_names, vehicle_names, train_names, few, timed, named, node_parts, edge_parts, signal_parts, vehicle_parts, train_parts, dwell_parts, set_parts, visit_parts, order_parts, within_parts, good_node, good_edge, good_signal, signals_apart, good_vehicle, good_train, dwell_most, dwell_count, good_order, good_within}
 use Rattle.design_text.proofs.Returning.{own_names, names_are}
 
 -- ---- many parts that have no place
@@ -75,6 +77,32 @@ known names name place h = met (is_among names name) place h
 inside : (low high n : ℕ) (place : Place) → is_from low high n ≡ true → unless_from low high (pos n) place ≡ []
 unfolding unless_from
 inside low high n place h = met (is_from low high n) place h
+
+-- a key with one number, and the keys after it
+row_inside : (kind : EntryKind) (i : ℕ) (key : Key) (low high n : ℕ) (rest : List Limit) → is_from low high n ≡ true → limits_outside kind i rest ≡ [] → limits_outside kind i (limit key low high (pos n ∷ []) ∷ rest) ≡ []
+row_inside kind i key low high n rest h none =
+    nothing (at (not (is_from low high n && true)) (Field kind i key)) (limits_outside kind i rest) (met (is_from low high n && true) (Field kind i key) (and_both (is_from low high n) true h refl)) none
+
+-- how long a train stands
+dwells_kept : (dwells : List ℕ) → ((ms : ℕ) → In ms dwells → ms ≤ 3600000) → is_kept (limit keys.DwellMs 0 3600000 (map (λ n. pos n) dwells)) ≡ true
+dwells_kept [] most = refl
+dwells_kept (n ∷ ns) most =
+    let here = most n (inl refl) in
+    let small : is_from 0 3600000 n ≡ true = grind arith in
+    and_both (is_from 0 3600000 n) (is_kept (limit keys.DwellMs 0 3600000 (map (λ n. pos n) ns))) small (dwells_kept ns (λ ms i. most ms (inr i)))
+
+first_still : (dwells : List ℕ) → (entry 0 dwells 1 == 0) ≡ true → int_eq (entry (pos 0) (map (λ n. pos n) dwells) 1) (pos 0) ≡ true
+first_still [] h = refl
+first_still (n ∷ ns) h = let still = eqb-true n 0 h in rw still refl
+
+dwells_good : (b : Bool) (visits : List (List (List ℕ))) (dwells : List ℕ) → length dwells ≡ length visits → ((ms : ℕ) → In ms dwells → ms ≤ 3600000) → (entry 0 dwells 1 == 0) ≡ true → are_dwells visits (parsed_dwells b dwells) ≡ true
+dwells_good false visits dwells count most still = refl
+dwells_good true visits dwells count most still =
+    let ms = map (λ n. pos n) dwells in
+    let size = length-map (λ n. pos n) dwells in
+    let same : (length ms == length visits) ≡ true = grind arith in
+    let kept = is_kept (limit keys.DwellMs 0 3600000 ms) in
+    and_both ((length ms == length visits) && kept) (int_eq (entry (pos 0) ms 1) (pos 0)) (and_both (length ms == length visits) kept same (dwells_kept dwells most)) (first_still dwells still)
 
 so_many : {X Y : Type 0} (make : X → Y) (least most : ℕ) (key : Key) (xs : List X) → is_from least most (length xs) ≡ true → count_outside least most key (map make xs) ≡ []
 unfolding count_outside
@@ -202,23 +230,24 @@ module _ (d : Station) (admitted : is_admitted d ≡ true) where
       let t = timed d admitted in
       let ticks = ranged 1 86400 (horizon d) t.2 in
       let fits = is_horizon (pos d.horizon_ms) (pos d.tick_ms) in
-      three_nothing (unless_from 1 2 (pos d.version) (Top keys.Version)) (unless_from 100 1000 (pos d.tick_ms) (Top keys.TickMs)) (at (not fits) (Top keys.HorizonMs))
-      (inside 1 2 d.version (Top keys.Version) t.0)
+      three_nothing (unless_from 1 3 (pos d.version) (Top keys.Version)) (unless_from 100 1000 (pos d.tick_ms) (Top keys.TickMs)) (at (not fits) (Top keys.HorizonMs))
+      (inside 1 3 d.version (Top keys.Version) t.0)
       (inside 100 1000 d.tick_ms (Top keys.TickMs) t.1)
       (met fits (Top keys.HorizonMs) (and_both (nat_le 1 d.horizon_ms) (nat_le (d.horizon_ms / d.tick_ms) 86400) (some_time d.horizon_ms d.tick_ms ticks.0) (and_right (nat_le 1 (horizon d)) (nat_le (horizon d) 86400) t.2)))
 
   edge_inside : (i : ℕ) (e : Edge) → In e d.edges → edge_outside i (parsed_edge d e) ≡ []
   edge_inside i e m =
       let f = edge_parts d e (good_edge d admitted e m) in
-      nothing (unless_from 1 10000000 (pos e.length_mm) (Field kinds.Edge i keys.LengthMm)) (unless_from 1 100000 (pos e.speed_mm_s) (Field kinds.Edge i keys.SpeedMmS))
-      (inside 1 10000000 e.length_mm (Field kinds.Edge i keys.LengthMm) f.3) (inside 1 100000 e.speed_mm_s (Field kinds.Edge i keys.SpeedMmS) f.4)
+      row_inside kinds.Edge i keys.LengthMm 1 10000000 e.length_mm (limit keys.SpeedMmS 1 100000 (pos e.speed_mm_s ∷ []) ∷ []) f.3 (
+      row_inside kinds.Edge i keys.SpeedMmS 1 100000 e.speed_mm_s [] f.4 refl)
 
   vehicle_inside : (i : ℕ) (v : Vehicle) → In v d.vehicles → vehicle_outside i (parsed_vehicle d v) ≡ []
   vehicle_inside i v m =
       let f = vehicle_parts d v (good_vehicle d admitted v m) in
-      let place = Field kinds.Vehicle i in
-      four_nothing (unless_from 1 2000000 (pos v.length_mm) (place keys.LengthMm)) (unless_from 1 100000 (pos v.accel_mm_s2) (place keys.AccelMmS2)) (unless_from 1 100000 (pos v.brake_mm_s2) (place keys.BrakeMmS2)) (unless_from 1 100000 (pos v.speed_mm_s) (place keys.SpeedMmS))
-      (inside 1 2000000 v.length_mm (place keys.LengthMm) f.0) (inside 1 100000 v.accel_mm_s2 (place keys.AccelMmS2) f.1) (inside 1 100000 v.brake_mm_s2 (place keys.BrakeMmS2) f.2) (inside 1 100000 v.speed_mm_s (place keys.SpeedMmS) f.3)
+      row_inside kinds.Vehicle i keys.LengthMm 1 2000000 v.length_mm (limit keys.AccelMmS2 1 100000 (pos v.accel_mm_s2 ∷ []) ∷ limit keys.BrakeMmS2 1 100000 (pos v.brake_mm_s2 ∷ []) ∷ limit keys.SpeedMmS 1 100000 (pos v.speed_mm_s ∷ []) ∷ []) f.0 (
+      row_inside kinds.Vehicle i keys.AccelMmS2 1 100000 v.accel_mm_s2 (limit keys.BrakeMmS2 1 100000 (pos v.brake_mm_s2 ∷ []) ∷ limit keys.SpeedMmS 1 100000 (pos v.speed_mm_s ∷ []) ∷ []) f.1 (
+      row_inside kinds.Vehicle i keys.BrakeMmS2 1 100000 v.brake_mm_s2 (limit keys.SpeedMmS 1 100000 (pos v.speed_mm_s ∷ []) ∷ []) f.2 (
+      row_inside kinds.Vehicle i keys.SpeedMmS 1 100000 v.speed_mm_s [] f.3 refl)))
 
   few_visits : (visits : List (List NodeNo)) → is_from 1 16 (length visits) ≡ true → list_all (is_good_set d) visits ≡ true → are_few_visits (map (map (node_named d)) visits) ≡ true
   few_visits visits count good =
@@ -231,10 +260,15 @@ module _ (d : Station) (admitted : is_admitted d ≡ true) where
   train_inside : (i : ℕ) (t : Train) → In t d.trains → train_outside i (parsed_train d t) ≡ []
   train_inside i t m =
       let f = train_parts d t (good_train d admitted t m) in
-      met (are_few_visits (map (map (node_named d)) t.visits)) (Field kinds.Train i keys.Visits) (few_visits t.visits f.1 f.2)
+      let visits = map (map (node_named d)) t.visits in
+      let dwells = parsed_dwells (nat_le 3 d.version) t.dwell_ms in
+      nothing (at (not (are_few_visits visits)) (Field kinds.Train i keys.Visits)) (at (not (are_dwells visits dwells)) (Field kinds.Train i keys.DwellMs))
+      (met (are_few_visits visits) (Field kinds.Train i keys.Visits) (few_visits t.visits f.1 f.2))
+      (met (are_dwells visits dwells) (Field kinds.Train i keys.DwellMs)
+      (dwells_good (nat_le 3 d.version) visits t.dwell_ms (dwell_count d admitted t m ∙ sym (length-map (map (node_named d)) t.visits)) (dwell_most d admitted t m) (dwell_parts d t f.4).2))
 
   within_inside : (i : ℕ) (w : Within) → In w d.withins → within_outside i (parsed_within d w) ≡ []
-  within_inside i w m = inside 0 86400000 w.max_ms (Field kinds.Within i keys.MaxMs) (at_most 86400000 w.max_ms (within_parts d w (good_within d admitted w m)).2)
+  within_inside i w m = row_inside kinds.Within i keys.MaxMs 0 86400000 w.max_ms [] (at_most 86400000 w.max_ms (within_parts d w (good_within d admitted w m)).2) refl
 
   track_inside : track_outside (sheet d) ≡ []
   unfolding track_outside

@@ -1,14 +1,16 @@
 -- The sheet of a design's document: the design's entries, with names in the place of numbers.
-use Rattle.std.proofs.Common.{◌≡◌, ℕ, pos, Bool, true, false, Option, None, ◌∙◌, List, [], ◌∷◌, map, Some, refl, ap₂, ap}
+use Rattle.std.proofs.Common.{◌≡◌, ℕ, ℤ, pos, nat_le, Bool, true, false, Option, None, ◌∙◌, List, [], ◌∷◌, map, Some, refl, ap₂, ap}
 use Rattle.toml.specs.Data.{Data, string, integer, Members}
 use Rattle.toml.specs.View.{items_of}
 use Rattle.design_table.specs.declared.sheet.Side as table
 use Rattle.design_table.specs.declared.sheet.Side.TheVariants as parsed
+use Rattle.design_table.specs.declared.place.EntryKind.TheVariants as kinds
 use Rattle.design_table.specs.declared.key.Key.{Key}
 use Rattle.design_table.specs.declared.key.Key.TheVariants as keys
 use Rattle.design_table.specs.Keys.{key_text}
-use Rattle.design_table.specs.Forms.{found, list_of_items, items_of as items_in, side_of, name_value, visit_of}
-use Rattle.design_table.specs.Sheet.{members_of, node_of as read_node, edge_of as read_edge, signal_of as read_signal, vehicle_of as read_vehicle, train_of as read_train, order_of as read_order, within_of as read_within, sheet_of}
+use Rattle.design_table.specs.Forms.{found, list_of_items, items_of as items_in, side_of, whole_of, name_value, visit_of}
+use Rattle.design_table.specs.Sheet.{members_of, value_of, entries_of, sheet_of}
+use Rattle.design_table.specs.Parsed as parse
 use Rattle.design_table.specs.Parsed.{ParsedNode, ParsedEdge, ParsedSignal, ParsedVehicle, ParsedTrain, ParsedOrder, ParsedWithin, ParsedSheet}
 use Rattle.rail_base.specs.Numbering.{entry}
 use Rattle.rail_base.specs.Stations.{node_of, train_of, vehicle_at}
@@ -28,11 +30,16 @@ use Rattle.rail_base.specs.declared.station.Side.{Side}
 use Rattle.rail_base.specs.declared.station.Side.TheVariants.{A, B}
 use Rattle.design_text.specs.Texts.{side_name}
 use Rattle.design_text.proofs.Parts.{or_else, looked_up, found_in}
-use Rattle.design_text.proofs.Documents.{array_of, some_array, node_value, name_row, node_more, table_of, node_table, edge_table, signal_table, vehicle_table, train_table, order_table, within_table, first_part, more_parts, document}
+use Rattle.design_text.proofs.Documents.{array_of, some_array, node_value, number_value, name_row, node_more, table_of, node_table, edge_table, signal_table, vehicle_table, train_table, order_table, within_table, first_part, more_parts, document}
 
 abbrev pub parsed_side : Side → table.Side
 parsed_side A = parsed.A
 parsed_side B = parsed.B
+
+-- from version 3 on
+abbrev pub parsed_dwells : Bool → List ℕ → Option (List ℤ)
+parsed_dwells true dwells = Some (map pos dwells)
+parsed_dwells false dwells = None
 
 module _ (d : Station) where
   -- ---- names by number
@@ -79,7 +86,7 @@ module _ (d : Station) where
   }
 
   abbrev pub parsed_train : Train → ParsedTrain
-  parsed_train t = record { name = t.name; vehicle = vehicle_named t.vehicle; visits = map (map node_named) t.visits }
+  parsed_train t = record { name = t.name; vehicle = vehicle_named t.vehicle; visits = map (map node_named) t.visits; dwell_ms = parsed_dwells (nat_le 3 d.version) t.dwell_ms }
 
   abbrev pub parsed_order : Order → ParsedOrder
   parsed_order o = record {
@@ -133,44 +140,69 @@ side_read : (s : Side) → side_of (Some (string (side_name s))) ≡ parsed_side
 side_read A = refl
 side_read B = refl
 
+-- what a table of each kind spells in a version
+abbrev read_node : ℕ → Members → ParsedNode
+read_node version ms = parse.node_of (value_of version kinds.Node ms)
+
+abbrev read_edge : ℕ → Members → ParsedEdge
+read_edge version ms = parse.edge_of (value_of version kinds.Edge ms)
+
+abbrev read_signal : ℕ → Members → ParsedSignal
+read_signal version ms = parse.signal_of (value_of version kinds.Signal ms)
+
+abbrev read_vehicle : ℕ → Members → ParsedVehicle
+read_vehicle version ms = parse.vehicle_of (value_of version kinds.Vehicle ms)
+
+abbrev read_train : ℕ → Members → ParsedTrain
+read_train version ms = parse.train_of (value_of version kinds.Train ms)
+
+abbrev read_order : ℕ → Members → ParsedOrder
+read_order version ms = parse.order_of (value_of version kinds.Order ms)
+
+abbrev read_within : ℕ → Members → ParsedWithin
+read_within version ms = parse.within_of (value_of version kinds.Within ms)
+
 -- the sheet of a table, by what its keys hold
 sheet_from : (ms : Members) (a b c : ℕ) (nodes edges signals vehicles trains orders withins : Option Data)
     → found keys.Version ms ≡ Some (integer (pos a)) → found keys.TickMs ms ≡ Some (integer (pos b)) → found keys.HorizonMs ms ≡ Some (integer (pos c))
-    → found keys.Node ms ≡ nodes → found keys.Edge ms ≡ edges → found keys.Signal ms ≡ signals → found keys.Vehicle ms ≡ vehicles → found keys.Train ms ≡ trains → found keys.Order ms ≡ orders → found keys.Within ms ≡ withins
+    → found keys.Node ms ≡ nodes → found keys.Edge ms ≡ edges → found keys.Signal ms ≡ signals → found keys.Vehicle ms ≡ vehicles → found keys.Train ms ≡ trains → found keys.Order ms ≡ orders → found keys.Within ms ≡ withins → nat_le a 3 ≡ true
     → sheet_of ms ≡ record {
       version = pos a;
       tick_ms = pos b;
       horizon_ms = pos c;
-      nodes = map (λ entry. read_node (members_of entry)) (items_in nodes);
-      edges = map (λ entry. read_edge (members_of entry)) (items_in edges);
-      signals = map (λ entry. read_signal (members_of entry)) (items_in signals);
-      vehicles = map (λ entry. read_vehicle (members_of entry)) (items_in vehicles);
-      trains = map (λ entry. read_train (members_of entry)) (items_in trains);
-      orders = map (λ entry. read_order (members_of entry)) (items_in orders);
-      withins = map (λ entry. read_within (members_of entry)) (items_in withins);
+      nodes = map (λ entry. read_node a (members_of entry)) (items_in nodes);
+      edges = map (λ entry. read_edge a (members_of entry)) (items_in edges);
+      signals = map (λ entry. read_signal a (members_of entry)) (items_in signals);
+      vehicles = map (λ entry. read_vehicle a (members_of entry)) (items_in vehicles);
+      trains = map (λ entry. read_train a (members_of entry)) (items_in trains);
+      orders = map (λ entry. read_order a (members_of entry)) (items_in orders);
+      withins = map (λ entry. read_within a (members_of entry)) (items_in withins);
     }
-unfolding sheet_of
-sheet_from ms a b c nodes edges signals vehicles trains orders withins e1 e2 e3 e4 e5 e6 e7 e8 e9 e10 = rw (e1, e2, e3, e4, e5, e6, e7, e8, e9, e10) refl
+unfolding sheet_of entries_of
+sheet_from ms a b c nodes edges signals vehicles trains orders withins e1 e2 e3 e4 e5 e6 e7 e8 e9 e10 known = rw (e1, e2, e3, e4, e5, e6, e7, e8, e9, e10, known) refl
 
 or_none : (o : Option Data) → or_else o None ≡ o
 or_none None = refl
 or_none (Some v) = refl
 
 module _ (d : Station) where
+  abbrev version : ℕ
+  version = d.version
+
   visits_read : (visits : List (List NodeNo)) → map visit_of (list_of_items (items_of (map (array_of (node_value d)) visits))) ≡ map (map (node_named d)) visits
   visits_read visits = items_are visit_of (array_of (node_value d)) (map (node_named d)) visits (λ set. items_are name_value (node_value d) (node_named d) set (λ n. refl))
 
-  node_read : (n : Node) → read_node (members_of (node_table n)) ≡ parsed_node d n
+  node_read : (n : Node) → read_node version (members_of (node_table n)) ≡ parsed_node d n
   node_read n = by_boundary n.boundary
     where
-      by_boundary : (b : Bool) → read_node (members_of (table_of (name_row keys.Name n.name ∷ node_more b))) ≡ record { name = n.name; boundary = b }
+      by_boundary : (b : Bool) → read_node version (members_of (table_of (name_row keys.Name n.name ∷ node_more b))) ≡ record { name = n.name; boundary = b }
       by_boundary true = refl
       by_boundary false = refl
 
-  vehicle_read : (v : Vehicle) → read_vehicle (members_of (vehicle_table v)) ≡ parsed_vehicle d v
+  vehicle_read : (v : Vehicle) → read_vehicle version (members_of (vehicle_table v)) ≡ parsed_vehicle d v
   vehicle_read v = refl
 
-  edge_read : (e : Edge) → read_edge (members_of (edge_table d e)) ≡ parsed_edge d e
+  edge_read : (e : Edge) → read_edge version (members_of (edge_table d e)) ≡ parsed_edge d e
   edge_read e = ap₂ between (side_read e.from.side) (side_read e.to.side)
     where
       between : table.Side → table.Side → ParsedEdge
@@ -185,16 +217,27 @@ module _ (d : Station) where
         section = section_named d e.section;
       }
 
-  signal_read : (s : Signal) → read_signal (members_of (signal_table d s)) ≡ parsed_signal d s
+  signal_read : (s : Signal) → read_signal version (members_of (signal_table d s)) ≡ parsed_signal d s
   signal_read s = ap (λ toward. record { name = s.name; node = node_named d s.node; toward = toward }) (side_read s.toward)
 
-  train_read : (t : Train) → read_train (members_of (train_table d t)) ≡ parsed_train d t
-  train_read t = ap (λ visits. record { name = t.name; vehicle = vehicle_named d t.vehicle; visits = visits }) (visits_read t.visits)
+  train_read : (t : Train) → read_train version (members_of (train_table d t)) ≡ parsed_train d t
+  train_read t = by_version (nat_le 3 version) refl
+    where
+      dwells_read : map (λ d. whole_of (Some d)) (list_of_items (items_of (map number_value t.dwell_ms))) ≡ map pos t.dwell_ms
+      dwells_read = items_are (λ d. whole_of (Some d)) number_value (λ n. pos n) t.dwell_ms (λ n. refl)
 
-  order_read : (o : Order) → read_order (members_of (order_table d o)) ≡ parsed_order d o
+      -- with the key, and without it
+      made_train : List (List (List ℕ)) → Option (List ℤ) → ParsedTrain
+      made_train visits dwells = record { name = t.name; vehicle = vehicle_named d t.vehicle; visits = visits; dwell_ms = dwells }
+
+      by_version : (b : Bool) → nat_le 3 version ≡ b → read_train version (members_of (train_table d t)) ≡ parsed_train d t
+      by_version true e = rw e (ap₂ (λ visits dwells. made_train visits (Some dwells)) (visits_read t.visits) dwells_read)
+      by_version false e = rw e (ap (λ visits. made_train visits None) (visits_read t.visits))
+
+  order_read : (o : Order) → read_order version (members_of (order_table d o)) ≡ parsed_order d o
   order_read o = refl
 
-  within_read : (w : Within) → read_within (members_of (within_table d w)) ≡ parsed_within d w
+  within_read : (w : Within) → read_within version (members_of (within_table d w)) ≡ parsed_within d w
   within_read w = refl
 
   -- ---- what the keys of the document hold
@@ -256,22 +299,22 @@ module _ (d : Station) where
   abbrev read_as : {X A : Type 0} → (Members → A) → (X → Data) → List X → List A
   read_as read holds xs = map (λ entry. read (members_of entry)) (items_in (some_array holds xs))
 
-  pub sheet_is : sheet_of (document d) ≡ sheet d
-  sheet_is =
+  pub sheet_is : nat_le d.version 3 ≡ true → sheet_of (document d) ≡ sheet d
+  sheet_is known =
       sheet_from (document d) d.version d.tick_ms d.horizon_ms (some_array node_table d.nodes) (some_array (edge_table d) d.edges) (some_array (signal_table d) d.signals) (some_array vehicle_table d.vehicles) (some_array (train_table d) d.trains) (some_array (order_table d) d.orders) (some_array (within_table d) d.withins)
-      version_found tick_found horizon_found nodes_found edges_found signals_found vehicles_found trains_found orders_found withins_found
+      version_found tick_found horizon_found nodes_found edges_found signals_found vehicles_found trains_found orders_found withins_found known
       ∙ same_made
-      (read_as read_node node_table d.nodes) (map (parsed_node d) d.nodes)
-      (read_as read_edge (edge_table d) d.edges) (map (parsed_edge d) d.edges)
-      (read_as read_signal (signal_table d) d.signals) (map (parsed_signal d) d.signals)
-      (read_as read_vehicle vehicle_table d.vehicles) (map (parsed_vehicle d) d.vehicles)
-      (read_as read_train (train_table d) d.trains) (map (parsed_train d) d.trains)
-      (read_as read_order (order_table d) d.orders) (map (parsed_order d) d.orders)
-      (read_as read_within (within_table d) d.withins) (map (parsed_within d) d.withins)
-      (array_read read_node node_table (parsed_node d) d.nodes node_read)
-      (array_read read_edge (edge_table d) (parsed_edge d) d.edges edge_read)
-      (array_read read_signal (signal_table d) (parsed_signal d) d.signals signal_read)
-      (array_read read_vehicle vehicle_table (parsed_vehicle d) d.vehicles vehicle_read)
-      (array_read read_train (train_table d) (parsed_train d) d.trains train_read)
-      (array_read read_order (order_table d) (parsed_order d) d.orders order_read)
-      (array_read read_within (within_table d) (parsed_within d) d.withins within_read)
+      (read_as (read_node version) node_table d.nodes) (map (parsed_node d) d.nodes)
+      (read_as (read_edge version) (edge_table d) d.edges) (map (parsed_edge d) d.edges)
+      (read_as (read_signal version) (signal_table d) d.signals) (map (parsed_signal d) d.signals)
+      (read_as (read_vehicle version) vehicle_table d.vehicles) (map (parsed_vehicle d) d.vehicles)
+      (read_as (read_train version) (train_table d) d.trains) (map (parsed_train d) d.trains)
+      (read_as (read_order version) (order_table d) d.orders) (map (parsed_order d) d.orders)
+      (read_as (read_within version) (within_table d) d.withins) (map (parsed_within d) d.withins)
+      (array_read (read_node version) node_table (parsed_node d) d.nodes node_read)
+      (array_read (read_edge version) (edge_table d) (parsed_edge d) d.edges edge_read)
+      (array_read (read_signal version) (signal_table d) (parsed_signal d) d.signals signal_read)
+      (array_read (read_vehicle version) vehicle_table (parsed_vehicle d) d.vehicles vehicle_read)
+      (array_read (read_train version) (train_table d) (parsed_train d) d.trains train_read)
+      (array_read (read_order version) (order_table d) (parsed_order d) d.orders order_read)
+      (array_read (read_within version) (within_table d) (parsed_within d) d.withins within_read)

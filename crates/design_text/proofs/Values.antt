@@ -1,7 +1,8 @@
 -- The text of each value is read as that value.
-use Rattle.std.proofs.Common.{rules, ◌≡◌, ℕ, subst, suc, ◌^◌, ◌<◌, ◌≤◌, true, false, ◌==◌, inl, inr, List, [], ◌∷◌, ◌++◌, map, codes, refl, sym, ap, ◌∙◌, arith, append_assoc}
+use Rattle.std.proofs.Common.{rules, FitsSigned, ◌≡◌, ℕ, pos, decimal, subst, suc, ◌^◌, ◌<◌, ◌≤◌, true, false, ◌==◌, inl, inr, List, [], ◌∷◌, ◌++◌, map, codes, refl, sym, ap, ◌∙◌, arith, append_assoc}
 use Rattle.std.proofs.Math.Nat.{max-le}
 use Rattle.std.proofs.lemmas.Bool.Decides.{nat_tests}
+use Rattle.std.specs.Int.{w64}
 use Rattle.std.specs.List.{list_all, list_any, flat_map}
 use Rattle.toml_writer.specs.Text.{string_text, encoding_of, encoded, basic, escaped, needs_escape, quotes_after, has, is_control}
 use Rattle.toml.specs.Data.{Data, string, Items, no_items, item, depth, items_depth, has_valid_dates}
@@ -14,9 +15,9 @@ use Rattle.rail_base.proofs.Members.{and_left, and_right}
 use Rattle.design_text.specs.Texts.{behind_comma, joined, in_quotes, in_brackets}
 use Rattle.infra_reader.proofs.Spelling.{same_name}
 use Rattle.std.proofs.lemmas.Fmt.{IsAscii-decimal}
-use Rattle.design_text.proofs.Ascii.{ascii_literal, ascii_name, ascii_quotes}
+use Rattle.design_text.proofs.Ascii.{ascii_literal, ascii_name, ascii_quotes, ascii_brackets}
 use Rattle.design_text.proofs.ReadEntries.{IsRead}
-use Rattle.design_text.proofs.Documents.{array_of, name_row, number_row, true_row}
+use Rattle.design_text.proofs.Documents.{array_of, number_value, name_row, number_row, numbers_row, true_row}
 
 -- ---- names
 
@@ -107,6 +108,19 @@ number_is_read n key number small = record {
   valid = refl;
   ascii = IsAscii-decimal number (omega arith);
 }
+
+fits_64 : (n : ℕ) → n < 2 ^ 63 → FitsSigned w64 (pos n)
+fits_64 n small = search rules
+
+pub numbers_are_read : (n : ℕ) (key : Key) (numbers : List ℕ) → 1 ≤ n → ((k : ℕ) → In k numbers → k < 2 ^ 63) → IsRead n (numbers_row key numbers)
+numbers_are_read n key numbers room small =
+    let deep = array_depth number_value numbers 0 (λ k. omega arith) in
+    record {
+      is_text = array_is_text decimal number_value numbers (λ k m. (refl, fits_64 k (small k m)));
+      shallow = omega arith;
+      valid = array_dates number_value numbers (λ k. refl);
+      ascii = ascii_brackets decimal numbers (λ k m. let s = small k m in IsAscii-decimal k (omega arith));
+    }
 
 pub true_is_read : (n : ℕ) (key : Key) → IsRead n (true_row key)
 true_is_read n key = record {

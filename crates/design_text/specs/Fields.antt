@@ -13,6 +13,7 @@ value_text d values.True = codes "true"
 value_text d (values.Name name) = in_quotes name.now
 value_text d (values.Number number) = decimal number
 value_text d (values.Visits visits) = in_brackets (map (visit_text d) visits.now)
+value_text d (values.Numbers numbers) = in_brackets (map decimal numbers.now)
 
 -- a key with the text of its value
 abbrev pub field_of : Station → Field → Key × List ℕ

@@ -1,5 +1,5 @@
 -- The text of a design: its numbers, and then each array that has entries, with a line for each of them.
-use Rattle.std.specs.Prelude.{ℕ, List, [], ◌∷◌, ◌++◌, map, codes, decimal, if◌then◌else◌}
+use Rattle.std.specs.Prelude.{ℕ, List, [], ◌∷◌, ◌++◌, map, codes, decimal, nat_le, if◌then◌else◌}
 use Rattle.std.specs.List.{concat, flat_map}
 use Rattle.design_table.specs.declared.key.Key.{Key}
 use Rattle.design_table.specs.declared.key.Key.TheVariants as keys
@@ -99,12 +99,16 @@ module _ (d : Station) where
       ∷ (keys.Toward, in_quotes (side_name s.toward))
       ∷ [])
 
+  -- the key `dwell_ms` stands from version 3 on
+  abbrev pub dwell_fields : Train → List (Key × List ℕ)
+  dwell_fields t = if nat_le 3 d.version then (keys.DwellMs, in_brackets (map decimal t.dwell_ms)) ∷ [] else []
+
   abbrev pub train_line : Train → List ℕ
   train_line t = entry_line (
       (keys.Name, in_quotes t.name)
       ∷ (keys.Vehicle, in_quotes (vehicle_at d t.vehicle).name)
       ∷ (keys.Visits, in_brackets (map visit_text t.visits))
-      ∷ [])
+      ∷ dwell_fields t)
 
   abbrev pub order_line : Order → List ℕ
   order_line o = entry_line (

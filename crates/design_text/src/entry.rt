@@ -129,18 +129,18 @@ impl Entry for Train {
     fn line<'a>(&'a self, alloc: Global, design: &'a Design) -> Result<Vec<u8>, AllocError>
         ensures { IfOk result (λ line. line.items ≡ train_line design.now.station self.now) }
     {
-        entry_line(
-            alloc,
-            design,
-            &[
-                Field(Key::Name, Value::Name(self.name.as_bytes())),
-                Field(
-                    Key::Vehicle,
-                    Value::Name(vehicle_name(design, self.vehicle)),
-                ),
-                Field(Key::Visits, Value::Visits(self.visits.as_slice())),
-            ],
-        )
+        let name = Field(Key::Name, Value::Name(self.name.as_bytes()));
+        let vehicle = Field(
+            Key::Vehicle,
+            Value::Name(vehicle_name(design, self.vehicle)),
+        );
+        let visits = Field(Key::Visits, Value::Visits(self.visits.as_slice()));
+        if design.station.version >= 3 {
+            let dwells = Field(Key::DwellMs, Value::Numbers(self.dwell_ms.as_slice()));
+            entry_line(alloc, design, &[name, vehicle, visits, dwells])
+        } else {
+            entry_line(alloc, design, &[name, vehicle, visits])
+        }
     }
 }
 

@@ -19,6 +19,7 @@ pub(crate) enum Value<'a> {
     Name(&'a [u8]),
     Number(u32),
     Visits(&'a [List<NodeNo>]),
+    Numbers(&'a [u32]),
 }
 
 /// A key of an entry with its value.
@@ -34,6 +35,7 @@ fn put_value(line: &mut Vec<u8>, design: &Design, value: Value) -> Result<(), Al
         Value::Name(name) => put_quoted(line, name),
         Value::Number(number) => put_number(line, u64::from(number)),
         Value::Visits(visits) => put_bracketed(line, design, visits),
+        Value::Numbers(numbers) => put_bracketed(line, design, numbers),
     }
 }
 

@@ -1,6 +1,6 @@
 //! Parts of a line that stand in a row, with commas between them.
 
-ghost use Rattle.std.specs.Prelude.{◌≡◌, ◌++◌, ℕ, List, map, OnOk};
+ghost use Rattle.std.specs.Prelude.{◌≡◌, ◌++◌, ℕ, List, map, decimal, OnOk};
 ghost use Rattle.std.specs.List.{flat_map};
 ghost use Rattle.rail_base.specs.declared.station.Station.{Station};
 ghost use Rattle.rail_base.specs.Names.{node_name};
@@ -10,6 +10,7 @@ use rail_base::design::Design;
 use rail_base::list::List;
 use rail_base::names::node_name;
 use rail_base::station::NodeNo;
+use rail_text::put_number;
 use std::alloc::AllocError;
 
 /// A part of a line.
@@ -73,6 +74,16 @@ pub(crate) fn put_quoted(line: &mut Vec<u8>, text: &[u8]) -> Result<(), AllocErr
     line.extend_from_slice(text)?;
     line.push(b'"')?;
     Ok(())
+}
+
+impl Part for u32 {
+    ghost text = { λ d number. decimal number };
+
+    fn put(&self, line: &mut Vec<u8>, _design: &Design) -> Result<(), AllocError>
+        ensures { OnOk result (line.new.items ≡ line.old.items ++ decimal self.now) }
+    {
+        put_number(line, u64::from(*self))
+    }
 }
 
 /// A node, by its name.

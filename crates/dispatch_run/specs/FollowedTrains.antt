@@ -7,7 +7,7 @@ use Rattle.rail_base.specs.declared.route.Route.{Route}
 use Rattle.rail_base.specs.declared.state.TrainState.{TrainState}
 use Rattle.rail_base.specs.Stations.{IsTrain, trains}
 use Rattle.rail_spec.specs.Motion.{permitted}
-use Rattle.rail_spec.specs.Dispatches.{Dispatch, state_of, state_at, granted_after, rates, stretches, track_end}
+use Rattle.rail_spec.specs.Dispatches.{Dispatch, state_of, state_at, granted_after, rates, stretches, with_granted, authority}
 use Rattle.rail_course.specs.Journeys.{IsJourney}
 use Rattle.rail_course.specs.Tracks.{routes_at}
 use Rattle.dispatch_run.specs.declared.traffic.FollowedTrain.{FollowedTrain}
@@ -32,8 +32,9 @@ module _ (d : Station) (routes : List Route) (dispatch : Dispatch) where
   -- full braking is permitted to a train by so many grants
   abbrev pub MayBrake : TrainNo → ℕ → TrainState → Type 0
   MayBrake t granted s =
-      let given = take granted (routes_at routes (dispatch.path t)) in
-      permitted (rates d t) (stretches d given) (track_end given) s.x s.v (s.v - (rates d t).brake) ≡ true
+      let end = authority d routes dispatch t (with_granted granted s) in
+      let track = stretches d (take granted (routes_at routes (dispatch.path t))) in
+      permitted (rates d t) track end s.x s.v (s.v - (rates d t).brake) ≡ true
 
   -- full braking is permitted by what is granted then, and the numbers are in range
   pub record CanMove (t : TrainNo) (granted : ℕ) (s : TrainState) : Type 0 where
@@ -41,6 +42,7 @@ module _ (d : Station) (routes : List Route) (dispatch : Dispatch) where
     pub braking : 1 ≤ granted → MayBrake t granted s
     pub below_2_46 : s.x < 2 ^ 46
     pub slow : s.v ≤ 100000
+    pub stood : s.stood ≤ 86400
 
   -- the state of a train at a tick
   abbrev pub train_state : ℕ → TrainNo → TrainState

@@ -1,5 +1,6 @@
 -- The run of a dispatch over its traffic, and what is known of the trains that are followed in it.
 use Rattle.std.specs.Prelude.{ℕ, List, map, take, Option}
+use Rattle.std.specs.Option.{option_or}
 use Rattle.rail_base.specs.declared.history.TrainHistory.{TrainHistory}
 use Rattle.rail_base.specs.declared.route.Route.{Route}
 use Rattle.rail_base.specs.declared.state.TrainState.{TrainState}
@@ -40,9 +41,9 @@ module _ (r : Traffic) where
   abbrev pub track_given : TrainPath → ℕ → List SpanSeen
   track_given c granted = stretches r.interlocking.now.design.station (first_routes c granted)
 
-  -- how far they let a train go
-  abbrev pub authority_given : TrainPath → ℕ → Option ℕ
-  authority_given c granted = track_end (first_routes c granted)
+  -- how far a train may go: to the place at which it has still to stand, or else as far as they let it
+  abbrev pub authority_given : TrainPath → ℕ → Option ℕ → Option ℕ
+  authority_given c granted place = option_or place (track_end (first_routes c granted))
 
 module _ (r : Traffic) (dispatch : Dispatch) where
   -- the followed train is that of its train
@@ -75,18 +76,19 @@ module _ (r : Traffic) (dispatch : Dispatch) where
   abbrev pub drift_in : FollowedTrain → ℕ → ℕ → TrainState → TrainState
   drift_in f = drift r.interlocking.now.design.station r.interlocking.now.routes dispatch (followed_train_no f)
 
-  -- from one place to the other the train comes to no node and to no place at which it releases a section
-  abbrev pub ComesNowhereIn : FollowedTrain → ℕ → ℕ → Type 0
+  -- from one state to the other the train comes to no node, to no place at which it releases a section and to no end of
+  -- a stand
+  abbrev pub ComesNowhereIn : FollowedTrain → TrainState → TrainState → Type 0
   ComesNowhereIn f =
       ComesNowhere r.interlocking.now.design.station r.interlocking.now.routes dispatch (followed_train_no f)
 
-  -- so it is where the train moves for some ticks
+  -- so it is where the train moves or stands for some ticks
   abbrev pub IsClearFor : FollowedTrain → TrainState → ℕ → Type 0
-  IsClearFor f s ticks = ComesNowhereIn f s.x (going_in f s.granted ticks s).x
+  IsClearFor f s ticks = ComesNowhereIn f s (going_in f s.granted ticks s)
 
   -- and where it goes on for some ticks from a tick on, in which it is granted nothing
   abbrev pub IsIdleFor : FollowedTrain → ℕ → TrainState → ℕ → Type 0
-  IsIdleFor f tick s ticks = ComesNowhereIn f s.x (drift_in f tick ticks s).x
+  IsIdleFor f tick s ticks = ComesNowhereIn f s (drift_in f tick ticks s)
 
   -- what has happened to a train by a tick
   abbrev pub train_history_in : ℕ → FollowedTrain → TrainHistory

@@ -6,8 +6,8 @@ ghost use Rattle.dispatch_run.specs.FollowedTrains.{IsTraffic};
 ghost use Rattle.dispatch_run.specs.InTraffic.{IsFollowedTrainIn, history_in, state_in, states_in, train_history_in};
 
 use crate::marks::{
-    mark_grants, mark_passes, mark_releases, mark_visits, none_granted, none_passed, none_released,
-    none_visited,
+    mark_dwells, mark_grants, mark_passes, mark_releases, mark_visits, none_granted, none_passed,
+    none_released, none_stood, none_visited,
 };
 use crate::traffic::{FollowedTrain, Traffic};
 use rail_base::history::TrainHistory;
@@ -66,6 +66,7 @@ impl Traffic<'_> {
             passes,
             releases,
             visits,
+            dwells,
         } = old;
         let grants = mark_grants(alloc, state.granted, tick, grants.into_vec())?;
         let mut passes = passes.into_vec();
@@ -91,11 +92,19 @@ impl Traffic<'_> {
             train_path.visits.as_slice(),
             visits.as_slice(),
         )?;
+        let dwells = mark_dwells(
+            alloc,
+            state.stood,
+            tick,
+            train_path.dwells.as_slice(),
+            dwells.as_slice(),
+        )?;
         Ok(TrainHistory {
             grants: List::from_vec(grants),
             passes: List::from_vec(passes),
             releases: List::from_vec(releases),
             visits: List::from_vec(visits),
+            dwells: List::from_vec(dwells),
         })
     }
 
@@ -115,11 +124,13 @@ impl Traffic<'_> {
         let passes = none_passed(alloc, train_path.path_nodes.as_slice())?;
         let releases = none_released(alloc, journey.releases.as_slice())?;
         let visits = none_visited(alloc, train_path.visits.as_slice())?;
+        let dwells = none_stood(alloc, train_path.dwells.as_slice())?;
         Ok(TrainHistory {
             grants: List::from_vec(grants),
             passes: List::from_vec(passes),
             releases: List::from_vec(releases),
             visits: List::from_vec(visits),
+            dwells: List::from_vec(dwells),
         })
     }
 }
@@ -131,5 +142,6 @@ pub(crate) fn empty_history(alloc: Global) -> TrainHistory {
         passes: List::new(alloc),
         releases: List::new(alloc),
         visits: List::new(alloc),
+        dwells: List::new(alloc),
     }
 }

@@ -1,5 +1,5 @@
 -- What the entries of a sheet say at a key.
-use Rattle.std.specs.Prelude.{ℕ, ℤ, pos, ◌-◌, List, [], slice_get}
+use Rattle.std.specs.Prelude.{ℕ, ℤ, pos, ◌-◌, List, [], Option, None, slice_get}
 use Rattle.std.specs.Option.{option_map_or}
 use Rattle.design_table.specs.declared.key.Key.{Key}
 use Rattle.design_table.specs.declared.key.Key.TheVariants as keys
@@ -105,6 +105,10 @@ top_number s _ = pos 0
 -- the visits of the train of this number
 abbrev pub visits_at : ParsedSheet → ℕ → List (List (List ℕ))
 visits_at s i = of_entry (λ (t : ParsedTrain). t.visits) [] s.trains i
+
+-- how long it stands at them, where that is said
+abbrev pub dwells_at : ParsedSheet → ℕ → Option (List ℤ)
+dwells_at s i = of_entry (λ (t : ParsedTrain). t.dwell_ms) None s.trains i
 
 -- the side for which the signal of this number stands
 abbrev pub toward_at : ParsedSheet → ℕ → Side

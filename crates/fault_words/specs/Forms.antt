@@ -42,6 +42,7 @@ field_form keys.FromVisit = codes "a whole number"
 field_form keys.ToVisit = codes "a whole number"
 field_form keys.MaxMs = codes "a whole number"
 field_form keys.Visits = codes "an array of arrays of names of nodes"
+field_form keys.DwellMs = codes "an array of whole numbers"
 field_form _ = codes "a text of 1 to 32 letters, digits, _ or -"
 
 -- `the key tick_ms is missing`, or `tick_ms is to be a whole number`

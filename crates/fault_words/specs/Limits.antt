@@ -1,8 +1,8 @@
 -- What is allowed of numbers and counts, and what is not.
-use Rattle.std.specs.Prelude.{ℕ, ℤ, ◌+◌, Bool, true, false, not, if◌then◌else◌, List, [], ◌++◌, length, slice_get}
-use Rattle.std.specs.Prelude.{codes, decimal}
+use Rattle.std.specs.Prelude.{ℕ, ℤ, pos, ◌+◌, Bool, true, false, not, ◌&&◌, ◌==◌, int_le, if◌then◌else◌, List, [], ◌++◌}
+use Rattle.std.specs.Prelude.{length, slice_get, unwrap_or, Option, Some, None, codes, decimal}
 use Rattle.std.specs.Fmt.{signed_decimal}
-use Rattle.std.specs.List.{position_or_len}
+use Rattle.std.specs.List.{find, position_or_len}
 use Rattle.std.specs.Option.{option_map_or}
 use Rattle.design_table.specs.declared.key.Key.{Key}
 use Rattle.design_table.specs.declared.key.Key.TheVariants as keys
@@ -10,7 +10,7 @@ use Rattle.design_table.specs.declared.place.EntryKind.{EntryKind}
 use Rattle.design_table.specs.declared.place.EntryKind.TheVariants as kinds
 use Rattle.design_table.specs.Parsed.{ParsedSheet}
 use Rattle.rail_base.specs.Admission.{is_from}
-use Rattle.fault_words.specs.Entries.{number_at, visits_at}
+use Rattle.fault_words.specs.Entries.{dwells_at, number_at, visits_at}
 use Rattle.fault_words.specs.Words.{allowed_words, is_words, kind_text}
 
 -- ---- numbers
@@ -92,11 +92,42 @@ visits_words visits =
     if is_from 1 16 (length visits) then visit_words visits (first_crowded visits)
     else codes "there are " ++ decimal (length visits) ++ codes " visits" ++ allowed_words 1 16
 
+-- ---- how long a train stands at its visits
+
+-- `dwell_ms has length 2, and is to have length 3, as visits has`
+abbrev pub lengths_words : ℕ → ℕ → List ℕ
+lengths_words dwells visits =
+    codes "dwell_ms has length " ++ decimal dwells ++ codes ", and is to have length " ++ decimal visits
+    ++ codes ", as visits has"
+
+-- `dwell_ms has 3600001, and 0 to 3600000 are allowed`
+abbrev pub long_words : ℤ → List ℕ
+long_words ms = codes "dwell_ms has " ++ signed_decimal ms ++ allowed_words 0 3600000
+
+-- `dwell_ms begins with 5, and is to begin with 0`
+abbrev pub begin_words : ℤ → List ℕ
+begin_words ms = codes "dwell_ms begins with " ++ signed_decimal ms ++ codes ", and is to begin with 0"
+
+-- a time to stand is allowed
+abbrev pub is_dwell : ℤ → Bool
+is_dwell ms = int_le (pos 0) ms && int_le ms (pos 3600000)
+
+-- the first that is not, or what they begin with
+abbrev pub times_words : List ℤ → List ℕ
+times_words dwells =
+    option_map_or long_words (find (λ ms. not (is_dwell ms)) dwells) (begin_words (unwrap_or (slice_get dwells 0) (pos 0)))
+
+abbrev pub dwells_words : List (List (List ℕ)) → Option (List ℤ) → List ℕ
+dwells_words visits None = []
+dwells_words visits (Some dwells) =
+    if length dwells == length visits then times_words dwells
+    else lengths_words (length dwells) (length visits)
+
 -- ---- at a place
 
 -- a number at the top, or how many entries there are
 abbrev pub top_words : ParsedSheet → Key → List ℕ
-top_words s keys.Version = number_words keys.Version s.version 1 2
+top_words s keys.Version = number_words keys.Version s.version 1 3
 top_words s keys.TickMs = number_words keys.TickMs s.tick_ms 100 1000
 top_words s keys.HorizonMs = horizon_words s
 top_words s keys.Node = count_words s kinds.Node
@@ -113,8 +144,14 @@ abbrev pub is_visits : Key → Bool
 is_visits keys.Visits = true
 is_visits _ = false
 
--- the visits of an entry, or a number
+-- that of times to stand
+abbrev pub is_dwells : Key → Bool
+is_dwells keys.DwellMs = true
+is_dwells _ = false
+
+-- the visits of an entry, its times to stand, or a number
 abbrev pub field_words : ParsedSheet → EntryKind → ℕ → Key → List ℕ
 field_words s kind i key =
     if is_visits key then visits_words (visits_at s i)
+    else if is_dwells key then dwells_words (visits_at s i) (dwells_at s i)
     else number_words key (number_at s kind i key) (least_of key) (greatest_of kind key)

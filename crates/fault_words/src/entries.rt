@@ -2,8 +2,8 @@
 
 ghost use Rattle.std.specs.Prelude.{◌≡◌, ◌-◌, option_map, slice_get};
 ghost use Rattle.std.specs.Option.{option_copied};
-ghost use Rattle.design_table.specs.Views.{node_seen, edge_seen, signal_seen, vehicle_seen, train_seen, order_seen};
-ghost use Rattle.design_table.specs.Views.{within_seen, sheet_seen};
+ghost use Rattle.design_table.specs.Parsed.{node_seen, edge_seen, signal_seen, vehicle_seen, train_seen, order_seen};
+ghost use Rattle.design_table.specs.Parsed.{within_seen, sheet_seen};
 ghost use Rattle.fault_words.specs.Entries.{node_text, edge_text, signal_text, vehicle_text, train_text, order_text};
 ghost use Rattle.fault_words.specs.Entries.{within_text, text_at, edge_number, vehicle_number, order_number};
 ghost use Rattle.fault_words.specs.Entries.{within_number, number_at, top_number, toward_at};

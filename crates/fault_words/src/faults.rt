@@ -3,7 +3,7 @@
 
 ghost use Rattle.std.specs.Prelude.{◌≡◌, IfOk, OnOk};
 ghost use Rattle.design_table.specs.Texts.{texts, visits_seen};
-ghost use Rattle.design_table.specs.Views.{sheet_seen};
+ghost use Rattle.design_table.specs.Parsed.{sheet_seen};
 ghost use Rattle.rail_text.specs.Added.{AddsText};
 ghost use Rattle.fault_words.specs.Entries.{visits_at};
 ghost use Rattle.fault_words.specs.Faults.{boundary_words, circle_words, count_visits, crowded_words, edges_of};

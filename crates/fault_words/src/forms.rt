@@ -94,6 +94,7 @@ fn field_form(key: Key) -> &'static str
         | Key::ToVisit
         | Key::MaxMs => "a whole number",
         Key::Visits => "an array of arrays of names of nodes",
+        Key::DwellMs => "an array of whole numbers",
         _ => "a text of 1 to 32 letters, digits, _ or -",
     }
 }

@@ -1,19 +1,21 @@
 //! What is allowed of numbers and counts, and what is not. An error is want of memory; then a part of what is appended
 //! may stand there.
 
-ghost use Rattle.std.specs.Prelude.{◌≡◌, ◌≤◌, OnOk, length};
+ghost use Rattle.std.specs.Prelude.{◌≡◌, ◌≤◌, ◌==◌, OnOk, length, not, if◌then◌else◌};
+ghost use Rattle.std.specs.List.{find};
 ghost use Rattle.design_table.specs.Texts.{visits_seen};
-ghost use Rattle.design_table.specs.Views.{sheet_seen};
+ghost use Rattle.design_table.specs.Parsed.{sheet_seen, train_seen};
 ghost use Rattle.rail_base.specs.Admission.{is_from};
 ghost use Rattle.rail_text.specs.Added.{AddsText};
-ghost use Rattle.fault_words.specs.Entries.{visits_at};
+ghost use Rattle.fault_words.specs.Entries.{dwells_at, visits_at};
 ghost use Rattle.fault_words.specs.Limits.{count_of, count_words, fewest_of, field_words, first_crowded, greatest_of};
 ghost use Rattle.fault_words.specs.Limits.{horizon_words, least_of, most_of, nodes_at, number_words, top_words};
-ghost use Rattle.fault_words.specs.Limits.{is_visits, ticks_words, visit_words, visits_words};
+ghost use Rattle.fault_words.specs.Limits.{begin_words, dwells_words, is_dwell, is_dwells, is_visits, lengths_words};
+ghost use Rattle.fault_words.specs.Limits.{long_words, ticks_words, times_words, visit_words, visits_words};
 
 use crate::entries::{entry, number_at};
 use crate::words::{put_allowed, put_is, put_kind, put_text, put_whole};
-use design_table::{EntryKind, Key, Sheet};
+use design_table::{EntryKind, Key, Sheet, TrainEntry};
 use rail_text::put_number;
 use std::alloc::AllocError;
 
@@ -184,7 +186,7 @@ pub(crate) fn put_top(text: &mut Vec<u8>, sheet: &Sheet, key: Key) -> Result<(),
     ensures { OnOk result (AddsText text.old text.new (top_words (sheet_seen sheet.now) key)) }
 {
     match key {
-        Key::Version => put_number_words(text, key, sheet.version, 1, 2),
+        Key::Version => put_number_words(text, key, sheet.version, 1, 3),
         Key::TickMs => put_number_words(text, key, sheet.tick_ms, 100, 1000),
         Key::HorizonMs => put_horizon(text, sheet),
         Key::Node => put_count(text, sheet, EntryKind::Node),
@@ -209,6 +211,97 @@ fn put_visits_at(text: &mut Vec<u8>, sheet: &Sheet, number: u64) -> Result<(), A
     }
 }
 
+/// Appends how many times to stand there are, and how many visits.
+fn put_lengths(text: &mut Vec<u8>, dwells: usize, visits: usize) -> Result<(), AllocError>
+    ensures { OnOk result (AddsText text.old text.new (lengths_words dwells visits)) }
+{
+    put_text(text, "dwell_ms has length ")?;
+    put_number(text, dwells as u64)?;
+    put_text(text, ", and is to have length ")?;
+    put_number(text, visits as u64)?;
+    put_text(text, ", as visits has")?;
+    Ok(())
+}
+
+/// Appends a time to stand that is out of range, and which ones are allowed.
+fn put_long(text: &mut Vec<u8>, dwell_ms: i64) -> Result<(), AllocError>
+    ensures { OnOk result (AddsText text.old text.new (long_words dwell_ms)) }
+{
+    put_text(text, "dwell_ms has ")?;
+    put_whole(text, dwell_ms)?;
+    put_allowed(text, 0, 3_600_000)?;
+    Ok(())
+}
+
+/// Appends the first time to stand, which is to be 0.
+fn put_begin(text: &mut Vec<u8>, dwell_ms: i64) -> Result<(), AllocError>
+    ensures { OnOk result (AddsText text.old text.new (begin_words dwell_ms)) }
+{
+    put_text(text, "dwell_ms begins with ")?;
+    put_whole(text, dwell_ms)?;
+    put_text(text, ", and is to begin with 0")?;
+    Ok(())
+}
+
+/// Whether a time to stand is allowed.
+fn is_dwell(dwell_ms: i64) -> bool
+    ensures { result ≡ is_dwell dwell_ms }
+{
+    0 <= dwell_ms && dwell_ms <= 3_600_000
+}
+
+/// The first time to stand that is not allowed.
+fn first_long(dwells: &[i64]) -> Option<i64>
+    ensures { result ≡ find (λ ms. not (is_dwell ms)) dwells.now }
+{
+    dwells.iter().copied().find(|dwell_ms| !is_dwell(*dwell_ms))
+}
+
+/// Appends the first time to stand that is out of range, or what they begin with, and what is allowed.
+fn put_times(text: &mut Vec<u8>, dwells: &[i64]) -> Result<(), AllocError>
+    ensures { OnOk result (AddsText text.old text.new (times_words dwells.now)) }
+{
+    match first_long(dwells) {
+        Some(dwell_ms) => put_long(text, dwell_ms),
+        None => put_begin(text, dwells.first().copied().unwrap_or(0)),
+    }
+}
+
+/// Appends what is wrong with a train's times to stand, and what is allowed.
+fn put_dwells(text: &mut Vec<u8>, train: &TrainEntry) -> Result<(), AllocError>
+    ensures { let parsed = train_seen train.now in
+        OnOk result (AddsText text.old text.new (dwells_words parsed.visits parsed.dwell_ms)) }
+{
+    match &train.dwell_ms {
+        Some(dwells) => put_dwell_list(text, train.visits.len(), dwells.as_slice()),
+        None => Ok(()),
+    }
+}
+
+/// Appends the same of the times of so many visits.
+fn put_dwell_list(text: &mut Vec<u8>, visits: usize, dwells: &[i64]) -> Result<(), AllocError>
+    ensures { OnOk result (AddsText text.old text.new
+        (if length dwells.now == visits then times_words dwells.now else lengths_words (length dwells.now) visits)) }
+{
+    if dwells.len() == visits {
+        put_times(text, dwells)
+    } else {
+        put_lengths(text, dwells.len(), visits)
+    }
+}
+
+/// Appends what is wrong with the times to stand of the train of a number, and what is allowed.
+#[tactic(auto, using(crate::proofs::Seen::seen_at))]
+fn put_dwells_at(text: &mut Vec<u8>, sheet: &Sheet, number: u64) -> Result<(), AllocError>
+    ensures { let seen = sheet_seen sheet.now in
+        OnOk result (AddsText text.old text.new (dwells_words (visits_at seen number) (dwells_at seen number))) }
+{
+    match entry(sheet.trains.as_slice(), number) {
+        Some(train) => put_dwells(text, train),
+        None => Ok(()),
+    }
+}
+
 /// Whether the key is that of visits.
 fn is_visits(key: Key) -> bool
     ensures { result ≡ is_visits key }
@@ -216,7 +309,14 @@ fn is_visits(key: Key) -> bool
     matches!(key, Key::Visits)
 }
 
-/// Appends the visits of an entry, or a number, and what is allowed.
+/// Whether it is that of times to stand.
+fn is_dwells(key: Key) -> bool
+    ensures { result ≡ is_dwells key }
+{
+    matches!(key, Key::DwellMs)
+}
+
+/// Appends the visits of an entry, its times to stand, or a number, and what is allowed.
 pub(crate) fn put_field(
     text: &mut Vec<u8>,
     sheet: &Sheet,
@@ -228,6 +328,8 @@ pub(crate) fn put_field(
 {
     if is_visits(key) {
         put_visits_at(text, sheet, number)
+    } else if is_dwells(key) {
+        put_dwells_at(text, sheet, number)
     } else {
         let found = number_at(sheet, kind, number, key);
         put_number_words(text, key, found, least_of(key), greatest_of(kind, key))

@@ -3,7 +3,7 @@
 ghost use Rattle.std.specs.Prelude.{◌≡◌, map, option_map, IfOk};
 ghost use Rattle.std.specs.List.{find};
 ghost use Rattle.design_table.specs.Texts.{texts, visits_seen};
-ghost use Rattle.design_table.specs.Views.{sheet_seen};
+ghost use Rattle.design_table.specs.Parsed.{sheet_seen};
 ghost use Rattle.infra_reader.specs.Names.{is_among, node_names, number_in};
 ghost use Rattle.fault_words.specs.Names.{first_number, first_place, is_unknown, names_of, unknown_in_visits};
 ghost use Rattle.fault_words.specs.Names.{unknown_name};

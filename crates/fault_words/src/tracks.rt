@@ -2,7 +2,7 @@
 
 ghost use Rattle.std.specs.Prelude.{◌≡◌, ◌++◌, ◌&&◌, ◌∷◌, [], bytes_eq, if◌then◌else◌, length, IfOk, OnOk};
 ghost use Rattle.design_table.specs.Texts.{texts};
-ghost use Rattle.design_table.specs.Views.{edge_seen, sheet_seen, signal_seen};
+ghost use Rattle.design_table.specs.Parsed.{edge_seen, sheet_seen, signal_seen};
 ghost use Rattle.fault_words.specs.Tracks.{edges_at, ends_at, inner_node, is_boundary, is_side, name_at, signal_beside};
 ghost use Rattle.fault_words.specs.Tracks.{visits_of};
 

@@ -9,7 +9,7 @@ use Rattle.rail_base.specs.Numbering.{greatest}
 use Rattle.rail_spec.specs.Track.{routes_of}
 use Rattle.rail_spec.specs.Plans.{path_routes, is_well_formed}
 use Rattle.rail_spec.specs.Motion.{permitted, next_speed, reach}
-use Rattle.rail_spec.specs.Dispatches.{state_of, rates, stretches, of_plan, granted_after, moved, track_end}
+use Rattle.rail_spec.specs.Dispatches.{state_of, rates, stretches, of_plan, granted_after, moved, with_granted, authority}
 use Rattle.rail_spec.specs.Dispatches.{state_at}
 use Rattle.rail_laws.proofs.Exclusion.{by_tick}
 
@@ -47,7 +47,8 @@ module _ (d : Station) (adm : IsAdmitted d) (n : ℕ) (plan : List (List Command
       one old zero = inr (refl, refl)
       one old (suc g) =
           let given = take (suc g) (path_routes (routes_of d) plan t) in
-          let u : next_speed (rates d t) (stretches d given) (track_end given) old.x old.v ≤ reach (rates d t) old.v = greatest_within (permitted (rates d t) (stretches d given) (track_end given) old.x old.v) (reach (rates d t) old.v) in
+          let end = authority d (routes_of d) (of_plan (routes_of d) plan) t (with_granted (suc g) old) in
+          let u : next_speed (rates d t) (stretches d given) end old.x old.v ≤ reach (rates d t) old.v = greatest_within (permitted (rates d t) (stretches d given) end old.x old.v) (reach (rates d t) old.v) in
           inl (refl, omega arith)
 
   -- ---- so many ticks after one at a place, with a speed

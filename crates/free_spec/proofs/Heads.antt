@@ -15,7 +15,7 @@ use Rattle.rail_spec.specs.Track.{edge_ends, routes_of}
 use Rattle.rail_spec.specs.Plans.{path_routes, length_mm, exits, is_well_formed}
 use Rattle.rail_spec.specs.Motion.{may_stop}
 use Rattle.rail_spec.specs.Dispatches.{state_of, stretch, stretches, of_plan, granted_after, state_at}
-use Rattle.rail_laws.proofs.UnderWay.{IsSound, edge_ends-append, authority_some, next_grants, travels, within_authority, further}
+use Rattle.rail_laws.proofs.UnderWay.{IsSound, edge_ends-append, authority_some, next_grants, travels, within_track, further}
 use Rattle.rail_laws.proofs.Admits.{sound}
 use Rattle.rail_laws.proofs.Running.{run_up_to, granted_at_most}
 
@@ -66,7 +66,7 @@ module _ (d : Station) (adm : IsAdmitted d) (n : ℕ) (plan : List (List Command
       on : (b : Bool) → list_any exits (given t (at k t).granted) ≡ b → 1 ≤ (at k t).granted → (at k t).x ≤ sum_by length_mm (take (j - 1) (routes_of_train t))
       on true e some = let all = is_sound.exit_last t (at k t).granted named e in absurd (omega arith)
       on false e some =
-          let near = leb-true _ _ (subst (λ end. may_stop end (at k t).x ≡ true) (authority_some (given t (at k t).granted) e) (within_authority d (routes_of d) plan is_sound k t some)) in
+          let near = leb-true _ _ (subst (λ end. may_stop end (at k t).x ≡ true) (authority_some (given t (at k t).granted) e) (within_track d (routes_of d) plan is_sound k t some)) in
           let more = sum_prefix length_mm (at k t).granted (j - 1) (routes_of_train t) (omega arith) in
           omega arith
 

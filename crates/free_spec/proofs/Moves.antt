@@ -14,12 +14,14 @@ use Rattle.rail_base.specs.Stations.{length_of, IsTrain}
 use Rattle.rail_spec.specs.Track.{edge_ends, routes_of}
 use Rattle.rail_spec.specs.Plans.{path_routes, length_mm, exits, is_well_formed}
 use Rattle.rail_spec.specs.Motion.{MotorSeen, SpanSeen, limit_at, KeepsLimits, keeps_limits, may_stop, can_brake, permitted, next_speed}
-use Rattle.rail_spec.specs.Dispatches.{state_of, rates, stretch, stretches, of_plan, granted_after, moved, track_end}
+use Rattle.rail_spec.specs.Dispatches.{state_of, rates, stretch, stretches, of_plan, granted_after, moved, track_end, with_granted, authority}
 use Rattle.rail_spec.specs.Dispatches.{state_at}
 use Rattle.rail_base.proofs.Members.{and_right, and_both}
 use Rattle.rail_laws.proofs.MotionLaws.{farthest, keeps_limits_from, can_brake-stop, can_brake_keeps, can_brake_slower, permitted_reach, permitted_brakes, permitted_further, next_speed_permitted}
 use Rattle.rail_laws.proofs.Exclusion.{by_tick}
 use Rattle.rail_laws.proofs.UnderWay.{IsSound, Travels, authority_some, still, next_grants, travels, authority_farther}
+use Rattle.rail_laws.proofs.Ahead.{permitted_as_far}
+use Rattle.rail_laws.proofs.Authority.{authority_on_track}
 use Rattle.rail_laws.proofs.Admits.{sound}
 use Rattle.rail_laws.proofs.Running.{idle_at_first}
 use Rattle.std.proofs.lemmas.List.{take-append-le}
@@ -190,9 +192,11 @@ module _ (d : Station) (adm : IsAdmitted d) (n : ℕ) (plan : List (List Command
       one named old zero h e = inl (refl, refl)
       one named old (suc g) h e =
           let now = still d (routes_of d) plan is_sound t named old g h e in
-          let u = next_speed (rates d t) (stretches d (given t (suc g))) (track_end (given t (suc g))) old.x old.v in
-          let may = next_speed_permitted (rates d t) (stretches d (given t (suc g))) (track_end (given t (suc g))) old.x old.v _ now in
-          inr (record { move = refl; may = on_path t named (suc g) old.x old.v u may; slows = (adm.vehicle _ (adm.train t named).vehicle).slows; gains = (adm.vehicle _ (adm.train t named).vehicle).gains })
+          let end = authority d (routes_of d) (of_plan (routes_of d) plan) t (with_granted (suc g) old) in
+          let u = next_speed (rates d t) (stretches d (given t (suc g))) end old.x old.v in
+          let may = next_speed_permitted (rates d t) (stretches d (given t (suc g))) end old.x old.v _ now in
+          let on_track = permitted_as_far (rates d t) (stretches d (given t (suc g))) end (track_end (given t (suc g))) old.x old.v u (authority_on_track d (routes_of d) (of_plan (routes_of d) plan) is_sound t (with_granted (suc g) old)) may in
+          inr (record { move = refl; may = on_path t named (suc g) old.x old.v u on_track; slows = (adm.vehicle _ (adm.train t named).vehicle).slows; gains = (adm.vehicle _ (adm.train t named).vehicle).gains })
 
   -- ---- the distance since a place
 

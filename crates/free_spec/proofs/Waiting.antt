@@ -12,12 +12,14 @@ use Rattle.rail_base.specs.Stations.{IsTrain}
 use Rattle.rail_spec.specs.Track.{routes_of}
 use Rattle.rail_spec.specs.Plans.{path, path_routes, length_mm, exits, is_well_formed}
 use Rattle.rail_spec.specs.Motion.{SpanSeen, keeps_limits, may_stop, can_brake, braking_distance}
-use Rattle.rail_spec.specs.Dispatches.{state_of, rates, stretches, of_plan, state_at, track_end}
+use Rattle.rail_spec.specs.Dispatches.{state_of, rates, stretches, of_plan, state_at, track_end, authority}
 use Rattle.rail_base.proofs.Members.{and_right}
 use Rattle.rail_base.proofs.Lists.{length-map}
 use Rattle.rail_spec.specs.Plans.{route_at}
 use Rattle.rail_laws.proofs.MotionLaws.{permitted_brakes}
 use Rattle.rail_laws.proofs.UnderWay.{IsSound, authority_some, travels}
+use Rattle.rail_laws.proofs.Ahead.{permitted_as_far}
+use Rattle.rail_laws.proofs.Authority.{authority_on_track}
 use Rattle.rail_laws.proofs.Admits.{sound}
 use Rattle.free_spec.proofs.Heads.{sum_prefix, not_past}
 use Rattle.free_spec.proofs.Gains.{gained_by}
@@ -98,7 +100,9 @@ module _ (d : Station) (adm : IsAdmitted d) (n : ℕ) (plan : List (List Command
           let x = (at k t).x in
           let w = v - b in
           let distance = braking_distance w b w in
-          let brakes = permitted_brakes (rates d t) (stretches d (given t (at k t).granted)) (track_end (given t (at k t).granted)) x v w ((travels d (routes_of d) plan is_sound k t).braking some) in
+          let end = authority d (routes_of d) (of_plan (routes_of d) plan) t (at k t) in
+          let on_track = permitted_as_far (rates d t) (stretches d (given t (at k t).granted)) end (track_end (given t (at k t).granted)) x v w (authority_on_track d (routes_of d) (of_plan (routes_of d) plan) is_sound t (at k t)) ((travels d (routes_of d) plan is_sound k t).braking some) in
+          let brakes = permitted_brakes (rates d t) (stretches d (given t (at k t).granted)) (track_end (given t (at k t).granted)) x v w on_track in
           let stop = stops_there w b (rates d t).tail (stretches d (given t (at k t).granted)) (track_end (given t (at k t).granted)) x w brakes in
           let near : x + w + distance ≤ sum_by length_mm (given t (at k t).granted) = leb-true _ _ (subst (λ end. may_stop end (x + w + distance) ≡ true) (authority_some (given t (at k t).granted) e) stop) in
           let more = sum_prefix length_mm (at k t).granted (j - 1) (path_routes (routes_of d) plan t) (omega arith) in

@@ -1,5 +1,6 @@
 -- A sheet that no code refuses gives an admitted station.
-use Rattle.std.proofs.Common.{◌≡◌, ℕ, zero, suc, ◌+◌, ◌-◌, ◌≤◌, Bool, true, false, not, ◌&&◌, ◌||◌, ◌==◌, nat_le, List, [], ◌∷◌, ◌++◌, length, take, get_or, map, bytes_eq, refl, sym, ap, ap₂, subst, ◌∙◌, arith}
+use Rattle.std.proofs.Common.{◌≡◌, ℕ, zero, suc, ◌+◌, ◌-◌, ◌≤◌, inl, inr, Bool, true, false, not, ◌&&◌, ◌||◌, ◌==◌, nat_le, ℤ, pos, List, [], ◌∷◌, ◌++◌, length, take, get_or, map, bytes_eq, refl, sym, ap, ap₂, subst, ◌∙◌, arith}
+use Rattle.std.specs.Prelude.{int_le, is_none}
 use Rattle.std.specs.List.{list_any, list_all}
 use Rattle.design_table.specs.declared.key.Key.TheVariants as keys
 use Rattle.design_table.specs.declared.place.EntryKind.{EntryKind}
@@ -19,22 +20,23 @@ use Rattle.rail_base.specs.declared.station.Side.TheVariants.{A, B}
 use Rattle.rail_base.specs.declared.station.NodeNo.{NodeNo}
 use Rattle.rail_base.specs.Numbering.{one_to}
 use Rattle.rail_base.specs.Members.{In, all_pairs}
-use Rattle.rail_base.specs.Stations.{node_of, horizon, per_tick_speed, per_tick_accel}
-use Rattle.rail_base.specs.Admission.{is_from, is_name, are_names, is_node, is_vehicle, is_visit, is_good_node, is_good_edge, are_numbered, is_good_signal, are_apart, is_good_vehicle, is_good_set, is_good_train, is_good_order, is_good_within, are_few, is_timed, are_named, is_sound_track, is_sound_traffic, is_admitted}
+use Rattle.rail_base.specs.Stations.{node_of, horizon, per_tick_speed, per_tick_accel, longest_dwell}
+use Rattle.rail_base.specs.Admission.{is_from, is_name, are_names, is_node, is_vehicle, is_visit, is_good_node, is_good_edge, are_numbered, is_good_signal, are_apart, is_good_vehicle, is_good_set, are_good_dwells, is_good_train, is_good_order, is_good_within, are_few, is_timed, are_named, is_sound_track, is_sound_traffic, is_admitted}
 use Rattle.rail_base.proofs.Members.{and_both, and_left, and_right, list_all_at}
 use Rattle.rail_base.proofs.Lists.{list_all_from, in_map, in_map_back, in_count_back, length-map}
 use Rattle.infra_reader.specs.Names.{Names, names_of, is_among, number_in, node_names, edge_names, section_names, signal_names, vehicle_names, repeated, repeated_names, each_once}
 use Rattle.infra_reader.specs.Unknown.{unless_among, edge_unknown, signal_unknown, train_unknown, track_unknown, traffic_unknown, order_unknown, within_unknown, unknown_names}
-use Rattle.infra_reader.specs.Limits.{unless_from, count_outside, array_outside, edge_outside, vehicle_outside, train_outside, within_outside, are_few_visits, is_horizon, times_outside, track_outside, traffic_outside, out_of_range}
+use Rattle.infra_reader.specs.Limits.{unless_from, count_outside, array_outside, edge_limits, vehicle_limits, within_limits, edge_outside, vehicle_outside, train_outside, within_outside, are_few_visits, are_good_dwells as are_dwells, is_horizon, times_outside, track_outside, traffic_outside, out_of_range}
 use Rattle.infra_reader.specs.Stations.{nodes_in, node_in, edge_in, signal_in, vehicle_in, train_in, order_in, within_in, station_of}
 use Rattle.infra_reader.specs.Track.{ends_at, is_crowded, is_loop, is_open, is_beside, is_misplaced, crowded, open_boundaries, misplaced_signals}
 use Rattle.infra_reader.specs.Traffic.{if_zero, vehicle_zeros, zeros, can_enter, inner_starts, unless_visit, order_missing, within_missing, missing_visits}
-use Rattle.infra_reader.specs.Spelling.{HasNames}
+use Rattle.infra_reader.specs.Spelling.{IsSpelled}
 use Rattle.infra_reader.proofs.AllOf.{passes}
 use Rattle.infra_reader.proofs.Apart.{all_apart, any_turned, names_apart}
 use Rattle.infra_reader.proofs.EndCounts.{leave_count, good_counts}
 use Rattle.infra_reader.proofs.Placeless.{no_left, no_right, none_in, none_at, unbroken}
-use Rattle.infra_reader.proofs.Ranges.{ranged, few, array_count, array_each, known, there, moves, horizon_in}
+use Rattle.infra_reader.proofs.Ranges.{in_range, ranged, kept_number, few, array_count, array_each, known, there, moves, horizon_in}
+use Rattle.infra_reader.proofs.Dwells.{are_stays, good_stays}
 use Rattle.infra_reader.proofs.Sections.{numbered, added_among, added_apart, added_all}
 
 -- ---- tests joined
@@ -54,6 +56,14 @@ and_seven a b c d e f g p q r t u v w = and_three (a && b && c && d && e) f g (a
 or_left_false : (a b : Bool) → (a || b) ≡ false → a ≡ false
 or_left_false false b h = refl
 or_left_false true b h = absurd (cc)
+
+or_false : (a : Bool) → (a || false) ≡ true → a ≡ true
+or_false true h = refl
+or_false false h = h
+
+version_most : (z : ℤ) (place : Place) → unless_from 1 3 z place ≡ [] → int_le z (pos 3) ≡ true
+unfolding unless_from
+version_most z place h = and_right (int_le (pos 1) z) (int_le z (pos 3)) (passes (int_le (pos 1) z && int_le z (pos 3)) place h)
 
 or_right_false : (a b : Bool) → (a || b) ≡ false → b ≡ false
 or_right_false false b h = h
@@ -79,7 +89,7 @@ named_entries name make parsed xs kind same p q = subst (λ names. are_names nam
     go [] = refl
     go (x ∷ xs) = ap₂ (λ n ns. n ∷ ns) (same x) (go xs)
 
-module _ (s : ParsedSheet) (named : HasNames s) (d03 : repeated_names s ≡ []) (d04 : unknown_names s ≡ []) (d05 : out_of_range s ≡ []) where
+module _ (s : ParsedSheet) (named : IsSpelled s) (d03 : repeated_names s ≡ []) (d04 : unknown_names s ≡ []) (d05 : out_of_range s ≡ []) where
   abbrev d : Station
   d = station_of s
 
@@ -252,14 +262,14 @@ module _ (s : ParsedSheet) (named : HasNames s) (d03 : repeated_names s ≡ []) 
     all_timed : is_timed d ≡ true
     unfolding times_outside
     all_timed =
-        let version = unless_from 1 2 s.version (Top keys.Version) in
+        let version = unless_from 1 3 s.version (Top keys.Version) in
         let tick = unless_from 100 1000 s.tick_ms (Top keys.TickMs) in
         let late = at (not (is_horizon s.horizon_ms s.tick_ms)) (Top keys.HorizonMs) in
         let v = no_left version (tick ++ late) outside_times in
         let t = no_left tick late (no_right version (tick ++ late) outside_times) in
         let l = no_right tick late (no_right version (tick ++ late) outside_times) in
-        and_three (is_from 1 2 d.version) (is_from 100 1000 d.tick_ms) (is_from 1 86400 (horizon d))
-        (ranged 1 2 s.version (Top keys.Version) (omega arith) v)
+        and_three (is_from 1 3 d.version) (is_from 100 1000 d.tick_ms) (is_from 1 86400 (horizon d))
+        (ranged 1 3 s.version (Top keys.Version) (omega arith) v)
         (ranged 100 1000 s.tick_ms (Top keys.TickMs) (omega arith) t)
         (horizon_in s.horizon_ms s.tick_ms (Top keys.HorizonMs) (Top keys.TickMs) (Top keys.HorizonMs) t l one_tick)
 
@@ -273,14 +283,12 @@ module _ (s : ParsedSheet) (named : HasNames s) (d03 : repeated_names s ≡ []) 
         let still = none_in (λ i (e : Edge). if_zero (per_tick_speed d e.speed_mm_s) (Field kinds.Edge i keys.SpeedMmS)) 1 d.edges e no_edge_still (in_map (edge_in names) s.edges x m) in
         let from = unless_among names.nodes x.from (Field kinds.Edge unknown.0 keys.From) in
         let to = unless_among names.nodes x.to (Field kinds.Edge unknown.0 keys.To) in
-        let long = unless_from 1 10000000 x.length_mm (Field kinds.Edge outside.0 keys.LengthMm) in
-        let fast = unless_from 1 100000 x.speed_mm_s (Field kinds.Edge outside.0 keys.SpeedMmS) in
         and_seven (is_node d e.from.node) (is_node d e.to.node) (not (e.from.node.0 == e.to.node.0)) (is_from 1 10000000 e.length_mm) (is_from 1 100000 e.speed_mm_s) (nat_le 1 (per_tick_speed d e.speed_mm_s)) (is_from 1 (length d.sections) e.section.0)
         (node_there x.from (Field kinds.Edge unknown.0 keys.From) (no_left from to unknown.1))
         (node_there x.to (Field kinds.Edge unknown.0 keys.To) (no_right from to unknown.1))
         (ap not (no_loop e (in_map (edge_in names) s.edges x m)))
-        (ranged 1 10000000 x.length_mm (Field kinds.Edge outside.0 keys.LengthMm) (omega arith) (no_left long fast outside.1))
-        (ranged 1 100000 x.speed_mm_s (Field kinds.Edge outside.0 keys.SpeedMmS) (omega arith) (no_right long fast outside.1))
+        (kept_number kinds.Edge outside.0 (edge_limits x) keys.LengthMm 1 10000000 x.length_mm (omega arith) (inl refl) outside.1)
+        (kept_number kinds.Edge outside.0 (edge_limits x) keys.SpeedMmS 1 100000 x.speed_mm_s (omega arith) (inr (inl refl)) outside.1)
         (moves (per_tick_speed d e.speed_mm_s) (Field kinds.Edge still.0 keys.SpeedMmS) still.1)
         (known names.sections x.section (length d.sections) refl (added_among [] (section_names s) x.section (in_map (λ (e : ParsedEdge). e.section) s.edges x m)))
 
@@ -336,23 +344,16 @@ module _ (s : ParsedSheet) (named : HasNames s) (d03 : repeated_names s ≡ []) 
         let v = vehicle_in names x in
         let outside = none_in vehicle_outside 1 s.vehicles x (array_each vehicle_outside 0 64 keys.Vehicle s.vehicles few_vehicles) m in
         let still = none_in (vehicle_zeros d) 1 d.vehicles v no_vehicle_still (in_map (vehicle_in names) s.vehicles x m) in
-        let place = Field kinds.Vehicle outside.0 in
-        let long = unless_from 1 2000000 x.length_mm (place keys.LengthMm) in
-        let quick = unless_from 1 100000 x.accel_mm_s2 (place keys.AccelMmS2) in
-        let slow = unless_from 1 100000 x.brake_mm_s2 (place keys.BrakeMmS2) in
-        let fast = unless_from 1 100000 x.speed_mm_s (place keys.SpeedMmS) in
         let spot = Field kinds.Vehicle still.0 in
         let no_accel = if_zero (per_tick_accel d v.accel_mm_s2) (spot keys.AccelMmS2) in
         let no_brake = if_zero (per_tick_accel d v.brake_mm_s2) (spot keys.BrakeMmS2) in
         let no_speed = if_zero (per_tick_speed d v.speed_mm_s) (spot keys.SpeedMmS) in
-        let o1 = no_right long (quick ++ (slow ++ fast)) outside.1 in
-        let o2 = no_right quick (slow ++ fast) o1 in
         let z1 = no_right no_accel (no_brake ++ no_speed) still.1 in
         and_seven (is_from 1 2000000 v.length_mm) (is_from 1 100000 v.accel_mm_s2) (is_from 1 100000 v.brake_mm_s2) (is_from 1 100000 v.speed_mm_s) (nat_le 1 (per_tick_accel d v.accel_mm_s2)) (nat_le 1 (per_tick_accel d v.brake_mm_s2)) (nat_le 1 (per_tick_speed d v.speed_mm_s))
-        (ranged 1 2000000 x.length_mm (place keys.LengthMm) (omega arith) (no_left long (quick ++ (slow ++ fast)) outside.1))
-        (ranged 1 100000 x.accel_mm_s2 (place keys.AccelMmS2) (omega arith) (no_left quick (slow ++ fast) o1))
-        (ranged 1 100000 x.brake_mm_s2 (place keys.BrakeMmS2) (omega arith) (no_left slow fast o2))
-        (ranged 1 100000 x.speed_mm_s (place keys.SpeedMmS) (omega arith) (no_right slow fast o2))
+        (kept_number kinds.Vehicle outside.0 (vehicle_limits x) keys.LengthMm 1 2000000 x.length_mm (omega arith) (inl refl) outside.1)
+        (kept_number kinds.Vehicle outside.0 (vehicle_limits x) keys.AccelMmS2 1 100000 x.accel_mm_s2 (omega arith) (inr (inl refl)) outside.1)
+        (kept_number kinds.Vehicle outside.0 (vehicle_limits x) keys.BrakeMmS2 1 100000 x.brake_mm_s2 (omega arith) (inr (inr (inl refl))) outside.1)
+        (kept_number kinds.Vehicle outside.0 (vehicle_limits x) keys.SpeedMmS 1 100000 x.speed_mm_s (omega arith) (inr (inr (inr (inl refl)))) outside.1)
         (moves (per_tick_accel d v.accel_mm_s2) (spot keys.AccelMmS2) (no_left no_accel (no_brake ++ no_speed) still.1))
         (moves (per_tick_accel d v.brake_mm_s2) (spot keys.BrakeMmS2) (no_left no_brake no_speed z1))
         (moves (per_tick_speed d v.speed_mm_s) (spot keys.SpeedMmS) (no_right no_brake no_speed z1))
@@ -368,6 +369,17 @@ module _ (s : ParsedSheet) (named : HasNames s) (d03 : repeated_names s ≡ []) 
         number : List ℕ → NodeNo
         number name = record { 0 = number_in names.nodes name }
 
+    -- the version is 3 where it is said how long a train stands
+    an_hour : (said : Bool) → (int_le (pos 3) s.version || said) ≡ true → said ≡ false → 3600000 ≤ longest_dwell d
+    unfolding times_outside
+    an_hour true spelled h = absurd (cc)
+    an_hour false spelled h =
+        let version = unless_from 1 3 s.version (Top keys.Version) in
+        let low = or_false (int_le (pos 3) s.version) spelled in
+        let high = version_most s.version (Top keys.Version) (no_left version _ outside_times) in
+        let third = and_left (nat_le 3 d.version) (nat_le d.version 3) (in_range 3 3 s.version (omega arith) (and_both (int_le (pos 3) s.version) (int_le s.version (pos 3)) low high)) in
+        rw third (omega arith)
+
     good_train : (x : ParsedTrain) → In x s.trains → is_good_train d (train_in names x) ≡ true
     unfolding inner_starts
     good_train x m =
@@ -379,13 +391,18 @@ module _ (s : ParsedSheet) (named : HasNames s) (d03 : repeated_names s ≡ []) 
         let lost = unless_among names.vehicles x.vehicle (place keys.Vehicle) in
         let strange = at (not (list_all (list_all (is_among names.nodes)) x.visits)) (place keys.Visits) in
         let all_there = passes (list_all (list_all (is_among names.nodes)) x.visits) (place keys.Visits) (no_right lost strange unknown.1) in
-        let counts = passes (are_few_visits x.visits) (Field kinds.Train outside.0 keys.Visits) outside.1 in
+        let crowd = at (not (are_few_visits x.visits)) (Field kinds.Train outside.0 keys.Visits) in
+        let stays = at (not (are_dwells x.visits x.dwell_ms)) (Field kinds.Train outside.0 keys.DwellMs) in
+        let counts = passes (are_few_visits x.visits) (Field kinds.Train outside.0 keys.Visits) (no_left crowd stays outside.1) in
+        let stood = passes (are_dwells x.visits x.dwell_ms) (Field kinds.Train outside.0 keys.DwellMs) (no_right crowd stays outside.1) in
+        let spelled = list_all_at (λ (t : ParsedTrain). int_le (pos 3) s.version || is_none t.dwell_ms) s.trains x named.dwells m in
         let sets = and_right (is_from 1 16 (length x.visits)) (list_all (λ visit. is_from 1 64 (length visit)) x.visits) counts in
-        and_four (is_vehicle d t.vehicle) (is_from 1 16 (length t.visits)) (list_all (is_good_set d) t.visits) (can_enter d t)
+        and_five (is_vehicle d t.vehicle) (is_from 1 16 (length t.visits)) (list_all (is_good_set d) t.visits) (can_enter d t) (are_good_dwells d t)
         (known names.vehicles x.vehicle (length d.vehicles) (length-map (vehicle_in names) s.vehicles ∙ sym (length-map (λ (v : ParsedVehicle). v.name) s.vehicles)) (there names.vehicles x.vehicle (place keys.Vehicle) (no_left lost strange unknown.1)))
         (subst (λ n. is_from 1 16 n ≡ true) (sym (length-map (nodes_in names.nodes) x.visits)) (and_left (is_from 1 16 (length x.visits)) (list_all (λ visit. is_from 1 64 (length visit)) x.visits) counts))
         (list_all_from (is_good_set d) t.visits (λ set k. let y = in_map_back (nodes_in names.nodes) x.visits set k in subst (λ set. is_good_set d set ≡ true) y.2 (good_set y.0 (list_all_at (λ visit. is_from 1 64 (length visit)) x.visits y.0 sets y.1) (list_all_at (list_all (is_among names.nodes)) x.visits y.0 all_there y.1))))
         (passes (can_enter d t) (Field kinds.Train inner.0 keys.Visits) inner.1)
+        (subst (λ n. are_stays (longest_dwell d) n t.dwell_ms ≡ true) (sym (length-map (nodes_in names.nodes) x.visits)) (good_stays (longest_dwell d) x.visits x.dwell_ms (an_hour (is_none x.dwell_ms) spelled) stood))
 
     -- ---- orders and withins
 
@@ -424,7 +441,7 @@ module _ (s : ParsedSheet) (named : HasNames s) (d03 : repeated_names s ≡ []) 
         and_three (is_visit d w.from_train w.from_visit) (is_visit d w.to_train w.to_visit) (nat_le w.max_ms 86400000)
         (passes (is_visit d w.from_train w.from_visit) (Field kinds.Within lost.0 keys.FromVisit) (no_left from to lost.1))
         (passes (is_visit d w.to_train w.to_visit) (Field kinds.Within lost.0 keys.ToVisit) (no_right from to lost.1))
-        (and_right (nat_le 0 w.max_ms) (nat_le w.max_ms 86400000) (ranged 0 86400000 x.max_ms (Field kinds.Within outside.0 keys.MaxMs) (omega arith) outside.1))
+        (and_right (nat_le 0 w.max_ms) (nat_le w.max_ms 86400000) (kept_number kinds.Within outside.0 (within_limits x) keys.MaxMs 0 86400000 x.max_ms (omega arith) (inl refl) outside.1))
 
     traffic_sound : is_sound_traffic d ≡ true
     traffic_sound =

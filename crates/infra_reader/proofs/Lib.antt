@@ -10,6 +10,7 @@ pub mod Apart
 mod Sections
 pub mod EndCounts
 mod Ranges
+mod Dwells
 mod Admitted
 mod Phases
 pub mod Spelling

@@ -13,6 +13,12 @@ pub no_right : (xs ys : List Place) → xs ++ ys ≡ [] → ys ≡ []
 no_right [] ys h = h
 no_right (x ∷ xs) ys h = absurd (cc)
 
+-- a member has none
+pub none_of : {X : Type 0} (places : X → List Place) (xs : List X) (x : X) → flat_map places xs ≡ [] → In x xs → places x ≡ []
+none_of places [] x h m = absurd m
+none_of places (y ∷ ys) x h (inl e) = subst (λ z. places z ≡ []) e (no_left (places y) (flat_map places ys) h)
+none_of places (y ∷ ys) x h (inr m) = none_of places ys x (no_right (places y) (flat_map places ys) h) m
+
 -- an entry has none
 pub none_in : {X : Type 0} (places : ℕ → X → List Place) (i : ℕ) (xs : List X) (x : X) → flat_map (λ e. places e.0 e.1) (enumerate_from i xs) ≡ [] → In x xs → (n : ℕ) × (places n x ≡ [])
 none_in places i [] x h m = absurd m

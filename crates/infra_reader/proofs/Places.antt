@@ -4,7 +4,7 @@ use Rattle.design_table.specs.declared.place.Place.{Place}
 use Rattle.design_table.specs.declared.fault.Code.{Code}
 use Rattle.design_table.specs.declared.fault.DesignFault.{DesignFault}
 use Rattle.design_table.specs.Reads.{first, Fails, ReadsOrRefuses}
-use Rattle.design_table.proofs.Walks.{first_here, first_later, none_in_both, fails_here}
+use Rattle.design_table.proofs.Walks.{first_here, first_later, none_in_both, fails_here, reads_later}
 
 -- more parts at once, so that a search need not go deep
 pub first_past_two : (xs ys rest : List Place) (p : Place) → xs ≡ [] → ys ≡ [] → first rest ≡ Some p → first (xs ++ (ys ++ rest)) ≡ Some p
@@ -22,9 +22,6 @@ pub ruleset walk = (first_here, first_past_two, first_past_three, first_later, n
 
 pub fails_later : (e : DesignFault) (code : Code) (xs ys : List Place) → xs ≡ [] → Fails e code ys → Fails e code (xs ++ ys)
 fails_later e code xs ys n h = rw n h
-
-pub reads_later : {X Y : Type 0} (view : X → Y) (r : Result X DesignFault) (code : Code) (xs ys : List Place) (y : Y) → xs ≡ [] → ReadsOrRefuses view r code ys y → ReadsOrRefuses view r code (xs ++ ys) y
-reads_later view r code xs ys y n h = rw n h
 
 pub reads_failed : {X Y : Type 0} (view : X → Y) (r : Result X DesignFault) (e : DesignFault) (code : Code) (xs : List Place) (y : Y) → r ≡ Err e → Fails e code xs → ReadsOrRefuses view r code xs y
 reads_failed view r e code xs y is h = rw is h

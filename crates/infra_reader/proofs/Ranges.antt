@@ -1,21 +1,26 @@
 -- Numbers that are in range, as the station has them.
-use Rattle.std.proofs.Common.{◌≡◌, ℕ, ◌*◌, ◌/◌, ◌<◌, ◌≤◌, ℤ, pos, negsuc, true, not, ◌&&◌, ◌==◌, nat_le, nat_lt, List, [], length, map, refl, sym, subst, ◌∙◌, arith, leb-true}
+use Rattle.std.proofs.Common.{◌≡◌, ℕ, ◌*◌, ◌/◌, ◌<◌, ◌≤◌, ℤ, pos, negsuc, true, not, ◌&&◌, ◌==◌, nat_le, nat_lt, List, [], ◌∷◌, ◌++◌, length, map, flat_map, refl, sym, ap, subst, ◌∙◌, arith, leb-true}
+use Rattle.std.specs.Prelude.{int_le}
 use Rattle.std.proofs.Math.Nat.{mul-le-mul}
 use Rattle.rail_base.specs.Admission.{is_from}
+use Rattle.rail_base.specs.Members.{In}
 use Rattle.rail_base.proofs.Members.{and_both, and_left, and_right}
 use Rattle.rail_base.proofs.Lists.{length-map}
 use Rattle.design_table.specs.declared.key.Key.{Key}
+use Rattle.design_table.specs.declared.place.EntryKind.{EntryKind}
 use Rattle.design_table.specs.declared.place.Place.{Place}
-use Rattle.design_table.specs.declared.place.Place.TheVariants.{Top}
+use Rattle.design_table.specs.declared.place.Place.TheVariants.{Top, Field}
 use Rattle.design_table.specs.Reads.{at, in_each}
 use Rattle.infra_reader.specs.Names.{is_among, number_in}
 use Rattle.infra_reader.specs.Unknown.{unless_among}
-use Rattle.infra_reader.specs.Limits.{unless_from, count_outside, array_outside, is_horizon}
+use Rattle.infra_reader.specs.declared.limits.Limit.{Limit as CodeLimit}
+use Rattle.infra_reader.specs.Limits.{Limit, limit, is_kept, limits_outside, unless_from, count_outside, array_outside, is_horizon}
+use Rattle.infra_reader.specs.Seen.{limit_seen}
 use Rattle.infra_reader.specs.Stations.{number_32}
 use Rattle.infra_reader.specs.Traffic.{if_zero}
 use Rattle.infra_reader.proofs.AllOf.{passes}
 use Rattle.infra_reader.proofs.Numbers.{found_before}
-use Rattle.infra_reader.proofs.Placeless.{no_left, no_right, unbroken}
+use Rattle.infra_reader.proofs.Placeless.{no_left, no_right, none_of, unbroken}
 
 small : (n high : ℕ) → nat_le n high ≡ true → high < 4294967296 → nat_lt n 4294967296 ≡ true
 small n high h l = grind arith
@@ -23,13 +28,33 @@ small n high h l = grind arith
 kept : (n : ℕ) → nat_lt n 4294967296 ≡ true → number_32 (pos n) ≡ n
 kept n h = rw h refl
 
+pub in_range : (low high : ℕ) (z : ℤ) → high < 4294967296 → (int_le (pos low) z && int_le z (pos high)) ≡ true → is_from low high (number_32 z) ≡ true
+in_range low high (pos n) fits h =
+    let e = kept n (small n high (and_right (nat_le low n) (nat_le n high) h) fits) in
+    subst (λ m. is_from low high m ≡ true) (sym e) h
+in_range low high (negsuc n) fits h = absurd (cc)
+
 pub ranged : (low high : ℕ) (z : ℤ) (place : Place) → high < 4294967296 → unless_from low high z place ≡ [] → is_from low high (number_32 z) ≡ true
 unfolding unless_from
-ranged low high (pos n) place fits h =
-    let t = passes (nat_le low n && nat_le n high) place h in
-    let e = kept n (small n high (and_right (nat_le low n) (nat_le n high) t) fits) in
-    subst (λ m. is_from low high m ≡ true) (sym e) t
-ranged low high (negsuc n) place fits h = absurd (cc)
+ranged low high z place fits h = in_range low high z fits (passes (int_le (pos low) z && int_le z (pos high)) place h)
+
+-- ---- keys of entries
+
+pub limits_seen : (kind : EntryKind) (i : ℕ) (limits : List CodeLimit) → limits_outside kind i (map limit_seen limits) ≡ flat_map (λ l. at (not (is_kept (limit_seen l))) (Field kind i l.key)) limits
+limits_seen kind i [] = refl
+limits_seen kind i (l ∷ limits) = ap (λ places. at (not (is_kept (limit_seen l))) (Field kind i l.key) ++ places) (limits_seen kind i limits)
+
+-- the one number at a key is allowed, where no key is refused
+pub one_kept : (kind : EntryKind) (i : ℕ) (limits : List Limit) (key : Key) (low high : ℕ) (z : ℤ) (place : Place) → In (limit key low high (z ∷ [])) limits → limits_outside kind i limits ≡ [] → unless_from low high z place ≡ []
+unfolding unless_from
+one_kept kind i limits key low high z place m h =
+    let l = limit key low high (z ∷ []) in
+    let fits = int_le (pos low) z && int_le z (pos high) in
+    let all = passes (is_kept l) (Field kind i key) (none_of (λ (l : Limit). at (not (is_kept l)) (Field kind i l.key)) limits l h m) in
+    rw (and_left fits true all) refl
+
+pub kept_number : (kind : EntryKind) (i : ℕ) (limits : List Limit) (key : Key) (low high : ℕ) (z : ℤ) → high < 4294967296 → In (limit key low high (z ∷ [])) limits → limits_outside kind i limits ≡ [] → is_from low high (number_32 z) ≡ true
+kept_number kind i limits key low high z fits m h = ranged low high z (Field kind i key) fits (one_kept kind i limits key low high z (Field kind i key) m h)
 
 -- an array of so many entries
 pub few : {X Y : Type 0} (f : X → Y) (least most : ℕ) (key : Key) (xs : List X) → count_outside least most key xs ≡ [] → is_from least most (length (map f xs)) ≡ true

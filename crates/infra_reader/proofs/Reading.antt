@@ -17,9 +17,9 @@ use Rattle.infra_reader.specs.Limits.{out_of_range}
 use Rattle.infra_reader.specs.Stations.{station_of}
 use Rattle.infra_reader.specs.Track.{crowded, open_boundaries, misplaced_signals}
 use Rattle.infra_reader.specs.Traffic.{zeros, inner_starts, missing_visits}
-use Rattle.infra_reader.specs.Spelling.{HasNames}
+use Rattle.infra_reader.specs.Spelling.{IsSpelled}
 use Rattle.infra_reader.specs.Design.{resolved, parsed_by}
-use Rattle.infra_reader.proofs.Spelling.{has_names}
+use Rattle.infra_reader.proofs.Spelling.{is_spelled}
 use Rattle.infra_reader.proofs.Admitted as reader
 use Rattle.infra_reader.specs.Laws.{ParsedAreAdmitted}
 
@@ -28,7 +28,7 @@ passes_on : (code : Code) (places : List Place) (next : Result Station (Code × 
 passes_on code [] next d e = (refl, e)
 passes_on code (p ∷ ps) next d e = absurd (cc)
 
-from_sheet : (s : ParsedSheet) (d : Station) → HasNames s → resolved s ≡ Ok d → is_admitted d ≡ true
+from_sheet : (s : ParsedSheet) (d : Station) → IsSpelled s → resolved s ≡ Ok d → is_admitted d ≡ true
 from_sheet s d named e =
     let h3 = passes_on D03 (repeated_names s) _ d e in
     let h4 = passes_on D04 (unknown_names s) _ d h3.1 in
@@ -47,7 +47,7 @@ from_document : (document : Option Members) (d : Station) → parsed_by document
 from_document None d e = absurd (cc)
 from_document (Some ms) d e =
     let h2 = passes_on D02 (form_fault ms) (resolved (sheet_of ms)) d e in
-    from_sheet (sheet_of ms) d (has_names ms h2.0) h2.1
+    from_sheet (sheet_of ms) d (is_spelled ms h2.0) h2.1
 
 pub spelled_admitted : ParsedAreAdmitted
 spelled_admitted bytes d e = admitted d (from_document (toml_of bytes) d e)

@@ -20,7 +20,7 @@ use Rattle.infra_reader.specs.Stations.{station_in, station_of}
 use Rattle.infra_reader.specs.Track.{crowded, open_boundaries, misplaced_signals}
 use Rattle.infra_reader.specs.Traffic.{zeros, inner_starts, missing_visits}
 use Rattle.infra_reader.specs.Keeping.{KeepsRules}
-use Rattle.infra_reader.specs.Spelling.{HasNames}
+use Rattle.infra_reader.specs.Spelling.{IsSpelled}
 use Rattle.infra_reader.specs.Design.{ruled, resolved, parsed_by, design_of}
 use Rattle.infra_reader.proofs.Phases.{unless_later, refuses_now, refuses_later}
 use Rattle.infra_reader.proofs.Admitted.{admitted}
@@ -96,7 +96,7 @@ module _ (s : ParsedSheet) (d03 : repeated_names s ≡ []) where
       pub resolved_to : KeepsRules d → resolved s ≡ Ok d
       resolved_to k = on_station ∙ rules_kept d k
 
-      pub is_own_admitted : HasNames s → KeepsRules d → is_admitted d ≡ true
+      pub is_own_admitted : IsSpelled s → KeepsRules d → is_admitted d ≡ true
       is_own_admitted named k =
           let k : KeepsRules (station_of s) = subst KeepsRules own k in
           subst (λ d. is_admitted d ≡ true) (sym own) (admitted s named d03 d04 d05 k.crowds k.ends k.signals k.moves k.starts k.visits)

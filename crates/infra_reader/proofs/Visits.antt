@@ -1,5 +1,5 @@
 -- Visits as they are seen, and how many entries there are.
-use Rattle.std.proofs.Common.{◌≡◌, ℕ, List, [], ◌∷◌, ◌&&◌, length, map, Bor, refl, ap₂}
+use Rattle.std.proofs.Common.{◌≡◌, ℕ, List, [], ◌∷◌, ◌&&◌, length, map, replicate, Bor, refl, ap, ap₂}
 use Rattle.std.proofs.lemmas.List.{length-map}
 use Rattle.std.specs.List.{list_all}
 use Rattle.std.specs.Global.{Vec}
@@ -18,3 +18,8 @@ few_visits visits = ap₂ (λ n b. is_from 1 16 n && b) (length-map visits (λ v
 pub count_seen : {X Y : Type 0} (seen : X → Y) (least most : ℕ) (key : Key) (xs : List X) → count_outside least most key (map seen xs) ≡ count_outside least most key xs
 unfolding count_outside
 count_seen seen least most key xs = rw length-map refl
+
+-- a 0 for each
+pub zeros_seen : (visits : List (Vec (Bor (List ℕ)))) → replicate {A = ℕ} (length visits) 0 ≡ map (λ visit. 0) (visits_seen visits)
+zeros_seen [] = refl
+zeros_seen (v ∷ vs) = ap (λ ns. 0 ∷ ns) (zeros_seen vs)

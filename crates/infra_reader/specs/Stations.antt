@@ -1,5 +1,5 @@
 -- The station in a sheet: names become numbers.
-use Rattle.std.specs.Prelude.{ℕ, ℤ, pos, negsuc, List, map, nat_lt, if◌then◌else◌}
+use Rattle.std.specs.Prelude.{ℕ, ℤ, pos, negsuc, List, map, Option, Some, None, nat_lt, if◌then◌else◌}
 use Rattle.design_table.specs.declared.sheet.Side.TheVariants as parsed
 use Rattle.design_table.specs.declared.sheet.Side as table
 use Rattle.design_table.specs.Parsed.{ParsedNode, ParsedEdge, ParsedSignal, ParsedVehicle, ParsedTrain}
@@ -65,11 +65,17 @@ vehicle_in names v = record {
 abbrev pub nodes_in : List (List ℕ) → List (List ℕ) → List NodeNo
 nodes_in names visit = map (λ node. record { 0 = number_in names node }) visit
 
+-- how long a train stands at each visit in ms: what is said, or else 0 at each
+abbrev pub dwells_in : {V : Type 0} → List V → Option (List ℤ) → List ℕ
+dwells_in visits None = map (λ visit. 0) visits
+dwells_in visits (Some dwells) = map number_32 dwells
+
 abbrev pub train_in : Names → ParsedTrain → Train
 train_in names t = record {
   name = t.name;
   vehicle = record { 0 = number_in names.vehicles t.vehicle };
   visits = map (nodes_in names.nodes) t.visits;
+  dwell_ms = dwells_in t.visits t.dwell_ms;
 }
 
 abbrev pub order_in : Names → ParsedOrder → Order

@@ -2,11 +2,11 @@
 
 ghost use Rattle.std.specs.Prelude.{◌≡◌, OnOk, IfErr};
 ghost use Rattle.design_table.specs.Reads.{GivesOrRefuses, Refuses};
-ghost use Rattle.design_table.specs.Views.{sheet_seen};
+ghost use Rattle.design_table.specs.Parsed.{sheet_seen};
 ghost use Rattle.rail_base.specs.declared.design.Design.{Design};
 ghost use Rattle.infra_reader.specs.Design.{ruled, resolved, design_of};
 ghost use Rattle.infra_reader.specs.Keeping.{KeepsRules};
-ghost use Rattle.infra_reader.specs.Spelling.{HasNames};
+ghost use Rattle.infra_reader.specs.Spelling.{IsSpelled};
 
 use crate::limits::refuse_outside;
 use crate::names::read_names;
@@ -49,7 +49,7 @@ fn refuse_broken(station: &Station) -> Result<(), DesignFault>
 
 /// The design that is parsed from a sheet of names.
 fn admit(alloc: Global, sheet: &Sheet) -> Result<Design, DesignFault>
-    requires { HasNames (sheet_seen sheet.now) }
+    requires { IsSpelled (sheet_seen sheet.now) }
     ensures { GivesOrRefuses (λ d. d.station) result (resolved (sheet_seen sheet.now)) }
 {
     let names = read_names(alloc, sheet)?;

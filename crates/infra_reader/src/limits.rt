@@ -1,14 +1,19 @@
 //! Numbers and counts that are out of range: D05.
 
-ghost use Rattle.std.specs.Prelude.{◌≡◌, ◌≤◌, ◌<◌, ◌&&◌, ◌/◌, pos, nat_abs, nat_le, int_le, not, length, map, IfOk};
-ghost use Rattle.std.specs.List.{list_all};
+ghost use Rattle.std.specs.Prelude.{◌≡◌, ◌≤◌, ◌<◌, ◌&&◌, ◌==◌, ◌/◌, pos, nat_abs, nat_le, int_le, not, length, map};
+ghost use Rattle.std.specs.Prelude.{IfOk};
+ghost use Rattle.std.specs.Ordering.{int_eq};
+ghost use Rattle.std.specs.List.{find, list_all};
 ghost use Rattle.design_table.specs.Reads.{ReadsOrRefuses, at};
 ghost use Rattle.design_table.specs.Parsed.{ParsedEdge, ParsedVehicle, ParsedTrain, ParsedWithin};
-ghost use Rattle.design_table.specs.Views.{edge_seen, vehicle_seen, train_seen, within_seen, sheet_seen};
+ghost use Rattle.design_table.specs.Parsed.{edge_seen, vehicle_seen, train_seen, within_seen, sheet_seen};
 ghost use Rattle.rail_base.specs.Admission.{is_from};
+ghost use Rattle.rail_base.specs.Numbering.{entry};
 ghost use Rattle.infra_reader.specs.Limits.{unless_from, edge_outside, vehicle_outside, train_outside, within_outside};
 ghost use Rattle.infra_reader.specs.Limits.{are_few_visits, is_horizon, times_outside, track_outside, traffic_outside};
-ghost use Rattle.infra_reader.specs.Limits.{out_of_range, count_outside, array_outside};
+ghost use Rattle.infra_reader.specs.Limits.{out_of_range, count_outside, array_outside, limit, is_kept, limits_outside};
+ghost use Rattle.infra_reader.specs.Limits.{are_good_dwells};
+ghost use Rattle.infra_reader.specs.Seen.{limit_seen};
 ghost use Rattle.design_table.specs.Texts.{visits_seen};
 
 use crate::walk::{Limited, refuse_array, refuse_count};
@@ -41,7 +46,59 @@ fn refuse_unless(is_good: bool, place: Place) -> Result<(), DesignFault>
     }
 }
 
-#[tactic(auto, using(crate::proofs::Places::walk))]
+/// A key of an entry, the least and the greatest number that are allowed there, and the numbers that stand there.
+#[derive(Clone, Copy)]
+struct Limit<'a> {
+    key: Key,
+    least: u32,
+    greatest: u32,
+    numbers: &'a [i64],
+}
+
+impl<'a> Limit<'a> {
+    /// Whether all its numbers are allowed.
+    fn is_kept(self) -> bool
+        ensures { result ≡ is_kept (limit_seen self.entry) }
+    {
+        self.numbers.iter().all(|number| {
+            i64::from(self.least) <= *number && *number <= i64::from(self.greatest)
+        })
+    }
+}
+
+/// The first whose numbers are not allowed.
+fn first_broken<'a>(limits: &[Limit<'a>]) -> Option<Limit<'a>>
+    ensures { result ≡ find (λ l. not (is_kept (limit_seen l))) limits.now }
+{
+    limits.iter().copied().find(|limit| !limit.is_kept())
+}
+
+/// Refuses the first key of an entry whose numbers are not allowed.
+fn refuse_limits(kind: EntryKind, number: u64, limits: &[Limit]) -> Result<(), DesignFault>
+    ensures { ReadsOrRefuses (λ x. x) result Code.D05
+        (limits_outside kind number (map limit_seen limits.now)) tt }
+{
+    match first_broken(limits) {
+        Some(limit) => Err(DesignFault::Refused {
+            code: Code::D05,
+            place: Place::Field(kind, number, limit.key),
+        }),
+        None => Ok(()),
+    }
+}
+
+/// A row of the numbers of an entry.
+macro_rules! row {
+    ($key:ident, $least:literal, $greatest:literal, $numbers:expr) => {
+        Limit {
+            key: Key::$key,
+            least: $least,
+            greatest: $greatest,
+            numbers: $numbers,
+        }
+    };
+}
+
 impl<'a> Limited for EdgeEntry<'a> {
     ghost Parsed = { ParsedEdge };
 
@@ -50,23 +107,14 @@ impl<'a> Limited for EdgeEntry<'a> {
     ghost outside = { λ i e. edge_outside i e };
 
     fn refuse_outside(&self, number: u64) -> Result<(), DesignFault> {
-        let kind = EntryKind::Edge;
-        refuse_unless_from(
-            1,
-            10_000_000,
-            self.length_mm,
-            Place::Field(kind, number, Key::LengthMm),
-        )?;
-        refuse_unless_from(
-            1,
-            100_000,
-            self.speed_mm_s,
-            Place::Field(kind, number, Key::SpeedMmS),
-        )
+        let limits = [
+            row!(LengthMm, 1, 10_000_000, &[self.length_mm]),
+            row!(SpeedMmS, 1, 100_000, &[self.speed_mm_s]),
+        ];
+        refuse_limits(EntryKind::Edge, number, &limits)
     }
 }
 
-#[tactic(auto, using(crate::proofs::Places::walk))]
 impl<'a> Limited for VehicleEntry<'a> {
     ghost Parsed = { ParsedVehicle };
 
@@ -75,31 +123,13 @@ impl<'a> Limited for VehicleEntry<'a> {
     ghost outside = { λ i v. vehicle_outside i v };
 
     fn refuse_outside(&self, number: u64) -> Result<(), DesignFault> {
-        let kind = EntryKind::Vehicle;
-        refuse_unless_from(
-            1,
-            2_000_000,
-            self.length_mm,
-            Place::Field(kind, number, Key::LengthMm),
-        )?;
-        refuse_unless_from(
-            1,
-            100_000,
-            self.accel_mm_s2,
-            Place::Field(kind, number, Key::AccelMmS2),
-        )?;
-        refuse_unless_from(
-            1,
-            100_000,
-            self.brake_mm_s2,
-            Place::Field(kind, number, Key::BrakeMmS2),
-        )?;
-        refuse_unless_from(
-            1,
-            100_000,
-            self.speed_mm_s,
-            Place::Field(kind, number, Key::SpeedMmS),
-        )
+        let limits = [
+            row!(LengthMm, 1, 2_000_000, &[self.length_mm]),
+            row!(AccelMmS2, 1, 100_000, &[self.accel_mm_s2]),
+            row!(BrakeMmS2, 1, 100_000, &[self.brake_mm_s2]),
+            row!(SpeedMmS, 1, 100_000, &[self.speed_mm_s]),
+        ];
+        refuse_limits(EntryKind::Vehicle, number, &limits)
     }
 }
 
@@ -134,12 +164,13 @@ impl<'a> Limited for TrainEntry<'a> {
     ghost outside = { λ i t. train_outside i t };
 
     fn refuse_outside(&self, number: u64) -> Result<(), DesignFault> {
-        let place = Place::Field(EntryKind::Train, number, Key::Visits);
-        refuse_unless(are_few_visits(self.visits.as_slice()), place)
+        let visits_place = Place::Field(EntryKind::Train, number, Key::Visits);
+        let dwells_place = Place::Field(EntryKind::Train, number, Key::DwellMs);
+        refuse_unless(are_few_visits(self.visits.as_slice()), visits_place)?;
+        refuse_unless(has_good_dwells(self), dwells_place)
     }
 }
 
-#[tactic(auto, using(crate::proofs::Places::walk))]
 impl<'a> Limited for WithinEntry<'a> {
     ghost Parsed = { ParsedWithin };
 
@@ -148,8 +179,8 @@ impl<'a> Limited for WithinEntry<'a> {
     ghost outside = { λ i w. within_outside i w };
 
     fn refuse_outside(&self, number: u64) -> Result<(), DesignFault> {
-        let place = Place::Field(EntryKind::Within, number, Key::MaxMs);
-        refuse_unless_from(0, 86_400_000, self.max_ms, place)
+        let limits = [row!(MaxMs, 0, 86_400_000, &[self.max_ms])];
+        refuse_limits(EntryKind::Within, number, &limits)
     }
 }
 
@@ -159,6 +190,26 @@ fn are_few_visits(visits: &[Vec<&str>]) -> bool
     ensures { result ≡ are_few_visits (visits_seen visits.now) }
 {
     is_count(1, 16, visits.len()) && are_few_nodes(visits)
+}
+
+/// Whether there are numbers in range for so many visits, and 0 for the first.
+fn are_good_dwells(visits: usize, dwells: &[i64]) -> bool
+    ensures { result ≡ ((length dwells.now == visits) && is_kept (limit Key.DwellMs 0 3600000 dwells.now)
+        && int_eq (entry (pos 0) dwells.now 1) (pos 0)) }
+{
+    dwells.len() == visits
+        && row!(DwellMs, 0, 3_600_000, dwells).is_kept()
+        && dwells.first().copied().unwrap_or(0) == 0
+}
+
+/// Whether a train stands long enough and not too long at each visit, where it is said how long.
+fn has_good_dwells(train: &TrainEntry) -> bool
+    ensures { let parsed = train_seen train.now in result ≡ are_good_dwells parsed.visits parsed.dwell_ms }
+{
+    match &train.dwell_ms {
+        Some(dwells) => are_good_dwells(train.visits.len(), dwells.as_slice()),
+        None => true,
+    }
 }
 
 /// How many ticks a horizon gives; 0 where a tick has no length.
@@ -186,7 +237,7 @@ fn is_horizon(horizon_ms: i64, tick_ms: i64) -> bool
 fn refuse_times(sheet: &Sheet) -> Result<(), DesignFault>
     ensures { ReadsOrRefuses (λ x. x) result Code.D05 (times_outside (sheet_seen sheet.now)) tt }
 {
-    refuse_unless_from(1, 2, sheet.version, Place::Top(Key::Version))?;
+    refuse_unless_from(1, 3, sheet.version, Place::Top(Key::Version))?;
     refuse_unless_from(100, 1000, sheet.tick_ms, Place::Top(Key::TickMs))?;
     let is_good = is_horizon(sheet.horizon_ms, sheet.tick_ms);
     refuse_unless(is_good, Place::Top(Key::HorizonMs))
@@ -225,7 +276,7 @@ fn refuse_vehicles(sheet: &Sheet) -> Result<(), DesignFault>
     refuse_array(0, 64, Key::Vehicle, sheet.vehicles.as_slice())
 }
 
-/// Refuses no train or too many, and trains with too few or too many visits.
+/// Refuses no train or too many, and trains with too few or too many visits, or that stand too long.
 fn refuse_trains(sheet: &Sheet) -> Result<(), DesignFault>
     ensures { ReadsOrRefuses (λ x. x) result Code.D05
         (array_outside train_outside 1 128 Key.Train (sheet_seen sheet.now).trains) tt }

@@ -2,7 +2,7 @@
 
 ghost use Rattle.std.specs.Prelude.{◌≡◌, ◌+◌, map, not, position, bytes_eq, IfOk, IfErr};
 ghost use Rattle.design_table.specs.Reads.{ReadsOrRefuses, Fails, at};
-ghost use Rattle.design_table.specs.Views.{sheet_seen};
+ghost use Rattle.design_table.specs.Parsed.{sheet_seen};
 ghost use Rattle.design_table.specs.declared.fault.DesignFault.TheVariants.{Memory};
 ghost use Rattle.infra_reader.specs.Unknown.{unless_among};
 ghost use Rattle.infra_reader.specs.Names.{is_among, number_in, each_once, node_names, edge_names, section_names};

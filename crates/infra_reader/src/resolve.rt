@@ -1,17 +1,17 @@
 //! The station of a sheet, by the numbers of its names: D04.
 
-ghost use Rattle.std.specs.Prelude.{◌≡◌, ◌+◌, map, not, IfOk, IfErr, [], ◌++◌};
+ghost use Rattle.std.specs.Prelude.{◌≡◌, ◌+◌, map, replicate, not, IfOk, IfErr, [], ◌++◌};
 ghost use Rattle.std.specs.List.{list_all};
 ghost use Rattle.design_table.specs.Reads.{ReadsOrRefuses, at, in_each};
 ghost use Rattle.design_table.specs.Parsed.{ParsedNode, ParsedEdge, ParsedSignal, ParsedVehicle, ParsedTrain};
 ghost use Rattle.design_table.specs.Parsed.{ParsedOrder, ParsedWithin};
-ghost use Rattle.design_table.specs.Views.{node_seen, edge_seen, signal_seen, vehicle_seen, train_seen, order_seen};
-ghost use Rattle.design_table.specs.Views.{within_seen, sheet_seen};
+ghost use Rattle.design_table.specs.Parsed.{node_seen, edge_seen, signal_seen, vehicle_seen, train_seen, order_seen};
+ghost use Rattle.design_table.specs.Parsed.{within_seen, sheet_seen};
 ghost use Rattle.infra_reader.specs.Names.{is_among, number_in};
 ghost use Rattle.infra_reader.specs.Unknown.{unless_among, edge_unknown, signal_unknown, train_unknown, order_unknown};
 ghost use Rattle.infra_reader.specs.Unknown.{within_unknown, track_unknown, traffic_unknown};
 ghost use Rattle.infra_reader.specs.Stations.{number_32, nodes_in, side_of, node_in, edge_in, signal_in, vehicle_in};
-ghost use Rattle.infra_reader.specs.Stations.{train_in, order_in, within_in, station_in};
+ghost use Rattle.infra_reader.specs.Stations.{dwells_in, train_in, order_in, within_in, station_in};
 ghost use Rattle.design_table.specs.declared.fault.DesignFault.TheVariants.{Memory};
 ghost use Rattle.infra_reader.specs.Parts.{track_in, traffic_in};
 ghost use Rattle.design_table.specs.Texts.{texts, visits_seen};
@@ -218,12 +218,41 @@ impl<'a> Resolve for TrainEntry<'a> {
         let vehicle = number_at(&names.vehicles, self.vehicle, vehicle_place)?;
         let visits = visits_nodes(alloc, &names.nodes, self.visits.as_slice(), visits_place)?;
         let name = own_name(alloc, self.name)?;
+        let dwell_ms = dwells_of(alloc, self)?;
         Ok(Train {
             name,
             vehicle: VehicleNo(vehicle),
             visits,
+            dwell_ms,
         })
     }
+}
+
+/// How long a train stands at each visit in ms: what is said, or else 0 at each.
+#[tactic(auto, using(crate::proofs::Visits::zeros_seen))]
+fn dwells_of(alloc: Global, train: &TrainEntry) -> Result<List<u32>, AllocError>
+    ensures { let parsed = train_seen train.now in
+        IfOk result (λ dwells. dwells ≡ dwells_in parsed.visits parsed.dwell_ms) }
+{
+    match &train.dwell_ms {
+        Some(dwells) => numbers_32(alloc, dwells.as_slice()),
+        None => zeros(alloc, train.visits.len()),
+    }
+}
+
+/// Each number, or 0 where it is none of 32 bits.
+fn numbers_32(alloc: Global, wholes: &[i64]) -> Result<List<u32>, AllocError>
+    ensures { IfOk result (λ numbers. numbers ≡ map number_32 wholes.now) }
+{
+    let numbers = wholes.iter().map(|whole| number_32(*whole)).collect(alloc)?;
+    Ok(List::from_vec(numbers))
+}
+
+/// So many times 0.
+fn zeros(alloc: Global, count: usize) -> Result<List<u32>, AllocError>
+    ensures { IfOk result (λ zeros. zeros ≡ replicate count 0) }
+{
+    Ok(List::from_vec(vec![in alloc; 0; count]?))
 }
 
 impl<'a> Resolve for OrderEntry<'a> {

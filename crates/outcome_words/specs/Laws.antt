@@ -21,7 +21,7 @@ use Rattle.rail_base.specs.Routes.{route_at, shared}
 use Rattle.rail_base.specs.Stations.{IsTrain, horizon}
 use Rattle.rail_spec.specs.Dispatches.{of_plan}
 use Rattle.rail_spec.specs.Feasible.{names_only}
-use Rattle.rail_spec.specs.Histories.{grant_tick, release_tick, verdict_of}
+use Rattle.rail_spec.specs.Histories.{dwell_tick, grant_tick, release_tick, verdict_of}
 use Rattle.rail_spec.specs.Plans.{path, precedes}
 use Rattle.rail_spec.specs.Requirements.{keeps_order, keeps_within}
 use Rattle.rail_spec.specs.Track.{routes_of}
@@ -53,12 +53,14 @@ module _ (d : Station) (routes : List Route) (plan : List (List Command)) where
   abbrev pub IsShown : ℕ → List TrainHistory → ℕ → Type 0
   IsShown n history last = shown_by (verdict_of d routes plan n) ≡ Some (history, last)
 
-  -- the lines are those of the run; the ticks of visits are the run's; and what is said to be met is kept by the horizon, and what is said
-  -- to be broken is not
+  -- the lines are those of the run; the ticks of visits and of the ends of stands are the run's; and what is said to
+  -- be met is kept by the horizon, and what is said to be broken is not
   pub record OutcomeIsSo (n : ℕ) (history : List TrainHistory) (last : ℕ) : Type 0 where
     pub lines : outcome_lines d routes plan (verdict_of d routes plan n) ≡ run_lines d routes plan history last
     pub visit : (t : TrainNo) → IsTrain d t → (j : ℕ)
         → ticks.visit_tick history t j ≡ visit_tick d routes (of_plan routes plan) last t j
+    pub dwell : (t : TrainNo) → IsTrain d t → (j : ℕ)
+        → entry None (history_of history t).dwells j ≡ dwell_tick d routes plan last t j
     pub order_met : (o : Order) → In o d.orders → ending_of_order history o ≡ ending.Met
         → keeps_order d routes plan (horizon d) o ≡ true
     pub order_broken : (o : Order) → In o d.orders → ending_of_order history o ≡ ending.Broken

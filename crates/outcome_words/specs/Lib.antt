@@ -2,6 +2,7 @@
 pub mod Visits
 pub mod Requirements
 pub mod Waits
+pub mod Stands
 pub mod Runs
 pub mod Outcome
 pub mod Laws

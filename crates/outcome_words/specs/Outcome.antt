@@ -13,7 +13,7 @@ use Rattle.rail_base.specs.Stations.{trains}
 use Rattle.run_drawing.specs.Requirements.{visit_of_train}
 use Rattle.cone_words.specs.Names.{nodes_text}
 use Rattle.outcome_words.specs.Requirements.{requirement_lines}
-use Rattle.outcome_words.specs.Waits.{wait_lines}
+use Rattle.outcome_words.specs.Stands.{train_lines}
 
 -- `no run: the routes given do not make ICe visit 2, at x`
 abbrev pub path_line : Station → TrainNo → ℕ → List ℕ
@@ -28,10 +28,10 @@ abbrev pub unknown_lines : Station → List ℕ → List (List ℕ)
 unknown_lines d why = why ∷ requirement_lines d [] None
 
 module _ (d : Station) (routes : List Route) (plan : List (List Command)) where
-  -- by what has happened up to a last tick: all requirements, and then all waits, train by train
+  -- by what has happened up to a last tick: all requirements, and then all waits and stands, train by train
   abbrev pub run_lines : List TrainHistory → ℕ → List (List ℕ)
   run_lines history last =
-      requirement_lines d history (Some last) ++ flat_map (wait_lines d routes plan history last) (trains d)
+      requirement_lines d history (Some last) ++ flat_map (train_lines d routes plan history last) (trains d)
 
   -- of a plan that fails
   abbrev pub failed_lines : List TrainHistory → ℕ → Violation → List (List ℕ)

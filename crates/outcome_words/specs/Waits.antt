@@ -113,7 +113,3 @@ module _ (d : Station) (routes : List Route) (plan : List (List Command)) (histo
   -- those of all commands of its path, by what has happened to the train
   abbrev pub waits_in : TrainNo → TrainHistory → List (List ℕ)
   waits_in t h = filter_map (wait_line t h) (enumerate_from 1 h.grants)
-
-  -- the lines of a train's waits
-  abbrev pub wait_lines : TrainNo → List (List ℕ)
-  wait_lines t = waits_in t (history_of history t)

@@ -5,8 +5,8 @@ ghost use Rattle.outcome_words.specs.Laws.{OutcomesAreSo, WaitsAreSo};
 use run_drawing::endings_are_so;
 
 /// Where so many ticks of a run decide a plan, the lines are those of what has happened up to the deciding tick: the
-/// ticks of visits are those of the run, an order or a within that is said to be met is kept by the horizon, and one
-/// that is said to be broken is not.
+/// ticks of visits and of the ends of stands are those of the run, an order or a within that is said to be met is kept
+/// by the horizon, and one that is said to be broken is not.
 pub fn outcomes_are_so()
     ensures { OutcomesAreSo }
 {

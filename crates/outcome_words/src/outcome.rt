@@ -105,8 +105,8 @@ fn push_undecided(
 }
 
 /// Appends what a verdict says of a plan: what came of each order and each within, and by how much; and then, train by
-/// train, where it waits, from when and for how long, and for which train to release which section. An error leaves a
-/// part of the lines.
+/// train, where it waits, from when and for how long, and for which train to release which section; and where it stands
+/// at its visits, from when and for how long. An error leaves a part of the lines.
 pub fn push_outcome(
     alloc: Global,
     interlocking: &Interlocking,

@@ -1,14 +1,17 @@
-//! Waits in words. An error is want of memory; then a part of what is appended may stand there.
+//! Waits in words, and with them the stands. An error is want of memory; then a part of what is appended may stand
+//! there.
 
 ghost use Rattle.std.specs.Prelude.{◌≡◌, IfOk, OnOk};
 ghost use Rattle.std.specs.List.{flat_map};
 ghost use Rattle.rail_base.specs.Stations.{trains};
 ghost use Rattle.rail_text.specs.Added.{AddsLines, AddsText};
 ghost use Rattle.outcome_words.specs.Waits.{end_text, release_text, start_text, wait_text};
-ghost use Rattle.outcome_words.specs.Waits.{wait_lines, waits_in};
+ghost use Rattle.outcome_words.specs.Waits.{waits_in};
+ghost use Rattle.outcome_words.specs.Stands.{lines_in, train_lines};
 ghost use Rattle.outcome_words.specs.Runs.{of_shown};
 
 use crate::run::ShownRun;
+use crate::stands::push_stands;
 use crate::visits::put_time;
 use crate::waits::{Wait, wait_of};
 use rail_base::design::Design;
@@ -35,11 +38,11 @@ fn put_start(text: &mut Vec<u8>, design: &Design, start: Start) -> Result<(), Al
     }
 }
 
-/// Appends that a wait goes on to the end, where its command is not granted.
-fn put_end(text: &mut Vec<u8>, granted: bool) -> Result<(), AllocError>
-    ensures { OnOk result (AddsText text.old text.new (end_text granted)) }
+/// Appends that a wait or a stand goes on to the end, where it is not done before.
+pub(crate) fn put_end(text: &mut Vec<u8>, is_done: bool) -> Result<(), AllocError>
+    ensures { OnOk result (AddsText text.old text.new (end_text is_done)) }
 {
-    if granted {
+    if is_done {
         return Ok(());
     }
     text.extend_from_slice(b", to the end")
@@ -118,29 +121,45 @@ fn push_waits(
     Ok(())
 }
 
-/// Appends the waits of a train.
+/// Appends the waits and the stands of a train of which this has happened.
+fn push_lines(
+    alloc: Global,
+    run: &ShownRun,
+    train: TrainNo,
+    history: &TrainHistory,
+    lines: &mut Vec<Vec<u8>>,
+) -> Result<(), AllocError>
+    ensures { OnOk result (AddsLines lines.old lines.new (of_shown run.now lines_in train history.now)) }
+{
+    let design = &run.interlocking.design;
+    push_waits(alloc, run, train, history, lines)?;
+    push_stands(alloc, design, run.last, train, history, lines)?;
+    Ok(())
+}
+
+/// Appends the waits and the stands of a train.
 fn push_train(
     alloc: Global,
     run: &ShownRun,
     train: TrainNo,
     lines: &mut Vec<Vec<u8>>,
 ) -> Result<(), AllocError>
-    ensures { OnOk result (AddsLines lines.old lines.new (of_shown run.now wait_lines train)) }
+    ensures { OnOk result (AddsLines lines.old lines.new (of_shown run.now train_lines train)) }
 {
     match entry(run.history, train.0 as usize) {
-        Some(history) => push_waits(alloc, run, train, history, lines),
+        Some(history) => push_lines(alloc, run, train, history, lines),
         None => Ok(()),
     }
 }
 
-/// Appends the waits of all trains.
+/// Appends the waits and the stands of all trains.
 pub(crate) fn push_trains(
     alloc: Global,
     run: &ShownRun,
     lines: &mut Vec<Vec<u8>>,
 ) -> Result<(), AllocError>
     ensures { OnOk result (AddsLines lines.old lines.new
-        (flat_map (of_shown run.now wait_lines) (trains run.now.interlocking.now.design.station))) }
+        (flat_map (of_shown run.now train_lines) (trains run.now.interlocking.now.design.station))) }
 {
     let trains = run.interlocking.design.station.trains.len() as u32;
     for number in 1..trains + 1 {

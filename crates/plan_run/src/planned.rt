@@ -14,7 +14,8 @@ pub(crate) fn followed_trains(
     planned: PlannedJourneys<'_>,
     alloc: Global,
 ) -> Result<Vec<FollowedTrain>, AllocError>
-    ensures { IfOk result (λ f. on planned.entry.interlocking.now AreFollowedTrains (dispatch_of planned.entry) f.items) }
+    ensures { IfOk result
+        (λ f. on planned.entry.interlocking.now AreFollowedTrains (dispatch_of planned.entry) f.items) }
 {
     let PlannedJourneys { journeys, .. } = planned;
     let mut left = journeys;

@@ -1,5 +1,5 @@
 -- In quiet ticks each train goes on under its authority.
-use Rattle.std.proofs.Common.{◌≡◌, ℕ, zero, suc, ◌+◌, ◌-◌, ◌≤◌, ◌<◌, ◌⊎◌, inl, inr, Bool, true, false, ◌&&◌, if◌then◌else◌, nat_le, nat_lt, List, [], ◌∷◌, map, length, slice_get, Option, None, Some, refl, sym, ap, ap₂, subst, ◌∙◌, arith, le-leb, le_refl}
+use Rattle.std.proofs.Common.{◌≡◌, ℕ, zero, suc, ◌+◌, ◌-◌, ◌≤◌, ◌<◌, ◌⊎◌, inl, inr, Bool, true, false, ◌&&◌, if◌then◌else◌, nat_le, List, [], ◌∷◌, map, length, slice_get, Option, None, Some, refl, sym, ap, ap₂, subst, ◌∙◌, arith, le-leb, le_refl}
 use Rattle.rail_base.specs.declared.station.Station.{Station}
 use Rattle.rail_base.specs.declared.station.SectionNo.{SectionNo}
 use Rattle.rail_base.specs.declared.station.TrainNo.{TrainNo}
@@ -7,7 +7,6 @@ use Rattle.rail_base.specs.declared.route.Route.{Route}
 use Rattle.rail_base.specs.declared.route.RouteNo.{RouteNo}
 use Rattle.rail_base.specs.declared.plan.Command.{Command}
 use Rattle.rail_base.specs.declared.state.TrainState.{TrainState}
-use Rattle.rail_base.specs.declared.state.PathNode.{PathNode}
 use Rattle.rail_base.specs.Members.{In}
 use Rattle.rail_base.specs.Numbering.{before_first}
 use Rattle.rail_base.specs.Stations.{IsTrain, trains}
@@ -16,7 +15,7 @@ use Rattle.rail_base.proofs.Lists.{in_map, in_filter_back, in_flat_map, length-m
 use Rattle.rail_base.specs.Events.{has_happened}
 use Rattle.rail_base.specs.declared.state.Event.{Event}
 use Rattle.rail_spec.specs.Plans.{route_at, is_route}
-use Rattle.rail_spec.specs.Dispatches.{Dispatch, idle, state_of, has_released, has_cleared, is_ready, granted_with, granted_after, moved, state_at}
+use Rattle.rail_spec.specs.Dispatches.{Dispatch, idle, state_of, has_released, has_cleared, is_ready, with_granted, stands, granted_with, granted_after, moved, state_at}
 use Rattle.rail_laws.proofs.Given.{same_route}
 use Rattle.rail_laws.proofs.Standing.{not_le}
 use Rattle.rail_require.proofs.Agreeing.{is_a_train}
@@ -30,10 +29,15 @@ pub map-same : {X Y : Type 0} (f g : X → Y) (xs : List X) → ((x : X) → In 
 map-same f g [] h = refl
 map-same f g (x ∷ xs) h = ap₂ (λ y ys. y ∷ ys) (h x (inl refl)) (map-same f g xs (λ y m. h y (inr m)))
 
--- a place that is not come to is as far behind or ahead as before
-apart_same : (x y z place : ℕ) → x ≤ y → y ≤ z → IsNotReached x z place → nat_le place y ≡ nat_le place x
+-- what is not come to is as far behind or ahead as before
+pub apart_same : (x y z place : ℕ) → x ≤ y → y ≤ z → IsNotReached x z place → nat_le place y ≡ nat_le place x
 apart_same x y z place forward short (inl behind) = le-leb place y (omega arith) ∙ sym (le-leb place x behind)
 apart_same x y z place forward short (inr ahead) = not_le place y (omega arith) ∙ sym (not_le place x (omega arith))
+
+-- one tick more or none
+stood_more : (b : Bool) (n : ℕ) → n ≤ (if b then n + 1 else n)
+stood_more true n = omega arith
+stood_more false n = omega arith
 
 -- what a state says of an event
 pub event_same : (s u : TrainState) (z : ℕ) (e : Event) → u.granted ≡ s.granted → s.x ≤ u.x → u.x ≤ z → IsNotReached s.x z e.place → has_happened u e ≡ has_happened s e
@@ -60,6 +64,10 @@ module _ (d : Station) (routes : List Route) (dispatch : Dispatch) where
   moved_forward t s zero = le_refl _
   moved_forward t s (suc g) = omega arith
 
+  moved_stood : (t : TrainNo) (s : TrainState) (g : ℕ) → s.stood ≤ (moved d routes dispatch t s g).stood
+  moved_stood t s zero = le_refl _
+  moved_stood t s (suc g) = stood_more (stands d routes dispatch t (with_granted (suc g) s)) s.stood
+
   pub followed_granted : (t : TrainNo) (g k : ℕ) (s : TrainState) → s.granted ≡ g → (followed d routes dispatch t g k s).granted ≡ g
   followed_granted t g k s e = go (dispatch.concerns k t)
     where
@@ -72,6 +80,13 @@ module _ (d : Station) (routes : List Route) (dispatch : Dispatch) where
     where
       go : (b : Bool) → s.x ≤ (if b then moved d routes dispatch t s g else s).x
       go true = moved_forward t s g
+      go false = le_refl _
+
+  followed_stood : (t : TrainNo) (g k : ℕ) (s : TrainState) → s.stood ≤ (followed d routes dispatch t g k s).stood
+  followed_stood t g k s = go (dispatch.concerns k t)
+    where
+      go : (b : Bool) → s.stood ≤ (if b then moved d routes dispatch t s g else s).stood
+      go true = moved_stood t s g
       go false = le_refl _
 
   pub drift_granted : (t : TrainNo) (g k j : ℕ) (s : TrainState) → s.granted ≡ g → (drift_with d routes dispatch t g k j s).granted ≡ g
@@ -88,6 +103,17 @@ module _ (d : Station) (routes : List Route) (dispatch : Dispatch) where
 
   pub drift_within : (t : TrainNo) (g k j n : ℕ) (s : TrainState) → j ≤ n → (drift_with d routes dispatch t g k j s).x ≤ (drift_with d routes dispatch t g k n s).x
   drift_within t g k j n s h = let e : j + (n - j) ≡ n = omega arith in subst (λ m. (drift_with d routes dispatch t g k j s).x ≤ (drift_with d routes dispatch t g k m s).x) e (drift_forward t g k j (n - j) s)
+
+  pub drift_stood : (t : TrainNo) (g k i j : ℕ) (s : TrainState) → (drift_with d routes dispatch t g k i s).stood ≤ (drift_with d routes dispatch t g k (i + j) s).stood
+  drift_stood t g k i zero s = let e : i + 0 ≡ i = omega arith in subst (λ n. (drift_with d routes dispatch t g k i s).stood ≤ (drift_with d routes dispatch t g k n s).stood) (sym e) (le_refl _)
+  drift_stood t g k i (suc j) s =
+      let e : i + suc j ≡ suc (i + j) = omega arith in
+      let before = drift_stood t g k i j s in
+      let next = followed_stood t g (suc (k + (i + j))) (drift_with d routes dispatch t g k (i + j) s) in
+      subst (λ n. (drift_with d routes dispatch t g k i s).stood ≤ (drift_with d routes dispatch t g k n s).stood) (sym e) (omega arith)
+
+  pub drift_stood_within : (t : TrainNo) (g k j n : ℕ) (s : TrainState) → j ≤ n → (drift_with d routes dispatch t g k j s).stood ≤ (drift_with d routes dispatch t g k n s).stood
+  drift_stood_within t g k j n s h = let e : j + (n - j) ≡ n = omega arith in subst (λ m. (drift_with d routes dispatch t g k j s).stood ≤ (drift_with d routes dispatch t g k m s).stood) e (drift_stood t g k j (n - j) s)
 
   pub drift_idle : (t : TrainNo) (k j : ℕ) → drift d routes dispatch t k j idle ≡ idle
   drift_idle t k zero = refl

@@ -1,5 +1,5 @@
 -- Trains that were looked at at an earlier tick.
-use Rattle.std.proofs.Common.{◌≡◌, ℕ, zero, suc, ◌+◌, ◌-◌, ◌≤◌, ◌<◌, ◌⊎◌, inl, inr, false, List, [], ◌∷◌, length, refl, sym, ap, ap₂, subst, ◌∙◌, arith, le_refl}
+use Rattle.std.proofs.Common.{◌≡◌, ℕ, zero, suc, ◌+◌, ◌-◌, ◌≤◌, ◌<◌, ◌⊎◌, inl, inr, false, nat_le, List, [], ◌∷◌, length, refl, sym, ap, ap₂, subst, ◌∙◌, arith, le_refl}
 use Rattle.rail_base.specs.declared.station.Station.{Station}
 use Rattle.rail_base.specs.declared.station.TrainNo.{TrainNo}
 use Rattle.rail_base.specs.declared.route.Route.{Route}
@@ -12,17 +12,18 @@ use Rattle.rail_base.specs.Stations.{IsTrain}
 use Rattle.rail_base.proofs.Members.{below_or_not}
 use Rattle.rail_spec.specs.Dispatches.{Dispatch, idle, state_of, granted_after, has_released, state_at}
 use Rattle.rail_spec.specs.Visits.{path_nodes_of_train}
+use Rattle.rail_spec.specs.Histories.{dwell_up_to}
 use Rattle.rail_base.specs.declared.station.SectionNo.{SectionNo}
 use Rattle.rail_base.specs.Routes.{route_at, sections}
 use Rattle.rail_base.specs.Events.{has_happened}
-use Rattle.quiet_spec.specs.Histories.{train_history}
+use Rattle.quiet_spec.specs.Histories.{has_stood, train_history}
 use Rattle.rail_course.specs.declared.journey.Release.{Release}
 use Rattle.rail_course.specs.Releases.{releases_of_train}
 use Rattle.rail_course.specs.Releases.{release_for}
 use Rattle.rail_course.specs.Ready.{ShowTick}
 use Rattle.quiet_spec.specs.Quiet.{IsNotReached, ComesNowhere, IsGrantedNothing, IsQuietFor, IsQuiet, followed, drift_with, drift}
 use Rattle.quiet_spec.specs.Forecasts.{IsSeen, AreSeen}
-use Rattle.quiet_spec.proofs.Drifting.{event_same, released_by_path, drift_granted, drift_within, go_on, granted_after_same, by_train, by_rule, without}
+use Rattle.quiet_spec.proofs.Drifting.{apart_same, event_same, released_by_path, drift_granted, drift_within, drift_stood_within, go_on, granted_after_same, by_train, by_rule, without}
 use Rattle.rail_laws.proofs.Running.{granted_on_path}
 use Rattle.quiet_spec.proofs.Staying.{train_same, train_as_tested}
 
@@ -39,10 +40,11 @@ no_look (s ∷ states) (suc zero) (inr l) = absurd (omega arith)
 no_look (s ∷ states) (suc (suc i)) (inr l) = no_look states (suc i) (inr (omega arith))
 
 module _ (d : Station) (routes : List Route) (dispatch : Dispatch) where
-  nowhere_within : (t : TrainNo) (x a y z : ℕ) → x ≤ a → y ≤ z → ComesNowhere d routes dispatch t x z → ComesNowhere d routes dispatch t a y
-  nowhere_within t x a y z later less h = record {
-    nodes = λ p m. apart_less x a y z p.event.place later less (h.nodes p m);
-    releases = λ r m. apart_less x a y z r.event.place later less (h.releases r m);
+  nowhere_within : (t : TrainNo) (x a y z : TrainState) → x.x ≤ a.x → y.x ≤ z.x → x.stood ≤ a.stood → y.stood ≤ z.stood → ComesNowhere d routes dispatch t x z → ComesNowhere d routes dispatch t a y
+  nowhere_within t x a y z later less longer shorter h = record {
+    nodes = λ p m. apart_less x.x a.x y.x z.x p.event.place later less (h.nodes p m);
+    releases = λ r m. apart_less x.x a.x y.x z.x r.event.place later less (h.releases r m);
+    stands = λ j. apart_less x.stood a.stood y.stood z.stood (dwell_up_to d t j) longer shorter (h.stands j);
   }
 
   -- ---- drifting in two parts
@@ -163,10 +165,11 @@ module _ (d : Station) (routes : List Route) (dispatch : Dispatch) where
             record {
               grants = none_granted t is (seen.grants t is);
               places =
-                  subst (λ a. ComesNowhere d routes dispatch t a (drift d routes dispatch t k (n - 1 - k) (state_of (state_at d routes dispatch k) t)).x) (sym (ap (λ s. s.x) (here t is)))
-                  (subst (λ y. ComesNowhere d routes dispatch t (drift d routes dispatch t (since t) (k - since t) (look t)).x y) (sym (ap (λ s. s.x) whole))
-                  (nowhere_within t (look t).x (drift d routes dispatch t (since t) (k - since t) (look t)).x (drift d routes dispatch t (since t) (n - 1 - since t) (look t)).x (drift d routes dispatch t (since t) (until t - 1 - since t) (look t)).x
-                  (drift_within d routes dispatch t (look t).granted (since t) 0 (k - since t) (look t) (omega arith)) (drift_within d routes dispatch t (look t).granted (since t) (n - 1 - since t) (until t - 1 - since t) (look t) (omega arith)) e.places));
+                  subst (λ a. ComesNowhere d routes dispatch t a (drift d routes dispatch t k (n - 1 - k) (state_of (state_at d routes dispatch k) t))) (sym (here t is))
+                  (subst (λ y. ComesNowhere d routes dispatch t (drift d routes dispatch t (since t) (k - since t) (look t)) y) (sym whole)
+                  (nowhere_within t (look t) (drift d routes dispatch t (since t) (k - since t) (look t)) (drift d routes dispatch t (since t) (n - 1 - since t) (look t)) (drift d routes dispatch t (since t) (until t - 1 - since t) (look t))
+                  (drift_within d routes dispatch t (look t).granted (since t) 0 (k - since t) (look t) (omega arith)) (drift_within d routes dispatch t (look t).granted (since t) (n - 1 - since t) (until t - 1 - since t) (look t) (omega arith))
+                  (drift_stood_within d routes dispatch t (look t).granted (since t) 0 (k - since t) (look t) (omega arith)) (drift_stood_within d routes dispatch t (look t).granted (since t) (n - 1 - since t) (until t - 1 - since t) (look t) (omega arith)) e.places));
             }
 
     -- the states up to the next look
@@ -236,6 +239,7 @@ module _ (d : Station) (routes : List Route) (dispatch : Dispatch) where
         (λ i l. ap (λ s. s.granted) (at i l) ∙ drift_granted d routes dispatch t (look t).granted (since t) (k + i - since t) (look t) refl ∙ sym (granted_at t is))
         (λ p m i l. passed i l p m ∙ sym (passed_now p m))
         (λ r m i l. outs i l r m ∙ sym (outs_now r m))
+        (λ j i l. stood i l j ∙ sym (stood_now j))
       where
         s : TrainState
         s = look t
@@ -264,6 +268,12 @@ module _ (d : Station) (routes : List Route) (dispatch : Dispatch) where
             ∙ event_same s (drift d routes dispatch t (since t) (k + i - since t) s) z r.event (drift_granted d routes dispatch t s.granted (since t) (k + i - since t) s refl)
             (drift_within d routes dispatch t s.granted (since t) 0 (k + i - since t) s (omega arith)) (drift_within d routes dispatch t s.granted (since t) (k + i - since t) (until t - 1 - since t) s (short i l)) (seen_at.places.releases r m)
 
+        stood : (i : ℕ) → i ≤ n - k → (j : ℕ) → has_stood d routes dispatch t j (k + i) ≡ nat_le (dwell_up_to d t j) s.stood
+        stood i l j =
+            ap (λ u. nat_le (dwell_up_to d t j) u.stood) (at i l)
+            ∙ apart_same s.stood (drift d routes dispatch t (since t) (k + i - since t) s).stood (drift d routes dispatch t (since t) (until t - 1 - since t) s).stood (dwell_up_to d t j)
+            (drift_stood_within d routes dispatch t s.granted (since t) 0 (k + i - since t) s (omega arith)) (drift_stood_within d routes dispatch t s.granted (since t) (k + i - since t) (until t - 1 - since t) s (short i l)) (seen_at.places.stands j)
+
         zero_more : k + 0 ≡ k
         zero_more = omega arith
 
@@ -272,6 +282,9 @@ module _ (d : Station) (routes : List Route) (dispatch : Dispatch) where
 
         outs_now : (r : Release) → In r (releases_of_train d routes dispatch t) → has_happened (state_of (state_at d routes dispatch k) t) r.event ≡ has_happened s r.event
         outs_now r m = ap (λ i. has_happened (state_of (state_at d routes dispatch i) t) r.event) (sym zero_more) ∙ outs 0 (omega arith) r m
+
+        stood_now : (j : ℕ) → has_stood d routes dispatch t j k ≡ nat_le (dwell_up_to d t j) s.stood
+        stood_now j = ap (has_stood d routes dispatch t j) (sym zero_more) ∙ stood 0 (omega arith) j
 
     -- the history before the look
     pub history_before : (t : TrainNo) → IsTrain d t → train_history d routes dispatch (n - 1) t ≡ train_history d routes dispatch k t
@@ -295,7 +308,7 @@ module _ (d : Station) (routes : List Route) (dispatch : Dispatch) where
         record { past = (let p = e.past in omega arith); then = e.then; ahead = later; begun = e.begun; now = unlooked t is later; places = e.places }
 
   -- what is known of a train that is looked at
-  pub newly_seen : (n : ℕ) (t : TrainNo) (s : TrainState) (until : ℕ) → 1 ≤ n → n < until → s ≡ state_of (state_at d routes dispatch n) t → ComesNowhere d routes dispatch t s.x (drift d routes dispatch t n (until - 1 - n) s).x → IsSeen d routes dispatch n t s n until
+  pub newly_seen : (n : ℕ) (t : TrainNo) (s : TrainState) (until : ℕ) → 1 ≤ n → n < until → s ≡ state_of (state_at d routes dispatch n) t → ComesNowhere d routes dispatch t s (drift d routes dispatch t n (until - 1 - n) s) → IsSeen d routes dispatch n t s n until
   newly_seen n t s until some ahead is places =
       let none : 0 ≡ n - n = omega arith in
       record { past = le_refl n; then = is; ahead = ahead; begun = λ e. absurd (omega arith); now = sym is ∙ ap (λ j. drift d routes dispatch t n j s) none; places = places }
@@ -309,5 +322,7 @@ module _ (d : Station) (routes : List Route) (dispatch : Dispatch) where
         ahead = ahead;
         begun = λ z. absurd (omega arith);
         now = e.now;
-        places = nowhere_within t s.x s.x _ _ (le_refl s.x) (drift_within d routes dispatch t s.granted since (sooner - 1 - since) (until - 1 - since) s (omega arith)) e.places;
+        places =
+            nowhere_within t s s (drift d routes dispatch t since (sooner - 1 - since) s) (drift d routes dispatch t since (until - 1 - since) s) (le_refl s.x) (drift_within d routes dispatch t s.granted since (sooner - 1 - since) (until - 1 - since) s (omega arith))
+            (le_refl s.stood) (drift_stood_within d routes dispatch t s.granted since (sooner - 1 - since) (until - 1 - since) s (omega arith)) e.places;
       }

@@ -1,5 +1,5 @@
 -- In quiet ticks nothing is added to the history.
-use Rattle.std.proofs.Common.{◌≡◌, ℕ, zero, suc, ◌+◌, ◌≤◌, inl, inr, Bool, true, false, if◌then◌else◌, nat_le, List, [], ◌∷◌, map, Option, None, Some, option_map, refl, sym, ap, ap₂, ◌∙◌, arith}
+use Rattle.std.proofs.Common.{◌≡◌, ℕ, zero, suc, ◌+◌, ◌≤◌, inl, inr, Bool, true, false, ◌==◌, if◌then◌else◌, nat_le, List, [], ◌∷◌, map, Option, None, Some, option_map, refl, sym, ap, ap₂, ◌∙◌, arith}
 use Rattle.std.specs.List.{enumerate_from}
 use Rattle.rail_base.specs.declared.station.Station.{Station}
 use Rattle.rail_base.specs.declared.station.NodeNo.{NodeNo}
@@ -11,20 +11,22 @@ use Rattle.rail_base.specs.declared.state.TrainState.{TrainState}
 use Rattle.rail_base.specs.declared.state.PathNode.{PathNode}
 use Rattle.rail_base.specs.declared.history.TrainHistory.{TrainHistory}
 use Rattle.rail_base.specs.Members.{In}
-use Rattle.rail_base.specs.Numbering.{least, or_this, from_first, first_of_list, after_first}
-use Rattle.rail_base.specs.Stations.{IsTrain, trains, train_of}
+use Rattle.rail_base.specs.Numbering.{entry, least, or_this, from_first, first_of_list, after_first}
+use Rattle.rail_base.specs.Stations.{IsTrain, trains, train_of, dwell_ticks}
 use Rattle.rail_spec.specs.Plans.{has_node}
 use Rattle.rail_base.specs.Routes.{route_at, sections}
 use Rattle.rail_base.proofs.Members.{map-map}
 use Rattle.rail_spec.specs.Dispatches.{Dispatch, state_of, state_at}
 use Rattle.rail_spec.specs.Visits.{pass_tick, passed, path_nodes_of_train, visits_of_train}
 use Rattle.rail_spec.specs.Places.{visits_at, visits_on}
-use Rattle.quiet_spec.specs.Histories.{grant_tick, granted, released, visit_made, train_history, history_at}
+use Rattle.rail_spec.specs.Requirements.{visit_numbers}
+use Rattle.rail_spec.specs.Histories.{dwell_up_to}
+use Rattle.quiet_spec.specs.Histories.{grant_tick, granted, released, visit_made, has_stood, dwell_tick, train_history, history_at}
 use Rattle.rail_require.proofs.Agreeing.{is_a_train}
 use Rattle.rail_course.specs.declared.journey.Release.{Release}
 use Rattle.rail_course.specs.Releases.{release_for, releases_of_route, releases_of_train}
 use Rattle.quiet_spec.specs.Quiet.{IsQuiet, drift}
-use Rattle.quiet_spec.proofs.Drifting.{map-same, event_same, drift_granted, drift_within, go_on}
+use Rattle.quiet_spec.proofs.Drifting.{map-same, apart_same, event_same, drift_granted, drift_within, drift_stood_within, go_on}
 use Rattle.rail_base.proofs.Lists.{map-flat_map, flat_map-each}
 use Rattle.rail_base.specs.Events.{has_happened}
 
@@ -90,9 +92,9 @@ module _ (d : Station) (routes : List Route) (dispatch : Dispatch) (t : TrainNo)
 
 -- ---- the history
 
-told_same : (g h : List (RouteNo × Option ℕ)) (p q : List (NodeNo × Option ℕ)) (r s : List (RouteNo × SectionNo × Option ℕ)) (v w : List (Option (NodeNo × ℕ))) → g ≡ h → p ≡ q → r ≡ s → v ≡ w
-    → ◌≡◌ {A = TrainHistory} (record { grants = g; passes = p; releases = r; visits = v }) (record { grants = h; passes = q; releases = s; visits = w })
-told_same g h p q r s v w a b c e = cc
+told_same : (g h : List (RouteNo × Option ℕ)) (p q : List (NodeNo × Option ℕ)) (r s : List (RouteNo × SectionNo × Option ℕ)) (v w : List (Option (NodeNo × ℕ))) (x y : List (Option ℕ)) → g ≡ h → p ≡ q → r ≡ s → v ≡ w → x ≡ y
+    → ◌≡◌ {A = TrainHistory} (record { grants = g; passes = p; releases = r; visits = v; dwells = x }) (record { grants = h; passes = q; releases = s; visits = w; dwells = y })
+told_same g h p q r s v w x y a b c e f = cc
 
 -- the history of a train stays where its tests answer as before
 module _ (d : Station) (routes : List Route) (dispatch : Dispatch) (t : TrainNo) (k j : ℕ) (low : 1 ≤ k) where
@@ -101,7 +103,8 @@ module _ (d : Station) (routes : List Route) (dispatch : Dispatch) (t : TrainNo)
 
   module _ (same : (i : ℕ) → i ≤ j → (at (k + i)).granted ≡ (at k).granted)
       (passes : (p : PathNode) → In p (path_nodes_of_train d routes dispatch t) → (i : ℕ) → i ≤ j → has_happened (at (k + i)) p.event ≡ has_happened (at k) p.event)
-      (outs : (r : Release) → In r (releases_of_train d routes dispatch t) → (i : ℕ) → i ≤ j → has_happened (at (k + i)) r.event ≡ has_happened (at k) r.event) where
+      (outs : (r : Release) → In r (releases_of_train d routes dispatch t) → (i : ℕ) → i ≤ j → has_happened (at (k + i)) r.event ≡ has_happened (at k) r.event)
+      (standing : (m i : ℕ) → i ≤ j → has_stood d routes dispatch t m (k + i) ≡ has_stood d routes dispatch t m k) where
     grants_stay : granted d routes dispatch (k + j) t ≡ granted d routes dispatch k t
     grants_stay = map-same (λ p. (p.1, grant_tick d routes dispatch (k + j) t p.0)) (λ p. (p.1, grant_tick d routes dispatch k t p.0)) (enumerate_from 1 (dispatch.path t))
         (λ p m. ap (λ o. (p.1, o)) (least_same (λ i. nat_le p.0 (at i).granted) k j low (λ i l. ap (nat_le p.0) (same i l))))
@@ -126,8 +129,14 @@ module _ (d : Station) (routes : List Route) (dispatch : Dispatch) (t : TrainNo)
         one None m = refl
         one (Some p) m = ap (option_map (λ i. (p.node, i))) (pass_stays p (in_visits_on (train_of d t).visits (path_nodes_of_train d routes dispatch t) p m))
 
+    dwell_stays : (m : ℕ) → dwell_tick d routes dispatch (k + j) t m ≡ dwell_tick d routes dispatch k t m
+    dwell_stays m = ap (λ o. if entry 0 (dwell_ticks d t) m == 0 then None else o) (least_same (has_stood d routes dispatch t m) k j low (λ i l. standing m i l))
+
+    dwells_stay : map (dwell_tick d routes dispatch (k + j) t) (visit_numbers d t) ≡ map (dwell_tick d routes dispatch k t) (visit_numbers d t)
+    dwells_stay = map-same (dwell_tick d routes dispatch (k + j) t) (dwell_tick d routes dispatch k t) (visit_numbers d t) (λ m i. dwell_stays m)
+
     pub train_as_tested : train_history d routes dispatch (k + j) t ≡ train_history d routes dispatch k t
-    train_as_tested = told_same _ _ _ _ _ _ _ _ grants_stay passes_stay releases_stay visits_stay
+    train_as_tested = told_same _ _ _ _ _ _ _ _ _ _ grants_stay passes_stay releases_stay visits_stay dwells_stay
 
 module _ (d : Station) (routes : List Route) (dispatch : Dispatch) (k n : ℕ) (low : 1 ≤ k) (quiet : IsQuiet d routes dispatch k n) (t : TrainNo) (train : IsTrain d t) where
   abbrev now : ℕ → TrainState
@@ -151,9 +160,15 @@ module _ (d : Station) (routes : List Route) (dispatch : Dispatch) (k n : ℕ) (
       ∙ event_same (now k) (drift d routes dispatch t k i (now k)) end r.event (drift_granted d routes dispatch t (now k).granted k i (now k) refl)
       (drift_within d routes dispatch t (now k).granted k 0 i (now k) (omega arith)) (drift_within d routes dispatch t (now k).granted k i n (now k) within) ((quiet.each t train).places.releases r m)
 
+  stood_same : (m i : ℕ) → i ≤ n → has_stood d routes dispatch t m (k + i) ≡ has_stood d routes dispatch t m k
+  stood_same m i within =
+      ap (λ s. nat_le (dwell_up_to d t m) s.stood) (go_on d routes dispatch k n quiet i within t train)
+      ∙ apart_same (now k).stood (drift d routes dispatch t k i (now k)).stood (drift d routes dispatch t k n (now k)).stood (dwell_up_to d t m)
+      (drift_stood_within d routes dispatch t (now k).granted k 0 i (now k) (omega arith)) (drift_stood_within d routes dispatch t (now k).granted k i n (now k) within) ((quiet.each t train).places.stands m)
+
   pub train_same : (j : ℕ) → j ≤ n → train_history d routes dispatch (k + j) t ≡ train_history d routes dispatch k t
   train_same j within =
-      train_as_tested d routes dispatch t k j low (λ i l. granted_same i (omega arith)) (λ p m i l. pass_same p m i (omega arith)) (λ r m i l. release_same r m i (omega arith))
+      train_as_tested d routes dispatch t k j low (λ i l. granted_same i (omega arith)) (λ p m i l. pass_same p m i (omega arith)) (λ r m i l. release_same r m i (omega arith)) (λ m i l. stood_same m i (omega arith))
 
 pub history_same : (d : Station) (routes : List Route) (dispatch : Dispatch) (k n : ℕ) → 1 ≤ k → IsQuiet d routes dispatch k n → (j : ℕ) → j ≤ n → history_at d routes dispatch (k + j) ≡ history_at d routes dispatch k
 history_same d routes dispatch k n low quiet j within =

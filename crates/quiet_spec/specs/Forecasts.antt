@@ -9,14 +9,14 @@ use Rattle.rail_spec.specs.Dispatches.{Dispatch, state_of, state_at}
 use Rattle.quiet_spec.specs.Quiet.{ComesNowhere, IsGrantedNothing, drift}
 
 module _ (d : Station) (routes : List Route) (p : Dispatch) where
-  -- since a tick, at which it was in state s, the train has been granted nothing, and before the tick `until` it comes nowhere
+  -- since a tick, at which it was in state s, the train has been granted nothing, and it comes nowhere before `until`
   pub record IsSeen (k : ℕ) (t : TrainNo) (s : TrainState) (since until : ℕ) : Type 0 where
     pub past : since ≤ k
     pub then : s ≡ state_of (state_at d routes p since) t
     pub ahead : k < until
     pub begun : since ≡ 0 → until ≡ 1
     pub now : state_of (state_at d routes p k) t ≡ drift d routes p t since (k - since) s
-    pub places : ComesNowhere d routes p t s.x (drift d routes p t since (until - 1 - since) s).x
+    pub places : ComesNowhere d routes p t s (drift d routes p t since (until - 1 - since) s)
 
   -- so is each train, and it is granted nothing before it is looked at
   pub record AreSeen (k : ℕ) (states : List TrainState) (since until : TrainNo → ℕ) : Type 0 where

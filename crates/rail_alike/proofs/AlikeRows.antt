@@ -3,7 +3,7 @@ use Rattle.std.specs.Prelude.{◌≡◌, ℕ, true, false, [], ◌∷◌, refl}
 use Rattle.rail_base.specs.declared.station.Station.{Station}
 use Rattle.rail_base.specs.declared.station.TrainNo.{TrainNo}
 use Rattle.rail_base.specs.declared.plan.Command.{Command}
-use Rattle.rail_laws.proofs.Stations.{follow, parallel, plan_two}
+use Rattle.rail_laws.proofs.Stations.{follow, parallel, plan_two, train_with, node}
 use Rattle.rail_alike.specs.Renaming.{first_step}
 use Rattle.rail_alike.specs.Alike.{exchanged}
 use Rattle.rail_alike.specs.Tests.{are_alike, neighbors}
@@ -48,3 +48,16 @@ not_told_apart = refl
 
 different_tracks : are_alike parallel (number 1) (number 2) ≡ false
 different_tracks = refl
+
+-- the one stands at its second visit for a second, the other as long or longer
+abbrev standing : ℕ → Station
+standing ms = record follow {
+  trains = train_with "A" ((node 1 ∷ []) ∷ (node 3 ∷ []) ∷ []) (0 ∷ 1000 ∷ [])
+      ∷ train_with "B" ((node 1 ∷ []) ∷ (node 3 ∷ []) ∷ []) (0 ∷ ms ∷ []) ∷ [];
+}
+
+stand_alike : are_alike (standing 1000) (number 1) (number 2) ≡ true
+stand_alike = refl
+
+stand_otherwise : are_alike (standing 1001) (number 1) (number 2) ≡ false
+stand_otherwise = refl

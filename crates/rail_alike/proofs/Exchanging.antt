@@ -60,6 +60,7 @@ renames d t u a = record {
   named = by_which t u (λ x y. IsTrain d x → IsTrain d y) (λ h. a.other) (λ h. a.one) (λ x h. h);
   vehicle = by_which t u (λ x y. (train_of d y).vehicle ≡ (train_of d x).vehicle) (sym a.vehicle) a.vehicle (λ x. refl);
   visits = by_which t u (λ x y. (train_of d y).visits ≡ (train_of d x).visits) (sym a.visits) a.visits (λ x. refl);
+  dwells = by_which t u (λ x y. (train_of d y).dwell_ms ≡ (train_of d x).dwell_ms) (sym a.dwells) a.dwells (λ x. refl);
   order = a.order;
   within = a.within;
 }
@@ -103,6 +104,7 @@ like_itself d t h = record {
   other = h;
   vehicle = refl;
   visits = refl;
+  dwells = refl;
   order = λ o m. order_alike d (λ x. x) (exchange t t) (λ x. sym (stays x)) o m;
   within = λ w m. within_alike d (λ x. x) (exchange t t) (λ x. sym (stays x)) w m;
 }
@@ -121,6 +123,7 @@ like_back d t u a = record {
   other = a.one;
   vehicle = sym a.vehicle;
   visits = sym a.visits;
+  dwells = sym a.dwells;
   order = λ o m. order_alike d (exchange t u) (exchange u t) (λ x. sym (either_way t u x)) o (a.order o m);
   within = λ w m. within_alike d (exchange t u) (exchange u t) (λ x. sym (either_way t u x)) w (a.within w m);
 }
@@ -168,6 +171,7 @@ like_on d t u x a b = go (is_train t u) refl (is_train u x) refl (is_train t x) 
       other = b.other;
       vehicle = a.vehicle ∙ b.vehicle;
       visits = a.visits ∙ b.visits;
+      dwells = a.dwells ∙ b.dwells;
       order = λ o m. order_alike d (λ y. exchange t u (exchange u x (exchange t u y))) (exchange t x) (three t u x (apart t u p) (apart u x e) (apart t x f)) o (a.order _ (b.order _ (a.order o m)));
       within = λ w m. within_alike d (λ y. exchange t u (exchange u x (exchange t u y))) (exchange t x) (three t u x (apart t u p) (apart u x e) (apart t x f)) w (a.within _ (b.within _ (a.within w m)));
     }

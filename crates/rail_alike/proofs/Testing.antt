@@ -14,7 +14,7 @@ use Rattle.rail_base.proofs.Members.{and_left, and_right, and_both, list_all_at,
 use Rattle.rail_base.proofs.Lists.{list_all_from}
 use Rattle.rail_alike.specs.Renaming.{renamed_order, renamed_within}
 use Rattle.rail_alike.specs.Alike.{exchange, AreAlike}
-use Rattle.rail_alike.specs.Tests.{are_same, is_node, is_order, is_within, is_named, same_vehicle, same_visits, orders_stay, withins_stay, are_alike}
+use Rattle.rail_alike.specs.Tests.{are_same, is_node, is_number, is_order, is_within, is_named, same_vehicle, same_visits, same_dwells, orders_stay, withins_stay, are_alike}
 use Rattle.rail_alike.proofs.Equivariant.{same_train}
 
 -- ---- what the tests say
@@ -47,6 +47,12 @@ visits_told = list_told (are_same is_node) (list_told is_node node_told)
 
 visits_same : (xs : List (List NodeNo)) → are_same (are_same is_node) xs xs ≡ true
 visits_same = list_same (are_same is_node) (list_same is_node (λ n. eq-eqb n.0 n.0 refl))
+
+numbers_told : (xs ys : List ℕ) → are_same is_number xs ys ≡ true → xs ≡ ys
+numbers_told = list_told is_number (λ m n e. eqb-true m n e)
+
+numbers_same : (xs : List ℕ) → are_same is_number xs xs ≡ true
+numbers_same = list_same is_number (λ n. eq-eqb n n refl)
 
 train_told : (t u : TrainNo) → is_train t u ≡ true → t ≡ u
 train_told t u e = same_train t u (eqb-true t.0 u.0 e)
@@ -105,22 +111,25 @@ module _ (d : Station) (t u : TrainNo) where
   alike_told h =
       let h5 = and_left _ (withins_stay d t u) h in
       let h4 = and_left _ (orders_stay d t u) h5 in
-      let h3 = and_left _ (same_visits d t u) h4 in
+      let h4v = and_left _ (same_dwells d t u) h4 in
+      let h3 = and_left _ (same_visits d t u) h4v in
       let h2 = and_left _ (same_vehicle d t u) h3 in
       record {
         one = named_told t (and_left _ (is_named d u) h2);
         other = named_told u (and_right (is_named d t) _ h2);
         vehicle = ap (λ k. record { 0 = k }) (eqb-true (train_of d t).vehicle.0 (train_of d u).vehicle.0 (and_right (is_named d t && is_named d u) _ h3));
-        visits = visits_told (train_of d t).visits (train_of d u).visits (and_right (is_named d t && is_named d u && same_vehicle d t u) _ h4);
-        order = all_there is_order order_told (renamed_order (exchange t u)) d.orders d.orders (and_right (is_named d t && is_named d u && same_vehicle d t u && same_visits d t u) _ h5);
-        within = all_there is_within within_told (renamed_within (exchange t u)) d.withins d.withins (and_right (is_named d t && is_named d u && same_vehicle d t u && same_visits d t u && orders_stay d t u) _ h);
+        visits = visits_told (train_of d t).visits (train_of d u).visits (and_right (is_named d t && is_named d u && same_vehicle d t u) _ h4v);
+        dwells = numbers_told (train_of d t).dwell_ms (train_of d u).dwell_ms (and_right (is_named d t && is_named d u && same_vehicle d t u && same_visits d t u) _ h4);
+        order = all_there is_order order_told (renamed_order (exchange t u)) d.orders d.orders (and_right (is_named d t && is_named d u && same_vehicle d t u && same_visits d t u && same_dwells d t u) _ h5);
+        within = all_there is_within within_told (renamed_within (exchange t u)) d.withins d.withins (and_right (is_named d t && is_named d u && same_vehicle d t u && same_visits d t u && same_dwells d t u && orders_stay d t u) _ h);
       }
 
   pub alike_tested : AreAlike d t u → are_alike d t u ≡ true
   alike_tested a =
-      and_both _ _ (and_both _ _ (and_both _ _ (and_both _ _ (and_both _ _ (named_tested t a.one) (named_tested u a.other))
+      and_both _ _ (and_both _ _ (and_both _ _ (and_both _ _ (and_both _ _ (and_both _ _ (named_tested t a.one) (named_tested u a.other))
       (eq-eqb (train_of d t).vehicle.0 (train_of d u).vehicle.0 (ap (λ (v : VehicleNo). v.0) a.vehicle)))
       (subst (λ vs. are_same (are_same is_node) (train_of d t).visits vs ≡ true) a.visits (visits_same (train_of d t).visits)))
+      (subst (λ ns. are_same is_number (train_of d t).dwell_ms ns ≡ true) a.dwells (numbers_same (train_of d t).dwell_ms)))
       (there_all is_order order_same (renamed_order (exchange t u)) d.orders d.orders a.order))
       (there_all is_within within_same (renamed_within (exchange t u)) d.withins d.withins a.within)
 

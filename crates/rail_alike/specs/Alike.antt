@@ -18,12 +18,14 @@ exchange t u x = if is_train x t then u else if is_train x u then t else x
 abbrev pub exchanged : TrainNo → TrainNo → List (List Command) → List (List Command)
 exchanged t u plan = renamed (exchange t u) plan
 
--- the two have one vehicle and the same visits, and each order and within is one of the design with them exchanged
+-- the two have one vehicle and the same visits, at which they stand as long, and each order and within is one of the
+-- design with them exchanged
 pub record AreAlike (d : Station) (t u : TrainNo) : Type 0 where
   pub one : IsTrain d t
   pub other : IsTrain d u
   pub vehicle : (train_of d t).vehicle ≡ (train_of d u).vehicle
   pub visits : (train_of d t).visits ≡ (train_of d u).visits
+  pub dwells : (train_of d t).dwell_ms ≡ (train_of d u).dwell_ms
   pub order : (o : Order) → In o d.orders → In (renamed_order (exchange t u) o) d.orders
   pub within : (w : Within) → In w d.withins → In (renamed_within (exchange t u) w) d.withins
 

@@ -46,6 +46,7 @@ pub record Renames (d : Station) (other : TrainNo → TrainNo) : Type 0 where
   pub named : (t : TrainNo) → IsTrain d t → IsTrain d (other t)
   pub vehicle : (t : TrainNo) → (train_of d (other t)).vehicle ≡ (train_of d t).vehicle
   pub visits : (t : TrainNo) → (train_of d (other t)).visits ≡ (train_of d t).visits
+  pub dwells : (t : TrainNo) → (train_of d (other t)).dwell_ms ≡ (train_of d t).dwell_ms
   pub order : (o : Order) → In o d.orders → In (renamed_order other o) d.orders
   pub within : (w : Within) → In w d.withins → In (renamed_within other w) d.withins
 

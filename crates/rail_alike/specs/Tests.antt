@@ -1,5 +1,6 @@
 -- The test of trains that are alike, and those of them that are next to each other.
-use Rattle.std.specs.Prelude.{Bool, ◌&&◌, ◌==◌, nat_le, nat_lt, List, [], ◌∷◌, flat_map, length, Option, None, Some, find}
+use Rattle.std.specs.Prelude.{ℕ, Bool, ◌&&◌, ◌==◌, nat_le, nat_lt, List, [], ◌∷◌, flat_map, length}
+use Rattle.std.specs.Prelude.{Option, None, Some, find}
 use Rattle.std.specs.List.{list_any, list_all, zip}
 use Rattle.rail_base.specs.declared.station.Station.{Station}
 use Rattle.rail_base.specs.declared.station.Order.{Order}
@@ -18,6 +19,10 @@ are_same same xs ys = (length xs == length ys) && list_all (λ p. same p.0 p.1) 
 -- the two are one node
 abbrev pub is_node : NodeNo → NodeNo → Bool
 is_node m n = m.0 == n.0
+
+-- the two are one number
+abbrev pub is_number : ℕ → ℕ → Bool
+is_number m n = m == n
 
 -- the two are one order
 abbrev pub is_order : Order → Order → Bool
@@ -42,6 +47,10 @@ module _ (d : Station) (t u : TrainNo) where
   abbrev pub same_visits : Bool
   same_visits = are_same (are_same is_node) (train_of d t).visits (train_of d u).visits
 
+  -- at which they stand as long
+  abbrev pub same_dwells : Bool
+  same_dwells = are_same is_number (train_of d t).dwell_ms (train_of d u).dwell_ms
+
   -- each order is one of the design with the two exchanged
   abbrev pub orders_stay : Bool
   orders_stay = list_all (λ o. list_any (is_order (renamed_order (exchange t u) o)) d.orders) d.orders
@@ -52,7 +61,8 @@ module _ (d : Station) (t u : TrainNo) where
 
   -- the two trains are alike
   abbrev pub are_alike : Bool
-  are_alike = is_named d t && is_named d u && same_vehicle && same_visits && orders_stay && withins_stay
+  are_alike =
+      is_named d t && is_named d u && same_vehicle && same_visits && same_dwells && orders_stay && withins_stay
 
 -- u comes after t, and is like it
 abbrev pub is_later_alike : Station → TrainNo → TrainNo → Bool

@@ -5,16 +5,16 @@ ghost use Rattle.std.specs.List.{list_all, list_any, zip};
 ghost use Rattle.rail_base.specs.Stations.{IsTrain};
 ghost use Rattle.rail_alike.specs.Renaming.{renamed_order, renamed_within};
 ghost use Rattle.rail_alike.specs.Alike.{AreAlike, exchange};
-ghost use Rattle.rail_alike.specs.Tests.{are_alike, are_same, is_named, is_node, is_order, is_within, orders_stay};
-ghost use Rattle.rail_alike.specs.Tests.{same_vehicle, same_visits, withins_stay};
+ghost use Rattle.rail_alike.specs.Tests.{are_alike, are_same, is_named, is_node, is_number, is_order, is_within};
+ghost use Rattle.rail_alike.specs.Tests.{orders_stay, same_dwells, same_vehicle, same_visits, withins_stay};
 
 use rail_base::design::Design;
 use rail_base::list::List;
 use rail_base::station::{NodeNo, Order, TrainNo, Within};
 
-/// Whether the two trains are alike: both are trains of the design, they have one vehicle and the same visits, and each
-/// order and within is one of the design with them exchanged. It takes at most a comparison of each two orders, and of
-/// each two withins.
+/// Whether the two trains are alike: both are trains of the design, they have one vehicle and the same visits, at which
+/// they stand as long, and each order and within is one of the design with them exchanged. It takes at most a
+/// comparison of each two orders, and of each two withins.
 pub fn are_alike(design: &Design, one: TrainNo, other: TrainNo) -> bool
     ensures value { result ≡ are_alike design.now.station one other }
     ensures alike { IsTrue result ↔ AreAlike design.now.station one other }
@@ -117,6 +117,22 @@ fn are_visits(one: &[List<NodeNo>], other: &[List<NodeNo>]) -> bool
         .all(|(visit, beside)| same_nodes(visit, beside))
 }
 
+/// Whether the numbers that stand beside each other are the same.
+fn are_numbers(one: &[u32], other: &[u32]) -> bool
+    ensures { result ≡ list_all (λ p. is_number p.0 p.1) (zip one.now other.now) }
+{
+    one.iter()
+        .zip(other.iter())
+        .all(|(number, beside)| number == beside)
+}
+
+/// Whether the two lists have the same numbers in the same order.
+fn same_numbers(one: &List<u32>, other: &List<u32>) -> bool
+    ensures { result ≡ are_same is_number one.now other.now }
+{
+    one.len() == other.len() && are_numbers(one.as_slice(), other.as_slice())
+}
+
 /// Whether a train has this number.
 fn is_named(design: &Design, train: TrainNo) -> bool
     ensures value { result ≡ is_named design.now.station train }
@@ -143,6 +159,15 @@ fn same_visits(design: &Design, one: TrainNo, other: TrainNo) -> bool
     let one = &design.train(one).visits;
     let other = &design.train(other).visits;
     one.len() == other.len() && are_visits(one.as_slice(), other.as_slice())
+}
+
+/// Whether the two stand as long at each visit.
+fn same_dwells(design: &Design, one: TrainNo, other: TrainNo) -> bool
+    requires one { IsTrain design.now.station one }
+    requires other { IsTrain design.now.station other }
+    ensures { result ≡ same_dwells design.now.station one other }
+{
+    same_numbers(&design.train(one).dwell_ms, &design.train(other).dwell_ms)
 }
 
 /// Whether each order is one of the design with the two exchanged.
@@ -173,6 +198,7 @@ fn pass(design: &Design, one: TrainNo, other: TrainNo) -> bool
         && is_named(design, other)
         && same_vehicle(design, one, other)
         && same_visits(design, one, other)
+        && same_dwells(design, one, other)
         && orders_stay(design, one, other)
         && withins_stay(design, one, other)
 }

@@ -17,9 +17,9 @@ use Rattle.rail_base.specs.declared.station.SignalNo.{SignalNo}
 use Rattle.rail_base.specs.declared.station.TrainNo.{TrainNo}
 use Rattle.rail_base.specs.Numbering.{entry, one_to}
 use Rattle.rail_base.specs.Members.{In, Pairs, all_pairs}
-use Rattle.rail_base.specs.Stations.{is_side, node_of, edge_of, signal_of, vehicle_at, no_train, train_of, first_visit, per_tick_speed, per_tick_accel, horizon, IsSignal, HasVisit}
+use Rattle.rail_base.specs.Stations.{is_side, node_of, edge_of, signal_of, vehicle_at, no_train, train_of, first_visit, per_tick_speed, per_tick_accel, horizon, longest_dwell, IsSignal, HasVisit}
 use Rattle.rail_base.specs.Admitted.{IsAdmitted, IsGoodNode, IsGoodEdge, IsGoodSignal, IsGoodVehicle, IsGoodTrain, IsGoodOrder, IsGoodWithin, Ranges, ends_a, ends_b}
-use Rattle.rail_base.specs.Admission.{is_from, is_name, are_names, is_node, is_vehicle, is_visit, is_good_node, is_good_edge, are_numbered, is_good_signal, are_apart, is_good_vehicle, is_good_set, is_good_train, is_good_order, is_good_within, are_few, is_timed, are_named, is_sound_track, is_sound_traffic, is_admitted}
+use Rattle.rail_base.specs.Admission.{is_from, is_name, are_names, is_node, is_vehicle, is_visit, is_good_node, is_good_edge, are_numbered, is_good_signal, are_apart, is_good_vehicle, is_good_set, are_good_dwells, is_good_train, is_good_order, is_good_within, are_few, is_timed, are_named, is_sound_track, is_sound_traffic, is_admitted}
 use Rattle.rail_base.proofs.Members.{and_left, and_right, list_all_at, below_or_not}
 use Rattle.rail_base.proofs.Lists.{in_map, in_count, in_entry}
 
@@ -137,7 +137,8 @@ module _ (d : Station) where
 
   good_train : (t : Train) → is_good_train d t ≡ true → IsGoodTrain d t
   good_train t h =
-      let f = four (is_vehicle d t.vehicle) (is_from 1 16 (length t.visits)) (list_all (is_good_set d) t.visits) (list_all (λ n. (node_of d n).boundary) (first_visit t)) h in
+      let f = five (is_vehicle d t.vehicle) (is_from 1 16 (length t.visits)) (list_all (is_good_set d) t.visits) (list_all (λ n. (node_of d n).boundary) (first_visit t)) (are_good_dwells d t) h in
+      let g = three (length t.dwell_ms == length t.visits) (list_all (λ ms. nat_le ms (longest_dwell d)) t.dwell_ms) (entry 0 t.dwell_ms 1 == 0) f.4 in
       let of_set : (set : List NodeNo) → In set t.visits → (is_from 1 64 (length set) ≡ true) × (list_all (is_node d) set ≡ true) = λ set m. two (is_from 1 64 (length set)) (list_all (is_node d) set) (list_all_at (is_good_set d) t.visits set f.2 m) in
       record {
         vehicle = ranged 1 (length d.vehicles) t.vehicle.0 f.0;
@@ -145,6 +146,9 @@ module _ (d : Station) where
         nodes = λ set m. ranged 1 64 (length set) (of_set set m).0;
         there = λ set m n i. ranged 1 (length d.nodes) n.0 (list_all_at (is_node d) set n (of_set set m).1 i);
         begins = λ n i. list_all_at (λ n. (node_of d n).boundary) (first_visit t) n f.3 i;
+        dwells = eqb-true (length t.dwell_ms) (length t.visits) g.0;
+        dwell = λ ms i. up_to ms (longest_dwell d) (list_all_at (λ ms. nat_le ms (longest_dwell d)) t.dwell_ms ms g.1 i);
+        leaves_at_once = eqb-true (entry 0 t.dwell_ms 1) 0 g.2;
       }
 
   has_visit : (t : TrainNo) (j : ℕ) → is_visit d t j ≡ true → HasVisit d t j
@@ -196,7 +200,7 @@ module _ (d : Station) where
   admitted h =
       let all = five (are_few d) (is_timed d) (are_named d) (is_sound_track d) (is_sound_traffic d) h in
       let few = seven (nat_le (length d.nodes) 2000) (nat_le (length d.edges) 4000) (nat_le (length d.signals) 1000) (nat_le (length d.vehicles) 64) (is_from 1 128 (length d.trains)) (nat_le (length d.orders) 256) (nat_le (length d.withins) 256) all.0 in
-      let time = three (is_from 1 2 d.version) (is_from 100 1000 d.tick_ms) (is_from 1 86400 (horizon d)) all.1 in
+      let time = three (is_from 1 3 d.version) (is_from 100 1000 d.tick_ms) (is_from 1 86400 (horizon d)) all.1 in
       let n1 = are_names (map (λ (n : Node). n.name) d.nodes) in
       let n2 = are_names (map (λ (e : Edge). e.name) d.edges) in
       let n3 = are_names d.sections in
@@ -209,7 +213,7 @@ module _ (d : Station) where
       let traffic = four (list_all (is_good_vehicle d) d.vehicles) (list_all (is_good_train d) d.trains) (list_all (is_good_order d) d.orders) (list_all (is_good_within d) d.withins) all.4 in
       let number : ℕ → NodeNo = λ n. record { 0 = n } in
       record {
-        version = ranged 1 2 d.version time.0;
+        version = ranged 1 3 d.version time.0;
         tick = ranged 100 1000 d.tick_ms time.1;
         ticks = ranged 1 86400 (horizon d) time.2;
         many_nodes = up_to _ _ few.0;

@@ -12,9 +12,10 @@ use Rattle.rail_base.specs.declared.station.Within.{Within}
 use Rattle.rail_base.specs.declared.station.NodeNo.{NodeNo}
 use Rattle.rail_base.specs.declared.station.TrainNo.{TrainNo}
 use Rattle.rail_base.specs.declared.station.VehicleNo.{VehicleNo}
-use Rattle.rail_base.specs.Numbering.{one_to}
+use Rattle.rail_base.specs.Numbering.{entry, one_to}
 use Rattle.rail_base.specs.Members.{all_pairs}
 use Rattle.rail_base.specs.Stations.{is_side, node_of, train_of, first_visit, per_tick_speed, per_tick_accel, horizon}
+use Rattle.rail_base.specs.Stations.{longest_dwell}
 use Rattle.rail_base.specs.Admitted.{ends_a, ends_b}
 
 -- from the one to the other
@@ -89,10 +90,15 @@ is_good_vehicle d v = is_from 1 2000000 v.length_mm
 abbrev pub is_good_set : Station → List NodeNo → Bool
 is_good_set d set = is_from 1 64 (length set) && list_all (is_node d) set
 
--- a vehicle, 1 to 16 visits, the first at boundaries
+-- a time to stand at each visit, in range, and 0 at the first
+abbrev pub are_good_dwells : Station → Train → Bool
+are_good_dwells d t = (length t.dwell_ms == length t.visits) && list_all (λ ms. nat_le ms (longest_dwell d)) t.dwell_ms
+    && (entry 0 t.dwell_ms 1 == 0)
+
+-- a vehicle, 1 to 16 visits, the first at boundaries, and times to stand at them
 abbrev pub is_good_train : Station → Train → Bool
 is_good_train d t = is_vehicle d t.vehicle && is_from 1 16 (length t.visits) && list_all (is_good_set d) t.visits
-    && list_all (λ n. (node_of d n).boundary) (first_visit t)
+    && list_all (λ n. (node_of d n).boundary) (first_visit t) && are_good_dwells d t
 
 -- between two visits
 abbrev pub is_good_order : Station → Order → Bool
@@ -113,7 +119,7 @@ are_few d = nat_le (length d.nodes) 2000 && nat_le (length d.edges) 4000 && nat_
 
 -- the version, the tick and the horizon
 abbrev pub is_timed : Station → Bool
-is_timed d = is_from 1 2 d.version && is_from 100 1000 d.tick_ms && is_from 1 86400 (horizon d)
+is_timed d = is_from 1 3 d.version && is_from 100 1000 d.tick_ms && is_from 1 86400 (horizon d)
 
 -- the names in each array
 abbrev pub are_named : Station → Bool

@@ -14,10 +14,11 @@ use Rattle.rail_base.specs.declared.station.EdgeNo.{EdgeNo}
 use Rattle.rail_base.specs.declared.station.SignalNo.{SignalNo}
 use Rattle.rail_base.specs.declared.station.VehicleNo.{VehicleNo}
 use Rattle.rail_base.specs.declared.station.TrainNo.{TrainNo}
+use Rattle.rail_base.specs.Numbering.{entry}
 use Rattle.rail_base.specs.Members.{In, Pairs}
 use Rattle.rail_base.specs.Stations.{IsNode, IsEdge, IsSignal, IsVehicle, IsTrain, HasVisit, edge_of, node_of}
 use Rattle.rail_base.specs.Stations.{signal_of, vehicle_at, leave, train_of, first_visit, per_tick_speed}
-use Rattle.rail_base.specs.Stations.{per_tick_accel, horizon}
+use Rattle.rail_base.specs.Stations.{per_tick_accel, horizon, longest_dwell}
 
 -- from the one to the other
 abbrev pub Ranges : ℕ → ℕ → ℕ → Type 0
@@ -63,13 +64,16 @@ pub record IsGoodVehicle (d : Station) (v : Vehicle) : Type 0 where
   pub slows : 1 ≤ per_tick_accel d v.brake_mm_s2
   pub moves : 1 ≤ per_tick_speed d v.speed_mm_s
 
--- a train has a vehicle, visits nodes, and starts at boundaries
+-- a train has a vehicle, visits nodes, starts at boundaries, and has a time to stand at each visit, none at the first
 pub record IsGoodTrain (d : Station) (t : Train) : Type 0 where
   pub vehicle : IsVehicle d t.vehicle
   pub visits : Ranges 1 16 (length t.visits)
   pub nodes : (set : List NodeNo) → In set t.visits → Ranges 1 64 (length set)
   pub there : (set : List NodeNo) → In set t.visits → (n : NodeNo) → In n set → IsNode d n
   pub begins : (n : NodeNo) → In n (first_visit t) → (node_of d n).boundary ≡ true
+  pub dwells : length t.dwell_ms ≡ length t.visits
+  pub dwell : (ms : ℕ) → In ms t.dwell_ms → ms ≤ longest_dwell d
+  pub leaves_at_once : entry 0 t.dwell_ms 1 ≡ 0
 
 -- an order is between visits
 pub record IsGoodOrder (d : Station) (o : Order) : Type 0 where
@@ -84,7 +88,7 @@ pub record IsGoodWithin (d : Station) (w : Within) : Type 0 where
 
 -- the design is one that the reader answers
 pub record IsAdmitted (d : Station) : Type 0 where
-  pub version : Ranges 1 2 d.version
+  pub version : Ranges 1 3 d.version
   pub tick : Ranges 100 1000 d.tick_ms
   pub ticks : Ranges 1 86400 (horizon d)
   pub many_nodes : length d.nodes ≤ 2000

@@ -1,6 +1,6 @@
 -- Stations: what stands under a number, what is at an end, and numbers per tick.
-use Rattle.std.specs.Prelude.{ℕ, ◌*◌, ◌/◌, ◌≤◌, Bool, true, false, ◌&&◌, ◌||◌, ◌==◌, if◌then◌else◌, List, [], map}
-use Rattle.std.specs.Prelude.{filter, length}
+use Rattle.std.specs.Prelude.{ℕ, ◌+◌, ◌-◌, ◌*◌, ◌/◌, ◌≤◌, Bool, true, false, ◌&&◌, ◌||◌, ◌==◌, if◌then◌else◌, List}
+use Rattle.std.specs.Prelude.{[], map, filter, length, nat_le}
 use Rattle.rail_base.specs.declared.station.Station.{Station}
 use Rattle.rail_base.specs.declared.station.Node.{Node}
 use Rattle.rail_base.specs.declared.station.Edge.{Edge}
@@ -77,7 +77,7 @@ vehicle_at d v = entry no_vehicle d.vehicles v.0
 
 -- the train that none is
 abbrev pub no_train : Train
-no_train = record { name = []; vehicle = record { 0 = 0 }; visits = [] }
+no_train = record { name = []; vehicle = record { 0 = 0 }; visits = []; dwell_ms = [] }
 
 -- the train of this number
 abbrev pub train_of : Station → TrainNo → Train
@@ -154,6 +154,18 @@ per_tick_speed d v = v * d.tick_ms / 1000
 -- mm per tick in a tick of so many mm a second in a second
 abbrev pub per_tick_accel : Station → ℕ → ℕ
 per_tick_accel d a = a * d.tick_ms * d.tick_ms / 1000000
+
+-- so many ms in ticks, rounded up
+abbrev pub whole_ticks : Station → ℕ → ℕ
+whole_ticks d ms = (ms + d.tick_ms - 1) / d.tick_ms
+
+-- how many ticks a train stands at each of its visits
+abbrev pub dwell_ticks : Station → TrainNo → List ℕ
+dwell_ticks d t = map (whole_ticks d) (train_of d t).dwell_ms
+
+-- the longest time to stand at a visit, in ms: an hour from version 3 on, and none before it
+abbrev pub longest_dwell : Station → ℕ
+longest_dwell d = if nat_le 3 d.version then 3600000 else 0
 
 -- ---- numbers that the design has
 

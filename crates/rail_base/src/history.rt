@@ -16,6 +16,8 @@ pub struct TrainHistory {
     pub releases: List<(RouteNo, SectionNo, Option<u64>)>,
     /// Its visits, in order, each with the node at which it was made.
     pub visits: List<Option<(NodeNo, u64)>>,
+    /// For each visit the tick at which it has stood long enough there; none where it need not stand, or has not yet.
+    pub dwells: List<Option<u64>>,
 }
 
 /// What happened to each train, in file order.

@@ -88,6 +88,8 @@ pub struct Train {
     pub name: Name,
     pub vehicle: VehicleNo,
     pub visits: List<List<NodeNo>>,
+    /// How long it stands at each visit, in ms; as many as there are visits.
+    pub dwell_ms: List<u32>,
 }
 
 /// One visit is to come before another. Visits are counted from 1.

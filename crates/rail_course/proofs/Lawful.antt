@@ -10,9 +10,12 @@ use Rattle.rail_spec.specs.Feasible.{IsWellFormed}
 use Rattle.rail_spec.specs.Safety.{Clash, KeepsToTrack}
 use Rattle.rail_laws.specs.Progress.{IsGrantedInTime}
 use Rattle.rail_base.proofs.Admitting.{admitted}
-use Rattle.rail_laws.proofs.Admits.{never_clash}
+use Rattle.rail_spec.specs.Dispatches.{of_plan}
+use Rattle.rail_laws.proofs.Admits.{never_clash, sound}
+use Rattle.rail_laws.proofs.Authority.{stands_at_visit}
 use Rattle.rail_laws.proofs.Keeping.{keeps_authority, keeps_all_limits}
 use Rattle.rail_laws.proofs.Lively.{no_deadlock}
+use Rattle.rail_course.specs.Standing.{StandsAtVisits}
 
 module _ (d : Station) (good : is_admitted d ≡ true) (routes : List Route) (same : routes ≡ routes_of d) (plan : List (List Command)) (formed : IsWellFormed d routes 256 plan) where
   over_these : IsWellFormed d (routes_of d) 256 plan
@@ -30,6 +33,10 @@ module _ (d : Station) (good : is_admitted d ≡ true) (routes : List Route) (sa
     in_authority = keeps_authority d (admitted d good) 256 plan over_these.formed;
     in_limits = keeps_all_limits d (admitted d good) 256 plan over_these.formed;
   })
+
+  -- each stands at its visits
+  pub stands : StandsAtVisits d routes plan
+  stands = subst (λ rs. StandsAtVisits d rs plan) (sym same) (stands_at_visit d (routes_of d) (of_plan (routes_of d) plan) (sound d (admitted d good) 256 plan over_these.formed))
 
   -- and each command is granted
   pub granted : is_executable d routes plan ≡ true → IsGrantedInTime d routes plan

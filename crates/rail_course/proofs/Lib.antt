@@ -7,8 +7,10 @@ pub mod Parting
 pub mod Waiting
 pub mod Numbered
 pub mod Prefixing
+pub mod Stopping
 pub mod InTurn
 pub mod Sorting
 pub mod Reaching
 pub mod Lawful
 pub mod Told
+pub mod Following

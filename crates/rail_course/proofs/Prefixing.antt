@@ -14,7 +14,7 @@ use Rattle.rail_base.proofs.Lists.{length-map}
 use Rattle.rail_motion.specs.declared.Span.{Span}
 use Rattle.rail_motion.specs.Track.{stretch_of, stretches_of, IsRising, LeastAhead, NoneSlower}
 use Rattle.rail_spec.specs.Track.{edge_ends}
-use Rattle.rail_spec.specs.Dispatches.{Dispatch, stretch, stretches, rates, moved, track_end}
+use Rattle.rail_spec.specs.Dispatches.{Dispatch, stretch, stretches, rates, with_granted, authority, stood_after, moved}
 use Rattle.rail_course.specs.declared.train_path.TrainPath.{TrainPath}
 use Rattle.rail_course.specs.declared.prefixes.PathPrefix.{PathPrefix}
 use Rattle.rail_course.specs.Prefixes.{prefix_of}
@@ -104,14 +104,14 @@ module _ (d : Station) (routes : List Route) (path : List RouteNo) (train_path :
 
 -- ---- a move
 
-abbrev state : ℕ → ℕ → ℕ → TrainState
-state g x v = record { granted = g; x = x; v = v }
+abbrev state : ℕ → ℕ → ℕ → ℕ → TrainState
+state g x v n = record { granted = g; x = x; v = v; stood = n }
 
-state_same : (g x y v w : ℕ) → x ≡ y → v ≡ w → state g x v ≡ state g y w
-state_same g x y v w p q = cc
+state_same : (g x y v w m n : ℕ) → x ≡ y → v ≡ w → m ≡ n → state g x v m ≡ state g y w n
+state_same g x y v w m n p q r = cc
 
-pub moved_is : (d : Station) (routes : List Route) (dispatch : Dispatch) (t : TrainNo) (old : TrainState) (g x v : ℕ) → 1 ≤ g
-    → v ≡ next_speed (rates d t) (stretches d (take g (routes_at routes (dispatch.path t)))) (track_end (take g (routes_at routes (dispatch.path t)))) old.x old.v → x ≡ old.x + v
-    → state g x v ≡ moved d routes dispatch t old g
-moved_is d routes dispatch t old zero x v l s p = absurd (omega arith)
-moved_is d routes dispatch t old (suc g) x v l s p = state_same (suc g) x _ v _ (p ∙ ap (λ u. old.x + u) s) s
+pub moved_is : (d : Station) (routes : List Route) (dispatch : Dispatch) (t : TrainNo) (old : TrainState) (g x v n : ℕ) → 1 ≤ g
+    → v ≡ next_speed (rates d t) (stretches d (take g (routes_at routes (dispatch.path t)))) (authority d routes dispatch t (with_granted g old)) old.x old.v → x ≡ old.x + v
+    → n ≡ stood_after d routes dispatch t (with_granted g old) → state g x v n ≡ moved d routes dispatch t old g
+moved_is d routes dispatch t old zero x v n l s p w = absurd (omega arith)
+moved_is d routes dispatch t old (suc g) x v n l s p w = state_same (suc g) x _ v _ n _ (p ∙ ap (λ u. old.x + u) s) s w

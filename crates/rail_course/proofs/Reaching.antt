@@ -13,9 +13,10 @@ use Rattle.rail_spec.specs.Track.{routes_of}
 use Rattle.rail_spec.specs.Motion.{permitted}
 use Rattle.rail_spec.specs.Plans.{path, path_routes}
 use Rattle.rail_spec.specs.Feasible.{IsWellFormed}
-use Rattle.rail_spec.specs.Dispatches.{state_of, rates, stretches, of_plan, has_released, is_ready, granted_with, track_end}
+use Rattle.rail_spec.specs.Dispatches.{state_of, rates, stretches, of_plan, has_released, is_ready, granted_with, with_granted, authority}
 use Rattle.rail_spec.specs.Dispatches.{granted_after, moved, state_at}
 use Rattle.rail_laws.proofs.Exclusion.{by_tick, idle_at_first}
+use Rattle.rail_laws.proofs.Authority.{stood_ticks}
 use Rattle.rail_laws.proofs.UnderWay.{still, next_grants, travels}
 use Rattle.rail_laws.proofs.Admits.{sound}
 use Rattle.rail_laws.proofs.Small.{stays_small, IsSmall}
@@ -63,6 +64,7 @@ module _ (d : Station) (adm : IsAdmitted d) (plan : List (List Command)) (formed
     braking = go (granted_after d (routes_of d) (of_plan (routes_of d) plan) (state_at d (routes_of d) (of_plan (routes_of d) plan) k) t) (next_grants d (routes_of d) plan (state_at d (routes_of d) (of_plan (routes_of d) plan) k) t);
     below_2_46 = let x = small.x in let m : k * 100000 ≤ 86400 * 100000 = mul-le-mul early (le_refl 100000) in omega arith;
     slow = small.v;
+    stood = let l = stood_ticks d (routes_of d) (of_plan (routes_of d) plan) k t in omega arith;
   }
     where
       old : TrainState
@@ -71,7 +73,7 @@ module _ (d : Station) (adm : IsAdmitted d) (plan : List (List Command)) (formed
       small : IsSmall d adm (routes_of d) plan k old
       small = stays_small d adm (routes_of d) plan k t
 
-      go : (g : ℕ) → (g ≡ old.granted) ⊎ (g ≡ old.granted + 1) → 1 ≤ g → permitted (rates d t) (stretches d (take g (path_routes (routes_of d) plan t))) (track_end (take g (path_routes (routes_of d) plan t))) old.x old.v (old.v - (rates d t).brake) ≡ true
+      go : (g : ℕ) → (g ≡ old.granted) ⊎ (g ≡ old.granted + 1) → 1 ≤ g → permitted (rates d t) (stretches d (take g (path_routes (routes_of d) plan t))) (authority d (routes_of d) (of_plan (routes_of d) plan) t (with_granted g old)) old.x old.v (old.v - (rates d t).brake) ≡ true
       go zero e l = absurd (omega arith)
       go (suc g) e l = still d (routes_of d) plan (sound d adm 256 plan formed.formed) t named old g (travels d (routes_of d) plan (sound d adm 256 plan formed.formed) k t) e
 

@@ -3,7 +3,9 @@ pub mod Tracks
 pub mod Prefixes
 pub mod PathNodes
 pub mod Milestones
+pub mod Dwells
 pub mod TrainPaths
+pub mod Stops
 pub mod Waits
 pub mod Granting
 pub mod Ready
@@ -14,3 +16,4 @@ pub mod Itineraries
 pub mod Planned
 pub mod Runs
 pub mod Dispatched
+pub mod Standing

@@ -7,7 +7,7 @@ use Rattle.rail_base.specs.declared.plan.Command.{Command}
 use Rattle.rail_base.specs.declared.state.TrainState.{TrainState}
 use Rattle.rail_spec.specs.Motion.{permitted}
 use Rattle.rail_spec.specs.Plans.{path, path_routes}
-use Rattle.rail_spec.specs.Dispatches.{rates, stretches, of_plan, state_at, track_end}
+use Rattle.rail_spec.specs.Dispatches.{rates, stretches, of_plan, with_granted, authority, state_at}
 
 -- these are the states at a tick up to 86,400
 pub record IsReached (d : Station) (routes : List Route) (plan : List (List Command))
@@ -20,10 +20,12 @@ pub record IsReached (d : Station) (routes : List Route) (plan : List (List Comm
 pub record CanMove (d : Station) (routes : List Route) (plan : List (List Command)) (t : TrainNo)
     (granted : ℕ) (s : TrainState) : Type 0 where
   pub within : granted ≤ length (path plan t)
-  pub braking : 1 ≤ granted → let given = take granted (path_routes routes plan t) in
-      permitted (rates d t) (stretches d given) (track_end given) s.x s.v (s.v - (rates d t).brake) ≡ true
+  pub braking : 1 ≤ granted → let end = authority d routes (of_plan routes plan) t (with_granted granted s) in
+      let track = stretches d (take granted (path_routes routes plan t)) in
+      permitted (rates d t) track end s.x s.v (s.v - (rates d t).brake) ≡ true
   pub below_2_46 : s.x < 2 ^ 46
   pub slow : s.v ≤ 100000
+  pub stood : s.stood ≤ 86400
 
 -- these are the states at a tick from 1 on
 pub record IsNow (d : Station) (routes : List Route) (plan : List (List Command)) (tick : ℕ)

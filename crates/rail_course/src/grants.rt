@@ -13,6 +13,7 @@ pub const IDLE: TrainState = TrainState {
     granted: 0,
     x: 0,
     v: 0,
+    stood: 0,
 };
 
 /// The state of a train; who is no train is idle.

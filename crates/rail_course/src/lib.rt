@@ -1,6 +1,7 @@
 //! What runs need of each train, worked out once.
 #![tactic(auto)]
 
+mod dwells;
 mod grants;
 mod itineraries;
 mod journey;
@@ -13,10 +14,12 @@ mod path_nodes;
 mod planned;
 mod prefixes;
 mod spans;
+mod stops;
 mod train_path;
 mod train_paths;
 mod waits;
 
+pub use dwells::Dwell;
 pub use grants::{IDLE, granted_on, state_of};
 pub use itineraries::Itineraries;
 pub use journey::{Journey, Release};
@@ -27,5 +30,6 @@ pub use path_nodes::{path_nodes_of, visits_of};
 pub use planned::PlannedTrainPaths;
 pub use prefixes::PathPrefix;
 pub use spans::spans_of;
+pub use stops::stood_after;
 pub use train_path::TrainPath;
 pub use train_paths::TrainPaths;

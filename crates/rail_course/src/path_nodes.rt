@@ -6,7 +6,7 @@ ghost use Rattle.rail_base.specs.Routes.{IsRoute, route_at};
 ghost use Rattle.rail_spec.specs.Plans.{has_node};
 ghost use Rattle.rail_spec.specs.Places.{path_nodes, visits_on};
 ghost use Rattle.rail_course.specs.Tracks.{routes_at, path_length};
-ghost use Rattle.rail_course.specs.PathNodes.{path_node_at, AddsNodes};
+ghost use Rattle.rail_course.specs.PathNodes.{path_node_at, AddsNodes, LieBelow};
 ghost use Rattle.rail_course.specs.Milestones.{ComeInTurn};
 
 use interlocking::{Interlocking, has_node};
@@ -26,6 +26,7 @@ pub fn path_nodes_of(
     requires below_2_47 { path_length interlocking.now.routes path.now < 2 ^ 47 }
     ensures nodes { IfOk result (λ s. s.items ≡ path_nodes (routes_at interlocking.now.routes path.now)) }
     ensures in_turn { IfOk result (λ s. ComeInTurn (λ n. n.event.place) (λ n. n.event.granted) s.items) }
+    ensures on_path { IfOk result (λ s. LieBelow (2 ^ 47) s.items) }
 {
     let [first, later @ ..] = path else {
         return Ok(Vec::new(alloc));
@@ -125,6 +126,7 @@ fn path_nodes_from(
     requires below_2_47 { path_length interlocking.now.routes (first ∷ later.now) < 2 ^ 47 }
     ensures nodes { IfOk result (λ s. s.items ≡ path_nodes (routes_at interlocking.now.routes (first ∷ later.now))) }
     ensures in_turn { IfOk result (λ s. ComeInTurn (λ n. n.event.place) (λ n. n.event.granted) s.items) }
+    ensures on_path { IfOk result (λ s. LieBelow (2 ^ 47) s.items) }
 {
     let mut path_nodes = Vec::new(alloc);
     let route = route_at(&interlocking.routes, first);

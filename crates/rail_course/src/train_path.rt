@@ -5,6 +5,7 @@ ghost use Rattle.rail_base.specs.Stations.{IsTrain};
 ghost use Rattle.rail_course.specs.Itineraries.{AreTrainPathsIn, IsTrainPathIn, path_in};
 ghost use Rattle.rail_course.specs.Tracks.{IsPathInRange};
 
+use crate::dwells::{Dwell, dwells_of};
 use crate::itineraries::Itineraries;
 use crate::milestones::{Milestone, node_milestones};
 use crate::motor::motor_of;
@@ -36,6 +37,8 @@ pub struct TrainPath {
     pub node_milestones: Vec<Milestone>,
     /// Where each visit is made, if the path makes it.
     pub visits: Vec<Option<PathNode>>,
+    /// How long the train stands at each visit.
+    pub dwells: Vec<Dwell>,
 }
 
 impl Itineraries<'_> {
@@ -72,6 +75,7 @@ impl Itineraries<'_> {
         let path_nodes = path_nodes_of(alloc, self.interlocking, path)?;
         let node_milestones = node_milestones(alloc, &path_nodes)?;
         let visits = visits_of(alloc, design.train(train).visits.as_slice(), &path_nodes)?;
+        let dwells = dwells_of(alloc, design, design.train(train).dwell_ms.as_slice())?;
         Ok(TrainPath {
             train,
             length: u64::from(design.vehicle_of(train).length_mm),
@@ -82,6 +86,7 @@ impl Itineraries<'_> {
             path_nodes,
             node_milestones,
             visits,
+            dwells,
         })
     }
 }

@@ -15,18 +15,20 @@ use Rattle.rail_base.specs.declared.route.Finish.{Finish}
 use Rattle.rail_base.specs.declared.route.Finish.TheVariants as finish
 use Rattle.rail_base.specs.declared.plan.Command.{Command}
 use Rattle.rail_base.specs.Numbering.{entry, one_to, before_first}
-use Rattle.rail_base.specs.Members.{In, Differ, all_pairs, all_neighbors}
+use Rattle.rail_base.specs.Members.{In, Pairs, Differ, all_pairs, all_neighbors}
 use Rattle.rail_spec.specs.Track.{edge_ends, routes_of}
 use Rattle.rail_base.specs.Stations.{length_of, section_of, trains, train_of, first_visit, IsTrain}
 use Rattle.rail_spec.specs.Plans.{is_well_formed, is_executable, no_route, route_at, has_section, release_offset, length_mm, exits, is_route, is_start, goes_on, end_at_one_signal, begins_in, is_path, one_each, commands, path, path_routes}
 use Rattle.rail_laws.specs.Elementary.{IsAsItsEdges}
+use Rattle.rail_laws.specs.Standing.{NodesRise}
 use Rattle.rail_base.specs.Admitted.{IsAdmitted}
 use Rattle.rail_spec.specs.Feasible.{names_only, IsWellFormed}
 use Rattle.rail_spec.specs.Feasible as feasible
 use Rattle.rail_spec.specs.Safety.{Clash}
 use Rattle.rail_base.proofs.Members.{and_left, and_right, list_all_at, list_any_from, in_filter}
-use Rattle.rail_base.proofs.Lists.{in_map, in_map_back, in_count, in_filter_back}
+use Rattle.rail_base.proofs.Lists.{in_map, in_map_back, in_count, in_filter_back, pairs_map}
 use Rattle.rail_laws.proofs.AsEdges.{told, edge_of_end, fold_above, fold_reached}
+use Rattle.rail_laws.proofs.Visiting.{in_take}
 use Rattle.rail_laws.proofs.UnderWay.{IsSound}
 use Rattle.rail_laws.proofs.Standing.{HasSections, in_path, no_clash}
 
@@ -42,12 +44,6 @@ entry_is P other xs zero none each = none
 entry_is P other [] (suc i) none each = none
 entry_is P other (x ∷ xs) (suc zero) none each = each x (inl refl)
 entry_is P other (x ∷ xs) (suc (suc i)) none each = entry_is P other xs (suc i) none (λ y m. each y (inr m))
-
-in_take : {X : Type 0} (g : ℕ) (xs : List X) (x : X) → In x (take g xs) → In x xs
-in_take zero xs x m = absurd m
-in_take (suc g) [] x m = m
-in_take (suc g) (y ∷ ys) x (inl e) = inl e
-in_take (suc g) (y ∷ ys) x (inr m) = inr (in_take g ys x m)
 
 -- ---- paths
 
@@ -104,6 +100,20 @@ module _ (d : Station) (adm : IsAdmitted d) where
     pub released_after : (e : EdgeNo × ℕ) → In e (edge_ends d 0 r.edges) → e.1 ≤ release_offset r (section_of d e.0)
     pub released_in : (z : SectionNo) → release_offset r z ≤ length_mm r
     pub nodes_in : (p : NodeNo × ℤ) → In p r.nodes → nat_abs p.1 ≤ length_mm r
+    pub nodes_rise : NodesRise r
+
+  rises_of_offsets : (ns : List (NodeNo × ℤ)) → Pairs (λ (a b : ℤ). nat_abs a ≤ nat_abs b) (map (λ (n : NodeNo × ℤ). n.1) ns) → Pairs (λ (a b : NodeNo × ℤ). nat_abs a.1 ≤ nat_abs b.1) ns
+  rises_of_offsets [] h = tt
+  rises_of_offsets (n ∷ ns) h = (λ m i. h.0 m.1 (in_map (λ (q : NodeNo × ℤ). q.1) ns m i), rises_of_offsets ns h.1)
+
+  offsets_rise : (es : List (EdgeNo × ℕ)) → Pairs (λ (m n : EdgeNo × ℕ). m.1 < n.1) es → Pairs (λ (a b : ℤ). nat_abs a ≤ nat_abs b) (pos 0 ∷ map (λ (e : EdgeNo × ℕ). pos e.1) es)
+  offsets_rise es h = (λ o m. zero_least (nat_abs o), pairs_map (λ (a b : ℤ). nat_abs a ≤ nat_abs b) (λ (m n : EdgeNo × ℕ). m.1 < n.1) (λ (e : EdgeNo × ℕ). pos e.1) es later h)
+    where
+      zero_least : (n : ℕ) → 0 ≤ n
+      zero_least n = omega arith
+
+      later : (a b : EdgeNo × ℕ) → a.1 < b.1 → a.1 ≤ b.1
+      later a b l = omega arith
 
   abbrev offset_no : SectionNo × ℤ → ℕ
   offset_no p = nat_abs p.1
@@ -118,6 +128,7 @@ module _ (d : Station) (adm : IsAdmitted d) where
     released_after = λ e m. after e m (t.section_of_edge e.0 (edge_of_end d 0 r.edges e.0 e.1 m));
     released_in = λ z. within z (fold_reached 0 (map offset_no (filter (is_of z) r.sections)));
     nodes_in = λ p m. node_in p (subst (In p.1) t.nodes_at (in_map (λ (q : NodeNo × ℤ). q.1) r.nodes p m));
+    nodes_rise = rises_of_offsets r.nodes (subst (Pairs (λ (a b : ℤ). nat_abs a ≤ nat_abs b)) (sym t.nodes_at) (offsets_rise (edge_ends d 0 r.edges) t.rising));
   }
     where
       long : length_mm r ≡ sum_by (length_of d) r.edges
@@ -150,7 +161,7 @@ module _ (d : Station) (adm : IsAdmitted d) where
               let w = long in omega arith
 
   pub good_route : (r : RouteNo) → IsGood (route_at (routes_of d) r)
-  good_route r = entry_is IsGood no_route (routes_of d) r.0 (record { whole = refl; section = λ e m. absurd m; released_after = λ e m. absurd m; released_in = λ z. omega arith; nodes_in = λ p m. absurd m }) (λ q m. good_told q (told d adm q m))
+  good_route r = entry_is IsGood no_route (routes_of d) r.0 (record { whole = refl; section = λ e m. absurd m; released_after = λ e m. absurd m; released_in = λ z. omega arith; nodes_in = λ p m. absurd m; nodes_rise = tt }) (λ q m. good_told q (told d adm q m))
 
   -- ---- trains
 
@@ -181,6 +192,8 @@ module _ (d : Station) (adm : IsAdmitted d) where
       slows = λ i h. (adm.vehicle _ (adm.train (record { 0 = suc i }) (vehicle_of_train i h)).vehicle).slows;
       whole = λ t g. whole_path (take g (path_routes (routes_of d) plan t)) (λ r m. each t r (in_map_back (route_at (routes_of d)) (path plan t) r (in_take g (path_routes (routes_of d) plan t) r m)));
       exit_last = λ t g h e. exit_ends (path_routes (routes_of d) plan t) g (and_right (begins_in (first_visit (train_of d t)) (path_routes (routes_of d) plan t)) _ (and_left _ (all_pairs (λ r q. not (is_start r.start q.start)) (path_routes (routes_of d) plan t)) (and_left _ (all_pairs (λ r q. not (end_at_one_signal r.finish q.finish)) (path_routes (routes_of d) plan t)) (formed_path t h)))) e;
+      nodes_in = λ r. (good_route r).nodes_in;
+      nodes_rise = λ r. (good_route r).nodes_rise;
     }
       where
         each : (t : TrainNo) (r : Route) → ((p : RouteNo) × In p (path plan t) × (route_at (routes_of d) p ≡ r)) → sum_by (length_of d) r.edges ≡ length_mm r

@@ -1,9 +1,7 @@
 -- By the tick by which all commands are granted, all trains have come to the end of their paths, and all visits are made.
-use Rattle.std.proofs.Common.{◌≡◌, ℕ, zero, suc, ◌+◌, ◌≤◌, ◌<◌, ◌⊎◌, inl, inr, Bool, true, false, not, if◌then◌else◌, ◌==◌, nat_le, List, [], ◌∷◌, map, length, Option, Some, None, is_some, is_none, option_and_then, sum_by, ℤ, nat_abs, refl, sym, ap, subst, ◌∙◌, arith, leb-true, leb-false, le-leb, eqb-true, true≢false}
+use Rattle.std.proofs.Common.{◌≡◌, ℕ, zero, suc, ◌+◌, ◌≤◌, ◌<◌, Bool, true, false, not, if◌then◌else◌, ◌==◌, nat_le, List, map, length, Option, Some, None, is_some, is_none, option_and_then, sum_by, nat_abs, refl, sym, ap, subst, ◌∙◌, arith, leb-true, leb-false, le-leb, eqb-true, true≢false}
 use Rattle.std.specs.List.{list_any}
-use Rattle.std.proofs.lemmas.List.Sums.{sum_by-cons}
 use Rattle.rail_base.specs.declared.station.Station.{Station}
-use Rattle.rail_base.specs.declared.station.NodeNo.{NodeNo}
 use Rattle.rail_base.specs.declared.station.TrainNo.{TrainNo}
 use Rattle.rail_base.specs.declared.route.Route.{Route}
 use Rattle.rail_base.specs.declared.route.RouteNo.{RouteNo}
@@ -11,9 +9,9 @@ use Rattle.rail_base.specs.declared.plan.Command.{Command}
 use Rattle.rail_base.specs.declared.plan.Violation.{Violation}
 use Rattle.rail_base.specs.declared.plan.Violation.TheVariants as violation
 use Rattle.rail_base.specs.Members.{In}
-use Rattle.rail_base.specs.Numbering.{entry, one_to, least, or_this, from_first, first_of_list, after_first}
+use Rattle.rail_base.specs.Numbering.{entry, one_to, least, or_this}
 use Rattle.rail_spec.specs.Track.{routes_of}
-use Rattle.rail_spec.specs.Plans.{route_at, length_mm, exits, path, path_routes, has_node}
+use Rattle.rail_spec.specs.Plans.{route_at, length_mm, exits, path, path_routes}
 use Rattle.rail_base.specs.Stations.{trains, train_of, train_length, horizon, IsTrain}
 use Rattle.rail_spec.specs.Dispatches.{state_of, of_plan, state_at}
 use Rattle.rail_base.specs.declared.state.PathNode.{PathNode}
@@ -24,72 +22,14 @@ use Rattle.rail_base.specs.Admitted.{IsAdmitted}
 use Rattle.rail_spec.specs.Feasible.{IsRunnable}
 use Rattle.rail_laws.specs.Progress.{last_grant}
 use Rattle.rail_spec.specs.Verdict.{or_else, failure, IsForTime}
-use Rattle.rail_spec.specs.Places.{path_nodes_of, path_nodes_after, path_nodes, visits_at, visits_on}
 use Rattle.rail_base.proofs.Members.{and_left, and_right, and_both}
-use Rattle.rail_base.proofs.Lists.{in_append, in_map, in_map_back, in_flat_map, in_flat_map_back, length-map}
+use Rattle.rail_base.proofs.Lists.{in_map, in_map_back, in_flat_map, in_flat_map_back, length-map}
+pub use Rattle.rail_laws.proofs.Visiting.{in_after, in_from}
+use Rattle.rail_laws.proofs.Visiting.{NodesIn, in_path_nodes, in_visits_on}
 use Rattle.rail_laws.proofs.Admits.{entry_is, good_route}
 use Rattle.rail_laws.proofs.Progress.{runs_through, all_of_path}
 use Rattle.rail_laws.proofs.Lively.{lively, no_deadlock, all_granted}
 use Rattle.rail_laws.proofs.Verdicts.{none_found, found_in, found_passes, one_to_in, done_grants, done_visits, done_from, each_way}
-
--- ---- the stops of a path lie on it
-
-abbrev NodesIn : List Route → Type 0
-NodesIn rs = (r : Route) → In r rs → (p : NodeNo × ℤ) → In p r.nodes → nat_abs p.1 ≤ length_mm r
-
-pub in_after : {X : Type 0} (xs : List X) (x : X) → In x (after_first xs) → In x xs
-in_after [] x m = m
-in_after (y ∷ ys) x m = inr m
-
-pub in_from : {X : Type 0} (test : X → Bool) (xs : List X) (x : X) → In x (from_first test xs) → In x xs
-in_from test [] x m = m
-in_from {X} test (y ∷ ys) x m = go (test y) m (in_from test ys x)
-  where
-    go : (b : Bool) → In x (if b then y ∷ ys else from_first test ys) → (In x (from_first test ys) → In x ys) → In x (y ∷ ys)
-    go true k later = k
-    go false k later = inr (later k)
-
-in_path_nodes_of : (o j : ℕ) (r : Route) → ((p : NodeNo × ℤ) → In p r.nodes → nat_abs p.1 ≤ length_mm r) → (s : PathNode) → In s (path_nodes_of o j r) → (s.event.place ≤ o + length_mm r) × (s.event.granted ≡ j)
-in_path_nodes_of o j r good s m = go (in_map_back (λ (p : NodeNo × ℤ). let t : PathNode = record { node = p.0; event = record { granted = j; place = o + nat_abs p.1 } } in t) r.nodes s m)
-  where
-    go : ((p : NodeNo × ℤ) × In p r.nodes × (record { node = p.0; event = record { granted = j; place = o + nat_abs p.1 } } ≡ s)) → (s.event.place ≤ o + length_mm r) × (s.event.granted ≡ j)
-    go (p, k, e) = let l = good p k in let n : o + nat_abs p.1 ≡ s.event.place = ap (λ (t : PathNode). t.event.place) e in (omega arith, sym (ap (λ (t : PathNode). t.event.granted) e))
-
-in_path_nodes_after : (rs : List Route) (o j : ℕ) → NodesIn rs → (s : PathNode) → In s (path_nodes_after o j rs) → (s.event.place ≤ o + sum_by length_mm rs) × (s.event.granted < j + length rs)
-in_path_nodes_after [] o j good s m = absurd m
-in_path_nodes_after (r ∷ rs) o j good s m = go (in_append s (after_first (path_nodes_of o j r)) (path_nodes_after (o + length_mm r) (j + 1) rs) m) (in_path_nodes_after rs (o + length_mm r) (j + 1) (λ q k. good q (inr k)) s)
-  where
-    go : In s (after_first (path_nodes_of o j r)) ⊎ In s (path_nodes_after (o + length_mm r) (j + 1) rs) → (In s (path_nodes_after (o + length_mm r) (j + 1) rs) → (s.event.place ≤ o + length_mm r + sum_by length_mm rs) × (s.event.granted < j + 1 + length rs)) → (s.event.place ≤ o + sum_by length_mm (r ∷ rs)) × (s.event.granted < j + length (r ∷ rs))
-    go (inl k) later = let l = in_path_nodes_of o j r (good r (inl refl)) s (in_after _ s k) in let a = l.0 in let b = l.1 in let w = sum_by-cons length_mm r rs in (omega arith, omega arith)
-    go (inr k) later = let l = later k in let a = l.0 in let b = l.1 in let w = sum_by-cons length_mm r rs in (omega arith, omega arith)
-
-in_path_nodes : (rs : List Route) → NodesIn rs → (s : PathNode) → In s (path_nodes rs) → (s.event.place ≤ sum_by length_mm rs) × (s.event.granted ≤ length rs)
-in_path_nodes [] good s m = absurd m
-in_path_nodes (r ∷ rs) good s m = go (in_append s (path_nodes_of 0 1 r) (path_nodes_after (length_mm r) 2 rs) m)
-  where
-    go : In s (path_nodes_of 0 1 r) ⊎ In s (path_nodes_after (length_mm r) 2 rs) → (s.event.place ≤ sum_by length_mm (r ∷ rs)) × (s.event.granted ≤ length (r ∷ rs))
-    go (inl k) = let l = in_path_nodes_of 0 1 r (good r (inl refl)) s k in let a = l.0 in let b = l.1 in let w = sum_by-cons length_mm r rs in (omega arith, omega arith)
-    go (inr k) = let l = in_path_nodes_after rs (length_mm r) 2 (λ q i. good q (inr i)) s k in let a = l.0 in let b = l.1 in let w = sum_by-cons length_mm r rs in (omega arith, omega arith)
-
--- ---- visits are made at stops
-
-in_visits_at : (sets : List (List NodeNo)) (ps : List PathNode) (s : PathNode) → In (Some s) (visits_at sets ps) → In s ps
-in_visits_at [] ps s m = absurd m
-in_visits_at (set ∷ sets) ps s (inl e) = in_from (λ p. has_node set p.node) ps s (first (from_first (λ p. has_node set p.node) ps) e)
-  where
-    first : (xs : List PathNode) → first_of_list xs ≡ Some s → In s xs
-    first [] h = cc
-    first (x ∷ xs) h = inl cc
-in_visits_at (set ∷ sets) ps s (inr m) = in_from (λ p. has_node set p.node) ps s (in_after (from_first (λ p. has_node set p.node) ps) s (in_visits_at sets (after_first (from_first (λ p. has_node set p.node) ps)) s m))
-
-in_visits_on : (sets : List (List NodeNo)) (ps : List PathNode) (s : PathNode) → In (Some s) (visits_on sets ps) → In s ps
-in_visits_on [] ps s m = absurd m
-in_visits_on (set ∷ sets) ps s (inr m) = in_after ps s (in_visits_at sets (after_first ps) s m)
-in_visits_on (set ∷ sets) ps s (inl e) = first ps e
-  where
-    first : (xs : List PathNode) → first_of_list xs ≡ Some s → In s xs
-    first [] h = cc
-    first (x ∷ xs) h = inl cc
 
 least_some : (test : ℕ → Bool) (n : ℕ) → 1 ≤ n → test n ≡ true → is_some (least test n) ≡ true
 least_some test zero low h = absurd (omega arith)

@@ -1,4 +1,4 @@
--- In every run of a well-formed plan trains keep to their track_end and to the limits of the points that they cover.
+-- In every run of a well-formed plan trains keep to their authority and to the limits of the points that they cover.
 use Rattle.std.proofs.Common.{◌≡◌, ℕ, zero, suc, ◌+◌, ◌-◌, ◌≤◌, ◌⊎◌, true, List, take, Option, arith}
 use Rattle.rail_base.specs.declared.station.Station.{Station}
 use Rattle.rail_base.specs.declared.station.TrainNo.{TrainNo}
@@ -8,7 +8,7 @@ use Rattle.rail_base.specs.declared.state.TrainState.{TrainState}
 use Rattle.rail_spec.specs.Track.{routes_of}
 use Rattle.rail_spec.specs.Plans.{path_routes, is_well_formed}
 use Rattle.rail_spec.specs.Motion.{MotorSeen, SpanSeen, KeepsLimits, may_stop, permitted, next_speed}
-use Rattle.rail_spec.specs.Dispatches.{state_of, rates, binding_length, stretches, of_plan, granted_after, moved, track_end}
+use Rattle.rail_spec.specs.Dispatches.{state_of, rates, binding_length, stretches, of_plan, granted_after, moved, with_granted, authority}
 use Rattle.rail_spec.specs.Dispatches.{state_at}
 use Rattle.rail_base.specs.Admitted.{IsAdmitted}
 use Rattle.rail_base.specs.Stations.{IsTrain}
@@ -27,7 +27,8 @@ module _ (d : Station) (adm : IsAdmitted d) (n : ℕ) (plan : List (List Command
   abbrev given : TrainNo → ℕ → List Route
   given t g = take g (path_routes (routes_of d) plan t)
 
-  pub keeps_authority : (k : ℕ) (t : TrainNo) → 1 ≤ (state_of (state_at d (routes_of d) (of_plan (routes_of d) plan) k) t).granted → may_stop (track_end (given t (state_of (state_at d (routes_of d) (of_plan (routes_of d) plan) k) t).granted)) (state_of (state_at d (routes_of d) (of_plan (routes_of d) plan) k) t).x ≡ true
+  pub keeps_authority : (k : ℕ) (t : TrainNo) → 1 ≤ (state_of (state_at d (routes_of d) (of_plan (routes_of d) plan) k) t).granted
+      → let s = state_of (state_at d (routes_of d) (of_plan (routes_of d) plan) k) t in may_stop (authority d (routes_of d) (of_plan (routes_of d) plan) t s) s.x ≡ true
   keeps_authority = within_authority d (routes_of d) plan (sound d adm n plan formed)
 
   abbrev Keeps : TrainNo → TrainState → TrainState → Type 0
@@ -40,5 +41,6 @@ module _ (d : Station) (adm : IsAdmitted d) (n : ℕ) (plan : List (List Command
       one named old zero h e some = λ p l m. absurd (omega arith)
       one named old (suc g) h e some =
           let now = still d (routes_of d) plan (sound d adm n plan formed) t named old g h e in
-          move_keeps (rates d t) (stretches d (given t (suc g))) (track_end (given t (suc g))) old.x old.v (next_speed (rates d t) (stretches d (given t (suc g))) (track_end (given t (suc g))) old.x old.v)
-          (next_speed_permitted (rates d t) (stretches d (given t (suc g))) (track_end (given t (suc g))) old.x old.v _ now)
+          let end = authority d (routes_of d) (of_plan (routes_of d) plan) t (with_granted (suc g) old) in
+          move_keeps (rates d t) (stretches d (given t (suc g))) end old.x old.v (next_speed (rates d t) (stretches d (given t (suc g))) end old.x old.v)
+          (next_speed_permitted (rates d t) (stretches d (given t (suc g))) end old.x old.v _ now)

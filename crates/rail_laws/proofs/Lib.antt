@@ -5,6 +5,10 @@ pub mod RouteLaws
 pub mod BadWalk
 pub mod AsEdges
 pub mod Exclusion
+pub mod Visiting
+pub mod Stops
+pub mod Ahead
+pub mod Authority
 pub mod UnderWay
 pub mod Deciding
 pub mod Standing

@@ -22,7 +22,7 @@ use Rattle.rail_laws.proofs.RouteLaws.{walk_edges, route_is}
 use Rattle.rail_laws.proofs.Standing.{in_path}
 use Rattle.rail_laws.proofs.Sums.{get_below, get_in, one_place}
 use Rattle.rail_laws.proofs.Given.{command_in_path}
-use Rattle.rail_laws.proofs.Admits.{entry_is, good_route, named_train, path_differs}
+use Rattle.rail_laws.proofs.Admits.{entry_is, good_route, sound, named_train, path_differs}
 use Rattle.rail_laws.proofs.Progress.{IsLively, place, granted_from, granted_in_time}
 
 module _ (d : Station) (adm : IsAdmitted d) where
@@ -42,6 +42,7 @@ module _ (d : Station) (adm : IsAdmitted d) where
       one = and_right (nat_le (length plan) n) (list_all one_each plan) (and_left (nat_le (length plan) n && list_all one_each plan) (list_all (λ t. is_path (train_of d t) (path_routes (routes_of d) plan t)) (trains d)) able.well_formed.formed);
       named = λ c m. named_train d adm n plan able.well_formed c.train c.route (command_in_path plan c m);
       can_run = able.executable;
+      sound = sound d adm n plan able.well_formed.formed;
     }
 
     pub no_deadlock : (c : Command) → In c (commands plan) → (k : ℕ) → last_grant d (routes_of d) plan ≤ k → is_granted d (routes_of d) (of_plan (routes_of d) plan) (state_at d (routes_of d) (of_plan (routes_of d) plan) k) c ≡ true

@@ -1,5 +1,5 @@
 -- What small designs ask for, and when it is decided.
-use Rattle.std.specs.Prelude.{◌≡◌, ℕ, true, List, [], ◌∷◌, map, Option, Some, refl}
+use Rattle.std.specs.Prelude.{◌≡◌, ℕ, true, List, [], ◌∷◌, map, Option, Some, None, refl}
 use Rattle.rail_base.specs.declared.station.Station.{Station}
 use Rattle.rail_base.specs.declared.station.TrainNo.{TrainNo}
 use Rattle.rail_base.specs.declared.plan.Command.{Command}
@@ -7,8 +7,9 @@ use Rattle.rail_base.specs.declared.plan.Violation.TheVariants as violation
 use Rattle.rail_spec.specs.Track.{routes_of}
 use Rattle.rail_spec.specs.Dispatches.{of_plan}
 use Rattle.rail_spec.specs.Visits.{passed}
+use Rattle.rail_spec.specs.Histories.{dwell_tick}
 use Rattle.rail_spec.specs.Requirements.{meets, cost, violation_at, path_violation}
-use Rattle.rail_laws.proofs.Stations.{halt, follow, follow_short, parallel, plan_one, plan_two, plan_half, plan_together, halt_within, follow_within}
+use Rattle.rail_laws.proofs.Stations.{halt, halt_for, follow, follow_short, parallel, plan_one, plan_two, plan_half, plan_together, halt_within, follow_within}
 
 abbrev t : ℕ → TrainNo
 t n = record { 0 = n }
@@ -24,6 +25,15 @@ cost_of_one = refl
 
 meets_one : meets halt (routes_of halt) plan_one ≡ true
 meets_one = refl
+
+passes_of_stop : passes (halt_for 3000) plan_one 16 (t 1) ≡ (1, Some 1) ∷ (2, Some 8) ∷ (3, Some 16) ∷ []
+passes_of_stop = refl
+
+dwells_of_stop : map (dwell_tick (halt_for 3000) (routes_of (halt_for 3000)) plan_one 16 (t 1)) (1 ∷ 2 ∷ 3 ∷ []) ≡ None ∷ Some 11 ∷ None ∷ []
+dwells_of_stop = refl
+
+cost_of_stop : cost (halt_for 3000) (routes_of (halt_for 3000)) plan_one ≡ 16
+cost_of_stop = refl
 
 half : path_violation halt (routes_of halt) plan_half ≡ Some (violation.Path (t 1) 2)
 half = refl

@@ -1,6 +1,7 @@
 -- In every run of a runnable plan each command is granted in time.
-use Rattle.std.proofs.Common.{◌≡◌, ℕ, zero, suc, ◌+◌, ◌≤◌, ◌<◌, ◌⊎◌, inl, inr, min, Bool, true, false, cond, not, ◌&&◌, ◌||◌, if◌then◌else◌, ◌==◌, nat_le, nat_lt, List, [], ◌∷◌, map, filter, flat_map, take, length, slice_get, Option, Some, None, sum_by, refl, sym, ap, subst, ◌∙◌, arith, leb-true, leb-false, le-leb, eqb-true, true≢false, length-take, length-append, take_all}
-use Rattle.std.specs.List.{list_any, list_all}
+use Rattle.std.proofs.Common.{◌≡◌, ℕ, zero, suc, ◌+◌, ◌≤◌, ◌<◌, ◌⊎◌, inl, inr, min, Bool, true, false, cond, not, ◌&&◌, ◌||◌, if◌then◌else◌, ◌==◌, nat_le, nat_lt, List, [], ◌∷◌, map, filter, flat_map, take, length, slice_get, Option, Some, None, sum_by, refl, sym, ap, subst, ◌∙◌, arith, leb-true, leb-false, le-leb, eqb-true, eq-eqb, eq-or-lt_of_le, ◌-◌, true≢false, length-take, length-append, take_all}
+use Rattle.std.specs.List.{list_any, list_all, sum}
+use Rattle.std.specs.Option.{option_or}
 use Rattle.std.proofs.lemmas.List.Sums.{sum_by-cons, sum_by-take-le}
 use Rattle.std.proofs.lemmas.Option.{slice_get_within}
 use Rattle.rail_base.specs.declared.station.Station.{Station}
@@ -13,11 +14,11 @@ use Rattle.rail_base.specs.declared.plan.Command.{Command}
 use Rattle.rail_base.specs.declared.state.TrainState.{TrainState}
 use Rattle.rail_base.specs.Numbering.{count_from, one_to, before_first}
 use Rattle.rail_base.specs.Members.{In, Differ}
-use Rattle.rail_base.specs.Stations.{edge_of, trains, train_length, per_tick_speed, IsTrain}
+use Rattle.rail_base.specs.Stations.{edge_of, trains, train_length, per_tick_speed, IsTrain, dwell_ticks}
 use Rattle.rail_spec.specs.Track.{edge_ends}
 use Rattle.rail_spec.specs.Plans.{route_at, length_mm, share, shared, release_offset, exits, is_train, is_route, commands, routes_given, path, path_routes, step_of, precedes, preceding, one_each, given_between, can_clear, may_stand, is_executable}
-use Rattle.rail_spec.specs.Motion.{SpanSeen}
-use Rattle.rail_spec.specs.Dispatches.{state_of, rates, stretch, stretches, of_plan, routes_before, speed_in, with_granted, track_end}
+use Rattle.rail_spec.specs.Motion.{SpanSeen, may_stop}
+use Rattle.rail_spec.specs.Dispatches.{state_of, rates, stretch, stretches, of_plan, routes_before, speed_in, with_granted, track_end, is_at, stop_place, authority, stands}
 use Rattle.rail_spec.specs.Dispatches.{is_granted, has_released, has_cleared, is_ready, granted_with, granted_after}
 use Rattle.rail_spec.specs.Dispatches.{moved, state_at}
 use Rattle.rail_laws.specs.Progress.{MayMove, last_grant}
@@ -30,6 +31,9 @@ use Rattle.rail_laws.proofs.AsEdges.{edge_of_end}
 use Rattle.rail_laws.proofs.Admits.{once_from}
 use Rattle.rail_laws.proofs.Given.{same_train, path_is, command_in_path, steps_rise}
 use Rattle.rail_laws.proofs.Moving.{moves_on}
+use Rattle.rail_laws.proofs.MotionLaws.{permitted_stop}
+use Rattle.rail_laws.proofs.UnderWay.{IsSound, next_grants, still, travels}
+use Rattle.rail_laws.proofs.Authority.{stood_later, stood_within}
 
 or_false : (a b : Bool) → (a || b) ≡ false → (a ≡ false) × (b ≡ false)
 or_false true b h = absurd (true≢false h)
@@ -151,6 +155,7 @@ module _ (d : Station) (routes : List Route) (plan : List (List Command)) where
     pub one : list_all one_each plan ≡ true
     pub named : (c : Command) → In c (commands plan) → IsTrain d c.train
     pub can_run : is_executable d routes plan ≡ true
+    pub sound : IsSound d routes plan
 
   abbrev pub now : ℕ → TrainNo → TrainState
   now k t = state_of (state_at d routes (of_plan routes plan) k) t
@@ -163,7 +168,7 @@ module _ (d : Station) (routes : List Route) (plan : List (List Command)) where
   reach_of t = sum_by length_mm (rs_of t) + (if list_any exits (rs_of t) then train_length d t else 0)
 
   abbrev pub measure : ℕ → ℕ
-  measure k = sum_by (λ t. (now k t).granted + min (now k t).x (reach_of t)) (trains d)
+  measure k = sum_by (λ t. (now k t).granted + min (now k t).x (reach_of t) + (now k t).stood) (trains d)
 
   -- ---- the state after a tick
 
@@ -470,18 +475,44 @@ module _ (d : Station) (routes : List Route) (plan : List (List Command)) where
         go : ((e : EdgeNo × ℕ) × In e (edge_ends d 0 (flat_map (λ r. r.edges) (take g (rs_of t)))) × (stretch d e ≡ s)) → 1 ≤ s.limit
         go (e, k, same) = subst (λ (z : SpanSeen). 1 ≤ z.limit) same (at_edge e (in_flat_map_back (λ (r : Route). r.edges) (take g (rs_of t)) e.0 (edge_of_end d 0 (flat_map (λ r. r.edges) (take g (rs_of t))) e.0 e.1 k)))
 
-    moves_one : (k : ℕ) (t : TrainNo) → IsTrain d t → 1 ≤ (now k t).granted → (list_any exits (take (now k t).granted (rs_of t)) ≡ true) ⊎ ((now k t).x < sum_by length_mm (take (now k t).granted (rs_of t))) → (now k t).x + 1 ≤ (now (suc k) t).x
-    moves_one k t h some track =
-        let g = granted_after d routes (of_plan routes plan) (state_at d routes (of_plan routes plan) k) t in
-        let grows = granted_after_more d routes plan (state_at d routes (of_plan routes plan) k) t in
-        let rates_of = lively.moves t h in
-        let speed : 1 ≤ speed_in d routes (of_plan routes plan) t (with_granted g (now k t)) = moves_on (rates d t) (stretches d (take g (rs_of t))) (track_end (take g (rs_of t))) (now k t).x (now k t).v rates_of.0 rates_of.1 rates_of.2 (stretch_limit t g) (may_move (take g (rs_of t)) (now k t).x (still g grows track)) in
-        let after : (now (suc k) t).x ≡ (now k t).x + speed_in d routes (of_plan routes plan) t (with_granted g (now k t)) = ap (λ (s : TrainState). s.x) (state_after k t h) ∙ moved_on t (now k t) g (omega arith) in
-        omega arith
+    -- the train is farther on, or has stood longer
+    abbrev GoesOn : ℕ → TrainNo → Type 0
+    GoesOn k t = ((now k t).x + 1 ≤ (now (suc k) t).x) ⊎ ((now k t).stood + 1 ≤ (now (suc k) t).stood)
+
+    goes_on : (k : ℕ) (t : TrainNo) → IsTrain d t → 1 ≤ (now k t).granted → (list_any exits (take (now k t).granted (rs_of t)) ≡ true) ⊎ ((now k t).x < sum_by length_mm (take (now k t).granted (rs_of t))) → GoesOn k t
+    goes_on k t h some track =
+        by_grants (granted_after d routes (of_plan routes plan) (state_at d routes (of_plan routes plan) k) t) (granted_after_more d routes plan (state_at d routes (of_plan routes plan) k) t)
+        (next_grants d routes plan (state_at d routes (of_plan routes plan) k) t) (state_after k t h)
       where
-        still : (g : ℕ) → (now k t).granted ≤ g → (list_any exits (take (now k t).granted (rs_of t)) ≡ true) ⊎ ((now k t).x < sum_by length_mm (take (now k t).granted (rs_of t))) → (list_any exits (take g (rs_of t)) ≡ true) ⊎ ((now k t).x < sum_by length_mm (take g (rs_of t)))
-        still g l (inl e) = inl (exits_longer (now k t).granted g (rs_of t) l e)
-        still g l (inr e) = let m = sum_longer (now k t).granted g (rs_of t) l in inr (omega arith)
+        longer : (g : ℕ) → (now k t).granted ≤ g → (list_any exits (take (now k t).granted (rs_of t)) ≡ true) ⊎ ((now k t).x < sum_by length_mm (take (now k t).granted (rs_of t))) → (list_any exits (take g (rs_of t)) ≡ true) ⊎ ((now k t).x < sum_by length_mm (take g (rs_of t)))
+        longer g l (inl e) = inl (exits_longer (now k t).granted g (rs_of t) l e)
+        longer g l (inr e) = let m = sum_longer (now k t).granted g (rs_of t) l in inr (omega arith)
+
+        by_grants : (g : ℕ) → (now k t).granted ≤ g → (g ≡ (now k t).granted) ⊎ (g ≡ (now k t).granted + 1) → now (suc k) t ≡ moved d routes (of_plan routes plan) t (now k t) g → GoesOn k t
+        by_grants zero l e next = absurd (omega arith)
+        by_grants (suc n) l e next = go (stop_place d routes (of_plan routes plan) t (with_granted (suc n) (now k t))) refl
+          where
+            runs : MayMove (authority d routes (of_plan routes plan) t (with_granted (suc n) (now k t))) (now k t).x → GoesOn k t
+            runs may =
+                let can = lively.moves t h in
+                let speed : 1 ≤ speed_in d routes (of_plan routes plan) t (with_granted (suc n) (now k t)) = moves_on (rates d t) (stretches d (take (suc n) (rs_of t))) (authority d routes (of_plan routes plan) t (with_granted (suc n) (now k t))) (now k t).x (now k t).v can.0 can.1 can.2 (stretch_limit t (suc n)) may in
+                let x_after : (now (suc k) t).x ≡ (now k t).x + speed_in d routes (of_plan routes plan) t (with_granted (suc n) (now k t)) = ap (λ (s : TrainState). s.x) next in
+                inl (omega arith)
+
+            within : may_stop (authority d routes (of_plan routes plan) t (with_granted (suc n) (now k t))) (now k t).x ≡ true
+            within = permitted_stop (rates d t) (stretches d (take (suc n) (rs_of t))) (authority d routes (of_plan routes plan) t (with_granted (suc n) (now k t))) (now k t).x (now k t).v ((now k t).v - (rates d t).brake) (now k t).x (omega arith)
+                (still d routes plan lively.sound t h (now k t) n (travels d routes plan lively.sound k t) e)
+
+            at_place : (q : ℕ) → stop_place d routes (of_plan routes plan) t (with_granted (suc n) (now k t)) ≡ Some q → ((now k t).x ≡ q) ⊎ ((now k t).x < q) → GoesOn k t
+            at_place q is (inr less) = runs (subst (λ o. MayMove (option_or o (track_end (take (suc n) (rs_of t)))) (now k t).x) (sym is) less)
+            at_place q is (inl same) =
+                let stays : stands d routes (of_plan routes plan) t (with_granted (suc n) (now k t)) ≡ true = ap (λ o. is_at o (now k t).x) is ∙ eq-eqb (now k t).x q same in
+                let stood_after : (now (suc k) t).stood ≡ (now k t).stood + 1 = ap (λ (s : TrainState). s.stood) next ∙ ap (λ b. if b then (now k t).stood + 1 else (now k t).stood) stays in
+                inr (omega arith)
+
+            go : (o : Option ℕ) → stop_place d routes (of_plan routes plan) t (with_granted (suc n) (now k t)) ≡ o → GoesOn k t
+            go None is = runs (subst (λ o. MayMove (option_or o (track_end (take (suc n) (rs_of t)))) (now k t).x) (sym is) (may_move (take (suc n) (rs_of t)) (now k t).x (longer (suc n) l track)))
+            go (Some q) is = at_place q is (eq-or-lt_of_le (leb-true (now k t).x q (subst (λ o. may_stop (option_or o (track_end (take (suc n) (rs_of t)))) (now k t).x ≡ true) is within)))
 
     -- ---- each tick counts
 
@@ -489,13 +520,20 @@ module _ (d : Station) (routes : List Route) (plan : List (List Command)) where
     in_trains t h = in_map (λ n. record { 0 = n }) (one_to (length d.trains)) t.0 (let l = h.0 in let u = h.1 in in_count 1 (length d.trains) t.0 l (omega arith))
 
     abbrev share_of : ℕ → TrainNo → ℕ
-    share_of k t = (now k t).granted + min (now k t).x (reach_of t)
+    share_of k t = (now k t).granted + min (now k t).x (reach_of t) + (now k t).stood
+
+    stood_grows : (k : ℕ) (t : TrainNo) → (now k t).stood ≤ (now (suc k) t).stood
+    stood_grows k t = stood_later d routes (of_plan routes plan) k t
 
     share_grows : (k : ℕ) (t : TrainNo) → share_of k t ≤ share_of (suc k) t
-    share_grows k t = let l = run_later d routes plan k t in let g = l.granted in let x = l.x in omega arith
+    share_grows k t = let l = run_later d routes plan k t in let g = l.granted in let x = l.x in let s = stood_grows k t in omega arith
 
     measure_grows : (k : ℕ) (t : TrainNo) → IsTrain d t → share_of k t < share_of (suc k) t → measure k < measure (suc k)
     measure_grows k t h less = sum_by-less (share_of k) (share_of (suc k)) (trains d) t (share_grows k) (in_trains t h) less
+
+    going_counts : (k : ℕ) (t : TrainNo) → IsTrain d t → (now k t).x < reach_of t → GoesOn k t → measure k < measure (suc k)
+    going_counts k t h need (inl moves) = let g = (run_later d routes plan k t).granted in let s = stood_grows k t in measure_grows k t h (omega arith)
+    going_counts k t h need (inr stood) = let l = run_later d routes plan k t in let g = l.granted in let x = l.x in measure_grows k t h (omega arith)
 
     pub tick_counts : (k : ℕ) (c : Command) → In c (commands plan) → is_granted d routes (of_plan routes plan) (state_at d routes (of_plan routes plan) k) c ≡ false → measure k < measure (suc k)
     tick_counts k c m h = at (some_waits (state_at d routes (of_plan routes plan) k) c m h)
@@ -513,13 +551,10 @@ module _ (d : Station) (routes : List Route) (plan : List (List Command)) where
                 let clear = clears w.command e o.section w.member o.member o.first o.on in
                 let track = ahead (state_at d routes (of_plan routes plan) k) w e o.member sooner o.section clear o.unreleased in
                 let has = e_granted (state_at d routes (of_plan routes plan) k) w e o.member sooner in
-                let moves = moves_one k e.train (lively.named e o.member) (omega arith) track.0 in
-                let later = (run_later d routes plan k e.train).granted in
-                let need = track.1 in
-                measure_grows k e.train (lively.named e o.member) (omega arith)
+                going_counts k e.train (lively.named e o.member) track.1 (goes_on k e.train (lively.named e o.member) (omega arith) track.0)
 
             go : (b : Bool) → is_ready d routes (of_plan routes plan) (state_at d routes (of_plan routes plan) k) w.command ≡ b → measure k < measure (suc k)
-            go true ready = let g = granted_more k w ready in let x = (run_later d routes plan k w.command.train).x in measure_grows k w.command.train (lively.named w.command w.member) (omega arith)
+            go true ready = let g = granted_more k w ready in let x = (run_later d routes plan k w.command.train).x in let s = stood_grows k w.command.train in measure_grows k w.command.train (lively.named w.command w.member) (omega arith)
             go false not_ready = held (holding (state_at d routes (of_plan routes plan) k) w.command not_ready)
 
     not_before : (k : ℕ) (c : Command) → is_granted d routes (of_plan routes plan) (state_at d routes (of_plan routes plan) (suc k)) c ≡ false → is_granted d routes (of_plan routes plan) (state_at d routes (of_plan routes plan) k) c ≡ false
@@ -561,8 +596,9 @@ module _ (d : Station) (routes : List Route) (plan : List (List Command)) where
 
     measure_within : (k : ℕ) → measure k ≤ last_grant d routes plan
     measure_within k =
-        let a = sum_by-le (share_of k) (λ t. length (path plan t) + reach_of t) (trains d) (λ t. let g = granted_within k t in omega arith) in
-        let b = sum_by-add (λ t. length (path plan t)) reach_of (trains d) in
+        let a = sum_by-le (share_of k) (λ t. length (path plan t) + reach_of t + sum (dwell_ticks d t)) (trains d) (λ t. let g = granted_within k t in let s : (now k t).stood ≤ sum (dwell_ticks d t) = stood_within d routes (of_plan routes plan) k t in omega arith) in
+        let b = sum_by-add (λ t. length (path plan t) + reach_of t) (λ t. sum (dwell_ticks d t)) (trains d) in
+        let f = sum_by-add (λ t. length (path plan t)) reach_of (trains d) in
         let c = all_paths d plan in
         let e = reaches in
         omega arith
@@ -612,9 +648,7 @@ module _ (d : Station) (routes : List Route) (plan : List (List Command)) where
         some_route (p ∷ ps) e =
             let long : length (path plan t) ≡ suc (length ps) = ap length e in
             let a = all_of_path k t all in
-            let moves = moves_one k t h (omega arith) ahead_of in
-            let later = (run_later d routes plan k t).granted in
-            measure_grows k t h (omega arith)
+            going_counts k t h short (goes_on k t h (omega arith) ahead_of)
 
     short_counts : (k : ℕ) (t : TrainNo) → IsTrain d t → (now k t).x < reach_of t → measure k < measure (suc k)
     short_counts k t h short = go (list_all (is_granted d routes (of_plan routes plan) (state_at d routes (of_plan routes plan) k)) (commands plan)) refl

@@ -6,7 +6,7 @@ use Rattle.rail_base.specs.Numbering.{one_to}
 use Rattle.rail_spec.specs.Track.{routes_of}
 use Rattle.rail_spec.specs.Plans.{is_well_formed, is_executable}
 use Rattle.rail_spec.specs.Dispatches.{of_plan, state_at}
-use Rattle.rail_laws.proofs.Stations.{halt, follow, plan_one, plan_two, plan_early, plan_half}
+use Rattle.rail_laws.proofs.Stations.{halt, halt_for, follow, plan_one, plan_two, plan_early, plan_half}
 
 -- the heads of all trains at ticks 1 to n
 abbrev heads : Station → List (List Command) → ℕ → List (List ℕ)
@@ -24,6 +24,15 @@ cannot_do = refl
 heads_of_one : heads halt plan_one 10
     ≡ (500 ∷ []) ∷ (1500 ∷ []) ∷ (3000 ∷ []) ∷ (5000 ∷ []) ∷ (7000 ∷ []) ∷ (9000 ∷ []) ∷ (11000 ∷ []) ∷ (13000 ∷ []) ∷ (15000 ∷ []) ∷ (17000 ∷ []) ∷ []
 heads_of_one = refl
+
+-- it brakes for its place, stands there for 3 ticks, and goes on
+heads_of_stop : heads (halt_for 3000) plan_one 16
+    ≡ (500 ∷ []) ∷ (1500 ∷ []) ∷ (3000 ∷ []) ∷ (5000 ∷ []) ∷ (7000 ∷ []) ∷ (8700 ∷ []) ∷ (9700 ∷ []) ∷ (10000 ∷ []) ∷ (10000 ∷ []) ∷ (10000 ∷ []) ∷ (10000 ∷ [])
+    ∷ (10500 ∷ []) ∷ (11500 ∷ []) ∷ (13000 ∷ []) ∷ (15000 ∷ []) ∷ (17000 ∷ []) ∷ []
+heads_of_stop = refl
+
+stood_of_stop : map (λ k. map (λ s. s.stood) (state_at (halt_for 3000) (routes_of (halt_for 3000)) (of_plan (routes_of (halt_for 3000)) plan_one) k)) (8 ∷ 9 ∷ 10 ∷ 11 ∷ 16 ∷ []) ≡ (0 ∷ []) ∷ (1 ∷ []) ∷ (2 ∷ []) ∷ (3 ∷ []) ∷ (3 ∷ []) ∷ []
+stood_of_stop = refl
 
 heads_of_two : heads follow plan_two 20
     ≡ (500 ∷ 0 ∷ []) ∷ (1500 ∷ 0 ∷ []) ∷ (3000 ∷ 0 ∷ []) ∷ (5000 ∷ 0 ∷ []) ∷ (7000 ∷ 0 ∷ []) ∷ (9000 ∷ 0 ∷ []) ∷ (11000 ∷ 0 ∷ []) ∷ (13000 ∷ 0 ∷ []) ∷ (15000 ∷ 500 ∷ []) ∷ (17000 ∷ 1500 ∷ [])

@@ -13,7 +13,7 @@ use Rattle.rail_base.specs.Stations.{length_of, vehicle_of, IsTrain}
 use Rattle.rail_spec.specs.Track.{routes_of}
 use Rattle.rail_spec.specs.Plans.{no_route, route_at, length_mm, commands, path, path_routes}
 use Rattle.rail_spec.specs.Motion.{reach, permitted}
-use Rattle.rail_spec.specs.Dispatches.{state_of, rates, stretches, of_plan, granted_after, speed_in, with_granted, track_end}
+use Rattle.rail_spec.specs.Dispatches.{state_of, rates, stretches, of_plan, granted_after, speed_in, with_granted, authority}
 use Rattle.rail_spec.specs.Dispatches.{moved, state_at}
 use Rattle.rail_base.specs.Admitted.{IsAdmitted}
 use Rattle.rail_spec.specs.Feasible.{is_of, IsWellFormed}
@@ -107,7 +107,7 @@ module _ (d : Station) (adm : IsAdmitted d) where
         moved_small old zero top h = let a = h.x in let s = suc-mul k 100000 in record { x = omega arith; v = h.v }
         moved_small old (suc g) top h =
             let given = take (suc g) (path_routes routes plan t) in
-            let u : speed_in d routes (of_plan routes plan) t (with_granted (suc g) old) ≤ reach (rates d t) old.v = greatest_within (permitted (rates d t) (stretches d given) (track_end given) old.x old.v) (reach (rates d t) old.v) in
+            let u : speed_in d routes (of_plan routes plan) t (with_granted (suc g) old) ≤ reach (rates d t) old.v = greatest_within (permitted (rates d t) (stretches d given) (authority d routes (of_plan routes plan) t (with_granted (suc g) old)) old.x old.v) (reach (rates d t) old.v) in
             let a = h.x in
             let s = suc-mul k 100000 in
             record { x = omega arith; v = omega arith }

@@ -19,7 +19,7 @@ use Rattle.rail_base.specs.declared.state.TrainState.{TrainState}
 use Rattle.rail_laws.proofs.Exclusion.{holds_apart, past_is_idle}
 use Rattle.rail_base.proofs.Lists.{in_append, in_append_left, in_append_right, length-map}
 use Rattle.rail_base.proofs.Members.{In, and_left, and_right, and_both, list_any_gives, list_any_from, below_or_not, is_false}
-use Rattle.rail_laws.proofs.UnderWay.{edge_ends-append, IsSound, within_authority, travels, given, authority_some}
+use Rattle.rail_laws.proofs.UnderWay.{edge_ends-append, IsSound, within_track, travels, given, authority_some}
 use Rattle.rail_spec.specs.Motion.{may_stop}
 
 -- the length of routes in a row
@@ -140,7 +140,7 @@ module _ (d : Station) (routes : List Route) (plan : List (List Command)) where
           let all = sound.exit_last t (state_of (state_at d routes (of_plan routes plan) k) t).granted named e in
           let long = length-map (route_at routes) (path plan t) in omega arith
       in_authority false e short some =
-          let stop = subst (λ end. may_stop end (state_of (state_at d routes (of_plan routes plan) k) t).x ≡ true) (authority_some (given d routes plan t (state_of (state_at d routes (of_plan routes plan) k) t).granted) e) (within_authority d routes plan sound k t some) in
+          let stop = subst (λ end. may_stop end (state_of (state_at d routes (of_plan routes plan) k) t).x ≡ true) (authority_some (given d routes plan t (state_of (state_at d routes (of_plan routes plan) k) t).granted) e) (within_track d routes plan sound k t some) in
           let near = leb-true _ _ stop in
           let w = path_length_take routes (state_of (state_at d routes (of_plan routes plan) k) t).granted i (path plan t) short in omega arith
 

@@ -1,6 +1,6 @@
 -- Small designs, with the names that their files give.
 use Prim.Native.String.{String}
-use Rattle.std.specs.Prelude.{ℕ, true, false, List, [], ◌∷◌, codes}
+use Rattle.std.specs.Prelude.{ℕ, true, false, List, [], ◌∷◌, map, codes}
 use Rattle.rail_base.specs.declared.station.Station.{Station}
 use Rattle.rail_base.specs.declared.station.Edge.{Edge}
 use Rattle.rail_base.specs.declared.station.Node.{Node}
@@ -30,9 +30,13 @@ edge name from to length speed z = record { name = codes name; from = from; to =
 abbrev pub vehicle : Vehicle
 vehicle = record { name = codes "v"; length_mm = 2000; accel_mm_s2 = 500; brake_mm_s2 = 700; speed_mm_s = 2000 }
 
--- a train that visits single nodes
+-- a train that makes these visits, and stands so long at each
+abbrev pub train_with : String → List (List NodeNo) → List ℕ → Train
+train_with name visits dwells = record { name = codes name; vehicle = record { 0 = 1 }; visits = visits; dwell_ms = dwells }
+
+-- a train that stands nowhere
 abbrev pub train : String → List (List NodeNo) → Train
-train name visits = record { name = codes name; vehicle = record { 0 = 1 }; visits = visits }
+train name visits = train_with name visits (map (λ set. 0) visits)
 
 abbrev pub node : ℕ → NodeNo
 node n = record { 0 = n }
@@ -64,6 +68,10 @@ goes_east name = train name ((node 1 ∷ []) ∷ (node 3 ∷ []) ∷ [])
 -- two sections and one train, two trains, and two trains with a horizon of 8 ticks
 abbrev pub halt : Station
 halt = line plain_edges (signal ∷ []) (goes_east "A" ∷ []) [] [] 600000
+
+-- one train that visits the node between as well, and stands there for so many ms
+abbrev pub halt_for : ℕ → Station
+halt_for ms = line plain_edges (signal ∷ []) (train_with "A" ((node 1 ∷ []) ∷ (node 2 ∷ []) ∷ (node 3 ∷ []) ∷ []) (0 ∷ ms ∷ 0 ∷ []) ∷ []) [] [] 600000
 
 abbrev pub follow : Station
 follow = line plain_edges (signal ∷ []) (goes_east "A" ∷ goes_east "B" ∷ []) [] [] 600000

@@ -1,12 +1,12 @@
 -- By when every command is granted.
 use Rattle.std.specs.Prelude.{◌≡◌, ℕ, ◌+◌, ◌≤◌, ◌<◌, true, List, filter, length, Option, None, Some, sum_by}
-use Rattle.std.specs.List.{list_any}
+use Rattle.std.specs.List.{list_any, sum}
 use Rattle.rail_base.specs.declared.station.Station.{Station}
 use Rattle.rail_base.specs.declared.station.TrainNo.{TrainNo}
 use Rattle.rail_base.specs.declared.route.Route.{Route}
 use Rattle.rail_base.specs.declared.plan.Command.{Command}
 use Rattle.rail_spec.specs.Plans.{commands, path_routes, length_mm, exits}
-use Rattle.rail_base.specs.Stations.{trains, train_length}
+use Rattle.rail_base.specs.Stations.{trains, train_length, dwell_ticks}
 use Rattle.rail_base.specs.Members.{In}
 use Rattle.rail_spec.specs.Dispatches.{state_of, of_plan, is_granted, state_at}
 
@@ -15,11 +15,13 @@ abbrev pub MayMove : Option ℕ → ℕ → Type 0
 MayMove None x = Unit {0}
 MayMove (Some end) x = x < end
 
--- the number of commands, plus the lengths of all trains' paths, plus the lengths of the trains whose path exits
+-- the number of commands, plus the lengths of all trains' paths, plus the lengths of the trains whose path exits, plus
+-- the ticks that all trains stand at their visits
 abbrev pub last_grant : Station → List Route → List (List Command) → ℕ
 last_grant d routes plan =
     length (commands plan) + sum_by (λ t. sum_by length_mm (path_routes routes plan t)) (trains d)
     + sum_by (train_length d) (filter (λ t. list_any exits (path_routes routes plan t)) (trains d))
+    + sum_by (λ t. sum (dwell_ticks d t)) (trains d)
 
 -- from then on each command of the plan is granted at every tick
 abbrev pub IsGrantedInTime : Station → List Route → List (List Command) → Type 0

@@ -1,4 +1,5 @@
 //! The laws of the definitions of a railway.
 #![tactic(auto)]
 
+pub mod dwells;
 pub mod laws;

@@ -147,7 +147,7 @@ module _ (d : Station) (routes : List Route) (plan : List (List Command)) where
         go : (n : ℕ) → 1 ≤ n → n ≤ length d.trains → history_of (history_at d routes plan k) (record { 0 = n }) ≡ train_history d routes plan k (record { 0 = n })
         go zero low high = absurd (omega arith)
         go (suc i) low high =
-            let other : TrainHistory = record { grants = []; passes = []; releases = []; visits = [] } in
+            let other : TrainHistory = record { grants = []; passes = []; releases = []; visits = []; dwells = [] } in
             ap (λ xs. get_or xs i other) (map-map (train_history d routes plan k) (λ n. record { 0 = n }) (one_to (length d.trains)))
             ∙ get_or-counted (λ n. train_history d routes plan k (record { 0 = n })) 1 (length d.trains) i other (omega arith)
             ∙ ap (λ n. train_history d routes plan k (record { 0 = n })) (let e : 1 + i ≡ suc i = omega arith in e)

@@ -1,7 +1,8 @@
 -- Runs: the state after each tick, under whatever says which command waits for which.
-use Rattle.std.specs.Prelude.{ℕ, zero, suc, ◌+◌, Bool, true, if◌then◌else◌, List, map, flat_map, length, take}
-use Rattle.std.specs.Prelude.{slice_get, nat_le, nat_lt, Option, None, Some, sum_by}
+use Rattle.std.specs.Prelude.{ℕ, zero, suc, ◌+◌, Bool, true, false, ◌==◌, if◌then◌else◌, List, map, flat_map, length}
+use Rattle.std.specs.Prelude.{take, slice_get, nat_le, nat_lt, Option, None, Some, option_map, sum_by}
 use Rattle.std.specs.List.{list_any, list_all}
+use Rattle.std.specs.Option.{option_or}
 use Rattle.rail_base.specs.declared.station.Station.{Station}
 use Rattle.rail_base.specs.declared.station.EdgeNo.{EdgeNo}
 use Rattle.rail_base.specs.declared.station.SectionNo.{SectionNo}
@@ -12,20 +13,23 @@ use Rattle.rail_base.specs.declared.plan.Command.{Command}
 use Rattle.rail_base.specs.declared.state.TrainState.{TrainState}
 use Rattle.rail_base.specs.declared.state.Event.{Event}
 use Rattle.rail_base.specs.declared.state.TrainEvent.{TrainEvent}
+use Rattle.rail_base.specs.declared.state.PathNode.{PathNode}
 use Rattle.rail_base.specs.Events.{has_happened}
 use Rattle.rail_base.specs.Numbering.{entry, before_first}
-use Rattle.rail_base.specs.Stations.{edge_of, train_length, vehicle_of, trains, per_tick_speed, per_tick_accel}
+use Rattle.rail_base.specs.Stations.{edge_of, train_of, train_length, vehicle_of, trains, per_tick_speed}
+use Rattle.rail_base.specs.Stations.{per_tick_accel, dwell_ticks}
 use Rattle.rail_spec.specs.Track.{edge_ends}
 use Rattle.rail_spec.specs.Plans.{path, preceding, route_at, shared, release_offset, length_mm, exits, is_route}
+use Rattle.rail_spec.specs.Places.{path_nodes, visits_on, next_stop}
 use Rattle.rail_spec.specs.Motion.{MotorSeen, SpanSeen, next_speed}
 
 -- how a train begins: nothing is granted, and it stands at the start of its path
 abbrev pub idle : TrainState
-idle = record { granted = 0; x = 0; v = 0 }
+idle = record { granted = 0; x = 0; v = 0; stood = 0 }
 
 -- the state of a train that has been granted so many commands
 abbrev pub with_granted : ℕ → TrainState → TrainState
-with_granted n s = record { granted = n; x = s.x; v = s.v }
+with_granted n s = record { granted = n; x = s.x; v = s.v; stood = s.stood }
 
 -- the state of a train, in the list of all trains' states
 abbrev pub state_of : List TrainState → TrainNo → TrainState
@@ -60,6 +64,11 @@ stretches d rs = map (stretch d) (edge_ends d 0 (flat_map (λ r. r.edges) rs))
 -- how far routes in a row let a train go: their length, or no end where one exits
 abbrev pub track_end : List Route → Option ℕ
 track_end rs = if list_any exits rs then None else Some (sum_by length_mm rs)
+
+-- there is a place, and the head is at it
+abbrev pub is_at : Option ℕ → ℕ → Bool
+is_at (Some place) x = x == place
+is_at None x = false
 
 -- the routes that each train may be granted, in order; the commands that each command waits for; and which trains a tick concerns
 pub record Dispatch : Type 0 where
@@ -116,18 +125,37 @@ module _ (d : Station) (routes : List Route) (p : Dispatch) where
   abbrev pub granted_routes : TrainNo → TrainState → List Route
   granted_routes t s = take s.granted (map (route_at routes) (p.path t))
 
-  -- how far it may go
+  -- the visit on those routes at which it has still to stand, if there is one, by where it is made
+  abbrev pub stop : TrainNo → TrainState → Option PathNode
+  stop t s = next_stop (dwell_ticks d t) (visits_on (train_of d t).visits (path_nodes (granted_routes t s))) s.stood
+
+  -- the place of that visit
+  abbrev pub stop_place : TrainNo → TrainState → Option ℕ
+  stop_place t s = option_map (λ path_node. path_node.event.place) (stop t s)
+
+  -- how far it may go: to the place where it has still to stand, or else to the end of those routes
   abbrev pub authority : TrainNo → TrainState → Option ℕ
-  authority t s = track_end (granted_routes t s)
+  authority t s = option_or (stop_place t s) (track_end (granted_routes t s))
+
+  -- its head is where it has to stand
+  abbrev pub stands : TrainNo → TrainState → Bool
+  stands t s = is_at (stop_place t s) s.x
 
   -- how fast it goes on from there
   abbrev pub speed_in : TrainNo → TrainState → ℕ
   speed_in t s = next_speed (rates d t) (stretches d (granted_routes t s)) (authority t s) s.x s.v
 
-  -- a train with a granted command moves, and another stays
+  -- how many ticks it has stood after a tick that begins so
+  abbrev pub stood_after : TrainNo → TrainState → ℕ
+  stood_after t s = if stands t s then s.stood + 1 else s.stood
+
+  -- a train with a granted command moves, or stands where it has to, and another stays
   abbrev pub moved : TrainNo → TrainState → ℕ → TrainState
   moved t old zero = old
-  moved t old (suc n) = let u = speed_in t (with_granted (suc n) old) in record { granted = suc n; x = old.x + u; v = u }
+  moved t old (suc n) =
+      let s = with_granted (suc n) old in
+      let u = speed_in t s in
+      record { granted = suc n; x = old.x + u; v = u; stood = stood_after t s }
 
   -- a tick: all grants are seen against the old state, and then all trains that it concerns move
   abbrev pub tick : ℕ → List TrainState → List TrainState

@@ -1,7 +1,7 @@
 -- What has happened in the run of a plan by a tick, and what the run shows of the plan.
-use Rattle.std.specs.Prelude.{ℕ, nat_lt, if◌then◌else◌, List, [], map, flat_map, Option, None, Some, option_and_then}
-use Rattle.std.specs.Prelude.{option_map}
-use Rattle.std.specs.List.{enumerate_from}
+use Rattle.std.specs.Prelude.{ℕ, Bool, ◌==◌, nat_le, nat_lt, if◌then◌else◌, List, [], map, flat_map, take}
+use Rattle.std.specs.Prelude.{Option, None, Some, option_and_then, option_map}
+use Rattle.std.specs.List.{enumerate_from, sum}
 use Rattle.rail_base.specs.declared.station.Station.{Station}
 use Rattle.rail_base.specs.declared.station.NodeNo.{NodeNo}
 use Rattle.rail_base.specs.declared.station.SectionNo.{SectionNo}
@@ -13,14 +13,18 @@ use Rattle.rail_base.specs.declared.plan.Violation.{Violation}
 use Rattle.rail_base.specs.declared.history.TrainHistory.{TrainHistory}
 use Rattle.rail_base.specs.declared.history.Verdict.{Verdict}
 use Rattle.rail_base.specs.declared.history.Verdict.TheVariants.{Met, Failed, Undecided}
-use Rattle.rail_base.specs.Numbering.{least}
-use Rattle.rail_base.specs.Stations.{trains}
+use Rattle.rail_base.specs.Numbering.{entry, least}
+use Rattle.rail_base.specs.Stations.{trains, dwell_ticks}
 use Rattle.rail_base.specs.Routes.{route_at, sections}
 use Rattle.rail_spec.specs.Plans.{path}
 use Rattle.rail_base.specs.declared.state.PathNode.{PathNode}
-use Rattle.rail_spec.specs.Dispatches.{of_plan, release}
+use Rattle.rail_spec.specs.Dispatches.{state_of, of_plan, release, state_at}
 use Rattle.rail_spec.specs.Visits.{happened_by, pass_tick, visits_of_train, passed}
-use Rattle.rail_spec.specs.Requirements.{granted_by, violation_at, path_violation, cost}
+use Rattle.rail_spec.specs.Requirements.{visit_numbers, granted_by, violation_at, path_violation, cost}
+
+-- how many ticks a train stands at its visits up to the one of this number
+abbrev pub dwell_up_to : Station → TrainNo → ℕ → ℕ
+dwell_up_to d t j = sum (take j (dwell_ticks d t))
 
 module _ (d : Station) (routes : List Route) (plan : List (List Command)) where
   -- the tick, up to k, at which the train's command of this number is granted
@@ -51,6 +55,14 @@ module _ (d : Station) (routes : List Route) (plan : List (List Command)) where
       let tick = pass_tick d routes (of_plan routes plan) k t in
       option_and_then (λ path_node. option_map (λ i. (path_node.node, i)) (tick path_node)) place
 
+  -- by the end of tick k the train has stood its ticks at its visits up to the one of this number
+  abbrev pub has_stood : TrainNo → ℕ → ℕ → Bool
+  has_stood t j k = nat_le (dwell_up_to d t j) (state_of (state_at d routes (of_plan routes plan) k) t).stood
+
+  -- the tick, up to k, at which it has stood its ticks at the visit of this number; none where it need not stand there
+  abbrev pub dwell_tick : ℕ → TrainNo → ℕ → Option ℕ
+  dwell_tick k t j = if entry 0 (dwell_ticks d t) j == 0 then None else least (has_stood t j) k
+
   -- what has happened to the train by tick k
   abbrev pub train_history : ℕ → TrainNo → TrainHistory
   train_history k t = record {
@@ -58,6 +70,7 @@ module _ (d : Station) (routes : List Route) (plan : List (List Command)) where
     passes = passed d routes (of_plan routes plan) k t;
     releases = released k t;
     visits = map (visit_made k t) (visits_of_train d routes (of_plan routes plan) t);
+    dwells = map (dwell_tick k t) (visit_numbers d t);
   }
 
   -- what has happened to each train by tick k

@@ -1,5 +1,6 @@
--- The nodes of a path, and where on it visits are made.
-use Rattle.std.specs.Prelude.{ℕ, zero, suc, ◌+◌, Bool, false, List, [], ◌∷◌, ◌++◌, map, nat_abs, Option}
+-- The nodes of a path, where on it visits are made, and at which of these a train has still to stand.
+use Rattle.std.specs.Prelude.{ℕ, zero, suc, ◌+◌, ◌-◌, Bool, false, if◌then◌else◌, List, [], ◌∷◌, ◌++◌, map, nat_abs}
+use Rattle.std.specs.Prelude.{nat_lt, Option, None}
 use Rattle.std.specs.List.{list_any}
 use Rattle.rail_base.specs.declared.station.NodeNo.{NodeNo}
 use Rattle.rail_base.specs.declared.route.Route.{Route}
@@ -33,6 +34,12 @@ visits_at (set ∷ sets) ps =
 abbrev pub visits_on : List (List NodeNo) → List PathNode → List (Option PathNode)
 visits_on [] ps = []
 visits_on (first ∷ later) ps = first_of_list ps ∷ visits_at later (after_first ps)
+
+-- where a train has still to stand, by the ticks that it stands at each visit, where the visits are made, and how many
+-- ticks it has stood in all: at the first visit whose ticks, with those of the visits before it, are more than that
+abbrev pub next_stop : List ℕ → List (Option PathNode) → ℕ → Option PathNode
+next_stop (w ∷ ws) (p ∷ ps) stood = if nat_lt stood w then p else next_stop ws ps (stood - w)
+next_stop _ _ _ = None
 
 -- a node of the set is at the end of an edge of the route
 abbrev pub leads_to : List NodeNo → Route → Bool

@@ -1,5 +1,5 @@
 -- Of the designs that bytes spell, one that is admitted and whose names are not empty is the only one.
-use Rattle.std.proofs.Common.{◌≡◌, ℕ, false, List, [], ◌∷◌, map, length, Some, refl, sym, ap, subst, ◌∙◌}
+use Rattle.std.proofs.Common.{◌≡◌, ℕ, ◌<◌, false, List, [], ◌∷◌, map, length, Some, refl, sym, ap, subst, ◌∙◌}
 use Rattle.toml.specs.Data.{string}
 use Rattle.rail_base.specs.declared.station.Station.{Station}
 use Rattle.rail_base.specs.declared.station.Node.{Node}
@@ -19,8 +19,8 @@ use Rattle.rail_base.specs.Members.{In, Pairs}
 use Rattle.rail_base.specs.Names.{node_name, section_name, train_name}
 use Rattle.rail_base.specs.Numbering.{entry}
 use Rattle.rail_base.specs.Stations.{IsNode, IsVehicle, IsTrain, no_train, no_vehicle, vehicle_at}
-use Rattle.rail_spelling.specs.Designs.{Spells, HasRows, whole, list, each_once}
-use Rattle.rail_spelling.proofs.Agreeing.{one_text, one_flag, one_whole, one_side, one_list, one_made, one_array}
+use Rattle.rail_spelling.specs.Designs.{Spells, HasRows, whole, list, dwell_rows, each_once}
+use Rattle.rail_spelling.proofs.Agreeing.{one_text, one_flag, one_whole, one_side, one_list, one_made, one_array, one_dwells}
 use Rattle.rail_spelling.proofs.Entries.{good_edge, good_signal, good_train}
 use Rattle.rail_spelling.proofs.Numbers.{Named, one_number}
 use Rattle.rail_spelling.proofs.Sections.{once_differ}
@@ -46,11 +46,11 @@ same_signal x y name node toward = λ i. record { name = name i; node = node i; 
 same_vehicle : (x y : Vehicle) → x.name ≡ y.name → x.length_mm ≡ y.length_mm → x.accel_mm_s2 ≡ y.accel_mm_s2 → x.brake_mm_s2 ≡ y.brake_mm_s2 → x.speed_mm_s ≡ y.speed_mm_s → x ≡ y
 same_vehicle x y name length accel brake speed = λ i. record { name = name i; length_mm = length i; accel_mm_s2 = accel i; brake_mm_s2 = brake i; speed_mm_s = speed i }
 
-same_train : (x y : Train) → x.name ≡ y.name → x.vehicle ≡ y.vehicle → x.visits ≡ y.visits → x ≡ y
-same_train x y name vehicle visits = λ i. record { name = name i; vehicle = vehicle i; visits = visits i }
+same_train : (x y : Train) → x.name ≡ y.name → x.vehicle ≡ y.vehicle → x.visits ≡ y.visits → x.dwell_ms ≡ y.dwell_ms → x ≡ y
+same_train x y name vehicle visits dwells = λ i. record { name = name i; vehicle = vehicle i; visits = visits i; dwell_ms = dwells i }
 
 same_order : (x y : Order) → x.first_train ≡ y.first_train → x.first_visit ≡ y.first_visit → x.then_train ≡ y.then_train → x.then_visit ≡ y.then_visit → x ≡ y
-same_order x y first visit then other = λ i. record { first_train = first i; first_visit = visit i; then_train = then i; then_visit = other i }
+same_order x y first visit later other = λ i. record { first_train = first i; first_visit = visit i; then_train = later i; then_visit = other i }
 
 same_within : (x y : Within) → x.from_train ≡ y.from_train → x.from_visit ≡ y.from_visit → x.to_train ≡ y.to_train → x.to_visit ≡ y.to_visit → x.max_ms ≡ y.max_ms → x ≡ y
 same_within x y from visit to other most = λ i. record { from_train = from i; from_visit = visit i; to_train = to i; to_visit = other i; max_ms = most i }
@@ -68,10 +68,16 @@ module _ (bytes : List ℕ) (d e : Station) (named : IsNamed d) (good : IsAdmitt
   same_file : a.file ≡ b.file
   same_file = let both : Some a.file ≡ Some b.file = sym a.toml ∙ b.toml in cc
 
+  same_top : HasRows a.file (("version", whole e.version) ∷ ("tick_ms", whole e.tick_ms) ∷ ("horizon_ms", whole e.horizon_ms) ∷ [])
+  same_top = subst (λ keys. HasRows keys (("version", whole e.version) ∷ ("tick_ms", whole e.tick_ms) ∷ ("horizon_ms", whole e.horizon_ms) ∷ [])) (sym same_file) b.top
+
+  same_version : d.version ≡ e.version
+  same_version = one_whole d.version e.version (sym a.top.0 ∙ same_top.0)
+
   -- ---- nodes
 
   same_nodes : d.nodes ≡ e.nodes
-  same_nodes = one_array _ _ a.file b.file "node" d.nodes e.nodes same_file (λ keys x y m p q. same_node x y (one_text x.name y.name (sym p.0 ∙ q.0)) (one_flag x.boundary y.boundary (sym p.1.0 ∙ q.1.0))) a.nodes b.nodes
+  same_nodes = one_array _ _ a.file b.file "node" d.nodes e.nodes same_file (λ keys x y m k p q. same_node x y (one_text x.name y.name (sym p.0 ∙ q.0)) (one_flag x.boundary y.boundary (sym p.1.0 ∙ q.1.0))) a.nodes b.nodes
 
   one_node : (n m : NodeNo) → IsNode d n → string (node_name d n) ≡ string (node_name e m) → n ≡ m
   one_node n m is same =
@@ -87,7 +93,7 @@ module _ (bytes : List ℕ) (d e : Station) (named : IsNamed d) (good : IsAdmitt
   same_sections : d.sections ≡ e.sections
   same_sections =
       let names = one_made _ _ a.file b.file "edge" d.edges e.edges same_file (λ (x : Edge). section_name d x.section) (λ (y : Edge). section_name e y.section)
-      (λ keys x y m p q. one_text (section_name d x.section) (section_name e y.section) (sym p.1.1.1.1.1.1.1.0 ∙ q.1.1.1.1.1.1.1.0)) a.edges b.edges in
+      (λ keys x y m k p q. one_text (section_name d x.section) (section_name e y.section) (sym p.1.1.1.1.1.1.1.0 ∙ q.1.1.1.1.1.1.1.0)) a.edges b.edges in
       a.sections ∙ ap each_once names ∙ sym b.sections
 
   one_section : (n m : SectionNo) → Ranges 1 (length d.sections) n.0 → string (section_name d n) ≡ string (section_name e m) → n ≡ m
@@ -99,7 +105,7 @@ module _ (bytes : List ℕ) (d e : Station) (named : IsNamed d) (good : IsAdmitt
 
   same_edges : d.edges ≡ e.edges
   same_edges = one_array _ _ a.file b.file "edge" d.edges e.edges same_file
-      (λ keys x y m p q.
+      (λ keys x y m k p q.
       let g = good_edge d good x m in
       same_edge x y
       (one_text x.name y.name (sym p.0 ∙ q.0))
@@ -114,7 +120,7 @@ module _ (bytes : List ℕ) (d e : Station) (named : IsNamed d) (good : IsAdmitt
 
   same_signals : d.signals ≡ e.signals
   same_signals = one_array _ _ a.file b.file "signal" d.signals e.signals same_file
-      (λ keys x y m p q. same_signal x y
+      (λ keys x y m k p q. same_signal x y
       (one_text x.name y.name (sym p.0 ∙ q.0))
       (one_node x.node y.node (good_signal d good x m).node (sym p.1.0 ∙ q.1.0))
       (one_side x.toward y.toward (sym p.1.1.0 ∙ q.1.1.0)))
@@ -122,7 +128,7 @@ module _ (bytes : List ℕ) (d e : Station) (named : IsNamed d) (good : IsAdmitt
 
   same_vehicles : d.vehicles ≡ e.vehicles
   same_vehicles = one_array _ _ a.file b.file "vehicle" d.vehicles e.vehicles same_file
-      (λ keys x y m p q. same_vehicle x y
+      (λ keys x y m k p q. same_vehicle x y
       (one_text x.name y.name (sym p.0 ∙ q.0))
       (one_whole x.length_mm y.length_mm (sym p.1.0 ∙ q.1.0))
       (one_whole x.accel_mm_s2 y.accel_mm_s2 (sym p.1.1.1.0 ∙ q.1.1.1.0))
@@ -140,12 +146,14 @@ module _ (bytes : List ℕ) (d e : Station) (named : IsNamed d) (good : IsAdmitt
 
   same_trains : d.trains ≡ e.trains
   same_trains = one_array _ _ a.file b.file "train" d.trains e.trains same_file
-      (λ keys x y m p q.
+      (λ keys x y m k p q.
       let g = good_train d good x m in
+      let visits = one_list _ _ x.visits y.visits (λ set other k is. one_set set other (g.there set k) is) (sym p.1.1.0 ∙ q.1.1.0) in
       same_train x y
       (one_text x.name y.name (sym p.0 ∙ q.0))
       (one_vehicle x.vehicle y.vehicle g.vehicle (sym p.1.0 ∙ q.1.0))
-      (one_list _ _ x.visits y.visits (λ set other k is. one_set set other (g.there set k) is) (sym p.1.1.0 ∙ q.1.1.0)))
+      visits
+      (one_dwells d.version keys x y p.1.1.1 (subst (λ version. HasRows keys (dwell_rows version y)) (sym same_version) q.1.1.1) (a.dwells x m) (λ low. b.dwells y k (subst (λ version. version < 3) same_version low)) visits))
       a.trains b.trains
 
   one_train : (n m : TrainNo) → IsTrain d n → string (train_name d n) ≡ string (train_name e m) → n ≡ m
@@ -158,7 +166,7 @@ module _ (bytes : List ℕ) (d e : Station) (named : IsNamed d) (good : IsAdmitt
 
   same_orders : d.orders ≡ e.orders
   same_orders = one_array _ _ a.file b.file "order" d.orders e.orders same_file
-      (λ keys x y m p q.
+      (λ keys x y m k p q.
       let g = good.order x m in
       same_order x y
       (one_train x.first_train y.first_train g.first_names.0 (sym p.0 ∙ q.0))
@@ -169,7 +177,7 @@ module _ (bytes : List ℕ) (d e : Station) (named : IsNamed d) (good : IsAdmitt
 
   same_withins : d.withins ≡ e.withins
   same_withins = one_array _ _ a.file b.file "within" d.withins e.withins same_file
-      (λ keys x y m p q.
+      (λ keys x y m k p q.
       let g = good.within x m in
       same_within x y
       (one_train x.from_train y.from_train g.from.0 (sym p.0 ∙ q.0))
@@ -181,16 +189,12 @@ module _ (bytes : List ℕ) (d e : Station) (named : IsNamed d) (good : IsAdmitt
 
   -- ---- the design
 
-  same_top : HasRows a.file (("version", whole e.version) ∷ ("tick_ms", whole e.tick_ms) ∷ ("horizon_ms", whole e.horizon_ms) ∷ [])
-  same_top = subst (λ keys. HasRows keys (("version", whole e.version) ∷ ("tick_ms", whole e.tick_ms) ∷ ("horizon_ms", whole e.horizon_ms) ∷ [])) (sym same_file) b.top
-
   pub one_design : d ≡ e
   one_design =
-      let version = one_whole d.version e.version (sym a.top.0 ∙ same_top.0) in
       let tick = one_whole d.tick_ms e.tick_ms (sym a.top.1.0 ∙ same_top.1.0) in
       let horizon = one_whole d.horizon_ms e.horizon_ms (sym a.top.1.1.0 ∙ same_top.1.1.0) in
       λ i. record {
-        version = version i;
+        version = same_version i;
         tick_ms = tick i;
         horizon_ms = horizon i;
         nodes = same_nodes i;

@@ -4,14 +4,16 @@ use Rattle.std.specs.Prelude.{codes, unwrap_or}
 use Rattle.std.proofs.Common.{◌≡◌, ℕ, ◌+◌, inl, inr, Bool, true, false, not, List, [], ◌∷◌, ◌++◌, map, flat_map, Option, Some, None, refl, subst}
 use Rattle.std.specs.List.{enumerate_from}
 use Rattle.toml.specs.Data.{Data, array, table, Items, no_items, item, Members, get_member}
+use Rattle.design_table.specs.declared.key.Column.{Column}
 use Rattle.design_table.specs.declared.key.Key.{Key}
 use Rattle.design_table.specs.declared.place.EntryKind.{EntryKind}
 use Rattle.design_table.specs.declared.place.Place.{Place}
 use Rattle.design_table.specs.declared.place.Place.TheVariants.{Top, Field, UnknownField}
-use Rattle.design_table.specs.Forms.{found, is_array, items_of, list_of_items, has_unknown}
-use Rattle.design_table.specs.Keys.{key_text, kind_key}
+use Rattle.design_table.specs.Forms.{is_array, items_of, list_of_items, has_unknown}
+use Rattle.design_table.specs.Keys.{kind_key, columns_of, keys_of}
 use Rattle.design_table.specs.Reads.{at, in_each}
-use Rattle.design_table.specs.Sheet.{Column, columns_of, keys_of, members_of, entries_of, wrong_columns, wrong_fields, wrong_entry, wrong_array}
+use Rattle.design_table.specs.Sheet.{members_of, value_of, top_value, entries_of, is_right, wrong_columns, wrong_fields, wrong_entry, wrong_array}
+use Rattle.design_table.specs.Parsed.{Values}
 use Rattle.rail_base.specs.Members.{In}
 use Rattle.rail_base.proofs.Lists.{in_map}
 use Rattle.rail_spelling.specs.Designs.{Row, HasRows, AreTables, HasTables}
@@ -37,52 +39,56 @@ none_in places i (y ∷ ys) x h (inr m) = none_in places (i + 1) ys x (no_right 
 
 -- ---- the keys of an entry
 
--- each column has its form
-abbrev pub AreRight : Members → List Column → Type 0
-AreRight keys [] = Unit {0}
-AreRight keys (column ∷ columns) = (column.1 (found column.0 keys) ≡ true) × AreRight keys columns
+-- each column has its form, where the version knows it
+abbrev pub AreRight : ℕ → Members → List Column → Type 0
+AreRight version keys [] = Unit {0}
+AreRight version keys (column ∷ columns) = (is_right version keys column ≡ true) × AreRight version keys columns
 
-right_columns : (place : Key → Place) (keys : Members) (columns : List Column) (after : List Place) → wrong_columns place keys columns after ≡ [] → AreRight keys columns
-right_columns place keys [] after h = tt
-right_columns place keys (column ∷ columns) after h =
-    let here = at (not (column.1 (found column.0 keys))) (place column.0) in
-    let rest = wrong_columns place keys columns after in
-    (passes (column.1 (found column.0 keys)) (place column.0) (no_left here rest h), right_columns place keys columns after (no_right here rest h))
+right_columns : (version : ℕ) (place : Key → Place) (keys : Members) (columns : List Column) → flat_map (λ (c : Column). at (not (is_right version keys c)) (place c.key)) columns ≡ [] → AreRight version keys columns
+right_columns version place keys [] h = tt
+right_columns version place keys (column ∷ columns) h =
+    let here = at (not (is_right version keys column)) (place column.key) in
+    let rest = flat_map (λ (c : Column). at (not (is_right version keys c)) (place c.key)) columns in
+    (passes (is_right version keys column) (place column.key) (no_left here rest h), right_columns version place keys columns (no_right here rest h))
 
-right_entry : (kind : EntryKind) (i : ℕ) (keys : Members) → wrong_fields kind i keys ≡ [] → AreRight keys (columns_of kind)
-right_entry kind i keys h = right_columns (Field kind i) keys (columns_of kind) (at (has_unknown (keys_of kind) keys) (UnknownField kind i)) h
+right_entry : (version : ℕ) (kind : EntryKind) (i : ℕ) (keys : Members) → wrong_fields version kind i keys ≡ [] → AreRight version keys (columns_of kind)
+right_entry version kind i keys h = right_columns version (Field kind i) keys (columns_of kind) (no_left (wrong_columns version kind i keys) (at (has_unknown (keys_of version kind) keys) (UnknownField kind i)) h)
 
 -- ---- the tables of an array
 
-module _ {P X : Type 0} (parsed : Members → P) (make : P → X) (rows : X → List Row) where
+module _ {P X : Type 0} (version : ℕ) (parsed : Values → P) (make : P → X) (rows : X → List Row) (kind : EntryKind) where
+  -- what a table spells
+  abbrev spelled : Members → P
+  spelled keys = parsed (value_of version kind keys)
+
   abbrev Fits : Data → Type 0
-  Fits (table keys) = HasRows keys (rows (make (parsed keys)))
+  Fits (table keys) = HasRows keys (rows (make (spelled keys)))
   Fits _ = ⊥
 
-  all_fit : (ds : Items) → ((d : Data) → In d (list_of_items ds) → Fits d) → AreTables (map make (map (λ entry. parsed (members_of entry)) (list_of_items ds))) rows (array ds)
+  all_fit : (ds : Items) → ((d : Data) → In d (list_of_items ds) → Fits d) → AreTables (map make (map (λ entry. spelled (members_of entry)) (list_of_items ds))) rows (array ds)
   all_fit no_items fits = tt
   all_fit (item (table keys) ds) fits = (fits (table keys) (inl refl), all_fit ds (λ d m. fits d (inr m)))
   all_fit (item d ds) fits = absurd (fits d (inl refl))
 
-  module _ (kind : EntryKind) where
-    -- what has to hold of each entry
-    abbrev pub EachFits : List P → Type 0
-    EachFits entries = (keys : Members) → In (parsed keys) entries → AreRight keys (columns_of kind) → HasRows keys (rows (make (parsed keys)))
+  -- what has to hold of each entry
+  abbrev pub EachFits : List P → Type 0
+  EachFits entries = (keys : Members) → In (spelled keys) entries → AreRight version keys (columns_of kind) → HasRows keys (rows (make (spelled keys)))
 
-    fits : (entries : List P) (i : ℕ) (d : Data) → EachFits entries → In (parsed (members_of d)) entries → wrong_entry kind i d ≡ [] → Fits d
-    fits entries i (table keys) each m h = each keys m (right_entry kind i keys h)
-    fits entries i _ each m h = absurd (cc)
+  fits : (entries : List P) (i : ℕ) (d : Data) → EachFits entries → In (spelled (members_of d)) entries → wrong_entry version kind i d ≡ [] → Fits d
+  fits entries i (table keys) each m h = each keys m (right_entry version kind i keys h)
+  fits entries i _ each m h = absurd (cc)
 
-    fitting : (v : Option Data) → at (not (is_array v)) (Top (kind_key kind)) ++ in_each (wrong_entry kind) (items_of v) ≡ []
-        → EachFits (map (λ entry. parsed (members_of entry)) (items_of v))
-        → AreTables (map make (map (λ entry. parsed (members_of entry)) (items_of v))) rows (unwrap_or v (array no_items))
-    fitting None h each = tt
-    fitting (Some (array ds)) h each =
-        all_fit ds (λ d m.
-        let wrong = none_in (wrong_entry kind) 1 (list_of_items ds) d h m in
-        fits (map (λ entry. parsed (members_of entry)) (list_of_items ds)) wrong.0 d each (in_map (λ entry. parsed (members_of entry)) (list_of_items ds) d m) wrong.1)
-    fitting (Some _) h each = absurd (cc)
+  fitting : (v : Option Data) → at (not (is_array v)) (Top (kind_key kind)) ++ in_each (wrong_entry version kind) (items_of v) ≡ []
+      → EachFits (map (λ entry. spelled (members_of entry)) (items_of v))
+      → AreTables (map make (map (λ entry. spelled (members_of entry)) (items_of v))) rows (unwrap_or v (array no_items))
+  fitting None h each = tt
+  fitting (Some (array ds)) h each =
+      all_fit ds (λ d m.
+      let wrong = none_in (wrong_entry version kind) 1 (list_of_items ds) d h m in
+      fits (map (λ entry. spelled (members_of entry)) (list_of_items ds)) wrong.0 d each (in_map (λ entry. spelled (members_of entry)) (list_of_items ds) d m) wrong.1)
+  fitting (Some _) h each = absurd (cc)
 
-    pub has_tables : (keys : Members) (key : String) → key_text (kind_key kind) ≡ codes key → wrong_array kind keys ≡ [] → EachFits (entries_of parsed kind keys) → HasTables keys key (map make (entries_of parsed kind keys)) rows
-    has_tables keys key is h each =
-        subst (λ text. AreTables (map make (entries_of parsed kind keys)) rows (unwrap_or (get_member text keys) (array no_items))) is (fitting (found (kind_key kind) keys) h each)
+  pub has_tables : (keys : Members) (key : String) → top_value version keys (kind_key kind) ≡ get_member (codes key) keys → wrong_array version kind keys ≡ [] → EachFits (entries_of version parsed kind keys) → HasTables keys key (map make (entries_of version parsed kind keys)) rows
+  unfolding wrong_array entries_of
+  has_tables keys key is h each =
+      subst (λ value. AreTables (map make (entries_of version parsed kind keys)) rows (unwrap_or value (array no_items))) is (fitting (top_value version keys (kind_key kind)) h each)

@@ -15,10 +15,10 @@ use Rattle.rail_base.proofs.Lists.{in_map, in_map_back}
 use Rattle.rail_base.proofs.Members.{list_all_at}
 use Rattle.infra_reader.specs.Design.{design_of}
 use Rattle.infra_reader.specs.Names.{names_of, section_names}
-use Rattle.infra_reader.specs.Spelling.{HasNames}
+use Rattle.infra_reader.specs.Spelling.{IsSpelled}
 use Rattle.infra_reader.specs.Stations.{node_in, vehicle_in, train_in, station_of}
 use Rattle.infra_reader.proofs.Reading.{spelled_admitted}
-use Rattle.infra_reader.proofs.Spelling.{has_names}
+use Rattle.infra_reader.proofs.Spelling.{is_spelled}
 use Rattle.rail_spelling.specs.Designs.{Spells}
 use Rattle.rail_spelling.specs.Laws.{DesignsAreSpelled, SpelledDesignsAreOne, PlansAreSpelled, SpelledPlansAreOne}
 use Rattle.rail_spelling.proofs.Once.{same_once}
@@ -40,7 +40,7 @@ made_named name make parsed ps same h x m e =
     let p = in_map_back make ps x m in
     not_empty (map parsed ps) (parsed p.0) h (in_map parsed ps p.0 p.1) (sym (same p.0) ∙ subst (λ x. name (make p.0) ≡ name x) p.2 refl ∙ e)
 
-station_named : (s : ParsedSheet) → HasNames s → IsNamed (station_of s)
+station_named : (s : ParsedSheet) → IsSpelled s → IsNamed (station_of s)
 station_named s named = record {
   nodes = made_named (λ (n : Node). n.name) (node_in (names_of s)) (λ (n : ParsedNode). n.name) s.nodes (λ p. refl) named.nodes;
   sections = λ name m. not_empty (section_names s) name named.sections (once_back (section_names s) name (subst (In name) (same_once (section_names s)) m));
@@ -53,7 +53,7 @@ station_named s named = record {
 design_named : (bytes : List ℕ) (d : Station) → design_of bytes ≡ Ok d → IsNamed d
 design_named bytes d e =
     let file = table_read (toml_of bytes) d e in
-    subst IsNamed file.station (station_named (sheet_of file.keys) (has_names file.keys file.forms))
+    subst IsNamed file.station (station_named (sheet_of file.keys) (is_spelled file.keys file.forms))
 
 pub designs_spelled : DesignsAreSpelled
 designs_spelled bytes d e =

@@ -6,11 +6,11 @@ use Rattle.std.specs.List.{list_all}
 use Rattle.std.proofs.lemmas.Slice.Eq.{bytes_eq-Decides}
 use Rattle.toml.specs.Data.{Data, string, integer, boolean, array, Items, no_items, item}
 use Rattle.toml.specs.View.{items_of}
-use Rattle.design_table.specs.Forms.{is_name, name_of, is_name_value, name_value, is_side, side_of, is_whole, whole_of, is_flag, flag_of, is_visit, visit_of, is_visits, visits_of, list_of_items}
+use Rattle.design_table.specs.Forms.{is_name, name_of, is_name_value, name_value, is_side, side_of, is_whole, whole_of, is_wholes, wholes_of, is_flag, flag_of, is_visit, visit_of, is_visits, visits_of, list_of_items}
 use Rattle.rail_base.specs.declared.station.NodeNo.{NodeNo}
 use Rattle.rail_base.specs.Members.{In}
 use Rattle.rail_base.proofs.Members.{and_left, and_right}
-use Rattle.infra_reader.specs.Stations.{number_32, nodes_in}
+use Rattle.infra_reader.specs.Stations.{number_32, nodes_in, dwells_in}
 use Rattle.infra_reader.specs.Stations as stations
 use Rattle.infra_reader.specs.Names.{number_in}
 use Rattle.design_table.specs.declared.sheet.Side.TheVariants as table
@@ -50,7 +50,7 @@ spells_side None h = absurd (cc)
 -- ---- whole numbers
 
 -- one that counts is itself
-kept : (z : ℤ) → 1 ≤ number_32 z → z ≡ pos (number_32 z)
+pub kept : (z : ℤ) → 1 ≤ number_32 z → z ≡ pos (number_32 z)
 kept (pos n) low = go (nat_lt n 4294967296) low
   where
     go : (b : Bool) → 1 ≤ (if b then n else 0) → pos n ≡ pos (if b then n else 0)
@@ -65,6 +65,16 @@ spells_exactly None h e = absurd (cc)
 
 pub spells_whole : (v : Option Data) → is_whole v ≡ true → 1 ≤ number_32 (whole_of v) → value v ≡ whole (number_32 (whole_of v))
 spells_whole v h low = spells_exactly v h (kept (whole_of v) low)
+
+spells_items : (ds : Items) → list_all (λ d. is_whole (Some d)) (list_of_items ds) ≡ true → ((z : ℤ) → In z (map (λ d. whole_of (Some d)) (list_of_items ds)) → z ≡ pos (number_32 z)) → ds ≡ items_of (map whole (map number_32 (map (λ d. whole_of (Some d)) (list_of_items ds))))
+spells_items no_items h exact = refl
+spells_items (item (integer z) ds) h exact = ap₂ (λ n rest. item (integer n) rest) (exact z (inl refl)) (spells_items ds h (λ n m. exact n (inr m)))
+spells_items (item _ ds) h exact = absurd (cc)
+
+pub spells_wholes : {V : Type 0} (v : Option Data) (visits : List V) → is_wholes v ≡ true → ((ns : List ℤ) → wholes_of v ≡ Some ns → (z : ℤ) → In z ns → z ≡ pos (number_32 z)) → value v ≡ list whole (dwells_in visits (wholes_of v))
+spells_wholes (Some (array ds)) visits h exact = ap array (spells_items ds h (exact (map (λ d. whole_of (Some d)) (list_of_items ds)) refl))
+spells_wholes (Some _) visits h exact = absurd (cc)
+spells_wholes None visits h exact = absurd (cc)
 
 -- ---- visits
 

@@ -1,13 +1,16 @@
 -- The design that the bytes of a file spell: keys with their values, and names in place of numbers.
 use Prim.Native.String.{String}
-use Rattle.std.specs.Prelude.{◌≡◌, ℕ, pos, true, false, not, List, [], ◌∷◌, map, filter, Some, unwrap_or, codes}
+use Rattle.std.specs.Prelude.{◌≡◌, ℕ, pos, ◌<◌, true, false, not, nat_le, if◌then◌else◌, List, [], ◌∷◌, map, filter}
+use Rattle.std.specs.Prelude.{Some, unwrap_or, codes}
 use Rattle.std.specs.Str.{bytes_eq, is_utf8}
 use Rattle.toml.specs.Data.{Data, string, integer, boolean, array, table, no_items, item, Members, get_member}
 use Rattle.toml.specs.Parse.{parse_document}
 use Rattle.toml.specs.View.{items_of}
 use Rattle.rail_base.specs.declared.station.Station.{Station}
+use Rattle.rail_base.specs.declared.station.Train.{Train}
 use Rattle.rail_base.specs.declared.station.Side.{Side}
 use Rattle.rail_base.specs.declared.station.Side.TheVariants.{A, B}
+use Rattle.rail_base.specs.Members.{In}
 use Rattle.rail_base.specs.Names.{node_name, section_name, train_name}
 use Rattle.rail_base.specs.Stations.{vehicle_at}
 
@@ -54,6 +57,10 @@ abbrev pub each_once : List (List ℕ) → List (List ℕ)
 each_once [] = []
 each_once (name ∷ names) = name ∷ filter (λ other. not (bytes_eq name other)) (each_once names)
 
+-- how long a train stands at each visit in ms is said from version 3 on
+abbrev pub dwell_rows : ℕ → Train → List Row
+dwell_rows version t = if nat_le 3 version then ("dwell_ms", list whole t.dwell_ms) ∷ [] else []
+
 -- the bytes are, in UTF-8, a TOML document with these keys; a section has no table, and is there where an edge names it
 pub record Spells (bytes : List ℕ) (d : Station) : Type 0 where
   pub file : Members
@@ -76,7 +83,8 @@ pub record Spells (bytes : List ℕ) (d : Station) : Type 0 where
       ∷ ("accel_mm_s2", whole v.accel_mm_s2) ∷ ("brake_mm_s2", whole v.brake_mm_s2) ∷ [])
   pub trains : HasTables file "train" d.trains (λ t.
       ("name", string t.name) ∷ ("vehicle", string (vehicle_at d t.vehicle).name)
-      ∷ ("visits", list (list (λ n. string (node_name d n))) t.visits) ∷ [])
+      ∷ ("visits", list (list (λ n. string (node_name d n))) t.visits) ∷ dwell_rows d.version t)
+  pub dwells : (t : Train) → In t d.trains → d.version < 3 → t.dwell_ms ≡ map (λ visit. 0) t.visits
   pub orders : HasTables file "order" d.orders (λ o.
       ("first_train", string (train_name d o.first_train)) ∷ ("first_visit", whole o.first_visit)
       ∷ ("then_train", string (train_name d o.then_train)) ∷ ("then_visit", whole o.then_visit) ∷ [])

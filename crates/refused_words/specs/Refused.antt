@@ -6,8 +6,9 @@ use Rattle.toml_places.specs.Lines.{line_number}
 use Rattle.design_table.specs.declared.fault.Code.{Code}
 use Rattle.design_table.specs.declared.fault.Code.TheVariants.{D03}
 use Rattle.design_table.specs.declared.place.Place.{Place}
+use Rattle.design_table.specs.Keys.{version_number}
 use Rattle.design_table.specs.Parsed.{ParsedSheet}
-use Rattle.design_table.specs.Sheet.{form_fault, sheet_of}
+use Rattle.design_table.specs.Sheet.{form_fault, sheet_of, version_of}
 use Rattle.design_places.specs.Places.{place_in}
 use Rattle.design_places.specs.Shown.{place_lines}
 use Rattle.fault_words.specs.Faults.{fault_sentence}
@@ -16,9 +17,9 @@ use Rattle.fault_words.specs.Names.{first_place}
 
 -- of a text
 module _ (text : List ℕ) where
-  -- the name of the key at a place
-  abbrev pub name_in : Place → List ℕ
-  name_in place = unwrap_or (option_and_then name_at (place_in text place)) []
+  -- the name of the key at a place, in a version of designs
+  abbrev pub name_in : ℕ → Place → List ℕ
+  name_in version place = unwrap_or (option_and_then name_at (place_in version text place)) []
 
   -- `it stands first in line 4`
   abbrev pub first_line : Option (List ℕ) → List (List ℕ)
@@ -27,7 +28,8 @@ module _ (text : List ℕ) where
 
   -- of a name that stands twice: where it stands first
   abbrev pub first_lines : ParsedSheet → Code → Place → List (List ℕ)
-  first_lines s D03 place = first_line (option_and_then (place_in text) (first_place s place))
+  first_lines s D03 place =
+      first_line (option_and_then (place_in (version_number s.version) text) (first_place s place))
   first_lines s _ place = []
 
   -- what is wrong with a sheet
@@ -36,7 +38,7 @@ module _ (text : List ℕ) where
 
   -- what is wrong with the form of a document
   abbrev pub form_lines : Members → Place → List (List ℕ)
-  form_lines ms place = form_sentence ms place (name_in place) ∷ []
+  form_lines ms place = form_sentence ms place (name_in (version_of ms) place) ∷ []
 
   -- what is wrong: with the form of the document where some key has a wrong one, and else with what it says
   abbrev pub said : Members → List Place → Code → Place → List (List ℕ)
@@ -45,4 +47,4 @@ module _ (text : List ℕ) where
 
   -- the line and column, that line, and what is wrong
   abbrev pub refused_lines : Members → Code → Place → List (List ℕ)
-  refused_lines ms code place = place_lines text place ++ said ms (form_fault ms) code place
+  refused_lines ms code place = place_lines (version_of ms) text place ++ said ms (form_fault ms) code place

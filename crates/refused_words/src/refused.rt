@@ -2,25 +2,25 @@
 
 ghost use Rattle.std.specs.Prelude.{◌≡◌, Some, string_bytes, IfOk, OnOk};
 ghost use Rattle.toml.specs.View.{table_view};
-ghost use Rattle.design_table.specs.Sheet.{form_fault, sheet_of};
-ghost use Rattle.design_table.specs.Views.{sheet_seen};
+ghost use Rattle.design_table.specs.Sheet.{form_fault, sheet_of, version_of};
+ghost use Rattle.design_table.specs.Parsed.{sheet_seen};
 ghost use Rattle.rail_text.specs.Added.{AddsLines};
 ghost use Rattle.refused_words.specs.Refused.{fault_lines, first_line, first_lines, form_lines, name_in};
 ghost use Rattle.refused_words.specs.Refused.{refused_lines, said};
 
 use design_places::{place_in, push_place};
-use design_table::{Code, DesignFault, Place, Sheet, read_sheet};
+use design_table::{Code, DesignFault, Place, Sheet, read_sheet, version_number, version_of};
 use fault_words::{fault_sentence, first_place, form_sentence};
 use rail_text::put_number;
 use std::alloc::{AllocError, Global};
 use toml::Table;
 use toml_places::{line_number, name_at};
 
-/// The name of the key at a place, empty where there is none.
-fn name_in(alloc: Global, text: &str, place: Place) -> Result<String, AllocError>
-    ensures { IfOk result (λ name. string_bytes name ≡ name_in text.now place) }
+/// The name of the key at a place, in a version of designs, empty where there is none.
+fn name_in(alloc: Global, version: u64, text: &str, place: Place) -> Result<String, AllocError>
+    ensures { IfOk result (λ name. string_bytes name ≡ name_in text.now version place) }
 {
-    let Some(rest) = place_in(alloc, text, place)? else {
+    let Some(rest) = place_in(alloc, version, text, place)? else {
         return Ok(String::new(alloc));
     };
     match name_at(alloc, rest)? {
@@ -59,7 +59,8 @@ fn push_first_place(
     let Some(first) = first_place(alloc, sheet, place)? else {
         return Ok(());
     };
-    match place_in(alloc, text, first)? {
+    let version = version_number(sheet.version);
+    match place_in(alloc, version, text, first)? {
         Some(rest) => push_first_line(alloc, text, rest, lines),
         None => Ok(()),
     }
@@ -94,7 +95,7 @@ fn push_form(
 ) -> Result<(), AllocError>
     ensures { OnOk result (AddsLines lines.old lines.new (form_lines text.now (table_view table.now) place)) }
 {
-    let name = name_in(alloc, text, place)?;
+    let name = name_in(alloc, version_of(table), text, place)?;
     let line = form_sentence(alloc, table, place, name.as_str())?;
     lines.push(line)?;
     Ok(())
@@ -131,7 +132,7 @@ pub fn push_refused(
 ) -> Result<(), AllocError>
     ensures { OnOk result (AddsLines lines.old lines.new (refused_lines text.now (table_view table.now) code place)) }
 {
-    push_place(alloc, text, place, lines)?;
+    push_place(alloc, version_of(table), text, place, lines)?;
     push_said(alloc, text, table, code, place, lines)?;
     Ok(())
 }

@@ -1,5 +1,5 @@
 -- What is said of orders and withins by tick k is so from then on.
-use Rattle.std.proofs.Common.{◌≡◌, ℕ, ◌+◌, ◌-◌, ◌*◌, ◌/◌, ◌≤◌, ◌<◌, Bool, true, false, cond, nat_le, nat_lt, List, Option, None, Some, refl, sym, ap, ap₂, subst, ◌∙◌, arith, leb-true, leb-false, le-leb, mul-le-mul, le_refl, div-mul-le_self}
+use Rattle.std.proofs.Common.{◌≡◌, ℕ, ◌+◌, ◌-◌, ◌*◌, ◌/◌, ◌≤◌, ◌<◌, Bool, true, false, cond, nat_le, nat_lt, List, Option, None, Some, refl, sym, ap₂, subst, ◌∙◌, arith, leb-true, leb-false, le-leb, mul-le-mul, le_refl, div-mul-le_self}
 use Rattle.std.proofs.Math.Nat.{lt-div-mul-add}
 use Rattle.rail_base.specs.declared.station.Station.{Station}
 use Rattle.rail_base.specs.declared.station.Order.{Order}
@@ -7,8 +7,6 @@ use Rattle.rail_base.specs.declared.station.TrainNo.{TrainNo}
 use Rattle.rail_base.specs.declared.station.Within.{Within}
 use Rattle.rail_base.specs.declared.route.Route.{Route}
 use Rattle.rail_base.specs.declared.plan.Command.{Command}
-use Rattle.rail_base.specs.Admitted.{IsAdmitted}
-use Rattle.rail_base.specs.Members.{In}
 use Rattle.rail_base.proofs.Members.{false_unless, not_less}
 use Rattle.rail_spec.specs.Dispatches.{of_plan}
 use Rattle.rail_spec.specs.Visits.{visit_tick}
@@ -16,9 +14,8 @@ use Rattle.rail_spec.specs.Histories.{history_at}
 use Rattle.rail_spec.specs.Requirements.{both, most_ticks, keeps_order, keeps_within}
 use Rattle.rail_laws.proofs.Deciding.{visit_stays, visit_within, visit_at}
 use Rattle.rail_require.proofs.Telling.{visit_told}
-use Rattle.run_drawing.specs.declared.ending.Ending.{Ending}
 use Rattle.run_drawing.specs.declared.ending.Ending.TheVariants.{Met, Broken, Open}
-use Rattle.run_drawing.specs.Laws.{OrderIsSo, WithinIsSo, EndingsAreSo}
+use Rattle.run_drawing.specs.Laws.{EndingsAreSo}
 use Rattle.run_drawing.specs.Requirements.{order_ending, within_ending, ending_of_order, ending_of_within}
 
 -- ---- numbers

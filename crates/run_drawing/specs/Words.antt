@@ -1,7 +1,7 @@
 -- The words of a picture of a run, and how many shapes it has at most.
-use Rattle.std.specs.Prelude.{ℕ, ◌+◌, ◌-◌, ◌*◌, List, [], ◌∷◌, ◌++◌, map, length, take, Option}
-use Rattle.std.specs.Prelude.{option_map}
-use Rattle.std.specs.List.{enumerate_from, filter_map, flat_map, sum_by}
+use Rattle.std.specs.Prelude.{ℕ, ◌+◌, ◌-◌, ◌*◌, List, [], ◌∷◌, ◌++◌, map, length, take, codes, decimal, Option}
+use Rattle.std.specs.Prelude.{option_map, option_and_then}
+use Rattle.std.specs.List.{enumerate_from, filter_map, flat_map, sum_by, zip}
 use Rattle.rail_base.specs.declared.station.Station.{Station}
 use Rattle.rail_base.specs.declared.station.Train.{Train}
 use Rattle.rail_base.specs.declared.station.NodeNo.{NodeNo}
@@ -10,7 +10,7 @@ use Rattle.rail_base.specs.declared.history.Verdict.{Verdict}
 use Rattle.rail_base.specs.declared.history.Verdict.TheVariants.{Met, Failed, Undecided}
 use Rattle.rail_base.specs.Names.{train_name}
 use Rattle.timetable.specs.Timetable.{timetable_of}
-use Rattle.run_drawing.specs.Requirements.{requirement_texts, visit_text}
+use Rattle.run_drawing.specs.Requirements.{ms_of, requirement_texts, visit_text}
 
 -- what happened to the trains
 abbrev pub history_in : Verdict → List TrainHistory
@@ -45,16 +45,33 @@ visit_line_of name visit = option_map (λ made. visit_text name visit.0) visit.1
 abbrev pub visit_texts : List ℕ → List (Option (NodeNo × ℕ)) → List (List ℕ)
 visit_texts name visits = filter_map (visit_line_of name) (enumerate_from 1 visits)
 
+-- `<train> stands <time> ms`, from one tick to another
+abbrev pub stand_text : ℕ → List ℕ → ℕ → ℕ → List ℕ
+stand_text tick_ms name from to = name ++ codes " stands " ++ decimal (ms_of tick_ms (to - from)) ++ codes " ms"
+
+-- the same of a visit and the tick at which the train has stood there, where both have come
+abbrev pub stand_line_of : ℕ → List ℕ → Option (NodeNo × ℕ) × Option ℕ → Option (List ℕ)
+stand_line_of tick_ms name stand = option_and_then (λ made. option_map (stand_text tick_ms name made.1) stand.1) stand.0
+
+-- the stands of a train of this name that are done, in the order of its visits
+abbrev pub stand_texts : ℕ → List ℕ → List (Option (NodeNo × ℕ)) → List (Option ℕ) → List (List ℕ)
+stand_texts tick_ms name visits dwells = filter_map (stand_line_of tick_ms name) (zip visits dwells)
+
+-- the visits and then the stands of the train of a number
+abbrev pub train_texts : Station → ℕ → TrainHistory → List (List ℕ)
+train_texts d number train =
+    let name = train_name d (record { 0 = number }) in
+    visit_texts name train.visits ++ stand_texts d.tick_ms name train.visits train.dwells
+
 -- those of all trains, counted from 1
 abbrev pub history_texts : Station → List TrainHistory → List (List ℕ)
-history_texts d history =
-    flat_map (λ train. visit_texts (train_name d (record { 0 = train.0 })) train.1.visits) (enumerate_from 1 history)
+history_texts d history = flat_map (λ train. train_texts d train.0 train.1) (enumerate_from 1 history)
 
 -- how the run ends, and the names of all trains and of all sections
 abbrev pub frame_words : Station → Verdict → List (List ℕ)
 frame_words d verdict = outcome_text d verdict ∷ map name_of d.trains ++ d.sections
 
--- and each visit that is made, and what came of each order and each within
+-- and each visit that is made and each stand that is done, and what came of each order and each within
 abbrev pub run_words : Station → Verdict → List (List ℕ)
 run_words d verdict =
     frame_words d verdict ++ history_texts d (history_in verdict)
@@ -62,9 +79,9 @@ run_words d verdict =
 
 -- ---- how many shapes
 
--- for a train its line, two shapes for each visit, and two for each section of each of its routes
+-- for a train its line, two shapes for each visit and one more where it stands, and two for each section of each of its routes
 abbrev pub train_size : TrainHistory → ℕ
-train_size train = 1 + 2 * length train.visits + 2 * length train.releases
+train_size train = 1 + 2 * length train.visits + length train.dwells + 2 * length train.releases
 
 -- for all trains
 abbrev pub history_size : List TrainHistory → ℕ

@@ -1,5 +1,5 @@
-//! The picture of a run: a line for each train over time and place, its visits, what is asked of them, and which train
-//! holds which section when.
+//! The picture of a run: a line for each train over time and place, its visits, how long it stands there, what is asked
+//! of them, and which train holds which section when.
 #![tactic(auto)]
 
 mod axes;
@@ -10,6 +10,7 @@ mod outcome;
 mod picture;
 mod requirements;
 mod scale;
+mod stands;
 mod trains;
 mod visits;
 

@@ -2,16 +2,16 @@
 
 ghost use Rattle.std.specs.Prelude.{◌≡◌, ◌+◌, ◌≤◌, ◌++◌, length, IfOk, OnOk};
 ghost use Rattle.drawing.specs.Drawing.{words_in};
-ghost use Rattle.rail_base.specs.Names.{train_name};
 ghost use Rattle.run_drawing.specs.Requirements.{requirement_texts};
 ghost use Rattle.run_drawing.specs.Words.{frame_size, frame_words, history_in, history_size, history_texts, last_tick};
-ghost use Rattle.run_drawing.specs.Words.{run_size, run_words, train_size, visit_texts};
+ghost use Rattle.run_drawing.specs.Words.{run_size, run_words, train_size, train_texts};
 
 use crate::axes::{put_levels, put_times};
 use crate::bars::{put_holdings, put_rows, row_of};
 use crate::outcome::put_outcome;
 use crate::requirements::{put_orders, put_withins};
 use crate::scale::{LINE, Scale};
+use crate::stands::put_stands;
 use crate::trains::{goes_up, put_train_line, put_train_names};
 use crate::visits::put_visits;
 use drawing::Picture;
@@ -24,14 +24,15 @@ use rail_base::station::Station;
 use std::alloc::{AllocError, Global};
 
 /// The picture of what a run of a plan shows, by the routes of the design. Its words are how the run ends, the names of
-/// all trains and of all sections, each in the order of their numbers, and `<train> visit <j>` for each visit that is
-/// made, in the order of trains and of their visits, and then what is asked of each order and each within and what came
-/// of it, as `order <o>: <train> visit <j> before <train> visit <i>: met`.
+/// all trains and of all sections, each in the order of their numbers, and train by train `<train> visit <j>` for each
+/// visit that is made and `<train> stands <time> ms` for each stand that is done, in the order of its visits, and then
+/// what is asked of each order and each within and what came of it, as
+/// `order <o>: <train> visit <j> before <train> visit <i>: met`.
 ///
 /// Across runs the time, in s; down lie the nodes, by their levels along the track. A train's line leads through the
-/// nodes that it passes, and stays at one where a route from there is granted later. Below there is a row for each
-/// section with a bar from the grant to the release, or to the deciding tick, and below that a text for each
-/// requirement.
+/// nodes that it passes, and stays at one where it stands, or where a route from there is granted later. Below there is
+/// a row for each section with a bar from the grant to the release, or to the deciding tick, and below that a text for
+/// each requirement.
 ///
 /// `Err` is want of memory.
 pub fn run_picture(
@@ -87,7 +88,8 @@ fn last_tick(verdict: &Verdict) -> u64
     }
 }
 
-/// Appends what happened to the train of a number, counted from 1: its line, the sections that it held, and its visits.
+/// Appends what happened to the train of a number, counted from 1: its line, the sections that it held, its visits, and
+/// its stands.
 fn put_train(
     alloc: Global,
     picture: &mut Picture,
@@ -97,11 +99,12 @@ fn put_train(
     number: usize,
     train: &TrainHistory,
 ) -> Result<(), AllocError>
-    ensures words { OnOk result (words_in picture.new ≡ words_in picture.old
-        ++ visit_texts (train_name design.now.station (record { 0 = number })) train.now.visits) }
+    ensures words { OnOk result (words_in picture.new
+        ≡ words_in picture.old ++ train_texts design.now.station number train.now) }
     ensures size { OnOk result (length picture.new ≤ length picture.old + train_size train.now) }
 {
     let name = name_of_train(&design.station, number);
+    let upward = goes_up(scale, train);
     put_train_line(alloc, picture, scale, routes, number, train)?;
     put_holdings(alloc, picture, scale, number, name, train)?;
     put_visits(
@@ -111,8 +114,9 @@ fn put_train(
         number,
         name,
         train.visits.as_slice(),
-        goes_up(scale, train),
-    )
+        upward,
+    )?;
+    put_stands(alloc, picture, scale, design, number, name, train, upward)
 }
 
 /// Appends what happened to all trains.

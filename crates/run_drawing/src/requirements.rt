@@ -110,7 +110,7 @@ fn order_text(
 }
 
 /// So many ticks, in ms.
-fn ms_of(design: &Design, ticks: u64) -> u64
+pub(crate) fn ms_of(design: &Design, ticks: u64) -> u64
     ensures { result ≡ ms_of design.now.station.tick_ms ticks }
 {
     ticks.saturating_mul(u64::from(design.station.tick_ms))

@@ -91,18 +91,29 @@ fn grants_at_nodes(
     Ok(at_nodes)
 }
 
-/// Appends a node that is passed, and again the tick at which the train is given leave to go on, where it stands for
-/// that.
+/// The tick at which a train has stood at a visit that it has made at a node in a tick; 0 where there is no such visit,
+/// or it has not stood there.
+fn end_of_stand(history: &TrainHistory, node: NodeNo, tick: u64) -> u64 {
+    let visits = history.visits.as_slice();
+    for (visit, dwell) in visits.iter().zip(history.dwells.as_slice()) {
+        if *visit == Some((node, tick)) {
+            return dwell.unwrap_or(0);
+        }
+    }
+    0
+}
+
+/// Appends a node that is passed, and again the tick up to which the train stays there, where it does.
 fn put_pass(
     points: &mut Vec<Point>,
     scale: &Scale,
     node: NodeNo,
     pass: u64,
-    grant: u64,
+    until: u64,
 ) -> Result<(), AllocError> {
     points.push(scale.point(node, pass))?;
-    if pass < grant {
-        points.push(scale.point(node, grant))?;
+    if pass < until {
+        points.push(scale.point(node, until))?;
     }
     Ok(())
 }
@@ -119,7 +130,8 @@ fn points_of(
     for (index, (node, tick)) in history.passes.as_slice().iter().enumerate() {
         if let Some(tick) = tick {
             let grant = grants.get(index).copied().unwrap_or(0);
-            put_pass(&mut points, scale, *node, *tick, grant)?;
+            let until = grant.max(end_of_stand(history, *node, *tick));
+            put_pass(&mut points, scale, *node, *tick, until)?;
         }
     }
     Ok(points)

@@ -6,7 +6,7 @@ use Rattle.rail_base.specs.declared.plan.Command.{Command}
 use Rattle.rail_base.specs.declared.plan.Violation.TheVariants as violation
 use Rattle.cone_spec.specs.declared.ConeTrain.{ConeTrain}
 use Rattle.rail_spec.specs.Track.{routes_of}
-use Rattle.rail_laws.proofs.Stations.{follow_short, parallel, follow_within, plan_two, plan_together, command}
+use Rattle.rail_laws.proofs.Stations.{halt_for, within, follow_short, parallel, follow_within, plan_one, plan_two, plan_together, command}
 use Rattle.slice_spec.specs.Leasts.{IsLeast}
 use Rattle.slice_spec.specs.Slices.{slice_of, whole_cone}
 use Rattle.slice_spec.proofs.Raising.{reaches_asked, reaches_clear, reaches_held}
@@ -75,6 +75,17 @@ together_slice = refl
 
 together_closed : Closed parallel plan_together 1 (two 0 1) (violation.Order 1)
 together_closed = record { soon = refl; own = refl; grants = refl; holders = refl }
+
+-- one train that stands for three ticks between its visits
+abbrev standing_within : ℕ → Station
+standing_within ms = record (halt_for 3000) { withins = within 1 1 1 3 ms ∷ [] }
+
+standing_slice : slice_in (standing_within 14999) plan_one 15 (λ t. 15) (violation.Within 1)
+    ≡ record { trains = train 1 15 2 (r1 ∷ r2 ∷ []) None ∷ []; pairs = []; violation = violation.Within 1 }
+standing_slice = refl
+
+standing_closed : Closed (standing_within 14999) plan_one 15 (λ t. 15) (violation.Within 1)
+standing_closed = record { soon = refl; own = refl; grants = refl; holders = refl }
 
 -- ---- no closed horizons are lower
 

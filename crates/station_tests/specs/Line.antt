@@ -38,6 +38,7 @@ line_station = record {
     name = 65 ∷ [];
     vehicle = record { 0 = 1 };
     visits = (record { 0 = 1 } ∷ []) ∷ (record { 0 = 3 } ∷ []) ∷ [];
+    dwell_ms = 0 ∷ 0 ∷ [];
   } ∷ [];
   orders = [];
   withins = [];

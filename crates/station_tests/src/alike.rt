@@ -1,4 +1,4 @@
-//! Twelve trains over one edge, some of them alike.
+//! Thirteen trains over one edge, some of them alike.
 
 ghost use Rattle.std.specs.Prelude.{◌≡◌, ℕ, [], ◌∷◌, IfOk};
 ghost use Rattle.rail_base.specs.declared.station.Train.{Train};
@@ -12,28 +12,31 @@ use rail_base::list::List;
 use rail_base::station::{Order, Station, Train, TrainNo, Within};
 use std::alloc::{AllocError, Global};
 
-/// Train H is of another vehicle, and train I stays where it is.
+/// Train H is of another vehicle, train I stays where it is, and train M stands at its second visit.
 fn trains(alloc: Global) -> Result<List<Train>, AllocError>
-    ensures { let of = λ (letter : ℕ) (vehicle : ℕ) (to : ℕ). let t : Train = record {
+    ensures { let of = λ (letter : ℕ) (vehicle : ℕ) (to : ℕ) (dwell_ms : ℕ). let t : Train = record {
       name = letter ∷ [];
       vehicle = record { 0 = vehicle };
       visits = (record { 0 = 1 } ∷ []) ∷ (record { 0 = to } ∷ []) ∷ [];
-    } in t in IfOk result (λ ts. ts ≡ of 65 1 2 ∷ of 66 1 2 ∷ of 67 1 2 ∷ of 68 1 2 ∷ of 69 1 2 ∷ of 70 1 2
-        ∷ of 71 1 2 ∷ of 72 2 2 ∷ of 73 1 1 ∷ of 74 1 2 ∷ of 75 1 2 ∷ of 76 1 2 ∷ []) }
+      dwell_ms = 0 ∷ dwell_ms ∷ [];
+    } in t in IfOk result (λ ts. ts ≡ of 65 1 2 0 ∷ of 66 1 2 0 ∷ of 67 1 2 0 ∷ of 68 1 2 0 ∷ of 69 1 2 0
+        ∷ of 70 1 2 0 ∷ of 71 1 2 0 ∷ of 72 2 2 0 ∷ of 73 1 1 0 ∷ of 74 1 2 0 ∷ of 75 1 2 0 ∷ of 76 1 2 0
+        ∷ of 77 1 2 1000 ∷ []) }
 {
     let mut trains = List::new(alloc);
-    trains.push(train(alloc, b'A', 1, 2)?)?;
-    trains.push(train(alloc, b'B', 1, 2)?)?;
-    trains.push(train(alloc, b'C', 1, 2)?)?;
-    trains.push(train(alloc, b'D', 1, 2)?)?;
-    trains.push(train(alloc, b'E', 1, 2)?)?;
-    trains.push(train(alloc, b'F', 1, 2)?)?;
-    trains.push(train(alloc, b'G', 1, 2)?)?;
-    trains.push(train(alloc, b'H', 2, 2)?)?;
-    trains.push(train(alloc, b'I', 1, 1)?)?;
-    trains.push(train(alloc, b'J', 1, 2)?)?;
-    trains.push(train(alloc, b'K', 1, 2)?)?;
-    trains.push(train(alloc, b'L', 1, 2)?)?;
+    trains.push(train(alloc, b'A', 1, 2, 0)?)?;
+    trains.push(train(alloc, b'B', 1, 2, 0)?)?;
+    trains.push(train(alloc, b'C', 1, 2, 0)?)?;
+    trains.push(train(alloc, b'D', 1, 2, 0)?)?;
+    trains.push(train(alloc, b'E', 1, 2, 0)?)?;
+    trains.push(train(alloc, b'F', 1, 2, 0)?)?;
+    trains.push(train(alloc, b'G', 1, 2, 0)?)?;
+    trains.push(train(alloc, b'H', 2, 2, 0)?)?;
+    trains.push(train(alloc, b'I', 1, 1, 0)?)?;
+    trains.push(train(alloc, b'J', 1, 2, 0)?)?;
+    trains.push(train(alloc, b'K', 1, 2, 0)?)?;
+    trains.push(train(alloc, b'L', 1, 2, 0)?)?;
+    trains.push(train(alloc, b'M', 1, 2, 1000)?)?;
     Ok(trains)
 }
 
@@ -123,7 +126,7 @@ fn design(alloc: Global) -> Result<Design, AllocError> {
     let orders = orders(alloc)?;
     let withins = withins(alloc)?;
     let station = Station {
-        version: 1,
+        version: 3,
         tick_ms: 1000,
         horizon_ms: 600_000,
         nodes,
@@ -154,6 +157,7 @@ fn some_are_alike(rt: HostRuntime) -> Result<(), AllocError> {
         (1, 4, false),
         (0, 1, false),
         (1, 13, false),
+        (1, 14, false),
     ] {
         assert_eq!(rt;
             are_alike(&design, TrainNo(one), TrainNo(other)),

@@ -41,7 +41,7 @@ fn dead_end(alloc: Global) -> Result<Station, AllocError>
     let sections = one(alloc, section)?;
     let vehicle = vehicle(alloc, b'v')?;
     let vehicles = one(alloc, vehicle)?;
-    let train = train(alloc, b'A', 1, 2)?;
+    let train = train(alloc, b'A', 1, 2, 0)?;
     let trains = one(alloc, train)?;
     Ok(Station {
         version: 1,

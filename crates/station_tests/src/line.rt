@@ -61,7 +61,7 @@ fn station(alloc: Global) -> Result<Station, AllocError>
     let signals = one(alloc, signal)?;
     let vehicle = vehicle(alloc, b'v')?;
     let vehicles = one(alloc, vehicle)?;
-    let train = train(alloc, b'A', 1, 3)?;
+    let train = train(alloc, b'A', 1, 3, 0)?;
     let trains = one(alloc, train)?;
     Ok(Station {
         version: 1,

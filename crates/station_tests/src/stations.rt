@@ -93,17 +93,25 @@ pub(crate) fn vehicle(alloc: Global, letter: u8) -> Result<Vehicle, AllocError>
     })
 }
 
-/// A train of a vehicle that starts at the first node and then visits another.
-pub(crate) fn train(alloc: Global, letter: u8, vehicle: u32, to: u32) -> Result<Train, AllocError>
+/// A train of a vehicle that starts at the first node and then visits another, where it stands so long.
+pub(crate) fn train(
+    alloc: Global,
+    letter: u8,
+    vehicle: u32,
+    to: u32,
+    dwell_ms: u32,
+) -> Result<Train, AllocError>
     ensures { IfOk result (λ t. t ≡ record {
       name = letter ∷ [];
       vehicle = record { 0 = vehicle };
       visits = (record { 0 = 1 } ∷ []) ∷ (record { 0 = to } ∷ []) ∷ [];
+      dwell_ms = 0 ∷ dwell_ms ∷ [];
     }) }
 {
     Ok(Train {
         name: name(alloc, letter)?,
         vehicle: VehicleNo(vehicle),
         visits: two(alloc, one(alloc, NodeNo(1))?, one(alloc, NodeNo(to))?)?,
+        dwell_ms: two(alloc, 0, dwell_ms)?,
     })
 }

@@ -1,6 +1,6 @@
 -- One more tick of the history of a run.
-use Rattle.std.proofs.Common.{◌≡◌, ℕ, zero, suc, ◌+◌, ◌-◌, ◌≤◌, Bool, true, false, nat_le, nat_lt, List, [], ◌∷◌, map, Option, None, Some, option_map, refl, sym, ap, ap₂, ◌∙◌, arith}
-use Rattle.std.specs.List.{enumerate_from}
+use Rattle.std.proofs.Common.{◌≡◌, ℕ, zero, suc, ◌+◌, ◌-◌, ◌≤◌, Bool, true, false, ◌==◌, if◌then◌else◌, nat_le, nat_lt, List, [], ◌∷◌, map, length, take, Option, None, Some, option_map, refl, sym, ap, ap₂, subst, ◌∙◌, arith}
+use Rattle.std.specs.List.{enumerate_from, sum}
 use Rattle.rail_base.specs.declared.station.Station.{Station}
 use Rattle.rail_base.specs.declared.station.NodeNo.{NodeNo}
 use Rattle.rail_base.specs.declared.station.SectionNo.{SectionNo}
@@ -10,18 +10,23 @@ use Rattle.rail_base.specs.declared.route.RouteNo.{RouteNo}
 use Rattle.rail_base.specs.declared.plan.Command.{Command}
 use Rattle.rail_base.specs.declared.state.PathNode.{PathNode}
 use Rattle.rail_base.specs.declared.state.TrainState.{TrainState}
-use Rattle.rail_base.specs.Numbering.{or_this, least}
+use Rattle.rail_base.specs.Numbering.{or_this, least, entry, count_from, one_to}
+use Rattle.rail_base.specs.Stations.{train_of, dwell_ticks, whole_ticks}
 use Rattle.rail_base.specs.Routes.{route_at, sections}
 use Rattle.rail_base.proofs.Members.{map-map}
 use Rattle.rail_spec.specs.Visits.{pass_tick, path_nodes_of_train, visits_of_train, passed}
 use Rattle.rail_spec.specs.Plans.{path}
 use Rattle.rail_spec.specs.Dispatches.{state_of, of_plan, state_at}
 use Rattle.rail_base.specs.declared.history.TrainHistory.{TrainHistory}
-use Rattle.rail_spec.specs.Histories.{grant_tick, granted, released, visit_made, train_history}
+use Rattle.rail_spec.specs.Requirements.{visit_numbers}
+use Rattle.rail_spec.specs.Histories.{grant_tick, granted, released, visit_made, has_stood, dwell_tick, train_history}
+use Rattle.rail_course.specs.declared.dwells.Dwell.{Dwell}
+use Rattle.rail_course.specs.Dwells.{dwells_from}
+use Rattle.rail_course.proofs.Following.{Follow, follow_all}
 use Rattle.rail_course.specs.declared.journey.Release.{Release}
 use Rattle.rail_course.specs.Releases.{release_for, releases_of_route, releases_of_train}
-use Rattle.rail_course.specs.Marks.{mark_grants, mark_passes, mark_releases, mark_visits, made_now, made_or}
-use Rattle.rail_base.proofs.Lists.{map-flat_map, flat_map-each}
+use Rattle.rail_course.specs.Marks.{mark_grants, mark_passes, mark_releases, mark_visits, mark_dwells, made_now, made_or, stood_or}
+use Rattle.rail_base.proofs.Lists.{map-flat_map, flat_map-each, length-map}
 use Rattle.rail_base.specs.Events.{has_happened}
 
 module _ (d : Station) (routes : List Route) (plan : List (List Command)) (t : TrainNo) where
@@ -112,34 +117,88 @@ module _ (d : Station) (routes : List Route) (plan : List (List Command)) (t : T
   pub no_visits : map (λ place. None) (visits_of_train d routes (of_plan routes plan) t) ≡ map (visit_made d routes plan 0 t) (visits_of_train d routes (of_plan routes plan) t)
   no_visits = visits_none (visits_of_train d routes (of_plan routes plan) t)
 
+  -- ---- dwells
+
+  dwell_marked : (k a u w : ℕ) → entry 0 (dwell_ticks d t) a ≡ w → sum (take a (dwell_ticks d t)) ≡ u + w
+      → stood_or (dwell_tick d routes plan k t a) (record { ticks = w; until = u + w }) (now (suc k)).stood (suc k) ≡ dwell_tick d routes plan (suc k) t a
+  dwell_marked k a u w e f =
+      ap (λ n. if n == 0 then None else or_this (dwell_tick d routes plan k t a) (nat_le (u + w) (now (suc k)).stood) (suc k)) (sym e)
+      ∙ ap (λ n. if own == 0 then None else or_this (dwell_tick d routes plan k t a) (nat_le n (now (suc k)).stood) (suc k)) (sym f)
+      ∙ go (own == 0)
+    where
+      own : ℕ
+      own = entry 0 (dwell_ticks d t) a
+
+      before : Option ℕ
+      before = least (has_stood d routes plan t a) k
+
+      comes : Bool
+      comes = has_stood d routes plan t a (suc k)
+
+      go : (b : Bool) → (if b then None else or_this (if b then None else before) comes (suc k)) ≡ (if b then None else or_this before comes (suc k))
+      go true = refl
+      go false = refl
+
+  dwells_of : (k a u : ℕ) (ws : List ℕ) → Follow (dwell_ticks d t) a u ws
+      → mark_dwells (now (suc k)).stood (suc k) (dwells_from u ws) (map (dwell_tick d routes plan k t) (count_from a (length ws))) ≡ map (dwell_tick d routes plan (suc k) t) (count_from a (length ws))
+  dwells_of k a u [] h = refl
+  dwells_of k a u (w ∷ ws) h = ap₂ (λ x xs. x ∷ xs) (dwell_marked k a u w h.0 h.1) (dwells_of k (a + 1) (u + w) ws h.2)
+
+  abbrev nothing : Option ℕ
+  nothing = None
+
+  dwell_none : (a : ℕ) → None ≡ dwell_tick d routes plan 0 t a
+  dwell_none a = go (entry 0 (dwell_ticks d t) a == 0)
+    where
+      go : (b : Bool) → nothing ≡ (if b then nothing else nothing)
+      go true = refl
+      go false = refl
+
+  dwells_none : (a u : ℕ) (ws : List ℕ) → map (λ w. None) (dwells_from u ws) ≡ map (dwell_tick d routes plan 0 t) (count_from a (length ws))
+  dwells_none a u [] = refl
+  dwells_none a u (w ∷ ws) = ap₂ (λ x xs. x ∷ xs) (dwell_none a) (dwells_none (a + 1) (u + w) ws)
+
+  module _ (as_many : length (train_of d t).dwell_ms ≡ length (train_of d t).visits) where
+    numbers : one_to (length (dwell_ticks d t)) ≡ visit_numbers d t
+    numbers = ap one_to (length-map (whole_ticks d) (train_of d t).dwell_ms ∙ as_many)
+
+    pub dwells_marked : (k : ℕ) → mark_dwells (now (suc k)).stood (suc k) (dwells_from 0 (dwell_ticks d t)) (map (dwell_tick d routes plan k t) (visit_numbers d t)) ≡ map (dwell_tick d routes plan (suc k) t) (visit_numbers d t)
+    dwells_marked k =
+        subst (λ ns. mark_dwells (now (suc k)).stood (suc k) (dwells_from 0 (dwell_ticks d t)) (map (dwell_tick d routes plan k t) ns) ≡ map (dwell_tick d routes plan (suc k) t) ns) numbers
+        (dwells_of k 1 0 (dwell_ticks d t) (follow_all (dwell_ticks d t)))
+
+    pub no_dwells : map (λ w. None) (dwells_from 0 (dwell_ticks d t)) ≡ map (dwell_tick d routes plan 0 t) (visit_numbers d t)
+    no_dwells = dwells_none 1 0 (dwell_ticks d t) ∙ ap (map (dwell_tick d routes plan 0 t)) numbers
+
 -- ---- the whole history of a train
 
-abbrev told : List (RouteNo × Option ℕ) → List (NodeNo × Option ℕ) → List (RouteNo × SectionNo × Option ℕ) → List (Option (NodeNo × ℕ)) → TrainHistory
-told g p r v = record { grants = g; passes = p; releases = r; visits = v }
+abbrev told : List (RouteNo × Option ℕ) → List (NodeNo × Option ℕ) → List (RouteNo × SectionNo × Option ℕ) → List (Option (NodeNo × ℕ)) → List (Option ℕ) → TrainHistory
+told g p r v w = record { grants = g; passes = p; releases = r; visits = v; dwells = w }
 
-told_same : (g h : List (RouteNo × Option ℕ)) (p q : List (NodeNo × Option ℕ)) (r s : List (RouteNo × SectionNo × Option ℕ)) (v w : List (Option (NodeNo × ℕ))) → g ≡ h → p ≡ q → r ≡ s → v ≡ w → told g p r v ≡ told h q s w
-told_same g h p q r s v w a b c e = cc
+told_same : (g h : List (RouteNo × Option ℕ)) (p q : List (NodeNo × Option ℕ)) (r s : List (RouteNo × SectionNo × Option ℕ)) (v w : List (Option (NodeNo × ℕ))) (x y : List (Option ℕ)) → g ≡ h → p ≡ q → r ≡ s → v ≡ w → x ≡ y → told g p r v x ≡ told h q s w y
+told_same g h p q r s v w x y a b c e f = cc
 
-module _ (d : Station) (routes : List Route) (plan : List (List Command)) (t : TrainNo) where
+module _ (d : Station) (routes : List Route) (plan : List (List Command)) (t : TrainNo) (as_many : length (train_of d t).dwell_ms ≡ length (train_of d t).visits) where
   -- what a run begins with
-  pub history_begins : (g : List (RouteNo × Option ℕ)) (p : List (NodeNo × Option ℕ)) (r : List (RouteNo × SectionNo × Option ℕ)) (v : List (Option (NodeNo × ℕ)))
+  pub history_begins : (g : List (RouteNo × Option ℕ)) (p : List (NodeNo × Option ℕ)) (r : List (RouteNo × SectionNo × Option ℕ)) (v : List (Option (NodeNo × ℕ))) (w : List (Option ℕ))
       → g ≡ map (λ x. (x, None)) (path plan t) → p ≡ map (λ (path_node : PathNode). (path_node.node, None)) (path_nodes_of_train d routes (of_plan routes plan) t)
       → r ≡ map (λ (x : Release). (x.route, x.section, None)) (releases_of_train d routes (of_plan routes plan) t) → v ≡ map (λ x. None) (visits_of_train d routes (of_plan routes plan) t)
-      → told g p r v ≡ train_history d routes plan 0 t
-  history_begins g p r v a b c e = told_same g _ p _ r _ v _ (a ∙ no_grants d routes plan t) b (c ∙ released_is d routes plan t 0) (e ∙ no_visits d routes plan t)
+      → w ≡ map (λ x. None) (dwells_from 0 (dwell_ticks d t)) → told g p r v w ≡ train_history d routes plan 0 t
+  history_begins g p r v w a b c e f = told_same g _ p _ r _ v _ w _ (a ∙ no_grants d routes plan t) b (c ∙ released_is d routes plan t 0) (e ∙ no_visits d routes plan t) (f ∙ no_dwells d routes plan t as_many)
 
   -- what it has one tick further
   pub history_goes_on : (tick : ℕ) → 1 ≤ tick → (s : TrainState) → s ≡ state_of (state_at d routes (of_plan routes plan) tick) t → (old : TrainHistory) → old ≡ train_history d routes plan (tick - 1) t
-      → (g : List (RouteNo × Option ℕ)) (p : List (NodeNo × Option ℕ)) (r : List (RouteNo × SectionNo × Option ℕ)) (v : List (Option (NodeNo × ℕ)))
+      → (g : List (RouteNo × Option ℕ)) (p : List (NodeNo × Option ℕ)) (r : List (RouteNo × SectionNo × Option ℕ)) (v : List (Option (NodeNo × ℕ))) (w : List (Option ℕ))
       → g ≡ mark_grants s.granted tick old.grants → p ≡ mark_passes s tick (path_nodes_of_train d routes (of_plan routes plan) t) old.passes
       → r ≡ mark_releases s tick (releases_of_train d routes (of_plan routes plan) t) old.releases → v ≡ mark_visits s tick (visits_of_train d routes (of_plan routes plan) t) old.visits
-      → told g p r v ≡ train_history d routes plan tick t
-  history_goes_on zero first s here old before g p r v a b c e = absurd (omega arith)
-  history_goes_on (suc k) first s here old before g p r v a b c e =
+      → w ≡ mark_dwells s.stood tick (dwells_from 0 (dwell_ticks d t)) old.dwells → told g p r v w ≡ train_history d routes plan tick t
+  history_goes_on zero first s here old before g p r v w a b c e f = absurd (omega arith)
+  history_goes_on (suc k) first s here old before g p r v w a b c e f =
       let less : suc k - 1 ≡ k = omega arith in
       let was : old ≡ train_history d routes plan k t = before ∙ ap (λ n. train_history d routes plan n t) less in
-      told_same g _ p _ r _ v _
+      told_same g _ p _ r _ v _ w _
       (a ∙ ap₂ (λ (x : TrainState) (o : TrainHistory). mark_grants x.granted (suc k) o.grants) here was ∙ grants_marked d routes plan t k)
       (b ∙ ap₂ (λ (x : TrainState) (o : TrainHistory). mark_passes x (suc k) (path_nodes_of_train d routes (of_plan routes plan) t) o.passes) here was ∙ passes_marked d routes plan t k)
       (c ∙ ap₂ (λ (x : TrainState) (o : TrainHistory). mark_releases x (suc k) (releases_of_train d routes (of_plan routes plan) t) o.releases) here was ∙ releases_marked d routes plan t k)
       (e ∙ ap₂ (λ (x : TrainState) (o : TrainHistory). mark_visits x (suc k) (visits_of_train d routes (of_plan routes plan) t) o.visits) here was ∙ visits_marked d routes plan t k)
+      (f ∙ ap₂ (λ (x : TrainState) (o : TrainHistory). mark_dwells x.stood (suc k) (dwells_from 0 (dwell_ticks d t)) o.dwells) here was ∙ dwells_marked d routes plan t as_many k)

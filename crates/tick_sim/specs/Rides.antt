@@ -1,9 +1,11 @@
 -- What a ride is of: a train in the run of a plan.
 use Rattle.std.specs.Prelude.{ℕ, List}
 use Rattle.rail_base.specs.declared.route.Route.{Route}
+use Rattle.rail_base.specs.declared.route.RouteNo.{RouteNo}
 use Rattle.rail_base.specs.declared.state.TrainState.{TrainState}
 use Rattle.rail_base.specs.declared.station.TrainNo.{TrainNo}
 use Rattle.rail_spec.specs.Motion.{SpanSeen}
+use Rattle.rail_spec.specs.Plans.{path}
 use Rattle.tick_sim.specs.declared.ride.Ride.{Ride}
 use Rattle.tick_sim.specs.Running as running
 
@@ -11,6 +13,10 @@ module _ (r : Ride) where
   -- its train
   abbrev pub train_of_ride : TrainNo
   train_of_ride = r.journey.now.train_path.train
+
+  -- the routes that it is granted in the run
+  abbrev pub path_granted : List RouteNo
+  path_granted = path r.run.now.plan.now.steps train_of_ride
 
   -- the first routes of its path, so many of them
   abbrev pub routes_granted : ℕ → List Route

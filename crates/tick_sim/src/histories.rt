@@ -4,8 +4,8 @@ ghost use Rattle.std.specs.Prelude.{◌≡◌, ◌-◌, IfOk};
 ghost use Rattle.tick_sim.specs.Running.{IsNowIn, history_in, train_history_in};
 
 use crate::marks::{
-    mark_grants, mark_passes, mark_releases, mark_visits, none_granted, none_passed, none_released,
-    none_visited,
+    mark_dwells, mark_grants, mark_passes, mark_releases, mark_visits, none_granted, none_passed,
+    none_released, none_stood, none_visited,
 };
 use crate::ride::Ride;
 use rail_base::history::{History, TrainHistory};
@@ -62,11 +62,13 @@ impl Ride<'_> {
         let passes = none_passed(alloc, train_path.path_nodes.as_slice())?;
         let releases = none_released(alloc, self.journey.releases.as_slice())?;
         let visits = none_visited(alloc, train_path.visits.as_slice())?;
+        let dwells = none_stood(alloc, train_path.dwells.as_slice())?;
         Ok(TrainHistory {
             grants: List::from_vec(grants),
             passes: List::from_vec(passes),
             releases: List::from_vec(releases),
             visits: List::from_vec(visits),
+            dwells: List::from_vec(dwells),
         })
     }
 
@@ -106,11 +108,19 @@ impl Ride<'_> {
             train_path.visits.as_slice(),
             old.visits.as_slice(),
         )?;
+        let dwells = mark_dwells(
+            alloc,
+            state.stood,
+            tick,
+            train_path.dwells.as_slice(),
+            old.dwells.as_slice(),
+        )?;
         Ok(TrainHistory {
             grants: List::from_vec(grants),
             passes: List::from_vec(passes),
             releases: List::from_vec(releases),
             visits: List::from_vec(visits),
+            dwells: List::from_vec(dwells),
         })
     }
 }

@@ -2,12 +2,13 @@
 
 ghost use Rattle.std.specs.Prelude.{◌≡◌, IfOk, None, map};
 ghost use Rattle.rail_base.specs.Numbering.{or_this};
-ghost use Rattle.rail_course.specs.Marks.{made_or, mark_grants, mark_passes, mark_releases, mark_visits};
+ghost use Rattle.rail_course.specs.Marks.{made_or, mark_dwells, mark_grants, mark_passes, mark_releases, mark_visits};
+ghost use Rattle.rail_course.specs.Marks.{stood_or};
 
 use rail_base::route::RouteNo;
 use rail_base::state::{PathNode, TrainState};
 use rail_base::station::{NodeNo, SectionNo};
-use rail_course::Release;
+use rail_course::{Dwell, Release};
 use std::alloc::{AllocError, Global};
 
 /// The grants of a train of which so many commands are granted now.
@@ -85,6 +86,23 @@ pub(crate) fn mark_visits(
         .collect(alloc)
 }
 
+/// The visits at which a train has stood its ticks that has stood so many in all now.
+pub(crate) fn mark_dwells(
+    alloc: Global,
+    stood: u64,
+    tick: u64,
+    dwells: &[Dwell],
+    old: &[Option<u64>],
+) -> Result<Vec<Option<u64>>, AllocError>
+    ensures { IfOk result (λ v. v.items ≡ mark_dwells stood tick dwells.now old.now) }
+{
+    dwells
+        .iter()
+        .zip(old.iter())
+        .map(|(dwell, done)| stood_or(*done, *dwell, stood, tick))
+        .collect(alloc)
+}
+
 /// The commands of a path, none of them granted.
 pub(crate) fn none_granted(
     alloc: Global,
@@ -131,6 +149,13 @@ pub(crate) fn none_visited(
     places.iter().map(|_| None).collect(alloc)
 }
 
+/// The visits of a train, at none of which it has stood.
+pub(crate) fn none_stood(alloc: Global, dwells: &[Dwell]) -> Result<Vec<Option<u64>>, AllocError>
+    ensures { IfOk result (λ v. v.items ≡ map (λ _. None) dwells.now) }
+{
+    dwells.iter().map(|_| None).collect(alloc)
+}
+
 /// The tick at which something came: the one it has, or this one where it comes by now.
 fn first_tick(old: Option<u64>, comes: bool, tick: u64) -> Option<u64>
     ensures { result ≡ or_this old comes tick }
@@ -140,6 +165,16 @@ fn first_tick(old: Option<u64>, comes: bool, tick: u64) -> Option<u64>
         None if comes => Some(tick),
         None => None,
     }
+}
+
+/// The tick at which a train has stood its ticks at a visit, if it has to stand there.
+fn stood_or(old: Option<u64>, dwell: Dwell, stood: u64, tick: u64) -> Option<u64>
+    ensures { result ≡ stood_or old dwell stood tick }
+{
+    if dwell.ticks == 0 {
+        return None;
+    }
+    first_tick(old, dwell.until <= stood, tick)
 }
 
 /// A visit that is made already, or else made now at its place.

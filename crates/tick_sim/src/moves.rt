@@ -1,17 +1,16 @@
 //! The moves of trains in a tick.
 
 ghost use Rattle.std.specs.Prelude.{◌≡◌, ◌≤◌, ◌<◌, ◌^◌, IfOk, None, Some, if◌then◌else◌, length};
-ghost use Rattle.std.specs.Option.{ForSome};
+ghost use Rattle.std.specs.Option.{ForSome, option_or};
 ghost use Rattle.rail_motion.specs.Ranges.{IsPlace};
 ghost use Rattle.rail_motion.specs.Track.{end_of, stretches_of};
-ghost use Rattle.rail_spec.specs.Plans.{path};
 ghost use Rattle.rail_spec.specs.Dispatches.{state_of, track_end};
 ghost use Rattle.tick_sim.specs.Running.{CanMoveIn, IsReachedIn, moved_in, tick_in};
-ghost use Rattle.tick_sim.specs.Rides.{track_granted, routes_granted, state_after};
+ghost use Rattle.tick_sim.specs.Rides.{path_granted, track_granted, routes_granted, state_after};
 
 use crate::ride::Ride;
 use rail_base::state::TrainState;
-use rail_course::{PathPrefix, PlannedJourneys, granted_on, state_of};
+use rail_course::{PathPrefix, PlannedJourneys, granted_on, state_of, stood_after};
 use rail_motion::{Ahead, advance};
 use std::alloc::{AllocError, Global};
 
@@ -32,12 +31,17 @@ pub(crate) fn next_states<'a>(
     Ok(next)
 }
 
-/// Where the track_end of a train ends that is granted the routes of a prefix, in mm along its path.
-fn authority_end(prefix: PathPrefix) -> Option<i64>
-    requires { prefix.length < 2 ^ 47 }
-    ensures value { end_of result ≡ (if prefix.exits then None else Some prefix.length) }
+/// How far a train may go, in mm along its path: to the place at which it has still to stand, or else to the end of
+/// the routes of a prefix.
+fn authority_end(place: Option<u64>, prefix: PathPrefix) -> Option<i64>
+    requires place { ForSome place (λ x. x < 2 ^ 47) }
+    requires prefix { prefix.length < 2 ^ 47 }
+    ensures value { end_of result ≡ option_or place (if prefix.exits then None else Some prefix.length) }
     ensures range { ForSome result IsPlace }
 {
+    if let Some(place) = place {
+        return Some(place as i64);
+    }
     if prefix.exits {
         None
     } else {
@@ -46,11 +50,12 @@ fn authority_end(prefix: PathPrefix) -> Option<i64>
 }
 
 impl<'a> Ride<'a> {
-    /// The track ahead of the train where it is granted so many commands.
-    fn ahead(&self, granted: usize) -> Ahead<'a>
-        requires { granted ≤ length (path self.now.run.now.plan.now.steps self.now.journey.now.train_path.train) }
+    /// The track ahead of the train where it is granted so many commands and has still to stand at this place.
+    fn ahead(&self, granted: usize, place: Option<u64>) -> Ahead<'a>
+        requires granted { granted ≤ length (path_granted self.now) }
+        requires place { ForSome place (λ x. x < 2 ^ 47) }
         ensures spans { stretches_of result.spans.now ≡ track_granted self.now granted }
-        ensures end { end_of result.end ≡ track_end (routes_granted self.now granted) }
+        ensures end { end_of result.end ≡ option_or place (track_end (routes_granted self.now granted)) }
     {
         let train_path = &self.journey.train_path;
         let prefixes = train_path.prefixes.as_slice();
@@ -58,7 +63,7 @@ impl<'a> Ride<'a> {
         let spans = train_path.spans.as_slice();
         Ahead {
             spans: &spans[..prefix.spans],
-            end: authority_end(prefix),
+            end: authority_end(place, prefix),
         }
     }
 
@@ -70,9 +75,18 @@ impl<'a> Ride<'a> {
         if granted == 0 {
             return state;
         }
-        let ahead = self.ahead(granted);
-        let (x, v) = advance(&self.journey.train_path.motor, &ahead, state.x, state.v);
-        TrainState { granted, x, v }
+        let train_path = &self.journey.train_path;
+        let seen = TrainState { granted, ..state };
+        let place = train_path.stop_place(seen);
+        let ahead = self.ahead(granted, place);
+        let (x, v) = advance(&train_path.motor, &ahead, state.x, state.v);
+        let stood = stood_after(seen, place);
+        TrainState {
+            granted,
+            x,
+            v,
+            stood,
+        }
     }
 
     /// The train after the tick before which all trains are in these states.

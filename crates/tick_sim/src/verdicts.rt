@@ -6,6 +6,7 @@ ghost use Rattle.rail_spec.specs.Histories.{verdict_of};
 ghost use Rattle.rail_spec.specs.Safety.{KeepsToTrack};
 ghost use Rattle.tick_sim.specs.Running.{path_violation_in, states_in, verdict_in};
 ghost use Rattle.interlocking.specs.Plans.{on};
+ghost use Rattle.rail_course.specs.Standing.{StandsAtVisits};
 ghost use Rattle.rail_laws.specs.Plans.{StaysApart, GrantsInTime};
 
 use crate::histories::{first_histories, next_histories};
@@ -23,8 +24,9 @@ use std::alloc::{AllocError, Global};
 /// What so many ticks of a run show of a plan: that it meets the design, that it fails and why, or nothing yet. The
 /// history ends with the deciding tick.
 ///
-/// At whatever tick each train is within its authority and its limits. Where the plan is executable too, no two trains
-/// ever hold one section or stand on one, and each command is granted in a bounded time.
+/// At whatever tick each train is within its authority and its limits, and it stands its ticks exactly where it makes
+/// its visits. Where the plan is executable too, no two trains ever hold one section or stand on one, and each command
+/// is granted in a bounded time.
 pub fn simulate(
     alloc: Global,
     interlocking: &Interlocking,
@@ -34,6 +36,7 @@ pub fn simulate(
     requires formed { IsWellFormed interlocking.now.design.station interlocking.now.routes 256 plan.now.steps }
     ensures value { IfOk result (λ v. v ≡ on interlocking.now verdict_of plan.now.steps ticks) }
     ensures keeps { KeepsToTrack interlocking.now.design.station interlocking.now.routes plan.now.steps }
+    ensures stands { on interlocking.now StandsAtVisits plan.now.steps }
     ensures granted { on interlocking.now GrantsInTime plan.now.steps }
     ensures apart { on interlocking.now StaysApart plan.now.steps }
 {

@@ -1,5 +1,5 @@
 -- Lines written one by one.
-use Rattle.std.proofs.Common.{◌≡◌, ℕ, ◌+◌, ◌<◌, ◌≤◌, List, [], ◌∷◌, ◌++◌, length, take, get_or, Option, Some, None, Vec, Global, refl, ap, ◌∙◌, arith, append_assoc, add_comm}
+use Rattle.std.proofs.Common.{◌≡◌, ℕ, ◌+◌, ◌<◌, ◌≤◌, List, [], ◌∷◌, ◌++◌, length, take, get_or, Option, Some, None, Vec, Global, refl, sym, ap, ◌∙◌, arith, append_assoc, add_comm}
 use Rattle.std.specs.List.{enumerate_from, filter_map, flat_map}
 use Rattle.std.proofs.lemmas.List.{take_more, map_push, append-nil, take_all, flat_map_more}
 use Rattle.std.proofs.lemmas.List.FromFn.{length-enumerate_from, get_or-enumerate_from}
@@ -9,6 +9,13 @@ use Rattle.timetable.specs.Lines.{lines_of}
 -- the entry at place i, with its number
 pub numbered : {X : Type 0} (xs : List X) (i : ℕ) (d : X) → i < length xs → get_or (enumerate_from 1 xs) i (0, d) ≡ (i + 1, get_or xs i d)
 numbered xs i d lt = get_or-enumerate_from 1 xs i (0, d) lt ∙ ap (λ (n : ℕ). (n, get_or xs i d)) (add_comm 1 i)
+
+-- the entry that a loop is at, with its number
+pub at_hand : {X : Type 0} (xs : List X) (i n : ℕ) (x : X) → i < length xs → (n, x) ≡ get_or (enumerate_from 0 xs) i (n, x) → get_or (enumerate_from 1 xs) i (0, x) ≡ (n + 1, x)
+at_hand {X} xs i n x lt at =
+    let zero : 0 + i ≡ i = omega arith in
+    let here : (n, x) ≡ (i, get_or xs i x) = at ∙ get_or-enumerate_from 0 xs i (n, x) lt ∙ ap (λ (k : ℕ). (k, get_or xs i x)) zero in
+    numbered xs i x lt ∙ ap (λ (p : ℕ × X). (p.0 + 1, p.1)) (sym here)
 
 -- all entries, with their numbers
 pub all_numbered : {X : Type 0} (xs : List X) (i : ℕ) → length xs ≤ i → take i (enumerate_from 1 xs) ≡ enumerate_from 1 xs

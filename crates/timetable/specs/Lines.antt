@@ -58,3 +58,7 @@ abbrev pub visit_line : Station → ℕ → NodeNo → ℕ → List ℕ
 visit_line d j n k =
     codes "visit " ++ decimal j ++ codes " " ++ node_name d n ++ at_tick k
     ++ codes " ms " ++ decimal (k * d.tick_ms) ++ codes "\n"
+
+-- `dwell <j> <node> tick <k>`
+abbrev pub dwell_line : Station → ℕ → NodeNo → ℕ → List ℕ
+dwell_line d j n k = codes "dwell " ++ decimal j ++ codes " " ++ node_name d n ++ at_tick k ++ codes "\n"

@@ -1,6 +1,6 @@
 -- The text of what a run shows: how it ends, and what happened to each train with the ticks.
-use Rattle.std.specs.Prelude.{ℕ, List, [], ◌∷◌, ◌++◌, Option, option_map, if◌then◌else◌}
-use Rattle.std.specs.List.{enumerate_from, filter_map, flat_map, concat}
+use Rattle.std.specs.Prelude.{ℕ, List, [], ◌∷◌, ◌++◌, Option, option_map, option_and_then, if◌then◌else◌}
+use Rattle.std.specs.List.{enumerate_from, filter_map, flat_map, concat, zip}
 use Rattle.rail_base.specs.declared.station.Station.{Station}
 use Rattle.rail_base.specs.declared.station.NodeNo.{NodeNo}
 use Rattle.rail_base.specs.declared.station.TrainNo.{TrainNo}
@@ -9,7 +9,7 @@ use Rattle.rail_base.specs.declared.history.TrainHistory.{TrainHistory}
 use Rattle.rail_base.specs.declared.history.Verdict.{Verdict}
 use Rattle.rail_base.specs.declared.history.Verdict.TheVariants.{Met, Failed, Undecided}
 use Rattle.timetable.specs.Lines.{is_path_failure, met_line, failure_line, train_line, grant_line, pass_line}
-use Rattle.timetable.specs.Lines.{visit_line}
+use Rattle.timetable.specs.Lines.{visit_line, dwell_line}
 
 -- ---- what is said of an event: its line, where it has come
 
@@ -25,6 +25,10 @@ pass_line_of d pass = option_map (pass_line d pass.0) pass.1
 abbrev pub visit_line_of : Station → ℕ × Option (NodeNo × ℕ) → Option (List ℕ)
 visit_line_of d visit = option_map (λ made. visit_line d visit.0 made.0 made.1) visit.1
 
+-- of the end of a stand, with the visit's number, the visit, and the tick at which the train has stood there
+abbrev pub dwell_line_of : Station → ℕ × (Option (NodeNo × ℕ) × Option ℕ) → Option (List ℕ)
+dwell_line_of d stand = option_and_then (λ made. option_map (dwell_line d stand.0 made.0) stand.1.1) stand.1.0
+
 -- ---- what is said of a train
 
 -- the grants, the commands of the path counted from 1
@@ -39,9 +43,15 @@ pass_lines d passes = filter_map (pass_line_of d) passes
 abbrev pub visit_lines : Station → List (Option (NodeNo × ℕ)) → List (List ℕ)
 visit_lines d visits = filter_map (visit_line_of d) (enumerate_from 1 visits)
 
--- its name, then its grants, the nodes passed and its visits
+-- the stands that are done at the visits made, counted from 1
+abbrev pub dwell_lines : Station → List (Option (NodeNo × ℕ)) → List (Option ℕ) → List (List ℕ)
+dwell_lines d visits dwells = filter_map (dwell_line_of d) (enumerate_from 1 (zip visits dwells))
+
+-- its name, then its grants, the nodes passed, its visits and its stands
 abbrev pub train_lines : Station → TrainNo → TrainHistory → List (List ℕ)
-train_lines d t h = train_line d t ∷ [] ++ grant_lines h.grants ++ pass_lines d h.passes ++ visit_lines d h.visits
+train_lines d t h =
+    train_line d t ∷ [] ++ grant_lines h.grants ++ pass_lines d h.passes ++ visit_lines d h.visits
+    ++ dwell_lines d h.visits h.dwells
 
 -- all trains, counted from 1
 abbrev pub history_lines : Station → List TrainHistory → List (List ℕ)

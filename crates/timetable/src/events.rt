@@ -1,7 +1,7 @@
 //! The lines of what happened to a train.
 
 ghost use Rattle.std.specs.Prelude.{◌≡◌, ◌*◌, ◌++◌, decimal, IfOk, OnOk};
-ghost use Rattle.timetable.specs.Lines.{at_tick, train_line, grant_line, pass_line, visit_line};
+ghost use Rattle.timetable.specs.Lines.{at_tick, train_line, grant_line, pass_line, visit_line, dwell_line};
 
 use rail_base::design::Design;
 use rail_base::names::{name_of_train, node_name};
@@ -79,6 +79,25 @@ pub fn visit_line(
     put_tick(&mut line, tick)?;
     line.extend_from_slice(b" ms ")?;
     put_time(&mut line, tick, design.station.tick_ms)?;
+    line.push(b'\n')?;
+    Ok(line)
+}
+
+/// `dwell <j> <node> tick <k>`
+pub fn dwell_line(
+    alloc: Global,
+    design: &Design,
+    number: u64,
+    node: NodeNo,
+    tick: u64,
+) -> Result<Vec<u8>, AllocError>
+    ensures { IfOk result (λ line. line.items ≡ dwell_line design.now.station number node tick) }
+{
+    let mut line = Vec::from_slice(alloc, b"dwell ")?;
+    put_number(&mut line, number)?;
+    line.push(b' ')?;
+    line.extend_from_slice(node_name(design, node))?;
+    put_tick(&mut line, tick)?;
     line.push(b'\n')?;
     Ok(line)
 }

@@ -11,8 +11,9 @@ use rail_base::history::Verdict;
 use std::alloc::{AllocError, Global};
 
 /// The lines that say what a run of a plan shows, each with its LF: how it ends, and then, unless a path fails, each
-/// train of the history with its grants, the nodes that it passed and its visits. Ticks are counted from 1, and a
-/// visit has its time in ms too. There is no line where the verdict is still undecided.
+/// train of the history with its grants, the nodes that it passed, its visits, and its stands that are done, each with
+/// its last tick. Ticks are counted from 1, and a visit has its time in ms too. There is no line where the verdict is
+/// still undecided.
 ///
 /// `Err` is want of memory.
 pub fn timetable_lines(

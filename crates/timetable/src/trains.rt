@@ -2,11 +2,11 @@
 
 ghost use Rattle.std.specs.Prelude.{◌≡◌, ◌++◌, OnOk};
 ghost use Rattle.timetable.specs.Lines.{lines_of};
-ghost use Rattle.timetable.specs.Timetable.{grant_lines, pass_lines, visit_lines, history_lines};
+ghost use Rattle.timetable.specs.Timetable.{grant_lines, pass_lines, visit_lines, dwell_lines, history_lines};
 ghost use Rattle.rail_text.specs.Added.{AddsLines};
 ghost use Rattle.timetable.specs.Parts.{numbered_lines};
 
-use crate::events::{grant_line, pass_line, train_line, visit_line};
+use crate::events::{dwell_line, grant_line, pass_line, train_line, visit_line};
 use rail_base::design::Design;
 use rail_base::history::TrainHistory;
 use rail_base::route::RouteNo;
@@ -78,6 +78,27 @@ fn push_visits(
     Ok(())
 }
 
+/// Appends the stands that are done.
+fn push_dwells(
+    alloc: Global,
+    design: &Design,
+    visits: &[Option<(NodeNo, u64)>],
+    dwells: &[Option<u64>],
+    lines: &mut Vec<Vec<u8>>,
+) -> Result<(), AllocError>
+    ensures { OnOk result (AddsLines lines.old lines.new
+        (dwell_lines design.now.station visits.now dwells.now)) }
+{
+    for (index, (visit, dwell)) in visits.iter().zip(dwells).enumerate() {
+        if let Some((node, _)) = visit {
+            if let Some(tick) = dwell {
+                lines.push(dwell_line(alloc, design, index as u64 + 1, *node, *tick)?)?;
+            }
+        }
+    }
+    Ok(())
+}
+
 /// Appends the lines of the train of a number.
 fn push_train(
     alloc: Global,
@@ -91,5 +112,12 @@ fn push_train(
     lines.push(train_line(alloc, design, number)?)?;
     push_grants(alloc, train.grants.as_slice(), lines)?;
     push_passes(alloc, design, train.passes.as_slice(), lines)?;
-    push_visits(alloc, design, train.visits.as_slice(), lines)
+    push_visits(alloc, design, train.visits.as_slice(), lines)?;
+    push_dwells(
+        alloc,
+        design,
+        train.visits.as_slice(),
+        train.dwells.as_slice(),
+        lines,
+    )
 }

@@ -5,7 +5,7 @@ use Rattle.sha2.specs.Sha256.{sha256}
 
 -- the version of all texts, formats and definitions: another one where any of them means something else
 abbrev pub version : List ℕ
-version = codes "5"
+version = codes "6"
 
 -- `rcv <version>`
 abbrev pub version_line : List ℕ

@@ -12,7 +12,7 @@ use std::alloc::{AllocError, Global};
 fn version_line(alloc: Global) -> Result<Vec<u8>, AllocError>
     ensures { IfOk result (λ line. line.items ≡ version_line) }
 {
-    Vec::from_slice(alloc, b"rcv 5\n")
+    Vec::from_slice(alloc, b"rcv 6\n")
 }
 
 /// `<file> sha256 <64 digits> bytes <n>`

@@ -103,6 +103,7 @@ fn is_same_train(one: &TrainHistory, other: &TrainHistory) -> bool {
         && one.passes.as_slice() == other.passes.as_slice()
         && one.releases.as_slice() == other.releases.as_slice()
         && one.visits.as_slice() == other.visits.as_slice()
+        && one.dwells.as_slice() == other.dwells.as_slice()
 }
 
 /// The bytes of a file of a worked example; none where it has no such file.

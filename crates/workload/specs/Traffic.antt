@@ -19,12 +19,13 @@ entrance runs_east = record { 0 = if runs_east then west_boundary else east_boun
 abbrev pub exit_node : Bool → NodeNo
 exit_node runs_east = record { 0 = if runs_east then east_boundary else west_boundary }
 
--- a train from the one boundary to the other
+-- a train from the one boundary to the other, which stands nowhere
 abbrev pub train : ℕ → Bool → Train
 train j runs_east = record {
   name = numbered_name (codes "t") j;
   vehicle = record { 0 = 1 };
   visits = (entrance runs_east ∷ []) ∷ (exit_node runs_east ∷ []) ∷ [];
+  dwell_ms = 0 ∷ 0 ∷ [];
 }
 
 -- the time that a train has from its first visit to its second

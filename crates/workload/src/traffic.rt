@@ -69,7 +69,7 @@ fn visits(alloc: Global, runs_east: bool) -> Result<List<List<NodeNo>>, AllocErr
     Ok(List::from_vec(vec![in alloc; first, last]?))
 }
 
-/// A train from the one boundary to the other.
+/// A train from the one boundary to the other, which stands nowhere.
 fn train(alloc: Global, number: u32, runs_east: bool) -> Result<Train, AllocError>
     ensures { IfOk result (λ t. t ≡ train number runs_east) }
 {
@@ -79,6 +79,7 @@ fn train(alloc: Global, number: u32, runs_east: bool) -> Result<Train, AllocErro
         name,
         vehicle: VehicleNo(1),
         visits,
+        dwell_ms: List::from_vec(vec![in alloc; 0, 0]?),
     })
 }
 

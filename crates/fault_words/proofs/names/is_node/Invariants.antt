@@ -1,5 +1,5 @@
 use Rattle.std.proofs.Common.{◌≡◌, drop, map}
-use Rattle.design_table.specs.Views.{node_seen, sheet_seen}
+use Rattle.design_table.specs.Parsed.{node_seen, sheet_seen}
 use Rattle.infra_reader.specs.Names.{is_among, node_names}
 use Rattle.fault_words.proofs.names.is_node.Given as goal
 

@@ -1,5 +1,5 @@
 use Rattle.std.proofs.Common.{refl}
-use Rattle.design_table.specs.Views.{node_seen, edge_seen, signal_seen, vehicle_seen, train_seen}
+use Rattle.design_table.specs.Parsed.{node_seen, edge_seen, signal_seen, vehicle_seen, train_seen}
 use Rattle.fault_words.proofs.Seen.{names_read}
 use Rattle.fault_words.proofs.names.names_of.Goals as goal
 

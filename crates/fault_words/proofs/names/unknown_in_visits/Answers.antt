@@ -1,6 +1,6 @@
 use Rattle.std.proofs.Common.{◌∙◌, ap}
 use Rattle.design_table.specs.Texts.{texts}
-use Rattle.design_table.specs.Views.{sheet_seen}
+use Rattle.design_table.specs.Parsed.{sheet_seen}
 use Rattle.std.specs.List.{find}
 use Rattle.fault_words.specs.Names.{is_unknown}
 use Rattle.fault_words.proofs.Seen.{found_here, found_later}

@@ -1,7 +1,7 @@
 use Rattle.std.proofs.Common.{◌≡◌, drop}
 use Rattle.std.specs.List.{find, flat_map}
 use Rattle.design_table.specs.Texts.{visits_seen}
-use Rattle.design_table.specs.Views.{sheet_seen}
+use Rattle.design_table.specs.Parsed.{sheet_seen}
 use Rattle.fault_words.specs.Names.{is_unknown}
 use Rattle.fault_words.proofs.names.unknown_in_visits.Given as goal
 

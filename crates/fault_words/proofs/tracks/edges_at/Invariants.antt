@@ -1,6 +1,6 @@
 use Rattle.std.proofs.Common.{◌≡◌, ◌++◌, drop, flat_map, map}
 use Rattle.design_table.specs.Texts.{texts}
-use Rattle.design_table.specs.Views.{edge_seen, sheet_seen}
+use Rattle.design_table.specs.Parsed.{edge_seen, sheet_seen}
 use Rattle.fault_words.specs.Tracks.{edges_at, ends_at}
 use Rattle.fault_words.proofs.tracks.edges_at.Given as goal
 

@@ -1,7 +1,7 @@
 use Rattle.std.proofs.Common.{◌≡◌, drop, not}
 use Rattle.std.specs.List.{find}
 use Rattle.design_table.specs.Texts.{texts}
-use Rattle.design_table.specs.Views.{sheet_seen}
+use Rattle.design_table.specs.Parsed.{sheet_seen}
 use Rattle.fault_words.specs.Tracks.{is_boundary}
 use Rattle.fault_words.proofs.tracks.inner_node.Given as goal
 

@@ -1,6 +1,6 @@
 use Rattle.std.proofs.Common.{◌≡◌, ◌&&◌, bytes_eq, drop, map}
 use Rattle.std.specs.List.{list_any}
-use Rattle.design_table.specs.Views.{node_seen, sheet_seen}
+use Rattle.design_table.specs.Parsed.{node_seen, sheet_seen}
 use Rattle.fault_words.specs.Tracks.{is_boundary}
 use Rattle.fault_words.proofs.tracks.is_boundary.Given as goal
 

@@ -1,7 +1,7 @@
 use Rattle.std.proofs.Common.{◌≡◌, ◌&&◌, bytes_eq, drop, map, []}
 use Rattle.std.specs.List.{find}
 use Rattle.std.specs.Option.{option_map_or}
-use Rattle.design_table.specs.Views.{signal_seen, sheet_seen}
+use Rattle.design_table.specs.Parsed.{signal_seen, sheet_seen}
 use Rattle.fault_words.specs.Tracks.{is_side, signal_beside}
 use Rattle.fault_words.proofs.tracks.signal_beside.Given as goal
 

@@ -1,7 +1,7 @@
 use Rattle.std.proofs.Common.{◌≡◌, bytes_eq, drop, map, length}
 use Rattle.std.specs.List.{find}
 use Rattle.std.specs.Option.{option_map_or}
-use Rattle.design_table.specs.Views.{train_seen, sheet_seen}
+use Rattle.design_table.specs.Parsed.{train_seen, sheet_seen}
 use Rattle.fault_words.specs.Tracks.{visits_of}
 use Rattle.fault_words.proofs.tracks.visits_of.Given as goal
 

@@ -1,5 +1,5 @@
 use Rattle.std.proofs.lemmas.Result.{err_from_is_err_and}
-use Rattle.design_table.specs.Views.{sheet_seen}
+use Rattle.design_table.specs.Parsed.{sheet_seen}
 use Rattle.infra_reader.specs.Seen.{names_seen}
 use Rattle.infra_reader.proofs.Resolved.{known_names, unknown_fails, own_station, refused_d04, refused_d05, refused_by_rules, resolved_to, is_own_admitted}
 use Rattle.infra_reader.proofs.design.admit.Goals as goal

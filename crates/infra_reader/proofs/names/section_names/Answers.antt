@@ -1,6 +1,6 @@
 use Rattle.std.proofs.Common.{◌≡◌, map, refl, ap, subst, ◌∙◌}
 use Rattle.std.specs.Prelude.{IfOk}
-use Rattle.design_table.specs.Views.{edge_seen}
+use Rattle.design_table.specs.Parsed.{edge_seen}
 use Rattle.infra_reader.specs.Names.{each_once}
 use Rattle.design_table.specs.Texts.{texts}
 use Rattle.infra_reader.proofs.Repeats.{texts_seen}

@@ -1,5 +1,5 @@
 use Rattle.std.proofs.Common.{map, refl, ap, ◌∙◌}
-use Rattle.design_table.specs.Views.{signal_seen}
+use Rattle.design_table.specs.Parsed.{signal_seen}
 use Rattle.design_table.specs.Texts.{texts}
 use Rattle.infra_reader.proofs.Repeats.{texts_seen, reads_names}
 use Rattle.infra_reader.proofs.names.signal_names.Goals as goal

@@ -1,6 +1,6 @@
 use Rattle.std.proofs.Common.{◌≡◌, map, subst}
 use Rattle.std.specs.Prelude.{IfOk}
-use Rattle.design_table.specs.Views.{node_seen}
+use Rattle.design_table.specs.Parsed.{node_seen}
 use Rattle.design_table.specs.declared.fault.Code.TheVariants.{D04}
 use Rattle.infra_reader.specs.Seen.{names_seen}
 use Rattle.infra_reader.specs.Stations.{node_in}

@@ -1,6 +1,6 @@
 use Rattle.std.proofs.Common.{◌≡◌, map, subst}
 use Rattle.std.specs.Prelude.{IfOk}
-use Rattle.design_table.specs.Views.{vehicle_seen}
+use Rattle.design_table.specs.Parsed.{vehicle_seen}
 use Rattle.design_table.specs.declared.fault.Code.TheVariants.{D04}
 use Rattle.infra_reader.specs.Seen.{names_seen}
 use Rattle.infra_reader.specs.Stations.{vehicle_in}

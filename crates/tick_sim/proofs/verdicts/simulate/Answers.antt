@@ -1,8 +1,11 @@
-use Rattle.rail_course.proofs.Lawful.{apart, keeps, granted}
+use Rattle.rail_course.proofs.Lawful.{apart, keeps, stands, granted}
 use Rattle.tick_sim.proofs.verdicts.simulate.Goals as goal
 
 pub returns-clause-keeps : goal.returns-clause-keeps
 returns-clause-keeps c = keeps c.args.interlocking.now.design.station c.args.interlocking.now.design.admitted c.args.interlocking.now.routes c.args.interlocking.now.table c.args.plan.now.steps c.requires.formed
+
+pub returns-clause-stands : goal.returns-clause-stands
+returns-clause-stands c = stands c.args.interlocking.now.design.station c.args.interlocking.now.design.admitted c.args.interlocking.now.routes c.args.interlocking.now.table c.args.plan.now.steps c.requires.formed
 
 pub returns-clause-granted : goal.returns-clause-granted
 returns-clause-granted c = granted c.args.interlocking.now.design.station c.args.interlocking.now.design.admitted c.args.interlocking.now.routes c.args.interlocking.now.table c.args.plan.now.steps c.requires.formed

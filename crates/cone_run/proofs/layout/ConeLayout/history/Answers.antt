@@ -19,7 +19,7 @@ history_of-requires c =
     let most = adm.ticks.1 in
     let last = c.last_tick.ensures in (
       record {
-        goes = may_go d i.routes cone known adm i.table i.at_most_2000;
+        goes = may_go d i.routes cone known adm i.table;
         followed_trains = subst (AreFollowedTrains d i.routes (of_cone cone)) (sym c.as_slice.ensures.value) c.in_ok-followed_trains.ensures;
       },
       (refl, omega arith),

@@ -1,5 +1,4 @@
-use Rattle.std.proofs.Common.{◌≡◌, ◌+◌, ◌≤◌, ◌<◌, [], ◌∷◌, length, map, sym, ap, subst, ◌∙◌, arith, length-append}
-use Rattle.rail_base.specs.declared.station.TrainNo.{TrainNo}
+use Rattle.std.proofs.Common.{◌≡◌, [], ◌∷◌, length, map, sym, ap, subst, ◌∙◌, arith, length-append}
 use Rattle.interlocking.specs.declared.railway.Interlocking.{Interlocking}
 use Rattle.rail_course.specs.Waits.{IsContending}
 use Rattle.rail_course.specs.Ready.{own_waits}
