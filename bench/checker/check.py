@@ -76,6 +76,8 @@ class Design:
             train.tail = train.length if self.version >= 2 else 0
             train.accel, train.brake, train.top = gain(v["accel_mm_s2"]), gain(v["brake_mm_s2"]), speed(v["speed_mm_s"])
             train.visits = [[number[name] for name in visit] for visit in t["visits"]]
+            train.dwell_ms = t.get("dwell_ms", [0] * len(train.visits))
+            train.dwells = [(ms + tick - 1) // tick for ms in train.dwell_ms]
             by_name[t["name"]] = len(self.trains) + 1
             self.trains.append(train)
         self.orders = [(by_name[o["first_train"]], o["first_visit"], by_name[o["then_train"]], o["then_visit"])
@@ -296,7 +298,7 @@ def are_alike(design, t, u):
     swap = lambda x: u if x == t else t if x == u else x
     orders = set(design.orders)
     withins = {w[:4] + w[5:] for w in design.withins}
-    return (one.vehicle == other.vehicle and one.visits == other.visits
+    return (one.vehicle == other.vehicle and one.visits == other.visits and one.dwell_ms == other.dwell_ms
             and all((swap(o[0]), o[1], swap(o[2]), o[3]) in orders for o in orders)
             and all((swap(w[0]), w[1], swap(w[2]), w[3], w[4]) in withins for w in withins))
 
@@ -473,7 +475,8 @@ def greatest(test, most):
 
 
 class Run:
-    """The run of a cone, up to its greatest horizon: heads and grants at the end of each tick."""
+    """The run of a cone, up to its greatest horizon: at the end of each tick how many commands are granted, where the
+    head is, how fast, and how many ticks the train has stood at its visits in all."""
 
     def __init__(self, design, trains, pairs):
         self.design = design
@@ -482,7 +485,7 @@ class Run:
         self.waits = {}
         for d, c in pairs:
             self.waits.setdefault(c, []).append(d)
-        self.states = {t: [(0, 0, 0)] for t in self.by}
+        self.states = {t: [(0, 0, 0, 0)] for t in self.by}
         self.tracks, self.offsets = {}, {}
         for t, path in self.path.items():
             at, stretches, offsets = 0, [], [0]
@@ -494,6 +497,7 @@ class Run:
                 offsets.append(at)
                 tracks.append(stretches)
             self.tracks[t], self.offsets[t] = tracks, offsets
+        self.dwells = {t: list(self.to_stand(t)) for t in self.by}
         for tick in range(1, max((c["horizon"] for c in trains), default=0) + 1):
             new = {t: self.moved(t, tick) for t in self.by}
             for t, state in new.items():
@@ -508,7 +512,7 @@ class Run:
         if t not in self.by or r not in self.path[t]:
             return False
         place = self.path[t].index(r)
-        granted, x, v = self.state(t, tick)
+        granted, x = self.state(t, tick)[:2]
         offset = self.offsets[t][place] + self.design.route(r).release[section]
         return place < granted and offset + self.design.train(t).length <= x
 
@@ -516,22 +520,38 @@ class Run:
         return [z for z in self.design.route(d[1]).release if z in self.design.route(c[1]).release]
 
     def moved(self, t, tick):
-        granted, x, v = self.states[t][-1]
+        granted, x, v, stood = self.states[t][-1]
         if tick > self.by[t]["horizon"]:
-            return granted, x, v
+            return granted, x, v, stood
         path = self.path[t]
         if granted < len(path):
             c = (t, path[granted])
             if all(self.has_released(d, z, tick - 1) for d in self.waits.get(c, []) for z in self.shared(d, c)):
                 granted += 1
         if granted == 0:
-            return granted, x, v
-        train = self.design.train(t)
-        end = None if any(self.design.route(r).exits for r in path[:granted]) else self.offsets[t][granted]
+            return granted, x, v, stood
+        train, end = self.design.train(t), self.place(t, granted, stood)
+        if end == x:
+            stood += 1
+        if end is None and not any(self.design.route(r).exits for r in path[:granted]):
+            end = self.offsets[t][granted]
         stretches = self.tracks[t][granted]
         stretches = [s for s in stretches if s[0] > x - train.tail]
         u = greatest(lambda u: brakes_well(u, train, stretches, end, x), min(v + train.accel, train.top))
-        return granted, x + u, u
+        return granted, x + u, u, stood
+
+    def to_stand(self, t):
+        """The visits at which the train stands, on the nodes of the free commands: offset, command, and the ticks that
+        it has stood in all when it has stood enough there."""
+        train, until = self.design.train(t), 0
+        for ticks, stop in zip(train.dwells, matched(train.visits, self.stops(t))):
+            until += ticks
+            if stop is not None and ticks > 0:
+                yield stop[1], stop[2], until
+
+    def place(self, t, granted, stood):
+        """The offset of the first visit on the granted routes at which the train has still to stand, or None."""
+        return next((offset for offset, command, until in self.dwells[t] if stood < until and command <= granted), None)
 
     def stops(self, t):
         """The nodes of the free commands: node, offset, command."""
@@ -550,7 +570,7 @@ class Run:
         if stop is None:
             return None
         for tick in range(1, last + 1):
-            granted, x, v = self.state(t, tick)
+            granted, x = self.state(t, tick)[:2]
             if stop[2] <= granted and stop[1] <= x:
                 return tick
             if tick >= len(self.states[t]):

@@ -13,10 +13,12 @@ import argparse
 import collections
 import pathlib
 import random
+import re
 import subprocess
 import sys
 import tempfile
 import time
+import tomllib
 
 import check
 import lines as made
@@ -49,8 +51,20 @@ def asked_for():
             yield TOP / (name + ".toml" if "/" in name else f"bench/stations/{name}.toml"), int(steps)
 
 
+def standing(found):
+    """The visits of a train, with times to stand at them, the same for the same visits."""
+    many = len(tomllib.loads(found[0].decode())["visits"])
+    chance = random.Random(found[0])
+    times = [0] + [chance.choice((0, 0, 1, 999, 2500, 20_000, 60_000)) for visit in range(1, many)]
+    return found[0] + b", dwell_ms=" + str(times).encode()
+
+
 def of_version(design, version):
-    """The same design in this version."""
+    """The same design in this version, where it is one of version 1; its trains stand at visits from version 3 on."""
+    if b"version = 1" not in design:
+        return design
+    if version > 2:
+        design = re.sub(rb"visits\s*=\s*\[(?:\s*\[[^\]]*\]\s*,?)*\s*\]", standing, design)
     return design.replace(b"version = 1", b"version = %d" % version)
 
 
@@ -199,7 +213,7 @@ def main():
     parser.add_argument("--count", type=int, default=1000)
     parser.add_argument("--first", type=int, default=0, help="the number of the first case")
     parser.add_argument("--made", action="store_true", help="makes lines, in place of changes of stored files")
-    parser.add_argument("--version", type=int, default=1, help="the version of the designs, 1 or 2")
+    parser.add_argument("--version", type=int, default=1, help="the version of the designs, 1 to 3")
     parser.add_argument("--keep", type=pathlib.Path)
     asked = parser.parse_args()
     answers, designs, differ, own, others = collections.Counter(), {}, 0, 0.0, 0.0

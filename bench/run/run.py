@@ -22,6 +22,7 @@ class Design:
     """A design that grows entry by entry."""
 
     version = 1
+    stop_ms = None
 
     def __init__(self, vehicle, ticks=DAY):
         self.entries = {"node": [], "edge": [], "signal": [], "train": [], "order": [], "within": []}
@@ -29,8 +30,10 @@ class Design:
         self.ticks = ticks
 
     def add(self, kind, **keys):
-        """A new entry with a name of its own; the name."""
+        """A new entry with a name of its own; the name. From version 3 on a train stands at each visit but the first."""
         entries = self.entries[kind]
+        if kind == "train" and self.version >= 3:
+            keys["dwell_ms"] = [0] + [self.stop_ms or 0] * (len(keys["visits"]) - 1)
         if kind not in ("order", "within"):
             keys["name"] = f"{kind}{len(entries)}"
         entries.append(keys)
@@ -270,9 +273,11 @@ def main():
     words.add_argument("--runs-program", default=str(RUNS / "out" / "day_runs"), help="the program that runs one plan many times")
     words.add_argument("--limit", type=float, default=120, help="how many seconds a case may take, after which it is killed")
     words.add_argument("--only", default="", help="cases whose names have these words")
-    words.add_argument("--version", type=int, default=1, help="the version of the designs, 1 or 2")
+    words.add_argument("--version", type=int, default=1, help="the version of the designs, 1, 2 or 3")
+    words.add_argument("--stops", type=int, help="the ms that each train stands at each visit but the first, in version 3; no answer is asked for")
     given = words.parse_args()
-    Design.version = given.version
+    Design.version = given.version if given.stops is None else 3
+    Design.stop_ms = given.stops
     missed = 0
     with tempfile.TemporaryDirectory() as made:
         for name, bar, begins, told in cases(given.program, given.runs_program, pathlib.Path(made)):
@@ -285,7 +290,7 @@ def main():
             except subprocess.TimeoutExpired:
                 answer = "killed"
             seconds = time.monotonic() - begin
-            bad = seconds > bar or not answer.startswith(begins)
+            bad = seconds > bar or not (answer.startswith(begins) or (given.stops is not None and answer.startswith(("met", "fails"))))
             missed += bad
             print(f"{name:56} {bar:>4} {seconds:>8.2f} s  {answer[:60]}{'  MISSED' if bad else ''}", flush=True)
     print(f"{missed} missed")

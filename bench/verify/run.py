@@ -7,6 +7,11 @@ cones (each of a plan that failed), how many literals their clauses have on aver
 with `--normal` only plans are looked at in which no command could be given a step earlier. The file `figures` has a line
 `<station> <steps> <answer> <lines>` for each, where `lines` may be `-`; the status is 1 where an answer differs from it, a search
 takes longer than its seconds, or derives more than three times the lines, or a proof does not pass its check.
+
+With `--dwell` the stations are those of `bench/stations/dwell`, whose trains stand at their platforms, looked for with
+`--bounds`. A line then says how many plans failed, and behind the seconds and that number those of another program, from
+`figures_dwell`, which has `<station> <steps> <answer> <seconds> <failed>`. Of a plan, what is printed of its run has to be
+what bench/checker/simulate.py says of it.
 """
 
 import argparse
@@ -21,8 +26,10 @@ import time
 TOP = pathlib.Path(__file__).resolve().parent.parent.parent
 STATIONS = TOP / "bench" / "stations"
 FIGURES = pathlib.Path(__file__).resolve().parent / "figures"
-sys.path.append(str(TOP / "bench" / "solver"))
+DWELL_FIGURES = FIGURES.with_name("figures_dwell")
+sys.path += [str(TOP / "bench" / "solver"), str(TOP / "bench" / "checker")]
 
+import simulate  # noqa: E402
 from clauses import Station  # noqa: E402
 
 
@@ -34,8 +41,15 @@ def asked():
         yield station, int(steps), answer, None if lines == "-" else int(lines)
 
 
+def asked_to_stand():
+    """The stations whose trains stand, each with its steps, its answer, and the seconds and failed plans of another program."""
+    for line in DWELL_FIGURES.read_text().splitlines():
+        station, steps, answer, seconds, failed = line.split()
+        yield station, int(steps), answer.replace("_", " "), seconds, failed
+
+
 def verify(program, station, steps, flags, seconds, folder):
-    """The status and first line of one search, its seconds, and the text of its proof."""
+    """The first line of one search, its seconds, the text of its proof, and all that it printed and told."""
     proof = pathlib.Path(folder) / "proof"
     proof.unlink(missing_ok=True)
     budgets = ["--conflicts", "10000000", "--ticks", "1000000000000"] + flags
@@ -43,13 +57,14 @@ def verify(program, station, steps, flags, seconds, folder):
     try:
         done = subprocess.run(
             [program, "verify", "--steps", str(steps), *budgets, STATIONS / f"{station}.toml", proof],
-            stdin=subprocess.DEVNULL, stdout=subprocess.PIPE, stderr=subprocess.DEVNULL, timeout=seconds,
+            stdin=subprocess.DEVNULL, stdout=subprocess.PIPE, stderr=subprocess.PIPE, timeout=seconds,
         )
     except subprocess.TimeoutExpired:
-        return None, "late", seconds, ""
+        return "late", seconds, "", "", ""
     passed = time.monotonic() - begin
-    first = done.stdout.decode().split("\n", 1)[0]
-    return done.returncode, first, passed, proof.read_text() if proof.exists() else ""
+    printed = done.stdout.decode()
+    first = printed.split("\n", 1)[0]
+    return first, passed, proof.read_text() if proof.exists() else "", printed, done.stderr.decode()
 
 
 def check(program, station, steps, folder):
@@ -154,29 +169,84 @@ def average(station, bounds, cones):
     return total // count if count else 0
 
 
+def failed_plans(proof, told):
+    """How many plans failed in a search: each has a line in the proof that is stored, or else the last line tells it."""
+    if proof:
+        return len(re.findall(r"^[rb] ", proof, re.M))
+    found = re.findall(r"(\d+) plans? failed", told)
+    return int(found[-1]) if found else 0
+
+
+def told_alike(station, printed, folder):
+    """Whether the run of a plan that is printed is the one that bench/checker/simulate.py tells."""
+    head, plan, timetable = printed.split("\n", 2)
+    path = pathlib.Path(folder) / "plan"
+    path.write_text(plan)
+    return timetable == simulate.text_of(STATIONS / f"{station}.toml", path)
+
+
+def run_dwell(given):
+    """Searches for plans of the stations whose trains stand, and says how many missed."""
+    missed, seconds, failures = 0, [0.0, 0.0], [0, 0]
+    with tempfile.TemporaryDirectory() as folder:
+        for station, steps, answer, theirs, theirs_failed in asked_to_stand():
+            if given.stations and station not in given.stations:
+                continue
+            place = f"dwell/{station}"
+            flags = ["--bounds", "--progress"]
+            first, passed, proof, printed, told = verify(given.program, place, steps, flags, given.seconds, folder)
+            failed, faults, checked = failed_plans(proof, told), [], ""
+            if first != answer:
+                faults.append("other answer")
+            if passed > given.bar:
+                faults.append("late")
+            if proof:
+                passes, took = check(given.program, place, steps, folder)
+                checked = f", check {took:.2f} s"
+                if not passes:
+                    faults.append("not checked")
+            elif first.startswith("plan steps") and not told_alike(place, printed, folder):
+                faults.append("another run")
+            missed += bool(faults)
+            seconds[0], failures[0] = seconds[0] + passed, failures[0] + failed
+            seconds[1], failures[1] = seconds[1] + float(theirs), failures[1] + int(theirs_failed)
+            beside = f"{passed:7.2f} s ({failed}){checked}; another program {theirs} s ({theirs_failed})"
+            print(f"{station:22} {steps:3} {first:22} {beside}{'  MISSED: ' + ', '.join(faults) if faults else ''}", flush=True)
+    print(f"in all {seconds[0]:.1f} s ({failures[0]}); another program {seconds[1]:.1f} s ({failures[1]})")
+    print(f"{missed} missed")
+    return missed
+
+
 def main():
     words = argparse.ArgumentParser(description=__doc__)
     words.add_argument("--program", default=TOP / "crates" / "rcv" / "out" / "rcv", help="the program, as ./rcv builds it")
     words.add_argument("--bounds", action="store_true", help="exclude plans that fail by bounds where one is found")
     words.add_argument("--any", action="store_true", help="take a plan of any number of steps; only beside --bounds")
     words.add_argument("--normal", action="store_true", help="look only at plans in which no command could be given earlier; without --bounds")
-    words.add_argument("--seconds", type=float, default=20, help="how long a search may take before it is stopped")
-    words.add_argument("--bar", type=float, default=10, help="how long a search should take at most")
+    words.add_argument("--dwell", action="store_true", help="the stations whose trains stand at their platforms, by bounds")
+    words.add_argument("--seconds", type=float, help="how long a search may take before it is stopped: 20, or 120 with --dwell")
+    words.add_argument("--bar", type=float, help="how long a search should take at most: 10, or 120 with --dwell")
     words.add_argument("stations", nargs="*", help="the stations, all of them if none is named")
     given = words.parse_args()
+    given.seconds = given.seconds or (120 if given.dwell else 20)
+    given.bar = given.bar or (120 if given.dwell else 10)
     if given.any and not given.bounds:
         words.error("--any stands beside --bounds alone")
     if given.normal and given.bounds:
         words.error("--normal does not stand beside --bounds")
+    if given.dwell and (given.any or given.normal):
+        words.error("--dwell stands neither beside --any nor beside --normal")
     flags = ["--bounds"] * given.bounds + ["--any"] * given.any + ["--normal"] * given.normal
     if not os.access(given.program, os.X_OK):
         subprocess.run([TOP / "rcv", "routes", TOP / "stations" / "halt.toml"], stdout=subprocess.DEVNULL, check=True)
+    if given.dwell:
+        sys.exit(1 if run_dwell(given) else 0)
     missed = 0
     with tempfile.TemporaryDirectory() as folder:
         for station, steps, answer, most in asked():
             if given.stations and station not in given.stations:
                 continue
-            status, first, passed, proof = verify(given.program, station, steps, flags, given.seconds, folder)
+            first, passed, proof, _, _ = verify(given.program, station, steps, flags, given.seconds, folder)
             derived = len(re.findall(r"^d ", proof, re.M))
             bounds = re.findall(r"^b .*", proof, re.M)
             cones = re.findall(r"^r .*", proof, re.M)
