@@ -758,8 +758,9 @@ class Ticks:
     def free_move(self, train, track, x):
         stretches, end, rest, moves = track
         if x not in moves:
-            ahead = [s for s in stretches if s[0] > x - train.tail]
-            behind = [(x - e, limit) for e, limit in stretches if e <= x] + ([(x, 0)] if rest else [])
+            left = x - train.tail
+            ahead = [s for s in stretches if s[0] > left]
+            behind = [(left - e, limit) for e, limit in stretches if e <= left] + ([(x, 0)] if rest else [])
             moves[x] = greatest(lambda u: all(rise(train.accel, u, limit) <= way for way, limit in behind)
                                 and brakes_well(u, train, ahead, end, x), train.top)
         return moves[x]

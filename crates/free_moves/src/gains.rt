@@ -19,20 +19,21 @@ pub(crate) fn rise(accel: u64, speed: u64, limit: u64) -> u64
     twice / 2
 }
 
-/// Whether the limits behind a place allow a speed there. Of rising spans none after the first that ends past it
-/// matters.
-pub(crate) fn behind(spans: &[Span], accel: u64, place: u64, speed: u64) -> bool
+/// Whether the limits that a train has left behind allow a speed at a place of its head: those that end up to its tail.
+/// Of rising spans none after the first that ends past the tail matters.
+pub(crate) fn behind(spans: &[Span], accel: u64, tail: u64, place: u64, speed: u64) -> bool
     requires rising { IsRising spans.now }
     requires accel { 1 ≤ accel }
     requires speed { speed ≤ 100000 }
-    ensures { result ≡ behind accel 0 (stretches_of spans.now) place speed }
+    ensures { result ≡ behind accel tail 0 (stretches_of spans.now) place speed }
 {
+    let left = place.saturating_sub(tail);
     let mut from = 0;
     for span in spans {
-        if place < end_of(span) {
+        if left < end_of(span) {
             return true;
         }
-        if !allows(span, from, accel, place, speed) {
+        if !allows(span, from, accel, left, speed) {
             return false;
         }
         from = from.max(end_of(span));

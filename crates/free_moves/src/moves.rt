@@ -84,8 +84,9 @@ impl LegTrack<'_> {
         ensures { result ≡ is_free_on self.now place speed }
     {
         let accel = self.accel();
+        let tail = self.motor.tail();
         self.can_brake(place, speed)
-            && behind(self.ahead.spans, accel, place, speed)
+            && behind(self.ahead.spans, accel, tail, place, speed)
             && (!self.rest || rise(accel, speed, 0) <= place)
     }
 }

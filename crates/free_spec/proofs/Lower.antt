@@ -15,19 +15,19 @@ lower_test : (a w u l x : ℕ) (skip : Bool) → w ≤ u → (skip || nat_le (ri
 lower_test a w u l x true h k = refl
 lower_test a w u l x false h k = let i = leb-true (rise a u l) x k in let m = rise_more a w u l h in le-leb (rise a w l) x (omega arith)
 
-lower_behind : (a first : ℕ) (ss : List SpanSeen) (x w u : ℕ) → w ≤ u → behind a first ss x u ≡ true → behind a first ss x w ≡ true
-lower_behind a first [] x w u h k = refl
-lower_behind a first (s ∷ rest) x w u h k =
-    and_both _ _ (lower_test a w u s.limit (x - s.end) (not (nat_lt first s.end && nat_le s.end x)) h (and_left _ (behind a (max first s.end) rest x u) k))
-    (lower_behind a (max first s.end) rest x w u h (and_right (not (nat_lt first s.end && nat_le s.end x) || nat_le (rise a u s.limit) (x - s.end)) _ k))
+lower_behind : (a tail first : ℕ) (ss : List SpanSeen) (x w u : ℕ) → w ≤ u → behind a tail first ss x u ≡ true → behind a tail first ss x w ≡ true
+lower_behind a tail first [] x w u h k = refl
+lower_behind a tail first (s ∷ rest) x w u h k =
+    and_both _ _ (lower_test a w u s.limit (x - (s.end + tail)) (not (nat_lt first s.end && nat_le (s.end + tail) x)) h (and_left _ (behind a tail (max first s.end) rest x u) k))
+    (lower_behind a tail (max first s.end) rest x w u h (and_right (not (nat_lt first s.end && nat_le (s.end + tail) x) || nat_le (rise a u s.limit) (x - (s.end + tail))) _ k))
 
 pub lower : (m : MotorSeen) (ss : List SpanSeen) (end : Option ℕ) (rest : Bool) (x u w : ℕ) → 1 ≤ m.brake → u ≤ m.top → w ≤ u → is_free m ss end rest x u ≡ true → is_free m ss end rest x w ≡ true
 lower m ss end rest x u w slows fast less h =
-    let both = and_left (can_brake u m.brake m.tail ss end x u && behind m.accel 0 ss x u) (not rest || nat_le (rise m.accel u 0) x) h in
-    let start = and_right (can_brake u m.brake m.tail ss end x u && behind m.accel 0 ss x u) (not rest || nat_le (rise m.accel u 0) x) h in
-    let brakes = and_left (can_brake u m.brake m.tail ss end x u) (behind m.accel 0 ss x u) both in
-    let since = and_right (can_brake u m.brake m.tail ss end x u) (behind m.accel 0 ss x u) both in
-    and_both _ _ (and_both _ _ (can_brake_slower u w m.brake m.tail m.top ss end x x u w slows fast less (omega arith) (omega arith) (λ p l k. slower (can_brake_keeps u m.brake m.tail m.top ss end x u fast brakes p l (omega arith))) brakes) (lower_behind m.accel 0 ss x w u less since))
+    let both = and_left (can_brake u m.brake m.tail ss end x u && behind m.accel m.tail 0 ss x u) (not rest || nat_le (rise m.accel u 0) x) h in
+    let start = and_right (can_brake u m.brake m.tail ss end x u && behind m.accel m.tail 0 ss x u) (not rest || nat_le (rise m.accel u 0) x) h in
+    let brakes = and_left (can_brake u m.brake m.tail ss end x u) (behind m.accel m.tail 0 ss x u) both in
+    let since = and_right (can_brake u m.brake m.tail ss end x u) (behind m.accel m.tail 0 ss x u) both in
+    and_both _ _ (and_both _ _ (can_brake_slower u w m.brake m.tail m.top ss end x x u w slows fast less (omega arith) (omega arith) (λ p l k. slower (can_brake_keeps u m.brake m.tail m.top ss end x u fast brakes p l (omega arith))) brakes) (lower_behind m.accel m.tail 0 ss x w u less since))
     (lower_test m.accel w u 0 x (not rest) less start)
   where
     slower : {l : ℕ} → u ≤ l → w ≤ l

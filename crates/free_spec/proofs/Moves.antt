@@ -13,7 +13,7 @@ use Rattle.rail_base.specs.Admitted.{IsAdmitted}
 use Rattle.rail_base.specs.Stations.{length_of, IsTrain}
 use Rattle.rail_spec.specs.Track.{edge_ends, routes_of}
 use Rattle.rail_spec.specs.Plans.{path_routes, length_mm, exits, is_well_formed}
-use Rattle.rail_spec.specs.Motion.{MotorSeen, SpanSeen, limit_at, KeepsLimits, keeps_limits, may_stop, can_brake, permitted, next_speed}
+use Rattle.rail_spec.specs.Motion.{SpanSeen, limit_at, KeepsLimits, keeps_limits, may_stop, can_brake, permitted, next_speed}
 use Rattle.rail_spec.specs.Dispatches.{state_of, rates, stretch, stretches, of_plan, granted_after, moved, track_end, with_granted, authority}
 use Rattle.rail_spec.specs.Dispatches.{state_at}
 use Rattle.rail_base.proofs.Members.{and_right, and_both}
@@ -89,11 +89,6 @@ brakes_on (suc m) b tail top o ss ts end other limits ends x z (suc u) at fast h
     (λ p l k. limits p (suc u) (omega arith) fast (can_brake_keeps (suc m) b tail top ss end z (suc u) fast h (o + p) (omega arith) (omega arith))))
     (brakes_on m b tail top o ss ts end other limits ends (x + suc u) (z + suc u) (suc u - b) (omega arith) (omega arith) (and_right (keeps_limits ss (z - tail) (z + suc u) (suc u)) _ h))
 
-move_keeps : (m : MotorSeen) (ss : List SpanSeen) (end : Option ℕ) (x v u : ℕ) → permitted m ss end x v u ≡ true → KeepsLimits m.top ss x (x + u) u
-move_keeps m ss end x v u h p l k =
-    let r = permitted_reach m ss end x v u h in
-    can_brake_keeps u m.brake m.tail m.top ss end x u (omega arith) (permitted_brakes m ss end x v u h) p (omega arith) k
-
 -- ---- F2
 
 -- who is no faster has come no further
@@ -127,21 +122,21 @@ held a l v u gap gain h (suc n) = go (nat_lt l (u - a)) refl h
     go true e (inr far) = let k = far n in let m = climb_more n n a (u - a) v l (omega arith) (omega arith) in omega arith
     go false e k = omega arith
 
--- what holds at each place holds at the ends of the stretches
-behind_from : (top a first : ℕ) (ss : List SpanSeen) (x u : ℕ) → ((p : ℕ) → first < p → p ≤ x → rise a u (limit_at top ss p) ≤ x - p) → behind a first ss x u ≡ true
-behind_from top a first [] x u h = refl
-behind_from top a first (s ∷ rest) x u h = and_both _ _ (here (nat_lt first s.end) refl (nat_le s.end x) refl) (behind_from top a (max first s.end) rest x u (λ p l k. past p l k (nat_le p s.end) refl (h p (omega arith) k)))
+-- what holds at each place that the tail has left holds at the ends of the stretches
+behind_from : (top a tail first : ℕ) (ss : List SpanSeen) (x u : ℕ) → ((p : ℕ) → first < p → p + tail ≤ x → rise a u (limit_at top ss p) ≤ x - (p + tail)) → behind a tail first ss x u ≡ true
+behind_from top a tail first [] x u h = refl
+behind_from top a tail first (s ∷ rest) x u h = and_both _ _ (here (nat_lt first s.end) refl (nat_le (s.end + tail) x) refl) (behind_from top a tail (max first s.end) rest x u (λ p l k. past p l k (nat_le p s.end) refl (h p (omega arith) k)))
   where
-    at_end : (b : Bool) → nat_le s.end s.end ≡ b → b ≡ true → rise a u (if b then s.limit else limit_at top rest s.end) ≤ x - s.end → rise a u s.limit ≤ x - s.end
+    at_end : (b : Bool) → nat_le s.end s.end ≡ b → b ≡ true → rise a u (if b then s.limit else limit_at top rest s.end) ≤ x - (s.end + tail) → rise a u s.limit ≤ x - (s.end + tail)
     at_end true e t k = k
     at_end false e t k = cc
 
-    here : (b : Bool) → nat_lt first s.end ≡ b → (c : Bool) → nat_le s.end x ≡ c → (not (b && c) || nat_le (rise a u s.limit) (x - s.end)) ≡ true
-    here true eb true ec = le-leb _ _ (at_end (nat_le s.end s.end) refl (le-leb s.end s.end (omega arith)) (h s.end (leb-true (suc first) s.end eb) (leb-true s.end x ec)))
+    here : (b : Bool) → nat_lt first s.end ≡ b → (c : Bool) → nat_le (s.end + tail) x ≡ c → (not (b && c) || nat_le (rise a u s.limit) (x - (s.end + tail))) ≡ true
+    here true eb true ec = le-leb _ _ (at_end (nat_le s.end s.end) refl (le-leb s.end s.end (omega arith)) (h s.end (leb-true (suc first) s.end eb) (leb-true (s.end + tail) x ec)))
     here true eb false ec = refl
     here false eb c ec = refl
 
-    past : (p : ℕ) → max first s.end < p → p ≤ x → (b : Bool) → nat_le p s.end ≡ b → rise a u (if b then s.limit else limit_at top rest p) ≤ x - p → rise a u (limit_at top rest p) ≤ x - p
+    past : (p : ℕ) → max first s.end < p → p + tail ≤ x → (b : Bool) → nat_le p s.end ≡ b → rise a u (if b then s.limit else limit_at top rest p) ≤ x - (p + tail) → rise a u (limit_at top rest p) ≤ x - (p + tail)
     past p l k true e g = let i = leb-true p s.end e in absurd (omega arith)
     past p l k false e g = g
 
@@ -281,10 +276,16 @@ module _ (d : Station) (adm : IsAdmitted d) (n : ℕ) (plan : List (List Command
             let none : sum_by length_mm has.more ≡ 0 = ap (sum_by length_mm) s.0 in
             le-leb y (sum_by length_mm l.routes) (omega arith)
 
-    crossed : (p : ℕ) → 0 < p → (old new : TrainState) → Moves t old new → old.x < o + p → o + p ≤ new.x → new.v ≤ limit_at top leg p
+    abbrev tail : ℕ
+    tail = (rates d t).tail
+
+    -- the move in which the tail leaves a place keeps the limit there
+    crossed : (p : ℕ) → 0 < p → (old new : TrainState) → Moves t old new → old.x < o + (p + tail) → o + (p + tail) ≤ new.x → new.v ≤ limit_at top leg p
     crossed p some old new m past near =
         let f = m.move in
-        limits p new.v some (gain t old new m).1 (move_keeps (rates d t) (stretches d (routes_of_train t)) path_end old.x old.v new.v m.may (o + p) past (omega arith))
+        limits p new.v some (gain t old new m).1
+        (can_brake_keeps new.v (rates d t).brake tail top (stretches d (routes_of_train t)) path_end old.x new.v (gain t old new m).1
+        (permitted_brakes (rates d t) (stretches d (routes_of_train t)) path_end old.x old.v new.v m.may) (o + p) (omega arith) (omega arith))
 
     -- a move further than x by w is free
     move_free : (x k w : ℕ) → (at k t).x ≤ o + x → o + x + w ≡ (at (suc k) t).x → 1 ≤ w → Moves t (at k t) (at (suc k) t) → is_free (rates d t) leg leg_end l.rest x w ≡ true
@@ -307,20 +308,20 @@ module _ (d : Station) (adm : IsAdmitted d) (n : ℕ) (plan : List (List Command
             (lands u (rates d t).brake (rates d t).tail top (stretches d (routes_of_train t)) path_end (at k t).x u (o + x) w m.slows fast near (omega arith)
             (permitted_brakes (rates d t) (stretches d (routes_of_train t)) path_end (at k t).x (at k t).v u m.may))
 
-        limits_behind : behind a 0 leg x w ≡ true
-        limits_behind = behind_from top a 0 leg x w at_place
+        limits_behind : behind a tail 0 leg x w ≡ true
+        limits_behind = behind_from top a tail 0 leg x w at_place
           where
-            at_place : (p : ℕ) → 0 < p → p ≤ x → rise a w (limit_at top leg p) ≤ x - p
-            at_place p some on = go (nat_le (o + p) (at k t).x) refl
+            at_place : (p : ℕ) → 0 < p → p + tail ≤ x → rise a w (limit_at top leg p) ≤ x - (p + tail)
+            at_place p some on = go (nat_le (o + (p + tail)) (at k t).x) refl
               where
-                go : (b : Bool) → nat_le (o + p) (at k t).x ≡ b → rise a w (limit_at top leg p) ≤ x - p
+                go : (b : Bool) → nat_le (o + (p + tail)) (at k t).x ≡ b → rise a w (limit_at top leg p) ≤ x - (p + tail)
                 go true e =
-                    let i = leb-true (o + p) (at k t).x e in
-                    let h = gap_held (o + p) (limit_at top leg p) t (at k t) (at (suc k) t) m (since (o + p) (limit_at top leg p) t (crossed p some) k) i w in
+                    let i = leb-true (o + (p + tail)) (at k t).x e in
+                    let h = gap_held (o + (p + tail)) (limit_at top leg p) t (at k t) (at (suc k) t) m (since (o + (p + tail)) (limit_at top leg p) t (crossed p some) k) i w in
                     let c = climb_more w w a w u (limit_at top leg p) (le_refl w) slower in
                     omega arith
                 go false e =
-                    let i = leb-false (o + p) (at k t).x e in
+                    let i = leb-false (o + (p + tail)) (at k t).x e in
                     let s = slower in
                     let v = crossed p some (at k t) (at (suc k) t) m i (omega arith) in
                     let c = climb_none w a w (limit_at top leg p) (omega arith) in

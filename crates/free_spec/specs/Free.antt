@@ -12,17 +12,18 @@ climb (suc n) a u l = let further = climb n a (u - a) l in if nat_lt l (u - a) t
 abbrev pub rise : ℕ → ℕ → ℕ → ℕ
 rise a u l = climb u a u l
 
--- for each stretch that ends up to x the distance since its end is enough to gain u, from its limit at the most. The first begins there.
-abbrev pub behind : ℕ → ℕ → List SpanSeen → ℕ → ℕ → Bool
-behind a from [] x u = true
-behind a from (s ∷ rest) x u =
-    (not (nat_lt from s.end && nat_le s.end x) || nat_le (rise a u s.limit) (x - s.end))
-    && behind a (max from s.end) rest x u
+-- for each stretch that the tail has left at x the distance since then is enough to gain u, from its limit at the most. The first begins there.
+abbrev pub behind : ℕ → ℕ → ℕ → List SpanSeen → ℕ → ℕ → Bool
+behind a tail from [] x u = true
+behind a tail from (s ∷ rest) x u =
+    let left = s.end + tail in
+    (not (nat_lt from s.end && nat_le left x) || nat_le (rise a u s.limit) (x - left))
+    && behind a tail (max from s.end) rest x u
 
 module _ (m : MotorSeen) (ss : List SpanSeen) (end : Option ℕ) (rest : Bool) where
   -- a move by u and then full braking keeps the limits ahead and stops where it may; the limits behind allow u; and so does the start, where the train starts there from rest
   abbrev pub is_free : ℕ → ℕ → Bool
-  is_free x u = can_brake u m.brake m.tail ss end x u && behind m.accel 0 ss x u && (not rest || nat_le (rise m.accel u 0) x)
+  is_free x u = can_brake u m.brake m.tail ss end x u && behind m.accel m.tail 0 ss x u && (not rest || nat_le (rise m.accel u 0) x)
 
   -- the greatest such move
   abbrev pub free : ℕ → ℕ
