@@ -102,17 +102,27 @@ abbrev pub flag_of : Option Data → Bool
 flag_of (Some (boolean b)) = b
 flag_of _ = false
 
+-- ---- arrays of names
+
+-- there is an array of names
+abbrev pub is_names : Option Data → Bool
+is_names (Some (array ds)) = list_all is_name_value (list_of_items ds)
+is_names _ = false
+
+-- the names of the array that is there
+abbrev pub names_of : Option Data → List (List ℕ)
+names_of (Some (array ds)) = map name_value (list_of_items ds)
+names_of _ = []
+
 -- ---- visits: an array of arrays of names
 
 -- the value is an array of names
 abbrev pub is_visit : Data → Bool
-is_visit (array ds) = list_all is_name_value (list_of_items ds)
-is_visit _ = false
+is_visit d = is_names (Some d)
 
 -- the names of an array
 abbrev pub visit_of : Data → List (List ℕ)
-visit_of (array ds) = map name_value (list_of_items ds)
-visit_of _ = []
+visit_of d = names_of (Some d)
 
 -- there is an array of such arrays
 abbrev pub is_visits : Option Data → Bool
@@ -145,6 +155,7 @@ has_form forms.Name = is_name
 has_form forms.Side = is_side
 has_form forms.Whole = is_whole
 has_form forms.Flag = is_flag
+has_form forms.Names = is_names
 has_form forms.Visits = is_visits
 has_form forms.Wholes = is_wholes
 has_form forms.Array = is_array

@@ -20,6 +20,7 @@ key_text keys.Vehicle = codes "vehicle"
 key_text keys.Train = codes "train"
 key_text keys.Order = codes "order"
 key_text keys.Within = codes "within"
+key_text keys.Overlap = codes "overlap"
 key_text keys.Name = codes "name"
 key_text keys.Boundary = codes "boundary"
 key_text keys.From = codes "from"
@@ -43,6 +44,8 @@ key_text keys.FromVisit = codes "from_visit"
 key_text keys.ToTrain = codes "to_train"
 key_text keys.ToVisit = codes "to_visit"
 key_text keys.MaxMs = codes "max_ms"
+key_text keys.Sections = codes "sections"
+key_text keys.HoldMs = codes "hold_ms"
 
 -- the key of the array of a kind of entry
 abbrev pub kind_key : EntryKind → Key
@@ -53,6 +56,7 @@ kind_key kinds.Vehicle = keys.Vehicle
 kind_key kinds.Train = keys.Train
 kind_key kinds.Order = keys.Order
 kind_key kinds.Within = keys.Within
+kind_key kinds.Overlap = keys.Overlap
 
 -- ---- columns: a key, the form of its value, and the first version that has it
 
@@ -106,6 +110,11 @@ columns_of kinds.Within =
     ∷ column keys.ToVisit forms.Whole 1
     ∷ column keys.MaxMs forms.Whole 1
     ∷ []
+columns_of kinds.Overlap =
+    column keys.Signal forms.Name 4
+    ∷ column keys.Sections forms.Names 4
+    ∷ column keys.HoldMs forms.Whole 4
+    ∷ []
 
 -- and of the top
 abbrev pub top_columns : List Column
@@ -120,6 +129,7 @@ top_columns =
     ∷ column keys.Train forms.Array 1
     ∷ column keys.Order forms.Array 1
     ∷ column keys.Within forms.Array 1
+    ∷ column keys.Overlap forms.Array 4
     ∷ []
 
 -- ---- what a version knows

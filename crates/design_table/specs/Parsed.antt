@@ -12,9 +12,10 @@ use Rattle.design_table.specs.declared.sheet.VehicleEntry.{VehicleEntry}
 use Rattle.design_table.specs.declared.sheet.TrainEntry.{TrainEntry}
 use Rattle.design_table.specs.declared.sheet.OrderEntry.{OrderEntry}
 use Rattle.design_table.specs.declared.sheet.WithinEntry.{WithinEntry}
+use Rattle.design_table.specs.declared.sheet.OverlapEntry.{OverlapEntry}
 use Rattle.design_table.specs.declared.sheet.Sheet.{Sheet}
-use Rattle.design_table.specs.Forms.{name_of, side_of, whole_of, wholes_of, flag_of, visits_of}
-use Rattle.design_table.specs.Texts.{visits_seen}
+use Rattle.design_table.specs.Forms.{name_of, names_of, side_of, whole_of, wholes_of, flag_of, visits_of}
+use Rattle.design_table.specs.Texts.{texts, visits_seen}
 
 -- the value at each key of an entry, if there is one
 abbrev pub Values : Type 0
@@ -183,6 +184,22 @@ within_seen w = record {
   max_ms = w.max_ms;
 }
 
+-- the sections that are kept free behind a signal, for so many milliseconds after a train's arrival there
+pub record ParsedOverlap : Type 0 where
+  pub signal : List ℕ
+  pub sections : List (List ℕ)
+  pub hold_ms : ℤ
+
+abbrev pub overlap_of : Values → ParsedOverlap
+overlap_of value = record {
+  signal = name_of (value keys.Signal);
+  sections = names_of (value keys.Sections);
+  hold_ms = whole_of (value keys.HoldMs);
+}
+
+abbrev pub overlap_seen : OverlapEntry → ParsedOverlap
+overlap_seen o = record { signal = o.signal.now; sections = texts o.sections.items; hold_ms = o.hold_ms }
+
 -- the whole design, its entries in the order of the document
 pub record ParsedSheet : Type 0 where
   pub version : ℤ
@@ -195,6 +212,7 @@ pub record ParsedSheet : Type 0 where
   pub trains : List ParsedTrain
   pub orders : List ParsedOrder
   pub withins : List ParsedWithin
+  pub overlaps : List ParsedOverlap
 
 -- the entries in the order of the file
 abbrev pub sheet_seen : Sheet → ParsedSheet
@@ -209,4 +227,5 @@ sheet_seen s = record {
   trains = map train_seen s.trains.items;
   orders = map order_seen s.orders.items;
   withins = map within_seen s.withins.items;
+  overlaps = map overlap_seen s.overlaps.items;
 }

@@ -12,7 +12,7 @@ use Rattle.design_table.specs.Forms.{found, whole_of, is_whole, is_array, items_
 use Rattle.design_table.specs.Keys.{kind_key, columns_of, version_number, known_in, keys_of, top_keys}
 use Rattle.design_table.specs.Reads.{at, in_each, ReadsOrRefuses}
 use Rattle.design_table.specs.Parsed.{Values, node_of, edge_of, signal_of, vehicle_of, train_of, order_of, within_of}
-use Rattle.design_table.specs.Parsed.{ParsedSheet}
+use Rattle.design_table.specs.Parsed.{ParsedSheet, overlap_of}
 use Rattle.design_table.specs.declared.fault.Code.TheVariants.{D02}
 use Rattle.design_table.specs.declared.fault.DesignFault.{DesignFault}
 
@@ -50,6 +50,7 @@ sheet_in version ms = record {
   trains = entries_of version train_of kinds.Train ms;
   orders = entries_of version order_of kinds.Order ms;
   withins = entries_of version within_of kinds.Within ms;
+  overlaps = entries_of version overlap_of kinds.Overlap ms;
 }
 
 -- in its own
@@ -107,7 +108,8 @@ faults_in version ms =
     ++ (wrong_array version kinds.Train ms
     ++ (wrong_array version kinds.Order ms
     ++ (wrong_array version kinds.Within ms
-    ++ at (has_unknown (top_keys version) ms) Unknown)))))))))
+    ++ (wrong_array version kinds.Overlap ms
+    ++ at (has_unknown (top_keys version) ms) Unknown))))))))))
 
 -- in its own
 unfoldable pub form_fault : Members → List Place

@@ -7,8 +7,8 @@ ghost use Rattle.std.specs.BTreeMap.{keys};
 ghost use Rattle.toml.specs.View.{view, table_view};
 ghost use Rattle.design_table.specs.Forms.{found, is_name_byte, is_name_text, is_name_value, name_value, is_name};
 ghost use Rattle.design_table.specs.Forms.{name_of, is_side, side_of, is_whole, whole_of, is_wholes, wholes_of};
-ghost use Rattle.design_table.specs.Forms.{flag_of, has_form, has_unknown, is_known, known_value, is_visit, visit_of};
-ghost use Rattle.design_table.specs.Forms.{is_visits, visits_of};
+ghost use Rattle.design_table.specs.Forms.{flag_of, has_form, has_unknown, is_known, known_value, is_names, names_of};
+ghost use Rattle.design_table.specs.Forms.{is_visit, visit_of, is_visits, visits_of};
 ghost use Rattle.design_table.specs.Texts.{texts, visits_seen};
 ghost use Rattle.design_table.specs.Keys.{keys_in};
 ghost use Rattle.design_table.specs.declared.fault.DesignFault.TheVariants.{Refused};
@@ -32,6 +32,8 @@ pub enum Form {
     Whole,
     /// A truth value, which may be absent.
     Flag,
+    /// An array of names.
+    Names,
     /// An array of arrays of names.
     Visits,
     /// An array of whole numbers.
@@ -100,6 +102,7 @@ pub fn has_form(form: Form, value: Option<&Value>) -> bool
         Form::Side => is_side(value),
         Form::Whole => matches!(value, Some(Value::Integer(_))),
         Form::Flag => matches!(value, None | Some(Value::Boolean(_))),
+        Form::Names => is_names(value),
         Form::Visits => is_visits(value),
         Form::Wholes => is_wholes(value),
         Form::Array => matches!(value, None | Some(Value::Array(_))),
@@ -289,6 +292,27 @@ pub fn flag_of(value: Option<&Value>) -> bool
     }
 }
 
+// ---- arrays of names
+
+fn is_names(value: Option<&Value>) -> bool
+    ensures { result ≡ is_names (option_map (λ v. view v.now) value.entry) }
+{
+    match value {
+        Some(Value::Array(values)) => are_items::<&str>(values.as_slice()),
+        _ => false,
+    }
+}
+
+/// The names of the array that is there.
+pub fn names_of<'a>(alloc: Global, value: Option<&'a Value>) -> Result<Vec<&'a str>, AllocError>
+    ensures { IfOk result (λ v. texts v.items ≡ names_of (option_map (λ v. view v.now) value.entry)) }
+{
+    match value {
+        Some(Value::Array(values)) => items_of(alloc, values.as_slice()),
+        _ => Ok(Vec::new(alloc)),
+    }
+}
+
 // ---- visits
 
 /// The names of the nodes of one visit.
@@ -304,19 +328,13 @@ impl<'a> Item<'a> for Vec<&'a str> {
     fn is_item(value: &Value) -> bool
         ensures { result ≡ is_visit (view value.now) }
     {
-        match value {
-            Value::Array(values) => are_items::<&'a str>(values.as_slice()),
-            _ => false,
-        }
+        is_names(Some(value))
     }
 
     fn item(alloc: Global, value: &'a Value) -> Result<Self, AllocError>
         ensures { IfOk result (λ visit. texts visit.items ≡ visit_of (view value.now)) }
     {
-        match value {
-            Value::Array(values) => items_of(alloc, values.as_slice()),
-            _ => Ok(Vec::new(alloc)),
-        }
+        names_of(alloc, Some(value))
     }
 }
 

@@ -21,6 +21,7 @@ pub enum Key {
     Train,
     Order,
     Within,
+    Overlap,
     Name,
     Boundary,
     From,
@@ -44,6 +45,8 @@ pub enum Key {
     ToTrain,
     ToVisit,
     MaxMs,
+    Sections,
+    HoldMs,
 }
 
 impl Key {
@@ -62,6 +65,7 @@ impl Key {
             Key::Train => "train",
             Key::Order => "order",
             Key::Within => "within",
+            Key::Overlap => "overlap",
             Key::Name => "name",
             Key::Boundary => "boundary",
             Key::From => "from",
@@ -85,6 +89,8 @@ impl Key {
             Key::ToTrain => "to_train",
             Key::ToVisit => "to_visit",
             Key::MaxMs => "max_ms",
+            Key::Sections => "sections",
+            Key::HoldMs => "hold_ms",
         }
     }
 }
@@ -189,6 +195,11 @@ pub fn columns_of(kind: EntryKind) -> &'static [Column]
             row!(ToVisit, Whole, 1),
             row!(MaxMs, Whole, 1),
         ],
+        EntryKind::Overlap => &[
+            row!(Signal, Name, 4),
+            row!(Sections, Names, 4),
+            row!(HoldMs, Whole, 4),
+        ],
     }
 }
 
@@ -207,5 +218,6 @@ pub fn top_columns() -> &'static [Column]
         row!(Train, Array, 1),
         row!(Order, Array, 1),
         row!(Within, Array, 1),
+        row!(Overlap, Array, 4),
     ]
 }

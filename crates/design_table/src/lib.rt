@@ -22,6 +22,6 @@ pub use key::{Column, Key, columns_of, is_known, top_columns, version_number};
 pub use place::{EntryKind, Place};
 pub use read::{read_sheet, version_of};
 pub use sheet::{
-    EdgeEntry, NodeEntry, OrderEntry, Sheet, Side, SignalEntry, TrainEntry, VehicleEntry,
-    WithinEntry,
+    EdgeEntry, NodeEntry, OrderEntry, OverlapEntry, Sheet, Side, SignalEntry, TrainEntry,
+    VehicleEntry, WithinEntry,
 };

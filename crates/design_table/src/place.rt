@@ -15,6 +15,7 @@ pub enum EntryKind {
     Train,
     Order,
     Within,
+    Overlap,
 }
 
 impl EntryKind {
@@ -30,6 +31,7 @@ impl EntryKind {
             EntryKind::Train => Key::Train,
             EntryKind::Order => Key::Order,
             EntryKind::Within => Key::Within,
+            EntryKind::Overlap => Key::Overlap,
         }
     }
 }

@@ -40,6 +40,7 @@ pub fn read_sheet<'a>(alloc: Global, table: &'a Table) -> Result<Sheet<'a>, Desi
     let trains = read_array(alloc, known, table)?;
     let orders = read_array(alloc, known, table)?;
     let withins = read_array(alloc, known, table)?;
+    let overlaps = read_array(alloc, known, table)?;
     refuse_unknown(known, table)?;
     Ok(Sheet {
         version,
@@ -52,6 +53,7 @@ pub fn read_sheet<'a>(alloc: Global, table: &'a Table) -> Result<Sheet<'a>, Desi
         trains,
         orders,
         withins,
+        overlaps,
     })
 }
 

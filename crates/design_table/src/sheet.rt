@@ -3,13 +3,14 @@
 ghost use Rattle.std.specs.Prelude.{◌≡◌, IfOk};
 ghost use Rattle.design_table.specs.declared.place.EntryKind.TheVariants as kinds;
 ghost use Rattle.design_table.specs.Parsed.{ParsedNode, ParsedEdge, ParsedSignal, ParsedVehicle, ParsedTrain};
-ghost use Rattle.design_table.specs.Parsed.{ParsedOrder, ParsedWithin, node_of, edge_of, signal_of, vehicle_of};
-ghost use Rattle.design_table.specs.Parsed.{train_of, order_of, within_of, node_seen, edge_seen, signal_seen};
-ghost use Rattle.design_table.specs.Parsed.{vehicle_seen, train_seen, order_seen, within_seen};
+ghost use Rattle.design_table.specs.Parsed.{ParsedOrder, ParsedWithin, ParsedOverlap, node_of, edge_of, signal_of};
+ghost use Rattle.design_table.specs.Parsed.{vehicle_of, train_of, order_of, within_of, overlap_of, node_seen};
+ghost use Rattle.design_table.specs.Parsed.{edge_seen, signal_seen, vehicle_seen, train_seen, order_seen};
+ghost use Rattle.design_table.specs.Parsed.{within_seen, overlap_seen};
 ghost use Rattle.design_table.specs.Places.{value_in};
 
 use crate::entry::Entry;
-use crate::field::{flag_of, name_of, side_of, visits_of, whole_of, wholes_of};
+use crate::field::{flag_of, name_of, names_of, side_of, visits_of, whole_of, wholes_of};
 use crate::fields::Fields;
 use crate::key::Key;
 use crate::place::EntryKind;
@@ -282,6 +283,40 @@ impl<'a> Entry<'a> for WithinEntry<'a> {
     }
 }
 
+/// The sections that are kept free behind a signal, and for how long after a train's arrival there, in ms.
+#[derive(Debug, Drop)]
+pub struct OverlapEntry<'a> {
+    pub signal: &'a str,
+    pub sections: Vec<&'a str>,
+    pub hold_ms: i64,
+}
+
+impl<'a> Entry<'a> for OverlapEntry<'a> {
+    ghost Parsed = { ParsedOverlap };
+
+    ghost seen = { overlap_seen };
+
+    ghost parsed = { overlap_of };
+
+    ghost kind = { kinds.Overlap };
+
+    fn kind() -> EntryKind
+        ensures { result ≡ kinds.Overlap }
+    {
+        EntryKind::Overlap
+    }
+
+    fn read(alloc: Global, fields: Fields<'a>) -> Result<Self, AllocError>
+        ensures { IfOk result (λ entry. overlap_seen entry ≡ overlap_of (value_in fields.entry)) }
+    {
+        Ok(OverlapEntry {
+            signal: name_of(fields.value(Key::Signal)),
+            sections: names_of(alloc, fields.value(Key::Sections))?,
+            hold_ms: whole_of(fields.value(Key::HoldMs)),
+        })
+    }
+}
+
 /// A whole design as its document has it: keys of the right form, and any names and numbers. Entries stand in
 /// the order of the document, and times are in milliseconds.
 #[derive(Debug, Drop)]
@@ -296,4 +331,5 @@ pub struct Sheet<'a> {
     pub trains: Vec<TrainEntry<'a>>,
     pub orders: Vec<OrderEntry<'a>>,
     pub withins: Vec<WithinEntry<'a>>,
+    pub overlaps: Vec<OverlapEntry<'a>>,
 }

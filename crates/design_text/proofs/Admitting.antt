@@ -1,5 +1,5 @@
 -- What an admitted design passes.
-use Rattle.std.proofs.Common.{◌≡◌, ℕ, ◌+◌, ◌<◌, ◌≤◌, Bool, true, false, if◌then◌else◌, eqb-true, ◌||◌, ◌==◌, not, nat_le, List, length, map, arith, leb-true}
+use Rattle.std.proofs.Common.{◌≡◌, ℕ, ◌+◌, ◌<◌, ◌≤◌, Bool, true, false, ◌&&◌, if◌then◌else◌, eqb-true, ◌||◌, ◌==◌, not, nat_le, List, [], ◌∷◌, length, map, refl, subst, arith, leb-true}
 use Rattle.std.specs.List.{list_all}
 use Rattle.rail_base.specs.declared.station.Station.{Station}
 use Rattle.rail_base.specs.declared.station.Node.{Node}
@@ -9,14 +9,16 @@ use Rattle.rail_base.specs.declared.station.Vehicle.{Vehicle}
 use Rattle.rail_base.specs.declared.station.Train.{Train}
 use Rattle.rail_base.specs.declared.station.Order.{Order}
 use Rattle.rail_base.specs.declared.station.Within.{Within}
+use Rattle.rail_base.specs.declared.station.Overlap.{Overlap}
 use Rattle.rail_base.specs.declared.station.NodeNo.{NodeNo}
+use Rattle.rail_base.specs.declared.station.SectionNo.{SectionNo}
 use Rattle.rail_base.specs.declared.station.TrainNo.{TrainNo}
 use Rattle.rail_base.specs.Numbering.{entry, one_to}
 use Rattle.rail_base.specs.Members.{In, all_pairs}
-use Rattle.rail_base.specs.Stations.{node_of, train_of, first_visit, horizon, longest_dwell, per_tick_speed, per_tick_accel}
+use Rattle.rail_base.specs.Stations.{node_of, train_of, first_visit, horizon, longest_dwell, most_overlaps, per_tick_speed, per_tick_accel}
 use Rattle.rail_base.specs.Admitted.{Ranges, ends_a, ends_b}
-use Rattle.rail_base.specs.Admission.{is_from, is_name, are_names, is_node, is_vehicle, is_visit, is_good_set, is_good_node, is_good_edge, are_numbered, is_good_signal, are_apart, is_good_vehicle, are_good_dwells, is_good_train, is_good_order, is_good_within, are_few, is_timed, are_named, is_sound_track, is_sound_traffic, is_admitted}
-use Rattle.rail_base.proofs.Members.{list_all_at}
+use Rattle.rail_base.specs.Admission.{is_from, is_name, are_names, is_node, is_vehicle, is_visit, is_good_set, is_good_node, is_good_edge, are_numbered, is_good_signal, are_apart, is_good_vehicle, are_good_dwells, is_good_train, is_good_order, is_good_within, is_good_overlap, are_few, is_timed, are_named, is_sound_track, is_sound_traffic, are_sound_overlaps, is_admitted}
+use Rattle.rail_base.proofs.Members.{and_left, and_right, list_all_at}
 use Rattle.rail_base.proofs.Lists.{in_map, in_count}
 use Rattle.infra_reader.proofs.Apart.{names_apart}
 use Rattle.design_text.proofs.Splitting.{two, three, four, five, six, seven}
@@ -30,6 +32,14 @@ are_all_names names h = let f = two (list_all is_name names) (all_pairs names_ap
 
 pub are_distinct : (names : List (List ℕ)) → are_names names ≡ true → all_pairs names_apart names ≡ true
 are_distinct names h = let f = two (list_all is_name names) (all_pairs names_apart names) h in f.1
+
+-- a section has this number
+abbrev pub is_section : Station → SectionNo → Bool
+is_section d z = is_from 1 (length d.sections) z.0
+
+-- at two signals
+abbrev pub overlaps_differ : Overlap → Overlap → Bool
+overlaps_differ a b = not (a.signal.0 == b.signal.0)
 
 module _ (d : Station) where
   -- ---- names
@@ -80,6 +90,9 @@ module _ (d : Station) where
   pub within_parts : (w : Within) → is_good_within d w ≡ true → (is_visit d w.from_train w.from_visit ≡ true) × (is_visit d w.to_train w.to_visit ≡ true) × (nat_le w.max_ms 86400000 ≡ true)
   within_parts w h = three (is_visit d w.from_train w.from_visit) (is_visit d w.to_train w.to_visit) (nat_le w.max_ms 86400000) h
 
+  pub overlap_parts : (o : Overlap) → is_good_overlap d o ≡ true → (is_from 1 (length d.signals) o.signal.0 ≡ true) × (is_from 1 16 (length o.sections) ≡ true) × (list_all (is_section d) o.sections ≡ true) × (nat_le o.hold_ms 600000 ≡ true)
+  overlap_parts o h = four (is_from 1 (length d.signals) o.signal.0) (is_from 1 16 (length o.sections)) (list_all (is_section d) o.sections) (nat_le o.hold_ms 600000) h
+
   pub node_parts : (n : NodeNo) → is_good_node d n ≡ true → (nat_le (ends_a d n) 2 ≡ true) × (nat_le (ends_b d n) 2 ≡ true) × (nat_le (ends_a d n + ends_b d n) 3 ≡ true) × ((not (node_of d n).boundary || (ends_a d n + ends_b d n == 1)) ≡ true)
   node_parts n h = four (nat_le (ends_a d n) 2) (nat_le (ends_b d n) 2) (nat_le (ends_a d n + ends_b d n) 3) (not (node_of d n).boundary || (ends_a d n + ends_b d n == 1)) h
 
@@ -89,7 +102,7 @@ module _ (d : Station) (admitted : is_admitted d ≡ true) where
   -- ---- the parts of the test
 
   whole : (are_few d ≡ true) × (is_timed d ≡ true) × (are_named d ≡ true) × (is_sound_track d ≡ true) × (is_sound_traffic d ≡ true)
-  whole = five (are_few d) (is_timed d) (are_named d) (is_sound_track d) (is_sound_traffic d) admitted
+  whole = five (are_few d) (is_timed d) (are_named d) (is_sound_track d) (is_sound_traffic d) (and_left (are_few d && is_timed d && are_named d && is_sound_track d && is_sound_traffic d) (are_sound_overlaps d) admitted)
 
   pub few : (nat_le (length d.nodes) 2000 ≡ true) × (nat_le (length d.edges) 4000 ≡ true) × (nat_le (length d.signals) 1000 ≡ true) × (nat_le (length d.vehicles) 64 ≡ true)
       × (is_from 1 128 (length d.trains) ≡ true) × (nat_le (length d.orders) 256 ≡ true) × (nat_le (length d.withins) 256 ≡ true)
@@ -97,6 +110,25 @@ module _ (d : Station) (admitted : is_admitted d ≡ true) where
 
   pub timed : ((is_from 1 3 d.version) ≡ true) × (is_from 100 1000 d.tick_ms ≡ true) × (is_from 1 86400 (horizon d) ≡ true)
   timed = three (is_from 1 3 d.version) (is_from 100 1000 d.tick_ms) (is_from 1 86400 (horizon d)) whole.1
+
+  overlaps : (nat_le (length d.overlaps) (most_overlaps d) ≡ true) × (list_all (is_good_overlap d) d.overlaps ≡ true) × (all_pairs overlaps_differ d.overlaps ≡ true)
+  overlaps = three (nat_le (length d.overlaps) (most_overlaps d)) (list_all (is_good_overlap d) d.overlaps) (all_pairs overlaps_differ d.overlaps) (and_right (are_few d && is_timed d && are_named d && is_sound_track d && is_sound_traffic d) (are_sound_overlaps d) admitted)
+
+  -- before version 4 there is no overlap
+  pub no_overlaps : nat_le 4 d.version ≡ false → d.overlaps ≡ []
+  no_overlaps e = none d.overlaps (leb-true (length d.overlaps) 0 (subst (λ b. nat_le (length d.overlaps) (if b then 1000 else 0) ≡ true) e overlaps.0))
+    where
+      none : (os : List Overlap) → length os ≤ 0 → os ≡ []
+      none [] h = refl
+      none (o ∷ os) h = absurd (omega arith)
+
+  -- and 1,000 of them at most
+  pub overlaps_most : length d.overlaps ≤ 1000
+  overlaps_most = go (nat_le 4 d.version) (leb-true (length d.overlaps) (most_overlaps d) overlaps.0)
+    where
+      go : (b : Bool) → length d.overlaps ≤ (if b then 1000 else 0) → length d.overlaps ≤ 1000
+      go true h = h
+      go false h = omega arith
 
   -- the names of nodes, edges, sections, signals, vehicles and trains
   pub named : (are_names (node_names d) ≡ true) × (are_names (edge_names d) ≡ true) × (are_names d.sections ≡ true) × (are_names (signal_names d) ≡ true) × (are_names (vehicle_names d) ≡ true) × (are_names (train_names d) ≡ true)
@@ -153,3 +185,9 @@ module _ (d : Station) (admitted : is_admitted d ≡ true) where
 
   pub good_within : (w : Within) → In w d.withins → is_good_within d w ≡ true
   good_within w m = list_all_at (is_good_within d) d.withins w traffic.3 m
+
+  pub good_overlap : (o : Overlap) → In o d.overlaps → is_good_overlap d o ≡ true
+  good_overlap o m = list_all_at (is_good_overlap d) d.overlaps o overlaps.1 m
+
+  pub overlaps_apart : all_pairs overlaps_differ d.overlaps ≡ true
+  overlaps_apart = overlaps.2

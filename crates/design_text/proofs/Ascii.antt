@@ -60,6 +60,7 @@ letters keys.Vehicle = refl
 letters keys.Train = refl
 letters keys.Order = refl
 letters keys.Within = refl
+letters keys.Overlap = refl
 letters keys.Name = refl
 letters keys.Boundary = refl
 letters keys.From = refl
@@ -83,6 +84,8 @@ letters keys.FromVisit = refl
 letters keys.ToTrain = refl
 letters keys.ToVisit = refl
 letters keys.MaxMs = refl
+letters keys.Sections = refl
+letters keys.HoldMs = refl
 
 ascii_key : (key : Key) → IsAscii (key_text key)
 ascii_key key = all_low (key_text key) (letters key)

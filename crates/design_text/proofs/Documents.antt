@@ -7,7 +7,7 @@ use Rattle.toml.specs.Tables.{no_nodes, close}
 use Rattle.design_table.specs.declared.key.Key.{Key}
 use Rattle.design_table.specs.declared.key.Key.TheVariants as keys
 use Rattle.design_table.specs.Keys.{key_text}
-use Rattle.rail_base.specs.Names.{node_name, section_name, train_name}
+use Rattle.rail_base.specs.Names.{node_name, section_name, signal_name, train_name}
 use Rattle.rail_base.specs.Stations.{vehicle_at}
 use Rattle.rail_base.specs.declared.station.Station.{Station}
 use Rattle.rail_base.specs.declared.station.Node.{Node}
@@ -17,8 +17,10 @@ use Rattle.rail_base.specs.declared.station.Vehicle.{Vehicle}
 use Rattle.rail_base.specs.declared.station.Train.{Train}
 use Rattle.rail_base.specs.declared.station.Order.{Order}
 use Rattle.rail_base.specs.declared.station.Within.{Within}
+use Rattle.rail_base.specs.declared.station.Overlap.{Overlap}
 use Rattle.rail_base.specs.declared.station.NodeNo.{NodeNo}
-use Rattle.design_text.specs.Texts.{in_quotes, in_brackets, side_name, array_lines, number_line, visit_text, node_line, edge_line, signal_line, vehicle_line, train_line, order_line, within_line}
+use Rattle.rail_base.specs.declared.station.SectionNo.{SectionNo}
+use Rattle.design_text.specs.Texts.{in_quotes, in_brackets, side_name, array_lines, number_line, visit_text, sections_text, node_line, edge_line, signal_line, vehicle_line, train_line, order_line, within_line, overlap_line}
 use Rattle.design_text.proofs.ReadEntries.{Row, with_rows}
 use Rattle.design_text.proofs.Parts.{Part, with_parts}
 
@@ -120,6 +122,18 @@ module _ (d : Station) where
   abbrev pub within_table : Within → Data
   within_table w = table_of (name_row keys.FromTrain (train_name d w.from_train) ∷ within_more w)
 
+  abbrev pub section_value : SectionNo → Data
+  section_value z = string (section_name d z)
+
+  abbrev pub sections_row : List SectionNo → Row
+  sections_row sections = record { at = keys.Sections; text = sections_text d sections; holds = array_of section_value sections }
+
+  abbrev pub overlap_more : Overlap → List Row
+  overlap_more o = sections_row o.sections ∷ number_row keys.HoldMs o.hold_ms ∷ []
+
+  abbrev pub overlap_table : Overlap → Data
+  overlap_table o = table_of (name_row keys.Signal (signal_name d o.signal) ∷ overlap_more o)
+
   -- ---- the document
 
   abbrev pub first_part : Part
@@ -136,6 +150,7 @@ module _ (d : Station) where
       ∷ array_part keys.Train (train_line d) train_table d.trains
       ∷ array_part keys.Order (order_line d) order_table d.orders
       ∷ array_part keys.Within (within_line d) within_table d.withins
+      ∷ array_part keys.Overlap (overlap_line d) overlap_table d.overlaps
       ∷ []
 
   unfoldable pub document : Members

@@ -8,9 +8,9 @@ use Rattle.design_table.specs.declared.key.Key.TheVariants as keys
 use Rattle.design_table.specs.Keys.{key_text}
 use Rattle.design_table.specs.Forms.{is_name_byte, is_name_text}
 use Rattle.rail_base.specs.Members.{In}
-use Rattle.rail_base.specs.Names.{node_name, section_name, train_name}
+use Rattle.rail_base.specs.Names.{node_name, section_name, signal_name, train_name}
 use Rattle.rail_base.specs.Stations.{vehicle_at}
-use Rattle.rail_base.specs.Admission.{is_node, is_visit, is_good_set, is_admitted}
+use Rattle.rail_base.specs.Admission.{is_from, is_node, is_visit, is_good_set, is_admitted}
 use Rattle.rail_base.specs.declared.station.Station.{Station}
 use Rattle.rail_base.specs.declared.station.Node.{Node}
 use Rattle.rail_base.specs.declared.station.Edge.{Edge}
@@ -19,18 +19,20 @@ use Rattle.rail_base.specs.declared.station.Vehicle.{Vehicle}
 use Rattle.rail_base.specs.declared.station.Train.{Train}
 use Rattle.rail_base.specs.declared.station.Order.{Order}
 use Rattle.rail_base.specs.declared.station.Within.{Within}
+use Rattle.rail_base.specs.declared.station.Overlap.{Overlap}
 use Rattle.rail_base.specs.declared.station.NodeNo.{NodeNo}
+use Rattle.rail_base.specs.declared.station.SectionNo.{SectionNo}
 use Rattle.rail_base.specs.declared.station.TrainNo.{TrainNo}
 use Rattle.rail_base.specs.declared.station.Side.{Side}
 use Rattle.rail_base.specs.declared.station.Side.TheVariants.{A, B}
 use Rattle.rail_base.proofs.Members.{and_left, and_right, list_all_at}
 use Rattle.design_text.specs.Laws.{TextsAreShort}
-use Rattle.design_text.specs.Texts.{behind_comma, joined, in_quotes, in_brackets, side_name, field_text, entry_line, array_lines, number_line, visit_text, node_line, edge_line, signal_line, vehicle_line, train_line, order_line, within_line}
+use Rattle.design_text.specs.Texts.{behind_comma, joined, in_quotes, in_brackets, side_name, field_text, entry_line, array_lines, number_line, visit_text, sections_text, node_line, edge_line, signal_line, vehicle_line, train_line, order_line, within_line, overlap_line}
 use Rattle.design_text.proofs.ReadEntries.{Row, field_of_row}
 use Rattle.design_text.proofs.Parts.{Part, parts_text}
-use Rattle.design_text.proofs.Documents.{name_row, true_row, edge_more, signal_more, vehicle_more, visits_row, numbers_row, order_more, within_more, first_part, more_parts}
-use Rattle.design_text.proofs.Admitting.{ranged, are_all_names, node_names, edge_names, signal_names, vehicle_names, train_names, few, timed, named, edge_parts, vehicle_parts, train_parts, signal_parts, set_parts, order_parts, within_parts, good_edge, good_signal, good_vehicle, good_train, dwell_most, dwell_count, good_order, good_within}
-use Rattle.design_text.proofs.Spelling.{name_right, node_right, section_right, vehicle_right, train_right}
+use Rattle.design_text.proofs.Documents.{name_row, true_row, edge_more, signal_more, vehicle_more, visits_row, numbers_row, order_more, within_more, overlap_more, first_part, more_parts}
+use Rattle.design_text.proofs.Admitting.{ranged, are_all_names, node_names, edge_names, signal_names, vehicle_names, train_names, few, timed, named, edge_parts, vehicle_parts, train_parts, signal_parts, set_parts, order_parts, within_parts, overlap_parts, overlaps_most, is_section, good_edge, good_signal, good_vehicle, good_train, dwell_most, dwell_count, good_order, good_within, good_overlap}
+use Rattle.design_text.proofs.Spelling.{name_right, node_right, section_right, signal_right, vehicle_right, train_right}
 use Rattle.design_text.proofs.Returning.{visit_most, horizon_most}
 use Rattle.design_text.proofs.ReadTexts.{text_parts}
 
@@ -204,6 +206,21 @@ module _ (d : Station) (admitted : is_admitted d ≡ true) where
       let g = number_short x.max_ms 86400000 (leb-true x.max_ms 86400000 f.2) (omega arith) in
       omega (arith, whole, a, b, c, e, g)
 
+  sections_short : (sections : List SectionNo) → is_from 1 16 (length sections) ≡ true → list_all (is_section d) sections ≡ true → length (sections_text d sections) ≤ 578
+  sections_short sections few_of there =
+      let most = (ranged 1 16 (length sections) few_of).1 in
+      let row = row_short (λ z. in_quotes (section_name d z)) 34 sections (λ z i. name_short (section_name d z) (section_right d admitted z (list_all_at (is_section d) sections z there i))) in
+      omega (arith, most, row)
+
+  overlap_short : (x : Overlap) → In x d.overlaps → length (overlap_line d x) ≤ 700
+  overlap_short x m =
+      let f = overlap_parts d x (good_overlap d admitted x m) in
+      let whole = entry_length (name_row keys.Signal (signal_name d x.signal)) (overlap_more d x) in
+      let a = name_short (signal_name d x.signal) (signal_right d admitted x.signal f.0) in
+      let b = sections_short x.sections f.1 f.2 in
+      let c = number_short x.hold_ms 600000 (leb-true x.hold_ms 600000 f.3) (omega arith) in
+      omega (arith, whole, a, b, c)
+
 -- ---- the text
 
 line_length : (key : Key) (n most : ℕ) → n ≤ most → most < 100000000 → length (number_line key n) ≤ length (key_text key) + 12
@@ -238,6 +255,8 @@ texts_are_short d admitted =
     let a5 = array_short (train_line d) 37300 keys.Train d.trains (train_short d admitted) in
     let a6 = array_short (order_line d) 300 keys.Order d.orders (order_short d admitted) in
     let a7 = array_short (within_line d) 300 keys.Within d.withins (within_short d admitted) in
+    let a8 = array_short (overlap_line d) 700 keys.Overlap d.overlaps (overlap_short d admitted) in
+    let n8 = overlaps_most d admitted in
     let n1 = leb-true (length d.nodes) 2000 f.0 in
     let n2 = leb-true (length d.edges) 4000 f.1 in
     let n3 = leb-true (length d.signals) 1000 f.2 in
@@ -245,4 +264,4 @@ texts_are_short d admitted =
     let n6 = leb-true (length d.orders) 256 f.5 in
     let n7 = leb-true (length d.withins) 256 f.6 in
     let whole = ap length (text_parts d admitted) ∙ all_parts (first_part d ∷ more_parts d) in
-    omega (arith, whole, l1, l2, l3, a1, a2, a3, a4, a5, a6, a7, n1, n2, n3, n4, trains.1, n6, n7)
+    omega (arith, whole, l1, l2, l3, a1, a2, a3, a4, a5, a6, a7, a8, n1, n2, n3, n4, trains.1, n6, n7, n8)

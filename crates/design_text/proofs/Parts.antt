@@ -1,5 +1,5 @@
 -- Lines of a text that each define a key, or nothing.
-use Rattle.std.proofs.Common.{◌≡◌, ℕ, suc, ◌-◌, ◌<◌, Bool, true, false, not, ◌&&◌, ◌==◌, inl, inr, if◌then◌else◌, List, [], ◌∷◌, ◌++◌, length, Option, Some, None, option_map, refl, ap, ◌∙◌, subst, arith}
+use Rattle.std.proofs.Common.{◌≡◌, ℕ, suc, ◌-◌, ◌<◌, Bool, true, false, not, ◌&&◌, ◌||◌, is_none, ◌==◌, inl, inr, if◌then◌else◌, List, [], ◌∷◌, ◌++◌, length, Option, Some, None, option_map, refl, ap, ◌∙◌, subst, arith}
 use Rattle.std.proofs.lemmas.Bool.{cases_Bool, false≢true}
 use Rattle.std.proofs.lemmas.Bool.Decides.{nat_tests}
 use Rattle.std.specs.List.{list_all, flat_map}
@@ -163,14 +163,22 @@ found_in q ps = get_closed q (with_parts ps no_nodes) ∙ all_added q ps no_node
 
 -- ---- unknown keys
 
-unknown_after : (known : List Key) (ps : List Part) (ns : Nodes) → list_all (λ (p : Part). is_known known p.at) ps ≡ true → has_unknown known (close ns) ≡ false → has_unknown known (close (with_parts ps ns)) ≡ false
+-- the key is known, or has no value
+abbrev pub is_fit : List Key → Part → Bool
+is_fit known p = is_known known p.at || is_none p.holds
+
+unknown_after : (known : List Key) (ps : List Part) (ns : Nodes) → list_all (is_fit known) ps ≡ true → has_unknown known (close ns) ≡ false → has_unknown known (close (with_parts ps ns)) ≡ false
 unknown_after known [] ns all none = none
 unknown_after known (p ∷ ps) ns all none =
-    unknown_after known ps (added p.at p.holds ns) (and_right (is_known known p.at) (list_all (λ (p : Part). is_known known p.at) ps) all) (by_value p.holds)
+    unknown_after known ps (added p.at p.holds ns) (and_right (is_fit known p) (list_all (is_fit known) ps) all) (by_value p.holds (and_left (is_fit known p) (list_all (is_fit known) ps) all))
   where
-    by_value : (o : Option Data) → has_unknown known (close (added p.at o ns)) ≡ false
-    by_value None = none
-    by_value (Some d) = still_known known p.at (value d) ns (and_left (is_known known p.at) (list_all (λ (p : Part). is_known known p.at) ps) all) none
+    or_no : (b : Bool) → (b || false) ≡ true → b ≡ true
+    or_no true h = refl
+    or_no false h = h
 
-pub none_unknown : (known : List Key) (ps : List Part) → list_all (λ (p : Part). is_known known p.at) ps ≡ true → has_unknown known (close (with_parts ps no_nodes)) ≡ false
+    by_value : (o : Option Data) → (is_known known p.at || is_none o) ≡ true → has_unknown known (close (added p.at o ns)) ≡ false
+    by_value None fit = none
+    by_value (Some d) fit = still_known known p.at (value d) ns (or_no (is_known known p.at) fit) none
+
+pub none_unknown : (known : List Key) (ps : List Part) → list_all (is_fit known) ps ≡ true → has_unknown known (close (with_parts ps no_nodes)) ≡ false
 none_unknown known ps all = unknown_after known ps no_nodes all refl

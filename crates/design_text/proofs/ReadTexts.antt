@@ -33,27 +33,29 @@ use Rattle.rail_base.specs.declared.station.Vehicle.{Vehicle}
 use Rattle.rail_base.specs.declared.station.Train.{Train}
 use Rattle.rail_base.specs.declared.station.Order.{Order}
 use Rattle.rail_base.specs.declared.station.Within.{Within}
+use Rattle.rail_base.specs.declared.station.Overlap.{Overlap}
 use Rattle.rail_base.specs.declared.station.Side.{Side}
 use Rattle.rail_base.specs.declared.station.Side.TheVariants.{A, B}
 use Rattle.rail_base.proofs.Members.{list_all_at}
-use Rattle.design_text.specs.Texts.{array_lines, number_line, design_lines, design_text, node_line, edge_line, signal_line, vehicle_line, train_line, order_line, within_line}
+use Rattle.design_text.specs.Texts.{array_lines, number_line, design_lines, design_text, node_line, edge_line, signal_line, vehicle_line, train_line, order_line, within_line, overlap_line}
 use Rattle.design_text.proofs.Ascii.{ascii_none, ascii_name, ascii_quotes, ascii_brackets, ascii_number, ascii_array}
 use Rattle.design_text.proofs.Keys.{bare}
 use Rattle.design_text.proofs.ReadEntries.{Row, IsRead, AllRead, AllNew, field_of_row, LineIsRead, lines_then, entries_read, entry_read, entry_ascii}
 use Rattle.design_text.proofs.Parts.{Part, PartIsRead, TextIsRead, parts_text, document_read}
-use Rattle.design_text.proofs.Documents.{array_of, name_row, number_row, numbers_row, true_row, visits_row, table_of, node_value, node_more, dwell_more, edge_more, signal_more, vehicle_more, order_more, within_more, node_table, edge_table, signal_table, vehicle_table, train_table, order_table, within_table, number_part, array_part, first_part, more_parts, document}
+use Rattle.design_text.proofs.Documents.{array_of, name_row, number_row, numbers_row, true_row, visits_row, sections_row, table_of, node_value, section_value, node_more, dwell_more, edge_more, signal_more, vehicle_more, order_more, within_more, overlap_more, node_table, edge_table, signal_table, vehicle_table, train_table, order_table, within_table, overlap_table, number_part, array_part, first_part, more_parts, document}
 use Rattle.design_text.proofs.Values.{name_is_text, array_is_text, array_depth, array_dates, name_is_read, number_is_read, numbers_are_read, true_is_read}
-use Rattle.design_text.proofs.Admitting.{ranged, are_all_names, node_names, edge_names, signal_names, vehicle_names, train_names, timed, named, edge_parts, vehicle_parts, train_parts, signal_parts, set_parts, order_parts, within_parts, good_edge, good_signal, good_vehicle, good_train, dwell_most, good_order, good_within}
-use Rattle.design_text.proofs.Spelling.{name_right, node_right, section_right, vehicle_right, train_right}
+use Rattle.design_text.proofs.Admitting.{ranged, are_all_names, node_names, edge_names, signal_names, vehicle_names, train_names, timed, named, edge_parts, vehicle_parts, train_parts, signal_parts, set_parts, order_parts, within_parts, overlap_parts, is_section, good_edge, good_signal, good_vehicle, good_train, dwell_most, good_order, good_within, good_overlap}
+use Rattle.design_text.proofs.Spelling.{name_right, node_right, section_right, signal_right, vehicle_right, train_right}
 use Rattle.design_text.proofs.Returning.{visit_most, horizon_most}
 use Rattle.infra_reader.proofs.Spelling.{same_name}
 use Rattle.std.proofs.lemmas.Str.{IsAscii-append}
 use Rattle.std.proofs.Common.{if◌then◌else◌, nat_le}
 use Rattle.design_table.specs.Forms.{is_name_text}
-use Rattle.rail_base.specs.Names.{section_name, train_name}
+use Rattle.rail_base.specs.Names.{section_name, signal_name, train_name}
 use Rattle.rail_base.specs.Stations.{vehicle_at}
 use Rattle.rail_base.specs.Admission.{is_from, is_visit}
 use Rattle.rail_base.specs.declared.station.NodeNo.{NodeNo}
+use Rattle.rail_base.specs.declared.station.SectionNo.{SectionNo}
 use Rattle.rail_base.specs.declared.station.TrainNo.{TrainNo}
 use Rattle.design_text.specs.Texts.{entry_line, in_quotes, in_brackets, side_name, visit_text}
 
@@ -239,6 +241,25 @@ module _ (d : Station) (admitted : is_admitted d ≡ true) where
       )
       (refl, (refl, (refl, (refl, (refl, tt)))))
 
+  sections_are_read : (sections : List SectionNo) → list_all (is_section d) sections ≡ true → IsRead 78 (sections_row d sections)
+  sections_are_read sections h =
+      let there : (z : SectionNo) → In z sections → is_name_text (section_name d z) ≡ true = λ z i. section_right d admitted z (list_all_at (is_section d) sections z h i) in
+      let deep = array_depth (section_value d) sections 0 (λ z. omega arith) in
+      record {
+        is_text = array_is_text (λ z. in_quotes (section_name d z)) (section_value d) sections (λ z i. name_is_text (section_name d z) (there z i));
+        shallow = omega arith;
+        valid = array_dates (section_value d) sections (λ z. refl);
+        ascii = ascii_brackets (λ z. in_quotes (section_name d z)) sections (λ z i. ascii_quotes (section_name d z) (ascii_name (section_name d z) (sym (same_name (section_name d z)) ∙ there z i)));
+      }
+
+  overlap_good : (x : Overlap) → In x d.overlaps → GoodLine (overlap_line d x) (overlap_table d x)
+  overlap_good x m =
+      let f = overlap_parts d x (good_overlap d admitted x m) in
+      good_entry (name_row keys.Signal (signal_name d x.signal)) (overlap_more d x)
+      (named_row keys.Signal (signal_name d x.signal) (signal_right d admitted x.signal f.0))
+      (sections_are_read x.sections f.2, (number_is_read 78 keys.HoldMs x.hold_ms (tiny x.hold_ms 600000 (leb-true x.hold_ms 600000 f.3) (omega arith)), tt))
+      (refl, (refl, (refl, tt)))
+
 -- ---- the document
 
 -- a part is read, and is ASCII
@@ -266,16 +287,17 @@ array_good key line holds [] good = (refl, ascii_none)
 array_good key line holds (x ∷ xs) good = (array_text_read key line holds x xs (λ y m. (good y m).0), ascii_array line key (x ∷ xs) (λ y m. (good y m).1))
 
 -- the text in parts
-seven_joined : (x y z : List ℕ) (a b c d e f g : List (List ℕ))
-    → concat ((x ∷ y ∷ z ∷ a) ++ (b ++ (c ++ (d ++ (e ++ (f ++ g)))))) ≡ x ++ (y ++ (z ++ (concat a ++ (concat b ++ (concat c ++ (concat d ++ (concat e ++ (concat f ++ (concat g ++ [])))))))))
-seven_joined x y z a b c d e f g =
-    ap (λ t. x ++ (y ++ (z ++ t))) (concat-append a (b ++ (c ++ (d ++ (e ++ (f ++ g)))))
-    ∙ ap (λ t. concat a ++ t) (concat-append b (c ++ (d ++ (e ++ (f ++ g))))
-    ∙ ap (λ t. concat b ++ t) (concat-append c (d ++ (e ++ (f ++ g)))
-    ∙ ap (λ t. concat c ++ t) (concat-append d (e ++ (f ++ g))
-    ∙ ap (λ t. concat d ++ t) (concat-append e (f ++ g)
-    ∙ ap (λ t. concat e ++ t) (concat-append f g
-    ∙ ap (λ t. concat f ++ t) (sym (append-nil (concat g)))))))))
+all_joined : (x y z : List ℕ) (a b c d e f g h : List (List ℕ))
+    → concat ((x ∷ y ∷ z ∷ a) ++ (b ++ (c ++ (d ++ (e ++ (f ++ (g ++ h))))))) ≡ x ++ (y ++ (z ++ (concat a ++ (concat b ++ (concat c ++ (concat d ++ (concat e ++ (concat f ++ (concat g ++ (concat h ++ []))))))))))
+all_joined x y z a b c d e f g h =
+    ap (λ t. x ++ (y ++ (z ++ t))) (concat-append a (b ++ (c ++ (d ++ (e ++ (f ++ (g ++ h))))))
+    ∙ ap (λ t. concat a ++ t) (concat-append b (c ++ (d ++ (e ++ (f ++ (g ++ h)))))
+    ∙ ap (λ t. concat b ++ t) (concat-append c (d ++ (e ++ (f ++ (g ++ h))))
+    ∙ ap (λ t. concat c ++ t) (concat-append d (e ++ (f ++ (g ++ h)))
+    ∙ ap (λ t. concat d ++ t) (concat-append e (f ++ (g ++ h))
+    ∙ ap (λ t. concat e ++ t) (concat-append f (g ++ h)
+    ∙ ap (λ t. concat f ++ t) (concat-append g h
+    ∙ ap (λ t. concat g ++ t) (sym (append-nil (concat h))))))))))
 
 module _ (d : Station) (admitted : is_admitted d ≡ true) where
   all_good : GoodParts (first_part d ∷ more_parts d)
@@ -299,7 +321,10 @@ module _ (d : Station) (admitted : is_admitted d ≡ true) where
                       array_good keys.Train (train_line d) (train_table d) d.trains (train_good d admitted),
                       (
                         array_good keys.Order (order_line d) (order_table d) d.orders (order_good d admitted),
-                        (array_good keys.Within (within_line d) (within_table d) d.withins (within_good d admitted), tt),
+                        (
+                          array_good keys.Within (within_line d) (within_table d) d.withins (within_good d admitted),
+                          (array_good keys.Overlap (overlap_line d) (overlap_table d) d.overlaps (overlap_good d admitted), tt),
+                        ),
                       ),
                     ),
                   ),
@@ -313,9 +338,9 @@ module _ (d : Station) (admitted : is_admitted d ≡ true) where
   pub text_parts : design_text d ≡ parts_text (first_part d ∷ more_parts d)
   unfolding design_lines
   text_parts =
-      seven_joined (number_line keys.Version d.version) (number_line keys.TickMs d.tick_ms) (number_line keys.HorizonMs d.horizon_ms)
+      all_joined (number_line keys.Version d.version) (number_line keys.TickMs d.tick_ms) (number_line keys.HorizonMs d.horizon_ms)
       (array_lines keys.Node (map node_line d.nodes)) (array_lines keys.Edge (map (edge_line d) d.edges)) (array_lines keys.Signal (map (signal_line d) d.signals))
-      (array_lines keys.Vehicle (map vehicle_line d.vehicles)) (array_lines keys.Train (map (train_line d) d.trains)) (array_lines keys.Order (map (order_line d) d.orders)) (array_lines keys.Within (map (within_line d) d.withins))
+      (array_lines keys.Vehicle (map vehicle_line d.vehicles)) (array_lines keys.Train (map (train_line d) d.trains)) (array_lines keys.Order (map (order_line d) d.orders)) (array_lines keys.Within (map (within_line d) d.withins)) (array_lines keys.Overlap (map (overlap_line d) d.overlaps))
 
   pub text_read : toml_of (design_text d) ≡ Some (document d)
   unfolding document

@@ -1,6 +1,7 @@
 -- The station of the sheet of an admitted design is the design.
 use Rattle.std.proofs.Common.{◌≡◌, ℕ, ◌≤◌, ◌<◌, pos, Bool, true, nat_le, nat_lt, ◌*◌, ◌/◌, false, if◌then◌else◌, List, [], ◌∷◌, length, map, refl, sym, ap, ap₂, ◌∙◌, arith, inl, inr, leb-true}
 use Rattle.std.proofs.Math.Nat.{mul-le-mul}
+use Rattle.std.specs.List.{list_all}
 use Rattle.rail_base.specs.declared.station.Station.{Station}
 use Rattle.rail_base.specs.declared.station.Node.{Node}
 use Rattle.rail_base.specs.declared.station.Edge.{Edge}
@@ -10,25 +11,27 @@ use Rattle.rail_base.specs.declared.station.Vehicle.{Vehicle}
 use Rattle.rail_base.specs.declared.station.Train.{Train}
 use Rattle.rail_base.specs.declared.station.Order.{Order}
 use Rattle.rail_base.specs.declared.station.Within.{Within}
+use Rattle.rail_base.specs.declared.station.Overlap.{Overlap}
 use Rattle.rail_base.specs.declared.station.NodeNo.{NodeNo}
 use Rattle.rail_base.specs.declared.station.SectionNo.{SectionNo}
+use Rattle.rail_base.specs.declared.station.SignalNo.{SignalNo}
 use Rattle.rail_base.specs.declared.station.TrainNo.{TrainNo}
 use Rattle.rail_base.specs.declared.station.VehicleNo.{VehicleNo}
 use Rattle.rail_base.specs.declared.station.Side.{Side}
 use Rattle.rail_base.specs.declared.station.Side.TheVariants.{A, B}
 use Rattle.rail_base.specs.Members.{In}
-use Rattle.rail_base.specs.Stations.{no_train, train_of, horizon, longest_dwell, IsNode, IsVehicle, IsTrain}
+use Rattle.rail_base.specs.Stations.{no_train, train_of, horizon, longest_dwell, IsNode, IsSignal, IsVehicle, IsTrain}
 use Rattle.rail_base.specs.Admitted.{Ranges}
 use Rattle.rail_base.specs.Admission.{is_node, is_visit, is_good_set, is_admitted}
 use Rattle.rail_base.proofs.Members.{map-map, list_all_at}
 use Rattle.rail_base.proofs.Lists.{in_entry, length-map}
-use Rattle.design_table.specs.Parsed.{ParsedNode, ParsedEdge, ParsedVehicle, ParsedTrain}
+use Rattle.design_table.specs.Parsed.{ParsedNode, ParsedEdge, ParsedSignal, ParsedVehicle, ParsedTrain}
 use Rattle.infra_reader.specs.Names.{Names, names_of, number_in, each_once}
-use Rattle.infra_reader.specs.Stations.{number_32, side_of, end_in, node_in, edge_in, signal_in, vehicle_in, nodes_in, dwells_in, train_in, order_in, within_in, station_in, station_of}
+use Rattle.infra_reader.specs.Stations.{number_32, side_of, end_in, node_in, edge_in, signal_in, vehicle_in, nodes_in, dwells_in, train_in, order_in, within_in, sections_in, overlap_in, station_in, station_of}
 use Rattle.design_text.proofs.Distinct.{number_of, number_of_entry}
 use Rattle.design_text.proofs.Sections.{once}
-use Rattle.design_text.proofs.Sheets.{parsed_side, parsed_dwells, node_named, section_named, vehicle_named, train_named, parsed_node, parsed_edge, parsed_signal, parsed_vehicle, parsed_train, parsed_order, parsed_within, sheet}
-use Rattle.design_text.proofs.Admitting.{edge_parts, vehicle_parts, train_parts, signal_parts, set_parts, visit_parts, order_parts, within_parts, ranged, are_distinct, node_names, vehicle_names, train_names, timed, named, good_edge, sections_numbered, good_signal, good_vehicle, good_train, dwell_within, dwell_most, dwell_count, good_order, good_within}
+use Rattle.design_text.proofs.Sheets.{parsed_side, parsed_dwells, node_named, section_named, signal_named, vehicle_named, train_named, parsed_node, parsed_edge, parsed_signal, parsed_vehicle, parsed_train, parsed_order, parsed_within, parsed_overlap, sheet}
+use Rattle.design_text.proofs.Admitting.{edge_parts, vehicle_parts, train_parts, signal_parts, set_parts, visit_parts, order_parts, within_parts, overlap_parts, is_section, ranged, are_distinct, node_names, signal_names, vehicle_names, train_names, timed, named, good_edge, sections_numbered, good_signal, good_vehicle, good_train, dwell_within, dwell_most, dwell_count, good_order, good_within, good_overlap}
 
 -- ---- what is made and made back
 
@@ -60,8 +63,9 @@ all_zero (v ∷ vs) (n ∷ ns) same none = let most = none n (inl refl) in let h
 
 -- ---- records whose parts are the same
 
-same_names : (n1 n2 s1 s2 v1 v2 t1 t2 : List (List ℕ)) → n1 ≡ n2 → s1 ≡ s2 → v1 ≡ v2 → t1 ≡ t2 → let made : Names = record { nodes = n1; sections = s1; vehicles = v1; trains = t1 } in made ≡ record { nodes = n2; sections = s2; vehicles = v2; trains = t2 }
-same_names n1 n2 s1 s2 v1 v2 t1 t2 n s v t = rw (n, s, v, t) refl
+same_names : (n1 n2 s1 s2 q1 q2 v1 v2 t1 t2 : List (List ℕ)) → n1 ≡ n2 → s1 ≡ s2 → q1 ≡ q2 → v1 ≡ v2 → t1 ≡ t2
+    → let made : Names = record { nodes = n1; sections = s1; signals = q1; vehicles = v1; trains = t1 } in made ≡ record { nodes = n2; sections = s2; signals = q2; vehicles = v2; trains = t2 }
+same_names n1 n2 s1 s2 q1 q2 v1 v2 t1 t2 n s q v t = rw (n, s, q, v, t) refl
 
 same_edge : (name : List ℕ) (f1 f2 t1 t2 : End) (l1 l2 s1 s2 z1 z2 : ℕ) → f1 ≡ f2 → t1 ≡ t2 → l1 ≡ l2 → s1 ≡ s2 → z1 ≡ z2
     → let made : Edge = record { name = name; from = f1; to = t1; length_mm = l1; speed_mm_s = s1; section = record { 0 = z1 } } in made ≡ record { name = name; from = f2; to = t2; length_mm = l2; speed_mm_s = s2; section = record { 0 = z2 } }
@@ -83,14 +87,18 @@ same_within : (f1 f2 v1 v2 t1 t2 w1 w2 m1 m2 : ℕ) → f1 ≡ f2 → v1 ≡ v2 
     → let made : Within = record { from_train = record { 0 = f1 }; from_visit = v1; to_train = record { 0 = t1 }; to_visit = w1; max_ms = m1 } in made ≡ record { from_train = record { 0 = f2 }; from_visit = v2; to_train = record { 0 = t2 }; to_visit = w2; max_ms = m2 }
 same_within f1 f2 v1 v2 t1 t2 w1 w2 m1 m2 f v t w m = rw (f, v, t, w, m) refl
 
-same_station : (sections : List (List ℕ)) (a1 a2 b1 b2 c1 c2 : ℕ) (n1 n2 : List Node) (e1 e2 : List Edge) (s1 s2 : List Signal) (v1 v2 : List Vehicle) (t1 t2 : List Train) (o1 o2 : List Order) (w1 w2 : List Within)
-    → a1 ≡ a2 → b1 ≡ b2 → c1 ≡ c2 → n1 ≡ n2 → e1 ≡ e2 → s1 ≡ s2 → v1 ≡ v2 → t1 ≡ t2 → o1 ≡ o2 → w1 ≡ w2
-    → let made : Station = record { version = a1; tick_ms = b1; horizon_ms = c1; nodes = n1; edges = e1; sections = sections; signals = s1; vehicles = v1; trains = t1; orders = o1; withins = w1 } in made ≡ record { version = a2; tick_ms = b2; horizon_ms = c2; nodes = n2; edges = e2; sections = sections; signals = s2; vehicles = v2; trains = t2; orders = o2; withins = w2 }
-same_station sections a1 a2 b1 b2 c1 c2 n1 n2 e1 e2 s1 s2 v1 v2 t1 t2 o1 o2 w1 w2 a b c n e s v t o w = rw (a, b, c, n, e, s, v, t, o, w) refl
+same_overlap : (s1 s2 : ℕ) (z1 z2 : List SectionNo) (h1 h2 : ℕ) → s1 ≡ s2 → z1 ≡ z2 → h1 ≡ h2
+    → let made : Overlap = record { signal = record { 0 = s1 }; sections = z1; hold_ms = h1 } in made ≡ record { signal = record { 0 = s2 }; sections = z2; hold_ms = h2 }
+same_overlap s1 s2 z1 z2 h1 h2 s z h = rw (s, z, h) refl
+
+same_station : (sections : List (List ℕ)) (a1 a2 b1 b2 c1 c2 : ℕ) (n1 n2 : List Node) (e1 e2 : List Edge) (s1 s2 : List Signal) (v1 v2 : List Vehicle) (t1 t2 : List Train) (o1 o2 : List Order) (w1 w2 : List Within) (l1 l2 : List Overlap)
+    → a1 ≡ a2 → b1 ≡ b2 → c1 ≡ c2 → n1 ≡ n2 → e1 ≡ e2 → s1 ≡ s2 → v1 ≡ v2 → t1 ≡ t2 → o1 ≡ o2 → w1 ≡ w2 → l1 ≡ l2
+    → let made : Station = record { version = a1; tick_ms = b1; horizon_ms = c1; nodes = n1; edges = e1; sections = sections; signals = s1; vehicles = v1; trains = t1; orders = o1; withins = w1; overlaps = l1 } in made ≡ record { version = a2; tick_ms = b2; horizon_ms = c2; nodes = n2; edges = e2; sections = sections; signals = s2; vehicles = v2; trains = t2; orders = o2; withins = w2; overlaps = l2 }
+same_station sections a1 a2 b1 b2 c1 c2 n1 n2 e1 e2 s1 s2 v1 v2 t1 t2 o1 o2 w1 w2 l1 l2 a b c n e s v t o w l = rw (a, b, c, n, e, s, v, t, o, w, l) refl
 
 module _ (d : Station) (admitted : is_admitted d ≡ true) where
   abbrev pub own_names : Names
-  own_names = record { nodes = node_names d; sections = d.sections; vehicles = vehicle_names d; trains = train_names d }
+  own_names = record { nodes = node_names d; sections = d.sections; signals = signal_names d; vehicles = vehicle_names d; trains = train_names d }
 
   -- ---- numbers of names
 
@@ -99,6 +107,9 @@ module _ (d : Station) (admitted : is_admitted d ≡ true) where
 
   section_number : (z : SectionNo) → Ranges 1 (length d.sections) z.0 → number_in d.sections (section_named d z) ≡ z.0
   section_number z is = number_of d.sections z.0 (are_distinct d.sections (named d admitted).2) is.0 is.1
+
+  pub signal_number : (s : SignalNo) → IsSignal d s → number_in (signal_names d) (signal_named d s) ≡ s.0
+  signal_number s is = number_of_entry (λ (s : Signal). s.name) (record { name = []; node = record { 0 = 0 }; toward = A }) d.signals refl s.0 is.0 is.1 (are_distinct (signal_names d) (named d admitted).3)
 
   vehicle_number : (v : VehicleNo) → IsVehicle d v → number_in (vehicle_names d) (vehicle_named d v) ≡ v.0
   vehicle_number v is = number_of_entry (λ (v : Vehicle). v.name) (record { name = []; length_mm = 0; accel_mm_s2 = 0; brake_mm_s2 = 0; speed_mm_s = 0 }) d.vehicles refl v.0 is.0 is.1 (are_distinct (vehicle_names d) (named d admitted).4)
@@ -118,9 +129,10 @@ module _ (d : Station) (admitted : is_admitted d ≡ true) where
   names_are =
       same_names (map (λ (n : ParsedNode). n.name) (map (parsed_node d) d.nodes)) (node_names d)
       (each_once (map (λ (e : ParsedEdge). e.section) (map (parsed_edge d) d.edges))) d.sections
+      (map (λ (s : ParsedSignal). s.name) (map (parsed_signal d) d.signals)) (signal_names d)
       (map (λ (v : ParsedVehicle). v.name) (map (parsed_vehicle d) d.vehicles)) (vehicle_names d)
       (map (λ (t : ParsedTrain). t.name) (map (parsed_train d) d.trains)) (train_names d)
-      (map-map (λ (n : ParsedNode). n.name) (parsed_node d) d.nodes) sections_are
+      (map-map (λ (n : ParsedNode). n.name) (parsed_node d) d.nodes) sections_are (map-map (λ (s : ParsedSignal). s.name) (parsed_signal d) d.signals)
       (map-map (λ (v : ParsedVehicle). v.name) (parsed_vehicle d) d.vehicles) (map-map (λ (t : ParsedTrain). t.name) (parsed_train d) d.trains)
 
   -- ---- entries
@@ -212,6 +224,17 @@ module _ (d : Station) (admitted : is_admitted d ≡ true) where
       same_within (number_in (train_names d) (train_named d w.from_train)) w.from_train.0 (number_32 (pos w.from_visit)) w.from_visit (number_in (train_names d) (train_named d w.to_train)) w.to_train.0 (number_32 (pos w.to_visit)) w.to_visit (number_32 (pos w.max_ms)) w.max_ms
       (visit_train w.from_train w.from_visit f.0) (visit_small w.from_train w.from_visit f.0) (visit_train w.to_train w.to_visit f.1) (visit_small w.to_train w.to_visit f.1) (small w.max_ms 86400000 (leb-true w.max_ms 86400000 f.2) (omega arith))
 
+  sections_back : (sections : List SectionNo) → list_all (is_section d) sections ≡ true → sections_in d.sections (map (section_named d) sections) ≡ sections
+  sections_back sections there =
+      made_back (section_named d) (λ name. record { 0 = number_in d.sections name }) sections
+      (λ z m. ap (λ k. record { 0 = k }) (section_number z (ranged 1 (length d.sections) z.0 (list_all_at (is_section d) sections z there m))))
+
+  overlap_back : (o : Overlap) → In o d.overlaps → overlap_in own_names (parsed_overlap d o) ≡ o
+  overlap_back o m =
+      let f = overlap_parts d o (good_overlap d admitted o m) in
+      same_overlap (number_in (signal_names d) (signal_named d o.signal)) o.signal.0 (sections_in d.sections (map (section_named d) o.sections)) o.sections (number_32 (pos o.hold_ms)) o.hold_ms
+      (signal_number o.signal (ranged 1 (length d.signals) o.signal.0 f.0)) (sections_back o.sections f.2) (small o.hold_ms 600000 (leb-true o.hold_ms 600000 f.3) (omega arith))
+
   -- ---- the station
 
   version_small : number_32 (pos d.version) ≡ d.version
@@ -246,6 +269,7 @@ module _ (d : Station) (admitted : is_admitted d ≡ true) where
       (map (train_in own_names) (map (parsed_train d) d.trains)) d.trains
       (map (order_in own_names) (map (parsed_order d) d.orders)) d.orders
       (map (within_in own_names) (map (parsed_within d) d.withins)) d.withins
+      (map (overlap_in own_names) (map (parsed_overlap d) d.overlaps)) d.overlaps
       version_small tick_small horizon_small
       (made_back (parsed_node d) (node_in own_names) d.nodes (λ n m. refl))
       (made_back (parsed_edge d) (edge_in own_names) d.edges edge_back)
@@ -254,6 +278,7 @@ module _ (d : Station) (admitted : is_admitted d ≡ true) where
       (made_back (parsed_train d) (train_in own_names) d.trains train_back)
       (made_back (parsed_order d) (order_in own_names) d.orders order_back)
       (made_back (parsed_within d) (within_in own_names) d.withins within_back)
+      (made_back (parsed_overlap d) (overlap_in own_names) d.overlaps overlap_back)
 
   pub station_is : station_of (sheet d) ≡ d
   station_is = ap (λ names. station_in names (sheet d)) names_are ∙ own_station

@@ -1,5 +1,5 @@
 -- No rule refuses the sheet of an admitted design.
-use Rattle.std.proofs.Common.{◌≡◌, ℕ, inl, inr, eqb-true, suc, ◌+◌, ◌-◌, ◌/◌, ◌≤◌, ◌<◌, pos, Bool, true, false, not, ◌&&◌, ◌||◌, ◌==◌, nat_le, List, [], ◌∷◌, ◌++◌, length, take, get_or, map, bytes_eq, refl, sym, ap, ap₂, subst, ◌∙◌, arith, leb-true}
+use Rattle.std.proofs.Common.{◌≡◌, ℕ, inl, inr, eqb-true, suc, ◌+◌, ◌-◌, ◌/◌, ◌≤◌, ◌<◌, pos, Bool, true, false, not, ◌&&◌, ◌||◌, ◌==◌, nat_le, List, [], ◌∷◌, ◌++◌, length, take, get_or, map, bytes_eq, refl, sym, ap, ap₂, subst, ◌∙◌, arith, leb-true, le-leb, eq-eqb}
 use Rattle.std.specs.Ordering.{int_eq}
 use Rattle.std.specs.List.{list_any, list_all}
 use Rattle.design_table.specs.declared.key.Key.{Key}
@@ -9,7 +9,7 @@ use Rattle.design_table.specs.declared.place.EntryKind.TheVariants as kinds
 use Rattle.design_table.specs.declared.place.Place.{Place}
 use Rattle.design_table.specs.declared.place.Place.TheVariants.{Top, Entry, Field}
 use Rattle.design_table.specs.Reads.{at, in_each}
-use Rattle.design_table.specs.Parsed.{ParsedNode, ParsedEdge, ParsedSignal, ParsedVehicle, ParsedTrain}
+use Rattle.design_table.specs.Parsed.{ParsedNode, ParsedEdge, ParsedSignal, ParsedVehicle, ParsedTrain, ParsedOverlap}
 use Rattle.rail_base.specs.declared.station.Station.{Station}
 use Rattle.rail_base.specs.declared.station.Node.{Node}
 use Rattle.rail_base.specs.declared.station.Edge.{Edge}
@@ -18,7 +18,10 @@ use Rattle.rail_base.specs.declared.station.Vehicle.{Vehicle}
 use Rattle.rail_base.specs.declared.station.Train.{Train}
 use Rattle.rail_base.specs.declared.station.Order.{Order}
 use Rattle.rail_base.specs.declared.station.Within.{Within}
+use Rattle.rail_base.specs.declared.station.Overlap.{Overlap}
 use Rattle.rail_base.specs.declared.station.NodeNo.{NodeNo}
+use Rattle.rail_base.specs.declared.station.SectionNo.{SectionNo}
+use Rattle.rail_base.specs.declared.station.SignalNo.{SignalNo}
 use Rattle.rail_base.specs.declared.station.VehicleNo.{VehicleNo}
 use Rattle.rail_base.specs.declared.station.TrainNo.{TrainNo}
 use Rattle.rail_base.specs.declared.station.Side.TheVariants.{A, B}
@@ -30,19 +33,20 @@ use Rattle.rail_base.specs.Admission.{is_from, is_node, is_vehicle, is_visit, is
 use Rattle.rail_base.proofs.Members.{and_left, and_right, and_both, map-map, list_all_at, is_false, false_unless}
 use Rattle.rail_base.proofs.Lists.{list_all_from, in_map_back, length-map}
 use Rattle.rail_base.proofs.Contained.{in_at}
-use Rattle.infra_reader.specs.Names.{Names, is_among, repeated, repeated_names}
-use Rattle.infra_reader.specs.Unknown.{unless_among, edge_unknown, signal_unknown, train_unknown, order_unknown, within_unknown, track_unknown, traffic_unknown, unknown_names}
-use Rattle.infra_reader.specs.Limits.{Limit, limit, is_kept, limits_outside, unless_from, count_outside, array_outside, edge_outside, vehicle_outside, are_few_visits, are_good_dwells as are_dwells, train_outside, within_outside, is_horizon, times_outside, track_outside, traffic_outside, out_of_range}
+use Rattle.std.proofs.lemmas.Slice.Eq.{bytes_eq-Decides}
+use Rattle.infra_reader.specs.Names.{Names, is_among, number_in, repeated, is_second, overlaps_repeated, repeated_names}
+use Rattle.infra_reader.specs.Unknown.{unless_among, edge_unknown, signal_unknown, train_unknown, order_unknown, within_unknown, overlap_unknown, track_unknown, traffic_unknown, unknown_names}
+use Rattle.infra_reader.specs.Limits.{Limit, limit, is_kept, limits_outside, unless_from, count_outside, array_outside, edge_outside, vehicle_outside, are_few_visits, are_good_dwells as are_dwells, train_outside, within_outside, overlap_limits, overlap_outside, is_horizon, times_outside, track_outside, traffic_outside, out_of_range}
 use Rattle.infra_reader.specs.Track.{ends_at, is_crowded, is_loop, is_open, is_beside, is_misplaced, crowded, open_boundaries, misplaced_signals}
 use Rattle.infra_reader.specs.Traffic.{if_zero, vehicle_zeros, zeros, can_enter, inner_starts, unless_visit, order_missing, within_missing, missing_visits}
 use Rattle.infra_reader.proofs.Apart.{names_apart, any_turned}
 use Rattle.infra_reader.proofs.EndCounts.{leave_count}
 use Rattle.design_text.proofs.Splitting.{neither}
 use Rattle.design_text.proofs.Nowhere.{unmet, met, nothing, nowhere, nowhere_made, nowhere_at}
-use Rattle.design_text.proofs.Distinct.{none_before, among_entries}
-use Rattle.design_text.proofs.Sheets.{parsed_dwells, node_named, vehicle_named, train_named, parsed_node, parsed_edge, parsed_signal, parsed_vehicle, parsed_train, parsed_order, parsed_within, sheet}
-use Rattle.design_text.proofs.Admitting.{ranged, are_distinct, node_names, edge_names, signal_names, vehicle_names, train_names, few, timed, named, node_parts, edge_parts, signal_parts, vehicle_parts, train_parts, dwell_parts, set_parts, visit_parts, order_parts, within_parts, good_node, good_edge, good_signal, signals_apart, good_vehicle, good_train, dwell_most, dwell_count, good_order, good_within}
-use Rattle.design_text.proofs.Returning.{own_names, names_are}
+use Rattle.design_text.proofs.Distinct.{none_before, among, among_entries}
+use Rattle.design_text.proofs.Sheets.{parsed_dwells, node_named, section_named, signal_named, vehicle_named, train_named, parsed_node, parsed_edge, parsed_signal, parsed_vehicle, parsed_train, parsed_order, parsed_within, parsed_overlap, sheet}
+use Rattle.design_text.proofs.Admitting.{ranged, are_distinct, node_names, edge_names, signal_names, vehicle_names, train_names, few, timed, named, node_parts, edge_parts, signal_parts, vehicle_parts, train_parts, dwell_parts, set_parts, visit_parts, order_parts, within_parts, overlap_parts, is_section, overlaps_differ, overlaps_apart, overlaps_most, good_node, good_edge, good_signal, signals_apart, good_vehicle, good_train, dwell_most, dwell_count, good_order, good_within, good_overlap}
+use Rattle.design_text.proofs.Returning.{own_names, names_are, signal_number}
 
 -- ---- many parts that have no place
 
@@ -54,6 +58,9 @@ four_nothing a b c d p q r s = rw (p, q, r, s) refl
 
 five_nothing : (a b c d e : List Place) → a ≡ [] → b ≡ [] → c ≡ [] → d ≡ [] → e ≡ [] → a ++ (b ++ (c ++ (d ++ e))) ≡ []
 five_nothing a b c d e p q r s t = rw (p, q, r, s, t) refl
+
+six_nothing : (a b c d e f : List Place) → a ≡ [] → b ≡ [] → c ≡ [] → d ≡ [] → e ≡ [] → f ≡ [] → a ++ (b ++ (c ++ (d ++ (e ++ f)))) ≡ []
+six_nothing a b c d e f p q r s t u = rw (p, q, r, s, t, u) refl
 
 -- ---- names that stand once, names that are there, and numbers in range
 
@@ -69,6 +76,18 @@ no_repeat kind names h = nowhere_at (λ i name. at (is_among (take (i - 1) names
 
 no_repeat_made : {X Y : Type 0} (kind : EntryKind) (make : X → Y) (name : Y → List ℕ) (xs : List X) → all_pairs names_apart (map (λ x. name (make x)) xs) ≡ true → repeated kind (map name (map make xs)) ≡ []
 no_repeat_made kind make name xs h = no_repeat kind (map name (map make xs)) (subst (λ names. all_pairs names_apart names ≡ true) (sym (map-map name make xs)) h)
+
+-- no signal has two overlaps
+no_second : (signals names : List (List ℕ)) → all_pairs names_apart names ≡ true → overlaps_repeated signals names ≡ []
+unfolding overlaps_repeated
+no_second signals names h = nowhere_at (λ i name. at (is_second signals names i name) (Field kinds.Overlap i keys.Signal)) 1 names [] once
+  where
+    once : (k : ℕ) → k < length names → at (is_second signals names (1 + k) (get_or names k [])) (Field kinds.Overlap (1 + k) keys.Signal) ≡ []
+    once k l =
+        let back : k ≡ 1 + k - 1 = omega arith in
+        let name = get_or names k [] in
+        unmet (is_second signals names (1 + k) name) (Field kinds.Overlap (1 + k) keys.Signal)
+        (ap (λ b. b && is_among signals name) (subst (λ n. is_among (take n names) name ≡ false) back (sym (any_turned name (take k names)) ∙ none_before bytes_eq names k [] h l)))
 
 known : (names : List (List ℕ)) (name : List ℕ) (place : Place) → is_among names name ≡ true → unless_among names name place ≡ []
 unfolding unless_among
@@ -128,20 +147,55 @@ some_time : (h t : ℕ) → 1 ≤ h / t → nat_le 1 h ≡ true
 some_time h t l = grind arith
 
 module _ (d : Station) (admitted : is_admitted d ≡ true) where
+  -- ---- signals of overlaps
+
+  abbrev overlap_name : Overlap → List ℕ
+  overlap_name o = signal_named d o.signal
+
+  one_apart : (o p : Overlap) → In o d.overlaps → In p d.overlaps → overlaps_differ o p ≡ true → names_apart (overlap_name o) (overlap_name p) ≡ true
+  one_apart o p m k h = go (bytes_eq (overlap_name o) (overlap_name p)) refl
+    where
+      number : (o : Overlap) → In o d.overlaps → number_in (signal_names d) (overlap_name o) ≡ o.signal.0
+      number o m = signal_number d admitted o.signal (ranged 1 (length d.signals) o.signal.0 (overlap_parts d o (good_overlap d admitted o m)).0)
+
+      go : (b : Bool) → bytes_eq (overlap_name o) (overlap_name p) ≡ b → not b ≡ true
+      go false e = refl
+      go true e =
+          let same = (bytes_eq-Decides (overlap_name o) (overlap_name p)).0 e in
+          sym (ap not (eq-eqb o.signal.0 p.signal.0 (sym (number o m) ∙ ap (number_in (signal_names d)) same ∙ number p k))) ∙ h
+
+  names_from : (os : List Overlap) → ((o : Overlap) → In o os → In o d.overlaps) → all_pairs overlaps_differ os ≡ true → all_pairs names_apart (map overlap_name os) ≡ true
+  names_from [] there h = refl
+  names_from (o ∷ os) there h =
+      let here = list_all (overlaps_differ o) os in
+      let more = all_pairs overlaps_differ os in
+      and_both (list_all (names_apart (overlap_name o)) (map overlap_name os)) (all_pairs names_apart (map overlap_name os))
+      (list_all_from (names_apart (overlap_name o)) (map overlap_name os) (λ n m.
+      let x = in_map_back overlap_name os n m in
+      subst (λ n. names_apart (overlap_name o) n ≡ true) x.2 (one_apart o x.0 (there o (inl refl)) (there x.0 (inr x.1)) (list_all_at (overlaps_differ o) os x.0 (and_left here more h) x.1))))
+      (names_from os (λ p m. there p (inr m)) (and_right here more h))
+
+  overlap_names_apart : all_pairs names_apart (map (λ (o : ParsedOverlap). o.signal) (map (parsed_overlap d) d.overlaps)) ≡ true
+  overlap_names_apart =
+      subst (λ names. all_pairs names_apart names ≡ true) (sym (map-map (λ (o : ParsedOverlap). o.signal) (parsed_overlap d) d.overlaps)) (names_from d.overlaps (λ o m. m) (overlaps_apart d admitted))
+
   -- ---- D03: names that stand twice
 
   pub once_named : repeated_names (sheet d) ≡ []
   unfolding repeated_names
   once_named =
       let n = named d admitted in
-      five_nothing
+      let signals = map (λ (s : ParsedSignal). s.name) (map (parsed_signal d) d.signals) in
+      let overlap_names = map (λ (o : ParsedOverlap). o.signal) (map (parsed_overlap d) d.overlaps) in
+      six_nothing
       (repeated kinds.Node (map (λ (n : ParsedNode). n.name) (map (parsed_node d) d.nodes))) (repeated kinds.Edge (map (λ (e : ParsedEdge). e.name) (map (parsed_edge d) d.edges))) (repeated kinds.Signal (map (λ (s : ParsedSignal). s.name) (map (parsed_signal d) d.signals)))
-      (repeated kinds.Vehicle (map (λ (v : ParsedVehicle). v.name) (map (parsed_vehicle d) d.vehicles))) (repeated kinds.Train (map (λ (t : ParsedTrain). t.name) (map (parsed_train d) d.trains)))
+      (repeated kinds.Vehicle (map (λ (v : ParsedVehicle). v.name) (map (parsed_vehicle d) d.vehicles))) (repeated kinds.Train (map (λ (t : ParsedTrain). t.name) (map (parsed_train d) d.trains))) (overlaps_repeated signals overlap_names)
       (no_repeat_made kinds.Node (parsed_node d) (λ (n : ParsedNode). n.name) d.nodes (are_distinct (node_names d) n.0))
       (no_repeat_made kinds.Edge (parsed_edge d) (λ (e : ParsedEdge). e.name) d.edges (are_distinct (edge_names d) n.1))
       (no_repeat_made kinds.Signal (parsed_signal d) (λ (s : ParsedSignal). s.name) d.signals (are_distinct (signal_names d) n.3))
       (no_repeat_made kinds.Vehicle (parsed_vehicle d) (λ (v : ParsedVehicle). v.name) d.vehicles (are_distinct (vehicle_names d) n.4))
       (no_repeat_made kinds.Train (parsed_train d) (λ (t : ParsedTrain). t.name) d.trains (are_distinct (train_names d) n.5))
+      (no_second signals overlap_names overlap_names_apart)
 
   -- ---- D04: names that are not there
 
@@ -207,6 +261,26 @@ module _ (d : Station) (admitted : is_admitted d ≡ true) where
       (known (train_names d) (train_named d w.from_train) (Field kinds.Within i keys.FromTrain) (train_among w.from_train w.from_visit f.0))
       (known (train_names d) (train_named d w.to_train) (Field kinds.Within i keys.ToTrain) (train_among w.to_train w.to_visit f.1))
 
+  signal_among : (s : SignalNo) → is_from 1 (length d.signals) s.0 ≡ true → is_among (signal_names d) (signal_named d s) ≡ true
+  signal_among s h =
+      let r = ranged 1 (length d.signals) s.0 h in
+      among_entries (λ (s : Signal). s.name) (record { name = []; node = record { 0 = 0 }; toward = A }) d.signals refl s.0 r.0 r.1
+
+  sections_among : (sections : List SectionNo) → list_all (is_section d) sections ≡ true → list_all (is_among d.sections) (map (section_named d) sections) ≡ true
+  sections_among sections h =
+      list_all_from (is_among d.sections) (map (section_named d) sections) (λ name m.
+      let x = in_map_back (section_named d) sections name m in
+      let r = ranged 1 (length d.sections) x.0.0 (list_all_at (is_section d) sections x.0 h x.1) in
+      subst (λ name. is_among d.sections name ≡ true) x.2 (among d.sections x.0.0 r.0 r.1))
+
+  overlap_known : (i : ℕ) (o : Overlap) → In o d.overlaps → overlap_unknown names i (parsed_overlap d o) ≡ []
+  overlap_known i o m =
+      let f = overlap_parts d o (good_overlap d admitted o m) in
+      let all = list_all (is_among d.sections) (map (section_named d) o.sections) in
+      nothing (unless_among (signal_names d) (signal_named d o.signal) (Field kinds.Overlap i keys.Signal)) (at (not all) (Field kinds.Overlap i keys.Sections))
+      (known (signal_names d) (signal_named d o.signal) (Field kinds.Overlap i keys.Signal) (signal_among o.signal f.0))
+      (met all (Field kinds.Overlap i keys.Sections) (sections_among o.sections f.2))
+
   track_known : track_unknown names (sheet d) ≡ []
   unfolding track_unknown
   track_known =
@@ -216,8 +290,8 @@ module _ (d : Station) (admitted : is_admitted d ≡ true) where
   traffic_known : traffic_unknown names (sheet d) ≡ []
   unfolding traffic_unknown
   traffic_known =
-      three_nothing (in_each (train_unknown names) (map (parsed_train d) d.trains)) (in_each (order_unknown names) (map (parsed_order d) d.orders)) (in_each (within_unknown names) (map (parsed_within d) d.withins))
-      (nowhere_made (train_unknown names) (parsed_train d) d.trains train_known) (nowhere_made (order_unknown names) (parsed_order d) d.orders order_known) (nowhere_made (within_unknown names) (parsed_within d) d.withins within_known)
+      four_nothing (in_each (train_unknown names) (map (parsed_train d) d.trains)) (in_each (order_unknown names) (map (parsed_order d) d.orders)) (in_each (within_unknown names) (map (parsed_within d) d.withins)) (in_each (overlap_unknown names) (map (parsed_overlap d) d.overlaps))
+      (nowhere_made (train_unknown names) (parsed_train d) d.trains train_known) (nowhere_made (order_unknown names) (parsed_order d) d.orders order_known) (nowhere_made (within_unknown names) (parsed_within d) d.withins within_known) (nowhere_made (overlap_unknown names) (parsed_overlap d) d.overlaps overlap_known)
 
   pub all_known : unknown_names (sheet d) ≡ []
   all_known = subst (λ ns. track_unknown ns (sheet d) ++ traffic_unknown ns (sheet d) ≡ []) (sym (names_are d admitted)) (nothing (track_unknown names (sheet d)) (traffic_unknown names (sheet d)) track_known traffic_known)
@@ -270,6 +344,14 @@ module _ (d : Station) (admitted : is_admitted d ≡ true) where
   within_inside : (i : ℕ) (w : Within) → In w d.withins → within_outside i (parsed_within d w) ≡ []
   within_inside i w m = row_inside kinds.Within i keys.MaxMs 0 86400000 w.max_ms [] (at_most 86400000 w.max_ms (within_parts d w (good_within d admitted w m)).2) refl
 
+  overlap_inside : (i : ℕ) (o : Overlap) → In o d.overlaps → overlap_outside i (parsed_overlap d o) ≡ []
+  overlap_inside i o m =
+      let f = overlap_parts d o (good_overlap d admitted o m) in
+      let few_of = is_from 1 16 (length (map (section_named d) o.sections)) in
+      nothing (at (not few_of) (Field kinds.Overlap i keys.Sections)) (limits_outside kinds.Overlap i (overlap_limits (parsed_overlap d o)))
+      (met few_of (Field kinds.Overlap i keys.Sections) (subst (λ n. is_from 1 16 n ≡ true) (sym (length-map (section_named d) o.sections)) f.1))
+      (row_inside kinds.Overlap i keys.HoldMs 0 600000 o.hold_ms [] (at_most 600000 o.hold_ms f.3) refl)
+
   track_inside : track_outside (sheet d) ≡ []
   unfolding track_outside
   track_inside =
@@ -283,11 +365,13 @@ module _ (d : Station) (admitted : is_admitted d ≡ true) where
   unfolding traffic_outside
   traffic_inside =
       let f = few d admitted in
-      four_nothing (array_outside vehicle_outside 0 64 keys.Vehicle (map (parsed_vehicle d) d.vehicles)) (array_outside train_outside 1 128 keys.Train (map (parsed_train d) d.trains)) (count_outside 0 256 keys.Order (map (parsed_order d) d.orders)) (array_outside within_outside 0 256 keys.Within (map (parsed_within d) d.withins))
+      let many = le-leb (length d.overlaps) 1000 (overlaps_most d admitted) in
+      five_nothing (array_outside vehicle_outside 0 64 keys.Vehicle (map (parsed_vehicle d) d.vehicles)) (array_outside train_outside 1 128 keys.Train (map (parsed_train d) d.trains)) (count_outside 0 256 keys.Order (map (parsed_order d) d.orders)) (array_outside within_outside 0 256 keys.Within (map (parsed_within d) d.withins)) (array_outside overlap_outside 0 1000 keys.Overlap (map (parsed_overlap d) d.overlaps))
       (array_inside vehicle_outside (parsed_vehicle d) 0 64 keys.Vehicle d.vehicles (at_most 64 (length d.vehicles) f.3) vehicle_inside)
       (array_inside train_outside (parsed_train d) 1 128 keys.Train d.trains f.4 train_inside)
       (so_many (parsed_order d) 0 256 keys.Order d.orders (at_most 256 (length d.orders) f.5))
       (array_inside within_outside (parsed_within d) 0 256 keys.Within d.withins (at_most 256 (length d.withins) f.6) within_inside)
+      (array_inside overlap_outside (parsed_overlap d) 0 1000 keys.Overlap d.overlaps (at_most 1000 (length d.overlaps) many) overlap_inside)
 
   pub all_inside : out_of_range (sheet d) ≡ []
   unfolding out_of_range

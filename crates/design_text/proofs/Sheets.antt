@@ -9,11 +9,11 @@ use Rattle.design_table.specs.declared.key.Key.{Key}
 use Rattle.design_table.specs.declared.key.Key.TheVariants as keys
 use Rattle.design_table.specs.Keys.{key_text}
 use Rattle.design_table.specs.Forms.{found, list_of_items, items_of as items_in, side_of, whole_of, name_value, visit_of}
-use Rattle.design_table.specs.Sheet.{members_of, value_of, entries_of, sheet_of}
+use Rattle.design_table.specs.Sheet.{members_of, value_of, top_value, entries_of, sheet_of}
 use Rattle.design_table.specs.Parsed as parse
-use Rattle.design_table.specs.Parsed.{ParsedNode, ParsedEdge, ParsedSignal, ParsedVehicle, ParsedTrain, ParsedOrder, ParsedWithin, ParsedSheet}
+use Rattle.design_table.specs.Parsed.{ParsedNode, ParsedEdge, ParsedSignal, ParsedVehicle, ParsedTrain, ParsedOrder, ParsedWithin, ParsedOverlap, ParsedSheet}
 use Rattle.rail_base.specs.Numbering.{entry}
-use Rattle.rail_base.specs.Stations.{node_of, train_of, vehicle_at}
+use Rattle.rail_base.specs.Stations.{node_of, signal_of, train_of, vehicle_at}
 use Rattle.rail_base.specs.declared.station.Station.{Station}
 use Rattle.rail_base.specs.declared.station.Node.{Node}
 use Rattle.rail_base.specs.declared.station.Edge.{Edge}
@@ -22,15 +22,17 @@ use Rattle.rail_base.specs.declared.station.Vehicle.{Vehicle}
 use Rattle.rail_base.specs.declared.station.Train.{Train}
 use Rattle.rail_base.specs.declared.station.Order.{Order}
 use Rattle.rail_base.specs.declared.station.Within.{Within}
+use Rattle.rail_base.specs.declared.station.Overlap.{Overlap}
 use Rattle.rail_base.specs.declared.station.NodeNo.{NodeNo}
 use Rattle.rail_base.specs.declared.station.SectionNo.{SectionNo}
+use Rattle.rail_base.specs.declared.station.SignalNo.{SignalNo}
 use Rattle.rail_base.specs.declared.station.TrainNo.{TrainNo}
 use Rattle.rail_base.specs.declared.station.VehicleNo.{VehicleNo}
 use Rattle.rail_base.specs.declared.station.Side.{Side}
 use Rattle.rail_base.specs.declared.station.Side.TheVariants.{A, B}
 use Rattle.design_text.specs.Texts.{side_name}
 use Rattle.design_text.proofs.Parts.{or_else, looked_up, found_in}
-use Rattle.design_text.proofs.Documents.{array_of, some_array, node_value, number_value, name_row, node_more, table_of, node_table, edge_table, signal_table, vehicle_table, train_table, order_table, within_table, first_part, more_parts, document}
+use Rattle.design_text.proofs.Documents.{array_of, some_array, node_value, section_value, number_value, name_row, node_more, table_of, node_table, edge_table, signal_table, vehicle_table, train_table, order_table, within_table, overlap_table, first_part, more_parts, document}
 
 abbrev pub parsed_side : Side → table.Side
 parsed_side A = parsed.A
@@ -49,6 +51,9 @@ module _ (d : Station) where
 
   abbrev pub section_named : SectionNo → List ℕ
   section_named z = entry [] d.sections z.0
+
+  abbrev pub signal_named : SignalNo → List ℕ
+  signal_named s = (signal_of d s).name
 
   abbrev pub vehicle_named : VehicleNo → List ℕ
   vehicle_named v = (vehicle_at d v).name
@@ -105,6 +110,9 @@ module _ (d : Station) where
     max_ms = pos w.max_ms;
   }
 
+  abbrev pub parsed_overlap : Overlap → ParsedOverlap
+  parsed_overlap o = record { signal = signal_named o.signal; sections = map section_named o.sections; hold_ms = pos o.hold_ms }
+
   -- ---- the sheet
 
   abbrev pub sheet : ParsedSheet
@@ -119,6 +127,7 @@ module _ (d : Station) where
     trains = map parsed_train d.trains;
     orders = map parsed_order d.orders;
     withins = map parsed_within d.withins;
+    overlaps = map parsed_overlap d.overlaps;
   }
 
 -- ---- what is read of the document
@@ -162,6 +171,9 @@ read_order version ms = parse.order_of (value_of version kinds.Order ms)
 abbrev read_within : ℕ → Members → ParsedWithin
 read_within version ms = parse.within_of (value_of version kinds.Within ms)
 
+abbrev read_overlap : ℕ → Members → ParsedOverlap
+read_overlap version ms = parse.overlap_of (value_of version kinds.Overlap ms)
+
 -- the sheet of a table, by what its keys hold
 sheet_from : (ms : Members) (a b c : ℕ) (nodes edges signals vehicles trains orders withins : Option Data)
     → found keys.Version ms ≡ Some (integer (pos a)) → found keys.TickMs ms ≡ Some (integer (pos b)) → found keys.HorizonMs ms ≡ Some (integer (pos c))
@@ -177,6 +189,7 @@ sheet_from : (ms : Members) (a b c : ℕ) (nodes edges signals vehicles trains o
       trains = map (λ entry. read_train a (members_of entry)) (items_in trains);
       orders = map (λ entry. read_order a (members_of entry)) (items_in orders);
       withins = map (λ entry. read_within a (members_of entry)) (items_in withins);
+      overlaps = map (λ entry. read_overlap a (members_of entry)) (items_in (top_value a ms keys.Overlap));
     }
 unfolding sheet_of entries_of
 sheet_from ms a b c nodes edges signals vehicles trains orders withins e1 e2 e3 e4 e5 e6 e7 e8 e9 e10 known = rw (e1, e2, e3, e4, e5, e6, e7, e8, e9, e10, known) refl
@@ -240,6 +253,12 @@ module _ (d : Station) where
   within_read : (w : Within) → read_within version (members_of (within_table d w)) ≡ parsed_within d w
   within_read w = refl
 
+  overlap_read : nat_le 4 version ≡ true → (o : Overlap) → read_overlap version (members_of (overlap_table d o)) ≡ parsed_overlap d o
+  overlap_read e o = rw e (ap made_overlap (items_are name_value (section_value d) (section_named d) o.sections (λ z. refl)))
+    where
+      made_overlap : List (List ℕ) → ParsedOverlap
+      made_overlap sections = record { signal = signal_named d o.signal; sections = sections; hold_ms = pos o.hold_ms }
+
   -- ---- what the keys of the document hold
 
   looked : (key : Key) → found key (document d) ≡ looked_up (key_text key) (first_part d ∷ more_parts d) None
@@ -276,10 +295,29 @@ module _ (d : Station) where
   pub withins_found : found keys.Within (document d) ≡ some_array (within_table d) d.withins
   withins_found = looked keys.Within ∙ or_none (some_array (within_table d) d.withins)
 
+  overlaps_found : found keys.Overlap (document d) ≡ some_array (overlap_table d) d.overlaps
+  overlaps_found = looked keys.Overlap ∙ or_none (some_array (overlap_table d) d.overlaps)
+
+  -- overlaps, of which there are none before version 4
+  module _ (old : nat_le 4 d.version ≡ false → d.overlaps ≡ []) where
+    pub overlaps_top : top_value version (document d) keys.Overlap ≡ some_array (overlap_table d) d.overlaps
+    overlaps_top = go (nat_le 4 version) refl
+      where
+        go : (b : Bool) → nat_le 4 version ≡ b → top_value version (document d) keys.Overlap ≡ some_array (overlap_table d) d.overlaps
+        go true e = rw e overlaps_found
+        go false e = rw (e, old e) refl
+
+    overlaps_read : map (λ entry. read_overlap version (members_of entry)) (items_in (top_value version (document d) keys.Overlap)) ≡ map (parsed_overlap d) d.overlaps
+    overlaps_read = ap (λ o. map (λ entry. read_overlap version (members_of entry)) (items_in o)) overlaps_top ∙ go (nat_le 4 version) refl
+      where
+        go : (b : Bool) → nat_le 4 version ≡ b → map (λ entry. read_overlap version (members_of entry)) (items_in (some_array (overlap_table d) d.overlaps)) ≡ map (parsed_overlap d) d.overlaps
+        go true e = array_read (read_overlap version) (overlap_table d) (parsed_overlap d) d.overlaps (overlap_read e)
+        go false e = rw (old e) refl
+
   -- ---- the sheet of the document
 
-  abbrev made : List ParsedNode → List ParsedEdge → List ParsedSignal → List ParsedVehicle → List ParsedTrain → List ParsedOrder → List ParsedWithin → ParsedSheet
-  made nodes edges signals vehicles trains orders withins = record {
+  abbrev made : List ParsedNode → List ParsedEdge → List ParsedSignal → List ParsedVehicle → List ParsedTrain → List ParsedOrder → List ParsedWithin → List ParsedOverlap → ParsedSheet
+  made nodes edges signals vehicles trains orders withins overlaps = record {
     version = pos d.version;
     tick_ms = pos d.tick_ms;
     horizon_ms = pos d.horizon_ms;
@@ -290,17 +328,18 @@ module _ (d : Station) where
     trains = trains;
     orders = orders;
     withins = withins;
+    overlaps = overlaps;
   }
 
-  same_made : (n1 n2 : List ParsedNode) (e1 e2 : List ParsedEdge) (s1 s2 : List ParsedSignal) (v1 v2 : List ParsedVehicle) (t1 t2 : List ParsedTrain) (o1 o2 : List ParsedOrder) (w1 w2 : List ParsedWithin)
-      → n1 ≡ n2 → e1 ≡ e2 → s1 ≡ s2 → v1 ≡ v2 → t1 ≡ t2 → o1 ≡ o2 → w1 ≡ w2 → made n1 e1 s1 v1 t1 o1 w1 ≡ made n2 e2 s2 v2 t2 o2 w2
-  same_made n1 n2 e1 e2 s1 s2 v1 v2 t1 t2 o1 o2 w1 w2 n e s v t o w = rw (n, e, s, v, t, o, w) refl
+  same_made : (n1 n2 : List ParsedNode) (e1 e2 : List ParsedEdge) (s1 s2 : List ParsedSignal) (v1 v2 : List ParsedVehicle) (t1 t2 : List ParsedTrain) (o1 o2 : List ParsedOrder) (w1 w2 : List ParsedWithin) (l1 l2 : List ParsedOverlap)
+      → n1 ≡ n2 → e1 ≡ e2 → s1 ≡ s2 → v1 ≡ v2 → t1 ≡ t2 → o1 ≡ o2 → w1 ≡ w2 → l1 ≡ l2 → made n1 e1 s1 v1 t1 o1 w1 l1 ≡ made n2 e2 s2 v2 t2 o2 w2 l2
+  same_made n1 n2 e1 e2 s1 s2 v1 v2 t1 t2 o1 o2 w1 w2 l1 l2 n e s v t o w l = rw (n, e, s, v, t, o, w, l) refl
 
   abbrev read_as : {X A : Type 0} → (Members → A) → (X → Data) → List X → List A
   read_as read holds xs = map (λ entry. read (members_of entry)) (items_in (some_array holds xs))
 
-  pub sheet_is : nat_le d.version 3 ≡ true → sheet_of (document d) ≡ sheet d
-  sheet_is known =
+  pub sheet_is : nat_le d.version 3 ≡ true → (nat_le 4 d.version ≡ false → d.overlaps ≡ []) → sheet_of (document d) ≡ sheet d
+  sheet_is known old =
       sheet_from (document d) d.version d.tick_ms d.horizon_ms (some_array node_table d.nodes) (some_array (edge_table d) d.edges) (some_array (signal_table d) d.signals) (some_array vehicle_table d.vehicles) (some_array (train_table d) d.trains) (some_array (order_table d) d.orders) (some_array (within_table d) d.withins)
       version_found tick_found horizon_found nodes_found edges_found signals_found vehicles_found trains_found orders_found withins_found known
       ∙ same_made
@@ -311,6 +350,7 @@ module _ (d : Station) where
       (read_as (read_train version) (train_table d) d.trains) (map (parsed_train d) d.trains)
       (read_as (read_order version) (order_table d) d.orders) (map (parsed_order d) d.orders)
       (read_as (read_within version) (within_table d) d.withins) (map (parsed_within d) d.withins)
+      (map (λ entry. read_overlap version (members_of entry)) (items_in (top_value version (document d) keys.Overlap))) (map (parsed_overlap d) d.overlaps)
       (array_read (read_node version) node_table (parsed_node d) d.nodes node_read)
       (array_read (read_edge version) (edge_table d) (parsed_edge d) d.edges edge_read)
       (array_read (read_signal version) (signal_table d) (parsed_signal d) d.signals signal_read)
@@ -318,3 +358,4 @@ module _ (d : Station) where
       (array_read (read_train version) (train_table d) (parsed_train d) d.trains train_read)
       (array_read (read_order version) (order_table d) (parsed_order d) d.orders order_read)
       (array_read (read_within version) (within_table d) (parsed_within d) d.withins within_read)
+      (overlaps_read old)

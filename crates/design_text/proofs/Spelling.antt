@@ -15,7 +15,7 @@ use Rattle.design_table.specs.declared.key.Key.TheVariants as keys
 use Rattle.design_table.specs.Keys.{kind_key, columns_of, keys_of, top_keys, version_number}
 use Rattle.design_table.specs.Sheet.{members_of, version_of, top_value, is_right, wrong_array, wrong_columns, wrong_entry, wrong_whole, faults_in, form_fault}
 use Rattle.rail_base.specs.Members.{In}
-use Rattle.rail_base.specs.Stations.{node_of, no_train, train_of, vehicle_at}
+use Rattle.rail_base.specs.Stations.{node_of, signal_of, no_train, train_of, vehicle_at}
 use Rattle.rail_base.specs.Admission.{is_from, is_name, is_node, is_visit as has_visit, is_good_set, is_admitted}
 use Rattle.rail_base.specs.declared.station.Station.{Station}
 use Rattle.rail_base.specs.declared.station.Node.{Node}
@@ -25,8 +25,10 @@ use Rattle.rail_base.specs.declared.station.Vehicle.{Vehicle}
 use Rattle.rail_base.specs.declared.station.Train.{Train}
 use Rattle.rail_base.specs.declared.station.Order.{Order}
 use Rattle.rail_base.specs.declared.station.Within.{Within}
+use Rattle.rail_base.specs.declared.station.Overlap.{Overlap}
 use Rattle.rail_base.specs.declared.station.NodeNo.{NodeNo}
 use Rattle.rail_base.specs.declared.station.SectionNo.{SectionNo}
+use Rattle.rail_base.specs.declared.station.SignalNo.{SignalNo}
 use Rattle.rail_base.specs.declared.station.TrainNo.{TrainNo}
 use Rattle.rail_base.specs.declared.station.VehicleNo.{VehicleNo}
 use Rattle.rail_base.specs.declared.station.Side.{Side}
@@ -35,11 +37,11 @@ use Rattle.rail_base.proofs.Members.{and_left, and_right, and_both, list_all_at}
 use Rattle.rail_base.proofs.Lists.{in_map, in_entry}
 use Rattle.infra_reader.proofs.Spelling.{same_name}
 use Rattle.design_text.specs.Texts.{side_name}
-use Rattle.design_text.proofs.Parts.{none_unknown}
-use Rattle.design_text.proofs.Documents.{array_of, some_array, node_value, number_value, name_row, visits_row, node_more, dwell_more, table_of, node_table, edge_table, signal_table, vehicle_table, train_table, order_table, within_table, first_part, more_parts, document}
+use Rattle.design_text.proofs.Parts.{is_fit, none_unknown}
+use Rattle.design_text.proofs.Documents.{array_of, some_array, node_value, section_value, number_value, name_row, visits_row, node_more, dwell_more, table_of, node_table, edge_table, signal_table, vehicle_table, train_table, order_table, within_table, overlap_table, first_part, more_parts, document}
 use Rattle.design_text.proofs.Nowhere.{unmet, met, nothing, nowhere_made}
-use Rattle.design_text.proofs.Admitting.{ranged, are_all_names, node_names, edge_names, signal_names, vehicle_names, train_names, timed, named, edge_parts, train_parts, visit_parts, signal_parts, order_parts, within_parts, set_parts, good_edge, good_signal, good_train, good_order, good_within}
-use Rattle.design_text.proofs.Sheets.{node_named, section_named, vehicle_named, train_named, items_listed, version_found, tick_found, horizon_found, nodes_found, edges_found, signals_found, vehicles_found, trains_found, orders_found, withins_found}
+use Rattle.design_text.proofs.Admitting.{ranged, are_all_names, node_names, edge_names, signal_names, vehicle_names, train_names, timed, named, edge_parts, train_parts, visit_parts, signal_parts, order_parts, within_parts, overlap_parts, is_section, no_overlaps, set_parts, good_edge, good_signal, good_train, good_order, good_within, good_overlap}
+use Rattle.design_text.proofs.Sheets.{node_named, section_named, signal_named, vehicle_named, train_named, items_listed, version_found, tick_found, horizon_found, nodes_found, edges_found, signals_found, vehicles_found, trains_found, orders_found, withins_found, overlaps_top}
 
 -- ---- entries whose columns are right
 
@@ -76,22 +78,22 @@ array_right version kind holds xs ms is right =
 whole_right : (key : Key) (ms : Members) (n : ℕ) → found key ms ≡ Some (integer (pos n)) → wrong_whole key ms ≡ []
 whole_right key ms n is = rw is refl
 
-all_nothing : (a b c n e s v t o w u : List Place) → a ≡ [] → b ≡ [] → c ≡ [] → n ≡ [] → e ≡ [] → s ≡ [] → v ≡ [] → t ≡ [] → o ≡ [] → w ≡ [] → u ≡ []
-    → a ++ (b ++ (c ++ (n ++ (e ++ (s ++ (v ++ (t ++ (o ++ (w ++ u))))))))) ≡ []
-all_nothing a b c n e s v t o w u p1 p2 p3 p4 p5 p6 p7 p8 p9 p10 p11 = rw (p1, p2, p3, p4, p5, p6, p7, p8, p9, p10, p11) refl
+all_nothing : (a b c n e s v t o w l u : List Place) → a ≡ [] → b ≡ [] → c ≡ [] → n ≡ [] → e ≡ [] → s ≡ [] → v ≡ [] → t ≡ [] → o ≡ [] → w ≡ [] → l ≡ [] → u ≡ []
+    → a ++ (b ++ (c ++ (n ++ (e ++ (s ++ (v ++ (t ++ (o ++ (w ++ (l ++ u)))))))))) ≡ []
+all_nothing a b c n e s v t o w l u p1 p2 p3 p4 p5 p6 p7 p8 p9 p10 p11 p12 = rw (p1, p2, p3, p4, p5, p6, p7, p8, p9, p10, p11, p12) refl
 
 form_right : (ms : Members) (a b c : ℕ) → found keys.Version ms ≡ Some (integer (pos a)) → found keys.TickMs ms ≡ Some (integer (pos b)) → found keys.HorizonMs ms ≡ Some (integer (pos c))
-    → wrong_array a kinds.Node ms ≡ [] → wrong_array a kinds.Edge ms ≡ [] → wrong_array a kinds.Signal ms ≡ [] → wrong_array a kinds.Vehicle ms ≡ [] → wrong_array a kinds.Train ms ≡ [] → wrong_array a kinds.Order ms ≡ [] → wrong_array a kinds.Within ms ≡ []
+    → wrong_array a kinds.Node ms ≡ [] → wrong_array a kinds.Edge ms ≡ [] → wrong_array a kinds.Signal ms ≡ [] → wrong_array a kinds.Vehicle ms ≡ [] → wrong_array a kinds.Train ms ≡ [] → wrong_array a kinds.Order ms ≡ [] → wrong_array a kinds.Within ms ≡ [] → wrong_array a kinds.Overlap ms ≡ []
     → has_unknown (top_keys a) ms ≡ false → nat_le a 3 ≡ true → form_fault ms ≡ []
 unfolding form_fault
-form_right ms a b c va vb vc n e s v t o w none known =
+form_right ms a b c va vb vc n e s v t o w l none known =
     let kept : version_number (pos a) ≡ a = rw known refl in
     let version : version_of ms ≡ a = ap (λ v. version_number (whole_of v)) va ∙ kept in
     subst (λ z. faults_in z ms ≡ []) (sym version)
     (all_nothing (wrong_whole keys.Version ms) (wrong_whole keys.TickMs ms) (wrong_whole keys.HorizonMs ms)
-    (wrong_array a kinds.Node ms) (wrong_array a kinds.Edge ms) (wrong_array a kinds.Signal ms) (wrong_array a kinds.Vehicle ms) (wrong_array a kinds.Train ms) (wrong_array a kinds.Order ms) (wrong_array a kinds.Within ms)
+    (wrong_array a kinds.Node ms) (wrong_array a kinds.Edge ms) (wrong_array a kinds.Signal ms) (wrong_array a kinds.Vehicle ms) (wrong_array a kinds.Train ms) (wrong_array a kinds.Order ms) (wrong_array a kinds.Within ms) (wrong_array a kinds.Overlap ms)
     (at (has_unknown (top_keys a) ms) Unknown)
-    (whole_right keys.Version ms a va) (whole_right keys.TickMs ms b vb) (whole_right keys.HorizonMs ms c vc) n e s v t o w (unmet (has_unknown (top_keys a) ms) Unknown none))
+    (whole_right keys.Version ms a va) (whole_right keys.TickMs ms b vb) (whole_right keys.HorizonMs ms c vc) n e s v t o w l (unmet (has_unknown (top_keys a) ms) Unknown none))
 
 -- ---- values
 
@@ -138,6 +140,11 @@ module _ (d : Station) (admitted : is_admitted d ≡ true) where
   section_right z h =
       let r = ranged 1 (length d.sections) z.0 h in
       text_right (section_named d z) (list_all_at is_name d.sections (section_named d z) (are_all_names d.sections (named d admitted).2) (in_entry [] d.sections z.0 r.0 r.1))
+
+  pub signal_right : (s : SignalNo) → is_from 1 (length d.signals) s.0 ≡ true → is_name_text (signal_named d s) ≡ true
+  signal_right s h =
+      let r = ranged 1 (length d.signals) s.0 h in
+      name_right (λ (s : Signal). s.name) d.signals (signal_of d s) (are_all_names (signal_names d) (named d admitted).3) (in_entry (record { name = []; node = record { 0 = 0 }; toward = A }) d.signals s.0 r.0 r.1)
 
   pub vehicle_right : (v : VehicleNo) → is_from 1 (length d.vehicles) v.0 ≡ true → is_name_text (vehicle_named d v) ≡ true
   vehicle_right v h =
@@ -220,11 +227,32 @@ module _ (d : Station) (admitted : is_admitted d ≡ true) where
       entry_right version kinds.Within n (members_of (within_table d x))
       (joined_two (is_name_text (train_named d x.from_train)) (is_name_text (train_named d x.to_train)) (train_right x.from_train x.from_visit f.0) (train_right x.to_train x.to_visit f.1)) refl
 
+  overlap_spelled : (n : ℕ) (x : Overlap) → In x d.overlaps → wrong_entry version kinds.Overlap n (overlap_table d x) ≡ []
+  overlap_spelled n x m = by_version (nat_le 4 version) refl
+    where
+      sections : Bool
+      sections = list_all is_name_value (list_of_items (items_of (map (section_value d) x.sections)))
+
+      by_version : (b : Bool) → nat_le 4 version ≡ b → wrong_entry version kinds.Overlap n (overlap_table d x) ≡ []
+      by_version true e =
+          let f = overlap_parts d x (good_overlap d admitted x m) in
+          let all = all_listed is_name_value (section_value d) x.sections (λ z i. section_right z (list_all_at (is_section d) x.sections z f.2 i)) in
+          entry_right version kinds.Overlap n (members_of (overlap_table d x))
+          (rw e (joined_two (is_name_text (signal_named d x.signal)) sections (signal_right x.signal f.0) all)) (rw e refl)
+      by_version false e = absurd (subst (λ os. In x os) (no_overlaps d admitted e) m)
+
   -- ---- the document
+
+  all_fit : list_all (is_fit (top_keys version)) (first_part d ∷ more_parts d) ≡ true
+  all_fit = go (nat_le 4 version) refl
+    where
+      go : (b : Bool) → nat_le 4 version ≡ b → list_all (is_fit (top_keys version)) (first_part d ∷ more_parts d) ≡ true
+      go true e = rw e refl
+      go false e = rw (e, no_overlaps d admitted e) refl
 
   none_else : has_unknown (top_keys version) (document d) ≡ false
   unfolding document
-  none_else = none_unknown (top_keys version) (first_part d ∷ more_parts d) refl
+  none_else = none_unknown (top_keys version) (first_part d ∷ more_parts d) all_fit
 
   pub well_spelled : form_fault (document d) ≡ []
   well_spelled =
@@ -236,4 +264,5 @@ module _ (d : Station) (admitted : is_admitted d ≡ true) where
       (array_right version kinds.Train (train_table d) d.trains (document d) (trains_found d) train_spelled)
       (array_right version kinds.Order (order_table d) d.orders (document d) (orders_found d) order_spelled)
       (array_right version kinds.Within (within_table d) d.withins (document d) (withins_found d) within_spelled)
+      (array_right version kinds.Overlap (overlap_table d) d.overlaps (document d) (overlaps_top d (no_overlaps d admitted)) overlap_spelled)
       none_else (and_right (nat_le 1 d.version) (nat_le d.version 3) (timed d admitted).0)

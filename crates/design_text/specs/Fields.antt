@@ -2,7 +2,7 @@
 use Rattle.std.specs.Prelude.{ℕ, List, map, codes, decimal}
 use Rattle.rail_base.specs.declared.station.Station.{Station}
 use Rattle.design_table.specs.declared.key.Key.{Key}
-use Rattle.design_text.specs.Texts.{in_quotes, in_brackets, visit_text}
+use Rattle.design_text.specs.Texts.{in_quotes, in_brackets, visit_text, sections_text}
 use Rattle.design_text.specs.declared.field.Value.{Value}
 use Rattle.design_text.specs.declared.field.Value.TheVariants as values
 use Rattle.design_text.specs.declared.field.Field.{Field}
@@ -13,6 +13,7 @@ value_text d values.True = codes "true"
 value_text d (values.Name name) = in_quotes name.now
 value_text d (values.Number number) = decimal number
 value_text d (values.Visits visits) = in_brackets (map (visit_text d) visits.now)
+value_text d (values.Sections sections) = sections_text d sections.now
 value_text d (values.Numbers numbers) = in_brackets (map decimal numbers.now)
 
 -- a key with the text of its value

@@ -4,7 +4,7 @@ use Rattle.std.specs.List.{concat, flat_map}
 use Rattle.design_table.specs.declared.key.Key.{Key}
 use Rattle.design_table.specs.declared.key.Key.TheVariants as keys
 use Rattle.design_table.specs.Keys.{key_text}
-use Rattle.rail_base.specs.Names.{node_name, section_name, train_name}
+use Rattle.rail_base.specs.Names.{node_name, section_name, signal_name, train_name}
 use Rattle.rail_base.specs.Stations.{vehicle_at}
 use Rattle.rail_base.specs.declared.station.Station.{Station}
 use Rattle.rail_base.specs.declared.station.Node.{Node}
@@ -14,7 +14,9 @@ use Rattle.rail_base.specs.declared.station.Vehicle.{Vehicle}
 use Rattle.rail_base.specs.declared.station.Train.{Train}
 use Rattle.rail_base.specs.declared.station.Order.{Order}
 use Rattle.rail_base.specs.declared.station.Within.{Within}
+use Rattle.rail_base.specs.declared.station.Overlap.{Overlap}
 use Rattle.rail_base.specs.declared.station.NodeNo.{NodeNo}
+use Rattle.rail_base.specs.declared.station.SectionNo.{SectionNo}
 use Rattle.rail_base.specs.declared.station.Side.{Side}
 use Rattle.rail_base.specs.declared.station.Side.TheVariants.{A, B}
 
@@ -127,6 +129,17 @@ module _ (d : Station) where
       ∷ (keys.MaxMs, decimal w.max_ms)
       ∷ [])
 
+  -- sections by their names
+  abbrev pub sections_text : List SectionNo → List ℕ
+  sections_text sections = in_brackets (map (λ z. in_quotes (section_name d z)) sections)
+
+  abbrev pub overlap_line : Overlap → List ℕ
+  overlap_line o = entry_line (
+      (keys.Signal, in_quotes (signal_name d o.signal))
+      ∷ (keys.Sections, sections_text o.sections)
+      ∷ (keys.HoldMs, decimal o.hold_ms)
+      ∷ [])
+
   -- ---- the design
 
   -- its lines, each with its LF
@@ -141,7 +154,8 @@ module _ (d : Station) where
       ++ (array_lines keys.Vehicle (map vehicle_line d.vehicles)
       ++ (array_lines keys.Train (map train_line d.trains)
       ++ (array_lines keys.Order (map order_line d.orders)
-      ++ array_lines keys.Within (map within_line d.withins))))))
+      ++ (array_lines keys.Within (map within_line d.withins)
+      ++ array_lines keys.Overlap (map overlap_line d.overlaps)))))))
 
   -- and the whole text
   abbrev pub design_text : List ℕ

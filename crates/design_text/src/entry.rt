@@ -4,13 +4,15 @@ ghost use Rattle.std.specs.Prelude.{◌≡◌, ℕ, List, IfOk};
 ghost use Rattle.rail_base.specs.declared.station.Station.{Station};
 ghost use Rattle.rail_base.specs.Stations.{vehicle_at};
 ghost use Rattle.design_text.specs.Texts.{node_line, edge_line, signal_line, vehicle_line, train_line};
-ghost use Rattle.design_text.specs.Texts.{order_line, side_name, within_line};
+ghost use Rattle.design_text.specs.Texts.{order_line, overlap_line, side_name, within_line};
 
 use crate::field::{Field, Value, entry_line};
 use design_table::Key;
 use rail_base::design::Design;
-use rail_base::names::{entry, node_name, section_name, train_name};
-use rail_base::station::{Edge, Node, Order, Side, Signal, Train, Vehicle, VehicleNo, Within};
+use rail_base::names::{entry, node_name, section_name, signal_name, train_name};
+use rail_base::station::{
+    Edge, Node, Order, Overlap, Side, Signal, Train, Vehicle, VehicleNo, Within,
+};
 use std::alloc::{AllocError, Global};
 
 /// An entry of a design.
@@ -187,6 +189,24 @@ impl Entry for Within {
                 Field(Key::ToTrain, Value::Name(train_name(design, self.to_train))),
                 Field(Key::ToVisit, Value::Number(self.to_visit)),
                 Field(Key::MaxMs, Value::Number(self.max_ms)),
+            ],
+        )
+    }
+}
+
+impl Entry for Overlap {
+    ghost line_of = { overlap_line };
+
+    fn line<'a>(&'a self, alloc: Global, design: &'a Design) -> Result<Vec<u8>, AllocError>
+        ensures { IfOk result (λ line. line.items ≡ overlap_line design.now.station self.now) }
+    {
+        entry_line(
+            alloc,
+            design,
+            &[
+                Field(Key::Signal, Value::Name(signal_name(design, self.signal))),
+                Field(Key::Sections, Value::Sections(self.sections.as_slice())),
+                Field(Key::HoldMs, Value::Number(self.hold_ms)),
             ],
         )
     }

@@ -8,7 +8,7 @@ use crate::part::{Part, put_bracketed, put_joined, put_quoted};
 use design_table::Key;
 use rail_base::design::Design;
 use rail_base::list::List;
-use rail_base::station::NodeNo;
+use rail_base::station::{NodeNo, SectionNo};
 use rail_text::put_number;
 use std::alloc::{AllocError, Global};
 
@@ -19,6 +19,7 @@ pub(crate) enum Value<'a> {
     Name(&'a [u8]),
     Number(u32),
     Visits(&'a [List<NodeNo>]),
+    Sections(&'a [SectionNo]),
     Numbers(&'a [u32]),
 }
 
@@ -35,6 +36,7 @@ fn put_value(line: &mut Vec<u8>, design: &Design, value: Value) -> Result<(), Al
         Value::Name(name) => put_quoted(line, name),
         Value::Number(number) => put_number(line, u64::from(number)),
         Value::Visits(visits) => put_bracketed(line, design, visits),
+        Value::Sections(sections) => put_bracketed(line, design, sections),
         Value::Numbers(numbers) => put_bracketed(line, design, numbers),
     }
 }

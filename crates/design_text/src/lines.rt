@@ -6,7 +6,7 @@ ghost use Rattle.design_table.specs.declared.key.Key.TheVariants as keys;
 ghost use Rattle.design_table.specs.Keys.{key_text};
 ghost use Rattle.design_text.specs.Texts.{array_lines, design_lines, number_line};
 ghost use Rattle.design_text.specs.Texts.{node_line, edge_line, signal_line, vehicle_line, train_line};
-ghost use Rattle.design_text.specs.Texts.{order_line, within_line};
+ghost use Rattle.design_text.specs.Texts.{order_line, overlap_line, within_line};
 
 use crate::entry::Entry;
 use design_table::Key;
@@ -130,6 +130,15 @@ fn push_requirements(
     Ok(())
 }
 
+/// Appends the lines of overlaps.
+fn push_overlaps(alloc: Global, design: &Design, lines: &mut Vec<Vec<u8>>) -> Result<(), AllocError>
+    ensures { OnOk result (AddsLines lines.old lines.new (let d = design.now.station in
+        array_lines keys.Overlap (map (overlap_line d) d.overlaps))) }
+{
+    let overlaps = design.station.overlaps.as_slice();
+    push_array(alloc, design, Key::Overlap, overlaps, lines)
+}
+
 /// The lines of its numbers.
 fn numbers(alloc: Global, design: &Design) -> Result<Vec<Vec<u8>>, AllocError>
     ensures { IfOk result (λ lines. map (λ line. line.items) lines.items ≡ (let d = design.now.station in
@@ -155,5 +164,6 @@ pub fn design_lines(alloc: Global, design: &Design) -> Result<Vec<Vec<u8>>, Allo
     push_track(alloc, design, &mut lines)?;
     push_trains(alloc, design, &mut lines)?;
     push_requirements(alloc, design, &mut lines)?;
+    push_overlaps(alloc, design, &mut lines)?;
     Ok(lines)
 }

@@ -3,13 +3,13 @@
 ghost use Rattle.std.specs.Prelude.{◌≡◌, ◌++◌, ℕ, List, map, decimal, OnOk};
 ghost use Rattle.std.specs.List.{flat_map};
 ghost use Rattle.rail_base.specs.declared.station.Station.{Station};
-ghost use Rattle.rail_base.specs.Names.{node_name};
+ghost use Rattle.rail_base.specs.Names.{node_name, section_name};
 ghost use Rattle.design_text.specs.Texts.{behind_comma, in_brackets, in_quotes, joined, visit_text};
 
 use rail_base::design::Design;
 use rail_base::list::List;
-use rail_base::names::node_name;
-use rail_base::station::NodeNo;
+use rail_base::names::{node_name, section_name};
+use rail_base::station::{NodeNo, SectionNo};
 use rail_text::put_number;
 use std::alloc::AllocError;
 
@@ -95,6 +95,18 @@ impl Part for NodeNo {
             ≡ line.old.items ++ in_quotes (node_name design.now.station self.now)) }
     {
         put_quoted(line, node_name(design, *self))
+    }
+}
+
+/// A section, by its name.
+impl Part for SectionNo {
+    ghost text = { λ d z. in_quotes (section_name d z) };
+
+    fn put(&self, line: &mut Vec<u8>, design: &Design) -> Result<(), AllocError>
+        ensures { OnOk result (line.new.items
+            ≡ line.old.items ++ in_quotes (section_name design.now.station self.now)) }
+    {
+        put_quoted(line, section_name(design, *self))
     }
 }
 

@@ -3,7 +3,7 @@ use Rattle.std.proofs.Common.{◌≡◌, ℕ, ◌<◌, ◌≤◌, ◌+◌, zero,
 use Rattle.std.specs.Borrow.{Bor}
 use Rattle.std.specs.declared.alloc.AllocError.{AllocError}
 use Rattle.std.specs.declared.alloc.Global.{Global}
-use Rattle.std.proofs.lemmas.List.{drop_more}
+use Rattle.std.proofs.lemmas.List.{drop_more, length-map}
 use Rattle.std.proofs.lemmas.List.Folds.{find-append}
 use Rattle.toml.specs.Data.{no_members}
 use Rattle.toml.specs.View.{items_view, view}
@@ -23,6 +23,9 @@ got (y ∷ xs) zero None h = absurd (omega (arith, h))
 got (y ∷ xs) zero (Some x) h = ap Some (h.1 y)
 got (y ∷ xs) (suc n) None h = got xs n None (omega (arith, h))
 got (y ∷ xs) (suc n) (Some x) h = got xs n (Some x) (omega (arith, h.0), h.1)
+
+pub text_count : (names : List (Bor (List ℕ))) → length (texts names) ≡ length names
+text_count names = length-map names (λ text. text.now)
 
 -- what is said of an entry
 pub seen_at : {X Y Z : Type 0} (view : X → Y) (said : Y → Z) (other : Z) (xs : List X) (n : ℕ) (o : Option X) → o ≡ slice_get xs n

@@ -8,7 +8,7 @@ use Rattle.design_table.specs.declared.place.EntryKind.TheVariants as kinds
 use Rattle.design_table.specs.declared.sheet.Side.{Side}
 use Rattle.design_table.specs.declared.sheet.Side.TheVariants.{A}
 use Rattle.design_table.specs.Parsed.{ParsedNode, ParsedEdge, ParsedSignal, ParsedVehicle, ParsedTrain}
-use Rattle.design_table.specs.Parsed.{ParsedOrder, ParsedWithin, ParsedSheet}
+use Rattle.design_table.specs.Parsed.{ParsedOrder, ParsedWithin, ParsedOverlap, ParsedSheet}
 
 -- what is said of the entry of this number, counted from 1, or the other where there is none
 abbrev pub of_entry : {X Y : Type 0} → (X → Y) → Y → List X → ℕ → Y
@@ -50,6 +50,10 @@ within_text keys.FromTrain w = w.from_train
 within_text keys.ToTrain w = w.to_train
 within_text _ w = []
 
+abbrev pub overlap_text : Key → ParsedOverlap → List ℕ
+overlap_text keys.Signal o = o.signal
+overlap_text _ o = []
+
 -- the name that an entry has at a key
 abbrev pub text_at : ParsedSheet → EntryKind → ℕ → Key → List ℕ
 text_at s kinds.Node i key = of_entry (node_text key) [] s.nodes i
@@ -59,6 +63,7 @@ text_at s kinds.Vehicle i key = of_entry (vehicle_text key) [] s.vehicles i
 text_at s kinds.Train i key = of_entry (train_text key) [] s.trains i
 text_at s kinds.Order i key = of_entry (order_text key) [] s.orders i
 text_at s kinds.Within i key = of_entry (within_text key) [] s.withins i
+text_at s kinds.Overlap i key = of_entry (overlap_text key) [] s.overlaps i
 
 -- ---- whole numbers
 
@@ -85,12 +90,17 @@ within_number keys.ToVisit w = w.to_visit
 within_number keys.MaxMs w = w.max_ms
 within_number _ w = pos 0
 
+abbrev pub overlap_number : Key → ParsedOverlap → ℤ
+overlap_number keys.HoldMs o = o.hold_ms
+overlap_number _ o = pos 0
+
 -- the whole number that an entry has at a key
 abbrev pub number_at : ParsedSheet → EntryKind → ℕ → Key → ℤ
 number_at s kinds.Edge i key = of_entry (edge_number key) (pos 0) s.edges i
 number_at s kinds.Vehicle i key = of_entry (vehicle_number key) (pos 0) s.vehicles i
 number_at s kinds.Order i key = of_entry (order_number key) (pos 0) s.orders i
 number_at s kinds.Within i key = of_entry (within_number key) (pos 0) s.withins i
+number_at s kinds.Overlap i key = of_entry (overlap_number key) (pos 0) s.overlaps i
 number_at s _ i key = pos 0
 
 -- the whole number at a key of the top
@@ -100,7 +110,7 @@ top_number s keys.TickMs = s.tick_ms
 top_number s keys.HorizonMs = s.horizon_ms
 top_number s _ = pos 0
 
--- ---- visits and sides
+-- ---- visits, sections and sides
 
 -- the visits of the train of this number
 abbrev pub visits_at : ParsedSheet → ℕ → List (List (List ℕ))
@@ -109,6 +119,10 @@ visits_at s i = of_entry (λ (t : ParsedTrain). t.visits) [] s.trains i
 -- how long it stands at them, where that is said
 abbrev pub dwells_at : ParsedSheet → ℕ → Option (List ℤ)
 dwells_at s i = of_entry (λ (t : ParsedTrain). t.dwell_ms) None s.trains i
+
+-- the sections of the overlap of this number
+abbrev pub sections_at : ParsedSheet → ℕ → List (List ℕ)
+sections_at s i = of_entry (λ (o : ParsedOverlap). o.sections) [] s.overlaps i
 
 -- the side for which the signal of this number stands
 abbrev pub toward_at : ParsedSheet → ℕ → Side

@@ -1,5 +1,5 @@
 -- What is wrong at a place of a sheet, in words.
-use Rattle.std.specs.Prelude.{ℕ, ℤ, ◌==◌, List, [], ◌∷◌, ◌++◌, codes, decimal, if◌then◌else◌}
+use Rattle.std.specs.Prelude.{ℕ, ℤ, Bool, true, false, ◌==◌, List, [], ◌∷◌, ◌++◌, codes, decimal, if◌then◌else◌}
 use Rattle.std.specs.Fmt.{signed_decimal}
 use Rattle.design_table.specs.declared.key.Key.{Key}
 use Rattle.design_table.specs.declared.key.Key.TheVariants as keys
@@ -17,28 +17,47 @@ use Rattle.fault_words.specs.Limits.{field_words, top_words}
 use Rattle.fault_words.specs.Names.{first_number, unknown_name}
 use Rattle.fault_words.specs.Tracks.{edges_at, inner_node, is_boundary, signal_beside, visits_of}
 use Rattle.fault_words.specs.Words.{edges_words, is_words, kind_text, line_of}
+use Rattle.design_table.specs.Keys.{key_text}
 
--- ---- D03: `the name pw stands already at node 3`
+-- ---- D03: `the name pw stands already at node 3`, or `signal s1 has overlap 2 already, and is to have one at most`
 
-abbrev pub repeated_words : ParsedSheet → EntryKind → ℕ → List ℕ
-repeated_words s kind i =
-    codes "the name " ++ text_at s kind i keys.Name ++ codes " stands already at " ++ kind_text kind ++ codes " "
-    ++ decimal (first_number s kind i)
+-- the entry of a kind that has first what this one has at a key
+abbrev pub first_words : ParsedSheet → EntryKind → ℕ → Key → List ℕ
+first_words s kind i key = kind_text kind ++ codes " " ++ decimal (first_number s kind i key)
+
+abbrev pub named_words : ParsedSheet → EntryKind → ℕ → Key → List ℕ
+named_words s kind i key =
+    codes "the name " ++ text_at s kind i key ++ codes " stands already at " ++ first_words s kind i key
+
+abbrev pub second_words : ParsedSheet → EntryKind → ℕ → Key → List ℕ
+second_words s kind i key =
+    codes "signal " ++ text_at s kind i key ++ codes " has " ++ first_words s kind i key
+    ++ codes " already, and is to have one at most"
+
+-- the key is that of a signal
+abbrev pub is_signal : Key → Bool
+is_signal keys.Signal = true
+is_signal _ = false
+
+abbrev pub repeated_words : ParsedSheet → EntryKind → ℕ → Key → List ℕ
+repeated_words s kind i key = if is_signal key then second_words s kind i key else named_words s kind i key
 
 -- ---- D04: `there is no node pw_1`
 
--- what the name at a key is to be the name of
-abbrev pub named_kind : Key → EntryKind
-named_kind keys.Vehicle = kinds.Vehicle
-named_kind keys.FirstTrain = kinds.Train
-named_kind keys.ThenTrain = kinds.Train
-named_kind keys.FromTrain = kinds.Train
-named_kind keys.ToTrain = kinds.Train
-named_kind _ = kinds.Node
+-- the key by whose word the thing is called of which a key has the name
+abbrev pub named_key : Key → Key
+named_key keys.Vehicle = keys.Vehicle
+named_key keys.FirstTrain = keys.Train
+named_key keys.ThenTrain = keys.Train
+named_key keys.FromTrain = keys.Train
+named_key keys.ToTrain = keys.Train
+named_key keys.Signal = keys.Signal
+named_key keys.Sections = keys.Section
+named_key _ = keys.Node
 
 abbrev pub unknown_words : ParsedSheet → EntryKind → ℕ → Key → List ℕ
 unknown_words s kind i key =
-    codes "there is no " ++ kind_text (named_kind key) ++ codes " " ++ unknown_name s kind i key
+    codes "there is no " ++ key_text (named_key key) ++ codes " " ++ unknown_name s kind i key
 
 -- ---- D06: `node pw has edges x1, x2, x3 at side a and edge x4 at side b: ..`, or `edge x joins node pw to itself`
 
@@ -160,7 +179,7 @@ entry_fault s code.D12 kind i = circle_words s i
 entry_fault s _ kind i = []
 
 abbrev pub field_fault : ParsedSheet → Code → EntryKind → ℕ → Key → List ℕ
-field_fault s code.D03 kind i key = repeated_words s kind i
+field_fault s code.D03 kind i key = repeated_words s kind i key
 field_fault s code.D04 kind i key = unknown_words s kind i key
 field_fault s code.D05 kind i key = field_words s kind i key
 field_fault s code.D09 kind i key = zero_words s key (number_at s kind i key)

@@ -41,6 +41,8 @@ field_form keys.ThenVisit = codes "a whole number"
 field_form keys.FromVisit = codes "a whole number"
 field_form keys.ToVisit = codes "a whole number"
 field_form keys.MaxMs = codes "a whole number"
+field_form keys.HoldMs = codes "a whole number"
+field_form keys.Sections = codes "an array of names of sections"
 field_form keys.Visits = codes "an array of arrays of names of nodes"
 field_form keys.DwellMs = codes "an array of whole numbers"
 field_form _ = codes "a text of 1 to 32 letters, digits, _ or -"
@@ -70,6 +72,7 @@ any_text kinds.Vehicle = codes "a vehicle"
 any_text kinds.Train = codes "a train"
 any_text kinds.Order = codes "an order"
 any_text kinds.Within = codes "a within"
+any_text kinds.Overlap = codes "an overlap"
 
 -- `the key colour is none of an edge`
 abbrev pub none_words : List ℕ → List ℕ → List ℕ

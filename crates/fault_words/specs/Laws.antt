@@ -1,5 +1,5 @@
 -- What the sentences have to do with the refusals.
-use Rattle.std.specs.Prelude.{◌≡◌, ℕ, ℤ, List, ◌++◌}
+use Rattle.std.specs.Prelude.{◌≡◌, ℕ, ℤ, List, ◌++◌, not, length}
 use Rattle.design_table.specs.declared.key.Key.{Key}
 use Rattle.design_table.specs.declared.key.Key.TheVariants as keys
 use Rattle.design_table.specs.declared.place.EntryKind.{EntryKind}
@@ -7,9 +7,11 @@ use Rattle.design_table.specs.declared.place.EntryKind.TheVariants as kinds
 use Rattle.design_table.specs.declared.place.Place.{Place}
 use Rattle.design_table.specs.declared.place.Place.TheVariants.{Field}
 use Rattle.design_table.specs.Keys.{kind_key}
-use Rattle.design_table.specs.Parsed.{ParsedEdge, ParsedVehicle, ParsedWithin, ParsedSheet}
+use Rattle.design_table.specs.Parsed.{ParsedEdge, ParsedVehicle, ParsedWithin, ParsedOverlap, ParsedSheet}
+use Rattle.design_table.specs.Reads.{at}
+use Rattle.rail_base.specs.Admission.{is_from}
 use Rattle.infra_reader.specs.Limits.{array_outside, count_outside, edge_outside, track_outside, traffic_outside}
-use Rattle.infra_reader.specs.Limits.{train_outside, unless_from, vehicle_outside, within_outside}
+use Rattle.infra_reader.specs.Limits.{train_outside, unless_from, vehicle_outside, within_outside, overlap_outside}
 use Rattle.fault_words.specs.Limits.{fewest_of, greatest_of, least_of, most_of}
 
 -- the place of a number of an entry that is not one of those that are said to be allowed
@@ -34,6 +36,9 @@ pub record AllowedIsNotRefused : Type 0 where
       ++ (unless_allowed kinds.Vehicle i keys.BrakeMmS2 v.brake_mm_s2
       ++ unless_allowed kinds.Vehicle i keys.SpeedMmS v.speed_mm_s))
   pub withins : (i : ℕ) (w : ParsedWithin) → within_outside i w ≡ unless_allowed kinds.Within i keys.MaxMs w.max_ms
+  pub overlaps : (i : ℕ) (o : ParsedOverlap) → overlap_outside i o
+      ≡ at (not (is_from 1 16 (length o.sections))) (Field kinds.Overlap i keys.Sections)
+      ++ unless_allowed kinds.Overlap i keys.HoldMs o.hold_ms
   pub track : (s : ParsedSheet) → track_outside s
       ≡ unless_few kinds.Node s.nodes
       ++ (unless_few_allowed edge_outside kinds.Edge s.edges
@@ -42,4 +47,5 @@ pub record AllowedIsNotRefused : Type 0 where
       ≡ unless_few_allowed vehicle_outside kinds.Vehicle s.vehicles
       ++ (unless_few_allowed train_outside kinds.Train s.trains
       ++ (unless_few kinds.Order s.orders
-      ++ unless_few_allowed within_outside kinds.Within s.withins))
+      ++ (unless_few_allowed within_outside kinds.Within s.withins
+      ++ unless_few_allowed overlap_outside kinds.Overlap s.overlaps)))

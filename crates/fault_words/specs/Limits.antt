@@ -10,7 +10,7 @@ use Rattle.design_table.specs.declared.place.EntryKind.{EntryKind}
 use Rattle.design_table.specs.declared.place.EntryKind.TheVariants as kinds
 use Rattle.design_table.specs.Parsed.{ParsedSheet}
 use Rattle.rail_base.specs.Admission.{is_from}
-use Rattle.fault_words.specs.Entries.{dwells_at, number_at, visits_at}
+use Rattle.fault_words.specs.Entries.{dwells_at, number_at, sections_at, visits_at}
 use Rattle.fault_words.specs.Words.{allowed_words, is_words, kind_text}
 
 -- ---- numbers
@@ -18,6 +18,7 @@ use Rattle.fault_words.specs.Words.{allowed_words, is_words, kind_text}
 -- the least number that is allowed at a key of an entry
 abbrev pub least_of : Key → ℕ
 least_of keys.MaxMs = 0
+least_of keys.HoldMs = 0
 least_of _ = 1
 
 -- the greatest, in mm, mm/s, mm/s2 or ms
@@ -25,6 +26,7 @@ abbrev pub greatest_of : EntryKind → Key → ℕ
 greatest_of kinds.Edge keys.LengthMm = 10000000
 greatest_of kinds.Vehicle keys.LengthMm = 2000000
 greatest_of kinds.Within keys.MaxMs = 86400000
+greatest_of kinds.Overlap keys.HoldMs = 600000
 greatest_of _ _ = 100000
 
 -- `length_mm is 0, and 1 to 10000000 are allowed`
@@ -50,6 +52,7 @@ count_of s kinds.Vehicle = length s.vehicles
 count_of s kinds.Train = length s.trains
 count_of s kinds.Order = length s.orders
 count_of s kinds.Within = length s.withins
+count_of s kinds.Overlap = length s.overlaps
 
 -- how many there are to be at least, and at most
 abbrev pub fewest_of : EntryKind → ℕ
@@ -64,6 +67,7 @@ most_of kinds.Vehicle = 64
 most_of kinds.Train = 128
 most_of kinds.Order = 256
 most_of kinds.Within = 256
+most_of kinds.Overlap = 1000
 
 -- `there are 129 trains, and 1 to 128 are allowed`
 abbrev pub count_words : ParsedSheet → EntryKind → List ℕ
@@ -91,6 +95,12 @@ abbrev pub visits_words : List (List (List ℕ)) → List ℕ
 visits_words visits =
     if is_from 1 16 (length visits) then visit_words visits (first_crowded visits)
     else codes "there are " ++ decimal (length visits) ++ codes " visits" ++ allowed_words 1 16
+
+-- ---- sections of an overlap
+
+-- `there are 17 sections, and 1 to 16 are allowed`
+abbrev pub sections_words : ℕ → List ℕ
+sections_words n = codes "there are " ++ decimal n ++ codes " sections" ++ allowed_words 1 16
 
 -- ---- how long a train stands at its visits
 
@@ -137,6 +147,7 @@ top_words s keys.Vehicle = count_words s kinds.Vehicle
 top_words s keys.Train = count_words s kinds.Train
 top_words s keys.Order = count_words s kinds.Order
 top_words s keys.Within = count_words s kinds.Within
+top_words s keys.Overlap = count_words s kinds.Overlap
 top_words s _ = []
 
 -- the key is that of visits
@@ -149,9 +160,15 @@ abbrev pub is_dwells : Key → Bool
 is_dwells keys.DwellMs = true
 is_dwells _ = false
 
--- the visits of an entry, its times to stand, or a number
+-- that of the sections of an overlap
+abbrev pub is_sections : Key → Bool
+is_sections keys.Sections = true
+is_sections _ = false
+
+-- the visits of an entry, its times to stand, its sections, or a number
 abbrev pub field_words : ParsedSheet → EntryKind → ℕ → Key → List ℕ
 field_words s kind i key =
     if is_visits key then visits_words (visits_at s i)
     else if is_dwells key then dwells_words (visits_at s i) (dwells_at s i)
+    else if is_sections key then sections_words (length (sections_at s i))
     else number_words key (number_at s kind i key) (least_of key) (greatest_of kind key)

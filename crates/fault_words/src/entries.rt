@@ -3,14 +3,15 @@
 ghost use Rattle.std.specs.Prelude.{◌≡◌, ◌-◌, option_map, slice_get};
 ghost use Rattle.std.specs.Option.{option_copied};
 ghost use Rattle.design_table.specs.Parsed.{node_seen, edge_seen, signal_seen, vehicle_seen, train_seen, order_seen};
-ghost use Rattle.design_table.specs.Parsed.{within_seen, sheet_seen};
+ghost use Rattle.design_table.specs.Parsed.{within_seen, overlap_seen, sheet_seen};
 ghost use Rattle.fault_words.specs.Entries.{node_text, edge_text, signal_text, vehicle_text, train_text, order_text};
 ghost use Rattle.fault_words.specs.Entries.{within_text, text_at, edge_number, vehicle_number, order_number};
-ghost use Rattle.fault_words.specs.Entries.{within_number, number_at, top_number, toward_at};
+ghost use Rattle.fault_words.specs.Entries.{within_number, overlap_text, overlap_number, number_at, top_number};
+ghost use Rattle.fault_words.specs.Entries.{toward_at};
 
 use design_table::{
-    EdgeEntry, EntryKind, Key, NodeEntry, OrderEntry, Sheet, Side, SignalEntry, TrainEntry,
-    VehicleEntry, WithinEntry,
+    EdgeEntry, EntryKind, Key, NodeEntry, OrderEntry, OverlapEntry, Sheet, Side, SignalEntry,
+    TrainEntry, VehicleEntry, WithinEntry,
 };
 
 /// The entry of a number.
@@ -96,6 +97,16 @@ fn within_text<'a>(within: &WithinEntry<'a>, key: Key) -> &'a str
     }
 }
 
+/// The name that an overlap has at a key.
+fn overlap_text<'a>(overlap: &OverlapEntry<'a>, key: Key) -> &'a str
+    ensures { result.now ≡ overlap_text key (overlap_seen overlap.now) }
+{
+    match key {
+        Key::Signal => overlap.signal,
+        _ => "",
+    }
+}
+
 /// The name that an entry has at a key.
 #[tactic(auto, using(crate::proofs::Seen::seen_at))]
 pub(crate) fn text_at<'a>(sheet: &Sheet<'a>, kind: EntryKind, number: u64, key: Key) -> &'a str
@@ -128,6 +139,10 @@ pub(crate) fn text_at<'a>(sheet: &Sheet<'a>, kind: EntryKind, number: u64, key: 
         },
         EntryKind::Within => match entry(sheet.withins.as_slice(), number) {
             Some(within) => within_text(within, key),
+            None => "",
+        },
+        EntryKind::Overlap => match entry(sheet.overlaps.as_slice(), number) {
+            Some(overlap) => overlap_text(overlap, key),
             None => "",
         },
     }
@@ -180,6 +195,16 @@ fn within_number(within: &WithinEntry, key: Key) -> i64
     }
 }
 
+/// The whole number that an overlap has at a key.
+fn overlap_number(overlap: &OverlapEntry, key: Key) -> i64
+    ensures { result ≡ overlap_number key (overlap_seen overlap.now) }
+{
+    match key {
+        Key::HoldMs => overlap.hold_ms,
+        _ => 0,
+    }
+}
+
 /// The whole number that an entry has at a key.
 #[tactic(auto, using(crate::proofs::Seen::seen_at))]
 pub(crate) fn number_at(sheet: &Sheet, kind: EntryKind, number: u64, key: Key) -> i64
@@ -200,6 +225,10 @@ pub(crate) fn number_at(sheet: &Sheet, kind: EntryKind, number: u64, key: Key) -
         },
         EntryKind::Within => match entry(sheet.withins.as_slice(), number) {
             Some(within) => within_number(within, key),
+            None => 0,
+        },
+        EntryKind::Overlap => match entry(sheet.overlaps.as_slice(), number) {
+            Some(overlap) => overlap_number(overlap, key),
             None => 0,
         },
         _ => 0,

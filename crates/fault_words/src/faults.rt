@@ -8,9 +8,10 @@ ghost use Rattle.rail_text.specs.Added.{AddsText};
 ghost use Rattle.fault_words.specs.Entries.{visits_at};
 ghost use Rattle.fault_words.specs.Faults.{boundary_words, circle_words, count_visits, crowded_words, edges_of};
 ghost use Rattle.fault_words.specs.Faults.{entry_fault, fault_sentence, fault_words, field_fault, first_nodes};
-ghost use Rattle.fault_words.specs.Faults.{loop_words, missing_words, named_kind, node_words, repeated_words};
+ghost use Rattle.fault_words.specs.Faults.{loop_words, missing_words, named_key, node_words, repeated_words};
 ghost use Rattle.fault_words.specs.Faults.{routes_fault, side_text, sides_words, signal_place_words, signal_words};
-ghost use Rattle.fault_words.specs.Faults.{beside_words, nothing_text, nothing_words};
+ghost use Rattle.fault_words.specs.Faults.{beside_words, first_words, is_signal, named_words, nothing_text, nothing_words};
+ghost use Rattle.fault_words.specs.Faults.{second_words};
 ghost use Rattle.fault_words.specs.Faults.{start_words, top_fault, train_key, unknown_words, zero_words};
 ghost use Rattle.fault_words.specs.Tracks.{inner_node};
 
@@ -25,35 +26,97 @@ use std::alloc::{AllocError, Global};
 
 // ---- D03
 
+/// Appends which entry has first what this one has at a key.
+fn put_first(
+    alloc: Global,
+    text: &mut Vec<u8>,
+    sheet: &Sheet,
+    kind: EntryKind,
+    number: u64,
+    key: Key,
+) -> Result<(), AllocError>
+    ensures { OnOk result (AddsText text.old text.new (first_words (sheet_seen sheet.now) kind number key)) }
+{
+    put_kind(text, kind)?;
+    put_text(text, " ")?;
+    put_number(text, first_number(alloc, sheet, kind, number, key)?)?;
+    Ok(())
+}
+
 /// Appends which name stands twice, and where it stands first.
+fn put_named(
+    alloc: Global,
+    text: &mut Vec<u8>,
+    sheet: &Sheet,
+    kind: EntryKind,
+    number: u64,
+    key: Key,
+) -> Result<(), AllocError>
+    ensures { OnOk result (AddsText text.old text.new (named_words (sheet_seen sheet.now) kind number key)) }
+{
+    put_text(text, "the name ")?;
+    put_text(text, text_at(sheet, kind, number, key))?;
+    put_text(text, " stands already at ")?;
+    put_first(alloc, text, sheet, kind, number, key)?;
+    Ok(())
+}
+
+/// Appends which signal has two overlaps, and which is the first.
+fn put_second(
+    alloc: Global,
+    text: &mut Vec<u8>,
+    sheet: &Sheet,
+    kind: EntryKind,
+    number: u64,
+    key: Key,
+) -> Result<(), AllocError>
+    ensures { OnOk result (AddsText text.old text.new (second_words (sheet_seen sheet.now) kind number key)) }
+{
+    put_text(text, "signal ")?;
+    put_text(text, text_at(sheet, kind, number, key))?;
+    put_text(text, " has ")?;
+    put_first(alloc, text, sheet, kind, number, key)?;
+    put_text(text, " already, and is to have one at most")?;
+    Ok(())
+}
+
+/// Whether the key is that of a signal.
+fn is_signal(key: Key) -> bool
+    ensures { result ≡ is_signal key }
+{
+    matches!(key, Key::Signal)
+}
+
+/// Appends which name stands twice, or which signal has two overlaps.
 fn put_repeated(
     alloc: Global,
     text: &mut Vec<u8>,
     sheet: &Sheet,
     kind: EntryKind,
     number: u64,
+    key: Key,
 ) -> Result<(), AllocError>
-    ensures { OnOk result (AddsText text.old text.new (repeated_words (sheet_seen sheet.now) kind number)) }
+    ensures { OnOk result (AddsText text.old text.new (repeated_words (sheet_seen sheet.now) kind number key)) }
 {
-    put_text(text, "the name ")?;
-    put_text(text, text_at(sheet, kind, number, Key::Name))?;
-    put_text(text, " stands already at ")?;
-    put_kind(text, kind)?;
-    put_text(text, " ")?;
-    put_number(text, first_number(alloc, sheet, kind, number)?)?;
-    Ok(())
+    if is_signal(key) {
+        put_second(alloc, text, sheet, kind, number, key)
+    } else {
+        put_named(alloc, text, sheet, kind, number, key)
+    }
 }
 
 // ---- D04
 
-/// What the name at a key is to be the name of.
-fn named_kind(key: Key) -> EntryKind
-    ensures { result ≡ named_kind key }
+/// The key by whose word the thing is called of which a key has the name.
+fn named_key(key: Key) -> Key
+    ensures { result ≡ named_key key }
 {
     match key {
-        Key::Vehicle => EntryKind::Vehicle,
-        Key::FirstTrain | Key::ThenTrain | Key::FromTrain | Key::ToTrain => EntryKind::Train,
-        _ => EntryKind::Node,
+        Key::Vehicle => Key::Vehicle,
+        Key::FirstTrain | Key::ThenTrain | Key::FromTrain | Key::ToTrain => Key::Train,
+        Key::Signal => Key::Signal,
+        Key::Sections => Key::Section,
+        _ => Key::Node,
     }
 }
 
@@ -68,7 +131,7 @@ fn put_unknown(
     ensures { OnOk result (AddsText text.old text.new (unknown_words (sheet_seen sheet.now) kind number key)) }
 {
     put_text(text, "there is no ")?;
-    put_kind(text, named_kind(key))?;
+    put_text(text, named_key(key).text())?;
     put_text(text, " ")?;
     put_text(text, unknown_name(sheet, kind, number, key))?;
     Ok(())
@@ -369,7 +432,7 @@ fn put_field_fault(
     ensures { OnOk result (AddsText text.old text.new (field_fault (sheet_seen sheet.now) code kind number key)) }
 {
     match code {
-        Code::D03 => put_repeated(alloc, text, sheet, kind, number),
+        Code::D03 => put_repeated(alloc, text, sheet, kind, number, key),
         Code::D04 => put_unknown(text, sheet, kind, number, key),
         Code::D05 => put_field(text, sheet, kind, number, key),
         Code::D09 => put_zero(text, sheet, key, number_at(sheet, kind, number, key)),

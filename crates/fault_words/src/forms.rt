@@ -92,7 +92,9 @@ fn field_form(key: Key) -> &'static str
         | Key::ThenVisit
         | Key::FromVisit
         | Key::ToVisit
-        | Key::MaxMs => "a whole number",
+        | Key::MaxMs
+        | Key::HoldMs => "a whole number",
+        Key::Sections => "an array of names of sections",
         Key::Visits => "an array of arrays of names of nodes",
         Key::DwellMs => "an array of whole numbers",
         _ => "a text of 1 to 32 letters, digits, _ or -",
@@ -176,6 +178,7 @@ fn any_text(kind: EntryKind) -> &'static str
         EntryKind::Train => "a train",
         EntryKind::Order => "an order",
         EntryKind::Within => "a within",
+        EntryKind::Overlap => "an overlap",
     }
 }
 

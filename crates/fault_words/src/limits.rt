@@ -7,11 +7,12 @@ ghost use Rattle.design_table.specs.Texts.{visits_seen};
 ghost use Rattle.design_table.specs.Parsed.{sheet_seen, train_seen};
 ghost use Rattle.rail_base.specs.Admission.{is_from};
 ghost use Rattle.rail_text.specs.Added.{AddsText};
-ghost use Rattle.fault_words.specs.Entries.{dwells_at, visits_at};
+ghost use Rattle.fault_words.specs.Entries.{dwells_at, sections_at, visits_at};
 ghost use Rattle.fault_words.specs.Limits.{count_of, count_words, fewest_of, field_words, first_crowded, greatest_of};
 ghost use Rattle.fault_words.specs.Limits.{horizon_words, least_of, most_of, nodes_at, number_words, top_words};
 ghost use Rattle.fault_words.specs.Limits.{begin_words, dwells_words, is_dwell, is_dwells, is_visits, lengths_words};
 ghost use Rattle.fault_words.specs.Limits.{long_words, ticks_words, times_words, visit_words, visits_words};
+ghost use Rattle.fault_words.specs.Limits.{is_sections, sections_words};
 
 use crate::entries::{entry, number_at};
 use crate::words::{put_allowed, put_is, put_kind, put_text, put_whole};
@@ -24,7 +25,7 @@ fn least_of(key: Key) -> u64
     ensures { result ≡ least_of key }
 {
     match key {
-        Key::MaxMs => 0,
+        Key::MaxMs | Key::HoldMs => 0,
         _ => 1,
     }
 }
@@ -37,6 +38,7 @@ fn greatest_of(kind: EntryKind, key: Key) -> u64
         (EntryKind::Edge, Key::LengthMm) => 10_000_000,
         (EntryKind::Vehicle, Key::LengthMm) => 2_000_000,
         (EntryKind::Within, Key::MaxMs) => 86_400_000,
+        (EntryKind::Overlap, Key::HoldMs) => 600_000,
         _ => 100_000,
     }
 }
@@ -85,6 +87,7 @@ fn count_of(sheet: &Sheet, kind: EntryKind) -> usize
         EntryKind::Train => sheet.trains.len(),
         EntryKind::Order => sheet.orders.len(),
         EntryKind::Within => sheet.withins.len(),
+        EntryKind::Overlap => sheet.overlaps.len(),
     }
 }
 
@@ -105,7 +108,7 @@ fn most_of(kind: EntryKind) -> u64
     match kind {
         EntryKind::Node => 2000,
         EntryKind::Edge => 4000,
-        EntryKind::Signal => 1000,
+        EntryKind::Signal | EntryKind::Overlap => 1000,
         EntryKind::Vehicle => 64,
         EntryKind::Train => 128,
         EntryKind::Order | EntryKind::Within => 256,
@@ -196,6 +199,7 @@ pub(crate) fn put_top(text: &mut Vec<u8>, sheet: &Sheet, key: Key) -> Result<(),
         Key::Train => put_count(text, sheet, EntryKind::Train),
         Key::Order => put_count(text, sheet, EntryKind::Order),
         Key::Within => put_count(text, sheet, EntryKind::Within),
+        Key::Overlap => put_count(text, sheet, EntryKind::Overlap),
         _ => Ok(()),
     }
 }
@@ -208,6 +212,27 @@ fn put_visits_at(text: &mut Vec<u8>, sheet: &Sheet, number: u64) -> Result<(), A
     match entry(sheet.trains.as_slice(), number) {
         Some(train) => put_visits(text, train.visits.as_slice()),
         None => put_visits(text, &[]),
+    }
+}
+
+/// Appends how many sections an overlap has, and how many are allowed.
+fn put_sections(text: &mut Vec<u8>, count: usize) -> Result<(), AllocError>
+    ensures { OnOk result (AddsText text.old text.new (sections_words count)) }
+{
+    put_text(text, "there are ")?;
+    put_number(text, count as u64)?;
+    put_text(text, " sections")?;
+    put_allowed(text, 1, 16)
+}
+
+/// How many sections the overlap of a number has.
+#[tactic(auto, using(crate::proofs::Seen::seen_at, crate::proofs::Seen::text_count))]
+fn section_count(sheet: &Sheet, number: u64) -> usize
+    ensures { result ≡ length (sections_at (sheet_seen sheet.now) number) }
+{
+    match entry(sheet.overlaps.as_slice(), number) {
+        Some(overlap) => overlap.sections.len(),
+        None => 0,
     }
 }
 
@@ -316,7 +341,14 @@ fn is_dwells(key: Key) -> bool
     matches!(key, Key::DwellMs)
 }
 
-/// Appends the visits of an entry, its times to stand, or a number, and what is allowed.
+/// Whether it is that of the sections of an overlap.
+fn is_sections(key: Key) -> bool
+    ensures { result ≡ is_sections key }
+{
+    matches!(key, Key::Sections)
+}
+
+/// Appends the visits of an entry, its times to stand, its sections, or a number, and what is allowed.
 pub(crate) fn put_field(
     text: &mut Vec<u8>,
     sheet: &Sheet,
@@ -330,6 +362,8 @@ pub(crate) fn put_field(
         put_visits_at(text, sheet, number)
     } else if is_dwells(key) {
         put_dwells_at(text, sheet, number)
+    } else if is_sections(key) {
+        put_sections(text, section_count(sheet, number))
     } else {
         let found = number_at(sheet, kind, number, key);
         put_number_words(text, key, found, least_of(key), greatest_of(kind, key))

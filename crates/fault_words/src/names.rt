@@ -4,13 +4,14 @@ ghost use Rattle.std.specs.Prelude.{◌≡◌, map, option_map, IfOk};
 ghost use Rattle.std.specs.List.{find};
 ghost use Rattle.design_table.specs.Texts.{texts, visits_seen};
 ghost use Rattle.design_table.specs.Parsed.{sheet_seen};
-ghost use Rattle.infra_reader.specs.Names.{is_among, node_names, number_in};
+ghost use Rattle.infra_reader.specs.Names.{is_among, node_names, number_in, section_names};
 ghost use Rattle.fault_words.specs.Names.{first_number, first_place, is_unknown, names_of, unknown_in_visits};
-ghost use Rattle.fault_words.specs.Names.{unknown_name};
+ghost use Rattle.fault_words.specs.Names.{is_nowhere, unknown_name, unknown_section};
 
 use crate::entries::{entry, text_at};
 use design_table::{
-    EdgeEntry, EntryKind, Key, NodeEntry, Place, Sheet, SignalEntry, TrainEntry, VehicleEntry,
+    EdgeEntry, EntryKind, Key, NodeEntry, OverlapEntry, Place, Sheet, SignalEntry, TrainEntry,
+    VehicleEntry,
 };
 use std::alloc::{AllocError, Global};
 
@@ -52,7 +53,17 @@ fn train_names<'a>(alloc: Global, trains: &[TrainEntry<'a>]) -> Result<Vec<&'a s
     trains.iter().map(|train| train.name).collect(alloc)
 }
 
-/// The names of the entries of a kind.
+/// The names of the signals at which overlaps are.
+fn overlap_signals<'a>(
+    alloc: Global,
+    overlaps: &[OverlapEntry<'a>],
+) -> Result<Vec<&'a str>, AllocError>
+    ensures { IfOk result (λ names. names.items ≡ map (λ overlap. overlap.signal) overlaps.now) }
+{
+    overlaps.iter().map(|overlap| overlap.signal).collect(alloc)
+}
+
+/// The names of the entries of a kind; those of overlaps are their signals'.
 fn names_of<'a>(
     alloc: Global,
     sheet: &Sheet<'a>,
@@ -67,6 +78,7 @@ fn names_of<'a>(
         EntryKind::Vehicle => vehicle_names(alloc, sheet.vehicles.as_slice()),
         EntryKind::Train => train_names(alloc, sheet.trains.as_slice()),
         EntryKind::Order | EntryKind::Within => Ok(Vec::new(alloc)),
+        EntryKind::Overlap => overlap_signals(alloc, sheet.overlaps.as_slice()),
     }
 }
 
@@ -107,6 +119,30 @@ fn unknown_in_visits<'a>(sheet: &Sheet, visits: &[Vec<&'a str>]) -> &'a str
     ""
 }
 
+/// Whether an edge has a section of this name.
+fn is_section(sheet: &Sheet, name: &str) -> bool
+    ensures { result ≡ is_among (section_names (sheet_seen sheet.now)) name.now }
+{
+    for edge in sheet.edges.as_slice() {
+        if name == edge.section {
+            return true;
+        }
+    }
+    false
+}
+
+/// The first of these names that is no section's.
+fn unknown_section<'a>(sheet: &Sheet, names: &[&'a str]) -> &'a str
+    ensures { result.now ≡ unknown_section (sheet_seen sheet.now) (texts names.now) }
+{
+    for name in names {
+        if !is_section(sheet, name) {
+            return name;
+        }
+    }
+    ""
+}
+
 /// The name at a place that nothing has.
 #[tactic(auto, using(crate::proofs::Seen::seen_at))]
 pub(crate) fn unknown_name<'a>(sheet: &Sheet<'a>, kind: EntryKind, number: u64, key: Key) -> &'a str
@@ -115,6 +151,10 @@ pub(crate) fn unknown_name<'a>(sheet: &Sheet<'a>, kind: EntryKind, number: u64, 
     match (kind, key) {
         (EntryKind::Train, Key::Visits) => match entry(sheet.trains.as_slice(), number) {
             Some(train) => unknown_in_visits(sheet, train.visits.as_slice()),
+            None => "",
+        },
+        (EntryKind::Overlap, Key::Sections) => match entry(sheet.overlaps.as_slice(), number) {
+            Some(overlap) => unknown_section(sheet, overlap.sections.as_slice()),
             None => "",
         },
         _ => text_at(sheet, kind, number, key),
@@ -133,17 +173,18 @@ fn number_in(names: &[&str], name: &str) -> u64
     names.len() as u64 + 1
 }
 
-/// The number of the first entry that has the name of this one.
+/// The number of the first entry that has the name that this one has at a key.
 pub(crate) fn first_number(
     alloc: Global,
     sheet: &Sheet,
     kind: EntryKind,
     number: u64,
+    key: Key,
 ) -> Result<u64, AllocError>
-    ensures { IfOk result (λ first. first ≡ first_number (sheet_seen sheet.now) kind number) }
+    ensures { IfOk result (λ first. first ≡ first_number (sheet_seen sheet.now) kind number key) }
 {
     let names = names_of(alloc, sheet, kind)?;
-    Ok(number_in(names.as_slice(), text_at(sheet, kind, number, Key::Name)))
+    Ok(number_in(names.as_slice(), text_at(sheet, kind, number, key)))
 }
 
 /// Where a name that stands twice, and is refused at its second place, stands first.
@@ -152,8 +193,12 @@ pub fn first_place(alloc: Global, sheet: &Sheet, place: Place) -> Result<Option<
 {
     match place {
         Place::Field(kind, number, Key::Name) => {
-            let first = first_number(alloc, sheet, kind, number)?;
+            let first = first_number(alloc, sheet, kind, number, Key::Name)?;
             Ok(Some(Place::Field(kind, first, Key::Name)))
+        }
+        Place::Field(kind, number, Key::Signal) => {
+            let first = first_number(alloc, sheet, kind, number, Key::Signal)?;
+            Ok(Some(Place::Field(kind, first, Key::Signal)))
         }
         _ => Ok(None),
     }

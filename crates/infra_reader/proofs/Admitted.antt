@@ -1,5 +1,5 @@
 -- A sheet that no code refuses gives an admitted station.
-use Rattle.std.proofs.Common.{◌≡◌, ℕ, zero, suc, ◌+◌, ◌-◌, ◌≤◌, inl, inr, Bool, true, false, not, ◌&&◌, ◌||◌, ◌==◌, nat_le, ℤ, pos, List, [], ◌∷◌, ◌++◌, length, take, get_or, map, bytes_eq, refl, sym, ap, ap₂, subst, ◌∙◌, arith}
+use Rattle.std.proofs.Common.{◌≡◌, ℕ, zero, suc, ◌+◌, ◌-◌, ◌≤◌, inl, inr, Bool, true, false, not, ◌&&◌, ◌||◌, ◌==◌, nat_le, ℤ, pos, List, [], ◌∷◌, ◌++◌, length, take, get_or, map, bytes_eq, refl, sym, ap, ap₂, subst, ◌∙◌, arith, eqb-true}
 use Rattle.std.specs.Prelude.{int_le, is_none}
 use Rattle.std.specs.List.{list_any, list_all}
 use Rattle.design_table.specs.declared.key.Key.TheVariants as keys
@@ -8,7 +8,7 @@ use Rattle.design_table.specs.declared.place.EntryKind.TheVariants as kinds
 use Rattle.design_table.specs.declared.place.Place.{Place}
 use Rattle.design_table.specs.declared.place.Place.TheVariants.{Top, Entry, Field}
 use Rattle.design_table.specs.Reads.{at, in_each}
-use Rattle.design_table.specs.Parsed.{ParsedNode, ParsedEdge, ParsedSignal, ParsedVehicle, ParsedTrain, ParsedWithin, ParsedSheet}
+use Rattle.design_table.specs.Parsed.{ParsedNode, ParsedEdge, ParsedSignal, ParsedVehicle, ParsedTrain, ParsedWithin, ParsedOverlap, ParsedSheet}
 use Rattle.rail_base.specs.declared.station.Station.{Station}
 use Rattle.rail_base.specs.declared.station.Node.{Node}
 use Rattle.rail_base.specs.declared.station.Edge.{Edge}
@@ -18,16 +18,17 @@ use Rattle.rail_base.specs.declared.station.Train.{Train}
 use Rattle.rail_base.specs.declared.station.Order.{Order}
 use Rattle.rail_base.specs.declared.station.Side.TheVariants.{A, B}
 use Rattle.rail_base.specs.declared.station.NodeNo.{NodeNo}
+use Rattle.rail_base.specs.declared.station.SectionNo.{SectionNo}
 use Rattle.rail_base.specs.Numbering.{one_to}
 use Rattle.rail_base.specs.Members.{In, all_pairs}
-use Rattle.rail_base.specs.Stations.{node_of, horizon, per_tick_speed, per_tick_accel, longest_dwell}
-use Rattle.rail_base.specs.Admission.{is_from, is_name, are_names, is_node, is_vehicle, is_visit, is_good_node, is_good_edge, are_numbered, is_good_signal, are_apart, is_good_vehicle, is_good_set, are_good_dwells, is_good_train, is_good_order, is_good_within, are_few, is_timed, are_named, is_sound_track, is_sound_traffic, is_admitted}
+use Rattle.rail_base.specs.Stations.{node_of, horizon, per_tick_speed, per_tick_accel, longest_dwell, most_overlaps}
+use Rattle.rail_base.specs.Admission.{is_from, is_name, are_names, is_node, is_vehicle, is_visit, is_good_node, is_good_edge, are_numbered, is_good_signal, are_apart, is_good_vehicle, is_good_set, are_good_dwells, is_good_train, is_good_order, is_good_within, is_good_overlap, are_few, is_timed, are_named, is_sound_track, is_sound_traffic, are_sound_overlaps, is_admitted}
 use Rattle.rail_base.proofs.Members.{and_both, and_left, and_right, list_all_at}
 use Rattle.rail_base.proofs.Lists.{list_all_from, in_map, in_map_back, in_count_back, length-map}
-use Rattle.infra_reader.specs.Names.{Names, names_of, is_among, number_in, node_names, edge_names, section_names, signal_names, vehicle_names, repeated, repeated_names, each_once}
-use Rattle.infra_reader.specs.Unknown.{unless_among, edge_unknown, signal_unknown, train_unknown, track_unknown, traffic_unknown, order_unknown, within_unknown, unknown_names}
-use Rattle.infra_reader.specs.Limits.{unless_from, count_outside, array_outside, edge_limits, vehicle_limits, within_limits, edge_outside, vehicle_outside, train_outside, within_outside, are_few_visits, are_good_dwells as are_dwells, is_horizon, times_outside, track_outside, traffic_outside, out_of_range}
-use Rattle.infra_reader.specs.Stations.{nodes_in, node_in, edge_in, signal_in, vehicle_in, train_in, order_in, within_in, station_of}
+use Rattle.infra_reader.specs.Names.{Names, names_of, is_among, number_in, node_names, edge_names, section_names, signal_names, vehicle_names, train_names, overlap_signals, repeated, overlaps_repeated, repeated_names, each_once}
+use Rattle.infra_reader.specs.Unknown.{unless_among, edge_unknown, signal_unknown, train_unknown, track_unknown, traffic_unknown, order_unknown, within_unknown, overlap_unknown, unknown_names}
+use Rattle.infra_reader.specs.Limits.{unless_from, limits_outside, count_outside, array_outside, edge_limits, vehicle_limits, within_limits, overlap_limits, edge_outside, vehicle_outside, train_outside, within_outside, overlap_outside, are_few_visits, are_good_dwells as are_dwells, is_horizon, times_outside, track_outside, traffic_outside, out_of_range}
+use Rattle.infra_reader.specs.Stations.{nodes_in, node_in, edge_in, signal_in, vehicle_in, train_in, order_in, within_in, overlap_in, station_of}
 use Rattle.infra_reader.specs.Track.{ends_at, is_crowded, is_loop, is_open, is_beside, is_misplaced, crowded, open_boundaries, misplaced_signals}
 use Rattle.infra_reader.specs.Traffic.{if_zero, vehicle_zeros, zeros, can_enter, inner_starts, unless_visit, order_missing, within_missing, missing_visits}
 use Rattle.infra_reader.specs.Spelling.{IsSpelled}
@@ -37,6 +38,7 @@ use Rattle.infra_reader.proofs.EndCounts.{leave_count, good_counts}
 use Rattle.infra_reader.proofs.Placeless.{no_left, no_right, none_in, none_at, unbroken}
 use Rattle.infra_reader.proofs.Ranges.{in_range, ranged, kept_number, few, array_count, array_each, known, there, moves, horizon_in}
 use Rattle.infra_reader.proofs.Dwells.{are_stays, good_stays}
+use Rattle.infra_reader.proofs.Seconds.{apart as signals_differ, names_clash_free, overlaps_apart}
 use Rattle.infra_reader.proofs.Sections.{numbered, added_among, added_apart, added_all}
 
 -- ---- tests joined
@@ -108,7 +110,8 @@ module _ (s : ParsedSheet) (named : IsSpelled s) (d03 : repeated_names s ≡ [])
       let r3 = no_left (repeated kinds.Signal (signal_names s)) _ t2 in
       let t3 = no_right (repeated kinds.Signal (signal_names s)) _ t2 in
       let r4 = no_left (repeated kinds.Vehicle (vehicle_names s)) _ t3 in
-      let r5 = no_right (repeated kinds.Vehicle (vehicle_names s)) _ t3 in
+      let t4 = no_right (repeated kinds.Vehicle (vehicle_names s)) _ t3 in
+      let r5 = no_left (repeated kinds.Train (train_names s)) _ t4 in
       let n1 = are_names (map (λ (n : Node). n.name) d.nodes) in
       let n2 = are_names (map (λ (e : Edge). e.name) d.edges) in
       let n3 = are_names d.sections in
@@ -122,6 +125,15 @@ module _ (s : ParsedSheet) (named : IsSpelled s) (d03 : repeated_names s ≡ [])
       let h5 : n5 ≡ true = named_entries (λ (v : Vehicle). v.name) (vehicle_in names) (λ (v : ParsedVehicle). v.name) s.vehicles kinds.Vehicle (λ v. refl) named.vehicles r4 in
       let h6 : n6 ≡ true = named_entries (λ (t : Train). t.name) (train_in names) (λ (t : ParsedTrain). t.name) s.trains kinds.Train (λ t. refl) named.trains r5 in
       and_both (n1 && n2 && n3 && n4 && n5) n6 (and_five n1 n2 n3 n4 n5 h1 h2 h3 h4 h5) h6
+
+  one_overlap : overlaps_repeated names.signals (overlap_signals s) ≡ []
+  unfolding repeated_names
+  one_overlap =
+      let t1 = no_right (repeated kinds.Node (node_names s)) _ d03 in
+      let t2 = no_right (repeated kinds.Edge (edge_names s)) _ t1 in
+      let t3 = no_right (repeated kinds.Signal (signal_names s)) _ t2 in
+      let t4 = no_right (repeated kinds.Vehicle (vehicle_names s)) _ t3 in
+      no_right (repeated kinds.Train (train_names s)) _ t4
 
   unknown_track : track_unknown names s ≡ []
   unknown_track = no_left (track_unknown names s) (traffic_unknown names s) d04
@@ -139,7 +151,14 @@ module _ (s : ParsedSheet) (named : IsSpelled s) (d03 : repeated_names s ≡ [])
 
   unknown_trains : in_each (train_unknown names) s.trains ≡ []
   unfolding traffic_unknown
-  unknown_trains = no_left (in_each (train_unknown names) s.trains) (in_each (order_unknown names) s.orders ++ in_each (within_unknown names) s.withins) unknown_traffic
+  unknown_trains = no_left (in_each (train_unknown names) s.trains) (in_each (order_unknown names) s.orders ++ (in_each (within_unknown names) s.withins ++ in_each (overlap_unknown names) s.overlaps)) unknown_traffic
+
+  unknown_overlaps : in_each (overlap_unknown names) s.overlaps ≡ []
+  unfolding traffic_unknown
+  unknown_overlaps =
+      let t1 = no_right (in_each (train_unknown names) s.trains) _ unknown_traffic in
+      let t2 = no_right (in_each (order_unknown names) s.orders) _ t1 in
+      no_right (in_each (within_unknown names) s.withins) _ t2
 
   outside_times : times_outside s ≡ []
   unfolding out_of_range
@@ -174,6 +193,9 @@ module _ (s : ParsedSheet) (named : IsSpelled s) (d03 : repeated_names s ≡ [])
   abbrev withins_out : List Place
   withins_out = array_outside within_outside 0 256 keys.Within s.withins
 
+  abbrev overlaps_out : List Place
+  overlaps_out = array_outside overlap_outside 0 1000 keys.Overlap s.overlaps
+
   few_nodes : nodes_out ≡ []
   unfolding track_outside
   few_nodes = no_left nodes_out (edges_out ++ signals_out) outside_track
@@ -188,19 +210,24 @@ module _ (s : ParsedSheet) (named : IsSpelled s) (d03 : repeated_names s ≡ [])
 
   few_vehicles : vehicles_out ≡ []
   unfolding traffic_outside
-  few_vehicles = no_left vehicles_out (trains_out ++ (orders_out ++ withins_out)) outside_traffic
+  few_vehicles = no_left vehicles_out (trains_out ++ (orders_out ++ (withins_out ++ overlaps_out))) outside_traffic
+
+  past_trains : orders_out ++ (withins_out ++ overlaps_out) ≡ []
+  unfolding traffic_outside
+  past_trains = no_right trains_out (orders_out ++ (withins_out ++ overlaps_out)) (no_right vehicles_out (trains_out ++ (orders_out ++ (withins_out ++ overlaps_out))) outside_traffic)
 
   few_trains : trains_out ≡ []
   unfolding traffic_outside
-  few_trains = no_left trains_out (orders_out ++ withins_out) (no_right vehicles_out (trains_out ++ (orders_out ++ withins_out)) outside_traffic)
+  few_trains = no_left trains_out (orders_out ++ (withins_out ++ overlaps_out)) (no_right vehicles_out (trains_out ++ (orders_out ++ (withins_out ++ overlaps_out))) outside_traffic)
 
   few_orders : orders_out ≡ []
-  unfolding traffic_outside
-  few_orders = no_left orders_out withins_out (no_right trains_out (orders_out ++ withins_out) (no_right vehicles_out (trains_out ++ (orders_out ++ withins_out)) outside_traffic))
+  few_orders = no_left orders_out (withins_out ++ overlaps_out) past_trains
 
   few_withins : withins_out ≡ []
-  unfolding traffic_outside
-  few_withins = no_right orders_out withins_out (no_right trains_out (orders_out ++ withins_out) (no_right vehicles_out (trains_out ++ (orders_out ++ withins_out)) outside_traffic))
+  few_withins = no_left withins_out overlaps_out (no_right orders_out (withins_out ++ overlaps_out) past_trains)
+
+  few_overlaps : overlaps_out ≡ []
+  few_overlaps = no_right withins_out overlaps_out (no_right orders_out (withins_out ++ overlaps_out) past_trains)
 
   all_few : are_few d ≡ true
   all_few =
@@ -220,6 +247,64 @@ module _ (s : ParsedSheet) (named : IsSpelled s) (d03 : repeated_names s ≡ [])
 
   node_among : (name : List ℕ) → is_among names.nodes name ≡ true → is_from 1 (length d.nodes) (number_in names.nodes name) ≡ true
   node_among name h = known names.nodes name (length d.nodes) (length-map (node_in names) s.nodes ∙ sym (length-map (λ (n : ParsedNode). n.name) s.nodes)) h
+
+  -- ---- overlaps
+
+  signal_there : (x : ParsedOverlap) → In x s.overlaps → is_among names.signals x.signal ≡ true
+  signal_there x m =
+      let unknown = none_in (overlap_unknown names) 1 s.overlaps x unknown_overlaps m in
+      let place = Field kinds.Overlap unknown.0 in
+      there names.signals x.signal (place keys.Signal) (no_left (unless_among names.signals x.signal (place keys.Signal)) (at (not (list_all (is_among names.sections) x.sections)) (place keys.Sections)) unknown.1)
+
+  sections_there : (x : ParsedOverlap) → In x s.overlaps → list_all (is_among names.sections) x.sections ≡ true
+  sections_there x m =
+      let unknown = none_in (overlap_unknown names) 1 s.overlaps x unknown_overlaps m in
+      let place = Field kinds.Overlap unknown.0 in
+      let all = list_all (is_among names.sections) x.sections in
+      passes all (place keys.Sections) (no_right (unless_among names.signals x.signal (place keys.Signal)) (at (not all) (place keys.Sections)) unknown.1)
+
+  good_overlap : (x : ParsedOverlap) → In x s.overlaps → is_good_overlap d (overlap_in names x) ≡ true
+  good_overlap x m =
+      let o = overlap_in names x in
+      let outside = none_in overlap_outside 1 s.overlaps x (array_each overlap_outside 0 1000 keys.Overlap s.overlaps few_overlaps) m in
+      let place = Field kinds.Overlap outside.0 keys.Sections in
+      let crowd = at (not (is_from 1 16 (length x.sections))) place in
+      let long = limits_outside kinds.Overlap outside.0 (overlap_limits x) in
+      and_four (is_from 1 (length d.signals) o.signal.0) (is_from 1 16 (length o.sections)) (list_all is_section o.sections) (nat_le o.hold_ms 600000)
+      (known names.signals x.signal (length d.signals) (length-map (signal_in names) s.signals ∙ sym (length-map (λ (q : ParsedSignal). q.name) s.signals)) (signal_there x m))
+      (subst (λ n. is_from 1 16 n ≡ true) (sym (length-map number x.sections)) (passes (is_from 1 16 (length x.sections)) place (no_left crowd long outside.1)))
+      (list_all_from is_section o.sections (λ z k. let y = in_map_back number x.sections z k in subst (λ z. is_section z ≡ true) y.2 (known names.sections y.0 (length d.sections) refl (list_all_at (is_among names.sections) x.sections y.0 (sections_there x m) y.1))))
+      (and_right (nat_le 0 o.hold_ms) (nat_le o.hold_ms 600000) (kept_number kinds.Overlap outside.0 (overlap_limits x) keys.HoldMs 0 600000 x.hold_ms (omega arith) (inl refl) (no_right crowd long outside.1)))
+    where
+      is_section : SectionNo → Bool
+      is_section z = is_from 1 (length d.sections) z.0
+
+      number : List ℕ → SectionNo
+      number name = record { 0 = number_in names.sections name }
+
+  -- the version is 4 where there is one
+  many_overlaps : nat_le (length d.overlaps) (most_overlaps d) ≡ true
+  unfolding times_outside
+  many_overlaps = go (int_le (pos 4) s.version) refl named.overlaps
+    where
+      go : (b : Bool) → int_le (pos 4) s.version ≡ b → (b || (length s.overlaps == 0)) ≡ true → nat_le (length d.overlaps) (most_overlaps d) ≡ true
+      go true e spelled =
+          let high = version_most s.version (Top keys.Version) (no_left (unless_from 1 3 s.version (Top keys.Version)) _ outside_times) in
+          let fourth = and_left (nat_le 4 d.version) (nat_le d.version 3) (in_range 4 3 s.version (omega arith) (and_both (int_le (pos 4) s.version) (int_le s.version (pos 3)) e high)) in
+          let many = and_right (nat_le 0 (length d.overlaps)) (nat_le (length d.overlaps) 1000) (few (overlap_in names) 0 1000 keys.Overlap s.overlaps (array_count overlap_outside 0 1000 keys.Overlap s.overlaps few_overlaps)) in
+          rw fourth many
+      go false e spelled =
+          let none = eqb-true (length s.overlaps) 0 spelled in
+          let same : length d.overlaps ≡ 0 = length-map (overlap_in names) s.overlaps ∙ none in
+          let least : nat_le 0 (most_overlaps d) ≡ true = grind arith in
+          subst (λ n. nat_le n (most_overlaps d) ≡ true) (sym same) least
+
+  overlaps_sound : are_sound_overlaps d ≡ true
+  overlaps_sound =
+      and_three (nat_le (length d.overlaps) (most_overlaps d)) (list_all (is_good_overlap d) d.overlaps) (all_pairs signals_differ d.overlaps)
+      many_overlaps
+      (list_all_from (is_good_overlap d) d.overlaps (λ o m. let x = in_map_back (overlap_in names) s.overlaps o m in subst (λ o. is_good_overlap d o ≡ true) x.2 (good_overlap x.0 x.1)))
+      (overlaps_apart names s.overlaps signal_there (names_clash_free names.signals (overlap_signals s) one_overlap))
 
   -- ---- the rules on the station
 
@@ -453,4 +538,4 @@ module _ (s : ParsedSheet) (named : IsSpelled s) (d03 : repeated_names s ≡ [])
 
     -- no code refuses the sheet, so its station is admitted
     pub admitted : is_admitted d ≡ true
-    admitted = and_five (are_few d) (is_timed d) (are_named d) (is_sound_track d) (is_sound_traffic d) all_few all_timed all_named track_sound traffic_sound
+    admitted = and_both (are_few d && is_timed d && are_named d && is_sound_track d && is_sound_traffic d) (are_sound_overlaps d) (and_five (are_few d) (is_timed d) (are_named d) (is_sound_track d) (is_sound_traffic d) all_few all_timed all_named track_sound traffic_sound) overlaps_sound

@@ -11,6 +11,7 @@ mod Sections
 pub mod EndCounts
 mod Ranges
 mod Dwells
+mod Seconds
 mod Admitted
 mod Phases
 pub mod Spelling

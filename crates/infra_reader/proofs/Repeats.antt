@@ -1,13 +1,15 @@
 -- Names that stand twice, as a set of the names before finds them.
-use Rattle.std.proofs.Common.{position, cond, ap₂, None, nat_lt, ◌≡◌, ℕ, ◌+◌, ◌-◌, ◌<◌, Bool, true, false, not, ◌||◌, List, [], ◌∷◌, ◌++◌, length, take, drop, get_or, map, Bor, Some, bytes_eq, refl, ap, sym, ◌∙◌, arith, Result, subst, fold, if◌then◌else◌}
+use Rattle.std.proofs.Common.{position, cond, ap₂, None, nat_lt, ◌≡◌, ℕ, ◌+◌, ◌-◌, ◌<◌, Bool, true, false, not, ◌&&◌, ◌||◌, List, [], ◌∷◌, ◌++◌, length, take, drop, get_or, map, Bor, Some, bytes_eq, refl, ap, sym, ◌∙◌, arith, Result, subst, fold, if◌then◌else◌}
 use Rattle.std.proofs.lemmas.List.{length-map, map_push, take_more, drop_more, get_or-map}
 use Rattle.std.specs.List.{list_any, position_or_len}
 use Rattle.design_table.specs.Texts.{texts}
-use Rattle.infra_reader.specs.Names.{is_among, with_name, repeated}
+use Rattle.std.proofs.lemmas.Slice.Eq.{bytes_eq-Decides}
+use Rattle.infra_reader.specs.Names.{is_among, with_name, repeated, is_second}
 use Rattle.design_table.specs.declared.place.EntryKind.{EntryKind}
+use Rattle.design_table.specs.declared.place.EntryKind.TheVariants as kinds
 use Rattle.design_table.specs.declared.place.Place.{Place}
 use Rattle.design_table.specs.declared.place.Place.TheVariants.{Field}
-use Rattle.design_table.specs.declared.key.Key.TheVariants.{Name}
+use Rattle.design_table.specs.declared.key.Key.TheVariants.{Name, Signal}
 use Rattle.design_table.specs.declared.fault.Code.TheVariants.{D03}
 use Rattle.design_table.specs.declared.fault.DesignFault.{DesignFault}
 use Rattle.design_table.specs.Reads.{at, first, ReadsOrRefuses}
@@ -67,6 +69,77 @@ module _ (kind : EntryKind) (names : List (Bor (List ℕ))) (k : ℕ) (d : Bor (
     where
       next : take (k + 1) (texts names) ≡ take k (texts names) ++ here ∷ []
       next = take_more (texts names) k here (rw length-map lt) ∙ rw (get_or-map (λ (e : Bor (List ℕ)). e.now) names k d here lt) refl
+
+-- ---- the second overlaps at a signal
+
+-- the place of an overlap at a signal that has an earlier one
+abbrev pub second_at : List (List ℕ) → List (List ℕ) → ℕ → List ℕ → List Place
+second_at signals names i name = at (is_second signals names i name) (Field kinds.Overlap i Signal)
+
+-- the same names are among the one as among the other
+abbrev pub AlsoAmong : List (List ℕ) → List (List ℕ) → Type 0
+AlsoAmong xs ys = (name : List ℕ) → is_among xs name ≡ is_among ys name
+
+among_push : (xs : List (List ℕ)) (x name : List ℕ) → is_among (xs ++ x ∷ []) name ≡ (is_among xs name || bytes_eq name x)
+among_push [] x name = go (bytes_eq name x)
+  where
+    go : (b : Bool) → (b || false) ≡ (false || b)
+    go true = refl
+    go false = refl
+among_push (y ∷ ys) x name = ap (λ b. bytes_eq name y || b) (among_push ys x name) ∙ go (bytes_eq name y)
+  where
+    go : (b : Bool) → (b || (is_among ys name || bytes_eq name x)) ≡ ((b || is_among ys name) || bytes_eq name x)
+    go true = refl
+    go false = refl
+
+-- one that is there already adds none
+among_again : (xs : List (List ℕ)) (x name : List ℕ) → is_among xs x ≡ true → is_among xs name ≡ (is_among xs name || bytes_eq name x)
+among_again xs x name there = go (bytes_eq name x) refl
+  where
+    or_no : (b : Bool) → b ≡ (b || false)
+    or_no true = refl
+    or_no false = refl
+
+    go : (b : Bool) → bytes_eq name x ≡ b → is_among xs name ≡ (is_among xs name || b)
+    go true e = let same : name ≡ x = (bytes_eq-Decides name x).0 e in rw (ap (is_among xs) same ∙ there) refl
+    go false e = or_no (is_among xs name)
+
+module _ (signals : List (List ℕ)) (names : List (Bor (List ℕ))) (k : ℕ) (d : Bor (List ℕ)) (earlier : List (Bor (List ℕ))) (lt : k < length names) (before : AlsoAmong (texts earlier) (take k (texts names))) where
+  abbrev this : List ℕ
+  this = (get_or names k d).now
+
+  abbrev is_found : Bool
+  is_found = list_any (λ e. bytes_eq this e.now) earlier
+
+  is_earlier : is_among (take (k + 1 - 1) (texts names)) this ≡ is_found
+  is_earlier = let back : k + 1 - 1 ≡ k = omega arith in rw back (sym (before this) ∙ any_text this earlier)
+
+  was_new : (new : Bool) → new ≡ not is_found → is_second signals (texts names) (k + 1) this ≡ (not new && is_among signals this)
+  was_new new added = ap (λ b. b && is_among signals this) (is_earlier ∙ go is_found) ∙ ap (λ b. not b && is_among signals this) (sym added)
+    where
+      go : (b : Bool) → b ≡ not (not b)
+      go true = refl
+      go false = refl
+
+  pub among_later : (later : List (Bor (List ℕ))) → later ≡ (if is_found then earlier else earlier ++ get_or names k d ∷ []) → AlsoAmong (texts later) (take (k + 1) (texts names))
+  among_later later pushed name = ap (λ es. is_among (texts es) name) pushed ∙ go is_found refl ∙ ap (λ b. b || bytes_eq name this) (before name) ∙ sym (among_push (take k (texts names)) this name) ∙ ap (λ ns. is_among ns name) (sym next)
+    where
+      next : take (k + 1) (texts names) ≡ take k (texts names) ++ this ∷ []
+      next = take_more (texts names) k this (rw length-map lt) ∙ rw (get_or-map (λ (e : Bor (List ℕ)). e.now) names k d this lt) refl
+
+      go : (b : Bool) → is_found ≡ b → is_among (texts (if b then earlier else earlier ++ get_or names k d ∷ [])) name ≡ (is_among (texts earlier) name || bytes_eq name this)
+      go true e = among_again (texts earlier) this name (any_text this earlier ∙ e)
+      go false e = ap (λ ns. is_among ns name) (map_push (λ (e : Bor (List ℕ)). e.now) earlier (get_or names k d)) ∙ among_push (texts earlier) this name
+
+  module _ (total : List Place) (so_far : total ≡ places_from (second_at signals (texts names)) (λ name. name.now) (k + 1) (drop k names)) where
+    from_now : (b : Bool) → is_second signals (texts names) (k + 1) this ≡ b → total ≡ at b (Field kinds.Overlap (k + 1) Signal) ++ places_from (second_at signals (texts names)) (λ name. name.now) (k + 1 + 1) (drop (k + 1) names)
+    from_now b e = so_far ∙ rw (drop_more names k d lt, e) refl
+
+    pub second_here : (new again : Bool) → new ≡ not is_found → again ≡ (not new && is_among signals this) → again ≡ true → first total ≡ Some (Field kinds.Overlap (k + 1) Signal)
+    second_here new again added is h = rw (from_now true (was_new new added ∙ sym is ∙ h)) refl
+
+    pub second_later : (new again : Bool) → new ≡ not is_found → again ≡ (not new && is_among signals this) → again ≡ false → total ≡ places_from (second_at signals (texts names)) (λ name. name.now) (k + 1 + 1) (drop (k + 1) names)
+    second_later new again added is h = from_now false (was_new new added ∙ sym is ∙ h)
 
 -- ---- the names of entries, and of what they are seen as
 

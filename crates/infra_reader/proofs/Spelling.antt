@@ -1,5 +1,5 @@
 -- A sheet whose keys have the right form has names.
-use Rattle.std.proofs.Common.{◌≡◌, ℕ, ℤ, pos, negsuc, nat_le, inl, inr, Bool, true, false, not, ◌&&◌, ◌||◌, ◌==◌, List, [], ◌∷◌, map, length, Option, Some, None, refl, sym, ap, ap₂, subst, ◌∙◌}
+use Rattle.std.proofs.Common.{◌≡◌, ℕ, suc, ℤ, pos, negsuc, nat_le, leb-true, arith, inl, inr, Bool, true, false, not, ◌&&◌, ◌||◌, ◌==◌, List, [], ◌∷◌, map, length, Option, Some, None, refl, sym, ap, ap₂, subst, ◌∙◌}
 use Rattle.std.specs.Prelude.{int_le, is_none, if◌then◌else◌}
 use Rattle.std.specs.List.{list_all}
 use Rattle.toml.specs.Data.{Data, string, table, Members}
@@ -14,7 +14,7 @@ use Rattle.design_table.specs.Forms.{found, is_name, name_of, is_name_byte as is
 use Rattle.design_table.specs.Keys.{kind_key, column, columns_of, keys_of, version_number}
 use Rattle.design_table.specs.Reads.{at, in_each}
 use Rattle.design_table.specs.Sheet.{version_of, value_of, top_value, members_of, entries_of, sheet_of, is_right, wrong_columns, wrong_fields, wrong_entry, wrong_array, wrong_whole, form_fault}
-use Rattle.design_table.specs.Parsed.{Values, ParsedNode, ParsedEdge, ParsedSignal, ParsedVehicle, ParsedTrain, node_of, edge_of, signal_of, vehicle_of, train_of}
+use Rattle.design_table.specs.Parsed.{Values, ParsedNode, ParsedEdge, ParsedSignal, ParsedVehicle, ParsedTrain, node_of, edge_of, signal_of, vehicle_of, train_of, overlap_of}
 use Rattle.rail_base.specs.Admission.{is_from, is_name_byte, is_name as is_base_name}
 use Rattle.rail_base.specs.Members.{In}
 use Rattle.rail_base.proofs.Lists.{list_all_from, in_map_back}
@@ -93,15 +93,16 @@ column_right version kind i ms column m h =
 name_needed : (version : ℕ) (kind : EntryKind) (i : ℕ) (ms : Members) (key : Key) → In (column key forms.Name 1) (columns_of kind) → wrong_fields version kind i ms ≡ [] → is_base_name (name_of (found key ms)) ≡ true
 name_needed version kind i ms key m h = good_name (found key ms) (column_right version kind i ms (column key forms.Name 1) m h)
 
--- ---- how long trains stand
+-- ---- how long trains stand, and overlaps
 
-third : (z : ℤ) → nat_le 3 (version_number z) ≡ true → int_le (pos 3) z ≡ true
-third (pos n) h = go (nat_le n 3) h
+-- a document that knows what a later version has names it or one after it
+since : (k : ℕ) (z : ℤ) → nat_le (suc k) (version_number z) ≡ true → int_le (pos (suc k)) z ≡ true
+since k (pos n) h = go (nat_le n 3) h
   where
-    go : (b : Bool) → nat_le 3 (if b then n else 0) ≡ true → nat_le 3 n ≡ true
+    go : (b : Bool) → nat_le (suc k) (if b then n else 0) ≡ true → nat_le (suc k) n ≡ true
     go true h = h
-    go false h = absurd (cc)
-third (negsuc n) h = absurd (cc)
+    go false h = let none = leb-true (suc k) 0 h in absurd (omega arith)
+since k (negsuc n) h = let none = leb-true (suc k) 0 h in absurd (omega arith)
 
 said_since : (z : ℤ) (ms : Members) → (int_le (pos 3) z || is_none (train_of (value_of (version_number z) kinds.Train ms)).dwell_ms) ≡ true
 said_since z ms = go (nat_le 3 (version_number z)) refl
@@ -110,8 +111,16 @@ said_since z ms = go (nat_le 3 (version_number z)) refl
     dwells = (train_of (value_of (version_number z) kinds.Train ms)).dwell_ms
 
     go : (b : Bool) → nat_le 3 (version_number z) ≡ b → (int_le (pos 3) z || is_none dwells) ≡ true
-    go true e = rw (third z e) refl
+    go true e = rw (since 2 z e) refl
     go false e = let none : dwells ≡ None = rw e refl in rw none (or_true (int_le (pos 3) z))
+
+overlaps_since : (z : ℤ) (ms : Members) → (int_le (pos 4) z || (length (entries_of (version_number z) overlap_of kinds.Overlap ms) == 0)) ≡ true
+unfolding entries_of
+overlaps_since z ms = go (nat_le 4 (version_number z)) refl
+  where
+    go : (b : Bool) → nat_le 4 (version_number z) ≡ b → (int_le (pos 4) z || (length (entries_of (version_number z) overlap_of kinds.Overlap ms) == 0)) ≡ true
+    go true e = rw (since 3 z e) refl
+    go false e = let none : entries_of (version_number z) overlap_of kinds.Overlap ms ≡ [] = rw e refl in rw none (or_true (int_le (pos 4) z))
 
 -- ---- the whole sheet
 
@@ -139,4 +148,5 @@ is_spelled ms h =
       vehicles = names_right v kinds.Vehicle ms vehicle_of (λ (n : ParsedVehicle). n.name) (λ i entry e. name_needed v kinds.Vehicle i entry keys.Name (inl refl) e) vehicles;
       trains = names_right v kinds.Train ms train_of (λ (n : ParsedTrain). n.name) (λ i entry e. name_needed v kinds.Train i entry keys.Name (inl refl) e) trains;
       dwells = list_all_from (λ (t : ParsedTrain). int_le (pos 3) (sheet_of ms).version || is_none t.dwell_ms) (sheet_of ms).trains (λ t m. let x = in_map_back (λ entry. train_of (value_of v kinds.Train (members_of entry))) (items_of (top_value v ms keys.Train)) t m in subst (λ (t : ParsedTrain). (int_le (pos 3) (sheet_of ms).version || is_none t.dwell_ms) ≡ true) x.2 (said_since (sheet_of ms).version (members_of x.0)));
+      overlaps = overlaps_since (sheet_of ms).version ms;
     }

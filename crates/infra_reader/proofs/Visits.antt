@@ -19,6 +19,9 @@ pub count_seen : {X Y : Type 0} (seen : X → Y) (least most : ℕ) (key : Key) 
 unfolding count_outside
 count_seen seen least most key xs = rw length-map refl
 
+pub text_count : (names : List (Bor (List ℕ))) → length (texts names) ≡ length names
+text_count names = length-map names (λ text. text.now)
+
 -- a 0 for each
 pub zeros_seen : (visits : List (Vec (Bor (List ℕ)))) → replicate {A = ℕ} (length visits) 0 ≡ map (λ visit. 0) (visits_seen visits)
 zeros_seen [] = refl

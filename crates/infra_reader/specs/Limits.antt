@@ -10,7 +10,8 @@ use Rattle.design_table.specs.declared.place.EntryKind.TheVariants as kinds
 use Rattle.design_table.specs.declared.place.Place.{Place}
 use Rattle.design_table.specs.declared.place.Place.TheVariants.{Top, Field}
 use Rattle.design_table.specs.Reads.{at, in_each}
-use Rattle.design_table.specs.Parsed.{ParsedEdge, ParsedVehicle, ParsedTrain, ParsedWithin, ParsedSheet}
+use Rattle.design_table.specs.Parsed.{ParsedEdge, ParsedVehicle, ParsedTrain, ParsedWithin, ParsedOverlap}
+use Rattle.design_table.specs.Parsed.{ParsedSheet}
 use Rattle.rail_base.specs.Admission.{is_from}
 use Rattle.rail_base.specs.Numbering.{entry}
 
@@ -66,6 +67,10 @@ vehicle_limits v =
 abbrev pub within_limits : ParsedWithin → List Limit
 within_limits w = limit keys.MaxMs 0 86400000 (w.max_ms ∷ []) ∷ []
 
+-- how long an overlap is held in ms
+abbrev pub overlap_limits : ParsedOverlap → List Limit
+overlap_limits o = limit keys.HoldMs 0 600000 (o.hold_ms ∷ []) ∷ []
+
 abbrev pub edge_outside : ℕ → ParsedEdge → List Place
 edge_outside i e = limits_outside kinds.Edge i (edge_limits e)
 
@@ -75,7 +80,7 @@ vehicle_outside i v = limits_outside kinds.Vehicle i (vehicle_limits v)
 abbrev pub within_outside : ℕ → ParsedWithin → List Place
 within_outside i w = limits_outside kinds.Within i (within_limits w)
 
--- ---- visits, counts and times
+-- ---- visits, sections, counts and times
 
 -- 1 to 16 visits of 1 to 64 nodes
 abbrev pub are_few_visits : List (List (List ℕ)) → Bool
@@ -93,6 +98,12 @@ abbrev pub train_outside : ℕ → ParsedTrain → List Place
 train_outside i t =
     at (not (are_few_visits t.visits)) (Field kinds.Train i keys.Visits)
     ++ at (not (are_good_dwells t.visits t.dwell_ms)) (Field kinds.Train i keys.DwellMs)
+
+-- 1 to 16 sections of an overlap, and how long it is held
+abbrev pub overlap_outside : ℕ → ParsedOverlap → List Place
+overlap_outside i o =
+    at (not (is_from 1 16 (length o.sections))) (Field kinds.Overlap i keys.Sections)
+    ++ limits_outside kinds.Overlap i (overlap_limits o)
 
 -- a horizon of 1 ms or more, and of 86,400 ticks at most
 abbrev pub is_horizon : ℤ → ℤ → Bool
@@ -112,13 +123,14 @@ track_outside s =
     ++ (array_outside edge_outside 0 4000 keys.Edge s.edges
     ++ count_outside 0 1000 keys.Signal s.signals)
 
--- vehicles and trains, and then orders and withins
+-- vehicles and trains, and then orders, withins and overlaps
 unfoldable pub traffic_outside : ParsedSheet → List Place
 traffic_outside s =
     array_outside vehicle_outside 0 64 keys.Vehicle s.vehicles
     ++ (array_outside train_outside 1 128 keys.Train s.trains
     ++ (count_outside 0 256 keys.Order s.orders
-    ++ array_outside within_outside 0 256 keys.Within s.withins))
+    ++ (array_outside within_outside 0 256 keys.Within s.withins
+    ++ array_outside overlap_outside 0 1000 keys.Overlap s.overlaps)))
 
 -- D05: numbers and counts that are out of range
 unfoldable pub out_of_range : ParsedSheet → List Place

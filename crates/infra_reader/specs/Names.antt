@@ -1,5 +1,6 @@
 -- Names: which of them stand twice, and which numbers they have.
-use Rattle.std.specs.Prelude.{ℕ, ◌+◌, ◌-◌, List, [], ◌∷◌, ◌++◌, Bool, map, fold, take, bytes_eq, if◌then◌else◌, Result}
+use Rattle.std.specs.Prelude.{ℕ, ◌+◌, ◌-◌, List, [], ◌∷◌, ◌++◌, Bool, ◌&&◌, map, fold, take, bytes_eq}
+use Rattle.std.specs.Prelude.{if◌then◌else◌, Result}
 use Rattle.std.specs.List.{list_any, position_or_len}
 use Rattle.design_table.specs.declared.key.Key.TheVariants as keys
 use Rattle.design_table.specs.declared.place.EntryKind.{EntryKind}
@@ -8,7 +9,7 @@ use Rattle.design_table.specs.declared.place.Place.{Place}
 use Rattle.design_table.specs.declared.place.Place.TheVariants.{Field}
 use Rattle.design_table.specs.Reads.{at, in_each, ReadsOrRefuses}
 use Rattle.design_table.specs.Parsed.{ParsedNode, ParsedEdge, ParsedSignal, ParsedVehicle, ParsedTrain}
-use Rattle.design_table.specs.Parsed.{ParsedSheet}
+use Rattle.design_table.specs.Parsed.{ParsedOverlap, ParsedSheet}
 use Rattle.design_table.specs.declared.fault.Code.TheVariants.{D03}
 use Rattle.design_table.specs.declared.fault.DesignFault.{DesignFault}
 
@@ -33,6 +34,7 @@ each_once names = fold with_name [] names
 pub record Names : Type 0 where
   pub nodes : List (List ℕ)
   pub sections : List (List ℕ)
+  pub signals : List (List ℕ)
   pub vehicles : List (List ℕ)
   pub trains : List (List ℕ)
 
@@ -54,11 +56,16 @@ vehicle_names s = map (λ (v : ParsedVehicle). v.name) s.vehicles
 abbrev pub train_names : ParsedSheet → List (List ℕ)
 train_names s = map (λ (t : ParsedTrain). t.name) s.trains
 
+-- the signals at which the overlaps are
+abbrev pub overlap_signals : ParsedSheet → List (List ℕ)
+overlap_signals s = map (λ (o : ParsedOverlap). o.signal) s.overlaps
+
 -- sections are named by edges alone, and numbered by the first of these
 abbrev pub names_of : ParsedSheet → Names
 names_of s = record {
   nodes = node_names s;
   sections = each_once (section_names s);
+  signals = signal_names s;
   vehicles = vehicle_names s;
   trains = train_names s;
 }
@@ -74,11 +81,21 @@ abbrev pub ReadsDistinct : {X : Type 0} → (X → List (List ℕ)) → Result X
     → EntryKind → List (List ℕ) → Type 0
 ReadsDistinct view result kind names = ReadsOrRefuses view result D03 (repeated kind names) names
 
--- names that stand twice in their array
+-- the overlap of this number is at a signal that has an earlier one; a name that is no signal has none
+abbrev pub is_second : List (List ℕ) → List (List ℕ) → ℕ → List ℕ → Bool
+is_second signals names i name = is_among (take (i - 1) names) name && is_among signals name
+
+-- the later overlaps at a signal that has an earlier one, by the names of the signals at which they are
+unfoldable pub overlaps_repeated : List (List ℕ) → List (List ℕ) → List Place
+overlaps_repeated signals names =
+    in_each (λ i name. at (is_second signals names i name) (Field kinds.Overlap i keys.Signal)) names
+
+-- names that stand twice in their array, and signals that have two overlaps
 unfoldable pub repeated_names : ParsedSheet → List Place
 repeated_names s =
     repeated kinds.Node (node_names s)
     ++ (repeated kinds.Edge (edge_names s)
     ++ (repeated kinds.Signal (signal_names s)
     ++ (repeated kinds.Vehicle (vehicle_names s)
-    ++ repeated kinds.Train (train_names s))))
+    ++ (repeated kinds.Train (train_names s)
+    ++ overlaps_repeated (signal_names s) (overlap_signals s)))))

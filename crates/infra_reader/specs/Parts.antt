@@ -5,6 +5,7 @@ use Rattle.infra_reader.specs.declared.resolve.Track.{Track}
 use Rattle.infra_reader.specs.declared.resolve.Traffic.{Traffic}
 use Rattle.infra_reader.specs.Names.{Names}
 use Rattle.infra_reader.specs.Stations.{node_in, edge_in, signal_in, vehicle_in, train_in, order_in, within_in}
+use Rattle.infra_reader.specs.Stations.{overlap_in}
 
 abbrev pub track_in : Names → ParsedSheet → Track
 track_in names s = record {
@@ -20,4 +21,5 @@ traffic_in names s = record {
   trains = map (train_in names) s.trains;
   orders = map (order_in names) s.orders;
   withins = map (within_in names) s.withins;
+  overlaps = map (overlap_in names) s.overlaps;
 }

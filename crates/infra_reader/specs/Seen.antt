@@ -10,6 +10,7 @@ abbrev pub names_seen : CodeNames → Names
 names_seen n = record {
   nodes = texts n.nodes.keys;
   sections = texts n.sections.keys;
+  signals = texts n.signals.keys;
   vehicles = texts n.vehicles.keys;
   trains = texts n.trains.keys;
 }

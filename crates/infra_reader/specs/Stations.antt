@@ -3,12 +3,13 @@ use Rattle.std.specs.Prelude.{ℕ, ℤ, pos, negsuc, List, map, Option, Some, No
 use Rattle.design_table.specs.declared.sheet.Side.TheVariants as parsed
 use Rattle.design_table.specs.declared.sheet.Side as table
 use Rattle.design_table.specs.Parsed.{ParsedNode, ParsedEdge, ParsedSignal, ParsedVehicle, ParsedTrain}
-use Rattle.design_table.specs.Parsed.{ParsedOrder, ParsedWithin, ParsedSheet}
+use Rattle.design_table.specs.Parsed.{ParsedOrder, ParsedWithin, ParsedOverlap, ParsedSheet}
 use Rattle.rail_base.specs.declared.station.Station.{Station}
 use Rattle.rail_base.specs.declared.station.Node.{Node}
 use Rattle.rail_base.specs.declared.station.Edge.{Edge}
 use Rattle.rail_base.specs.declared.station.End.{End}
 use Rattle.rail_base.specs.declared.station.NodeNo.{NodeNo}
+use Rattle.rail_base.specs.declared.station.SectionNo.{SectionNo}
 use Rattle.rail_base.specs.declared.station.Side.{Side}
 use Rattle.rail_base.specs.declared.station.Side.TheVariants.{A, B}
 use Rattle.rail_base.specs.declared.station.Signal.{Signal}
@@ -16,6 +17,7 @@ use Rattle.rail_base.specs.declared.station.Vehicle.{Vehicle}
 use Rattle.rail_base.specs.declared.station.Train.{Train}
 use Rattle.rail_base.specs.declared.station.Order.{Order}
 use Rattle.rail_base.specs.declared.station.Within.{Within}
+use Rattle.rail_base.specs.declared.station.Overlap.{Overlap}
 use Rattle.infra_reader.specs.Names.{Names, names_of, number_in}
 
 -- A whole number of 32 bits. One that has more stands as 0: as a number it is refused, and no visit has it.
@@ -95,6 +97,17 @@ within_in names w = record {
   max_ms = number_32 w.max_ms;
 }
 
+-- the sections of these names
+abbrev pub sections_in : List (List ℕ) → List (List ℕ) → List SectionNo
+sections_in names sections = map (λ section. record { 0 = number_in names section }) sections
+
+abbrev pub overlap_in : Names → ParsedOverlap → Overlap
+overlap_in names o = record {
+  signal = record { 0 = number_in names.signals o.signal };
+  sections = sections_in names.sections o.sections;
+  hold_ms = number_32 o.hold_ms;
+}
+
 -- the entries in the order of the file, by the numbers of these names
 abbrev pub station_in : Names → ParsedSheet → Station
 station_in names s = record {
@@ -109,6 +122,7 @@ station_in names s = record {
   trains = map (train_in names) s.trains;
   orders = map (order_in names) s.orders;
   withins = map (within_in names) s.withins;
+  overlaps = map (overlap_in names) s.overlaps;
 }
 
 -- the station, by the numbers of the sheet's own names

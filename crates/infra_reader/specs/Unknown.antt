@@ -1,4 +1,5 @@
--- Names of nodes, vehicles and trains that are not there. A section need not be declared.
+-- Names of nodes, signals, vehicles and trains that are not there, and sections that stand on no edge. An edge's own
+-- section need not be declared.
 use Rattle.std.specs.Prelude.{ℕ, List, ◌++◌, not}
 use Rattle.std.specs.List.{list_all}
 use Rattle.design_table.specs.declared.key.Key.TheVariants as keys
@@ -7,7 +8,7 @@ use Rattle.design_table.specs.declared.place.Place.{Place}
 use Rattle.design_table.specs.declared.place.Place.TheVariants.{Field}
 use Rattle.design_table.specs.Reads.{at, in_each}
 use Rattle.design_table.specs.Parsed.{ParsedEdge, ParsedSignal, ParsedTrain, ParsedOrder, ParsedWithin}
-use Rattle.design_table.specs.Parsed.{ParsedSheet}
+use Rattle.design_table.specs.Parsed.{ParsedOverlap, ParsedSheet}
 use Rattle.infra_reader.specs.Names.{Names, names_of, is_among}
 
 -- the place, where the name is none of these
@@ -42,16 +43,23 @@ within_unknown names i w =
     unless_among names.trains w.from_train (Field kinds.Within i keys.FromTrain)
     ++ unless_among names.trains w.to_train (Field kinds.Within i keys.ToTrain)
 
+-- the signal of an overlap, and its sections
+abbrev pub overlap_unknown : Names → ℕ → ParsedOverlap → List Place
+overlap_unknown names i o =
+    unless_among names.signals o.signal (Field kinds.Overlap i keys.Signal)
+    ++ at (not (list_all (is_among names.sections) o.sections)) (Field kinds.Overlap i keys.Sections)
+
 -- names at edges and signals that are not there
 unfoldable pub track_unknown : Names → ParsedSheet → List Place
 track_unknown names s = in_each (edge_unknown names) s.edges ++ in_each (signal_unknown names) s.signals
 
--- and at trains, orders and withins
+-- and at trains, orders, withins and overlaps
 unfoldable pub traffic_unknown : Names → ParsedSheet → List Place
 traffic_unknown names s =
     in_each (train_unknown names) s.trains
     ++ (in_each (order_unknown names) s.orders
-    ++ in_each (within_unknown names) s.withins)
+    ++ (in_each (within_unknown names) s.withins
+    ++ in_each (overlap_unknown names) s.overlaps))
 
 -- D04: names that are not there
 abbrev pub unknown_names : ParsedSheet → List Place

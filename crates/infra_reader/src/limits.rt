@@ -5,21 +5,22 @@ ghost use Rattle.std.specs.Prelude.{IfOk};
 ghost use Rattle.std.specs.Ordering.{int_eq};
 ghost use Rattle.std.specs.List.{find, list_all};
 ghost use Rattle.design_table.specs.Reads.{ReadsOrRefuses, at};
-ghost use Rattle.design_table.specs.Parsed.{ParsedEdge, ParsedVehicle, ParsedTrain, ParsedWithin};
-ghost use Rattle.design_table.specs.Parsed.{edge_seen, vehicle_seen, train_seen, within_seen, sheet_seen};
+ghost use Rattle.design_table.specs.Parsed.{ParsedEdge, ParsedVehicle, ParsedTrain, ParsedWithin, ParsedOverlap};
+ghost use Rattle.design_table.specs.Parsed.{edge_seen, vehicle_seen, train_seen, within_seen, overlap_seen};
+ghost use Rattle.design_table.specs.Parsed.{sheet_seen};
 ghost use Rattle.rail_base.specs.Admission.{is_from};
 ghost use Rattle.rail_base.specs.Numbering.{entry};
 ghost use Rattle.infra_reader.specs.Limits.{unless_from, edge_outside, vehicle_outside, train_outside, within_outside};
 ghost use Rattle.infra_reader.specs.Limits.{are_few_visits, is_horizon, times_outside, track_outside, traffic_outside};
 ghost use Rattle.infra_reader.specs.Limits.{out_of_range, count_outside, array_outside, limit, is_kept, limits_outside};
-ghost use Rattle.infra_reader.specs.Limits.{are_good_dwells};
+ghost use Rattle.infra_reader.specs.Limits.{are_good_dwells, overlap_outside};
 ghost use Rattle.infra_reader.specs.Seen.{limit_seen};
 ghost use Rattle.design_table.specs.Texts.{visits_seen};
 
 use crate::walk::{Limited, refuse_array, refuse_count};
 use design_table::{
-    Code, DesignFault, EdgeEntry, EntryKind, Key, Place, Sheet, TrainEntry, VehicleEntry,
-    WithinEntry,
+    Code, DesignFault, EdgeEntry, EntryKind, Key, OverlapEntry, Place, Sheet, TrainEntry,
+    VehicleEntry, WithinEntry,
 };
 
 /// Refuses numbers and counts that are out of range. Visit numbers are excepted.
@@ -184,6 +185,30 @@ impl<'a> Limited for WithinEntry<'a> {
     }
 }
 
+/// Whether an overlap has 1 to 16 sections.
+#[tactic(auto, using(crate::proofs::Visits::text_count))]
+fn has_few_sections(overlap: &OverlapEntry) -> bool
+    ensures { result ≡ is_from 1 16 (length (overlap_seen overlap.now).sections) }
+{
+    is_count(1, 16, overlap.sections.len())
+}
+
+#[tactic(auto, using(crate::proofs::Places::walk))]
+impl<'a> Limited for OverlapEntry<'a> {
+    ghost Parsed = { ParsedOverlap };
+
+    ghost seen = { λ o. overlap_seen o };
+
+    ghost outside = { λ i o. overlap_outside i o };
+
+    fn refuse_outside(&self, number: u64) -> Result<(), DesignFault> {
+        let sections_place = Place::Field(EntryKind::Overlap, number, Key::Sections);
+        refuse_unless(has_few_sections(self), sections_place)?;
+        let limits = [row!(HoldMs, 0, 600_000, &[self.hold_ms])];
+        refuse_limits(EntryKind::Overlap, number, &limits)
+    }
+}
+
 /// Whether there are 1 to 16 visits of 1 to 64 nodes.
 #[tactic(auto, using(crate::proofs::Visits::few_visits))]
 fn are_few_visits(visits: &[Vec<&str>]) -> bool
@@ -300,6 +325,14 @@ fn refuse_withins(sheet: &Sheet) -> Result<(), DesignFault>
     refuse_array(0, 256, Key::Within, sheet.withins.as_slice())
 }
 
+/// Refuses too many overlaps, and overlaps of too few or too many sections, or that are held too long.
+fn refuse_overlaps(sheet: &Sheet) -> Result<(), DesignFault>
+    ensures { ReadsOrRefuses (λ x. x) result Code.D05
+        (array_outside overlap_outside 0 1000 Key.Overlap (sheet_seen sheet.now).overlaps) tt }
+{
+    refuse_array(0, 1000, Key::Overlap, sheet.overlaps.as_slice())
+}
+
 /// Refuses nodes, edges and signals.
 #[tactic(auto, using(crate::proofs::Places::walk), unfolding(crate::specs::Limits::track_outside))]
 fn refuse_track(sheet: &Sheet) -> Result<(), DesignFault>
@@ -310,7 +343,7 @@ fn refuse_track(sheet: &Sheet) -> Result<(), DesignFault>
     refuse_signals(sheet)
 }
 
-/// Refuses vehicles and trains, orders and withins.
+/// Refuses vehicles and trains, orders, withins and overlaps.
 #[tactic(auto, using(crate::proofs::Places::walk), unfolding(crate::specs::Limits::traffic_outside))]
 fn refuse_traffic(sheet: &Sheet) -> Result<(), DesignFault>
     ensures { ReadsOrRefuses (λ x. x) result Code.D05 (traffic_outside (sheet_seen sheet.now)) tt }
@@ -318,5 +351,6 @@ fn refuse_traffic(sheet: &Sheet) -> Result<(), DesignFault>
     refuse_vehicles(sheet)?;
     refuse_trains(sheet)?;
     refuse_orders(sheet)?;
-    refuse_withins(sheet)
+    refuse_withins(sheet)?;
+    refuse_overlaps(sheet)
 }

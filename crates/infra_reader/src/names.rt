@@ -1,19 +1,19 @@
 //! The names of a sheet, and the numbers that they have.
 
-ghost use Rattle.std.specs.Prelude.{◌≡◌, ◌+◌, map, not, position, bytes_eq, IfOk, IfErr};
+ghost use Rattle.std.specs.Prelude.{◌≡◌, ◌+◌, ◌&&◌, map, not, position, bytes_eq, IfOk, IfErr};
 ghost use Rattle.design_table.specs.Reads.{ReadsOrRefuses, Fails, at};
 ghost use Rattle.design_table.specs.Parsed.{sheet_seen};
 ghost use Rattle.design_table.specs.declared.fault.DesignFault.TheVariants.{Memory};
 ghost use Rattle.infra_reader.specs.Unknown.{unless_among};
 ghost use Rattle.infra_reader.specs.Names.{is_among, number_in, each_once, node_names, edge_names, section_names};
 ghost use Rattle.infra_reader.specs.Names.{signal_names, vehicle_names, train_names, repeated, repeated_names};
-ghost use Rattle.infra_reader.specs.Names.{names_of, ReadsDistinct};
+ghost use Rattle.infra_reader.specs.Names.{names_of, ReadsDistinct, overlap_signals, overlaps_repeated};
 ghost use Rattle.design_table.specs.Texts.{texts};
 ghost use Rattle.infra_reader.specs.Seen.{names_seen};
 
 use design_table::{
-    Code, DesignFault, EdgeEntry, EntryKind, Key, NodeEntry, Place, Sheet, SignalEntry, TrainEntry,
-    VehicleEntry,
+    Code, DesignFault, EdgeEntry, EntryKind, Key, NodeEntry, OverlapEntry, Place, Sheet,
+    SignalEntry, TrainEntry, VehicleEntry,
 };
 use indexmap::IndexSet;
 use std::alloc::{AllocError, Global};
@@ -23,11 +23,13 @@ use std::alloc::{AllocError, Global};
 pub struct Names<'a> {
     pub nodes: IndexSet<&'a str>,
     pub sections: IndexSet<&'a str>,
+    pub signals: IndexSet<&'a str>,
     pub vehicles: IndexSet<&'a str>,
     pub trains: IndexSet<&'a str>,
 }
 
-/// The names of a sheet, or the refusal of the first that stands already in an earlier entry of its array.
+/// The names of a sheet, or the refusal of the first that stands already in an earlier entry of its array, or of the
+/// first overlap at a signal that has one already.
 #[tactic(auto, using(crate::proofs::Places::walk), unfolding(crate::specs::Names::repeated_names))]
 pub fn read_names<'a>(alloc: Global, sheet: &Sheet<'a>) -> Result<Names<'a>, DesignFault>
     ensures { let parsed = sheet_seen sheet.now in
@@ -35,13 +37,15 @@ pub fn read_names<'a>(alloc: Global, sheet: &Sheet<'a>) -> Result<Names<'a>, Des
 {
     let nodes = node_names(alloc, sheet)?;
     edge_names(alloc, sheet)?;
-    signal_names(alloc, sheet)?;
+    let signals = signal_names(alloc, sheet)?;
     let vehicles = vehicle_names(alloc, sheet)?;
     let trains = train_names(alloc, sheet)?;
+    refuse_overlaps(alloc, &signals, sheet)?;
     let sections = section_names(alloc, sheet)?;
     Ok(Names {
         nodes,
         sections,
+        signals,
         vehicles,
         trains,
     })
@@ -196,6 +200,56 @@ fn section_names<'a>(alloc: Global, sheet: &Sheet<'a>) -> Result<IndexSet<&'a st
 {
     let names = section_texts(alloc, sheet.edges.as_slice())?;
     each_once(alloc, names.as_slice())
+}
+
+/// The signals of overlaps in the order of the file.
+fn overlap_texts<'a>(
+    alloc: Global,
+    overlaps: &[OverlapEntry<'a>],
+) -> Result<Vec<&'a str>, AllocError>
+    ensures { IfOk result (λ v. v.items ≡ map (λ overlap. overlap.signal) overlaps.now) }
+{
+    overlaps.iter().map(|overlap| overlap.signal).collect(alloc)
+}
+
+/// Refuses an overlap at a signal that has one already.
+fn refuse_overlaps(
+    alloc: Global,
+    signals: &IndexSet<&str>,
+    sheet: &Sheet,
+) -> Result<(), DesignFault>
+    ensures { let known = texts signals.now.keys in let names = overlap_signals (sheet_seen sheet.now) in
+        ReadsOrRefuses (λ x. x) result Code.D03 (overlaps_repeated known names) tt }
+{
+    let names = overlap_texts(alloc, sheet.overlaps.as_slice())?;
+    refuse_second(alloc, signals, names.as_slice())
+}
+
+/// Whether a name that is not new is one of these.
+#[tactic(auto, using(crate::proofs::Repeats::any_text))]
+fn is_again(names: &IndexSet<&str>, name: &str, is_new: bool) -> bool
+    ensures { result ≡ (not is_new && is_among (texts names.now.keys) name.now) }
+{
+    !is_new && names.contains(name)
+}
+
+/// Refuses the second overlap at a signal; `names` are those of the overlaps.
+#[tactic(auto, unfolding(crate::specs::Names::overlaps_repeated))]
+fn refuse_second(alloc: Global, signals: &IndexSet<&str>, names: &[&str]) -> Result<(), DesignFault>
+    ensures { ReadsOrRefuses (λ x. x) result Code.D03
+        (overlaps_repeated (texts signals.now.keys) (texts names.now)) tt }
+{
+    let mut seen = IndexSet::new(alloc);
+    for (index, name) in names.iter().enumerate() {
+        let (_, is_new) = seen.insert_full(*name)?;
+        if is_again(signals, name, is_new) {
+            return Err(DesignFault::Refused {
+                code: Code::D03,
+                place: Place::Field(EntryKind::Overlap, index as u64 + 1, Key::Signal),
+            });
+        }
+    }
+    Ok(())
 }
 
 /// The place of a name, counted from 0.

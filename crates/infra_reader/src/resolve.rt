@@ -4,14 +4,15 @@ ghost use Rattle.std.specs.Prelude.{◌≡◌, ◌+◌, map, replicate, not, IfO
 ghost use Rattle.std.specs.List.{list_all};
 ghost use Rattle.design_table.specs.Reads.{ReadsOrRefuses, at, in_each};
 ghost use Rattle.design_table.specs.Parsed.{ParsedNode, ParsedEdge, ParsedSignal, ParsedVehicle, ParsedTrain};
-ghost use Rattle.design_table.specs.Parsed.{ParsedOrder, ParsedWithin};
+ghost use Rattle.design_table.specs.Parsed.{ParsedOrder, ParsedWithin, ParsedOverlap};
 ghost use Rattle.design_table.specs.Parsed.{node_seen, edge_seen, signal_seen, vehicle_seen, train_seen, order_seen};
-ghost use Rattle.design_table.specs.Parsed.{within_seen, sheet_seen};
+ghost use Rattle.design_table.specs.Parsed.{within_seen, overlap_seen, sheet_seen};
 ghost use Rattle.infra_reader.specs.Names.{is_among, number_in};
 ghost use Rattle.infra_reader.specs.Unknown.{unless_among, edge_unknown, signal_unknown, train_unknown, order_unknown};
-ghost use Rattle.infra_reader.specs.Unknown.{within_unknown, track_unknown, traffic_unknown};
+ghost use Rattle.infra_reader.specs.Unknown.{within_unknown, overlap_unknown, track_unknown, traffic_unknown};
 ghost use Rattle.infra_reader.specs.Stations.{number_32, nodes_in, side_of, node_in, edge_in, signal_in, vehicle_in};
-ghost use Rattle.infra_reader.specs.Stations.{dwells_in, train_in, order_in, within_in, station_in};
+ghost use Rattle.infra_reader.specs.Stations.{dwells_in, train_in, order_in, within_in, overlap_in, sections_in};
+ghost use Rattle.infra_reader.specs.Stations.{station_in};
 ghost use Rattle.design_table.specs.declared.fault.DesignFault.TheVariants.{Memory};
 ghost use Rattle.infra_reader.specs.Parts.{track_in, traffic_in};
 ghost use Rattle.design_table.specs.Texts.{texts, visits_seen};
@@ -20,14 +21,14 @@ ghost use Rattle.infra_reader.specs.Seen.{names_seen};
 use crate::names::{Names, number_at, number_of};
 use crate::walk::{Resolve, resolve_each};
 use design_table::{
-    Code, DesignFault, EdgeEntry, EntryKind, Key, NodeEntry, OrderEntry, Place, Sheet, SignalEntry,
-    TrainEntry, VehicleEntry, WithinEntry,
+    Code, DesignFault, EdgeEntry, EntryKind, Key, NodeEntry, OrderEntry, OverlapEntry, Place,
+    Sheet, SignalEntry, TrainEntry, VehicleEntry, WithinEntry,
 };
 use indexmap::IndexSet;
 use rail_base::list::{List, Name};
 use rail_base::station::{
-    Edge, End, Node, NodeNo, Order, SectionNo, Side, Signal, Station, Train, TrainNo, Vehicle,
-    VehicleNo, Within,
+    Edge, End, Node, NodeNo, Order, Overlap, SectionNo, Side, Signal, SignalNo, Station, Train,
+    TrainNo, Vehicle, VehicleNo, Within,
 };
 use std::alloc::{AllocError, Global};
 
@@ -52,6 +53,7 @@ pub fn resolve(alloc: Global, names: &Names, sheet: &Sheet) -> Result<Station, D
         trains: traffic.trains,
         orders: traffic.orders,
         withins: traffic.withins,
+        overlaps: traffic.overlaps,
     })
 }
 
@@ -308,6 +310,50 @@ impl<'a> Resolve for WithinEntry<'a> {
     }
 }
 
+/// The sections of an overlap, or the refusal of the place where one of them stands on no edge.
+fn overlap_sections(
+    alloc: Global,
+    known: &IndexSet<&str>,
+    sections: &[&str],
+    place: Place,
+) -> Result<List<SectionNo>, DesignFault>
+    ensures { let names = texts known.now.keys in let parsed = texts sections.now in
+        ReadsOrRefuses (λ x. x) result Code.D04 (at (not (list_all (is_among names) parsed)) place)
+        (sections_in names parsed) }
+{
+    let mut numbers = Vec::new(alloc);
+    for name in sections {
+        numbers.push(SectionNo(number_at(known, name, place)?))?;
+    }
+    Ok(List::from_vec(numbers))
+}
+
+impl<'a> Resolve for OverlapEntry<'a> {
+    type Resolved = Overlap;
+
+    ghost Parsed = { ParsedOverlap };
+
+    ghost seen = { λ o. overlap_seen o };
+
+    ghost unknown = { λ names i o. overlap_unknown names i o };
+
+    ghost resolved = { λ names o. overlap_in names o };
+
+    fn resolve(&self, alloc: Global, names: &Names, number: u64) -> Result<Overlap, DesignFault> {
+        let kind = EntryKind::Overlap;
+        let signal_place = Place::Field(kind, number, Key::Signal);
+        let sections_place = Place::Field(kind, number, Key::Sections);
+        let signal = number_at(&names.signals, self.signal, signal_place)?;
+        let listed = self.sections.as_slice();
+        let sections = overlap_sections(alloc, &names.sections, listed, sections_place)?;
+        Ok(Overlap {
+            signal: SignalNo(signal),
+            sections,
+            hold_ms: number_32(self.hold_ms),
+        })
+    }
+}
+
 /// The nodes of each visit, or the refusal of the place where one of them is not there.
 fn visits_nodes(
     alloc: Global,
@@ -407,6 +453,7 @@ struct Traffic {
     trains: List<Train>,
     orders: List<Order>,
     withins: List<Within>,
+    overlaps: List<Overlap>,
 }
 
 /// The withins of the station.
@@ -416,6 +463,19 @@ fn resolve_withins(alloc: Global, names: &Names, sheet: &Sheet) -> Result<List<W
         (map (within_in known) withins) }
 {
     resolve_each(alloc, names, sheet.withins.as_slice())
+}
+
+/// The overlaps of the station.
+fn resolve_overlaps(
+    alloc: Global,
+    names: &Names,
+    sheet: &Sheet,
+) -> Result<List<Overlap>, DesignFault>
+    ensures { let known = names_seen names.now in let overlaps = (sheet_seen sheet.now).overlaps in
+        ReadsOrRefuses (λ x. x) result Code.D04 (in_each (overlap_unknown known) overlaps)
+        (map (overlap_in known) overlaps) }
+{
+    resolve_each(alloc, names, sheet.overlaps.as_slice())
 }
 
 /// The track, or the refusal of a name that is not there.
@@ -446,10 +506,12 @@ fn resolve_traffic(alloc: Global, names: &Names, sheet: &Sheet) -> Result<Traffi
     let trains = resolve_trains(alloc, names, sheet)?;
     let orders = resolve_orders(alloc, names, sheet)?;
     let withins = resolve_withins(alloc, names, sheet)?;
+    let overlaps = resolve_overlaps(alloc, names, sheet)?;
     Ok(Traffic {
         vehicles,
         trains,
         orders,
         withins,
+        overlaps,
     })
 }

@@ -5,7 +5,7 @@ use Rattle.std.proofs.lemmas.Slice.Eq.{bytes_eq-Decides}
 use Rattle.rail_base.specs.declared.station.Station.{Station}
 use Rattle.rail_base.specs.declared.station.Edge.{Edge}
 use Rattle.rail_base.specs.declared.station.EdgeNo.{EdgeNo}
-use Rattle.rail_base.specs.Admission.{is_name_byte, is_name, are_names, is_admitted, are_few, is_timed, are_named, is_sound_track, is_sound_traffic}
+use Rattle.rail_base.specs.Admission.{is_name_byte, is_name, are_names, is_admitted, are_few, is_timed, are_named, is_sound_track, is_sound_traffic, are_sound_overlaps}
 use Rattle.rail_base.specs.Members.{In, Pairs}
 use Rattle.rail_base.specs.Numbering.{entry}
 use Rattle.rail_base.specs.Stations.{no_edge, edge_of, IsEdge}
@@ -78,7 +78,7 @@ module _ (d : Station) (adm : is_admitted d ≡ true) where
   pub name_bytes : (e : EdgeNo) → IsEdge d e → list_all is_name_byte (edge_name d e) ≡ true
   name_bytes e k =
       let names = map (λ (u : Edge). u.name) d.edges in
-      let named : are_named d ≡ true = and_right (are_few d && is_timed d) (are_named d) (and_left (are_few d && is_timed d && are_named d) (is_sound_track d) (and_left (are_few d && is_timed d && are_named d && is_sound_track d) (is_sound_traffic d) adm)) in
+      let named : are_named d ≡ true = and_right (are_few d && is_timed d) (are_named d) (and_left (are_few d && is_timed d && are_named d) (is_sound_track d) (and_left (are_few d && is_timed d && are_named d && is_sound_track d) (is_sound_traffic d) (and_left (are_few d && is_timed d && are_named d && is_sound_track d && is_sound_traffic d) (are_sound_overlaps d) adm))) in
       let of_edges : are_names names ≡ true = and_right _ (are_names names) (and_left _ (are_names d.sections) (and_left _ _ (and_left _ _ (and_left _ _ named)))) in
       let each : list_all is_name names ≡ true = and_left (list_all is_name names) _ of_edges in
       let name = list_all_at is_name names (edge_name d e) each (in_map (λ (u : Edge). u.name) d.edges (edge_of d e) (in_entry no_edge d.edges e.0 k.0 k.1)) in

@@ -7,7 +7,7 @@ use Rattle.std.proofs.lemmas.Str.{IsUtf8-from_ascii}
 use Rattle.rail_base.specs.declared.station.Station.{Station}
 use Rattle.rail_base.specs.declared.station.Train.{Train}
 use Rattle.rail_base.specs.declared.station.TrainNo.{TrainNo}
-use Rattle.rail_base.specs.Admission.{is_from, is_name_byte, is_name, are_names, is_admitted, are_few, is_timed, are_named, is_sound_track, is_sound_traffic}
+use Rattle.rail_base.specs.Admission.{is_from, is_name_byte, is_name, are_names, is_admitted, are_few, is_timed, are_named, is_sound_track, is_sound_traffic, are_sound_overlaps}
 use Rattle.rail_base.specs.Stations.{no_train, train_of, IsTrain}
 use Rattle.rail_base.proofs.Members.{and_left, and_right, either, list_all_at}
 use Rattle.rail_base.proofs.Lists.{in_map, in_entry}
@@ -38,7 +38,7 @@ all_low (b ∷ bs) h (suc i) = all_low bs (and_right (is_name_byte b) (list_all 
 pub name_is_text : (d : Station) → is_admitted d ≡ true → (t : TrainNo) → IsTrain d t → IsUtf8 (train_of d t).name
 name_is_text d h t k =
     let names = map (λ (u : Train). u.name) d.trains in
-    let named : are_named d ≡ true = and_right (are_few d && is_timed d) (are_named d) (and_left (are_few d && is_timed d && are_named d) (is_sound_track d) (and_left (are_few d && is_timed d && are_named d && is_sound_track d) (is_sound_traffic d) h)) in
+    let named : are_named d ≡ true = and_right (are_few d && is_timed d) (are_named d) (and_left (are_few d && is_timed d && are_named d) (is_sound_track d) (and_left (are_few d && is_timed d && are_named d && is_sound_track d) (is_sound_traffic d) (and_left (are_few d && is_timed d && are_named d && is_sound_track d && is_sound_traffic d) (are_sound_overlaps d) h))) in
     let of_trains : are_names names ≡ true = and_right _ (are_names names) named in
     let each : list_all is_name names ≡ true = and_left (list_all is_name names) _ of_trains in
     let name = list_all_at is_name names (train_of d t).name each (in_map (λ (u : Train). u.name) d.trains (train_of d t) (in_entry no_train d.trains t.0 k.0 k.1)) in

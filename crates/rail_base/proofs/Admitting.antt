@@ -10,16 +10,18 @@ use Rattle.rail_base.specs.declared.station.Vehicle.{Vehicle}
 use Rattle.rail_base.specs.declared.station.Train.{Train}
 use Rattle.rail_base.specs.declared.station.Order.{Order}
 use Rattle.rail_base.specs.declared.station.Within.{Within}
+use Rattle.rail_base.specs.declared.station.Overlap.{Overlap}
 use Rattle.rail_base.specs.declared.station.Side.{Side}
 use Rattle.rail_base.specs.declared.station.Side.TheVariants.{A, B}
 use Rattle.rail_base.specs.declared.station.NodeNo.{NodeNo}
+use Rattle.rail_base.specs.declared.station.SectionNo.{SectionNo}
 use Rattle.rail_base.specs.declared.station.SignalNo.{SignalNo}
 use Rattle.rail_base.specs.declared.station.TrainNo.{TrainNo}
 use Rattle.rail_base.specs.Numbering.{entry, one_to}
 use Rattle.rail_base.specs.Members.{In, Pairs, all_pairs}
-use Rattle.rail_base.specs.Stations.{is_side, node_of, edge_of, signal_of, vehicle_at, no_train, train_of, first_visit, per_tick_speed, per_tick_accel, horizon, longest_dwell, IsSignal, HasVisit}
-use Rattle.rail_base.specs.Admitted.{IsAdmitted, IsGoodNode, IsGoodEdge, IsGoodSignal, IsGoodVehicle, IsGoodTrain, IsGoodOrder, IsGoodWithin, Ranges, ends_a, ends_b}
-use Rattle.rail_base.specs.Admission.{is_from, is_name, are_names, is_node, is_vehicle, is_visit, is_good_node, is_good_edge, are_numbered, is_good_signal, are_apart, is_good_vehicle, is_good_set, are_good_dwells, is_good_train, is_good_order, is_good_within, are_few, is_timed, are_named, is_sound_track, is_sound_traffic, is_admitted}
+use Rattle.rail_base.specs.Stations.{is_side, node_of, edge_of, signal_of, vehicle_at, no_train, train_of, first_visit, per_tick_speed, per_tick_accel, horizon, longest_dwell, most_overlaps, IsSignal, HasVisit}
+use Rattle.rail_base.specs.Admitted.{IsAdmitted, IsGoodNode, IsGoodEdge, IsGoodSignal, IsGoodVehicle, IsGoodTrain, IsGoodOrder, IsGoodWithin, IsGoodOverlap, Ranges, ends_a, ends_b}
+use Rattle.rail_base.specs.Admission.{is_from, is_name, are_names, is_node, is_vehicle, is_visit, is_good_node, is_good_edge, are_numbered, is_good_signal, are_apart, is_good_vehicle, is_good_set, are_good_dwells, is_good_train, is_good_order, is_good_within, is_good_overlap, are_few, is_timed, are_named, is_sound_track, is_sound_traffic, are_sound_overlaps, is_admitted}
 use Rattle.rail_base.proofs.Members.{and_left, and_right, list_all_at, below_or_not}
 use Rattle.rail_base.proofs.Lists.{in_map, in_count, in_entry}
 
@@ -82,6 +84,13 @@ names_apart {X} name (x ∷ xs) h = (
 
 named : {X : Type 0} (name : X → List ℕ) (xs : List X) → are_names (map name xs) ≡ true → Pairs (λ (a b : X). name a ≡ name b → ⊥) xs
 named name xs h = names_apart name xs (and_right (list_all is_name (map name xs)) (all_pairs (λ a b. not (bytes_eq a b)) (map name xs)) h)
+
+signals_apart : (os : List Overlap) → all_pairs (λ a b. not (a.signal.0 == b.signal.0)) os ≡ true → Pairs (λ (a b : Overlap). a.signal ≡ b.signal → ⊥) os
+signals_apart [] h = tt
+signals_apart (o ∷ os) h =
+    let test : Overlap → Overlap → Bool = λ a b. not (a.signal.0 == b.signal.0) in
+    let f = two (list_all (test o) os) (all_pairs test os) h in
+    (λ p m e. not_true (o.signal.0 == p.signal.0) (list_all_at (test o) os p f.0 m) (eq-eqb o.signal.0 p.signal.0 (ap (λ (s : SignalNo). s.0) e)), signals_apart os f.1)
 
 -- ---- one entry of each kind
 
@@ -167,6 +176,16 @@ module _ (d : Station) where
       let f = three (is_visit d w.from_train w.from_visit) (is_visit d w.to_train w.to_visit) (nat_le w.max_ms 86400000) h in
       record { from = has_visit w.from_train w.from_visit f.0; to = has_visit w.to_train w.to_visit f.1; at_most_a_day = up_to w.max_ms 86400000 f.2 }
 
+  good_overlap : (o : Overlap) → is_good_overlap d o ≡ true → IsGoodOverlap d o
+  good_overlap o h =
+      let f = four (is_from 1 (length d.signals) o.signal.0) (is_from 1 16 (length o.sections)) (list_all (λ z. is_from 1 (length d.sections) z.0) o.sections) (nat_le o.hold_ms 600000) h in
+      record {
+        signal = ranged 1 (length d.signals) o.signal.0 f.0;
+        sections = ranged 1 16 (length o.sections) f.1;
+        there = λ z m. ranged 1 (length d.sections) z.0 (list_all_at (λ (z : SectionNo). is_from 1 (length d.sections) z.0) o.sections z f.2 m);
+        hold = up_to o.hold_ms 600000 f.3;
+      }
+
   one_signal : all_pairs are_apart d.signals ≡ true → (s q : SignalNo) → IsSignal d s → IsSignal d q → (signal_of d s).node ≡ (signal_of d q).node → (signal_of d s).toward ≡ (signal_of d q).toward → s ≡ q
   one_signal h s q k l n t = go (ordered s.0 q.0)
     where
@@ -198,7 +217,8 @@ module _ (d : Station) where
 
   pub admitted : is_admitted d ≡ true → IsAdmitted d
   admitted h =
-      let all = five (are_few d) (is_timed d) (are_named d) (is_sound_track d) (is_sound_traffic d) h in
+      let whole = two (are_few d && is_timed d && are_named d && is_sound_track d && is_sound_traffic d) (are_sound_overlaps d) h in
+      let all = five (are_few d) (is_timed d) (are_named d) (is_sound_track d) (is_sound_traffic d) whole.0 in
       let few = seven (nat_le (length d.nodes) 2000) (nat_le (length d.edges) 4000) (nat_le (length d.signals) 1000) (nat_le (length d.vehicles) 64) (is_from 1 128 (length d.trains)) (nat_le (length d.orders) 256) (nat_le (length d.withins) 256) all.0 in
       let time = three (is_from 1 3 d.version) (is_from 100 1000 d.tick_ms) (is_from 1 86400 (horizon d)) all.1 in
       let n1 = are_names (map (λ (n : Node). n.name) d.nodes) in
@@ -211,6 +231,7 @@ module _ (d : Station) where
       let names = five n1 n2 n3 n4 n5 late.0 in
       let track = five (list_all (is_good_node d) (map (λ n. record { 0 = n }) (one_to (length d.nodes)))) (list_all (is_good_edge d) d.edges) (are_numbered (length d.sections) 0 d.edges) (list_all (is_good_signal d) d.signals) (all_pairs are_apart d.signals) all.3 in
       let traffic = four (list_all (is_good_vehicle d) d.vehicles) (list_all (is_good_train d) d.trains) (list_all (is_good_order d) d.orders) (list_all (is_good_within d) d.withins) all.4 in
+      let overlaps = three (nat_le (length d.overlaps) (most_overlaps d)) (list_all (is_good_overlap d) d.overlaps) (all_pairs (λ a b. not (a.signal.0 == b.signal.0)) d.overlaps) whole.1 in
       let number : ℕ → NodeNo = λ n. record { 0 = n } in
       record {
         version = ranged 1 3 d.version time.0;
@@ -223,6 +244,7 @@ module _ (d : Station) where
         many_trains = ranged 1 128 (length d.trains) few.4;
         many_orders = up_to _ _ few.5;
         many_withins = up_to _ _ few.6;
+        many_overlaps = up_to _ _ overlaps.0;
         node_names = named (λ (n : Node). n.name) d.nodes names.0;
         edge_names = named (λ (e : Edge). e.name) d.edges names.1;
         signal_names = named (λ (s : Signal). s.name) d.signals names.3;
@@ -236,4 +258,6 @@ module _ (d : Station) where
         train = λ t k. good_train (train_of d t) (list_all_at (is_good_train d) d.trains (train_of d t) traffic.1 (in_entry no_train d.trains t.0 k.0 k.1));
         order = λ o m. good_order o (list_all_at (is_good_order d) d.orders o traffic.2 m);
         within = λ w m. good_within w (list_all_at (is_good_within d) d.withins w traffic.3 m);
+        overlap = λ o m. good_overlap o (list_all_at (is_good_overlap d) d.overlaps o overlaps.1 m);
+        overlaps_differ = signals_apart d.overlaps overlaps.2;
       }

@@ -9,13 +9,14 @@ use Rattle.rail_base.specs.declared.station.Vehicle.{Vehicle}
 use Rattle.rail_base.specs.declared.station.Train.{Train}
 use Rattle.rail_base.specs.declared.station.Order.{Order}
 use Rattle.rail_base.specs.declared.station.Within.{Within}
+use Rattle.rail_base.specs.declared.station.Overlap.{Overlap}
 use Rattle.rail_base.specs.declared.station.NodeNo.{NodeNo}
 use Rattle.rail_base.specs.declared.station.TrainNo.{TrainNo}
 use Rattle.rail_base.specs.declared.station.VehicleNo.{VehicleNo}
 use Rattle.rail_base.specs.Numbering.{entry, one_to}
 use Rattle.rail_base.specs.Members.{all_pairs}
 use Rattle.rail_base.specs.Stations.{is_side, node_of, train_of, first_visit, per_tick_speed, per_tick_accel, horizon}
-use Rattle.rail_base.specs.Stations.{longest_dwell}
+use Rattle.rail_base.specs.Stations.{longest_dwell, most_overlaps}
 use Rattle.rail_base.specs.Admitted.{ends_a, ends_b}
 
 -- from the one to the other
@@ -109,6 +110,11 @@ abbrev pub is_good_within : Station → Within → Bool
 is_good_within d w = is_visit d w.from_train w.from_visit && is_visit d w.to_train w.to_visit
     && nat_le w.max_ms 86400000
 
+-- at a signal, 1 to 16 sections that are held for ten minutes at most
+abbrev pub is_good_overlap : Station → Overlap → Bool
+is_good_overlap d o = is_from 1 (length d.signals) o.signal.0 && is_from 1 16 (length o.sections)
+    && list_all (λ z. is_from 1 (length d.sections) z.0) o.sections && nat_le o.hold_ms 600000
+
 -- ---- the design
 
 -- how many entries there may be
@@ -138,6 +144,11 @@ abbrev pub is_sound_traffic : Station → Bool
 is_sound_traffic d = list_all (is_good_vehicle d) d.vehicles && list_all (is_good_train d) d.trains
     && list_all (is_good_order d) d.orders && list_all (is_good_within d) d.withins
 
+-- overlaps: so many at most, and no two at one signal
+abbrev pub are_sound_overlaps : Station → Bool
+are_sound_overlaps d = nat_le (length d.overlaps) (most_overlaps d) && list_all (is_good_overlap d) d.overlaps
+    && all_pairs (λ a b. not (a.signal.0 == b.signal.0)) d.overlaps
+
 -- the reader has nothing to refuse
 abbrev pub is_admitted : Station → Bool
-is_admitted d = are_few d && is_timed d && are_named d && is_sound_track d && is_sound_traffic d
+is_admitted d = are_few d && is_timed d && are_named d && is_sound_track d && is_sound_traffic d && are_sound_overlaps d

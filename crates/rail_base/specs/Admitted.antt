@@ -8,17 +8,19 @@ use Rattle.rail_base.specs.declared.station.Vehicle.{Vehicle}
 use Rattle.rail_base.specs.declared.station.Train.{Train}
 use Rattle.rail_base.specs.declared.station.Order.{Order}
 use Rattle.rail_base.specs.declared.station.Within.{Within}
+use Rattle.rail_base.specs.declared.station.Overlap.{Overlap}
 use Rattle.rail_base.specs.declared.station.Side.TheVariants.{A, B}
 use Rattle.rail_base.specs.declared.station.NodeNo.{NodeNo}
 use Rattle.rail_base.specs.declared.station.EdgeNo.{EdgeNo}
+use Rattle.rail_base.specs.declared.station.SectionNo.{SectionNo}
 use Rattle.rail_base.specs.declared.station.SignalNo.{SignalNo}
 use Rattle.rail_base.specs.declared.station.VehicleNo.{VehicleNo}
 use Rattle.rail_base.specs.declared.station.TrainNo.{TrainNo}
 use Rattle.rail_base.specs.Numbering.{entry}
 use Rattle.rail_base.specs.Members.{In, Pairs}
-use Rattle.rail_base.specs.Stations.{IsNode, IsEdge, IsSignal, IsVehicle, IsTrain, HasVisit, edge_of, node_of}
-use Rattle.rail_base.specs.Stations.{signal_of, vehicle_at, leave, train_of, first_visit, per_tick_speed}
-use Rattle.rail_base.specs.Stations.{per_tick_accel, horizon, longest_dwell}
+use Rattle.rail_base.specs.Stations.{IsNode, IsEdge, IsSection, IsSignal, IsVehicle, IsTrain, HasVisit, edge_of}
+use Rattle.rail_base.specs.Stations.{node_of, signal_of, vehicle_at, leave, train_of, first_visit, per_tick_speed}
+use Rattle.rail_base.specs.Stations.{per_tick_accel, horizon, longest_dwell, most_overlaps}
 
 -- from the one to the other
 abbrev pub Ranges : ℕ → ℕ → ℕ → Type 0
@@ -86,6 +88,13 @@ pub record IsGoodWithin (d : Station) (w : Within) : Type 0 where
   pub to : HasVisit d w.to_train w.to_visit
   pub at_most_a_day : w.max_ms ≤ 86400000
 
+-- an overlap is at a signal, and its sections are held for ten minutes at most
+pub record IsGoodOverlap (d : Station) (o : Overlap) : Type 0 where
+  pub signal : IsSignal d o.signal
+  pub sections : Ranges 1 16 (length o.sections)
+  pub there : (z : SectionNo) → In z o.sections → IsSection d z
+  pub hold : o.hold_ms ≤ 600000
+
 -- the design is one that the reader answers
 pub record IsAdmitted (d : Station) : Type 0 where
   pub version : Ranges 1 3 d.version
@@ -98,6 +107,7 @@ pub record IsAdmitted (d : Station) : Type 0 where
   pub many_trains : Ranges 1 128 (length d.trains)
   pub many_orders : length d.orders ≤ 256
   pub many_withins : length d.withins ≤ 256
+  pub many_overlaps : length d.overlaps ≤ most_overlaps d
   pub node_names : Pairs (λ (a b : Node). a.name ≡ b.name → ⊥) d.nodes
   pub edge_names : Pairs (λ (a b : Edge). a.name ≡ b.name → ⊥) d.edges
   pub signal_names : Pairs (λ (a b : Signal). a.name ≡ b.name → ⊥) d.signals
@@ -112,3 +122,5 @@ pub record IsAdmitted (d : Station) : Type 0 where
   pub train : (t : TrainNo) → IsTrain d t → IsGoodTrain d (train_of d t)
   pub order : (o : Order) → In o d.orders → IsGoodOrder d o
   pub within : (w : Within) → In w d.withins → IsGoodWithin d w
+  pub overlap : (o : Overlap) → In o d.overlaps → IsGoodOverlap d o
+  pub overlaps_differ : Pairs (λ (a b : Overlap). a.signal ≡ b.signal → ⊥) d.overlaps

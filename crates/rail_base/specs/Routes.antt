@@ -18,6 +18,7 @@ no_route = record {
   edges = [];
   nodes = [];
   sections = [];
+  overlaps = [];
 }
 
 -- the route of this number

@@ -1,6 +1,6 @@
 -- Stations: what stands under a number, what is at an end, and numbers per tick.
 use Rattle.std.specs.Prelude.{ℕ, ◌+◌, ◌-◌, ◌*◌, ◌/◌, ◌≤◌, Bool, true, false, ◌&&◌, ◌||◌, ◌==◌, if◌then◌else◌, List}
-use Rattle.std.specs.Prelude.{[], map, filter, length, nat_le}
+use Rattle.std.specs.Prelude.{[], map, filter, length, nat_le, find, unwrap_or}
 use Rattle.rail_base.specs.declared.station.Station.{Station}
 use Rattle.rail_base.specs.declared.station.Node.{Node}
 use Rattle.rail_base.specs.declared.station.Edge.{Edge}
@@ -9,6 +9,7 @@ use Rattle.rail_base.specs.declared.station.Vehicle.{Vehicle}
 use Rattle.rail_base.specs.declared.station.Train.{Train}
 use Rattle.rail_base.specs.declared.station.Order.{Order}
 use Rattle.rail_base.specs.declared.station.Within.{Within}
+use Rattle.rail_base.specs.declared.station.Overlap.{Overlap}
 use Rattle.rail_base.specs.declared.station.End.{End}
 use Rattle.rail_base.specs.declared.station.Side.{Side}
 use Rattle.rail_base.specs.declared.station.Side.TheVariants.{A, B}
@@ -105,6 +106,14 @@ no_within = record {
 abbrev pub within_of : Station → ℕ → Within
 within_of d w = entry no_within d.withins w
 
+-- the overlap that none is
+abbrev pub no_overlap : Overlap
+no_overlap = record { signal = record { 0 = 0 }; sections = []; hold_ms = 0 }
+
+-- the overlap at a signal, or the one that none is
+abbrev pub overlap_at : Station → SignalNo → Overlap
+overlap_at d s = unwrap_or (find (λ o. o.signal.0 == s.0) d.overlaps) no_overlap
+
 -- ---- track
 
 -- how long an edge is
@@ -167,6 +176,10 @@ dwell_ticks d t = map (whole_ticks d) (train_of d t).dwell_ms
 abbrev pub longest_dwell : Station → ℕ
 longest_dwell d = if nat_le 3 d.version then 3600000 else 0
 
+-- how many overlaps there may be: 1,000 from version 4 on, and none before it
+abbrev pub most_overlaps : Station → ℕ
+most_overlaps d = if nat_le 4 d.version then 1000 else 0
+
 -- ---- numbers that the design has
 
 -- a node has this number
@@ -176,6 +189,10 @@ IsNode d n = (1 ≤ n.0) × (n.0 ≤ length d.nodes)
 -- an edge has this number
 abbrev pub IsEdge : Station → EdgeNo → Type 0
 IsEdge d e = (1 ≤ e.0) × (e.0 ≤ length d.edges)
+
+-- a section has this number
+abbrev pub IsSection : Station → SectionNo → Type 0
+IsSection d z = (1 ≤ z.0) × (z.0 ≤ length d.sections)
 
 -- a signal has this number
 abbrev pub IsSignal : Station → SignalNo → Type 0

@@ -25,6 +25,14 @@ pub enum Finish {
     DeadEnd(NodeNo),
 }
 
+/// A section behind the end of a route.
+#[derive(Clone, Copy, Debug, PartialEq, Eq)]
+pub struct OverlapSection {
+    pub section: SectionNo,
+    /// How long it is held after the train's arrival at the route's end, in ms.
+    pub hold_ms: u32,
+}
+
 /// A walk along edges from a start to the first place where a route ends. Offsets are in mm from its start.
 #[derive(Drop)]
 pub struct Route {
@@ -37,6 +45,8 @@ pub struct Route {
     pub nodes: List<(NodeNo, i64)>,
     /// Each section once, in order of first occurrence, with its release offset: the end of its last edge.
     pub sections: List<(SectionNo, i64)>,
+    /// What is held of the overlap at its end signal, in the order listed: each section once that isn't its own.
+    pub overlaps: List<OverlapSection>,
 }
 
 /// The routes of a design, in order of their numbers.

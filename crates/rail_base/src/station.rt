@@ -112,6 +112,15 @@ pub struct Within {
     pub max_ms: u32,
 }
 
+/// The sections that are kept free behind a signal where a train ends its route.
+#[derive(Drop)]
+pub struct Overlap {
+    pub signal: SignalNo,
+    pub sections: List<SectionNo>,
+    /// How long they are held after the train's arrival at the signal, in ms.
+    pub hold_ms: u32,
+}
+
 /// A station and what is asked of its traffic, as a file has it. `Design` is one that the reader admits.
 #[derive(Drop)]
 pub struct Station {
@@ -129,4 +138,5 @@ pub struct Station {
     pub trains: List<Train>,
     pub orders: List<Order>,
     pub withins: List<Within>,
+    pub overlaps: List<Overlap>,
 }

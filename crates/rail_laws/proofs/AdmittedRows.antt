@@ -1,12 +1,12 @@
 -- The small designs are admitted, so that the laws speak of something.
-use Rattle.std.specs.Prelude.{◌≡◌, true, false, refl}
+use Rattle.std.specs.Prelude.{◌≡◌, true, false, [], ◌∷◌, refl}
 use Rattle.rail_base.specs.Admitted.{IsAdmitted}
 use Rattle.rail_base.specs.Admission.{is_admitted}
 use Rattle.rail_base.proofs.Admitting.{admitted}
 use Rattle.rail_spec.specs.Track.{routes_of}
 use Rattle.rail_spec.specs.Feasible.{IsRunnable, IsFeasible}
 use Rattle.rail_laws.specs.Progress.{last_grant}
-use Rattle.rail_laws.proofs.Stations.{halt, halt_for, halt_within, follow, follow_short, follow_within, slow_zone, parallel, ring, plan_two}
+use Rattle.rail_laws.proofs.Stations.{halt, halt_for, halt_within, follow, follow_over, follow_short, follow_within, slow_zone, parallel, ring, plan_two}
 
 halts : is_admitted halt ≡ true
 halts = refl
@@ -38,6 +38,10 @@ stands_nowhere = refl
 
 may_not_stand : is_admitted (halt_for 3000) ≡ false
 may_not_stand = refl
+
+-- nor has any an overlap before version 4
+may_not_hold : is_admitted (record (follow_over (record { 0 = 2 } ∷ [])) { version = 3 }) ≡ false
+may_not_hold = refl
 
 runnable : IsRunnable (follow_within 8000) (routes_of (follow_within 8000)) 256 plan_two
 runnable = record { well_formed = record { named = refl; formed = refl }; executable = refl }

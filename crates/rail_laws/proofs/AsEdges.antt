@@ -74,7 +74,7 @@ first_in [] z m = m
 first_in (y ∷ ys) z (inl e) = inl e
 first_in (y ∷ ys) z (inr m) = let k = in_filter_back (λ (w : SectionNo). not (w.0 == y.0)) (first_occurrences ys) z m in inr (first_in ys z k.0)
 
-first_differ : (zs : List SectionNo) → Differ (first_occurrences zs)
+pub first_differ : (zs : List SectionNo) → Differ (first_occurrences zs)
 first_differ [] = tt
 first_differ (y ∷ ys) = (λ z m e. not_same z e (in_filter_back (λ (w : SectionNo). not (w.0 == y.0)) (first_occurrences ys) z m).1, pairs_filter _ _ (first_occurrences ys) (first_differ ys))
   where

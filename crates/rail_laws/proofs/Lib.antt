@@ -4,6 +4,7 @@ pub mod Walk
 pub mod RouteLaws
 pub mod BadWalk
 pub mod AsEdges
+pub mod Beside
 pub mod Exclusion
 pub mod Visiting
 pub mod Stops

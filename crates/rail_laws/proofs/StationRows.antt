@@ -20,6 +20,7 @@ station = record {
   trains = train "A" ((node 1 ∷ []) ∷ (node 2 ∷ []) ∷ []) ∷ [];
   orders = [];
   withins = [];
+  overlaps = [];
 }
 
 abbrev through_station : List (List Command)

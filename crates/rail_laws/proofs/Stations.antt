@@ -13,6 +13,7 @@ use Rattle.rail_base.specs.declared.station.End.{End}
 use Rattle.rail_base.specs.declared.station.Side.{Side}
 use Rattle.rail_base.specs.declared.station.Side.TheVariants.{A, B}
 use Rattle.rail_base.specs.declared.station.NodeNo.{NodeNo}
+use Rattle.rail_base.specs.declared.station.SectionNo.{SectionNo}
 use Rattle.rail_base.specs.declared.plan.Command.{Command}
 
 abbrev pub at : ℕ → Side → End
@@ -54,6 +55,7 @@ line edges signals trains orders withins horizon = record {
   trains = trains;
   orders = orders;
   withins = withins;
+  overlaps = [];
 }
 
 abbrev pub plain_edges : List Edge
@@ -76,6 +78,10 @@ halt_for ms = line plain_edges (signal ∷ []) (train_with "A" ((node 1 ∷ []) 
 abbrev pub follow : Station
 follow = line plain_edges (signal ∷ []) (goes_east "A" ∷ goes_east "B" ∷ []) [] [] 600000
 
+-- an overlap at its signal, of these sections, that holds them for 2 s
+abbrev pub follow_over : List SectionNo → Station
+follow_over zs = record follow { version = 4; overlaps = record { signal = record { 0 = 1 }; sections = zs; hold_ms = 2000 } ∷ [] }
+
 abbrev pub follow_short : Station
 follow_short = line plain_edges (signal ∷ []) (goes_east "A" ∷ goes_east "B" ∷ []) [] [] 8000
 
@@ -97,6 +103,7 @@ parallel = record {
   trains = train "A" ((node 1 ∷ []) ∷ (node 2 ∷ []) ∷ []) ∷ train "B" ((node 3 ∷ []) ∷ (node 4 ∷ []) ∷ []) ∷ [];
   orders = record { first_train = record { 0 = 1 }; first_visit = 1; then_train = record { 0 = 2 }; then_visit = 1 } ∷ [];
   withins = [];
+  overlaps = [];
 }
 
 -- a ring without a signal
@@ -113,6 +120,7 @@ ring = record {
   trains = train "A" ((node 1 ∷ []) ∷ []) ∷ [];
   orders = [];
   withins = [];
+  overlaps = [];
 }
 
 abbrev pub command : ℕ → ℕ → Command

@@ -9,14 +9,16 @@ use Rattle.rail_base.specs.declared.station.EdgeNo.{EdgeNo}
 use Rattle.rail_base.specs.declared.station.SectionNo.{SectionNo}
 use Rattle.rail_base.specs.declared.station.SignalNo.{SignalNo}
 use Rattle.rail_base.specs.declared.route.Route.{Route}
+use Rattle.rail_base.specs.declared.route.OverlapSection.{OverlapSection}
 use Rattle.rail_base.specs.declared.route.Start.{Start}
 use Rattle.rail_base.specs.declared.route.Start.TheVariants as start
 use Rattle.rail_base.specs.declared.route.Finish.{Finish}
 use Rattle.rail_base.specs.declared.route.Finish.TheVariants as finish
 use Rattle.rail_base.specs.Members.{In, Pairs, Differ}
+use Rattle.rail_base.specs.Routes.{has_section}
 use Rattle.rail_base.specs.Stations.{IsNode, IsEdge, IsSignal, edge_of, node_of, signal_of, through, far_end, length_of}
 use Rattle.rail_base.specs.Stations.{section_of}
-use Rattle.rail_spec.specs.Track.{route_of, edge_ends, first_occurrences, all_walks, RepeatsEdge}
+use Rattle.rail_spec.specs.Track.{route_of, edge_ends, first_occurrences, all_walks, end_overlap, RepeatsEdge}
 
 -- ---- what stands at an end
 
@@ -141,6 +143,12 @@ pub record IsAsItsEdges (d : Station) (r : Route) : Type 0 where
   pub rising : Pairs (λ (m n : EdgeNo × ℕ). m.1 < n.1) (edge_ends d 0 r.edges)
   pub inside : (e : EdgeNo) (n : ℕ) → In (e, n) (edge_ends d 0 r.edges) → (1 ≤ n) × (n ≤ sum_by (length_of d) r.edges)
   pub whole : (e : EdgeNo) × In (e, sum_by (length_of d) r.edges) (edge_ends d 0 r.edges)
+
+-- the overlap sections of a route are listed by the overlap at its end, are none of its own, and are there once each
+pub record HasOverlapsBeside (d : Station) (r : Route) : Type 0 where
+  pub listed : (p : OverlapSection) → In p r.overlaps → In p.section (end_overlap d r.finish).sections
+  pub not_own : (p : OverlapSection) → In p r.overlaps → has_section r p.section ≡ false
+  pub each_once : Pairs (λ (p q : OverlapSection). p.section ≡ q.section → ⊥) r.overlaps
 
 -- some path closes badly where this edge comes next
 abbrev pub SomeClosesBadly : Station → EdgeNo → Type 0

@@ -10,6 +10,7 @@ ghost use Rattle.rail_spec.specs.Safety.{KeepsToTrack};
 ghost use Rattle.rail_base.specs.Members.{In, Pairs, Differ};
 ghost use Rattle.rail_spec.specs.Track.{routes_of, all_walks, RepeatsEdge};
 ghost use Rattle.rail_laws.specs.Elementary.{IsRouteOf, RouteBefore, IsAsItsEdges, SomeClosesBadly, NoneRepeats};
+ghost use Rattle.rail_laws.specs.Elementary.{HasOverlapsBeside};
 ghost use Rattle.rail_base.specs.Admitted.{IsAdmitted};
 ghost use Rattle.rail_laws.specs.Progress.{IsGrantedInTime};
 ghost use Rattle.rail_spec.specs.Verdict.{IsVerdict};
@@ -77,6 +78,11 @@ pub fn paths_close_badly_where_an_edge_is_met_again()
 /// A route's length, nodes and sections are those of its edges.
 pub fn routes_are_as_their_edges()
     ensures { EachDesign (λ d. (r : Route) → In r (routes_of d) → IsAsItsEdges d r) }
+{}
+
+/// A route's overlap sections are listed by the overlap at its end, are none of its own, and are there once each.
+pub fn overlaps_lie_beside_routes()
+    ensures { EachDesign (λ d. (r : Route) → In r (routes_of d) → HasOverlapsBeside d r) }
 {}
 
 /// In no run of a well-formed, executable plan of an admitted design do two trains hold one section or stand on one.

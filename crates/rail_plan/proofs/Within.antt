@@ -7,7 +7,7 @@ use Rattle.rail_base.specs.declared.station.SectionNo.{SectionNo}
 use Rattle.rail_base.specs.declared.route.Route.{Route}
 use Rattle.rail_base.specs.declared.route.RouteNo.{RouteNo}
 use Rattle.rail_base.specs.declared.station.Edge.{Edge}
-use Rattle.rail_base.specs.Admission.{are_apart, are_few, are_named, are_numbered, is_admitted, is_good_edge, is_good_node, is_good_signal, is_sound_track, is_sound_traffic, is_timed}
+use Rattle.rail_base.specs.Admission.{are_apart, are_few, are_named, are_numbered, is_admitted, is_good_edge, is_good_node, is_good_signal, is_sound_track, is_sound_traffic, are_sound_overlaps, is_timed}
 use Rattle.rail_base.specs.Admitted.{IsAdmitted}
 use Rattle.rail_base.specs.Members.{In, all_pairs}
 use Rattle.rail_base.specs.Numbering.{one_to}
@@ -64,7 +64,7 @@ numbered_few total known (e ∷ es) h = go (either (nat_le e.section.0 known && 
 
 pub few_sections : (d : Station) → is_admitted d ≡ true → length d.sections ≤ 4000
 few_sections d h =
-    let sound = and_right (are_few d && is_timed d && are_named d) (is_sound_track d) (and_left (are_few d && is_timed d && are_named d && is_sound_track d) (is_sound_traffic d) h) in
+    let sound = and_right (are_few d && is_timed d && are_named d) (is_sound_track d) (and_left (are_few d && is_timed d && are_named d && is_sound_track d) (is_sound_traffic d) (and_left (are_few d && is_timed d && are_named d && is_sound_track d && is_sound_traffic d) (are_sound_overlaps d) h)) in
     let prefix = and_left (nodes_pass && edges_pass && are_numbered (length d.sections) 0 d.edges) signals_pass (and_left (nodes_pass && edges_pass && are_numbered (length d.sections) 0 d.edges && signals_pass) (all_pairs are_apart d.signals) sound) in
     let few = numbered_few (length d.sections) 0 d.edges (and_right (nodes_pass && edges_pass) (are_numbered (length d.sections) 0 d.edges) prefix) in
     let most = (admitted d h).many_edges in

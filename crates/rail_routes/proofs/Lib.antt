@@ -3,5 +3,6 @@ pub mod Places
 pub mod Marks
 pub mod Searching
 pub mod Walking
+pub mod Held
 pub mod Faults
 pub mod Tables

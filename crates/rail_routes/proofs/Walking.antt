@@ -9,7 +9,7 @@ use Rattle.rail_base.specs.declared.station.Edge.{Edge}
 use Rattle.rail_base.specs.Numbering.{one_to}
 use Rattle.rail_base.specs.Members.{all_pairs}
 use Rattle.rail_base.specs.Admitted.{IsAdmitted}
-use Rattle.rail_base.specs.Admission.{is_good_node, is_good_edge, is_good_signal, are_numbered, are_apart, are_few, is_timed, are_named, is_sound_track, is_sound_traffic, is_admitted}
+use Rattle.rail_base.specs.Admission.{is_good_node, is_good_edge, is_good_signal, are_numbered, are_apart, are_few, is_timed, are_named, is_sound_track, is_sound_traffic, are_sound_overlaps, is_admitted}
 use Rattle.rail_base.proofs.Admitting.{admitted}
 use Rattle.rail_base.proofs.Members.{and_left, and_right, either}
 use Rattle.std.specs.List.{list_all}
@@ -37,7 +37,7 @@ numbered-few total known (e ∷ es) h = go (either (nat_le e.section.0 known && 
 
 pub few_sections : (d : Station) → is_admitted d ≡ true → length d.sections ≤ 4000
 few_sections d h =
-    let sound = and_right (are_few d && is_timed d && are_named d) (is_sound_track d) (and_left (are_few d && is_timed d && are_named d && is_sound_track d) (is_sound_traffic d) h) in
+    let sound = and_right (are_few d && is_timed d && are_named d) (is_sound_track d) (and_left (are_few d && is_timed d && are_named d && is_sound_track d) (is_sound_traffic d) (and_left (are_few d && is_timed d && are_named d && is_sound_track d && is_sound_traffic d) (are_sound_overlaps d) h)) in
     let prefix = and_left (nodes_pass && edges_pass && are_numbered (length d.sections) 0 d.edges) signals_pass (and_left (nodes_pass && edges_pass && are_numbered (length d.sections) 0 d.edges && signals_pass) (all_pairs are_apart d.signals) sound) in
     let few = numbered-few (length d.sections) 0 d.edges (and_right (nodes_pass && edges_pass) (are_numbered (length d.sections) 0 d.edges) prefix) in
     let most = (admitted d h).many_edges in
@@ -130,7 +130,7 @@ keeps-all test (z ∷ zs) h = ap (λ b. cond b (z ∷ filter test zs) (filter te
 pub none_seen : (seen : List Bool) (n : ℕ) (zs : List SectionNo) → seen ≡ replicate n false → filter (unseen seen) zs ≡ zs
 none_seen seen n zs h = keeps-all (unseen seen) zs (λ z. ap (λ b. not b) (ap (λ s. get_or s z.0 false) h ∙ none-seen n z.0))
 
-filter-filter : (p q r : SectionNo → Bool) (zs : List SectionNo) → ((z : SectionNo) → r z ≡ (q z && p z)) → filter p (filter q zs) ≡ filter r zs
+pub filter-filter : (p q r : SectionNo → Bool) (zs : List SectionNo) → ((z : SectionNo) → r z ≡ (q z && p z)) → filter p (filter q zs) ≡ filter r zs
 filter-filter p q r [] h = refl
 filter-filter p q r (z ∷ zs) h = go (q z) (p z) (r z) refl refl (h z) (filter-filter p q r zs h)
   where

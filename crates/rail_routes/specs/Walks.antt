@@ -1,10 +1,12 @@
 -- Paths over edges of a design.
-use Rattle.std.specs.Prelude.{◌≡◌, ℕ, ◌≤◌, List, ◌∷◌, length, map, ℤ, pos, slice_index}
+use Rattle.std.specs.Prelude.{◌≡◌, ℕ, ◌≤◌, Bool, not, ◌&&◌, ◌==◌, List, ◌∷◌, length, map, ℤ, pos, slice_index}
+use Rattle.std.specs.List.{list_any}
 use Rattle.rail_base.specs.declared.station.Station.{Station}
 use Rattle.rail_base.specs.declared.station.EdgeNo.{EdgeNo}
 use Rattle.rail_base.specs.declared.station.End.{End}
 use Rattle.rail_base.specs.declared.station.NodeNo.{NodeNo}
 use Rattle.rail_base.specs.declared.station.SectionNo.{SectionNo}
+use Rattle.rail_base.specs.declared.route.OverlapSection.{OverlapSection}
 use Rattle.rail_base.specs.Members.{In}
 use Rattle.rail_base.specs.Stations.{IsEdge, section_of}
 use Rattle.rail_spec.specs.Track.{edge_ends, first_occurrences, last_end, nodes_along, with_offsets}
@@ -30,3 +32,7 @@ sections_of d path = map (λ z. (z, pos (last_end d z (edge_ends d 0 path)))) (s
 abbrev pub AreLastEnds : Station → List EdgeNo → List ℕ → Type 0
 AreLastEnds d path ends = (z : SectionNo) → z.0 ≤ length d.sections
     → slice_index ends z.0 ≡ last_end d z (edge_ends d 0 path)
+
+-- the section is neither own nor held already
+abbrev pub is_new : List SectionNo → List OverlapSection → SectionNo → Bool
+is_new own held z = not (list_any (λ y. y.0 == z.0) own) && not (list_any (λ p. p.section.0 == z.0) held)

@@ -5,6 +5,7 @@
 
 mod fault;
 pub mod laws;
+mod overlap;
 mod path;
 mod route;
 mod search;

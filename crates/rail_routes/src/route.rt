@@ -8,6 +8,7 @@ ghost use Rattle.rail_spec.specs.Track.{route_of};
 ghost use Rattle.rail_laws.specs.Elementary.{IsStart};
 ghost use Rattle.rail_routes.specs.Walks.{nodes_of, sections_along, sections_of, AreEdges, AreLastEnds};
 
+use crate::overlap::overlaps;
 use crate::starts::start_end;
 use crate::track::{Track, far_end, through};
 use rail_base::design::Design;
@@ -37,6 +38,7 @@ pub(crate) fn route_of(
         edges: List::from_vec(Vec::from_slice(alloc, path)?),
         nodes: nodes(alloc, design, path, from)?,
         sections: sections(alloc, design, path)?,
+        overlaps: overlaps(alloc, design, path, finish)?,
     })
 }
 
@@ -112,7 +114,7 @@ fn last_ends(alloc: Global, design: &Design, path: &[EdgeNo]) -> Result<Vec<u64>
 }
 
 /// The sections of a path, each once, by its first occurrence.
-fn first_sections(
+pub(crate) fn first_sections(
     alloc: Global,
     design: &Design,
     path: &[EdgeNo],

@@ -6,19 +6,21 @@ use Rattle.std.specs.Option.{option_or}
 use Rattle.std.specs.List.{list_any}
 use Rattle.rail_base.specs.declared.station.Station.{Station}
 use Rattle.rail_base.specs.declared.station.End.{End}
+use Rattle.rail_base.specs.declared.station.Overlap.{Overlap}
 use Rattle.rail_base.specs.declared.station.Side.TheVariants.{A, B}
 use Rattle.rail_base.specs.declared.station.NodeNo.{NodeNo}
 use Rattle.rail_base.specs.declared.station.EdgeNo.{EdgeNo}
 use Rattle.rail_base.specs.declared.station.SectionNo.{SectionNo}
 use Rattle.rail_base.specs.declared.station.SignalNo.{SignalNo}
 use Rattle.rail_base.specs.declared.route.Route.{Route}
+use Rattle.rail_base.specs.declared.route.OverlapSection.{OverlapSection}
 use Rattle.rail_base.specs.declared.route.Start.{Start}
 use Rattle.rail_base.specs.declared.route.Start.TheVariants as start
 use Rattle.rail_base.specs.declared.route.Finish.{Finish}
 use Rattle.rail_base.specs.declared.route.Finish.TheVariants as finish
 use Rattle.rail_base.specs.Numbering.{one_to, first_of_list}
 use Rattle.rail_base.specs.Stations.{is_end, through, far_end, edge_of, node_of, signal_of, leave, length_of}
-use Rattle.rail_base.specs.Stations.{section_of}
+use Rattle.rail_base.specs.Stations.{section_of, no_overlap, overlap_at}
 
 -- the numbers of all signals
 abbrev pub signal_numbers : Station → List SignalNo
@@ -108,18 +110,30 @@ first_occurrences (z ∷ zs) = z ∷ filter (λ y. not (y.0 == z.0)) (first_occu
 abbrev pub last_end : Station → SectionNo → List (EdgeNo × ℕ) → ℕ
 last_end d z ends = fold max 0 (map (λ e. e.1) (filter (λ e. (section_of d e.0).0 == z.0) ends))
 
+-- the overlap at the signal where a route ends, or the one that none is
+abbrev pub end_overlap : Station → Finish → Overlap
+end_overlap d (finish.Signal s) = overlap_at d s
+end_overlap d _ = no_overlap
+
+-- the sections of an overlap that aren't own, each once, in the order listed
+abbrev pub overlap_sections : Overlap → List SectionNo → List OverlapSection
+overlap_sections o own = map (λ z. record { section = z; hold_ms = o.hold_ms })
+    (filter (λ z. not (list_any (λ y. y.0 == z.0) own)) (first_occurrences o.sections))
+
 -- the route with these edges
 abbrev pub route_of : Station → Start → List EdgeNo → Finish → Route
 route_of d s path f =
     let ends = edge_ends d 0 path in
     let from = start_end d s in
+    let own = first_occurrences (map (section_of d) path) in
     record {
       start = s;
       finish = f;
       length = pos (sum_by (length_of d) path);
       edges = path;
       nodes = (from.node, pos 0) ∷ with_offsets (nodes_along d from path) ends;
-      sections = map (λ z. (z, pos (last_end d z ends))) (first_occurrences (map (section_of d) path));
+      sections = map (λ z. (z, pos (last_end d z ends))) own;
+      overlaps = overlap_sections (end_overlap d f) own;
     }
 
 -- the route of a closed path, if it closes well

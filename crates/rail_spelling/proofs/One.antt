@@ -5,20 +5,23 @@ use Rattle.rail_base.specs.declared.station.Station.{Station}
 use Rattle.rail_base.specs.declared.station.Node.{Node}
 use Rattle.rail_base.specs.declared.station.Edge.{Edge}
 use Rattle.rail_base.specs.declared.station.End.{End}
+use Rattle.rail_base.specs.declared.station.Side.TheVariants.{A}
 use Rattle.rail_base.specs.declared.station.Signal.{Signal}
 use Rattle.rail_base.specs.declared.station.Vehicle.{Vehicle}
 use Rattle.rail_base.specs.declared.station.Train.{Train}
 use Rattle.rail_base.specs.declared.station.Order.{Order}
 use Rattle.rail_base.specs.declared.station.Within.{Within}
+use Rattle.rail_base.specs.declared.station.Overlap.{Overlap}
 use Rattle.rail_base.specs.declared.station.NodeNo.{NodeNo}
 use Rattle.rail_base.specs.declared.station.SectionNo.{SectionNo}
+use Rattle.rail_base.specs.declared.station.SignalNo.{SignalNo}
 use Rattle.rail_base.specs.declared.station.VehicleNo.{VehicleNo}
 use Rattle.rail_base.specs.declared.station.TrainNo.{TrainNo}
 use Rattle.rail_base.specs.Admitted.{IsAdmitted, Ranges}
 use Rattle.rail_base.specs.Members.{In, Pairs}
-use Rattle.rail_base.specs.Names.{node_name, section_name, train_name}
+use Rattle.rail_base.specs.Names.{node_name, section_name, signal_name, train_name}
 use Rattle.rail_base.specs.Numbering.{entry}
-use Rattle.rail_base.specs.Stations.{IsNode, IsVehicle, IsTrain, no_train, no_vehicle, vehicle_at}
+use Rattle.rail_base.specs.Stations.{IsNode, IsSignal, IsVehicle, IsTrain, no_train, no_vehicle, vehicle_at}
 use Rattle.rail_spelling.specs.Designs.{Spells, HasRows, whole, list, dwell_rows, each_once}
 use Rattle.rail_spelling.proofs.Agreeing.{one_text, one_flag, one_whole, one_side, one_list, one_made, one_array, one_dwells}
 use Rattle.rail_spelling.proofs.Entries.{good_edge, good_signal, good_train}
@@ -28,6 +31,10 @@ use Rattle.rail_spelling.proofs.Sections.{once_differ}
 -- the node that none is
 abbrev pub no_node : Node
 no_node = record { name = []; boundary = false }
+
+-- the signal that none is
+abbrev pub no_signal : Signal
+no_signal = record { name = []; node = record { 0 = 0 }; toward = A }
 
 -- ---- records whose parts are equal
 
@@ -55,12 +62,16 @@ same_order x y first visit later other = λ i. record { first_train = first i; f
 same_within : (x y : Within) → x.from_train ≡ y.from_train → x.from_visit ≡ y.from_visit → x.to_train ≡ y.to_train → x.to_visit ≡ y.to_visit → x.max_ms ≡ y.max_ms → x ≡ y
 same_within x y from visit to other most = λ i. record { from_train = from i; from_visit = visit i; to_train = to i; to_visit = other i; max_ms = most i }
 
+same_overlap : (x y : Overlap) → x.signal ≡ y.signal → x.sections ≡ y.sections → x.hold_ms ≡ y.hold_ms → x ≡ y
+same_overlap x y signal sections hold = λ i. record { signal = signal i; sections = sections i; hold_ms = hold i }
+
 -- ---- two designs that the bytes spell
 
 -- no name is empty
 pub record IsNamed (d : Station) : Type 0 where
   pub nodes : Named (λ (n : Node). n.name) no_node refl d.nodes
   pub sections : Named (λ (name : List ℕ). name) [] refl d.sections
+  pub signals : Named (λ (q : Signal). q.name) no_signal refl d.signals
   pub vehicles : Named (λ (v : Vehicle). v.name) no_vehicle refl d.vehicles
   pub trains : Named (λ (t : Train). t.name) no_train refl d.trains
 
@@ -126,6 +137,12 @@ module _ (bytes : List ℕ) (d e : Station) (named : IsNamed d) (good : IsAdmitt
       (one_side x.toward y.toward (sym p.1.1.0 ∙ q.1.1.0)))
       a.signals b.signals
 
+  one_signal : (n m : SignalNo) → IsSignal d n → string (signal_name d n) ≡ string (signal_name e m) → n ≡ m
+  one_signal n m is same =
+      let names : signal_name d n ≡ signal_name d m = one_text (signal_name d n) (signal_name e m) same ∙ ap (λ signals. (entry no_signal signals m.0).name) (sym same_signals) in
+      let number : n.0 ≡ m.0 = one_number (λ (q : Signal). q.name) no_signal refl d.signals n.0 m.0 good.signal_names named.signals is.0 is.1 names in
+      λ i. record { 0 = number i }
+
   same_vehicles : d.vehicles ≡ e.vehicles
   same_vehicles = one_array _ _ a.file b.file "vehicle" d.vehicles e.vehicles same_file
       (λ keys x y m k p q. same_vehicle x y
@@ -187,6 +204,18 @@ module _ (bytes : List ℕ) (d e : Station) (named : IsNamed d) (good : IsAdmitt
       (one_whole x.max_ms y.max_ms (sym p.1.1.1.1.0 ∙ q.1.1.1.1.0)))
       a.withins b.withins
 
+  -- ---- overlaps
+
+  same_overlaps : d.overlaps ≡ e.overlaps
+  same_overlaps = one_array _ _ a.file b.file "overlap" d.overlaps e.overlaps same_file
+      (λ keys x y m k p q.
+      let g = good.overlap x m in
+      same_overlap x y
+      (one_signal x.signal y.signal g.signal (sym p.0 ∙ q.0))
+      (one_list _ _ x.sections y.sections (λ z w i is. one_section z w (g.there z i) is) (sym p.1.0 ∙ q.1.0))
+      (one_whole x.hold_ms y.hold_ms (sym p.1.1.0 ∙ q.1.1.0)))
+      a.overlaps b.overlaps
+
   -- ---- the design
 
   pub one_design : d ≡ e
@@ -205,4 +234,5 @@ module _ (bytes : List ℕ) (d e : Station) (named : IsNamed d) (good : IsAdmitt
         trains = same_trains i;
         orders = same_orders i;
         withins = same_withins i;
+        overlaps = same_overlaps i;
       }

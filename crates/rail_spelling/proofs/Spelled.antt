@@ -11,36 +11,39 @@ use Rattle.design_table.specs.declared.key.Key.TheVariants as keys
 use Rattle.design_table.specs.declared.place.EntryKind.{EntryKind}
 use Rattle.design_table.specs.declared.place.EntryKind.TheVariants as kinds
 use Rattle.design_table.specs.declared.place.Place.{Place}
-use Rattle.design_table.specs.declared.place.Place.TheVariants.{Top, Field}
+use Rattle.design_table.specs.declared.place.Place.TheVariants.{Top, Field, Unknown}
 use Rattle.design_table.specs.declared.field.Form.TheVariants as forms
-use Rattle.design_table.specs.Forms.{found, name_of, is_whole, is_wholes, wholes_of, visits_of}
-use Rattle.design_table.specs.Keys.{column, version_number}
+use Rattle.design_table.specs.Forms.{found, name_of, is_name, is_names, names_of as listed_names, is_whole, whole_of, is_wholes, wholes_of, visits_of, has_unknown}
+use Rattle.design_table.specs.Keys.{column, columns_of, key_text, top_keys, version_number}
 use Rattle.design_table.specs.Reads.{at}
-use Rattle.design_table.specs.Sheet.{version_of, sheet_of, is_right, wrong_whole, wrong_array, form_fault, value_of}
-use Rattle.design_table.specs.Parsed.{ParsedNode, ParsedEdge, ParsedVehicle, ParsedTrain, ParsedWithin, ParsedSheet, node_of, edge_of, signal_of, vehicle_of, train_of, order_of, within_of}
+use Rattle.design_table.specs.Sheet.{version_of, entries_of, sheet_of, is_right, wrong_whole, wrong_array, form_fault, value_of, top_value}
+use Rattle.design_table.specs.Parsed.{ParsedNode, ParsedEdge, ParsedSignal, ParsedVehicle, ParsedTrain, ParsedWithin, ParsedOverlap, ParsedSheet, node_of, edge_of, signal_of, vehicle_of, train_of, order_of, within_of, overlap_of}
 use Rattle.rail_base.specs.declared.station.Station.{Station}
 use Rattle.rail_base.specs.declared.station.Node.{Node}
 use Rattle.rail_base.specs.declared.station.Edge.{Edge}
+use Rattle.rail_base.specs.declared.station.Signal.{Signal}
 use Rattle.rail_base.specs.declared.station.Vehicle.{Vehicle}
 use Rattle.rail_base.specs.declared.station.Train.{Train}
+use Rattle.rail_base.specs.Admission.{is_from}
 use Rattle.rail_base.specs.Admitted.{IsAdmitted, Ranges}
 use Rattle.rail_base.specs.Members.{In}
 use Rattle.rail_base.specs.Numbering.{entry}
-use Rattle.rail_base.specs.Names.{node_name, section_name, train_name}
-use Rattle.rail_base.specs.Stations.{IsNode, IsVehicle, IsTrain, no_train, no_vehicle, vehicle_at}
+use Rattle.rail_base.specs.Names.{node_name, section_name, signal_name, train_name}
+use Rattle.rail_base.specs.Stations.{IsNode, IsSignal, IsVehicle, IsTrain, no_train, no_vehicle, vehicle_at}
 use Rattle.rail_base.proofs.Lists.{in_map, in_map_back}
 use Rattle.rail_base.proofs.Members.{and_left, and_right, list_all_at, map-map}
-use Rattle.infra_reader.specs.Limits.{limit, is_kept, limits_outside, are_few_visits, are_good_dwells, unless_from, count_outside, array_outside, vehicle_outside, train_outside, within_outside, times_outside, track_outside, traffic_outside, out_of_range}
+use Rattle.infra_reader.specs.Limits.{limit, is_kept, limits_outside, are_few_visits, are_good_dwells, unless_from, count_outside, array_outside, vehicle_outside, train_outside, within_outside, overlap_outside, times_outside, track_outside, traffic_outside, out_of_range}
 use Rattle.infra_reader.specs.Names.{Names, names_of, number_in, section_names}
-use Rattle.infra_reader.specs.Stations.{number_32, nodes_in, dwells_in, node_in, edge_in, signal_in, vehicle_in, train_in, order_in, within_in, station_of}
+use Rattle.infra_reader.specs.Stations.{number_32, nodes_in, dwells_in, node_in, edge_in, signal_in, vehicle_in, train_in, order_in, within_in, sections_in, overlap_in, station_of}
 use Rattle.infra_reader.proofs.Spelling.{is_spelled}
-use Rattle.rail_spelling.specs.Designs.{Spells, HasRows, whole, list, dwell_rows, each_once}
+use Rattle.rail_spelling.specs.Designs.{Row, Spells, HasRows, whole, list, dwell_rows, each_once}
 use Rattle.rail_spelling.proofs.Entries.{good_edge, good_signal, good_vehicle, good_train}
-use Rattle.rail_spelling.proofs.One.{no_node}
+use Rattle.rail_base.specs.declared.station.Overlap.{Overlap}
+use Rattle.rail_spelling.proofs.One.{no_node, no_signal}
 use Rattle.rail_spelling.proofs.Numbers.{name_back, entry_back, map_made}
 use Rattle.rail_spelling.proofs.Once.{same_once}
-use Rattle.rail_spelling.proofs.Tables.{has_tables, none_in, no_left, no_right, passes}
-use Rattle.rail_spelling.proofs.Values.{value, kept, spells_name, spells_flag, spells_side, spells_exactly, spells_whole, spells_wholes, spells_visits, number}
+use Rattle.rail_spelling.proofs.Tables.{AreRight, has_tables, not_there, none_unknown, none_in, no_left, no_right, passes}
+use Rattle.rail_spelling.proofs.Values.{value, kept, spells_name, spells_flag, spells_side, spells_exactly, spells_whole, spells_wholes, spells_visits, number, section_number, spells_names}
 
 -- ---- numbers in range
 
@@ -136,6 +139,9 @@ module _ (file : Members) (good : IsAdmitted (station_of (sheet_of file))) where
   section_back : (name : List ℕ) → Ranges 1 (length d.sections) (number_in names.sections name) → section_name d (record { 0 = number_in names.sections name }) ≡ name
   section_back name is = name_back names.sections name is.1
 
+  signal_back : (name : List ℕ) → IsSignal d (record { 0 = number_in names.signals name }) → signal_name d (record { 0 = number_in names.signals name }) ≡ name
+  signal_back name is = entry_back (λ (q : Signal). q.name) (signal_in names) (λ (q : ParsedSignal). q.name) no_signal s.signals name refl (λ p. refl) is.1
+
   vehicle_back : (name : List ℕ) → IsVehicle d (record { 0 = number_in names.vehicles name }) → (vehicle_at d (record { 0 = number_in names.vehicles name })).name ≡ name
   vehicle_back name is = entry_back (λ (v : Vehicle). v.name) (vehicle_in names) (λ (v : ParsedVehicle). v.name) no_vehicle s.vehicles name refl (λ p. refl) is.1
 
@@ -158,9 +164,22 @@ module _ (file : Members) (good : IsAdmitted (station_of (sheet_of file))) where
         let h3 = no_right (array_outside vehicle_outside 0 64 keys.Vehicle s.vehicles) _ h2 in
         let h4 = no_right (array_outside train_outside 1 128 keys.Train s.trains) _ h3 in
         let h5 = no_right (count_outside 0 256 keys.Order s.orders) _ h4 in
-        let h6 = no_right (count_outside 0 256 keys.Within s.withins) _ h5 in
+        let h6 = no_right (count_outside 0 256 keys.Within s.withins) _ (no_left (array_outside within_outside 0 256 keys.Within s.withins) _ h5) in
         let one = none_in within_outside 1 s.withins w h6 m in
         exact 0 86400000 w.max_ms (Field kinds.Within one.0 keys.MaxMs) (omega arith) (last_kept kinds.Within one.0 keys.MaxMs 0 86400000 w.max_ms one.1)
+
+    held : (o : ParsedOverlap) → In o s.overlaps → o.hold_ms ≡ pos (number_32 o.hold_ms)
+    unfolding out_of_range traffic_outside array_outside
+    held o m =
+        let h1 = no_right (times_outside s) (track_outside s ++ traffic_outside s) ranges in
+        let h2 = no_right (track_outside s) (traffic_outside s) h1 in
+        let h3 = no_right (array_outside vehicle_outside 0 64 keys.Vehicle s.vehicles) _ h2 in
+        let h4 = no_right (array_outside train_outside 1 128 keys.Train s.trains) _ h3 in
+        let h5 = no_right (count_outside 0 256 keys.Order s.orders) _ h4 in
+        let h6 = no_right (array_outside within_outside 0 256 keys.Within s.withins) _ h5 in
+        let h7 = no_right (count_outside 0 1000 keys.Overlap s.overlaps) _ h6 in
+        let one = none_in overlap_outside 1 s.overlaps o h7 m in
+        exact 0 600000 o.hold_ms (Field kinds.Overlap one.0 keys.HoldMs) (omega arith) (last_kept kinds.Overlap one.0 keys.HoldMs 0 600000 o.hold_ms (no_right (at (not (is_from 1 16 (length o.sections))) (Field kinds.Overlap one.0 keys.Sections)) _ one.1))
 
     stand : (t : ParsedTrain) → In t s.trains → are_good_dwells t.visits t.dwell_ms ≡ true
     unfolding out_of_range traffic_outside array_outside
@@ -186,6 +205,38 @@ module _ (file : Members) (good : IsAdmitted (station_of (sheet_of file))) where
         let early : int_le (pos 3) (pos d.version) ≡ false = grind arith in
         stands_nowhere (nodes_in names.nodes) third x.visits x.dwell_ms (list_all_at (λ (t : ParsedTrain). int_le (pos 3) s.version || is_none t.dwell_ms) s.trains x (is_spelled file forms).dwells m) (ap (int_le (pos 3)) version_whole ∙ early)
 
+    -- ---- overlaps, of which there are none before version 4
+
+    abbrev overlap_rows : Overlap → List Row
+    overlap_rows o = ("signal", string (signal_name d o.signal)) ∷ ("sections", list (λ z. string (section_name d z)) o.sections) ∷ ("hold_ms", whole o.hold_ms) ∷ []
+
+    overlap_spelled : (entry : Members) → In (overlap_of (value_of v kinds.Overlap entry)) s.overlaps → AreRight v entry (columns_of kinds.Overlap) → HasRows entry (overlap_rows (overlap_in names (overlap_of (value_of v kinds.Overlap entry))))
+    unfolding sheet_of entries_of
+    overlap_spelled entry m right = by_version (nat_le 4 v) refl
+      where
+        x : ParsedOverlap
+        x = overlap_of (value_of v kinds.Overlap entry)
+
+        by_version : (b : Bool) → nat_le 4 v ≡ b → HasRows entry (overlap_rows (overlap_in names (overlap_of (value_of v kinds.Overlap entry))))
+        by_version false e = let none : s.overlaps ≡ [] = rw e refl in absurd (subst (In x) none m)
+        by_version true e =
+            let g = good.overlap (overlap_in names x) (in_map (overlap_in names) s.overlaps x m) in
+            let signal : value_of v kinds.Overlap entry keys.Signal ≡ found keys.Signal entry = rw e refl in
+            let sections : value_of v kinds.Overlap entry keys.Sections ≡ found keys.Sections entry = rw e refl in
+            let hold : value_of v kinds.Overlap entry keys.HoldMs ≡ found keys.HoldMs entry = rw e refl in
+            let form : (b : Bool) → (not (nat_le 4 v) || b) ≡ true → b ≡ true = λ b h. sym (ap (λ known. not known || b) e) ∙ h in
+            let there = λ (name : List ℕ) (k : In name (listed_names (found keys.Sections entry))). section_back name (g.there (section_number names.sections name) (in_map (section_number names.sections) x.sections name (subst (λ v. In name (listed_names v)) (sym sections) k))) in
+            row (spells_name (found keys.Signal entry) (form (is_name (found keys.Signal entry)) right.0) ∙ ap (λ v. string (name_of v)) (sym signal) ∙ ap string (sym (signal_back x.signal g.signal))) (
+            row (spells_names names.sections (section_name d) (found keys.Sections entry) (form (is_names (found keys.Sections entry)) right.1.0) there ∙ ap (λ v. list (λ z. string (section_name d z)) (sections_in names.sections (listed_names v))) (sym sections)) (
+            row (spells_exactly (found keys.HoldMs entry) (form (is_whole (found keys.HoldMs entry)) right.1.1.0) (subst (λ v. whole_of v ≡ pos (number_32 (whole_of v))) hold (held x m)) ∙ ap (λ v. whole (number_32 (whole_of v))) (sym hold)) tt))
+
+    overlaps_found : has_unknown (top_keys v) file ≡ false → top_value v file keys.Overlap ≡ found keys.Overlap file
+    overlaps_found none = by_version (nat_le 4 v) refl
+      where
+        by_version : (b : Bool) → nat_le 4 v ≡ b → top_value v file keys.Overlap ≡ found keys.Overlap file
+        by_version true e = rw e refl
+        by_version false e = rw e (sym (not_there (top_keys v) (key_text keys.Overlap) file none (rw e refl)))
+
     pub spelled : Spells bytes d
     unfolding form_fault sheet_of
     spelled =
@@ -198,6 +249,8 @@ module _ (file : Members) (good : IsAdmitted (station_of (sheet_of file))) where
         let h7 = no_right (wrong_array v kinds.Vehicle file) _ h6 in
         let h8 = no_right (wrong_array v kinds.Train file) _ h7 in
         let h9 = no_right (wrong_array v kinds.Order file) _ h8 in
+        let h10 = no_right (wrong_array v kinds.Within file) _ h9 in
+        let h11 = no_right (wrong_array v kinds.Overlap file) _ h10 in
         record {
           file = file;
           utf8 = utf8;
@@ -260,4 +313,5 @@ module _ (file : Members) (good : IsAdmitted (station_of (sheet_of file))) where
               row (spells_name (found keys.ToTrain entry) right.1.1.0 ∙ ap string (sym (train_back (name_of (found keys.ToTrain entry)) g.to.0))) (
               row (spells_whole (found keys.ToVisit entry) right.1.1.1.0 g.to.1) (
               row (spells_exactly (found keys.MaxMs entry) right.1.1.1.1.0 (most (within_of (value_of v kinds.Within entry)) m)) tt)))));
+          overlaps = has_tables v overlap_of (overlap_in names) overlap_rows kinds.Overlap file "overlap" (overlaps_found (none_unknown (has_unknown (top_keys v) file) Unknown h11)) (no_left (wrong_array v kinds.Overlap file) _ h10) overlap_spelled;
         }

@@ -1,15 +1,17 @@
 -- Arrays of tables whose keys have the right form.
 use Prim.Native.String.{String}
 use Rattle.std.specs.Prelude.{codes, unwrap_or}
-use Rattle.std.proofs.Common.{◌≡◌, ℕ, ◌+◌, inl, inr, Bool, true, false, not, List, [], ◌∷◌, ◌++◌, map, flat_map, Option, Some, None, refl, subst}
+use Rattle.std.proofs.Common.{◌≡◌, ℕ, ◌+◌, ◌⊎◌, inl, inr, Bool, true, false, not, ◌||◌, List, [], ◌∷◌, ◌++◌, map, flat_map, Option, Some, None, Ordering, Less, Equal, Greater, nat_cmp, refl, sym, ap, ◌∙◌, subst, true≢false}
+use Rattle.std.proofs.lemmas.Map.Lookups.{exact_bytes}
+use Rattle.std.specs.Cmp.Lexicographic.{slice_cmp}
 use Rattle.std.specs.List.{enumerate_from}
-use Rattle.toml.specs.Data.{Data, array, table, Items, no_items, item, Members, get_member}
+use Rattle.toml.specs.Data.{Data, array, table, Items, no_items, item, Members, no_members, member, get_member}
 use Rattle.design_table.specs.declared.key.Column.{Column}
 use Rattle.design_table.specs.declared.key.Key.{Key}
 use Rattle.design_table.specs.declared.place.EntryKind.{EntryKind}
 use Rattle.design_table.specs.declared.place.Place.{Place}
 use Rattle.design_table.specs.declared.place.Place.TheVariants.{Top, Field, UnknownField}
-use Rattle.design_table.specs.Forms.{is_array, items_of, list_of_items, has_unknown}
+use Rattle.design_table.specs.Forms.{is_array, items_of, list_of_items, is_known, has_unknown}
 use Rattle.design_table.specs.Keys.{kind_key, columns_of, keys_of}
 use Rattle.design_table.specs.Reads.{at, in_each}
 use Rattle.design_table.specs.Sheet.{members_of, value_of, top_value, entries_of, is_right, wrong_columns, wrong_fields, wrong_entry, wrong_array}
@@ -36,6 +38,35 @@ pub none_in : {X : Type 0} (places : ℕ → X → List Place) (i : ℕ) (xs : L
 none_in places i [] x h m = absurd m
 none_in places i (y ∷ ys) x h (inl e) = (i, subst (λ z. places i z ≡ []) e (no_left (places i y) (flat_map (λ e. places e.0 e.1) (enumerate_from (i + 1) ys)) h))
 none_in places i (y ∷ ys) x h (inr m) = none_in places (i + 1) ys x (no_right (places i y) (flat_map (λ e. places e.0 e.1) (enumerate_from (i + 1) ys)) h) m
+
+-- ---- keys that no column has
+
+cases_ordering : (o : Ordering) → (o ≡ Less) ⊎ ((o ≡ Equal) ⊎ (o ≡ Greater))
+cases_ordering Less = inl refl
+cases_ordering Equal = inr (inl refl)
+cases_ordering Greater = inr (inr refl)
+
+either_known : (known rest : Bool) → (not known || rest) ≡ false → (known ≡ true) × (rest ≡ false)
+either_known true rest h = (refl, h)
+either_known false rest h = absurd (cc)
+
+-- a table that has no unknown key has no key that is unknown
+pub not_there : (known : List Key) (text : List ℕ) (keys : Members) → has_unknown known keys ≡ false → is_known known text ≡ false → get_member text keys ≡ None
+not_there known text no_members none new = refl
+not_there known text (member key d keys) none new =
+    let parts = either_known (is_known known key) (has_unknown known keys) none in
+    let rest = not_there known text keys parts.1 new in
+    elim (cases_ordering (slice_cmp nat_cmp text key)) [
+      | inl less ↦ rw less rest
+      | inr more ↦ elim more [
+        | inl tie ↦ absurd (true≢false (sym parts.0 ∙ ap (is_known known) (sym (exact_bytes text key tie)) ∙ new))
+        | inr later ↦ rw later rest
+      ]
+    ]
+
+pub none_unknown : (unknown : Bool) (place : Place) → at unknown place ≡ [] → unknown ≡ false
+none_unknown false place h = refl
+none_unknown true place h = absurd (cc)
 
 -- ---- the keys of an entry
 

@@ -1,11 +1,12 @@
 -- What is read is spelled, and nothing else is: a design, and a plan of it.
 use Rattle.std.proofs.Common.{◌≡◌, ℕ, List, [], map, Ok, refl, sym, subst, ◌∙◌, true≢false, true}
 use Rattle.std.specs.List.{list_all}
-use Rattle.design_table.specs.Parsed.{ParsedNode, ParsedVehicle, ParsedTrain, ParsedSheet}
+use Rattle.design_table.specs.Parsed.{ParsedNode, ParsedSignal, ParsedVehicle, ParsedTrain, ParsedSheet}
 use Rattle.design_table.specs.Sheet.{sheet_of}
 use Rattle.design_table.specs.Toml.{toml_of}
 use Rattle.rail_base.specs.declared.station.Station.{Station}
 use Rattle.rail_base.specs.declared.station.Node.{Node}
+use Rattle.rail_base.specs.declared.station.Signal.{Signal}
 use Rattle.rail_base.specs.declared.station.Vehicle.{Vehicle}
 use Rattle.rail_base.specs.declared.station.Train.{Train}
 use Rattle.rail_base.specs.Admission.{is_name}
@@ -16,7 +17,7 @@ use Rattle.rail_base.proofs.Members.{list_all_at}
 use Rattle.infra_reader.specs.Design.{design_of}
 use Rattle.infra_reader.specs.Names.{names_of, section_names}
 use Rattle.infra_reader.specs.Spelling.{IsSpelled}
-use Rattle.infra_reader.specs.Stations.{node_in, vehicle_in, train_in, station_of}
+use Rattle.infra_reader.specs.Stations.{node_in, signal_in, vehicle_in, train_in, station_of}
 use Rattle.infra_reader.proofs.Reading.{spelled_admitted}
 use Rattle.infra_reader.proofs.Spelling.{is_spelled}
 use Rattle.rail_spelling.specs.Designs.{Spells}
@@ -44,6 +45,7 @@ station_named : (s : ParsedSheet) → IsSpelled s → IsNamed (station_of s)
 station_named s named = record {
   nodes = made_named (λ (n : Node). n.name) (node_in (names_of s)) (λ (n : ParsedNode). n.name) s.nodes (λ p. refl) named.nodes;
   sections = λ name m. not_empty (section_names s) name named.sections (once_back (section_names s) name (subst (In name) (same_once (section_names s)) m));
+  signals = made_named (λ (q : Signal). q.name) (signal_in (names_of s)) (λ (q : ParsedSignal). q.name) s.signals (λ p. refl) named.signals;
   vehicles = made_named (λ (v : Vehicle). v.name) (vehicle_in (names_of s)) (λ (v : ParsedVehicle). v.name) s.vehicles (λ p. refl) named.vehicles;
   trains = made_named (λ (t : Train). t.name) (train_in (names_of s)) (λ (t : ParsedTrain). t.name) s.trains (λ p. refl) named.trains;
 }

@@ -6,11 +6,12 @@ use Rattle.std.specs.List.{list_all}
 use Rattle.std.proofs.lemmas.Slice.Eq.{bytes_eq-Decides}
 use Rattle.toml.specs.Data.{Data, string, integer, boolean, array, Items, no_items, item}
 use Rattle.toml.specs.View.{items_of}
-use Rattle.design_table.specs.Forms.{is_name, name_of, is_name_value, name_value, is_side, side_of, is_whole, whole_of, is_wholes, wholes_of, is_flag, flag_of, is_visit, visit_of, is_visits, visits_of, list_of_items}
+use Rattle.design_table.specs.Forms.{is_name, name_of, is_name_value, name_value, is_side, side_of, is_whole, whole_of, is_wholes, wholes_of, is_flag, flag_of, is_names, names_of, is_visit, visit_of, is_visits, visits_of, list_of_items}
 use Rattle.rail_base.specs.declared.station.NodeNo.{NodeNo}
+use Rattle.rail_base.specs.declared.station.SectionNo.{SectionNo}
 use Rattle.rail_base.specs.Members.{In}
 use Rattle.rail_base.proofs.Members.{and_left, and_right}
-use Rattle.infra_reader.specs.Stations.{number_32, nodes_in, dwells_in}
+use Rattle.infra_reader.specs.Stations.{number_32, nodes_in, sections_in, dwells_in}
 use Rattle.infra_reader.specs.Stations as stations
 use Rattle.infra_reader.specs.Names.{number_in}
 use Rattle.design_table.specs.declared.sheet.Side.TheVariants as table
@@ -107,3 +108,23 @@ module _ (names : List (List ℕ)) (node : NodeNo → List ℕ) where
   spells_visits (Some (array ds)) h back = ap array (spells_all ds h back)
   spells_visits (Some _) h back = absurd (cc)
   spells_visits None h back = absurd (cc)
+
+-- ---- sections
+
+-- the section of a name
+abbrev pub section_number : List (List ℕ) → List ℕ → SectionNo
+section_number names name = record { 0 = number_in names name }
+
+module _ (names : List (List ℕ)) (section : SectionNo → List ℕ) where
+  abbrev pub AreOwn : List (List ℕ) → Type 0
+  AreOwn own = (name : List ℕ) → In name own → section (section_number names name) ≡ name
+
+  spells_each : (ds : Items) → list_all is_name_value (list_of_items ds) ≡ true → AreOwn (map name_value (list_of_items ds)) → ds ≡ items_of (map (λ z. string (section z)) (sections_in names (map name_value (list_of_items ds))))
+  spells_each no_items h back = refl
+  spells_each (item (string s) ds) h back = ap₂ (λ z rest. item (string z) rest) (sym (back s (inl refl))) (spells_each ds (and_right (is_name_value (string s)) (list_all is_name_value (list_of_items ds)) h) (λ name m. back name (inr m)))
+  spells_each (item _ ds) h back = absurd (cc)
+
+  pub spells_names : (v : Option Data) → is_names v ≡ true → AreOwn (names_of v) → value v ≡ list (λ z. string (section z)) (sections_in names (names_of v))
+  spells_names (Some (array ds)) h back = ap array (spells_each ds h back)
+  spells_names (Some _) h back = absurd (cc)
+  spells_names None h back = absurd (cc)

@@ -11,7 +11,7 @@ use Rattle.rail_base.specs.declared.station.Train.{Train}
 use Rattle.rail_base.specs.declared.station.Side.{Side}
 use Rattle.rail_base.specs.declared.station.Side.TheVariants.{A, B}
 use Rattle.rail_base.specs.Members.{In}
-use Rattle.rail_base.specs.Names.{node_name, section_name, train_name}
+use Rattle.rail_base.specs.Names.{node_name, section_name, signal_name, train_name}
 use Rattle.rail_base.specs.Stations.{vehicle_at}
 
 -- ---- values
@@ -92,3 +92,7 @@ pub record Spells (bytes : List ℕ) (d : Station) : Type 0 where
       ("from_train", string (train_name d w.from_train)) ∷ ("from_visit", whole w.from_visit)
       ∷ ("to_train", string (train_name d w.to_train)) ∷ ("to_visit", whole w.to_visit)
       ∷ ("max_ms", whole w.max_ms) ∷ [])
+  pub overlaps : HasTables file "overlap" d.overlaps (λ o.
+      ("signal", string (signal_name d o.signal))
+      ∷ ("sections", list (λ z. string (section_name d z)) o.sections)
+      ∷ ("hold_ms", whole o.hold_ms) ∷ [])

@@ -42,6 +42,7 @@ line_station = record {
   } ∷ [];
   orders = [];
   withins = [];
+  overlaps = [];
 }
 
 -- its routes: to the signal, from there to the exit, and back
@@ -54,6 +55,7 @@ line_routes =
       edges = record { 0 = 1 } ∷ [];
       nodes = (record { 0 = 1 }, pos 0) ∷ (record { 0 = 2 }, pos 10000) ∷ [];
       sections = (record { 0 = 1 }, pos 10000) ∷ [];
+      overlaps = [];
     }
     ∷ record {
       start = start.Signal (record { 0 = 1 });
@@ -62,6 +64,7 @@ line_routes =
       edges = record { 0 = 2 } ∷ [];
       nodes = (record { 0 = 2 }, pos 0) ∷ (record { 0 = 3 }, pos 6000) ∷ [];
       sections = (record { 0 = 2 }, pos 6000) ∷ [];
+      overlaps = [];
     }
     ∷ record {
       start = start.Boundary (record { 0 = 3 });
@@ -70,5 +73,6 @@ line_routes =
       edges = record { 0 = 2 } ∷ record { 0 = 1 } ∷ [];
       nodes = (record { 0 = 3 }, pos 0) ∷ (record { 0 = 2 }, pos 6000) ∷ (record { 0 = 1 }, pos 16000) ∷ [];
       sections = (record { 0 = 2 }, pos 6000) ∷ (record { 0 = 1 }, pos 16000) ∷ [];
+      overlaps = [];
     }
     ∷ []

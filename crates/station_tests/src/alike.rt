@@ -137,6 +137,7 @@ fn design(alloc: Global) -> Result<Design, AllocError> {
         trains,
         orders,
         withins,
+        overlaps: List::new(alloc),
     };
     Ok(Design { station })
 }

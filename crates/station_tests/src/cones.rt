@@ -29,6 +29,7 @@ fn dead_end(alloc: Global) -> Result<Station, AllocError>
       edges = record { 0 = 1 } ∷ [];
       nodes = (record { 0 = 1 }, pos 0) ∷ (record { 0 = 2 }, pos 10000) ∷ [];
       sections = (record { 0 = 1 }, pos 10000) ∷ [];
+      overlaps = [];
     } ∷ []) }
     ensures pairs { IfOk result (λ d. pairs d (routes_of d) ≡ []) }
 {
@@ -55,6 +56,7 @@ fn dead_end(alloc: Global) -> Result<Station, AllocError>
         trains,
         orders: List::new(alloc),
         withins: List::new(alloc),
+        overlaps: List::new(alloc),
     })
 }
 
@@ -67,6 +69,7 @@ fn table(alloc: Global) -> Result<RouteTable, AllocError>
       edges = record { 0 = 1 } ∷ [];
       nodes = (record { 0 = 1 }, pos 0) ∷ (record { 0 = 2 }, pos 10000) ∷ [];
       sections = (record { 0 = 1 }, pos 10000) ∷ [];
+      overlaps = [];
     } ∷ []) }
 {
     let nodes = two(alloc, (NodeNo(1), 0), (NodeNo(2), 10_000))?;
@@ -77,6 +80,7 @@ fn table(alloc: Global) -> Result<RouteTable, AllocError>
         edges: one(alloc, EdgeNo(1))?,
         nodes,
         sections: one(alloc, (SectionNo(1), 10_000))?,
+        overlaps: List::new(alloc),
     };
     one(alloc, route)
 }

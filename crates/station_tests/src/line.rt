@@ -75,6 +75,7 @@ fn station(alloc: Global) -> Result<Station, AllocError>
         trains,
         orders: List::new(alloc),
         withins: List::new(alloc),
+        overlaps: List::new(alloc),
     })
 }
 
@@ -90,6 +91,7 @@ fn table(alloc: Global) -> Result<RouteTable, AllocError>
         edges: one(alloc, EdgeNo(1))?,
         nodes: two(alloc, (NodeNo(1), 0), (NodeNo(2), 10_000))?,
         sections: one(alloc, (SectionNo(1), 10_000))?,
+        overlaps: List::new(alloc),
     };
     let to_exit = Route {
         start: Start::Signal(SignalNo(1)),
@@ -98,6 +100,7 @@ fn table(alloc: Global) -> Result<RouteTable, AllocError>
         edges: one(alloc, EdgeNo(2))?,
         nodes: two(alloc, (NodeNo(2), 0), (NodeNo(3), 6000))?,
         sections: one(alloc, (SectionNo(2), 6000))?,
+        overlaps: List::new(alloc),
     };
     let mut routes = two(alloc, to_signal, to_exit)?;
     let mut nodes = two(alloc, (NodeNo(3), 0), (NodeNo(2), 6000))?;
@@ -109,6 +112,7 @@ fn table(alloc: Global) -> Result<RouteTable, AllocError>
         edges: two(alloc, EdgeNo(2), EdgeNo(1))?,
         nodes,
         sections: two(alloc, (SectionNo(2), 6000), (SectionNo(1), 16_000))?,
+        overlaps: List::new(alloc),
     })?;
     Ok(routes)
 }

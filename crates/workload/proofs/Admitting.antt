@@ -5,7 +5,7 @@ use Rattle.std.specs.Fmt.{digits}
 use Rattle.rail_base.specs.declared.station.Station.{Station}
 use Rattle.rail_base.specs.Members.{all_pairs}
 use Rattle.rail_base.specs.Numbering.{one_to}
-use Rattle.rail_base.specs.Admission.{is_good_node, is_good_edge, are_numbered, is_good_signal, are_apart, is_good_vehicle, is_good_train, is_good_order, is_good_within, are_few, is_timed, are_named, is_sound_track, is_sound_traffic, is_admitted}
+use Rattle.rail_base.specs.Admission.{is_good_node, is_good_edge, are_numbered, is_good_signal, are_apart, is_good_vehicle, is_good_train, is_good_order, is_good_within, are_few, is_timed, are_named, is_sound_track, is_sound_traffic, are_sound_overlaps, is_admitted}
 use Rattle.workload.specs.Draws.{below, drawn, draw, track_length, runs_east, time_of}
 use Rattle.workload.specs.Made.{station, made}
 use Rattle.workload.specs.Traffic.{train}
@@ -27,6 +27,9 @@ by_size P a b c d e f (suc (suc (suc (suc (suc (suc (suc n))))))) at_least_one a
 by_truth : (P : Bool → Type 0) → P true → P false → (b : Bool) → P b
 by_truth P p q true = p
 by_truth P p q false = q
+
+two : (a b : Bool) → a ≡ true → b ≡ true → (a && b) ≡ true
+two a b p q = rw (p, q) refl
 
 four : (a b c d : Bool) → a ≡ true → b ≡ true → c ≡ true → d ≡ true → (a && b && c && d) ≡ true
 four a b c d p q r s = rw (p, q, r, s) refl
@@ -112,9 +115,9 @@ module _ (long : ℕ → ℕ) (runs_east : ℕ → Bool) (time : ℕ → ℕ) wh
 admitted : (long : ℕ → ℕ) (runs_east : ℕ → Bool) (time : ℕ → ℕ) → ((i : ℕ) → (1 ≤ long i) × (long i ≤ 10000000)) → ((j : ℕ) → time j ≤ 86400000) → (size : ℕ) → 1 ≤ size → size ≤ 6 → is_admitted (station size long runs_east time) ≡ true
 admitted long runs_east time ranges in_time size at_least_one at_most_six =
     let d : Station = station size long runs_east time in
-    five (are_few d) (is_timed d) (are_named d) (is_sound_track d) (is_sound_traffic d) (few long runs_east time size at_least_one at_most_six) refl (named long runs_east time size at_least_one at_most_six)
+    two (are_few d && is_timed d && are_named d && is_sound_track d && is_sound_traffic d) (are_sound_overlaps d) (five (are_few d) (is_timed d) (are_named d) (is_sound_track d) (is_sound_traffic d) (few long runs_east time size at_least_one at_most_six) refl (named long runs_east time size at_least_one at_most_six)
     (sound_track long runs_east time (λ i. le-leb 1 (long i) (ranges i).0) (λ i. le-leb (long i) 10000000 (ranges i).1) size at_least_one at_most_six)
-    (sound_traffic long runs_east time (λ j. le-leb (time j) 86400000 (in_time j)) size at_least_one at_most_six)
+    (sound_traffic long runs_east time (λ j. le-leb (time j) 86400000 (in_time j)) size at_least_one at_most_six)) refl
 
 below_most : (m x : ℕ) → 1 ≤ m → below m x < m
 below_most m x h = grind arith

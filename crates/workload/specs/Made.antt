@@ -19,6 +19,7 @@ station size length runs_east time = record {
   trains = trains size runs_east;
   orders = [];
   withins = withins size time;
+  overlaps = [];
 }
 
 -- the station whose lengths, ways and times are drawn from the seed

@@ -52,6 +52,7 @@ pub fn make(alloc: Global, seed: u64, size: u32) -> Result<Design, AllocError>
         trains: List::from_vec(traffic.trains),
         orders: List::new(alloc),
         withins: List::from_vec(traffic.withins),
+        overlaps: List::new(alloc),
     };
     Ok(Design { station })
 }

@@ -69,13 +69,18 @@ returns-in_err-withins c =
     let p = err_from_is_err_and c.from_residual-in_err-withins.result c.from_residual-in_err-withins.ensures.1 in
     rw (p.1, p.2, faults_at c.version_of-known.result (table_view c.args.table.now) c.version_of-known.ensures, c.in_ok-version.ensures.0, c.in_ok-tick_ms.ensures.0, c.in_ok-horizon_ms.ensures.0, c.in_ok-nodes.ensures.0, c.in_ok-edges.ensures.0, c.in_ok-signals.ensures.0, c.in_ok-vehicles.ensures.0, c.in_ok-trains.ensures.0, c.in_ok-orders.ensures.0) (fails_here c.in_err-withins.field-0.0 D02 _ _ c.in_err-withins.ensures)
 
+pub returns-in_err-overlaps : goal.returns-in_err-overlaps
+returns-in_err-overlaps c =
+    let p = err_from_is_err_and c.from_residual-in_err-overlaps.result c.from_residual-in_err-overlaps.ensures.1 in
+    rw (p.1, p.2, faults_at c.version_of-known.result (table_view c.args.table.now) c.version_of-known.ensures, c.in_ok-version.ensures.0, c.in_ok-tick_ms.ensures.0, c.in_ok-horizon_ms.ensures.0, c.in_ok-nodes.ensures.0, c.in_ok-edges.ensures.0, c.in_ok-signals.ensures.0, c.in_ok-vehicles.ensures.0, c.in_ok-trains.ensures.0, c.in_ok-orders.ensures.0, c.in_ok-withins.ensures.0) (fails_here c.in_err-overlaps.field-0.0 D02 _ _ c.in_err-overlaps.ensures)
+
 pub returns-in_err-refuse_unknown : goal.returns-in_err-refuse_unknown
 returns-in_err-refuse_unknown c =
     let p = err_from_is_err_and c.from_residual-in_err-refuse_unknown.result c.from_residual-in_err-refuse_unknown.ensures.1 in
-    rw (p.1, p.2, faults_at c.version_of-known.result (table_view c.args.table.now) c.version_of-known.ensures, c.in_ok-version.ensures.0, c.in_ok-tick_ms.ensures.0, c.in_ok-horizon_ms.ensures.0, c.in_ok-nodes.ensures.0, c.in_ok-edges.ensures.0, c.in_ok-signals.ensures.0, c.in_ok-vehicles.ensures.0, c.in_ok-trains.ensures.0, c.in_ok-orders.ensures.0, c.in_ok-withins.ensures.0) c.in_err-refuse_unknown.ensures
+    rw (p.1, p.2, faults_at c.version_of-known.result (table_view c.args.table.now) c.version_of-known.ensures, c.in_ok-version.ensures.0, c.in_ok-tick_ms.ensures.0, c.in_ok-horizon_ms.ensures.0, c.in_ok-nodes.ensures.0, c.in_ok-edges.ensures.0, c.in_ok-signals.ensures.0, c.in_ok-vehicles.ensures.0, c.in_ok-trains.ensures.0, c.in_ok-orders.ensures.0, c.in_ok-withins.ensures.0, c.in_ok-overlaps.ensures.0) c.in_err-refuse_unknown.ensures
 
 pub returns : goal.returns
 returns c = (
-  rw (faults_at c.version_of-known.result (table_view c.args.table.now) c.version_of-known.ensures, c.in_ok-version.ensures.0, c.in_ok-tick_ms.ensures.0, c.in_ok-horizon_ms.ensures.0, c.in_ok-nodes.ensures.0, c.in_ok-edges.ensures.0, c.in_ok-signals.ensures.0, c.in_ok-vehicles.ensures.0, c.in_ok-trains.ensures.0, c.in_ok-orders.ensures.0, c.in_ok-withins.ensures.0, c.in_ok-refuse_unknown.ensures.0) refl,
+  rw (faults_at c.version_of-known.result (table_view c.args.table.now) c.version_of-known.ensures, c.in_ok-version.ensures.0, c.in_ok-tick_ms.ensures.0, c.in_ok-horizon_ms.ensures.0, c.in_ok-nodes.ensures.0, c.in_ok-edges.ensures.0, c.in_ok-signals.ensures.0, c.in_ok-vehicles.ensures.0, c.in_ok-trains.ensures.0, c.in_ok-orders.ensures.0, c.in_ok-withins.ensures.0, c.in_ok-overlaps.ensures.0, c.in_ok-refuse_unknown.ensures.0) refl,
   rw (sheet_at c.version_of-known.result (table_view c.args.table.now) c.version_of-known.ensures) (search rules),
 )

@@ -1,4 +1,4 @@
-use Rattle.std.proofs.Common.{◌≡◌, ℕ, ℤ, pos, Bool, true, false, not, ◌&&◌, List, [], ◌∷◌, ◌++◌, refl, ap₂, ◌∙◌}
+use Rattle.std.proofs.Common.{◌≡◌, ℕ, ℤ, pos, Bool, true, false, not, ◌&&◌, List, [], ◌∷◌, ◌++◌, length, refl, ap, ap₂, ◌∙◌}
 use Rattle.std.specs.Prelude.{int_le}
 use Rattle.std.proofs.lemmas.List.{append-nil}
 use Rattle.design_table.specs.declared.key.Key.{Key}
@@ -8,6 +8,7 @@ use Rattle.design_table.specs.declared.place.EntryKind.TheVariants as kinds
 use Rattle.design_table.specs.declared.place.Place.{Place}
 use Rattle.design_table.specs.declared.place.Place.TheVariants.{Field}
 use Rattle.design_table.specs.Reads.{at}
+use Rattle.rail_base.specs.Admission.{is_from}
 use Rattle.infra_reader.specs.Limits.{Limit, limit, limits_outside, unless_from, track_outside, traffic_outside}
 use Rattle.fault_words.proofs.laws.allowed_is_not_refused.Goals as goal
 
@@ -35,6 +36,7 @@ returns c = record {
       row kinds.Vehicle i keys.BrakeMmS2 1 100000 v.brake_mm_s2 (limit keys.SpeedMmS 1 100000 (v.speed_mm_s ∷ []) ∷ []) _ (
       last kinds.Vehicle i keys.SpeedMmS 1 100000 v.speed_mm_s)));
   withins = λ i w. last kinds.Within i keys.MaxMs 0 86400000 w.max_ms;
+  overlaps = λ i o. ap (λ xs. at (not (is_from 1 16 (length o.sections))) (Field kinds.Overlap i keys.Sections) ++ xs) (last kinds.Overlap i keys.HoldMs 0 600000 o.hold_ms);
   track = λ s. refl;
   traffic = λ s. refl;
 }

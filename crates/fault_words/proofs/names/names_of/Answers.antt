@@ -1,5 +1,5 @@
 use Rattle.std.proofs.Common.{refl}
-use Rattle.design_table.specs.Parsed.{node_seen, edge_seen, signal_seen, vehicle_seen, train_seen}
+use Rattle.design_table.specs.Parsed.{node_seen, edge_seen, signal_seen, vehicle_seen, train_seen, overlap_seen}
 use Rattle.fault_words.proofs.Seen.{names_read}
 use Rattle.fault_words.proofs.names.names_of.Goals as goal
 
@@ -17,3 +17,6 @@ returns-in-Vehicle c = rw (c.in-Vehicle.is) (names_read (λ x. x.name) (λ x. x.
 
 pub returns-in-Train : goal.returns-in-Train
 returns-in-Train c = rw (c.in-Train.is) (names_read (λ x. x.name) (λ x. x.name) train_seen (λ x. refl) _ _ (rw (← c.as_slice-in-Train.ensures.value) c.train_names.ensures))
+
+pub returns-in-Overlap : goal.returns-in-Overlap
+returns-in-Overlap c = rw (c.in-Overlap.is) (names_read (λ x. x.signal) (λ x. x.signal) overlap_seen (λ x. refl) _ _ (rw (← c.as_slice-in-Overlap.ensures.value) c.overlap_signals.ensures))

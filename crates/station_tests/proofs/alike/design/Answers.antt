@@ -20,5 +20,6 @@ invariant_of-result c =
         c.in_ok-orders.ensures,
         c.in_ok-withins.ensures,
         c.new.ensures,
+        c.new-2.ensures,
       ) refl;
     }

@@ -19,6 +19,7 @@ returns-clause-admitted c =
       c.new.ensures,
       c.new-2.ensures,
       c.new-3.ensures,
+      c.new-4.ensures,
     ) refl
 
 pub returns-clause-routes : goal.returns-clause-routes
@@ -38,6 +39,7 @@ returns-clause-routes c =
       c.new.ensures,
       c.new-2.ensures,
       c.new-3.ensures,
+      c.new-4.ensures,
     ) refl
 
 pub returns-clause-pairs : goal.returns-clause-pairs
@@ -57,4 +59,5 @@ returns-clause-pairs c =
       c.new.ensures,
       c.new-2.ensures,
       c.new-3.ensures,
+      c.new-4.ensures,
     ) refl
