@@ -11,13 +11,13 @@ use Rattle.rail_base.specs.Admission.{is_admitted}
 use Rattle.std.specs.List.{concat}
 use Rattle.rail_outside.specs.Files.{Files}
 use Rattle.rail_outside.specs.Growth.{grown}
-use Rattle.rail_cli.specs.declared.status.Status.{Status}
-use Rattle.rail_cli.specs.declared.status.Status.TheVariants.{Done, PlanRefused, Usage}
-use Rattle.rail_cli.specs.declared.input.InputFile.TheVariants as file
-use Rattle.rail_cli.specs.Answers.{ReplySeen, and_then, design_in, one_line, plan_or_answer, unless_refused, within_limit}
-use Rattle.rail_cli.specs.Statuses.{is_answered}
-use Rattle.rail_cli.specs.Texts.{plan_refused_line}
-use Rattle.rail_cli.proofs.Using.{IsNoUsage, long_is_no_usage, design_is_no_usage, plan_is_no_usage}
+use Rattle.cli_shell.specs.declared.status.Status.{Status}
+use Rattle.cli_shell.specs.declared.status.Status.TheVariants.{Done, PlanRefused, Usage}
+use Rattle.cli_shell.specs.declared.input.InputFile.TheVariants as file
+use Rattle.cli_shell.specs.Answers.{ReplySeen, and_then, design_in, one_line, plan_or_answer, unless_refused, within_limit}
+use Rattle.cli_shell.specs.Statuses.{is_answered}
+use Rattle.cli_shell.specs.Texts.{plan_refused_line}
+use Rattle.cli_shell.proofs.Using.{IsNoUsage, long_is_no_usage, design_is_no_usage, plan_is_no_usage}
 use Rattle.workload.specs.Made.{made}
 use Rattle.workload.proofs.Admitting.{made_admitted}
 use Rattle.design_cli.specs.Answers.{answer_given, answer_to, design_asked, design_in_file, design_used, names_in, plan_file_answer, plan_given, plan_printed, plan_text_answer, printed, text_answer}

@@ -7,15 +7,15 @@ use Rattle.rail_base.specs.declared.plan.Command.{Command}
 use Rattle.rail_base.specs.declared.station.Station.{Station}
 use Rattle.rail_plan.specs.Reading.{Refusal, plan_of}
 use Rattle.rail_spec.specs.Track.{routes_of}
-use Rattle.rail_cli.specs.declared.status.Status.TheVariants.{Done, PlanRefused}
-use Rattle.rail_cli.specs.declared.input.InputFile.TheVariants as file
-use Rattle.rail_cli.specs.Statuses.{is_verdict}
-use Rattle.rail_cli.specs.Answers.{ReplySeen, and_then, design_in, one_line, plan_in, plan_or_answer, planned, routes_answer, unless_refused, verdict_reply, verdict_status, with_routes, within_limit}
-use Rattle.rail_cli.specs.Shows.{verdict_at_horizon}
-use Rattle.rail_cli.specs.Texts.{plan_refused_line}
-use Rattle.rail_cli.proofs.Deciding.{answered_next}
-use Rattle.rail_cli.proofs.Passing.{passed, long_refuses, design_refuses}
-use Rattle.rail_cli.proofs.Refusing.{file_is}
+use Rattle.cli_shell.specs.declared.status.Status.TheVariants.{Done, PlanRefused}
+use Rattle.cli_shell.specs.declared.input.InputFile.TheVariants as file
+use Rattle.cli_shell.specs.Statuses.{is_verdict}
+use Rattle.cli_shell.specs.Answers.{ReplySeen, and_then, design_in, one_line, plan_in, plan_or_answer, planned, routes_answer, unless_refused, verdict_reply, verdict_status, with_routes, within_limit}
+use Rattle.cli_shell.specs.Shows.{verdict_at_horizon}
+use Rattle.cli_shell.specs.Texts.{plan_refused_line}
+use Rattle.cli_shell.proofs.Deciding.{answered_next}
+use Rattle.cli_shell.proofs.Passing.{passed, long_refuses, design_refuses}
+use Rattle.cli_shell.proofs.Refusing.{file_is}
 use Rattle.design_cli.specs.declared.wanted.Form.{Form}
 use Rattle.design_cli.specs.declared.wanted.Form.TheVariants.{Names}
 use Rattle.design_cli.specs.Answers.{design_in_file, plan_answer, plan_file_answer, plan_given, plan_printed, plan_text_answer, printed, text_answer}

@@ -5,10 +5,10 @@ use Rattle.rail_base.specs.declared.station.Station.{Station}
 use Rattle.rail_base.specs.Admission.{is_admitted}
 use Rattle.rail_outside.specs.Files.{Files}
 use Rattle.rail_outside.specs.Growth.{grown}
-use Rattle.rail_cli.specs.declared.status.Status.{Status}
-use Rattle.rail_cli.specs.declared.status.Status.TheVariants.{Done}
-use Rattle.rail_cli.specs.Answers.{ReplySeen}
-use Rattle.rail_cli.specs.Statuses.{is_answered}
+use Rattle.cli_shell.specs.declared.status.Status.{Status}
+use Rattle.cli_shell.specs.declared.status.Status.TheVariants.{Done}
+use Rattle.cli_shell.specs.Answers.{ReplySeen}
+use Rattle.cli_shell.specs.Statuses.{is_answered}
 use Rattle.design_cli.specs.declared.wanted.Form.{Form}
 use Rattle.design_cli.specs.Answers.{answer_to, design_in_file, names_in, plan_answer}
 use Rattle.design_cli.specs.Laws.{PrintsPlan}

@@ -8,14 +8,14 @@ use Rattle.rail_base.specs.declared.station.Station.{Station}
 use Rattle.rail_base.specs.Admission.{is_admitted}
 use Rattle.rail_plan.specs.Reading.{Refusal, plan_of}
 use Rattle.rail_spec.specs.Track.{routes_of}
-use Rattle.rail_cli.specs.declared.reply.Reply.{Reply}
-use Rattle.rail_cli.specs.declared.ending.Ending.{Ending}
-use Rattle.rail_cli.specs.declared.ending.Ending.TheVariants as ending
-use Rattle.rail_cli.specs.declared.input.InputFile.TheVariants as file
-use Rattle.rail_cli.specs.Answers.{ReplySeen, and_then, design_in, plan_in, plan_or_answer, within_limit}
-use Rattle.rail_cli.specs.Replies.{OnReply, ReadsOrEnds, Replies, reply_seen}
-use Rattle.rail_cli.proofs.AnyShelf.{ends_so}
-use Rattle.rail_cli.proofs.Deciding.{answered_next}
+use Rattle.cli_shell.specs.declared.reply.Reply.{Reply}
+use Rattle.cli_shell.specs.declared.ending.Ending.{Ending}
+use Rattle.cli_shell.specs.declared.ending.Ending.TheVariants as ending
+use Rattle.cli_shell.specs.declared.input.InputFile.TheVariants as file
+use Rattle.cli_shell.specs.Answers.{ReplySeen, and_then, design_in, plan_in, plan_or_answer, within_limit}
+use Rattle.cli_shell.specs.Replies.{OnReply, ReadsOrEnds, Replies, reply_seen}
+use Rattle.cli_shell.proofs.AnyShelf.{ends_so}
+use Rattle.cli_shell.proofs.Deciding.{answered_next}
 use Rattle.design_cli.specs.declared.wanted.Form.{Form}
 use Rattle.design_cli.specs.declared.wanted.Form.TheVariants.{Numbers}
 use Rattle.design_cli.specs.Answers.{design_in_file, file_answer, plan_answer, plan_file_answer, plan_given, plan_printed, plan_text_answer, printed, text_answer}

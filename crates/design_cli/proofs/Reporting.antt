@@ -1,23 +1,23 @@
 -- Runs, and what they print.
 use Rattle.std.proofs.Common.{◌≡◌, ◌≢◌, ℕ, true, false, inl, inr, List, [], ◌∷◌, Option, Some, None, Result, Ok, Err, refl, ap, ap₂, sym, ◌∙◌, subst}
 use Rattle.std.specs.declared.alloc.AllocError.{AllocError}
-use Rattle.rail_cli.specs.declared.status.Status.{Status}
-use Rattle.rail_cli.specs.declared.status.Status.TheVariants as statuses
-use Rattle.rail_cli.specs.declared.reply.Reply.{Reply}
-use Rattle.rail_cli.specs.declared.ending.Ending.{Ending}
-use Rattle.rail_cli.specs.declared.ending.Ending.TheVariants as ending
-use Rattle.rail_cli.specs.Answers.{ReplySeen}
-use Rattle.rail_cli.specs.Prints.{Prints}
-use Rattle.rail_cli.specs.Replies.{OnReply, Replies, RepliesWith, reply_seen}
-use Rattle.rail_cli.specs.Statuses.{is_answered}
-use Rattle.rail_cli.proofs.Silence.{silent_for_memory}
+use Rattle.cli_shell.specs.declared.status.Status.{Status}
+use Rattle.cli_shell.specs.declared.status.Status.TheVariants as statuses
+use Rattle.cli_shell.specs.declared.reply.Reply.{Reply}
+use Rattle.cli_shell.specs.declared.ending.Ending.{Ending}
+use Rattle.cli_shell.specs.declared.ending.Ending.TheVariants as ending
+use Rattle.cli_shell.specs.Answers.{ReplySeen}
+use Rattle.cli_shell.specs.Prints.{Prints}
+use Rattle.cli_shell.specs.Replies.{OnReply, Replies, RepliesWith, reply_seen}
+use Rattle.cli_shell.specs.Statuses.{is_answered}
+use Rattle.cli_shell.proofs.Silence.{silent_for_memory}
 use Rattle.rail_base.specs.declared.station.Station.{Station}
 use Rattle.rail_base.specs.Members.{In}
 use Rattle.rail_outside.specs.Asks.{Ask}
 use Rattle.rail_outside.specs.Files.{Files}
 use Rattle.rail_outside.specs.Growth.{GrowsByPrefix}
 use Rattle.rail_words.specs.Requests.{request_of}
-use Rattle.rail_cli.proofs.Asking.{none_of}
+use Rattle.cli_shell.proofs.Asking.{none_of}
 use Rattle.workload.specs.Made.{made}
 use Rattle.design_cli.specs.Answers.{answer_given, answer_to, asks_to, design_used, file_answer, names_in, plan_answer, printed, usage}
 use Rattle.design_cli.specs.Reports.{PrintsAnswer, PrintsUnread, PrintsSome, Reports, is_reply}

@@ -12,8 +12,8 @@ use Rattle.rail_base.specs.declared.station.EdgeNo.{EdgeNo}
 use Rattle.rail_routes.specs.Refusals.{CanBeListed}
 use Rattle.rail_routes.proofs.Tables.{listed_all}
 use Rattle.rail_spec.specs.Track.{all_walks, edges_met_again, routes_of}
-use Rattle.rail_cli.specs.Answers.{and_then, design_in, design_or_answer, edge_place, with_routes}
-use Rattle.rail_cli.proofs.Passing.{routes_answer-same}
+use Rattle.cli_shell.specs.Answers.{and_then, design_in, design_or_answer, edge_place, with_routes}
+use Rattle.cli_shell.proofs.Passing.{routes_answer-same}
 
 -- the routes of a design that is read can be listed
 can_be_listed : (d : Station) → with_routes d ≡ Ok d → CanBeListed d

@@ -13,13 +13,13 @@ use Rattle.rail_plan.proofs.Parsed.{runnable}
 use Rattle.rail_spec.specs.Feasible.{IsRunnable}
 use Rattle.rail_spec.specs.Track.{routes_of}
 use Rattle.plan_text.specs.Text.{in_file_order}
-use Rattle.rail_cli.specs.declared.status.Status.TheVariants.{Done}
-use Rattle.rail_cli.specs.declared.input.InputFile.TheVariants as file
-use Rattle.rail_cli.specs.Answers.{ReplySeen, plan_or_answer, within_limit}
-use Rattle.rail_cli.specs.Statuses.{is_verdict}
-use Rattle.rail_cli.specs.Texts.{plan_line}
-use Rattle.rail_cli.proofs.Passing.{passed, long_refuses}
-use Rattle.rail_cli.proofs.Refusing.{file_fits}
+use Rattle.cli_shell.specs.declared.status.Status.TheVariants.{Done}
+use Rattle.cli_shell.specs.declared.input.InputFile.TheVariants as file
+use Rattle.cli_shell.specs.Answers.{ReplySeen, plan_or_answer, within_limit}
+use Rattle.cli_shell.specs.Statuses.{is_verdict}
+use Rattle.cli_shell.specs.Texts.{plan_line}
+use Rattle.cli_shell.proofs.Passing.{passed, long_refuses}
+use Rattle.cli_shell.proofs.Refusing.{file_fits}
 use Rattle.design_cli.specs.declared.wanted.Form.{Form}
 use Rattle.design_cli.specs.declared.wanted.Form.TheVariants.{Names, Numbers}
 use Rattle.design_cli.specs.Answers.{design_in_file, plan_answer, plan_file_answer, plan_given, plan_lines, plan_printed, plan_text_answer}

@@ -6,11 +6,11 @@ use Rattle.named_plans.specs.Numbered.{named_plan_of}
 use Rattle.named_plans.specs.Text.{named_lines}
 use Rattle.rail_base.specs.declared.plan.Command.{Command}
 use Rattle.rail_base.specs.declared.station.Station.{Station}
-use Rattle.rail_cli.specs.declared.status.Status.TheVariants.{Done, Usage}
-use Rattle.rail_cli.specs.declared.input.InputFile.TheVariants as file
-use Rattle.rail_cli.specs.Answers.{ReplySeen, and_then, design_in, one_line, plan_in, plan_or_answer, unless_refused}
-use Rattle.rail_cli.specs.Answers.{within_limit}
-use Rattle.rail_cli.specs.Texts.{plan_line}
+use Rattle.cli_shell.specs.declared.status.Status.TheVariants.{Done, Usage}
+use Rattle.cli_shell.specs.declared.input.InputFile.TheVariants as file
+use Rattle.cli_shell.specs.Answers.{ReplySeen, and_then, design_in, one_line, plan_in, plan_or_answer, unless_refused}
+use Rattle.cli_shell.specs.Answers.{within_limit}
+use Rattle.cli_shell.specs.Texts.{plan_line}
 use Rattle.rail_outside.specs.Asks.{Ask, fetched}
 use Rattle.rail_outside.specs.Files.{Files}
 use Rattle.workload.specs.Made.{made}

@@ -5,11 +5,11 @@ use Rattle.rail_base.specs.declared.plan.Command.{Command}
 use Rattle.rail_base.specs.declared.station.Station.{Station}
 use Rattle.rail_base.specs.Admission.{is_admitted}
 use Rattle.rail_outside.specs.Growth.{grown}
-use Rattle.rail_cli.specs.declared.status.Status.TheVariants.{Done}
-use Rattle.rail_cli.specs.declared.input.InputFile.TheVariants as file
-use Rattle.rail_cli.specs.Answers.{design_in, plan_in, routes_reply, simulation_reply}
-use Rattle.rail_cli.specs.Statuses.{is_verdict}
-use Rattle.rail_cli.specs.Texts.{limit_of}
+use Rattle.cli_shell.specs.declared.status.Status.TheVariants.{Done}
+use Rattle.cli_shell.specs.declared.input.InputFile.TheVariants as file
+use Rattle.cli_shell.specs.Answers.{design_in, plan_in, routes_reply, simulation_reply}
+use Rattle.cli_shell.specs.Statuses.{is_verdict}
+use Rattle.cli_shell.specs.Texts.{limit_of}
 use Rattle.design_cli.specs.declared.wanted.Form.{Form}
 use Rattle.design_cli.specs.declared.wanted.Form.TheVariants.{Names, Numbers}
 use Rattle.design_cli.specs.Answers.{file_answer, plan_answer, plan_lines, plan_printed, printed}

@@ -5,16 +5,16 @@ use Rattle.infra_reader.specs.Design.{design_of}
 use Rattle.rail_base.specs.declared.station.Station.{Station}
 use Rattle.rail_base.specs.Members.{In}
 use Rattle.rail_outside.specs.Growth.{grown, GrowsByPrefix, GrowsByLines}
-use Rattle.rail_cli.specs.declared.ending.Ending.{Ending}
-use Rattle.rail_cli.specs.declared.ending.Ending.TheVariants as ending
-use Rattle.rail_cli.specs.declared.reply.Reply.{Reply}
-use Rattle.rail_cli.specs.declared.status.Status.{Status}
-use Rattle.rail_cli.specs.declared.status.Status.TheVariants.{Memory, ShelfFault, SinkFault}
-use Rattle.rail_cli.specs.declared.input.InputFile.TheVariants as file
-use Rattle.rail_cli.specs.Answers.{ReplySeen}
-use Rattle.rail_cli.specs.Prints.{Prints}
-use Rattle.rail_cli.specs.Statuses.{is_answered}
-use Rattle.rail_cli.specs.Texts.{limit_of}
+use Rattle.cli_shell.specs.declared.ending.Ending.{Ending}
+use Rattle.cli_shell.specs.declared.ending.Ending.TheVariants as ending
+use Rattle.cli_shell.specs.declared.reply.Reply.{Reply}
+use Rattle.cli_shell.specs.declared.status.Status.{Status}
+use Rattle.cli_shell.specs.declared.status.Status.TheVariants.{Memory, ShelfFault, SinkFault}
+use Rattle.cli_shell.specs.declared.input.InputFile.TheVariants as file
+use Rattle.cli_shell.specs.Answers.{ReplySeen}
+use Rattle.cli_shell.specs.Prints.{Prints}
+use Rattle.cli_shell.specs.Statuses.{is_answered}
+use Rattle.cli_shell.specs.Texts.{limit_of}
 use Rattle.design_cli.specs.Answers.{answer_given, names_in, unread_line}
 use Rattle.design_cli.specs.Wanted.{Wanted}
 

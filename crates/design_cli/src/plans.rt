@@ -7,18 +7,17 @@ ghost use Rattle.rail_outside.specs.Growth.{Rose, grown, GrowsByPrefix};
 ghost use Rattle.rail_outside.specs.Lines.{lines_of};
 ghost use Rattle.rail_spec.specs.Feasible.{IsRunnable};
 ghost use Rattle.rail_spec.specs.Track.{routes_of};
-ghost use Rattle.rail_cli.specs.Replies.{ReadsOrEnds, Replies, RepliesWith};
-ghost use Rattle.rail_cli.specs.Texts.{plan_line};
+ghost use Rattle.cli_shell.specs.Replies.{ReadsOrEnds, Replies, RepliesWith};
+ghost use Rattle.cli_shell.specs.Texts.{plan_line};
 ghost use Rattle.design_cli.specs.Answers.{design_in_file, plan_file_answer, plan_given, plan_lines};
 ghost use Rattle.design_cli.specs.Answers.{plan_printed, plan_text_answer};
 
 use crate::wanted::Form;
+use cli_shell::{Ending, InputFile, Reply, Status, admit, fetch, plan_line, read_steps};
 use interlocking::Interlocking;
 use named_plans::{named_lines, numbered_text};
-use plan_text::writing::write_plan;
 use rail_base::design::Design;
 use rail_base::plan::Plan;
-use rail_cli::{Ending, InputFile, Reply, Status, admit, fetch, read_steps};
 use rail_outside::Shelf;
 use std::alloc::{AllocError, Global};
 
@@ -136,9 +135,7 @@ fn plan_lines(
 fn numbered_lines(alloc: Global, design: &Design, plan: &Plan) -> Result<Vec<Vec<u8>>, AllocError>
     ensures { IfOk result (λ lines. lines_of lines.items ≡ plan_line design.now.station plan.now.steps ∷ []) }
 {
-    let mut line = write_plan(alloc, design, plan)?;
-    line.push(b'\n')?;
     let mut lines = Vec::new(alloc);
-    lines.push(line)?;
+    lines.push(plan_line(alloc, design, plan)?)?;
     Ok(lines)
 }

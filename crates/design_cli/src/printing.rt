@@ -3,12 +3,12 @@
 ghost use Rattle.std.specs.Prelude.{◌≡◌, ◌≢◌, ◌≤◌, [], ◌∷◌, IfOk, Err, true};
 ghost use Rattle.rail_outside.specs.Growth.{Rose};
 ghost use Rattle.rail_outside.specs.Lines.{lines_of};
-ghost use Rattle.rail_cli.specs.Answers.{ReplySeen};
-ghost use Rattle.rail_cli.specs.Replies.{Replies, RepliesWith};
+ghost use Rattle.cli_shell.specs.Answers.{ReplySeen};
+ghost use Rattle.cli_shell.specs.Replies.{Replies, RepliesWith};
 ghost use Rattle.design_cli.specs.Answers.{unread_line};
 ghost use Rattle.design_cli.specs.Reports.{PrintsAnswer, PrintsUnread, Reports, is_reply};
 
-use rail_cli::{Ending, Reply, Status, print};
+use cli_shell::{Ending, Reply, Status, print};
 use rail_outside::{Sink, SinkFault, put_lines};
 use std::alloc::{AllocError, Global};
 

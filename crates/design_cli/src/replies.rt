@@ -6,15 +6,15 @@ ghost use Rattle.rail_base.specs.declared.station.Station.{Station};
 ghost use Rattle.rail_outside.specs.Asks.{fetched};
 ghost use Rattle.rail_outside.specs.Files.{Files};
 ghost use Rattle.rail_outside.specs.Growth.{Rose, GrowsByPrefix};
-ghost use Rattle.rail_cli.specs.Answers.{design_in};
-ghost use Rattle.rail_cli.specs.Replies.{OnReply, Replies, RepliesWith};
+ghost use Rattle.cli_shell.specs.Answers.{design_in};
+ghost use Rattle.cli_shell.specs.Replies.{OnReply, Replies, RepliesWith};
 ghost use Rattle.workload.specs.Made.{made};
 ghost use Rattle.design_cli.specs.Answers.{design_in_file, file_answer, printed, text_answer, usage};
 ghost use Rattle.design_cli.specs.Answers.{usage_line};
 
+use cli_shell::{Ending, InputFile, Reply, Status, admit, fetch, one_line};
 use design_text::design_lines;
 use rail_base::design::Design;
-use rail_cli::{Ending, InputFile, Reply, Status, admit, fetch, one_line};
 use rail_outside::Shelf;
 use std::alloc::{AllocError, Global};
 use workload::make;

@@ -3,12 +3,12 @@ use Rattle.std.proofs.Common.{◌≡◌, ℕ, List, [], Option, Some, None, Resu
 use Rattle.named_files.specs.declared.unmade.Unmade.{Unmade}
 use Rattle.named_files.specs.Replies.{Answers, Makes, RepliesFor, RepliesOf, unmade_of}
 use Rattle.named_files.proofs.Printing.{alone}
-use Rattle.rail_cli.specs.declared.reply.Reply.{Reply}
-use Rattle.rail_cli.specs.declared.ending.Ending.{Ending}
-use Rattle.rail_cli.specs.declared.ending.Ending.TheVariants as ending
-use Rattle.rail_cli.specs.declared.status.Status.{Status}
-use Rattle.rail_cli.specs.Answers.{ReplySeen}
-use Rattle.rail_cli.specs.Replies.{OnReply, ReadsOrEnds, reply_seen}
+use Rattle.cli_shell.specs.declared.reply.Reply.{Reply}
+use Rattle.cli_shell.specs.declared.ending.Ending.{Ending}
+use Rattle.cli_shell.specs.declared.ending.Ending.TheVariants as ending
+use Rattle.cli_shell.specs.declared.status.Status.{Status}
+use Rattle.cli_shell.specs.Answers.{ReplySeen}
+use Rattle.cli_shell.specs.Replies.{OnReply, ReadsOrEnds, reply_seen}
 use Rattle.rail_outside.specs.Asks.{Ask}
 use Rattle.rail_outside.specs.Files.{Files}
 use Rattle.rail_outside.specs.Growth.{GrowsByPrefix}

@@ -10,14 +10,14 @@ use Rattle.rail_base.specs.declared.history.Verdict.TheVariants.{Met, Failed, Un
 use Rattle.rail_base.specs.Members.{In}
 use Rattle.rail_plan.specs.Reading.{Refusal, plan_of}
 use Rattle.rail_spec.specs.Track.{routes_of}
-use Rattle.rail_cli.specs.declared.status.Status.TheVariants.{Done, PlanRefused}
-use Rattle.rail_cli.specs.declared.input.InputFile.TheVariants as file
-use Rattle.rail_cli.specs.Statuses.{is_verdict}
-use Rattle.rail_cli.specs.Shows.{verdict_at_horizon}
-use Rattle.rail_cli.specs.Texts.{plan_refused_line}
-use Rattle.rail_cli.specs.Answers.{ReplySeen, one_line, within_limit, with_routes, and_then, design_in, plan_or_answer, plan_in, unless_refused, verdict_status, verdict_reply, planned, routes_answer}
-use Rattle.rail_cli.proofs.Passing.{passed, long_refuses, design_refuses}
-use Rattle.rail_cli.proofs.Refusing.{file_is}
+use Rattle.cli_shell.specs.declared.status.Status.TheVariants.{Done, PlanRefused}
+use Rattle.cli_shell.specs.declared.input.InputFile.TheVariants as file
+use Rattle.cli_shell.specs.Statuses.{is_verdict}
+use Rattle.cli_shell.specs.Shows.{verdict_at_horizon}
+use Rattle.cli_shell.specs.Texts.{plan_refused_line}
+use Rattle.cli_shell.specs.Answers.{ReplySeen, one_line, within_limit, with_routes, and_then, design_in, plan_or_answer, plan_in, unless_refused, verdict_status, verdict_reply, planned, routes_answer}
+use Rattle.cli_shell.proofs.Passing.{passed, long_refuses, design_refuses}
+use Rattle.cli_shell.proofs.Refusing.{file_is}
 use Rattle.draw_cli.specs.Answers.{IsTrackDrawing, IsRunDrawing, TrackAnswers, PlanAnswers, RunAnswers, RunTextAnswers}
 use Rattle.draw_cli.specs.Laws.{RefusesAsRoutes, DrawsWhereRoutesAreListed, RefusesAsSimulate, DrawsWhereThereIsAVerdict, NamesAreDrawn}
 

@@ -5,14 +5,14 @@ use Rattle.named_files.specs.declared.unmade.Unmade.TheVariants.{Refused, Memory
 use Rattle.named_files.specs.Replies.{Answers, Fetches, Makes, RepliesOf, is_unread, unmade_of}
 use Rattle.named_files.specs.Reports.{ReportsOf}
 use Rattle.named_files.proofs.Printing.{one_stops}
-use Rattle.rail_cli.specs.declared.input.InputFile.{InputFile}
-use Rattle.rail_cli.specs.declared.ending.Ending.{Ending}
-use Rattle.rail_cli.specs.declared.ending.Ending.TheVariants as ending
-use Rattle.rail_cli.specs.declared.reply.Reply.{Reply}
-use Rattle.rail_cli.specs.declared.status.Status.{Status}
-use Rattle.rail_cli.specs.declared.status.Status.TheVariants.{ShelfFault}
-use Rattle.rail_cli.specs.Answers.{ReplySeen, within_limit}
-use Rattle.rail_cli.proofs.Asking.{grown-nothing}
+use Rattle.cli_shell.specs.declared.input.InputFile.{InputFile}
+use Rattle.cli_shell.specs.declared.ending.Ending.{Ending}
+use Rattle.cli_shell.specs.declared.ending.Ending.TheVariants as ending
+use Rattle.cli_shell.specs.declared.reply.Reply.{Reply}
+use Rattle.cli_shell.specs.declared.status.Status.{Status}
+use Rattle.cli_shell.specs.declared.status.Status.TheVariants.{ShelfFault}
+use Rattle.cli_shell.specs.Answers.{ReplySeen, within_limit}
+use Rattle.cli_shell.proofs.Asking.{grown-nothing}
 use Rattle.rail_outside.specs.Asks.{Ask, fetched}
 use Rattle.rail_outside.specs.Files.{Files}
 use Rattle.rail_outside.specs.Growth.{grown, GrowsByPrefix}

@@ -4,12 +4,12 @@ use Rattle.std.specs.Prelude.{◌↔◌}
 use Rattle.named_files.specs.Replies.{Answers, names_of}
 use Rattle.named_files.proofs.Printing.{answered}
 use Rattle.rail_base.specs.declared.station.Station.{Station}
-use Rattle.rail_cli.specs.declared.status.Status.{Status}
-use Rattle.rail_cli.specs.declared.status.Status.TheVariants.{Done, Usage}
-use Rattle.rail_cli.specs.declared.input.InputFile.TheVariants as file
-use Rattle.rail_cli.specs.Statuses.{is_answered}
-use Rattle.rail_cli.specs.Answers.{ReplySeen, within_limit, design_in, plan_in}
-use Rattle.rail_cli.proofs.Using.{IsNoUsage, long_is_no_usage, design_is_no_usage, plan_is_no_usage}
+use Rattle.cli_shell.specs.declared.status.Status.{Status}
+use Rattle.cli_shell.specs.declared.status.Status.TheVariants.{Done, Usage}
+use Rattle.cli_shell.specs.declared.input.InputFile.TheVariants as file
+use Rattle.cli_shell.specs.Statuses.{is_answered}
+use Rattle.cli_shell.specs.Answers.{ReplySeen, within_limit, design_in, plan_in}
+use Rattle.cli_shell.proofs.Using.{IsNoUsage, long_is_no_usage, design_is_no_usage, plan_is_no_usage}
 use Rattle.rail_outside.specs.Files.{Files}
 use Rattle.draw_cli.specs.Wanted.{Wanted, track, run}
 use Rattle.draw_cli.specs.Answers.{IsDrawing, IsTrackDrawing, IsRunDrawing, TrackAnswers, PlanAnswers, RunAnswers, RunTextAnswers, IsAnswerTo, design_name, plan_name}

@@ -6,10 +6,10 @@ use Rattle.drawing.specs.Drawing.{IsDrawingOf, words_in}
 use Rattle.named_files.specs.Replies.{Answers, asks_for}
 use Rattle.rail_base.specs.declared.station.Station.{Station}
 use Rattle.rail_base.specs.declared.plan.Command.{Command}
-use Rattle.rail_cli.specs.declared.status.Status.TheVariants.{Done, Usage}
-use Rattle.rail_cli.specs.declared.input.InputFile.TheVariants as file
-use Rattle.rail_cli.specs.Answers.{ReplySeen, one_line, within_limit, design_in, plan_in}
-use Rattle.rail_cli.specs.Shows.{verdict_at_horizon}
+use Rattle.cli_shell.specs.declared.status.Status.TheVariants.{Done, Usage}
+use Rattle.cli_shell.specs.declared.input.InputFile.TheVariants as file
+use Rattle.cli_shell.specs.Answers.{ReplySeen, one_line, within_limit, design_in, plan_in}
+use Rattle.cli_shell.specs.Shows.{verdict_at_horizon}
 use Rattle.rail_outside.specs.Asks.{Ask}
 use Rattle.run_drawing.specs.Words.{run_size, run_words}
 use Rattle.track_drawing.specs.Words.{track_size, track_words}

@@ -4,9 +4,9 @@ use Rattle.drawing.specs.Laws.{Shows}
 use Rattle.rail_base.specs.declared.station.Station.{Station}
 use Rattle.rail_base.specs.declared.plan.Command.{Command}
 use Rattle.rail_base.specs.Members.{In}
-use Rattle.rail_cli.specs.declared.status.Status.TheVariants.{Done}
-use Rattle.rail_cli.specs.Answers.{ReplySeen, design_in, plan_in, routes_reply, simulation_reply}
-use Rattle.rail_cli.specs.Statuses.{is_verdict}
+use Rattle.cli_shell.specs.declared.status.Status.TheVariants.{Done}
+use Rattle.cli_shell.specs.Answers.{ReplySeen, design_in, plan_in, routes_reply, simulation_reply}
+use Rattle.cli_shell.specs.Statuses.{is_verdict}
 use Rattle.draw_cli.specs.Wanted.{wanted_of}
 use Rattle.draw_cli.specs.Answers.{IsAnswerTo, IsDrawing, IsRunAnswer, IsRunDrawing, IsTrackAnswer, IsTrackDrawing, usage}
 

@@ -3,7 +3,7 @@
 ghost use Rattle.std.specs.Prelude.{◌≡◌, ◌≢◌, ◌≤◌, ◌↔◌, true, None, Some};
 ghost use Rattle.rail_outside.specs.Growth.{Rose, GrowsByPrefix};
 ghost use Rattle.rail_words.specs.Words.{texts_of};
-ghost use Rattle.rail_cli.specs.Statuses.{is_answered};
+ghost use Rattle.cli_shell.specs.Statuses.{is_answered};
 ghost use Rattle.draw_cli.specs.Answers.{asks_to};
 ghost use Rattle.draw_cli.specs.Replies.{NamesUnread, PrintsAnswer, PrintsUsage};
 ghost use Rattle.draw_cli.specs.Wanted.{wanted_of};
@@ -11,8 +11,8 @@ ghost use Rattle.draw_cli.specs.Words.{asked_by, wanted_by};
 
 use crate::drawn::{reply_to, usage_made};
 use crate::wanted::{CommandWords, Wanted, both_words, read_wanted};
+use cli_shell::Status;
 use named_files::report;
-use rail_cli::Status;
 use rail_outside::{Shelf, Sink};
 use rail_words::WordsFault;
 use std::alloc::{AllocError, Global};

@@ -1,12 +1,12 @@
 -- Files, read.
 use Rattle.std.proofs.Common.{◌≡◌, ℕ, List, Option, Some, None, Result, Err, Vec, Global, refl, ap, subst}
 use Rattle.rail_outside.specs.Files.{Files}
-use Rattle.rail_cli.specs.declared.input.InputFile.{InputFile}
-use Rattle.rail_cli.specs.declared.reply.Reply.{Reply}
-use Rattle.rail_cli.specs.declared.ending.Ending.{Ending}
-use Rattle.rail_cli.specs.declared.ending.Ending.TheVariants as ending
-use Rattle.rail_cli.specs.Answers.{ReplySeen, within_limit}
-use Rattle.rail_cli.specs.Replies.{ReadsOrEnds}
+use Rattle.cli_shell.specs.declared.input.InputFile.{InputFile}
+use Rattle.cli_shell.specs.declared.reply.Reply.{Reply}
+use Rattle.cli_shell.specs.declared.ending.Ending.{Ending}
+use Rattle.cli_shell.specs.declared.ending.Ending.TheVariants as ending
+use Rattle.cli_shell.specs.Answers.{ReplySeen, within_limit}
+use Rattle.cli_shell.specs.Replies.{ReadsOrEnds}
 use Rattle.named_files.specs.declared.unmade.Unmade.{Unmade}
 use Rattle.named_files.specs.declared.unmade.Unmade.TheVariants.{Refused}
 use Rattle.named_files.specs.Replies.{Fetches, Reads}

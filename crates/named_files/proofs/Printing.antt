@@ -1,17 +1,17 @@
 -- Runs, and what they print.
 use Rattle.std.proofs.Common.{◌≡◌, ◌≢◌, ℕ, true, inl, inr, List, [], ◌∷◌, Option, None, Some, Result, Ok, Err, Vec, Global, refl, sym, ap, ◌∙◌, subst}
 use Rattle.rail_base.specs.Members.{In}
-use Rattle.rail_cli.specs.declared.status.Status.{Status}
-use Rattle.rail_cli.specs.declared.status.Status.TheVariants as statuses
-use Rattle.rail_cli.specs.declared.reply.Reply.{Reply}
-use Rattle.rail_cli.specs.declared.ending.Ending.{Ending}
-use Rattle.rail_cli.specs.declared.ending.Ending.TheVariants as ending
-use Rattle.rail_cli.specs.declared.input.InputFile.{InputFile}
-use Rattle.rail_cli.specs.Answers.{ReplySeen, unless_refused, within_limit}
-use Rattle.rail_cli.specs.Statuses.{is_answered}
+use Rattle.cli_shell.specs.declared.status.Status.{Status}
+use Rattle.cli_shell.specs.declared.status.Status.TheVariants as statuses
+use Rattle.cli_shell.specs.declared.reply.Reply.{Reply}
+use Rattle.cli_shell.specs.declared.ending.Ending.{Ending}
+use Rattle.cli_shell.specs.declared.ending.Ending.TheVariants as ending
+use Rattle.cli_shell.specs.declared.input.InputFile.{InputFile}
+use Rattle.cli_shell.specs.Answers.{ReplySeen, unless_refused, within_limit}
+use Rattle.cli_shell.specs.Statuses.{is_answered}
 use Rattle.rail_outside.specs.Files.{Files}
-use Rattle.rail_cli.specs.Prints.{Prints}
-use Rattle.rail_cli.specs.Replies.{ReadsOrEnds, reply_seen}
+use Rattle.cli_shell.specs.Prints.{Prints}
+use Rattle.cli_shell.specs.Replies.{ReadsOrEnds, reply_seen}
 use Rattle.named_files.specs.declared.unmade.Unmade.{Unmade}
 use Rattle.named_files.specs.declared.unmade.Unmade.TheVariants.{Refused, Memory, Unread}
 use Rattle.named_files.specs.Replies.{Answers, Fetches, IsHeld, Makes, Reads, RepliesFor, RepliesOf, names_of, unmade_of}

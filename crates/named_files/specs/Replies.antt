@@ -4,12 +4,12 @@ use Rattle.std.specs.declared.alloc.Global.{Global}
 use Rattle.rail_base.specs.Members.{In}
 use Rattle.rail_outside.specs.Asks.{Ask, fetched}
 use Rattle.rail_outside.specs.Files.{Files}
-use Rattle.rail_cli.specs.declared.input.InputFile.{InputFile}
-use Rattle.rail_cli.specs.declared.reply.Reply.{Reply}
-use Rattle.rail_cli.specs.declared.ending.Ending.{Ending}
-use Rattle.rail_cli.specs.declared.ending.Ending.TheVariants as ending
-use Rattle.rail_cli.specs.Answers.{ReplySeen, within_limit}
-use Rattle.rail_cli.specs.Replies.{reply_seen}
+use Rattle.cli_shell.specs.declared.input.InputFile.{InputFile}
+use Rattle.cli_shell.specs.declared.reply.Reply.{Reply}
+use Rattle.cli_shell.specs.declared.ending.Ending.{Ending}
+use Rattle.cli_shell.specs.declared.ending.Ending.TheVariants as ending
+use Rattle.cli_shell.specs.Answers.{ReplySeen, within_limit}
+use Rattle.cli_shell.specs.Replies.{reply_seen}
 use Rattle.named_files.specs.declared.unmade.Unmade.{Unmade}
 use Rattle.named_files.specs.declared.unmade.Unmade.TheVariants.{Refused, Memory, Unread}
 

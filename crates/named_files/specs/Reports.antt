@@ -3,16 +3,16 @@ use Rattle.std.specs.Prelude.{◌≡◌, ◌≢◌, ◌⊎◌, ℕ, false, List,
 use Rattle.rail_base.specs.Members.{In}
 use Rattle.rail_outside.specs.Files.{Files}
 use Rattle.rail_outside.specs.Growth.{grown, GrowsByPrefix, GrowsByLines}
-use Rattle.rail_cli.specs.declared.status.Status.{Status}
-use Rattle.rail_cli.specs.declared.status.Status.TheVariants.{Memory, ShelfFault, SinkFault}
-use Rattle.rail_cli.specs.Answers.{ReplySeen}
-use Rattle.rail_cli.specs.Prints.{Prints}
-use Rattle.rail_cli.specs.Replies.{reply_seen}
-use Rattle.rail_cli.specs.declared.reply.Reply.{Reply}
+use Rattle.cli_shell.specs.declared.status.Status.{Status}
+use Rattle.cli_shell.specs.declared.status.Status.TheVariants.{Memory, ShelfFault, SinkFault}
+use Rattle.cli_shell.specs.Answers.{ReplySeen}
+use Rattle.cli_shell.specs.Prints.{Prints}
+use Rattle.cli_shell.specs.Replies.{reply_seen}
+use Rattle.cli_shell.specs.declared.reply.Reply.{Reply}
 use Rattle.named_files.specs.Replies.{IsHeld, names_of}
 use Rattle.named_files.specs.declared.unmade.Unmade.{Unmade}
 use Rattle.named_files.specs.declared.unmade.Unmade.TheVariants as unmade
-use Rattle.rail_cli.specs.Statuses.{is_answered}
+use Rattle.cli_shell.specs.Statuses.{is_answered}
 
 -- that the file of this name could not be read
 abbrev pub unread_line : List ℕ → List ℕ

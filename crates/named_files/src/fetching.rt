@@ -6,7 +6,7 @@ ghost use Rattle.rail_outside.specs.Growth.{Rose, grown, GrowsByPrefix};
 ghost use Rattle.named_files.specs.Replies.{Fetches, is_unread};
 
 use crate::unmade::Unmade;
-use rail_cli::{Ending, InputFile, fetch};
+use cli_shell::{Ending, InputFile, fetch};
 use rail_outside::Shelf;
 use std::alloc::Global;
 

@@ -7,7 +7,7 @@ ghost use Rattle.named_files.specs.Replies.{is_unread};
 ghost use Rattle.named_files.specs.Reports.{PrintsUnread, ReportsOf, unread_line};
 
 use crate::unmade::Unmade;
-use rail_cli::{Reply, Status, print};
+use cli_shell::{Reply, Status, print};
 use rail_outside::{Sink, SinkFault, put_lines};
 use std::alloc::{AllocError, Global};
 

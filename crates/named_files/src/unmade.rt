@@ -3,7 +3,7 @@
 ghost use Rattle.std.specs.Prelude.{◌≡◌, ◌≢◌};
 ghost use Rattle.named_files.specs.Replies.{unmade_of};
 
-use rail_cli::{Ending, Reply};
+use cli_shell::{Ending, Reply};
 use std::alloc::AllocError;
 
 /// Why no reply was made to what is asked.

@@ -28,26 +28,35 @@ use Rattle.verify_loop.specs.declared.outcome.Budgets.{Budgets}
 use Rattle.verify_loop.specs.declared.outcome.Outcome.{Outcome}
 use Rattle.verify_loop.specs.declared.outcome.Outcome.TheVariants as outcome
 use Rattle.verify_loop.specs.Outcomes.{HasNoneBelow, IsOutcome, Fits, first_clauses}
-use Rattle.rail_cli.specs.declared.status.Status.{Status}
-use Rattle.rail_cli.specs.declared.status.Status.TheVariants as statuses
-use Rattle.rail_cli.specs.declared.input.InputFile.TheVariants as file
-use Rattle.rail_cli.specs.declared.reply.Reply.{Reply}
-use Rattle.rail_cli.specs.declared.ending.Ending.{Ending}
-use Rattle.rail_cli.specs.declared.ending.Ending.TheVariants as ending
-use Rattle.rail_cli.specs.Statuses.{is_answered, is_verdict}
-use Rattle.rail_cli.specs.Texts.{limit_of, usage_line, too_large_line, yes_line, infeasible_line}
-use Rattle.rail_cli.specs.Answers.{ReplySeen, one_line, within_limit, with_routes, design_in, and_then, unless_too_large, with_clauses, unless_refused, reply_for, checked_against, with_proof, check_reply, reply_for_plan, reply_for_outcome, searched_in, aim_of, search_reply, answer_to, answer_of}
-use Rattle.rail_cli.specs.Shows.{verdict_at_horizon}
-use Rattle.rail_cli.specs.Replies.{reply_seen, ReadsOrEnds, RefusesFile, OnlyFails, Replies, EndsIn, EndsWith, RepliesSo, RepliesTrial}
+use Rattle.cli_shell.specs.declared.status.Status.{Status}
+use Rattle.cli_shell.specs.declared.status.Status.TheVariants as statuses
+use Rattle.cli_shell.specs.declared.input.InputFile.TheVariants as file
+use Rattle.cli_shell.specs.declared.reply.Reply.{Reply}
+use Rattle.cli_shell.specs.declared.ending.Ending.{Ending}
+use Rattle.cli_shell.specs.declared.ending.Ending.TheVariants as ending
+use Rattle.cli_shell.specs.Statuses.{is_answered, is_verdict}
+use Rattle.cli_shell.specs.Texts.{usage_line, limit_of, too_large_line}
+use Rattle.proof_shell.specs.Texts.{yes_line}
+use Rattle.rail_cli.specs.Texts.{infeasible_line}
+use Rattle.cli_shell.specs.Answers.{ReplySeen, one_line, within_limit, with_routes, and_then, design_in, unless_refused}
+use Rattle.proof_shell.specs.Answers.{unless_too_large, with_clauses, reply_for, checked_against, with_proof, check_reply}
+use Rattle.rail_cli.specs.Answers.{reply_for_plan, reply_for_outcome, searched_in, aim_of, search_reply, answer_to, answer_of}
+use Rattle.cli_shell.specs.Shows.{verdict_at_horizon}
+use Rattle.cli_shell.specs.Replies.{reply_seen, ReadsOrEnds, RefusesFile, OnlyFails, Replies}
+use Rattle.rail_cli.specs.Replies.{EndsIn, EndsWith, RepliesSo, RepliesTrial}
 use Rattle.rail_cli.specs.Searches.{budgets_of, Finds, HoldsLog, HoldsProof, SearchLeaves, Leaves, Searches, ReportsPlan, ReportsNone}
 use Rattle.rail_cli.specs.Checks.{Checks, ReportsInfeasible}
-use Rattle.rail_cli.specs.Simulations.{Simulates, ReportsFeasible, DoneWhereFeasible}
-use Rattle.rail_cli.specs.Prints.{Prints}
-use Rattle.rail_cli.proofs.Passing.{passed, long_refuses, design_refuses, clauses_refuse, read-same}
-use Rattle.rail_cli.proofs.Refusing.{file_is, file_fits}
-use Rattle.rail_cli.proofs.Deciding.{answered_next, answered_refusal, prints_answer, tells_of_reply}
-use Rattle.rail_cli.proofs.Judging.{small_passes, too_large_refused, base_passes, tells_infeasible}
-use Rattle.rail_cli.proofs.Showing.{done_exactly, met_first, runs_safely}
+use Rattle.cli_shell.specs.Simulations.{ReportsFeasible}
+use Rattle.rail_cli.specs.Simulations.{Simulates, DoneWhereFeasible}
+use Rattle.cli_shell.specs.Prints.{Prints}
+use Rattle.cli_shell.proofs.Passing.{passed, long_refuses, design_refuses, read-same}
+use Rattle.proof_shell.proofs.Passing.{clauses_refuse}
+use Rattle.cli_shell.proofs.Refusing.{file_fits, file_is}
+use Rattle.cli_shell.proofs.Deciding.{answered_next, answered_refusal, prints_answer}
+use Rattle.rail_cli.proofs.Deciding.{tells_of_reply}
+use Rattle.proof_shell.proofs.Judging.{too_large_refused, small_passes, base_passes}
+use Rattle.rail_cli.proofs.Judging.{tells_infeasible}
+use Rattle.cli_shell.proofs.Showing.{done_exactly, runs_safely, met_first}
 
 -- ---- what a search ends with
 

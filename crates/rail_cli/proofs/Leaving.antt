@@ -9,16 +9,18 @@ use Rattle.verify_loop.specs.declared.outcome.Budgets.{Budgets}
 use Rattle.verify_loop.specs.declared.outcome.Outcome.{Outcome}
 use Rattle.verify_loop.specs.declared.outcome.Outcome.TheVariants as outcome
 use Rattle.verify_loop.specs.Outcomes.{IsOutcome}
-use Rattle.rail_cli.specs.declared.status.Status.{Status}
-use Rattle.rail_cli.specs.declared.status.Status.TheVariants.{Done, No, Usage, DesignRefused, PlanRefused, ConflictsSpent, Memory, ShelfFault, SinkFault, TicksSpent, LogSpent, TooLong}
-use Rattle.rail_cli.specs.declared.input.InputFile.TheVariants as file
-use Rattle.rail_cli.specs.declared.reply.Reply.{Reply}
-use Rattle.rail_cli.specs.declared.ending.Ending.{Ending}
-use Rattle.rail_cli.specs.declared.ending.Ending.TheVariants as ending
-use Rattle.rail_cli.specs.Statuses.{is_answered, is_refusal}
-use Rattle.rail_cli.specs.Texts.{limit_of}
-use Rattle.rail_cli.specs.Answers.{ReplySeen, design_in, reply_for_outcome}
-use Rattle.rail_cli.specs.Replies.{reply_seen, OnEnd, RefusesFile, StoresFile, KeepsLog}
+use Rattle.cli_shell.specs.declared.status.Status.{Status}
+use Rattle.cli_shell.specs.declared.status.Status.TheVariants.{Done, No, Usage, DesignRefused, PlanRefused, ConflictsSpent, Memory, ShelfFault, SinkFault, TicksSpent, LogSpent, TooLong}
+use Rattle.cli_shell.specs.declared.input.InputFile.TheVariants as file
+use Rattle.cli_shell.specs.declared.reply.Reply.{Reply}
+use Rattle.cli_shell.specs.declared.ending.Ending.{Ending}
+use Rattle.cli_shell.specs.declared.ending.Ending.TheVariants as ending
+use Rattle.cli_shell.specs.Statuses.{is_answered, is_refusal}
+use Rattle.cli_shell.specs.Texts.{limit_of}
+use Rattle.cli_shell.specs.Answers.{ReplySeen, design_in}
+use Rattle.rail_cli.specs.Answers.{reply_for_outcome}
+use Rattle.cli_shell.specs.Replies.{reply_seen, RefusesFile, OnEnd}
+use Rattle.rail_cli.specs.Replies.{StoresFile, KeepsLog}
 use Rattle.rail_cli.specs.Searches.{ShowsNone, HoldsProof, SearchLeaves, Leaves}
 
 -- ---- a search

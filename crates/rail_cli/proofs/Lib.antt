@@ -1,10 +1,4 @@
-pub mod Asking
-pub mod Refusing
-pub mod Showing
 pub mod Deciding
-pub mod Silence
-pub mod Numbered
-pub mod Passing
 pub mod Judging
 pub mod Leaving
 pub mod Stored
@@ -13,5 +7,4 @@ pub mod AnyShelf
 pub mod Trying
 pub mod Telling
 pub mod Verdicts
-pub mod Using
 pub mod Shortly

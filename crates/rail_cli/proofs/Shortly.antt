@@ -19,21 +19,24 @@ use Rattle.rail_spelling.proofs.Unique.{designs_spelled, spelled_one, plans_spel
 use Rattle.rail_words.specs.Requests.{simulate, verify, check, request_of}
 use Rattle.timetable.specs.Timetable.{timetable_of}
 use Rattle.verify_loop.specs.declared.outcome.Outcome.{Outcome}
-use Rattle.rail_cli.specs.declared.input.InputFile.{InputFile}
-use Rattle.rail_cli.specs.declared.input.InputFile.TheVariants as file
-use Rattle.rail_cli.specs.declared.status.Status.{Status}
-use Rattle.rail_cli.specs.declared.status.Status.TheVariants.{Done, No, PlanRefused}
-use Rattle.rail_cli.specs.Answers.{ReplySeen, one_line, within_limit, with_routes, edge_place, design_or_answer, and_then, design_in, plan_or_answer, plan_in, planned, unless_refused, verdict_reply, with_proof, searched_in, aim_of, answer_to, answer_of}
+use Rattle.cli_shell.specs.declared.input.InputFile.{InputFile}
+use Rattle.cli_shell.specs.declared.input.InputFile.TheVariants as file
+use Rattle.cli_shell.specs.declared.status.Status.{Status}
+use Rattle.cli_shell.specs.declared.status.Status.TheVariants.{Done, No, PlanRefused}
+use Rattle.cli_shell.specs.Answers.{ReplySeen, one_line, within_limit, edge_place, with_routes, design_or_answer, and_then, design_in, plan_or_answer, plan_in, verdict_reply, unless_refused, planned}
+use Rattle.proof_shell.specs.Answers.{with_proof}
+use Rattle.rail_cli.specs.Answers.{searched_in, aim_of, answer_to, answer_of}
 use Rattle.rail_cli.specs.Checks.{Checks, ReportsInfeasible}
-use Rattle.rail_cli.specs.Prints.{Prints}
-use Rattle.rail_cli.specs.Searches.{Finds, Searches, ReportsNone, ReportsPlan}
-use Rattle.rail_cli.specs.Short.{Checked, Found, FoundNone, IsDesign, IsVerdict, Simulated}
-use Rattle.rail_cli.specs.Shows.{verdict_at_horizon}
-use Rattle.rail_cli.specs.Simulations.{ReportsFeasible, Simulates}
-use Rattle.rail_cli.specs.Statuses.{is_answered, is_verdict}
-use Rattle.rail_cli.specs.Texts.{limit_of, plan_refused_line}
-use Rattle.rail_cli.proofs.Passing.{design_refuses, long_refuses, passed, routes_answer-same}
-use Rattle.rail_cli.proofs.Refusing.{file_is}
+use Rattle.cli_shell.specs.Prints.{Prints}
+use Rattle.rail_cli.specs.Searches.{Finds, Searches, ReportsPlan, ReportsNone}
+use Rattle.rail_cli.specs.Short.{IsDesign, IsVerdict, Simulated, Checked, Found, FoundNone}
+use Rattle.cli_shell.specs.Shows.{verdict_at_horizon}
+use Rattle.cli_shell.specs.Simulations.{ReportsFeasible}
+use Rattle.rail_cli.specs.Simulations.{Simulates}
+use Rattle.cli_shell.specs.Statuses.{is_answered, is_verdict}
+use Rattle.cli_shell.specs.Texts.{limit_of, plan_refused_line}
+use Rattle.cli_shell.proofs.Passing.{passed, long_refuses, design_refuses, routes_answer-same}
+use Rattle.cli_shell.proofs.Refusing.{file_is}
 
 -- ---- what was read
 

@@ -8,8 +8,9 @@ use Rattle.rail_words.specs.declared.request.SearchMode.TheVariants.{Plain, Boun
 use Rattle.rail_words.specs.Laws.{is_plain}
 use Rattle.rail_words.specs.Requests.{verify, request_of, steps_of, conflicts_of, ticks_of}
 use Rattle.rail_words.proofs.Taken.{verify_read, bounds_read, any_read, normal_read, check_read}
-use Rattle.rail_cli.specs.Answers.{check_reply, answer_to}
-use Rattle.rail_cli.specs.Passes.{StoredProofsPass, VerifyPassesCheck, verify_words}
+use Rattle.proof_shell.specs.Answers.{check_reply}
+use Rattle.rail_cli.specs.Answers.{answer_to}
+use Rattle.rail_cli.specs.Passes.{StoredProofsPass, verify_words, VerifyPassesCheck}
 use Rattle.rail_cli.specs.Searches.{Searches}
 
 -- the bytes under the name are the new ones

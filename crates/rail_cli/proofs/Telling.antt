@@ -9,7 +9,8 @@ use Rattle.verify_loop.specs.declared.outcome.Aim.{Aim}
 use Rattle.verify_loop.specs.Telling.{TellsHowFar}
 use Rattle.verify_loop.proofs.Told.{none_told}
 use Rattle.workload.specs.Made.{made}
-use Rattle.rail_cli.specs.Answers.{aim_of, design_in}
+use Rattle.cli_shell.specs.Answers.{design_in}
+use Rattle.rail_cli.specs.Answers.{aim_of}
 use Rattle.rail_cli.specs.Searches.{Tells}
 
 -- nothing is

@@ -20,22 +20,26 @@ use Rattle.verify_loop.specs.declared.outcome.Outcome.{Outcome}
 use Rattle.verify_loop.specs.declared.outcome.Outcome.TheVariants as outcome
 use Rattle.verify_loop.specs.Outcomes.{IsOutcome, Fits}
 use Rattle.workload.specs.Made.{made}
-use Rattle.rail_cli.specs.declared.status.Status.{Status}
-use Rattle.rail_cli.specs.declared.status.Status.TheVariants as statuses
-use Rattle.rail_cli.specs.declared.reply.Reply.{Reply}
-use Rattle.rail_cli.specs.declared.ending.Ending.{Ending}
-use Rattle.rail_cli.specs.declared.ending.Ending.TheVariants as ending
-use Rattle.rail_cli.specs.Statuses.{is_answered, is_verdict}
-use Rattle.rail_cli.specs.Answers.{aim_of, ReplySeen, with_routes, design_or_answer, with_clauses, unless_refused, verdict_status, trial_conflicts, trial_ticks, reply_for_trial, tried_in, tried}
-use Rattle.rail_cli.specs.Shows.{verdict_at_horizon}
-use Rattle.rail_cli.specs.Replies.{reply_seen, deciding_tick, ReadsOrEnds, Replies, RepliesTrial, Tries}
+use Rattle.cli_shell.specs.declared.status.Status.{Status}
+use Rattle.cli_shell.specs.declared.status.Status.TheVariants as statuses
+use Rattle.cli_shell.specs.declared.reply.Reply.{Reply}
+use Rattle.cli_shell.specs.declared.ending.Ending.{Ending}
+use Rattle.cli_shell.specs.declared.ending.Ending.TheVariants as ending
+use Rattle.cli_shell.specs.Statuses.{is_answered, is_verdict}
+use Rattle.cli_shell.specs.Answers.{ReplySeen, with_routes, design_or_answer, verdict_status, unless_refused}
+use Rattle.proof_shell.specs.Answers.{with_clauses}
+use Rattle.rail_cli.specs.Answers.{aim_of, trial_conflicts, trial_ticks, reply_for_trial, tried_in, tried}
+use Rattle.cli_shell.specs.Shows.{verdict_at_horizon}
+use Rattle.cli_shell.specs.Replies.{reply_seen, ReadsOrEnds, Replies}
+use Rattle.rail_cli.specs.Replies.{deciding_tick, RepliesTrial, Tries}
 use Rattle.rail_cli.specs.Searches.{budgets_of, EndsTrial}
-use Rattle.rail_cli.specs.Prints.{Prints}
+use Rattle.cli_shell.specs.Prints.{Prints}
 use Rattle.rail_cli.specs.Trials.{ReportsTrial}
-use Rattle.rail_cli.proofs.Deciding.{answered_next, answered_refusal}
+use Rattle.cli_shell.proofs.Deciding.{answered_next, answered_refusal}
 use Rattle.rail_cli.proofs.Finding.{reply_unless_many}
-use Rattle.rail_cli.proofs.Passing.{passed, design_refuses, clauses_refuse, routes_answer-same}
-use Rattle.rail_cli.proofs.Showing.{done_exactly}
+use Rattle.cli_shell.proofs.Passing.{passed, design_refuses, routes_answer-same}
+use Rattle.proof_shell.proofs.Passing.{clauses_refuse}
+use Rattle.cli_shell.proofs.Showing.{done_exactly}
 
 -- ---- the tick at which a feasible plan is met
 

@@ -1,87 +1,42 @@
 -- What a run comes to, where nothing is refused.
-use Rattle.std.proofs.Common.{◌≡◌, ◌≤◌, ◌⊎◌, ◌+◌, ◌*◌, ℕ, true, false, List, [], ◌∷◌, length, Option, None, Some, Ok, refl, ap, sym, ◌∙◌, subst, inl, inr, arith}
-use Rattle.std.proofs.lemmas.Bool.{le-ltb}
-use Rattle.std.proofs.lemmas.List.Sums.{sum_by-cons}
+use Rattle.std.proofs.Common.{◌≡◌, ◌⊎◌, ◌*◌, ℕ, true, false, List, Option, None, Some, Ok, refl, ap, sym, ◌∙◌, subst, inl, inr}
 use Rattle.infra_reader.specs.Design.{design_of}
-use Rattle.log_checker.specs.declared.check_result.CheckResult.{CheckResult}
-use Rattle.log_checker.specs.declared.check_result.CheckResult.TheVariants.{Yes, No}
-use Rattle.clause_spec.specs.Clauses.{literals, past_limit}
-use Rattle.clause_spec.specs.declared.question.BaseKind.{BaseKind}
+use Rattle.clause_spec.specs.Clauses.{literals}
 use Rattle.clause_spec.specs.declared.question.BaseKind.TheVariants.{Plain}
 use Rattle.rail_words.specs.declared.request.SearchMode.TheVariants as by
 use Rattle.proof_judge.specs.Judged.{judged}
-use Rattle.rail_base.specs.declared.history.Verdict.{Verdict}
-use Rattle.rail_base.specs.declared.history.Verdict.TheVariants as verdict
 use Rattle.rail_base.specs.declared.station.Station.{Station}
 use Rattle.rail_outside.specs.Files.{Files}
 use Rattle.rail_words.specs.Requests.{RequestSeen, simulate, routes, verify, check, trial, request_of}
 use Rattle.verify_loop.specs.declared.outcome.Budgets.{Budgets}
 use Rattle.verify_loop.specs.declared.outcome.Outcome.{Outcome}
 use Rattle.verify_loop.specs.declared.outcome.Outcome.TheVariants as outcome
-use Rattle.base_spec.specs.Bases.{clauses_of}
 use Rattle.verify_loop.specs.declared.outcome.Aim.{Aim}
-use Rattle.rail_spec.specs.Track.{routes_of}
 use Rattle.verify_loop.specs.Outcomes.{IsOutcome, Fits}
 use Rattle.workload.specs.Made.{made}
-use Rattle.rail_cli.specs.declared.status.Status.{Status}
-use Rattle.rail_cli.specs.declared.status.Status.TheVariants as statuses
-use Rattle.rail_cli.specs.declared.input.InputFile.TheVariants as file
-use Rattle.rail_cli.specs.Statuses.{is_answered}
-use Rattle.rail_cli.specs.Texts.{limit_of}
-use Rattle.rail_cli.specs.Answers.{ReplySeen, within_limit, with_routes, design_or_answer, design_in, plan_or_answer, plan_in, verdict_reply, verdict_status, simulation_reply, routes_answer, routes_reply, with_clauses, reply_for, checked_against, with_proof, check_reply, reply_for_outcome, aim_of, search_reply, trial_conflicts, trial_ticks, reply_for_trial, tried_in, tried, unless_refused, answer_to, answer_of}
-use Rattle.rail_cli.specs.Shows.{verdict_at_horizon}
+use Rattle.cli_shell.specs.declared.status.Status.{Status}
+use Rattle.cli_shell.specs.declared.status.Status.TheVariants as statuses
+use Rattle.cli_shell.specs.Statuses.{is_answered}
+use Rattle.cli_shell.specs.Answers.{ReplySeen, with_routes, design_or_answer}
+use Rattle.proof_shell.specs.Answers.{with_clauses, reply_for}
+use Rattle.rail_cli.specs.Answers.{reply_for_outcome, aim_of, search_reply, trial_conflicts, trial_ticks, reply_for_trial, tried_in, tried, answer_to, answer_of}
+use Rattle.cli_shell.specs.Shows.{verdict_at_horizon}
 use Rattle.rail_cli.specs.Searches.{budgets_of, Finds}
-use Rattle.rail_cli.specs.Prints.{Prints}
-use Rattle.rail_cli.specs.Verdicts.{HasRoutes, HasFewClauses, IsDesignText, IsPlanText, IsUnrefused, IsVerdict, SpendsBudget, HasVerdict}
-use Rattle.rail_cli.proofs.Deciding.{answered_next, planned_so}
+use Rattle.cli_shell.specs.Prints.{Prints}
+use Rattle.cli_shell.specs.Verdicts.{HasRoutes, IsDesignText, IsVerdict}
+use Rattle.proof_shell.specs.Verdicts.{HasFewClauses}
+use Rattle.rail_cli.specs.Verdicts.{IsUnrefused, SpendsBudget, HasVerdict}
+use Rattle.cli_shell.proofs.Deciding.{answered_next}
 use Rattle.rail_cli.proofs.Finding.{read_so}
-use Rattle.rail_cli.proofs.Judging.{small_passes}
-use Rattle.rail_cli.proofs.Refusing as refusing
+use Rattle.cli_shell.proofs.Verdicts.{routes_pass, fits, reads, simulated_so, listed_so, shown_verdict}
+use Rattle.proof_shell.proofs.Verdicts.{few_fit, few_pass, checked_so, told_verdict}
 
--- ---- what is read
-
-within : {X : Type 0} (limit sum : ℕ) (clauses : List (List X)) → sum + literals clauses ≤ limit → past_limit limit sum clauses ≡ None
-within limit sum [] few = refl
-within limit sum (c ∷ cs) few =
-    let all : literals (c ∷ cs) ≡ length c + literals cs = sum_by-cons length c cs in
-    rw (le-ltb limit (sum + length c) (omega arith)) (within limit (sum + length c) cs (omega arith))
-
-few_fit : (m : BaseKind) (d : Station) (n : ℕ) → HasFewClauses m d n → past_limit 16000000 0 (clauses_of m d (routes_of d) n) ≡ None
-few_fit m d n few = within 16000000 0 (clauses_of m d (routes_of d) n) (omega arith)
-
-few_pass : (m : BaseKind) (d : Station) (n : ℕ) → HasFewClauses m d n → with_clauses m n d ≡ Ok d
-few_pass m d n few = small_passes m n d (few_fit m d n few)
-
-routes_pass : (d : Station) → HasRoutes d → with_routes d ≡ Ok d
-routes_pass d has = refusing.routes_can_be_listed d has.once has.at_most_2000
+-- ---- the answers to what is not refused
 
 module _ (bytes : List ℕ) (d : Station) (s : IsDesignText bytes d) where
-  fits : within_limit file.Design bytes ≡ Ok bytes
-  fits = refusing.file_fits file.Design bytes s.within_limit
-
-  reads : design_in bytes ≡ Ok d
-  reads = refusing.design_read bytes d s.parses (routes_pass d s.routes)
-
-  -- ---- the answers to what is not refused
-
-  simulated_so : (plan_bytes : List ℕ) (p : IsPlanText d plan_bytes) → simulation_reply bytes plan_bytes ≡ verdict_reply d (verdict_at_horizon d p.plan)
-  simulated_so plan_bytes p =
-      planned_so bytes plan_bytes bytes fits d reads plan_bytes (refusing.file_fits file.Plan plan_bytes p.within_limit)
-      ∙ answered_next (plan_in d plan_bytes) p.plan (λ plan. verdict_reply d (verdict_at_horizon d plan)) (ap (plan_or_answer d) p.parses)
-
-  listed_so : routes_reply bytes ≡ routes_answer d
-  listed_so = answered_next (within_limit file.Design bytes) bytes (λ text. unless_refused (design_in text) routes_answer) fits ∙ answered_next (design_in bytes) d routes_answer reads
-
   searched_so : (m : Aim) (n conflicts ticks : ℕ) (found : Outcome) → HasFewClauses m.base d n → search_reply m n conflicts ticks bytes found ≡ reply_for_outcome d n conflicts ticks found
   searched_so m n conflicts ticks found few =
-      read_so m n conflicts ticks bytes found bytes fits d reads ∙ answered_next (with_clauses m.base n d) d (λ same. reply_for_outcome d n conflicts ticks found) (few_pass m.base d n few)
-
-  pub checked_so : (n : ℕ) (proof_bytes : List ℕ) → HasFewClauses Plain d n → length proof_bytes ≤ limit_of file.Proof → check_reply n bytes proof_bytes ≡ reply_for (judged d n proof_bytes)
-  checked_so n proof_bytes few short =
-      answered_next (within_limit file.Design bytes) bytes (λ text. unless_refused (design_in text) (λ e. with_proof n e proof_bytes)) fits
-      ∙ (answered_next (design_in bytes) d (λ e. with_proof n e proof_bytes) reads
-      ∙ (answered_next (with_clauses Plain n d) d (λ same. unless_refused (within_limit file.Proof proof_bytes) (checked_against d n)) (few_pass Plain d n few)
-      ∙ answered_next (within_limit file.Proof proof_bytes) proof_bytes (checked_against d n) (refusing.file_fits file.Proof proof_bytes short)))
+      read_so m n conflicts ticks bytes found bytes (fits bytes d s) d (reads bytes d s) ∙ answered_next (with_clauses m.base n d) d (λ same. reply_for_outcome d n conflicts ticks found) (few_pass m.base d n few)
 
 tried_so : (seed size : ℕ) (found : Outcome) → HasRoutes (made seed size) → HasFewClauses Plain (made seed size) (2 * size) → tried seed size found ≡ reply_for_trial seed size (made seed size) found
 tried_so seed size found has few =
@@ -89,15 +44,6 @@ tried_so seed size found has few =
     ∙ answered_next (with_clauses Plain (2 * size) (made seed size)) (made seed size) (λ same. reply_for_trial seed size (made seed size) found) (few_pass Plain (made seed size) (2 * size) few)
 
 -- ---- their statuses
-
-shown_verdict : (v : Verdict) → IsVerdict (verdict_status v)
-shown_verdict (verdict.Met history tick) = inl refl
-shown_verdict (verdict.Failed history tick violation) = inr refl
-shown_verdict verdict.Undecided = inr refl
-
-pub told_verdict : (v : CheckResult) → IsVerdict (reply_for v).status
-told_verdict (Yes k) = inl refl
-told_verdict (No line reason) = inr refl
 
 -- the status of each end of a search
 abbrev status_of : Outcome → Status

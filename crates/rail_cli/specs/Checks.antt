@@ -6,7 +6,7 @@ use Rattle.rail_outside.specs.Files.{Files}
 use Rattle.rail_outside.specs.Growth.{grown}
 use Rattle.rail_spec.specs.Feasible.{IsInfeasible}
 use Rattle.rail_words.specs.Requests.{check, request_of}
-use Rattle.rail_cli.specs.Texts.{yes_line}
+use Rattle.proof_shell.specs.Texts.{yes_line}
 
 -- the words ask for a check with n steps, and the design's file spells this design
 pub record Checks (files : Files) (words : List (List ℕ)) (n : ℕ) (d : Station) : Type 0 where

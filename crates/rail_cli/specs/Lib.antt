@@ -1,8 +1,5 @@
--- What the program answers: its texts, its statuses, and the answer to each command line.
-pub mod Statuses
+-- What the program answers to each command line, and what its answers say.
 pub mod Texts
-pub mod Listings
-pub mod Shows
 pub mod Answers
 pub mod Simulations
 pub mod Checks

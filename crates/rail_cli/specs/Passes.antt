@@ -8,9 +8,10 @@ use Rattle.rail_words.specs.declared.request.SearchMode.{SearchMode}
 use Rattle.rail_words.specs.Laws.{is_plain}
 use Rattle.rail_words.specs.Requests.{check, request_of, steps_of, conflicts_of, ticks_of}
 use Rattle.verify_loop.specs.declared.outcome.Outcome.{Outcome}
-use Rattle.rail_cli.specs.declared.status.Status.TheVariants.{Done}
-use Rattle.rail_cli.specs.Texts.{yes_line}
-use Rattle.rail_cli.specs.Answers.{one_line, answer_of}
+use Rattle.cli_shell.specs.declared.status.Status.TheVariants.{Done}
+use Rattle.proof_shell.specs.Texts.{yes_line}
+use Rattle.cli_shell.specs.Answers.{one_line}
+use Rattle.rail_cli.specs.Answers.{answer_of}
 use Rattle.rail_cli.specs.Searches.{Searches, ReportsNone}
 
 -- the answer `yes steps <n>`

@@ -22,13 +22,17 @@ use Rattle.verify_loop.specs.declared.outcome.Outcome.{Outcome}
 use Rattle.verify_loop.specs.Outcomes.{IsOutcome, Fits}
 use Rattle.verify_loop.specs.Telling.{TellsHowFar}
 use Rattle.workload.specs.Made.{made}
-use Rattle.rail_cli.specs.declared.status.Status.{Status}
-use Rattle.rail_cli.specs.declared.status.Status.TheVariants.{Done, No, Memory, ShelfFault, SinkFault}
-use Rattle.rail_cli.specs.declared.input.InputFile.TheVariants as file
-use Rattle.rail_cli.specs.Texts.{limit_of, yes_line, infeasible_line}
-use Rattle.rail_cli.specs.Answers.{one_line, design_in, check_reply, aim_of, trial_conflicts, trial_ticks, reply_for_plan}
-use Rattle.rail_cli.specs.Shows.{verdict_at_horizon}
-use Rattle.rail_cli.specs.Simulations.{RunsSafely}
+use Rattle.cli_shell.specs.declared.status.Status.{Status}
+use Rattle.cli_shell.specs.declared.status.Status.TheVariants.{Done, No, Memory, ShelfFault, SinkFault}
+use Rattle.cli_shell.specs.declared.input.InputFile.TheVariants as file
+use Rattle.cli_shell.specs.Texts.{limit_of}
+use Rattle.proof_shell.specs.Texts.{yes_line}
+use Rattle.rail_cli.specs.Texts.{infeasible_line}
+use Rattle.cli_shell.specs.Answers.{one_line, design_in}
+use Rattle.proof_shell.specs.Answers.{check_reply}
+use Rattle.rail_cli.specs.Answers.{reply_for_plan, aim_of, trial_conflicts, trial_ticks}
+use Rattle.cli_shell.specs.Shows.{verdict_at_horizon}
+use Rattle.cli_shell.specs.Simulations.{RunsSafely}
 
 -- ---- what a search ends with
 

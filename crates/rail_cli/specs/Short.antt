@@ -9,11 +9,12 @@ use Rattle.rail_words.specs.declared.request.SearchMode.{SearchMode}
 use Rattle.rail_words.specs.declared.request.SearchMode.TheVariants.{Any}
 use Rattle.rail_spelling.specs.Designs.{Spells}
 use Rattle.rail_spelling.specs.Plans.{SpellsPlan}
-use Rattle.rail_cli.specs.declared.status.Status.{Status}
-use Rattle.rail_cli.specs.declared.status.Status.TheVariants.{Done, No}
+use Rattle.cli_shell.specs.declared.status.Status.{Status}
+use Rattle.cli_shell.specs.declared.status.Status.TheVariants.{Done, No}
 use Rattle.rail_cli.specs.Checks.{ReportsInfeasible}
-use Rattle.rail_cli.specs.Simulations.{Settles, RunsSafely}
-use Rattle.rail_cli.specs.Texts.{plan_steps_line, plan_line, infeasible_line}
+use Rattle.cli_shell.specs.Simulations.{RunsSafely, Settles}
+use Rattle.cli_shell.specs.Texts.{plan_line}
+use Rattle.rail_cli.specs.Texts.{plan_steps_line, infeasible_line}
 
 -- the bytes spell this design, and no other
 pub record IsDesign (bytes : List ℕ) (d : Station) : Type 0 where

@@ -7,10 +7,11 @@ use Rattle.rail_spec.specs.Feasible.{IsFeasible, IsInfeasible}
 use Rattle.rail_spec.specs.Requirements.{cost}
 use Rattle.rail_spec.specs.Track.{routes_of}
 use Rattle.workload.specs.Made.{made}
-use Rattle.rail_cli.specs.declared.status.Status.{Status}
-use Rattle.rail_cli.specs.declared.status.Status.TheVariants.{Done, No}
-use Rattle.rail_cli.specs.Texts.{plan_tick_line, infeasible_line}
-use Rattle.rail_cli.specs.Answers.{three_lines, ReplySeen}
+use Rattle.cli_shell.specs.declared.status.Status.{Status}
+use Rattle.cli_shell.specs.declared.status.Status.TheVariants.{Done, No}
+use Rattle.rail_cli.specs.Texts.{infeasible_line, plan_tick_line}
+use Rattle.cli_shell.specs.Answers.{ReplySeen}
+use Rattle.rail_cli.specs.Answers.{three_lines}
 
 -- the answer with a plan, with its number of steps and its deciding tick
 abbrev pub trial_plan_reply : ℕ → ℕ → List (List Command) → ReplySeen

@@ -1,52 +1,27 @@
 -- Requests of which nothing is refused, and what a run of them comes to.
-use Rattle.std.specs.Prelude.{◌≡◌, ◌≤◌, ◌⊎◌, ℕ, ◌*◌, List, [], length, Option, None, Some, Ok}
+use Rattle.std.specs.Prelude.{◌≡◌, ◌≤◌, ◌⊎◌, ℕ, ◌*◌, length, Option, None, Some, Ok}
 use Rattle.infra_reader.specs.Design.{design_of}
-use Rattle.clause_spec.specs.Clauses.{literals}
-use Rattle.clause_spec.specs.declared.question.BaseKind.{BaseKind}
 use Rattle.clause_spec.specs.declared.question.BaseKind.TheVariants.{Plain}
-use Rattle.rail_base.specs.declared.plan.Command.{Command}
 use Rattle.rail_base.specs.declared.station.Station.{Station}
 use Rattle.rail_outside.specs.Files.{Files}
-use Rattle.rail_plan.specs.Reading.{plan_of}
-use Rattle.rail_spec.specs.Track.{routes_of, all_walks, edges_met_again}
 use Rattle.rail_words.specs.Requests.{RequestSeen, simulate, routes, verify, check, trial}
 use Rattle.verify_loop.specs.declared.outcome.Budgets.{Budgets}
 use Rattle.verify_loop.specs.declared.outcome.Outcome.{Outcome}
 use Rattle.verify_loop.specs.declared.outcome.Outcome.TheVariants as outcome
-use Rattle.base_spec.specs.Bases.{clauses_of}
 use Rattle.verify_loop.specs.declared.outcome.Aim.{Aim}
 use Rattle.rail_words.specs.declared.request.SearchMode.TheVariants as by
 use Rattle.verify_loop.specs.Outcomes.{IsOutcome, Fits}
 use Rattle.workload.specs.Made.{made}
-use Rattle.rail_cli.specs.declared.status.Status.{Status}
-use Rattle.rail_cli.specs.declared.status.Status.TheVariants as status
-use Rattle.rail_cli.specs.declared.input.InputFile.TheVariants as file
-use Rattle.rail_cli.specs.Texts.{limit_of}
+use Rattle.cli_shell.specs.declared.status.Status.{Status}
+use Rattle.cli_shell.specs.declared.status.Status.TheVariants as status
+use Rattle.cli_shell.specs.declared.input.InputFile.TheVariants as file
+use Rattle.cli_shell.specs.Texts.{limit_of}
 use Rattle.rail_cli.specs.Answers.{aim_of, trial_conflicts, trial_ticks}
 use Rattle.rail_cli.specs.Searches.{budgets_of}
+use Rattle.cli_shell.specs.Verdicts.{HasRoutes, IsDesignText, IsPlanText, IsVerdict}
+use Rattle.proof_shell.specs.Verdicts.{HasFewClauses}
 
 -- ---- where nothing is refused
-
--- the routes of the design can be listed: no path of the first 2,001 meets an edge again, and at most 2,000 paths close
-pub record HasRoutes (d : Station) : Type 0 where
-  pub once : edges_met_again d ≡ []
-  pub at_most_2000 : length (all_walks d) ≤ 2000
-
--- the clauses that a search by the base for plans of n steps begins with have at most 16,000,000 literals
-abbrev pub HasFewClauses : BaseKind → Station → ℕ → Type 0
-HasFewClauses kind d n = literals (clauses_of kind d (routes_of d) n) ≤ 16000000
-
--- the file is within its limit and spells this design, whose routes can be listed
-pub record IsDesignText (bytes : List ℕ) (d : Station) : Type 0 where
-  pub within_limit : length bytes ≤ limit_of file.Design
-  pub parses : design_of bytes ≡ Ok d
-  pub routes : HasRoutes d
-
--- the file is within its limit and spells a plan over the design
-pub record IsPlanText (d : Station) (bytes : List ℕ) : Type 0 where
-  pub within_limit : length bytes ≤ limit_of file.Plan
-  pub plan : List (List Command)
-  pub parses : plan_of d (routes_of d) bytes ≡ Ok plan
 
 -- something is asked for, and nothing of it is refused: each file that is read is within its limit, they spell a design and a plan, and the clauses of a search, a check or a trial are few; a trial reads no file
 abbrev pub IsUnrefused : Files → Option RequestSeen → Type 0
@@ -63,10 +38,6 @@ IsUnrefused files (Some (trial seed size)) =
     HasRoutes (made seed size) × HasFewClauses Plain (made seed size) (2 * size)
 
 -- ---- what a run comes to then
-
--- a verdict: yes or no
-abbrev pub IsVerdict : Status → Type 0
-IsVerdict s = (s ≡ status.Done) ⊎ (s ≡ status.No)
 
 -- the search ended with a budget spent, and this is its status
 abbrev pub IsSpent : Outcome → Status → Type 0

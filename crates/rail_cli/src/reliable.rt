@@ -10,7 +10,7 @@ ghost use Rattle.rail_cli.specs.Answers.{answer_of};
 ghost use Rattle.rail_cli.specs.Searches.{Finds, Leaves};
 
 use crate::run::run_words;
-use crate::status::Status;
+use cli_shell::Status;
 use rail_outside::{ReliableShelf, ReliableSink};
 use std::alloc::Global;
 

@@ -10,46 +10,27 @@ ghost use Rattle.rail_spelling.specs.Lines.{CheckLine, SimulateLine, TrialLine, 
 ghost use Rattle.rail_words.specs.Laws.{AsksForNothing};
 ghost use Rattle.rail_words.specs.Words.{texts_of, request_seen};
 ghost use Rattle.verify_loop.specs.declared.outcome.Outcome.{Outcome};
-ghost use Rattle.rail_cli.specs.Statuses.{is_answered};
+ghost use Rattle.cli_shell.specs.Statuses.{is_answered};
 ghost use Rattle.rail_cli.specs.Answers.{answer_of, asks_to, asks_of};
 ghost use Rattle.rail_cli.specs.Checks.{Checks, ReportsInfeasible};
-ghost use Rattle.rail_cli.specs.Prints.{Prints, PrintsSome};
-ghost use Rattle.rail_cli.specs.Replies.{reply_seen, OnEnd, OnReply, RefusesFile, RepliesSo, RepliesSome};
-ghost use Rattle.rail_cli.specs.Replies.{DecidesRequest, Tries};
-ghost use Rattle.rail_cli.specs.Searches.{Finds, Leaves, Searches, ReportsNone, ReportsPlan, Tells};
-ghost use Rattle.rail_cli.specs.Short.{Checked, Found, FoundNone, IsVerdict, Simulated};
-ghost use Rattle.rail_cli.specs.Simulations.{Simulates, ReportsFeasible, DoneWhereFeasible};
+ghost use Rattle.cli_shell.specs.Prints.{Prints};
+ghost use Rattle.rail_cli.specs.Prints.{PrintsSome};
+ghost use Rattle.cli_shell.specs.Replies.{RefusesFile, OnReply, OnEnd};
+ghost use Rattle.rail_cli.specs.Replies.{DecidesRequest, RepliesSo, RepliesSome, Tries};
+ghost use Rattle.rail_cli.specs.Searches.{Finds, Tells, Leaves, Searches, ReportsPlan, ReportsNone};
+ghost use Rattle.rail_cli.specs.Short.{IsVerdict, Simulated, Checked, Found, FoundNone};
+ghost use Rattle.cli_shell.specs.Simulations.{ReportsFeasible};
+ghost use Rattle.rail_cli.specs.Simulations.{Simulates, DoneWhereFeasible};
 ghost use Rattle.rail_cli.specs.Trials.{ReportsTrial};
 ghost use Rattle.rail_cli.specs.Verdicts.{IsUnrefused, HasVerdict};
 
-use crate::checking::check_reply;
-use crate::ending::Ending;
-use crate::listing::routes_reply;
-use crate::refusals::usage;
-use crate::reply::Reply;
 use crate::searching::{budgets, search_reply};
-use crate::simulation::simulation_reply;
-use crate::status::Status;
 use crate::trial::trial_reply;
-use rail_outside::{NullSink, Shelf, Sink, SinkFault, put_lines};
+use cli_shell::{Ending, Reply, Status, print, routes_reply, simulation_reply, usage};
+use proof_shell::check_reply;
+use rail_outside::{NullSink, Shelf, Sink};
 use rail_words::{Asked, Request, WordsFault, read_asked};
 use std::alloc::Global;
-
-/// Prints a reply line by line, and says how the run ends: by the status of the reply, want of memory or a fault of the
-/// sink.
-pub fn print<O: Sink>(reply: &Reply, out: &mut O) -> Status
-    ensures prints { Prints (reply_seen reply.now) result
-        (O.written out.old) (O.written out.new) (O.puts out.old) (O.puts out.new) }
-    ensures cause { result ≡ Status.SinkFault → Rose (O.fault_count out.old) (O.fault_count out.new) }
-    ensures no_shelf { result ≢ Status.ShelfFault }
-    ensures never_falls { O.fault_count out.old ≤ O.fault_count out.new }
-{
-    match put_lines(reply.lines.as_slice(), out) {
-        Ok(()) => reply.status,
-        Err(SinkFault::Failed) => Status::SinkFault,
-        Err(SinkFault::Memory) => Status::Memory,
-    }
-}
 
 /// Does what the words of a command line ask for, the first of which is the program's name: reads the files that they
 /// name from the shelf, and prints the answer. All of its text is made before the first line is printed.

@@ -11,26 +11,21 @@ ghost use Rattle.verify_loop.specs.declared.outcome.Outcome.{Outcome};
 ghost use Rattle.verify_loop.specs.Outcomes.{IsOutcome, Fits};
 ghost use Rattle.verify_loop.specs.Telling.{TellsHowFar};
 ghost use Rattle.rail_base.specs.declared.station.Station.{Station};
-ghost use Rattle.rail_cli.specs.Answers.{aim_of, design_in, one_line, reply_for_plan, searched_in};
-ghost use Rattle.rail_cli.specs.Answers.{reply_for_outcome};
-ghost use Rattle.rail_cli.specs.Shows.{verdict_at_horizon};
-ghost use Rattle.rail_cli.specs.Replies.{KeepsLog, OnEnd, OnlyFails, RefusesFile, Replies, RepliesSo};
-ghost use Rattle.rail_cli.specs.Replies.{RepliesSome, StoresFile, RepliesWith};
+ghost use Rattle.cli_shell.specs.Answers.{one_line, design_in};
+ghost use Rattle.rail_cli.specs.Answers.{reply_for_plan, reply_for_outcome, searched_in, aim_of};
+ghost use Rattle.cli_shell.specs.Shows.{verdict_at_horizon};
+ghost use Rattle.cli_shell.specs.Replies.{RepliesWith, RefusesFile, OnlyFails, Replies, OnEnd};
+ghost use Rattle.rail_cli.specs.Replies.{RepliesSo, RepliesSome, StoresFile, KeepsLog};
 ghost use Rattle.rail_cli.specs.Searches.{budgets_of, SearchLeaves};
-ghost use Rattle.rail_cli.specs.Texts.{limit_of, plan_steps_line, plan_line, infeasible_line, conflicts_spent_line};
-ghost use Rattle.rail_cli.specs.Texts.{ticks_spent_line, log_spent_line};
+ghost use Rattle.cli_shell.specs.Texts.{limit_of, plan_line};
+ghost use Rattle.rail_cli.specs.Texts.{plan_steps_line, infeasible_line, conflicts_spent_line, ticks_spent_line};
+ghost use Rattle.rail_cli.specs.Texts.{log_spent_line};
 
-use crate::ending::Ending;
-use crate::input::InputFile;
-use crate::reading::{admit, fetch};
-use crate::refusals::{one_line, too_large};
-use crate::reply::Reply;
-use crate::status::Status;
 use crate::texts::{
-    conflicts_spent_line, infeasible_line, log_spent_line, plan_line, plan_steps_line,
-    ticks_spent_line,
+    conflicts_spent_line, infeasible_line, log_spent_line, plan_steps_line, ticks_spent_line,
 };
 use clause_spec::BaseKind;
+use cli_shell::{Ending, InputFile, Reply, Status, admit, fetch, one_line, plan_line, too_large};
 use interlocking::{Interlocking, Steps};
 use rail_base::design::Design;
 use rail_base::history::Verdict;

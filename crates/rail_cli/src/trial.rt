@@ -9,23 +9,20 @@ ghost use Rattle.verify_loop.specs.declared.outcome.Outcome.{Outcome};
 ghost use Rattle.verify_loop.specs.Outcomes.{IsOutcome, Fits};
 ghost use Rattle.verify_loop.specs.Telling.{TellsHowFar};
 ghost use Rattle.workload.specs.Made.{made};
-ghost use Rattle.rail_cli.specs.Statuses.{is_answered};
+ghost use Rattle.cli_shell.specs.Statuses.{is_answered};
 ghost use Rattle.rail_cli.specs.Answers.{aim_of, trial_conflicts, trial_ticks, three_lines, reply_for_trial};
-ghost use Rattle.rail_cli.specs.Shows.{verdict_at_horizon};
-ghost use Rattle.rail_cli.specs.Replies.{deciding_tick, OnlyRefuses, RepliesTrial, RepliesWith};
+ghost use Rattle.cli_shell.specs.Shows.{verdict_at_horizon};
+ghost use Rattle.cli_shell.specs.Replies.{RepliesWith, OnlyRefuses};
+ghost use Rattle.rail_cli.specs.Replies.{deciding_tick, RepliesTrial};
 ghost use Rattle.rail_cli.specs.Searches.{budgets_of};
 ghost use Rattle.rail_cli.specs.Texts.{plan_tick_line};
 
-use crate::ending::Ending;
-use crate::reading::interlock;
-use crate::refusals::too_large;
-use crate::reply::Reply;
 use crate::searching::{aim_of, budgets};
-use crate::status::Status;
 use crate::texts::{
     conflicts_spent_line, counts_line, infeasible_line, log_spent_line, plan_tick_line,
     ticks_spent_line, trial_line,
 };
+use cli_shell::{Ending, Reply, Status, interlock, too_large};
 use interlocking::{Interlocking, Steps};
 use rail_base::design::Design;
 use rail_base::history::Verdict;

@@ -1,7 +1,7 @@
 //! The numbers with which `rcv` ends.
 
 use anyhow::Result;
-use rail_cli::Status;
+use cli_shell::Status;
 
 /// Each status, with the number that it has to have.
 const NUMBERS: [(Status, u8); 12] = [

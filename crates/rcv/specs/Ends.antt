@@ -2,9 +2,9 @@
 use Rattle.std.specs.Prelude.{◌≡◌, ◌↔◌, ℕ, true, List, None, Some}
 use Rattle.rail_words.specs.Laws.{AsksForNothing}
 use Rattle.rail_words.specs.Requests.{trial, request_of}
-use Rattle.rail_cli.specs.declared.status.Status.{Status}
-use Rattle.rail_cli.specs.declared.status.Status.TheVariants.{Usage}
-use Rattle.rail_cli.specs.Statuses.{code_of, is_answered}
+use Rattle.cli_shell.specs.declared.status.Status.{Status}
+use Rattle.cli_shell.specs.declared.status.Status.TheVariants.{Usage}
+use Rattle.cli_shell.specs.Statuses.{code_of, is_answered}
 use Rattle.rail_cli.specs.Prints.{PrintsSome}
 use Rattle.rail_cli.specs.Trials.{ReportsTrial}
 

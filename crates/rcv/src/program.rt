@@ -4,7 +4,8 @@ ghost use Rattle.std.specs.Prelude.{ℕ, List};
 ghost use Rattle.rail_words.specs.Words.{texts_of};
 ghost use Rattle.rcv.specs.Ends.{EndsWith};
 
-use rail_cli::{Status, run_watched};
+use cli_shell::Status;
+use rail_cli::run_watched;
 use rail_files::{FileShelf, OutSink, ProgressSink, command_words};
 use std::alloc::AllocError;
 use std::io::IsTerminal;

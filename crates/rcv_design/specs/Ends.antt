@@ -1,7 +1,7 @@
 -- The number that the program ends with.
 use Rattle.std.specs.Prelude.{◌≡◌, ℕ, List, None}
-use Rattle.rail_cli.specs.declared.status.Status.{Status}
-use Rattle.rail_cli.specs.Statuses.{code_of}
+use Rattle.cli_shell.specs.declared.status.Status.{Status}
+use Rattle.cli_shell.specs.Statuses.{code_of}
 use Rattle.design_cli.specs.Wanted.{wanted_of}
 use Rattle.design_cli.specs.Reports.{PrintsSome}
 

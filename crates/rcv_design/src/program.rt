@@ -4,8 +4,8 @@ ghost use Rattle.std.specs.Prelude.{ℕ, List};
 ghost use Rattle.rail_words.specs.Words.{texts_of};
 ghost use Rattle.rcv_design.specs.Ends.{EndsWith};
 
+use cli_shell::Status;
 use design_cli::run_design;
-use rail_cli::Status;
 use rail_files::{FileShelf, OutSink, command_words};
 use std::alloc::AllocError;
 

@@ -4,7 +4,7 @@ ghost use Rattle.std.specs.Prelude.{ℕ, List};
 ghost use Rattle.rail_words.specs.Words.{texts_of};
 ghost use Rattle.rcv_why.specs.Ends.{EndsWith};
 
-use rail_cli::Status;
+use cli_shell::Status;
 use rail_files::{FileShelf, OutSink, command_words};
 use std::alloc::AllocError;
 use why_cli::run_why;

@@ -10,14 +10,16 @@ use Rattle.proof_words.specs.Explained.{sentences_where_yes}
 use Rattle.proof_words.specs.Meanings.{file_sentences}
 use Rattle.rail_base.specs.declared.station.Station.{Station}
 use Rattle.rail_spec.specs.Track.{routes_of}
-use Rattle.rail_cli.specs.declared.status.Status.TheVariants.{Done}
-use Rattle.rail_cli.specs.declared.input.InputFile.TheVariants as file
-use Rattle.rail_cli.specs.Statuses.{is_verdict}
-use Rattle.rail_cli.specs.Texts.{yes_line}
-use Rattle.rail_cli.specs.Answers.{ReplySeen, one_line, within_limit, with_routes, and_then, design_in, unless_refused, with_clauses, reply_for, checked_against, with_proof, check_reply}
-use Rattle.rail_cli.proofs.Deciding.{answered_next}
-use Rattle.rail_cli.proofs.Passing.{passed, long_refuses, design_refuses, clauses_refuse}
-use Rattle.rail_cli.proofs.Refusing.{file_is}
+use Rattle.cli_shell.specs.declared.status.Status.TheVariants.{Done}
+use Rattle.cli_shell.specs.declared.input.InputFile.TheVariants as file
+use Rattle.cli_shell.specs.Statuses.{is_verdict}
+use Rattle.proof_shell.specs.Texts.{yes_line}
+use Rattle.cli_shell.specs.Answers.{ReplySeen, one_line, within_limit, with_routes, and_then, design_in, unless_refused}
+use Rattle.proof_shell.specs.Answers.{with_clauses, reply_for, checked_against, with_proof, check_reply}
+use Rattle.cli_shell.proofs.Deciding.{answered_next}
+use Rattle.cli_shell.proofs.Passing.{passed, long_refuses, design_refuses}
+use Rattle.proof_shell.proofs.Passing.{clauses_refuse}
+use Rattle.cli_shell.proofs.Refusing.{file_is}
 use Rattle.why_cli.specs.Answers.{usage, sentences_or_shown, explained_against, text_explained, steps_in, explained_where, proof_explained, proof_by_head, explanation_reply}
 use Rattle.why_cli.specs.Laws.{RefusesAsCheck, ExplainsWhereYes, SaysDigests, HeadsNameSteps, NoStepsIsUsage}
 

@@ -5,9 +5,9 @@ use Rattle.rail_base.specs.declared.history.Verdict.{Verdict}
 use Rattle.rail_base.specs.declared.plan.Command.{Command}
 use Rattle.rail_base.specs.declared.route.Route.{Route}
 use Rattle.rail_base.specs.declared.station.Station.{Station}
-use Rattle.rail_cli.specs.declared.status.Status.{Status}
-use Rattle.rail_cli.specs.Answers.{ReplySeen, verdict_status}
-use Rattle.rail_cli.specs.Shows.{verdict_at_horizon}
+use Rattle.cli_shell.specs.declared.status.Status.{Status}
+use Rattle.cli_shell.specs.Answers.{ReplySeen, verdict_status}
+use Rattle.cli_shell.specs.Shows.{verdict_at_horizon}
 use Rattle.rail_outside.specs.Lines.{lines_of}
 use Rattle.rail_spec.specs.Track.{routes_of}
 use Rattle.timetable.specs.Timetable.{timetable_of}

@@ -4,17 +4,18 @@ use Rattle.clause_spec.specs.declared.question.BaseKind.TheVariants.{Plain}
 use Rattle.proof_words.specs.declared.explaining.Explained.{Explained}
 use Rattle.proof_words.specs.Explained.{explained_of, sentences_or}
 use Rattle.rail_base.specs.declared.station.Station.{Station}
-use Rattle.rail_cli.specs.declared.input.InputFile.TheVariants as file
-use Rattle.rail_cli.specs.declared.reply.Reply.{Reply}
-use Rattle.rail_cli.specs.declared.ending.Ending.{Ending}
-use Rattle.rail_cli.specs.declared.ending.Ending.TheVariants as ending
-use Rattle.rail_cli.specs.declared.status.Status.{Status}
-use Rattle.rail_cli.specs.declared.status.Status.TheVariants as statuses
-use Rattle.rail_cli.specs.Answers.{ReplySeen, within_limit, unless_refused, with_clauses}
-use Rattle.rail_cli.specs.Replies.{reply_seen, ReadsOrEnds, Replies}
+use Rattle.cli_shell.specs.declared.input.InputFile.TheVariants as file
+use Rattle.cli_shell.specs.declared.reply.Reply.{Reply}
+use Rattle.cli_shell.specs.declared.ending.Ending.{Ending}
+use Rattle.cli_shell.specs.declared.ending.Ending.TheVariants as ending
+use Rattle.cli_shell.specs.declared.status.Status.{Status}
+use Rattle.cli_shell.specs.declared.status.Status.TheVariants as statuses
+use Rattle.cli_shell.specs.Answers.{ReplySeen, within_limit, unless_refused}
+use Rattle.proof_shell.specs.Answers.{with_clauses}
+use Rattle.cli_shell.specs.Replies.{reply_seen, ReadsOrEnds, Replies}
 use Rattle.rail_base.specs.Members.{In}
-use Rattle.rail_cli.proofs.Deciding.{answered_next}
-use Rattle.rail_cli.proofs.Refusing.{file_is}
+use Rattle.cli_shell.proofs.Deciding.{answered_next}
+use Rattle.cli_shell.proofs.Refusing.{file_is}
 use Rattle.rail_outside.specs.Asks.{Ask}
 use Rattle.rail_outside.specs.Files.{Files}
 use Rattle.rail_outside.specs.Growth.{GrowsByPrefix}

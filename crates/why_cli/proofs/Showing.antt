@@ -15,16 +15,17 @@ use Rattle.rail_base.specs.declared.station.Station.{Station}
 use Rattle.rail_base.specs.Admitted.{IsAdmitted}
 use Rattle.rail_spec.specs.Feasible.{IsInfeasible}
 use Rattle.rail_base.proofs.Members.{and_left}
-use Rattle.rail_cli.specs.declared.status.Status.{Status}
-use Rattle.rail_cli.specs.declared.status.Status.TheVariants.{Done}
-use Rattle.rail_cli.specs.declared.input.InputFile.TheVariants as file
-use Rattle.rail_cli.specs.Statuses.{is_answered, is_verdict}
-use Rattle.rail_cli.specs.Answers.{ReplySeen, within_limit, with_routes, and_then, design_in, unless_refused, reply_for, check_reply}
-use Rattle.rail_cli.specs.Prints.{Prints}
-use Rattle.rail_cli.specs.Verdicts.{IsVerdict}
-use Rattle.rail_cli.proofs.Passing.{passed, long_refuses, design_refuses, read-same}
-use Rattle.rail_cli.proofs.Refusing.{file_is, file_fits}
-use Rattle.rail_cli.proofs.Verdicts.{checked_so, told_verdict}
+use Rattle.cli_shell.specs.declared.status.Status.{Status}
+use Rattle.cli_shell.specs.declared.status.Status.TheVariants.{Done}
+use Rattle.cli_shell.specs.declared.input.InputFile.TheVariants as file
+use Rattle.cli_shell.specs.Statuses.{is_answered, is_verdict}
+use Rattle.cli_shell.specs.Answers.{ReplySeen, within_limit, with_routes, and_then, design_in, unless_refused}
+use Rattle.proof_shell.specs.Answers.{reply_for, check_reply}
+use Rattle.cli_shell.specs.Prints.{Prints}
+use Rattle.cli_shell.specs.Verdicts.{IsVerdict}
+use Rattle.cli_shell.proofs.Passing.{passed, long_refuses, design_refuses, read-same}
+use Rattle.cli_shell.proofs.Refusing.{file_is, file_fits}
+use Rattle.proof_shell.proofs.Verdicts.{checked_so, told_verdict}
 use Rattle.rail_outside.specs.Files.{Files}
 use Rattle.rail_outside.specs.Growth.{grown}
 use Rattle.rail_text.specs.Pieces.{pieces}

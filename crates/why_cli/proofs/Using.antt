@@ -7,12 +7,14 @@ use Rattle.proof_judge.specs.Judged.{judged}
 use Rattle.proof_words.specs.Explained.{sentences_where_yes}
 use Rattle.proof_words.specs.Meanings.{file_sentences}
 use Rattle.rail_base.specs.declared.station.Station.{Station}
-use Rattle.rail_cli.specs.declared.status.Status.{Status}
-use Rattle.rail_cli.specs.declared.status.Status.TheVariants.{Usage}
-use Rattle.rail_cli.specs.declared.input.InputFile.TheVariants as file
-use Rattle.rail_cli.specs.Statuses.{is_answered}
-use Rattle.rail_cli.specs.Answers.{ReplySeen, and_then, within_limit, design_in, unless_refused, verdict_status, with_clauses, with_routes}
-use Rattle.rail_cli.proofs.Using.{IsNoUsage, long_is_no_usage, design_is_no_usage, clauses_are_no_usage}
+use Rattle.cli_shell.specs.declared.status.Status.{Status}
+use Rattle.cli_shell.specs.declared.status.Status.TheVariants.{Usage}
+use Rattle.cli_shell.specs.declared.input.InputFile.TheVariants as file
+use Rattle.cli_shell.specs.Statuses.{is_answered}
+use Rattle.cli_shell.specs.Answers.{ReplySeen, and_then, within_limit, design_in, unless_refused, verdict_status, with_routes}
+use Rattle.proof_shell.specs.Answers.{with_clauses}
+use Rattle.cli_shell.proofs.Using.{IsNoUsage, long_is_no_usage, design_is_no_usage}
+use Rattle.proof_shell.proofs.Using.{clauses_are_no_usage}
 use Rattle.why_words.specs.Wanted.{Wanted}
 use Rattle.design_table.specs.declared.fault.Code.{Code}
 use Rattle.design_table.specs.declared.place.Place.{Place}
@@ -28,7 +30,7 @@ use Rattle.rail_base.specs.declared.history.Verdict.{Verdict}
 use Rattle.rail_base.specs.declared.history.Verdict.TheVariants as verdict
 use Rattle.rail_base.specs.declared.plan.Command.{Command}
 use Rattle.rail_plan.specs.Reading.{Refusal, plan_of}
-use Rattle.rail_cli.specs.Shows.{verdict_at_horizon}
+use Rattle.cli_shell.specs.Shows.{verdict_at_horizon}
 use Rattle.rail_spec.specs.Track.{routes_of}
 use Rattle.why_cli.specs.Shows.{GivesNoSteps, IsUsageFor}
 

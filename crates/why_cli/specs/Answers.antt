@@ -9,9 +9,10 @@ use Rattle.proof_log.specs.declared.head.Head.{Head}
 use Rattle.proof_log.specs.declared.head.Head.TheVariants.{Unnamed, Of}
 use Rattle.proof_words.specs.Explained.{explained_of}
 use Rattle.rail_base.specs.declared.station.Station.{Station}
-use Rattle.rail_cli.specs.declared.status.Status.TheVariants.{Done, Usage}
-use Rattle.rail_cli.specs.declared.input.InputFile.TheVariants as file
-use Rattle.rail_cli.specs.Answers.{ReplySeen, one_line, within_limit, design_in, unless_refused, with_clauses, reply_for}
+use Rattle.cli_shell.specs.declared.status.Status.TheVariants.{Done, Usage}
+use Rattle.cli_shell.specs.declared.input.InputFile.TheVariants as file
+use Rattle.cli_shell.specs.Answers.{ReplySeen, one_line, within_limit, design_in, unless_refused}
+use Rattle.proof_shell.specs.Answers.{with_clauses, reply_for}
 use Rattle.rail_text.specs.Pieces.{pieces}
 use Rattle.why_cli.specs.Heads.{head_lines}
 

@@ -13,10 +13,11 @@ use Rattle.look_words.specs.Sections.{slipped_sections}
 use Rattle.named_files.specs.Replies.{Answers}
 use Rattle.clause_spec.specs.declared.question.BaseKind.TheVariants.{Plain}
 use Rattle.rail_base.specs.declared.station.Station.{Station}
-use Rattle.rail_cli.specs.declared.status.Status.TheVariants.{DesignRefused, Done}
-use Rattle.rail_cli.specs.declared.input.InputFile.TheVariants as file
-use Rattle.rail_cli.specs.Answers.{ReplySeen, and_then, with_clauses, with_routes, within_limit}
-use Rattle.rail_cli.specs.Texts.{design_refused_line}
+use Rattle.cli_shell.specs.declared.status.Status.TheVariants.{DesignRefused, Done}
+use Rattle.cli_shell.specs.declared.input.InputFile.TheVariants as file
+use Rattle.cli_shell.specs.Answers.{ReplySeen, and_then, with_routes, within_limit}
+use Rattle.proof_shell.specs.Answers.{with_clauses}
+use Rattle.cli_shell.specs.Texts.{design_refused_line}
 use Rattle.rail_spec.specs.Track.{routes_of}
 use Rattle.refused_words.specs.Faults.{IsFaultSaid}
 use Rattle.time_words.specs.Times.{AreLeastLines}

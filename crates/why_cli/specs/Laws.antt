@@ -4,10 +4,11 @@ use Rattle.hex.specs.Hex.{encode_lower}
 use Rattle.sha2.specs.Sha256.{sha256}
 use Rattle.proof_words.specs.Meanings.{file_sentences}
 use Rattle.rail_base.specs.declared.station.Station.{Station}
-use Rattle.rail_cli.specs.declared.status.Status.TheVariants.{Done}
-use Rattle.rail_cli.specs.declared.input.InputFile.TheVariants as file
-use Rattle.rail_cli.specs.Answers.{ReplySeen, check_reply, design_in, one_line, within_limit}
-use Rattle.rail_cli.specs.Texts.{yes_line}
+use Rattle.cli_shell.specs.declared.status.Status.TheVariants.{Done}
+use Rattle.cli_shell.specs.declared.input.InputFile.TheVariants as file
+use Rattle.cli_shell.specs.Answers.{ReplySeen, design_in, one_line, within_limit}
+use Rattle.proof_shell.specs.Answers.{check_reply}
+use Rattle.proof_shell.specs.Texts.{yes_line}
 use Rattle.why_words.specs.Wanted.{wanted_of}
 use Rattle.why_cli.specs.Heads.{head_lines}
 use Rattle.why_cli.specs.Answers.{explanation_reply, steps_in, usage}

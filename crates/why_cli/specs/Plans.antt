@@ -7,11 +7,12 @@ use Rattle.clause_spec.specs.declared.question.BaseKind.TheVariants.{Plain}
 use Rattle.rail_base.specs.declared.plan.Command.{Command}
 use Rattle.rail_base.specs.declared.station.Station.{Station}
 use Rattle.rail_base.specs.Numbering.{from_first}
-use Rattle.rail_cli.specs.declared.status.Status.TheVariants.{PlanRefused}
-use Rattle.rail_cli.specs.declared.input.InputFile.TheVariants as file
-use Rattle.rail_cli.specs.Answers.{ReplySeen, verdict_status, with_clauses, within_limit}
-use Rattle.rail_cli.specs.Shows.{verdict_at_horizon}
-use Rattle.rail_cli.specs.Texts.{plan_refused_line}
+use Rattle.cli_shell.specs.declared.status.Status.TheVariants.{PlanRefused}
+use Rattle.cli_shell.specs.declared.input.InputFile.TheVariants as file
+use Rattle.cli_shell.specs.Answers.{ReplySeen, verdict_status, within_limit}
+use Rattle.proof_shell.specs.Answers.{with_clauses}
+use Rattle.cli_shell.specs.Shows.{verdict_at_horizon}
+use Rattle.cli_shell.specs.Texts.{plan_refused_line}
 use Rattle.rail_plan.specs.declared.fault.PlanCode.{PlanCode}
 use Rattle.rail_plan.specs.declared.place.PlanPlace.{PlanPlace}
 use Rattle.rail_plan.specs.Reading.{Refusal, plan_of}

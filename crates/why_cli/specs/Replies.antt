@@ -3,9 +3,9 @@ use Rattle.std.specs.Prelude.{◌≡◌, ℕ, Bool, true, false, List, [], Optio
 use Rattle.named_files.specs.Replies.{Answers, asks_for}
 use Rattle.named_files.specs.Reports.{PrintsFor, Reports}
 use Rattle.rail_base.specs.declared.station.Station.{Station}
-use Rattle.rail_cli.specs.declared.input.InputFile.TheVariants as file
-use Rattle.rail_cli.specs.declared.status.Status.{Status}
-use Rattle.rail_cli.specs.Answers.{ReplySeen, design_in, within_limit}
+use Rattle.cli_shell.specs.declared.input.InputFile.TheVariants as file
+use Rattle.cli_shell.specs.declared.status.Status.{Status}
+use Rattle.cli_shell.specs.Answers.{ReplySeen, design_in, within_limit}
 use Rattle.rail_outside.specs.Asks.{Ask}
 use Rattle.rail_outside.specs.Files.{Files}
 use Rattle.rail_words.specs.Words.{texts_of}

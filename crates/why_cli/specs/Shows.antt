@@ -6,12 +6,15 @@ use Rattle.clause_spec.specs.declared.question.BaseKind.TheVariants.{Plain}
 use Rattle.proof_words.specs.Denied.{EachLineDenies}
 use Rattle.proof_words.specs.Meanings.{file_sentences}
 use Rattle.rail_base.specs.declared.station.Station.{Station}
-use Rattle.rail_cli.specs.declared.input.InputFile.TheVariants as file
-use Rattle.rail_cli.specs.declared.status.Status.{Status}
-use Rattle.rail_cli.specs.declared.status.Status.TheVariants.{Done, Usage}
-use Rattle.rail_cli.specs.Answers.{check_reply, one_line}
-use Rattle.rail_cli.specs.Texts.{limit_of, yes_line}
-use Rattle.rail_cli.specs.Verdicts.{IsDesignText, HasFewClauses}
+use Rattle.cli_shell.specs.declared.input.InputFile.TheVariants as file
+use Rattle.cli_shell.specs.declared.status.Status.{Status}
+use Rattle.cli_shell.specs.declared.status.Status.TheVariants.{Done, Usage}
+use Rattle.cli_shell.specs.Answers.{one_line}
+use Rattle.proof_shell.specs.Answers.{check_reply}
+use Rattle.cli_shell.specs.Texts.{limit_of}
+use Rattle.proof_shell.specs.Texts.{yes_line}
+use Rattle.cli_shell.specs.Verdicts.{IsDesignText}
+use Rattle.proof_shell.specs.Verdicts.{HasFewClauses}
 use Rattle.rail_outside.specs.Files.{Files}
 use Rattle.rail_outside.specs.Growth.{grown}
 use Rattle.rail_spec.specs.Feasible.{IsInfeasible}

@@ -1,16 +1,17 @@
 //! What is said of a design alone. An error is want of memory.
 
 ghost use Rattle.std.specs.Prelude.{◌≤◌, IfOk};
-ghost use Rattle.rail_cli.specs.Replies.{reply_seen};
+ghost use Rattle.cli_shell.specs.Replies.{reply_seen};
 ghost use Rattle.why_words.specs.Wanted.{AreStepsInRange};
 ghost use Rattle.why_cli.specs.Designs.{IsDesignSaid, IsRefusalSaid, IsSaidForSteps, IsTextSaid, IsTooLargeSaid};
 
 use asked_words::push_asked;
+use cli_shell::{Ending, Reply, Status, admit_design, design_refused};
 use design_table::{Code, DesignFault, Place};
 use interlocking::{Interlocking, Steps};
 use limit_words::limit_lines;
 use look_words::{push_dead_ends, push_looks, push_open_entries, push_slipped_sections};
-use rail_cli::{Ending, Reply, Status, admit_design, design_refused, encode};
+use proof_shell::encode;
 use refused_words::fault_lines;
 use std::alloc::{AllocError, Global};
 use time_words::push_least_times;

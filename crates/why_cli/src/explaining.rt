@@ -4,20 +4,20 @@ ghost use Rattle.std.specs.Prelude.{◌≡◌, ◌≢◌, [], Err, false};
 ghost use Rattle.named_files.specs.Replies.{Makes, is_unread};
 ghost use Rattle.clause_spec.specs.declared.question.BaseKind.TheVariants.{Plain};
 ghost use Rattle.plan_encoding.specs.Bases.{IsBaseOf};
-ghost use Rattle.rail_cli.specs.Replies.{Replies, RepliesWith};
+ghost use Rattle.cli_shell.specs.Replies.{Replies, RepliesWith};
 ghost use Rattle.why_words.specs.Wanted.{AreStepsInRange};
 ghost use Rattle.why_cli.specs.Answers.{explained_against, explained_where, if_in_range, steps_in, steps_named};
 ghost use Rattle.why_cli.specs.Answers.{text_explained, usage};
 
 use crate::heads::head_lines;
+use cli_shell::{Ending, Reply, Status, one_line};
 use interlocking::{Interlocking, Steps};
 use log_checker::head_in;
 use named_files::Unmade;
 use plan_encoding::Base;
 use proof_log::Head;
+use proof_shell::{encode, make_reply};
 use proof_words::{Explained, explain};
-use rail_base::design::Design;
-use rail_cli::{Ending, Reply, Status, encode, make_reply, one_line};
 use std::alloc::{AllocError, Global};
 
 /// The words ask for nothing, or for no number of steps.

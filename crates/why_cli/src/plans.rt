@@ -1,20 +1,20 @@
 //! What is said of a plan. An error is want of memory.
 
 ghost use Rattle.std.specs.Prelude.{◌≡◌, true, IfOk};
-ghost use Rattle.rail_cli.specs.Answers.{verdict_status};
-ghost use Rattle.rail_cli.specs.Replies.{reply_seen};
-ghost use Rattle.rail_cli.specs.Statuses.{is_answered};
+ghost use Rattle.cli_shell.specs.Answers.{verdict_status};
+ghost use Rattle.cli_shell.specs.Replies.{reply_seen};
+ghost use Rattle.cli_shell.specs.Statuses.{is_answered};
 ghost use Rattle.rail_spec.specs.Feasible.{IsRunnable};
 ghost use Rattle.rail_spec.specs.Track.{routes_of};
 ghost use Rattle.why_cli.specs.Plans.{IsPlanAnswer, IsPlanSaid, IsRefusedPlanSaid, is_blank, is_plan, outcome_said};
 
+use cli_shell::{InputFile, Reply, Status, plan_refused, too_long};
 use interlocking::Interlocking;
 use outcome_words::push_outcome;
 use plan_fault_words::plan_fault_lines;
 use plan_run::simulate;
 use rail_base::history::Verdict;
 use rail_base::plan::Plan;
-use rail_cli::{InputFile, Reply, Status, plan_refused, too_long};
 use rail_plan::fault::{PlanCode, PlanFault};
 use rail_plan::place::PlanPlace;
 use rail_plan::reading::read_plan;

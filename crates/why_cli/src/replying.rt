@@ -12,15 +12,16 @@ ghost use Rattle.named_files.specs.Replies.{RepliesFor, RepliesOf};
 ghost use Rattle.why_cli.specs.Replies.{IsAnswerOf, IsAnswerTo, IsBaseAnswer, IsBaseText, IsBothAnswer, IsFileAnswer};
 ghost use Rattle.why_cli.specs.Replies.{asks_to};
 ghost use Rattle.why_cli.specs.Plans.{is_plan};
-ghost use Rattle.rail_cli.specs.Replies.{reply_seen};
+ghost use Rattle.cli_shell.specs.Replies.{reply_seen};
 
 use crate::designs::design_reply;
 use crate::explaining::{reply_for, text_by_head};
 use crate::plans::{is_plan, plan_reply};
+use cli_shell::{InputFile, Reply, admit};
 use interlocking::{Interlocking, Steps};
 use named_files::{Unmade, fetch_named, unmade_by};
 use plan_encoding::Base;
-use rail_cli::{InputFile, Reply, admit, encode};
+use proof_shell::encode;
 use rail_outside::Shelf;
 use std::alloc::{AllocError, Global};
 use why_words::Wanted;

@@ -5,8 +5,8 @@ ghost use Rattle.rail_base.specs.declared.station.Station.{Station};
 ghost use Rattle.rail_outside.specs.Files.{Files};
 ghost use Rattle.rail_outside.specs.Growth.{Rose, GrowsByPrefix};
 ghost use Rattle.rail_words.specs.Words.{texts_of};
-ghost use Rattle.rail_cli.specs.Statuses.{is_answered};
-ghost use Rattle.rail_cli.specs.Verdicts.{IsVerdict};
+ghost use Rattle.cli_shell.specs.Statuses.{is_answered};
+ghost use Rattle.cli_shell.specs.Verdicts.{IsVerdict};
 ghost use Rattle.why_words.specs.Wanted.{AreStepsInRange, wanted_of};
 ghost use Rattle.why_words.specs.Words.{wanted_by};
 ghost use Rattle.why_cli.specs.Replies.{AreCheckWords, PrintsAnswer, PrintsUsage, asks_of, asks_to};
@@ -14,8 +14,8 @@ ghost use Rattle.why_cli.specs.Shows.{Explains, ExplainsProof, IsUnrefused, IsUs
 
 use crate::explaining::usage_made;
 use crate::replying::reply_to;
+use cli_shell::Status;
 use named_files::report;
-use rail_cli::Status;
 use rail_outside::{Shelf, Sink};
 use rail_words::WordsFault;
 use std::alloc::{AllocError, Global};

@@ -1,7 +1,7 @@
 use Rattle.std.proofs.Common.{◌≡◌, true, rules, ℕ, Vec, Global, sym}
 use Rattle.rail_base.specs.Admission.{is_admitted}
-use Rattle.rail_cli.specs.declared.input.InputFile.TheVariants as file
-use Rattle.rail_cli.specs.Answers.{within_limit}
+use Rattle.cli_shell.specs.declared.input.InputFile.TheVariants as file
+use Rattle.cli_shell.specs.Answers.{within_limit}
 use Rattle.design_cli.proofs.Reading.{file_read, file_refused, from_text, gives_none, none_in_file}
 use Rattle.design_cli.proofs.replies.file_reply.Goals as goal
 

@@ -2,7 +2,7 @@ use Rattle.std.proofs.Common.{◌≡◌, true, rules, subst}
 use Rattle.interlocking.specs.declared.railway.Interlocking.{Interlocking}
 use Rattle.rail_base.specs.Admission.{is_admitted}
 use Rattle.rail_base.specs.declared.station.Station.{Station}
-use Rattle.rail_cli.specs.Answers.{design_in}
+use Rattle.cli_shell.specs.Answers.{design_in}
 use Rattle.design_cli.specs.Answers.{text_answer}
 use Rattle.design_cli.proofs.Reading.{gives_none, no_memory, no_memory_for, one_design, text_printed, text_refused}
 use Rattle.design_cli.proofs.replies.text_reply.Goals as goal

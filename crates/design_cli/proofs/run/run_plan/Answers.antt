@@ -1,6 +1,6 @@
 use Rattle.std.proofs.Common.{◌≡◌, true, Err, [], ◌∷◌, refl, ◌∙◌}
 use Rattle.rail_base.specs.Admission.{is_admitted}
-use Rattle.rail_cli.proofs.Asking.{first_of_two, second_of_two}
+use Rattle.cli_shell.proofs.Asking.{first_of_two, second_of_two}
 use Rattle.design_cli.specs.Answers.{design_in_file, plan_answer}
 use Rattle.design_cli.proofs.Reading.{gives_none, one_of_file, plan_design_read, plan_design_refused, station_of}
 use Rattle.design_cli.proofs.Reporting.{first_name, on_reply, plan_some, reports_among, second_name}

@@ -2,9 +2,9 @@ use Rattle.std.proofs.Common.{rules, ℕ, List, Option, Some, Err, ap, sym, ◌�
 use Rattle.interlocking.specs.declared.railway.Interlocking.{Interlocking}
 use Rattle.named_files.specs.Replies.{RepliesOf}
 use Rattle.named_files.proofs.Printing.{both_made, both_stops, of_read, of_refused}
-use Rattle.rail_cli.specs.declared.input.InputFile.TheVariants as file
-use Rattle.rail_cli.specs.Answers.{design_in}
-use Rattle.rail_cli.proofs.Asking.{first_of_two, second_of_two}
+use Rattle.cli_shell.specs.declared.input.InputFile.TheVariants as file
+use Rattle.cli_shell.specs.Answers.{design_in}
+use Rattle.cli_shell.proofs.Asking.{first_of_two, second_of_two}
 use Rattle.rail_outside.specs.Files.{Files}
 use Rattle.draw_cli.specs.Answers.{RunAnswers, RunTextAnswers}
 use Rattle.draw_cli.specs.Wanted.{run}

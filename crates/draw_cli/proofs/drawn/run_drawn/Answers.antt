@@ -1,7 +1,7 @@
 use Rattle.std.proofs.Common.{◌≡◌, ◌≤◌, length, refl, ap, ap₂, ◌∙◌, subst}
 use Rattle.rail_base.specs.declared.history.Verdict.{Verdict}
 use Rattle.rail_spec.specs.Histories.{verdict_of}
-use Rattle.rail_cli.specs.Shows.{verdict_at_horizon}
+use Rattle.cli_shell.specs.Shows.{verdict_at_horizon}
 use Rattle.run_drawing.specs.Words.{run_size, run_words}
 use Rattle.draw_cli.proofs.drawn.run_drawn.Goals as goal
 

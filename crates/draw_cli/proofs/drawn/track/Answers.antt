@@ -1,7 +1,7 @@
 use Rattle.std.proofs.Common.{rules, List, ℕ, [], ◌∷◌, Ok, Err, ap, subst}
 use Rattle.named_files.specs.Replies.{Makes}
 use Rattle.named_files.proofs.Printing.{one_made, one_stops}
-use Rattle.rail_cli.specs.declared.input.InputFile.TheVariants as file
+use Rattle.cli_shell.specs.declared.input.InputFile.TheVariants as file
 use Rattle.draw_cli.specs.Answers.{TrackAnswers}
 use Rattle.draw_cli.proofs.Answering.{ending_makes}
 use Rattle.draw_cli.proofs.drawn.track.Goals as goal

@@ -1,8 +1,8 @@
 use Rattle.std.proofs.Common.{rules, Ok}
 use Rattle.interlocking.specs.declared.railway.Interlocking.{Interlocking}
-use Rattle.rail_cli.specs.declared.reply.Reply.{Reply}
-use Rattle.rail_cli.specs.Answers.{design_in}
-use Rattle.rail_cli.specs.Replies.{reply_seen}
+use Rattle.cli_shell.specs.declared.reply.Reply.{Reply}
+use Rattle.cli_shell.specs.Answers.{design_in}
+use Rattle.cli_shell.specs.Replies.{reply_seen}
 use Rattle.draw_cli.specs.Answers.{IsTrackDrawing, TrackAnswers}
 use Rattle.draw_cli.proofs.Answering.{read_so, refused_so, wanting}
 use Rattle.draw_cli.proofs.drawn.track_in.Goals as goal

@@ -1,6 +1,6 @@
 use Rattle.std.proofs.Common.{[], Ok, Err, refl, ap}
 use Rattle.named_files.specs.declared.unmade.Unmade.TheVariants.{Refused, Memory, Unread}
-use Rattle.rail_cli.specs.Answers.{within_limit}
+use Rattle.cli_shell.specs.Answers.{within_limit}
 use Rattle.named_files.proofs.FilesRead.{read_refused, some_fetch}
 use Rattle.named_files.proofs.fetching.fetch_named.Goals as goal
 

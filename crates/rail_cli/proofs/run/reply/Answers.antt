@@ -1,14 +1,14 @@
 use Rattle.std.proofs.Common.{rules, Option, None, Some, Err, refl, sym, subst}
 use Rattle.rail_words.specs.Requests.{RequestSeen, request_of}
 use Rattle.rail_words.specs.Words.{texts_of, request_seen}
-use Rattle.rail_cli.specs.declared.ending.Ending.TheVariants.{Memory}
+use Rattle.cli_shell.specs.declared.ending.Ending.TheVariants.{Memory}
 use Rattle.rail_cli.specs.Replies.{RepliesSo}
 use Rattle.rail_cli.proofs.Deciding.{done_where_feasible}
 use Rattle.rail_cli.proofs.Finding.{usage_so, want_so}
 use Rattle.rail_cli.proofs.Leaving.{asked_leaves}
 use Rattle.rail_cli.proofs.Trying.{tries_asked, tries_want}
 use Rattle.rail_cli.proofs.AnyShelf.{asks_some, some_usage, some_wanting}
-use Rattle.rail_cli.proofs.Telling.{asked_tells, nothing_told}
+use Rattle.rail_cli.proofs.Telling.{nothing_told, asked_tells}
 use Rattle.rail_cli.proofs.run.reply.Goals as goal
 
 pub returns-in-Ok-clause-replies : goal.returns-in-Ok-clause-replies

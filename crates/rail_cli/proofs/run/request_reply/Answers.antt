@@ -3,12 +3,12 @@ use Rattle.rail_words.specs.Requests.{simulate, routes, verify, check, trial}
 use Rattle.rail_words.specs.Words.{request_seen}
 use Rattle.verify_loop.specs.declared.outcome.Budgets.{Budgets}
 use Rattle.rail_cli.proofs.Deciding.{decides_named, decides_routes, decides_verify, decides_check, decides_trial}
-use Rattle.rail_cli.proofs.Asking.{none_of}
-use Rattle.rail_cli.proofs.Finding.{simulate_so, routes_so, check_so, verify_so, trial_so, search_steps}
+use Rattle.cli_shell.proofs.Asking.{none_of}
+use Rattle.rail_cli.proofs.Finding.{simulate_so, routes_so, check_so, trial_so, verify_so, search_steps}
 use Rattle.rail_cli.proofs.Judging.{asked_steps}
-use Rattle.rail_cli.proofs.Leaving.{simulate_leaves, routes_leaves, check_leaves, verify_leaves, trial_leaves}
+use Rattle.rail_cli.proofs.Leaving.{simulate_leaves, routes_leaves, check_leaves, trial_leaves, verify_leaves}
 use Rattle.rail_cli.proofs.Trying.{tries_other, trial_size}
-use Rattle.rail_cli.proofs.AnyShelf.{asks_named, some_search, some_trial}
+use Rattle.rail_cli.proofs.AnyShelf.{some_simulation, some_routes, some_check, asks_named, some_search, some_trial}
 use Rattle.rail_cli.proofs.Telling.{nothing_told, search_tells, trial_tells}
 use Rattle.rail_cli.proofs.run.request_reply.Goals as goal
 
@@ -92,10 +92,10 @@ trial_reply-requires g c =
     record { at_least_one = size.0; at_most_six = size.1 }
 
 pub returns-in-Simulate-clause-for_some_files : goal.returns-in-Simulate-clause-for_some_files
-returns-in-Simulate-clause-for_some_files g c = asks_named c.simulation_reply.result (request_seen c.args.request) (simulate c.in-Simulate.design.now c.in-Simulate.plan.now) (search rules) c.simulation_reply.ensures.for_some_files
+returns-in-Simulate-clause-for_some_files g c = asks_named c.simulation_reply.result (request_seen c.args.request) (simulate c.in-Simulate.design.now c.in-Simulate.plan.now) (search rules) (some_simulation c.simulation_reply.result c.in-Simulate.design.now c.in-Simulate.plan.now c.simulation_reply.ensures.for_some_files)
 
 pub returns-in-Routes-clause-for_some_files : goal.returns-in-Routes-clause-for_some_files
-returns-in-Routes-clause-for_some_files g c = asks_named c.routes_reply.result (request_seen c.args.request) (routes c.in-Routes.design.now) (search rules) c.routes_reply.ensures.for_some_files
+returns-in-Routes-clause-for_some_files g c = asks_named c.routes_reply.result (request_seen c.args.request) (routes c.in-Routes.design.now) (search rules) (some_routes c.routes_reply.result c.in-Routes.design.now c.routes_reply.ensures.for_some_files)
 
 pub returns-in-Verify-clause-for_some_files : goal.returns-in-Verify-clause-for_some_files
 returns-in-Verify-clause-for_some_files g c =
@@ -103,7 +103,7 @@ returns-in-Verify-clause-for_some_files g c =
     (some_search c.search_reply.result c.in-Verify.steps c.in-Verify.conflicts c.in-Verify.ticks c.in-Verify.mode c.budgets.result c.in-Verify.design.now c.in-Verify.proof.now c.budgets.ensures c.search_reply.ensures.for_some_files)
 
 pub returns-in-Check-clause-for_some_files : goal.returns-in-Check-clause-for_some_files
-returns-in-Check-clause-for_some_files g c = asks_named c.check_reply.result (request_seen c.args.request) (check c.in-Check.steps c.in-Check.design.now c.in-Check.proof.now) (search rules) c.check_reply.ensures.for_some_files
+returns-in-Check-clause-for_some_files g c = asks_named c.check_reply.result (request_seen c.args.request) (check c.in-Check.steps c.in-Check.design.now c.in-Check.proof.now) (search rules) (some_check c.check_reply.result c.in-Check.steps c.in-Check.design.now c.in-Check.proof.now c.check_reply.ensures.for_some_files)
 
 pub returns-in-Trial-clause-for_some_files : goal.returns-in-Trial-clause-for_some_files
 returns-in-Trial-clause-for_some_files g c = asks_named c.trial_reply.result (request_seen c.args.request) (trial c.in-Trial.seed c.in-Trial.size) (search rules) (some_trial c.trial_reply.result c.in-Trial.seed c.in-Trial.size c.trial_reply.ensures.replies)

@@ -4,16 +4,16 @@ use Rattle.rail_words.specs.Words.{texts_of}
 use Rattle.rail_words.specs.Requests.{request_of}
 use Rattle.rail_words.proofs.Asks.{silence_has_a_cause}
 use Rattle.verify_loop.specs.declared.outcome.Outcome.TheVariants.{Memory}
-use Rattle.rail_cli.specs.declared.status.Status.TheVariants.{Usage}
+use Rattle.cli_shell.specs.declared.status.Status.TheVariants.{Usage}
 use Rattle.rail_cli.specs.Answers.{answer_of}
 use Rattle.rail_cli.specs.Searches.{Leaves}
 use Rattle.rail_cli.specs.Simulations.{DoneWhereFeasible}
-use Rattle.rail_cli.proofs.Deciding.{told_reply}
+use Rattle.cli_shell.proofs.Deciding.{told_reply}
 use Rattle.rail_cli.proofs.Finding.{may_want, finds_so, told_so, run_so, run_infeasible, run_met, tells_plan, tells_none}
-use Rattle.rail_cli.proofs.Shortly.{checked, found, found_none, no_verdict, simulated}
-use Rattle.rail_cli.proofs.Leaving.{run_leaves, told_status}
+use Rattle.rail_cli.proofs.Shortly.{no_verdict, simulated, checked, found, found_none}
+use Rattle.rail_cli.proofs.Leaving.{told_status, run_leaves}
 use Rattle.rail_cli.proofs.Trying.{tries_trial, told_trial_reply, tells_nothing, tells_trial}
-use Rattle.rail_cli.proofs.Silence.{silent_for_memory, silent_at_shelf}
+use Rattle.cli_shell.proofs.Silence.{silent_for_memory, silent_at_shelf}
 use Rattle.rail_cli.proofs.Verdicts.{run_comes, no_answer}
 use Rattle.rail_cli.proofs.AnyShelf.{prints_some, prints_told, want_prints, fault_prints}
 use Rattle.rail_cli.proofs.run.run_watched.Goals as goal

@@ -1,7 +1,7 @@
 use Rattle.std.proofs.Common.{rules, ℕ, Vec, Global, ap, sym, ◌∙◌, subst}
 use Rattle.interlocking.specs.declared.railway.Interlocking.{Interlocking}
-use Rattle.rail_cli.specs.Answers.{design_in}
-use Rattle.rail_cli.proofs.Asking.{first_of_two, second_of_two}
+use Rattle.cli_shell.specs.Answers.{design_in}
+use Rattle.cli_shell.proofs.Asking.{first_of_two, second_of_two}
 use Rattle.rail_cli.proofs.Finding.{RepliesBy, unfetched_so, unread_so, spelled_so, ended_so}
 use Rattle.rail_cli.proofs.Leaving.{early_leaves}
 use Rattle.rail_cli.proofs.AnyShelf.{unsearched, unsearched_design, all_searched}

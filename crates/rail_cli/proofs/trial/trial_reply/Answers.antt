@@ -2,8 +2,8 @@ use Rattle.std.proofs.Common.{◌≡◌, ◌*◌, rules, Ok, ap, refl, sym, subs
 use Rattle.rail_base.specs.declared.design.Design.{Design}
 use Rattle.rail_base.specs.declared.station.Station.{Station}
 use Rattle.interlocking.specs.declared.railway.Interlocking.{Interlocking}
-use Rattle.rail_cli.specs.Answers.{design_or_answer, with_routes}
-use Rattle.rail_cli.specs.Replies.{ReadsOrEnds}
+use Rattle.cli_shell.specs.Answers.{with_routes, design_or_answer}
+use Rattle.cli_shell.specs.Replies.{ReadsOrEnds}
 use Rattle.rail_cli.proofs.Trying.{want_trial, unlisted_so, listed_so}
 use Rattle.rail_cli.specs.Answers.{aim_of}
 use Rattle.rail_words.specs.declared.request.SearchMode.TheVariants.{Plain}

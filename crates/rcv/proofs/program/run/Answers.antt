@@ -1,7 +1,7 @@
 use Rattle.std.proofs.Common.{[], refl}
 use Rattle.rail_words.specs.Requests.{request_of}
 use Rattle.rail_words.specs.Words.{texts_of}
-use Rattle.rail_cli.specs.declared.status.Status.TheVariants.{Memory}
+use Rattle.cli_shell.specs.declared.status.Status.TheVariants.{Memory}
 use Rattle.rail_cli.proofs.AnyShelf.{want_prints}
 use Rattle.rail_cli.proofs.Trying.{tells_nothing}
 use Rattle.rcv.proofs.program.run.Goals as goal

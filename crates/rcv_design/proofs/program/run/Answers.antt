@@ -1,6 +1,6 @@
 use Rattle.std.proofs.Common.{[]}
 use Rattle.rail_words.specs.Words.{texts_of}
-use Rattle.rail_cli.specs.declared.status.Status.TheVariants.{Memory}
+use Rattle.cli_shell.specs.declared.status.Status.TheVariants.{Memory}
 use Rattle.design_cli.specs.Wanted.{wanted_of}
 use Rattle.design_cli.proofs.Reporting.{want_some}
 use Rattle.rcv_design.proofs.program.run.Goals as goal

@@ -1,6 +1,6 @@
 use Rattle.std.proofs.Common.{[]}
 use Rattle.rail_words.specs.Words.{texts_of}
-use Rattle.rail_cli.specs.declared.status.Status.TheVariants.{Memory}
+use Rattle.cli_shell.specs.declared.status.Status.TheVariants.{Memory}
 use Rattle.named_files.proofs.Printing.{prints_nothing_for}
 use Rattle.draw_cli.specs.Answers.{IsAnswerTo, design_name, plan_name}
 use Rattle.draw_cli.specs.Wanted.{wanted_of}

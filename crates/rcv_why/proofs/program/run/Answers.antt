@@ -1,6 +1,6 @@
 use Rattle.std.proofs.Common.{[]}
 use Rattle.rail_words.specs.Words.{texts_of}
-use Rattle.rail_cli.specs.declared.status.Status.TheVariants.{Memory}
+use Rattle.cli_shell.specs.declared.status.Status.TheVariants.{Memory}
 use Rattle.why_words.specs.Wanted.{wanted_of}
 use Rattle.named_files.proofs.Printing.{prints_nothing_for}
 use Rattle.why_cli.specs.Replies.{IsAnswerTo, design_name, file_name}

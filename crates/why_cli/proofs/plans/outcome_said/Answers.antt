@@ -1,7 +1,7 @@
 use Rattle.std.proofs.Common.{◌≡◌, ap, ap₂, take, ◌∙◌}
 use Rattle.rail_outside.specs.Lines.{lines_of}
 use Rattle.rail_spec.specs.Histories.{verdict_of}
-use Rattle.rail_cli.specs.Shows.{verdict_at_horizon}
+use Rattle.cli_shell.specs.Shows.{verdict_at_horizon}
 use Rattle.why_cli.proofs.Outcomes.{first_line, outcome_so}
 use Rattle.why_cli.proofs.plans.outcome_said.Goals as goal
 

@@ -3,9 +3,9 @@ use Rattle.interlocking.specs.declared.railway.Interlocking.{Interlocking}
 use Rattle.named_files.specs.Replies.{RepliesOf}
 use Rattle.named_files.proofs.Printing.{both_made, both_stops, of_read, of_refused}
 use Rattle.rail_base.specs.declared.station.Station.{Station}
-use Rattle.rail_cli.specs.declared.input.InputFile.TheVariants as file
-use Rattle.rail_cli.specs.Answers.{design_in}
-use Rattle.rail_cli.proofs.Asking.{first_of_two, second_of_two}
+use Rattle.cli_shell.specs.declared.input.InputFile.TheVariants as file
+use Rattle.cli_shell.specs.Answers.{design_in}
+use Rattle.cli_shell.proofs.Asking.{first_of_two, second_of_two}
 use Rattle.rail_outside.specs.Files.{Files}
 use Rattle.why_cli.specs.Replies.{IsFileAnswer, IsTextAnswer}
 use Rattle.why_cli.proofs.replying.for_both.Goals as goal

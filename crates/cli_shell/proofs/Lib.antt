@@ -1,0 +1,10 @@
+pub mod Asking
+pub mod Refusing
+pub mod Showing
+pub mod Deciding
+pub mod Silence
+pub mod Numbered
+pub mod Passing
+pub mod AnyShelf
+pub mod Verdicts
+pub mod Using

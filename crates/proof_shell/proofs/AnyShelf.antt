@@ -1,0 +1,51 @@
+-- Answers to a check, for some bytes of its files.
+use Rattle.std.proofs.Common.{◌≡◌, ℕ, List, [], Result, Ok, Err, Vec, Global, refl, sym, subst}
+use Rattle.clause_spec.specs.declared.question.BaseKind.TheVariants.{Plain}
+use Rattle.rail_base.specs.declared.station.Station.{Station}
+use Rattle.cli_shell.specs.declared.input.InputFile.TheVariants as file
+use Rattle.cli_shell.specs.declared.reply.Reply.{Reply}
+use Rattle.cli_shell.specs.declared.ending.Ending.{Ending}
+use Rattle.cli_shell.specs.declared.ending.Ending.TheVariants as ending
+use Rattle.cli_shell.specs.Answers.{ReplySeen, within_limit, design_in, unless_refused}
+use Rattle.proof_shell.specs.Answers.{with_clauses, checked_against, with_proof, check_reply}
+use Rattle.cli_shell.specs.Replies.{ReadsOrEnds, Replies}
+use Rattle.cli_shell.proofs.Deciding.{answered_next}
+use Rattle.cli_shell.proofs.AnyShelf.{ends_so, with_text, with_design}
+
+abbrev checked_text : ℕ → List ℕ → List ℕ → ReplySeen
+checked_text n proof_bytes text = unless_refused (design_in text) (λ d. with_proof n d proof_bytes)
+
+module _ (r : Result Reply Ending) (n : ℕ) where
+  abbrev CheckedSo : Type 0
+  CheckedSo = (a : List ℕ) × (b : List ℕ) × Replies r (check_reply n a b)
+
+  checked_so : (a b : List ℕ) → Replies r (check_reply n a b) → CheckedSo
+  checked_so a b h = (a, b, h)
+
+  pub unchecked : (e : Ending) → r ≡ Err e → (bytes : List ℕ) × ReadsOrEnds (λ (v : Vec ℕ Global). v.items) (Err e) (within_limit file.Design bytes) → CheckedSo
+  unchecked e is h = checked_so h.0 [] (ends_so r (λ (v : Vec ℕ Global). v.items) e _ (checked_text n []) _ is h.1 refl)
+
+  module _ (text : List ℕ) (first : (bytes : List ℕ) × (within_limit file.Design bytes ≡ Ok text)) where
+    pub unchecked_design : {X : Type 0} (view : X → Station) (e : Ending) → r ≡ Err e → ReadsOrEnds view (Err e) (design_in text) → CheckedSo
+    unchecked_design view e is h = checked_so first.0 [] (ends_so r view e (design_in text) (λ d. with_proof n d []) _ is h (with_text first.0 text first.1 (λ d. with_proof n d [])))
+
+    pub all_checked : (d : Station) → design_in text ≡ Ok d → (bytes : List ℕ) × Replies r (with_proof n d bytes) → CheckedSo
+    all_checked d reads h = checked_so first.0 h.0 (subst (Replies r) (sym (with_design first.0 text first.1 (λ e. with_proof n e h.0) d reads)) h.1)
+
+module _ (r : Result Reply Ending) (n : ℕ) (d : Station) where
+  -- for some bytes of the proof
+  abbrev ProvenSo : Type 0
+  ProvenSo = (bytes : List ℕ) × Replies r (with_proof n d bytes)
+
+  -- what is left where the clauses are few
+  abbrev with_bytes : List ℕ → ReplySeen
+  with_bytes bytes = unless_refused (within_limit file.Proof bytes) (checked_against d n)
+
+  pub no_base : {X : Type 0} (view : X → Station) (e : Ending) → r ≡ Err e → ReadsOrEnds view (Err e) (with_clauses Plain n d) → ProvenSo
+  no_base view e is h = ([], ends_so r view e (with_clauses Plain n d) (λ same. with_bytes []) _ is h refl)
+
+  pub no_proof : (e : Ending) → r ≡ Err e → with_clauses Plain n d ≡ Ok d → (bytes : List ℕ) × ReadsOrEnds (λ (v : Vec ℕ Global). v.items) (Err e) (within_limit file.Proof bytes) → ProvenSo
+  no_proof e is few h = (h.0, ends_so r (λ (v : Vec ℕ Global). v.items) e _ (checked_against d n) _ is h.1 (answered_next (with_clauses Plain n d) d (λ same. with_bytes h.0) few))
+
+  pub no_memory : r ≡ Err ending.Memory → ProvenSo
+  no_memory is = ([], subst (λ (x : Result Reply Ending). Replies x (with_proof n d [])) (sym is) tt)

@@ -1,0 +1,115 @@
+-- Checks in which the file shows something.
+use Rattle.std.proofs.Common.{◌≡◌, ℕ, ◌+◌, ◌≤◌, Bool, true, false, List, [], ◌∷◌, ◌++◌, length, nat_lt, if◌then◌else◌, Option, Some, None, Ok, Err, refl, ap, sym, ◌∙◌, subst}
+use Rattle.infra_reader.specs.Design.{design_of}
+use Rattle.log_checker.specs.declared.check_result.CheckResult.{CheckResult}
+use Rattle.log_checker.specs.declared.check_result.CheckResult.TheVariants.{Yes, No}
+use Rattle.clause_spec.specs.Clauses.{base_clauses, past_limit}
+use Rattle.clause_spec.specs.declared.question.BaseKind.{BaseKind}
+use Rattle.clause_spec.specs.declared.question.BaseKind.TheVariants.{Plain, Sorted, Normal}
+use Rattle.proof_judge.specs.Judged.{judged}
+use Rattle.proof_judge.proofs.Sound.{yes_infeasible}
+use Rattle.rail_base.specs.Admitted.{IsAdmitted}
+use Rattle.infra_reader.proofs.Reading.{spelled_admitted}
+use Rattle.rail_base.specs.declared.station.Station.{Station}
+use Rattle.rail_spec.specs.Feasible.{IsInfeasible}
+use Rattle.rail_spec.specs.Track.{routes_of}
+use Rattle.cli_shell.specs.declared.status.Status.TheVariants.{Done, DesignRefused}
+use Rattle.cli_shell.specs.declared.input.InputFile.TheVariants as file
+use Rattle.cli_shell.specs.Statuses.{is_verdict}
+use Rattle.cli_shell.specs.Texts.{too_large_line}
+use Rattle.proof_shell.specs.Texts.{yes_line}
+use Rattle.cli_shell.specs.Answers.{ReplySeen, one_line, within_limit, with_routes, and_then, design_in, unless_refused}
+use Rattle.proof_shell.specs.Answers.{unless_too_large, with_clauses, reply_for, checked_against, with_proof, check_reply}
+use Rattle.cli_shell.specs.Replies.{reply_seen}
+use Rattle.cli_shell.specs.declared.reply.Reply.{Reply}
+use Rattle.plan_encoding.specs.Bases.{IsRefused}
+use Rattle.plan_encoding.specs.declared.sink.BaseFault.{BaseFault}
+use Rattle.plan_encoding.specs.declared.sink.BaseFault.TheVariants.{TooLarge, Memory}
+use Rattle.rail_base.specs.declared.route.Route.{Route}
+use Rattle.base_spec.specs.Bases.{clauses_of}
+use Rattle.cli_shell.proofs.Passing.{passed, long_refuses, design_refuses, read-same}
+use Rattle.proof_shell.proofs.Passing.{clauses_refuse}
+use Rattle.cli_shell.proofs.Refusing.{file_is}
+
+-- ---- what the file shows
+
+-- the file shows k
+record RefusedWith (v : CheckResult) : Type 0 where
+  steps : ℕ
+  is : v ≡ Yes steps
+
+told_done : (v : CheckResult) → (reply_for v).status ≡ Done → RefusedWith v
+told_done (Yes k) done = record { steps = k; is = refl }
+told_done (No line reason) done = absurd (cc)
+
+-- ---- the answer
+
+-- it is `yes steps <k>`, and no plan of k steps is feasible
+pub record Shows (n : ℕ) (d : Station) (a : ReplySeen) : Type 0 where
+  pub steps : ℕ
+  pub least : 1 ≤ steps
+  pub within : steps ≤ n
+  pub answer : a ≡ one_line Done (yes_line steps)
+  pub none : IsInfeasible d steps
+
+judged_shows : (n : ℕ) (d : Station) (bytes : List ℕ) → IsAdmitted d → 1 ≤ n → (checked_against d n bytes).status ≡ Done → Shows n d (checked_against d n bytes)
+judged_shows n d bytes good some done =
+    let t = told_done (judged d n bytes) done in
+    let s = yes_infeasible d good n t.steps bytes some t.is in
+    record { steps = t.steps; least = s.0; within = s.1.0; answer = ap reply_for t.is; none = s.1.1 }
+
+pub checked_shows : (n : ℕ) (design_bytes proof_bytes : List ℕ) (d : Station) → 1 ≤ n → design_of design_bytes ≡ Ok d → (check_reply n design_bytes proof_bytes).status ≡ Done → Shows n d (check_reply n design_bytes proof_bytes)
+checked_shows n design_bytes proof_bytes d some spells done =
+    let one = passed (within_limit file.Design design_bytes) (λ text. unless_refused (design_in text) (λ e. with_proof n e proof_bytes)) (long_refuses file.Design design_bytes) (ap is_verdict done) in
+    let two = passed (design_in one.read) (λ e. with_proof n e proof_bytes) (design_refuses (and_then (design_of one.read) with_routes)) one.verdict in
+    let three = passed (with_clauses Plain n two.read) (λ same. unless_refused (within_limit file.Proof proof_bytes) (checked_against two.read n)) (clauses_refuse two.read (past_limit 16000000 0 (base_clauses two.read (routes_of two.read) n))) two.verdict in
+    let four = passed (within_limit file.Proof proof_bytes) (checked_against two.read n) (long_refuses file.Proof proof_bytes) three.verdict in
+    let text : design_bytes ≡ one.read = file_is file.Design design_bytes one.read one.is in
+    let same : d ≡ two.read = read-same one.read d two.read (ap design_of (sym text) ∙ spells) two.is in
+    let all : check_reply n design_bytes proof_bytes ≡ checked_against two.read n four.read = one.comes ∙ (two.comes ∙ (three.comes ∙ four.comes)) in
+    let good : IsAdmitted two.read = subst IsAdmitted same (spelled_admitted design_bytes d spells) in
+    let shows = judged_shows n two.read four.read good some (ap (λ (a : ReplySeen). a.status) (sym all) ∙ done) in
+    record { steps = shows.steps; least = shows.least; within = shows.within; answer = all ∙ shows.answer; none = subst (λ (e : Station). IsInfeasible e shows.steps) (sym same) shows.none }
+
+-- ---- the clauses of the design
+
+pub too_large_refused : (m : BaseKind) (n : ℕ) (d : Station) (k : ℕ) → past_limit 16000000 0 (clauses_of m d (routes_of d) n) ≡ Some k → with_clauses m n d ≡ Err (one_line DesignRefused too_large_line)
+too_large_refused m n d k e = ap (unless_too_large d) e
+
+pub small_passes : (m : BaseKind) (n : ℕ) (d : Station) → past_limit 16000000 0 (clauses_of m d (routes_of d) n) ≡ None → with_clauses m n d ≡ Ok d
+small_passes m n d e = ap (unless_too_large d) e
+
+-- the prefix of clauses that fit fits
+prefix_fits : {X : Type 0} (limit sum : ℕ) (prefix more : List (List X)) → past_limit limit sum (prefix ++ more) ≡ None → past_limit limit sum prefix ≡ None
+prefix_fits limit sum [] more h = refl
+prefix_fits limit sum (c ∷ cs) more h = go (nat_lt limit (sum + length c)) (prefix_fits limit (sum + length c) cs more) h
+  where
+    go : (past : Bool) → (past_limit limit (sum + length c) (cs ++ more) ≡ None → past_limit limit (sum + length c) cs ≡ None)
+        → (if past then Some (sum + length c) else past_limit limit (sum + length c) (cs ++ more)) ≡ None
+        → (if past then Some (sum + length c) else past_limit limit (sum + length c) cs) ≡ None
+    go true next h = absurd (cc)
+    go false next h = next h
+
+-- where the clauses of a search by any base fit, those of a check do
+base_fits : (m : BaseKind) (n : ℕ) (d : Station) → past_limit 16000000 0 (clauses_of m d (routes_of d) n) ≡ None → past_limit 16000000 0 (clauses_of Plain d (routes_of d) n) ≡ None
+base_fits Plain n d h = h
+base_fits Sorted n d h = prefix_fits 16000000 0 (base_clauses d (routes_of d) n) _ h
+base_fits Normal n d h = prefix_fits 16000000 0 (base_clauses d (routes_of d) n) _ h
+
+not_many : (d : Station) (many : Option ℕ) (e : Station) → unless_too_large d many ≡ Ok e → many ≡ None
+not_many d None e h = refl
+not_many d (Some k) e h = absurd (cc)
+
+pub base_passes : (m : BaseKind) (n : ℕ) (d : Station) → with_clauses m n d ≡ Ok d → with_clauses Plain n d ≡ Ok d
+base_passes m n d h = small_passes Plain n d (base_fits m n d (not_many d (past_limit 16000000 0 (clauses_of m d (routes_of d) n)) d h))
+
+pub refused_so : (n : ℕ) (d : Station) (routes : List Route) (fault : BaseFault) (k : ℕ) → routes ≡ routes_of d → fault ≡ TooLarge k → IsRefused Plain d routes n fault → with_clauses Plain n d ≡ Err (one_line DesignRefused too_large_line)
+refused_so n d routes (TooLarge j) k table same e = too_large_refused Plain n d j (ap (λ (r : List Route). past_limit 16000000 0 (base_clauses d r n)) (sym table) ∙ e)
+refused_so n d routes Memory k table same e = absurd (cc)
+
+-- ---- what is said of the proof
+
+pub proof_shown : (n : ℕ) (d : Station) (proof_bytes text : List ℕ) (shown : CheckResult) (reply : Reply) → with_clauses Plain n d ≡ Ok d → within_limit file.Proof proof_bytes ≡ Ok text → shown ≡ judged d n text → reply_seen reply ≡ reply_for shown → with_proof n d proof_bytes ≡ reply_seen reply
+proof_shown n d proof_bytes text shown reply clauses fits is seen =
+    ap (λ q. unless_refused q (λ (same : Station). unless_refused (within_limit file.Proof proof_bytes) (checked_against d n))) clauses
+    ∙ (ap (λ q. unless_refused q (checked_against d n)) fits ∙ (ap reply_for (sym is) ∙ sym seen))

@@ -1,0 +1,5 @@
+pub mod Passing
+pub mod Judging
+pub mod AnyShelf
+pub mod Verdicts
+pub mod Using

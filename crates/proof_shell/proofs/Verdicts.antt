@@ -1,0 +1,47 @@
+-- The answers to checks of which nothing is refused.
+use Rattle.std.proofs.Common.{◌≡◌, ◌≤◌, ◌+◌, ℕ, List, [], ◌∷◌, length, None, Ok, refl, ◌∙◌, inl, inr, arith}
+use Rattle.std.proofs.lemmas.Bool.{le-ltb}
+use Rattle.std.proofs.lemmas.List.Sums.{sum_by-cons}
+use Rattle.log_checker.specs.declared.check_result.CheckResult.{CheckResult}
+use Rattle.log_checker.specs.declared.check_result.CheckResult.TheVariants.{Yes, No}
+use Rattle.clause_spec.specs.Clauses.{literals, past_limit}
+use Rattle.clause_spec.specs.declared.question.BaseKind.{BaseKind}
+use Rattle.clause_spec.specs.declared.question.BaseKind.TheVariants.{Plain}
+use Rattle.proof_judge.specs.Judged.{judged}
+use Rattle.rail_base.specs.declared.station.Station.{Station}
+use Rattle.base_spec.specs.Bases.{clauses_of}
+use Rattle.rail_spec.specs.Track.{routes_of}
+use Rattle.cli_shell.specs.declared.input.InputFile.TheVariants as file
+use Rattle.cli_shell.specs.Texts.{limit_of}
+use Rattle.cli_shell.specs.Answers.{within_limit, design_in, unless_refused}
+use Rattle.proof_shell.specs.Answers.{with_clauses, reply_for, checked_against, with_proof, check_reply}
+use Rattle.cli_shell.specs.Verdicts.{IsDesignText, IsVerdict}
+use Rattle.proof_shell.specs.Verdicts.{HasFewClauses}
+use Rattle.cli_shell.proofs.Deciding.{answered_next}
+use Rattle.proof_shell.proofs.Judging.{small_passes}
+use Rattle.cli_shell.proofs.Refusing as refusing
+use Rattle.cli_shell.proofs.Verdicts.{fits, reads}
+
+within : {X : Type 0} (limit sum : ℕ) (clauses : List (List X)) → sum + literals clauses ≤ limit → past_limit limit sum clauses ≡ None
+within limit sum [] few = refl
+within limit sum (c ∷ cs) few =
+    let all : literals (c ∷ cs) ≡ length c + literals cs = sum_by-cons length c cs in
+    rw (le-ltb limit (sum + length c) (omega arith)) (within limit (sum + length c) cs (omega arith))
+
+pub few_fit : (m : BaseKind) (d : Station) (n : ℕ) → HasFewClauses m d n → past_limit 16000000 0 (clauses_of m d (routes_of d) n) ≡ None
+few_fit m d n few = within 16000000 0 (clauses_of m d (routes_of d) n) (omega arith)
+
+pub few_pass : (m : BaseKind) (d : Station) (n : ℕ) → HasFewClauses m d n → with_clauses m n d ≡ Ok d
+few_pass m d n few = small_passes m n d (few_fit m d n few)
+
+module _ (bytes : List ℕ) (d : Station) (s : IsDesignText bytes d) where
+  pub checked_so : (n : ℕ) (proof_bytes : List ℕ) → HasFewClauses Plain d n → length proof_bytes ≤ limit_of file.Proof → check_reply n bytes proof_bytes ≡ reply_for (judged d n proof_bytes)
+  checked_so n proof_bytes few short =
+      answered_next (within_limit file.Design bytes) bytes (λ text. unless_refused (design_in text) (λ e. with_proof n e proof_bytes)) (fits bytes d s)
+      ∙ (answered_next (design_in bytes) d (λ e. with_proof n e proof_bytes) (reads bytes d s)
+      ∙ (answered_next (with_clauses Plain n d) d (λ same. unless_refused (within_limit file.Proof proof_bytes) (checked_against d n)) (few_pass Plain d n few)
+      ∙ answered_next (within_limit file.Proof proof_bytes) proof_bytes (checked_against d n) (refusing.file_fits file.Proof proof_bytes short)))
+
+pub told_verdict : (v : CheckResult) → IsVerdict (reply_for v).status
+told_verdict (Yes k) = inl refl
+told_verdict (No line reason) = inr refl

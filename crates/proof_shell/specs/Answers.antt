@@ -1,0 +1,48 @@
+-- What a proof shows of a design, as an answer.
+use Rattle.std.specs.Prelude.{ℕ, List}
+use Rattle.std.specs.Prelude.{Option, None, Some, Result, Ok, Err}
+use Rattle.log_checker.specs.declared.check_result.CheckResult.{CheckResult}
+use Rattle.log_checker.specs.declared.check_result.CheckResult.TheVariants as check_result
+use Rattle.proof_judge.specs.Judged.{judged}
+use Rattle.clause_spec.specs.Clauses.{past_limit}
+use Rattle.clause_spec.specs.declared.question.BaseKind.{BaseKind}
+use Rattle.clause_spec.specs.declared.question.BaseKind.TheVariants.{Plain}
+use Rattle.rail_base.specs.declared.station.Station.{Station}
+use Rattle.rail_spec.specs.Track.{routes_of}
+use Rattle.base_spec.specs.Bases.{clauses_of}
+use Rattle.cli_shell.specs.declared.status.Status.TheVariants as status
+use Rattle.cli_shell.specs.declared.input.InputFile.TheVariants as file
+use Rattle.cli_shell.specs.Texts.{too_large_line}
+use Rattle.proof_shell.specs.Texts.{yes_line, no_line}
+use Rattle.cli_shell.specs.Answers.{ReplySeen, one_line, within_limit, design_in, unless_refused}
+
+-- the design, unless its clauses have so many literals
+abbrev pub unless_too_large : Station → Option ℕ → Result Station ReplySeen
+unless_too_large d None = Ok d
+unless_too_large d (Some literals) = Err (one_line status.DesignRefused too_large_line)
+
+-- a design of which the clauses that a search by the base begins with have at most 16,000,000 literals
+abbrev pub with_clauses : BaseKind → ℕ → Station → Result Station ReplySeen
+with_clauses kind n d = unless_too_large d (past_limit 16000000 0 (clauses_of kind d (routes_of d) n))
+
+-- what a proof file shows
+abbrev pub reply_for : CheckResult → ReplySeen
+reply_for (check_result.Yes k) = one_line status.Done (yes_line k)
+reply_for (check_result.No line reason) = one_line status.No (no_line line reason)
+
+-- what the bytes of a proof show of a design
+abbrev pub checked_against : Station → ℕ → List ℕ → ReplySeen
+checked_against d n bytes = reply_for (judged d n bytes)
+
+-- the answer to a check of a design, for the bytes of the proof
+abbrev pub with_proof : ℕ → Station → List ℕ → ReplySeen
+with_proof n d proof_bytes =
+    unless_refused (with_clauses Plain n d) (λ same.
+    unless_refused (within_limit file.Proof proof_bytes) (checked_against d n))
+
+-- the answer to a check, for the bytes of the design and of the proof
+abbrev pub check_reply : ℕ → List ℕ → List ℕ → ReplySeen
+check_reply n design_bytes proof_bytes =
+    unless_refused (within_limit file.Design design_bytes) (λ design_text.
+    unless_refused (design_in design_text) (λ d.
+    with_proof n d proof_bytes))

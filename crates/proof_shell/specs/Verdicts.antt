@@ -1,0 +1,11 @@
+-- Designs of which the clauses are few.
+use Rattle.std.specs.Prelude.{◌≤◌, ℕ}
+use Rattle.clause_spec.specs.Clauses.{literals}
+use Rattle.clause_spec.specs.declared.question.BaseKind.{BaseKind}
+use Rattle.rail_base.specs.declared.station.Station.{Station}
+use Rattle.rail_spec.specs.Track.{routes_of}
+use Rattle.base_spec.specs.Bases.{clauses_of}
+
+-- the clauses that a search by the base for plans of n steps begins with have at most 16,000,000 literals
+abbrev pub HasFewClauses : BaseKind → Station → ℕ → Type 0
+HasFewClauses kind d n = literals (clauses_of kind d (routes_of d) n) ≤ 16000000

@@ -1,0 +1,105 @@
+//! A proof checked against a design.
+
+ghost use Rattle.std.specs.Prelude.{◌≡◌, ◌≤◌, [], ◌∷◌, true, IfOk, Some, ℕ, List};
+ghost use Rattle.rail_outside.specs.Asks.{fetched};
+ghost use Rattle.rail_outside.specs.Files.{Files};
+ghost use Rattle.rail_outside.specs.Growth.{Rose, GrowsByPrefix};
+ghost use Rattle.clause_spec.specs.declared.question.BaseKind.TheVariants.{Plain};
+ghost use Rattle.plan_encoding.specs.Bases.{IsBaseOf};
+ghost use Rattle.cli_shell.specs.Statuses.{is_verdict};
+ghost use Rattle.proof_shell.specs.Answers.{with_clauses, reply_for, with_proof, check_reply};
+ghost use Rattle.cli_shell.specs.Replies.{RepliesWith, ReadsOrEnds, RefusesFile, OnlyRefuses, Replies};
+
+use crate::texts::{no_line, yes_line};
+use cli_shell::{Ending, InputFile, Reply, Status, admit, ending_of, fetch, one_line, too_large};
+use interlocking::{Interlocking, Steps};
+use log_checker::CheckResult;
+use plan_encoding::{Base, BaseFault, base};
+use proof_judge::judge;
+use rail_base::design::Design;
+use rail_outside::Shelf;
+use std::alloc::{AllocError, Global};
+
+/// The clauses of a design, for plans of up to so many steps. The ending says that they are too many, or is want of
+/// memory.
+pub fn encode(alloc: Global, interlocking: &Interlocking, steps: Steps) -> Result<Base, Ending>
+    ensures reads { let d = interlocking.now.design.station in
+        ReadsOrEnds (λ _. d) result (with_clauses Plain steps.count d) }
+    ensures refuses { OnlyRefuses result }
+    ensures base { let i = interlocking.now in IfOk result (IsBaseOf Plain i.design.station i.routes steps.count) }
+{
+    match base(alloc, interlocking, steps) {
+        Ok(base) => Ok(base),
+        Err(BaseFault::TooLarge { .. }) => Err(ending_of(too_large(alloc))),
+        Err(BaseFault::Memory) => Err(Ending::Memory),
+    }
+}
+
+/// What a proof file shows, in a line. The error is want of memory.
+pub fn make_reply(alloc: Global, shown: CheckResult) -> Result<Reply, AllocError>
+    ensures replies { RepliesWith result (reply_for shown) }
+    ensures verdict { IfOk result (λ reply. is_verdict reply.status ≡ true) }
+{
+    match shown {
+        CheckResult::Yes { steps } => one_line(alloc, Status::Done, yes_line(alloc, steps)?),
+        CheckResult::No { line, reason } => one_line(
+            alloc,
+            Status::No,
+            no_line(alloc, line, reason)?,
+        ),
+    }
+}
+
+/// The reply to a check, by the names of its files. The steps are 1 to 256. The ending refuses one of the files, or is
+/// want of memory or a fault of the shelf.
+pub fn check_reply<S: Shelf>(
+    alloc: Global,
+    shelf: &mut S,
+    steps: u32,
+    design: &str,
+    proof: &str,
+) -> Result<Reply, Ending>
+    requires at_least_one { 1 ≤ steps }
+    requires at_most_256 { steps ≤ 256 }
+    ensures replies { (files : Files) → S.known_files shelf.old ≡ Some files
+        → Replies result (check_reply steps (files design.now) (files proof.now)) }
+    ensures for_some_files { (design_bytes proof_bytes : List ℕ)
+        × Replies result (check_reply steps design_bytes proof_bytes) }
+    ensures verdict { IfOk result (λ reply. is_verdict reply.status ≡ true) }
+    ensures refuses { RefusesFile result }
+    ensures cause { result ≡ Err Ending.ShelfFault → Rose (S.fault_count shelf.old) (S.fault_count shelf.new) }
+    ensures never_falls { S.fault_count shelf.old ≤ S.fault_count shelf.new }
+    ensures files_stay { S.known_files shelf.new ≡ S.known_files shelf.old }
+    ensures asks { GrowsByPrefix (S.asked shelf.old) (S.asked shelf.new) (fetched design.now ∷ fetched proof.now ∷ []) }
+{
+    let design_bytes = fetch(alloc, shelf, InputFile::Design, design)?;
+    let interlocking = admit(alloc, design_bytes.as_slice())?;
+    let steps = Steps { count: steps };
+    checked_proof(alloc, shelf, &interlocking, steps, proof)
+}
+
+/// The reply to a check of a design, by the name of the proof's file.
+fn checked_proof<S: Shelf>(
+    alloc: Global,
+    shelf: &mut S,
+    interlocking: &Interlocking,
+    steps: Steps,
+    proof: &str,
+) -> Result<Reply, Ending>
+    ensures replies { (files : Files) → S.known_files shelf.old ≡ Some files
+        → Replies result (with_proof steps.count interlocking.now.design.station (files proof.now)) }
+    ensures for_some_bytes { (bytes : List ℕ)
+        × Replies result (with_proof steps.count interlocking.now.design.station bytes) }
+    ensures verdict { IfOk result (λ reply. is_verdict reply.status ≡ true) }
+    ensures refuses { RefusesFile result }
+    ensures cause { result ≡ Err Ending.ShelfFault → Rose (S.fault_count shelf.old) (S.fault_count shelf.new) }
+    ensures never_falls { S.fault_count shelf.old ≤ S.fault_count shelf.new }
+    ensures files_stay { S.known_files shelf.new ≡ S.known_files shelf.old }
+    ensures asks { GrowsByPrefix (S.asked shelf.old) (S.asked shelf.new) (fetched proof.now ∷ []) }
+{
+    let base = encode(alloc, interlocking, steps)?;
+    let bytes = fetch(alloc, shelf, InputFile::Proof, proof)?;
+    let shown = judge(alloc, interlocking, base, bytes.as_slice())?;
+    let reply = make_reply(alloc, shown)?;
+    Ok(reply)
+}
